@@ -1,13 +1,26 @@
-// A library with one function.
+//! The PDUs of CFDP, class 2: file data, Metadata, EOF, Finished and ACK (CCSDS 727.0-B-5, 5.2 and 5.3),
+//! the checksum of a file, and what an entity tells its user.
 #![tactic(auto)]
 
-ghost use Rattle.std.specs.Prelude.{◌≡◌};
-ghost use Rattle.cfdp_directives.specs.Echo.{echo_of};
+mod checksum;
+mod codes;
+mod error;
+mod indication;
+mod laws;
+mod octets;
+mod pdu;
+mod reading;
+mod writing;
 
-// The `ensures` clause is the contract: what `echo` returns is `echo_of` of its argument, a definition
-// in `specs/Echo.antt`, which a caller's clause can cite too.
-pub fn echo(x: usize) -> usize
-    ensures { result ≡ echo_of x }
-{
-    x
-}
+pub use checksum::{Checksum, cut_file_has_its_checksum, whole_file_has_its_checksum};
+pub use codes::{Acknowledged, ChecksumKind, Condition, Delivery, FileStatus, TransactionStatus};
+pub use error::PduError;
+pub use indication::Indication;
+pub use laws::{no_pdu_begins_another, written_pdu_is_read, written_pdu_len};
+pub use octets::Octets;
+pub use pdu::Pdu;
+pub use reading::decode;
+pub use writing::encode;
+
+#[cfg(test)]
+mod tests;

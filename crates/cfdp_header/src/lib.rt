@@ -1,13 +1,123 @@
-// A library with one function.
+//! The fixed header of a PDU (CCSDS 727.0-B-5, 5.1): read from octets and written into them.
 #![tactic(auto)]
 
-ghost use Rattle.std.specs.Prelude.{◌≡◌};
-ghost use Rattle.cfdp_header.specs.Echo.{echo_of};
+ghost use Rattle.std.specs.Prelude.{◌≡◌, ℕ, ◌+◌, ◌*◌, ◌^◌, ◌<◌, ◌≤◌, ◌++◌, List, length, take, drop, true, IfOk, IsOkAnd};
+ghost use Rattle.std.specs.Result.{result_err};
+ghost use Rattle.cfdp_header.specs.declared.value.Header.{Header};
+ghost use Rattle.cfdp_header.specs.Header.{SpellsHeader, header_fault, FitsHeader, header_octets, header_len};
 
-// The `ensures` clause is the contract: what `echo` returns is `echo_of` of its argument, a definition
-// in `specs/Echo.antt`, which a caller's clause can cite too.
-pub fn echo(x: usize) -> usize
-    ensures { result ≡ echo_of x }
+mod error;
+mod value;
+
+use cfd_bits::{get, put_uint};
+pub use error::HeaderError;
+pub use value::{Header, TransactionId};
+
+/// Whether entity ids or sequence numbers of so many octets are read and written.
+fn is_width(octets: u8) -> bool
+    ensures { result ≡ Rattle.cfdp_header.specs.Header.is_width octets }
 {
-    x
+    octets == 2 || octets == 4
 }
+
+/// The header at the front of `bytes`, and the data field behind it, to the end.
+///
+/// The bit of segmentation control is read as anything (CCSDS 727.0-B-5, table 5-1).
+///
+/// # Errors
+///
+/// The first of these that holds, in this order: `Short`, `Version`, `CrcPresent`, `Unacknowledged`,
+/// `LargeFile`, `Width`, `Short` again for a header that isn't whole, `Length`. `HeaderError` says what each means.
+pub fn decode(bytes: &[u8]) -> Result<(Header, &[u8]), HeaderError>
+    // What is answered is spelled so.
+    ensures found { IfOk result (λ x. SpellsHeader x.0 bytes.now) }
+    // The data field.
+    ensures rest { IfOk result (λ x. x.1.now ≡ drop (header_len x.0.id_width x.0.number_width) bytes.now) }
+    // What is spelled so is answered.
+    ensures only { (h : Header) → SpellsHeader h bytes.now → IsOkAnd result (λ x. x.0 ≡ h) }
+    // Which refusal it is.
+    ensures refused { result_err result ≡ header_fault bytes.now }
+{
+    if bytes.len() < 4 {
+        return Err(HeaderError::Short);
+    }
+    if get(bytes, 0, 3) != 1 {
+        return Err(HeaderError::Version);
+    }
+    if get(bytes, 6, 1) != 0 {
+        return Err(HeaderError::CrcPresent);
+    }
+    if get(bytes, 5, 1) != 0 {
+        return Err(HeaderError::Unacknowledged);
+    }
+    if get(bytes, 7, 1) != 0 {
+        return Err(HeaderError::LargeFile);
+    }
+    let id_width = get(bytes, 25, 3) as u8 + 1;
+    let number_width = get(bytes, 29, 3) as u8 + 1;
+    if !is_width(id_width) || !is_width(number_width) {
+        return Err(HeaderError::Width);
+    }
+    let length = get(bytes, 8, 16) as u16;
+    let id_octets = id_width as usize;
+    let number_octets = number_width as usize;
+    let len = 4 + id_octets + number_octets + id_octets;
+    if bytes.len() < len {
+        return Err(HeaderError::Short);
+    }
+    if bytes.len() != len + length as usize {
+        return Err(HeaderError::Length);
+    }
+    let header = Header {
+        file_data: get(bytes, 3, 1) == 1,
+        toward_sender: get(bytes, 4, 1) == 1,
+        length,
+        segment_metadata: get(bytes, 28, 1) == 1,
+        id_width,
+        number_width,
+        id: TransactionId {
+            source: get(bytes, 32, 8 * id_octets),
+            number: get(bytes, 32 + 8 * id_octets, 8 * number_octets),
+        },
+        destination: get(bytes, 32 + 8 * id_octets + 8 * number_octets, 8 * id_octets),
+    };
+    Ok((header, &bytes[len..]))
+}
+
+/// Writes the header into the first octets of `out`, spare bits as 0, and says how many they are.
+///
+/// The data field, of `header.length` octets, is the caller's to write behind it.
+#[tactic(auto, using(crate::proofs::Laws::width_range, crate::proofs::Laws::flag_below))]
+pub fn encode(header: &Header, out: &mut [u8]) -> usize
+    requires fits { FitsHeader header.now }
+    requires room { header_len header.now.id_width header.now.number_width ≤ length out.old }
+    ensures len { result ≡ header_len header.now.id_width header.now.number_width }
+    ensures text { take result out.new ≡ header_octets header.now }
+{
+    let first = 32 + 16 * u64::from(header.file_data) + 8 * u64::from(header.toward_sender);
+    let widths = 16 * (u64::from(header.id_width) - 1)
+        + 8 * u64::from(header.segment_metadata)
+        + (u64::from(header.number_width) - 1);
+    let id_octets = header.id_width as usize;
+    let at = put_uint(out, 0, 1, first);
+    let at = put_uint(out, at, 2, u64::from(header.length));
+    let at = put_uint(out, at, 1, widths);
+    let at = put_uint(out, at, id_octets, header.id.source);
+    let at = put_uint(out, at, header.number_width as usize, header.id.number);
+    put_uint(out, at, id_octets, header.destination)
+}
+
+/// A law: no spelling of a header with its data field begins another, and one spelling has one header.
+pub fn no_header_begins_another()
+    ensures { (a b x y : List ℕ) (h k : Header) → SpellsHeader h a → SpellsHeader k b → a ++ x ≡ b ++ y
+        → (a ≡ b) × (h ≡ k) }
+{}
+
+/// A law: what is written of a header, with a data field of its length behind it, spells that header.
+pub fn written_header_is_read()
+    ensures { (h : Header) (rest : List ℕ) → FitsHeader h → length rest ≡ h.length
+        → SpellsHeader h (header_octets h ++ rest) }
+{}
+
+#[cfg(test)]
+mod tests;

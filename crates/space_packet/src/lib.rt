@@ -1,13 +1,116 @@
-// A library with one function.
+//! Space packets (CCSDS 133.0-B-2): their octets, their counts, and the counts that are missing.
+//!
+//! None of these calls takes memory: a packet's body is borrowed from the octets that it was read from, or that it is to be written from.
 #![tactic(auto)]
 
-ghost use Rattle.std.specs.Prelude.{◌≡◌};
-ghost use Rattle.space_packet.specs.Echo.{echo_of};
+ghost use Rattle.std.specs.Prelude.{◌≡◌, ℕ, ◌<◌, ◌≤◌, ◌++◌, List, length, take, drop, IfOk, IsOkAnd};
+ghost use Rattle.std.specs.Result.{result_err};
+ghost use Rattle.space_packet.specs.Packet.{Parts, SpellsPacket, IsWritable, fault, idle, header_octets, packet_octets, packet_len, view};
 
-// The `ensures` clause is the contract: what `echo` returns is `echo_of` of its argument, a definition
-// in `specs/Echo.antt`, which a caller's clause can cite too.
-pub fn echo(x: usize) -> usize
-    ensures { result ≡ echo_of x }
+mod count;
+mod error;
+mod laws;
+mod packet;
+#[cfg(test)]
+mod tests;
+
+use cfd_bits::{get, put_bytes, put_uint};
+pub use count::{Counter, Watch};
+pub use error::PacketError;
+pub use laws::{a_packet_has_one_spelling, no_packet_begins_another, written_packet_is_read};
+pub use packet::{IDLE_APID, Packet};
+
+/// Octets of a packet's primary header (CCSDS 133.0-B-2, 4.1.3).
+const HEADER_LEN: usize = 6;
+
+/// The packet in front, and the octets behind it.
+///
+/// `Short` where there are fewer than 6 octets, or fewer than the length field says; `Version` where the version number is not 0. With at
+/// least 6 octets `Version` is told first.
+pub fn decode(bytes: &[u8]) -> Result<(Packet<'_>, &[u8]), PacketError>
+    ensures found { IfOk result (λ x. SpellsPacket (view x.0) (take (packet_len (view x.0)) bytes.now)) }
+    ensures rest { IfOk result (λ x. x.1.now ≡ drop (packet_len (view x.0)) bytes.now) }
+    ensures only { (p : Parts) (front behind : List ℕ) → SpellsPacket p front → bytes.now ≡ front ++ behind → IsOkAnd result (λ x. (view x.0 ≡ p) × (x.1.now ≡ behind)) }
+
+    // The same, of a front that is told by its length.
+    ensures front { (p : Parts) (n : ℕ) → SpellsPacket p (take n bytes.now) → IsOkAnd result (λ x. (view x.0 ≡ p) × (x.1.now ≡ drop n bytes.now)) }
+    ensures refused { result_err result ≡ fault bytes.now }
 {
-    x
+    if bytes.len() < HEADER_LEN {
+        return Err(PacketError::Short);
+    }
+    if get(bytes, 0, 3) != 0 {
+        return Err(PacketError::Version);
+    }
+    let len = HEADER_LEN + 1 + get(bytes, 32, 16) as usize;
+    if bytes.len() < len {
+        return Err(PacketError::Short);
+    }
+    let (front, rest) = bytes.split_at(len);
+    let packet = Packet {
+        apid: get(bytes, 5, 11) as u16,
+        kind: get(bytes, 3, 1) == 1,
+        secondary: get(bytes, 4, 1) == 1,
+        flags: get(bytes, 16, 2) as u8,
+        count: get(bytes, 18, 14) as u16,
+        body: &front[HEADER_LEN..],
+    };
+    Ok((packet, rest))
+}
+
+/// Writes the packet into the first octets, and says how many they are: 6 and those of its body.
+pub fn encode(packet: &Packet<'_>, out: &mut [u8]) -> usize
+    requires writable { IsWritable (view packet.now) }
+    requires room { packet_len (view packet.now) ≤ length out.old }
+    ensures len { result ≡ packet_len (view packet.now) }
+    ensures written { take result out.new ≡ packet_octets (view packet.now) }
+    ensures spelled { SpellsPacket (view packet.now) (take result out.new) }
+    ensures behind { drop result out.new ≡ drop result out.old }
+{
+    let len = HEADER_LEN + packet.body.len();
+    let front = &mut out[..len];
+    let at = put_header(packet, packet.body.len(), front);
+    put_bytes(front, at, packet.body)
+}
+
+/// Writes an idle packet of `len` octets (7 to 65,542) into the first octets: sequence flags `11`, count 0, data octets 0.
+pub fn encode_idle(len: usize, out: &mut [u8])
+    requires least { 7 ≤ len }
+    requires most { len ≤ 65542 }
+    requires room { len ≤ length out.old }
+    ensures written { take len out.new ≡ packet_octets (idle len) }
+    ensures spelled { SpellsPacket (idle len) (take len out.new) }
+    ensures behind { drop len out.new ≡ drop len out.old }
+{
+    let packet = Packet {
+        apid: IDLE_APID,
+        kind: false,
+        secondary: false,
+        flags: 3,
+        count: 0,
+        body: &[],
+    };
+    let front = &mut out[..len];
+    let at = put_header(&packet, len - HEADER_LEN, front);
+    front[at..].fill(0);
+}
+
+/// Writes the primary header of a packet with so many octets of data, and says where it ends.
+fn put_header(packet: &Packet<'_>, data_octets: usize, out: &mut [u8]) -> usize
+    requires apid { packet.now.apid < 2048 }
+    requires flags { packet.now.flags < 4 }
+    requires count { packet.now.count < 16384 }
+    requires some { 1 ≤ data_octets }
+    requires fits { data_octets ≤ 65536 }
+    requires room { 6 ≤ length out.old }
+    ensures end { result ≡ 6 }
+    ensures written { take 6 out.new ≡ header_octets (view packet.now) data_octets }
+{
+    let identification = 4096 * u64::from(packet.kind)
+        + 2048 * u64::from(packet.secondary)
+        + u64::from(packet.apid);
+    let control = 16384 * u64::from(packet.flags) + u64::from(packet.count);
+    let at = put_uint(out, 0, 2, identification);
+    let at = put_uint(out, at, 2, control);
+    put_uint(out, at, 2, data_octets as u64 - 1)
 }

@@ -1,0 +1,4 @@
+pub mod Only
+pub mod Spelling
+pub mod Sums
+pub mod Puts

@@ -1,0 +1,191 @@
+-- Octets that spell a PDU have no fault, and spell no other.
+use Rattle.std.proofs.Common.{◌≡◌, ℕ, ◌+◌, Bool, true, false, ltb, eqb, List, [], ◌++◌, length, take, drop, None, Result, Ok, Err, refl, sym, ap, subst, ◌∙◌, arith, length-append}
+use Rattle.std.specs.Prelude.{IfOk, IsOkAnd}
+use Rattle.std.specs.Result.{result_err}
+use Rattle.std.proofs.lemmas.Bool.{le-ltb, le-leb}
+use Rattle.std.proofs.Common.{eq-eqb, zero, suc, append-nil}
+use Rattle.std.proofs.lemmas.List.{take_at, drop_at, nil_from_length}
+use Rattle.cfdp_header.specs.declared.value.Header.{Header}
+use Rattle.cfdp_header.specs.Header.{flag, header_len_told, header_len}
+use Rattle.cfdp_header.proofs.Laws as header
+use Rattle.cfdp_directives.specs.declared.codes.Delivery.{Delivery}
+use Rattle.cfdp_directives.specs.declared.codes.Delivery.TheVariants.{Complete, Incomplete}
+use Rattle.cfdp_directives.specs.declared.codes.FileStatus.{FileStatus}
+use Rattle.cfdp_directives.specs.declared.codes.FileStatus.TheVariants.{Discarded, Rejected, Retained, Unreported}
+use Rattle.cfdp_directives.specs.declared.codes.TransactionStatus.{TransactionStatus}
+use Rattle.cfdp_directives.specs.declared.codes.TransactionStatus.TheVariants.{Undefined, Active, Terminated, Unrecognized}
+use Rattle.cfdp_directives.specs.declared.codes.Acknowledged.{Acknowledged}
+use Rattle.cfdp_directives.specs.declared.codes.Acknowledged.TheVariants as acknowledged
+use Rattle.cfdp_directives.specs.declared.pdu.Pdu.{Pdu}
+use Rattle.cfdp_directives.specs.declared.error.PduError.{PduError}
+use Rattle.cfdp_directives.specs.Codes.{delivery_code, file_status_code, transaction_status_code, acknowledged_code}
+use Rattle.cfdp_directives.specs.Content.{Content, FileData, Metadata, Eof, Finished, Ack, view}
+use Rattle.cfdp_directives.specs.Grammar.{Says, SpellsPdu, IsFileData, IsMetadata, IsEof, IsFinished, IsAck, skipped, lv}
+use Rattle.cfdp_directives.specs.Faults.{has_lv, after_lv, file_data_fault, metadata_fault, eof_fault, finished_fault, ack_fault, content_fault, pdu_fault}
+
+-- ---- texts with a length
+
+has : (s x : List ℕ) → has_lv (lv s ++ x) ≡ true
+unfolding has_lv
+has s x = le-leb _ _ (omega (arith, length-append s x))
+
+after : (s x : List ℕ) → after_lv (lv s ++ x) ≡ x
+unfolding after_lv
+after s x = drop_at s x (length s) refl
+
+same_lv : (s t x y : List ℕ) → lv s ++ x ≡ lv t ++ y → (s ≡ t) × (x ≡ y)
+same_lv s t x y e =
+    let len : length s ≡ length t = cc in
+    let rest : s ++ x ≡ t ++ y = cc in
+    (sym (take_at s x (length s) refl) ∙ ap (take (length s)) rest ∙ take_at t y (length s) (sym len), sym (drop_at s x (length s) refl) ∙ ap (drop (length s)) rest ∙ drop_at t y (length s) (sym len))
+
+-- two texts and nothing behind them
+pub texts_end : (d s t x y : List ℕ) → d ≡ lv s ++ x → x ≡ lv t ++ y → length y ≡ 0 → d ≡ lv s ++ lv t
+texts_end d s t x y e f h =
+    let nil : y ≡ [] = nil_from_length y h in
+    let whole : x ≡ lv t = f ∙ ap (λ (z : List ℕ). lv t ++ z) nil ∙ append-nil (lv t) in
+    e ∙ ap (λ (z : List ℕ). lv s ++ z) whole
+
+-- ---- no fault
+
+file_data_accepted : (w : ℕ) (s : Bool) (offset : ℕ) (bytes d : List ℕ) → IsFileData w s offset bytes d → file_data_fault w s d ≡ None
+file_data_accepted w s offset bytes d p =
+    let long : ltb (length d) (skipped s d + w) ≡ false = le-ltb _ _ p.room in
+    rw long refl
+
+metadata_accepted : (w kind size : ℕ) (source destination : List ℕ) (d : List ℕ) → IsMetadata w kind size source destination d → metadata_fault w d ≡ None
+metadata_accepted w kind size source destination d p =
+    let long : ltb (length d) (2 + w) ≡ false = le-ltb _ _ p.room in
+    let one = has source (lv destination) in
+    let two = after source (lv destination) in
+    let three : has_lv (lv destination) ≡ true = rw append-nil at (has destination []) in
+    let four : after_lv (lv destination) ≡ [] = rw append-nil at (after destination []) in
+    rw (long, p.rest, one, two, three, four) refl
+
+eof_accepted : (w c k z : ℕ) (d : List ℕ) → IsEof w c k z d → eof_fault w d ≡ None
+eof_accepted w c k z d p =
+    let long : ltb (length d) (6 + w) ≡ false = le-ltb _ _ (let s = p.size_octets in omega arith) in
+    let whole : eqb (length d) (6 + w) ≡ true = eq-eqb _ _ p.size_octets in
+    rw (long, p.condition_field, p.allowed, whole) refl
+
+finished_accepted : (c : ℕ) (i : Delivery) (s : FileStatus) (d : List ℕ) → IsFinished c i s d → finished_fault d ≡ None
+finished_accepted c i s d p = rw (p.size_octets, p.condition_field, p.allowed) refl
+
+ack_accepted : (of : Acknowledged) (condition : ℕ) (status : TransactionStatus) (d : List ℕ) → IsAck of condition status d → ack_fault d ≡ None
+ack_accepted acknowledged.Eof condition status d p = rw (p.size_octets, p.of_field, p.condition_field, p.allowed) refl
+ack_accepted acknowledged.Finished condition status d p = rw (p.size_octets, p.of_field, p.condition_field, p.allowed) refl
+
+told : (b : Bool) → eqb (flag b) 1 ≡ b
+told true = refl
+told false = refl
+
+accepted : (h : Header) (v : Content) (d : List ℕ) → Says h v d → content_fault 4 h.file_data h.segment_metadata d ≡ None
+accepted h (FileData offset bytes) d p = rw p.0 (file_data_accepted 4 h.segment_metadata offset bytes d p.1)
+accepted h (Metadata kind size source destination) d p =
+    let long : ltb (length d) 1 ≡ false = le-ltb _ _ (let r = p.1.room in omega arith) in
+    rw (p.0, long, p.1.code) (metadata_accepted 4 kind size source destination d p.1)
+accepted h (Eof c k z) d p =
+    let long : ltb (length d) 1 ≡ false = le-ltb _ _ (let r = p.1.size_octets in omega arith) in
+    rw (p.0, long, p.1.code) (eof_accepted 4 c k z d p.1)
+accepted h (Finished c i s) d p =
+    let long : ltb (length d) 1 ≡ false = le-ltb _ _ (let r = p.1.size_octets in omega arith) in
+    rw (p.0, long, p.1.code) (finished_accepted c i s d p.1)
+accepted h (Ack of condition status) d p =
+    let long : ltb (length d) 1 ≡ false = le-ltb _ _ (let r = p.1.size_octets in omega arith) in
+    rw (p.0, long, p.1.code) (ack_accepted of condition status d p.1)
+
+pdu_accepted : (h : Header) (v : Content) (t : List ℕ) → SpellsPdu h v t → pdu_fault t ≡ None
+pdu_accepted h v t p =
+    let q = p.header in
+    let len : header_len_told t ≡ header_len h.id_width h.number_width = rw (q.id_width, q.number_width) refl in
+    rw (header.accepted h t q, q.file_data, q.segment_metadata, told h.file_data, told h.segment_metadata, len) (accepted h v (drop (header_len h.id_width h.number_width) t) p.content)
+
+-- ---- no other
+
+same_delivery : (a b : Delivery) → delivery_code a ≡ delivery_code b → a ≡ b
+same_delivery Complete Complete e = refl
+same_delivery Incomplete Incomplete e = refl
+same_delivery Complete Incomplete e = absurd cc
+same_delivery Incomplete Complete e = absurd cc
+
+file_status_with : ℕ → FileStatus
+file_status_with zero = Discarded
+file_status_with (suc zero) = Rejected
+file_status_with (suc (suc zero)) = Retained
+file_status_with (suc (suc (suc n))) = Unreported
+
+file_status_back : (a : FileStatus) → file_status_with (file_status_code a) ≡ a
+unfolding file_status_with
+file_status_back Discarded = refl
+file_status_back Rejected = refl
+file_status_back Retained = refl
+file_status_back Unreported = refl
+
+same_file_status : (a b : FileStatus) → file_status_code a ≡ file_status_code b → a ≡ b
+same_file_status a b e = sym (file_status_back a) ∙ ap file_status_with e ∙ file_status_back b
+
+transaction_status_with : ℕ → TransactionStatus
+transaction_status_with zero = Undefined
+transaction_status_with (suc zero) = Active
+transaction_status_with (suc (suc zero)) = Terminated
+transaction_status_with (suc (suc (suc n))) = Unrecognized
+
+transaction_status_back : (a : TransactionStatus) → transaction_status_with (transaction_status_code a) ≡ a
+unfolding transaction_status_with
+transaction_status_back Undefined = refl
+transaction_status_back Active = refl
+transaction_status_back Terminated = refl
+transaction_status_back Unrecognized = refl
+
+same_transaction_status : (a b : TransactionStatus) → transaction_status_code a ≡ transaction_status_code b → a ≡ b
+same_transaction_status a b e = sym (transaction_status_back a) ∙ ap transaction_status_with e ∙ transaction_status_back b
+
+same_code : (a b : Acknowledged) → acknowledged_code a ≡ acknowledged_code b → a ≡ b
+same_code acknowledged.Eof acknowledged.Eof e = refl
+same_code acknowledged.Finished acknowledged.Finished e = refl
+same_code acknowledged.Eof acknowledged.Finished e = absurd cc
+same_code acknowledged.Finished acknowledged.Eof e = absurd cc
+
+pub same : (h : Header) (v w : Content) (d : List ℕ) → Says h v d → Says h w d → v ≡ w
+same h (FileData a b) (FileData a' b') d p q =
+    let p' = p.1 in
+    let q' = q.1 in
+    cc
+same h (FileData a b) w d p q = absurd cc
+same h (Metadata a b s t) (Metadata a' b' s' t') d p q =
+    let p' = p.1 in
+    let q' = q.1 in
+    let one = same_lv s s' (lv t) (lv t') (sym p'.rest ∙ q'.rest) in
+    let two : t ≡ t' = cc in
+    cc
+same h (Metadata a b s t) w d p q = let k = p.1.code in absurd cc
+same h (Eof a b c) (Eof a' b' c') d p q =
+    let p' = p.1 in
+    let q' = q.1 in
+    cc
+same h (Eof a b c) w d p q = let k = p.1.code in absurd cc
+same h (Finished a b c) (Finished a' b' c') d p q =
+    let p' = p.1 in
+    let q' = q.1 in
+    let one = same_delivery b b' (sym p'.delivery_field ∙ q'.delivery_field) in
+    let two = same_file_status c c' (sym p'.status_field ∙ q'.status_field) in
+    cc
+same h (Finished a b c) w d p q = let k = p.1.code in absurd cc
+same h (Ack a b c) (Ack a' b' c') d p q =
+    let p' = p.1 in
+    let q' = q.1 in
+    let one = same_code a a' (sym p'.of_field ∙ q'.of_field) in
+    let two = same_transaction_status c c' (sym p'.status_field ∙ q'.status_field) in
+    cc
+same h (Ack a b c) w d p q = let k = p.1.code in absurd cc
+
+-- ---- what is spelled is read
+
+pub only : (r : Result (Header × Pdu) PduError) (t : List ℕ) → IfOk r (λ x. SpellsPdu x.0 (view x.1) t) → result_err r ≡ pdu_fault t → (h : Header) (v : Content) → SpellsPdu h v t → IsOkAnd r (λ x. (x.0 ≡ h) × (view x.1 ≡ v))
+only (Err e) t found refused h v p =
+    let none = pdu_accepted h v t p in
+    absurd cc
+only (Ok x) t found refused h v p =
+    let heads : x.0 ≡ h = header.unique x.0 h t found.header p.header in
+    let moved : Says h (view x.1) (drop (header_len h.id_width h.number_width) t) = subst (λ (k : Header). Says k (view x.1) (drop (header_len k.id_width k.number_width) t)) heads found.content in
+    (heads, same h (view x.1) v (drop (header_len h.id_width h.number_width) t) moved p.content)

@@ -1,0 +1,167 @@
+-- What is written spells the PDU, and no spelling begins another.
+use Rattle.std.proofs.Common.{◌≡◌, ℕ, ◌+◌, ◌*◌, ◌/◌, ◌%◌, ◌^◌, ◌<◌, Bool, false, List, [], ◌∷◌, ◌++◌, length, drop, refl, sym, ap, subst, ◌∙◌, append_assoc, arith, length-append}
+use Rattle.std.proofs.lemmas.List.{drop_at}
+use Rattle.cfd_bits.specs.Field.{octets}
+use Rattle.cfd_bits.proofs.Fields.{field_between, field_in_octet}
+use Rattle.cfdp_header.specs.declared.value.Header.{Header}
+use Rattle.cfdp_header.specs.Header.{header_len, header_octets}
+use Rattle.cfdp_header.proofs.Laws as header
+use Rattle.cfdp_directives.specs.declared.codes.Delivery.{Delivery}
+use Rattle.cfdp_directives.specs.declared.codes.Delivery.TheVariants.{Complete, Incomplete}
+use Rattle.cfdp_directives.specs.declared.codes.FileStatus.{FileStatus}
+use Rattle.cfdp_directives.specs.declared.codes.FileStatus.TheVariants.{Discarded, Rejected, Retained, Unreported}
+use Rattle.cfdp_directives.specs.declared.codes.TransactionStatus.{TransactionStatus}
+use Rattle.cfdp_directives.specs.declared.codes.TransactionStatus.TheVariants.{Undefined, Active, Terminated, Unrecognized}
+use Rattle.cfdp_directives.specs.declared.codes.Acknowledged.{Acknowledged}
+use Rattle.cfdp_directives.specs.declared.codes.Acknowledged.TheVariants as acknowledged
+use Rattle.cfdp_directives.specs.Codes.{delivery_code, file_status_code, transaction_status_code, acknowledged_code, acknowledged_subtype}
+use Rattle.cfdp_directives.specs.Content.{Content, FileData, Metadata, Eof, Finished, Ack, is_file_data}
+use Rattle.cfdp_directives.specs.Grammar.{Says, SpellsPdu, IsFileData, IsMetadata, IsEof, IsFinished, IsAck, lv}
+use Rattle.cfdp_directives.specs.Written.{content_octets, content_len, FitsContent, CanWrite, pdu_octets}
+use Rattle.cfdp_directives.proofs.Only.{same}
+
+pub one_form : (a b x y : List ℕ) (h k : Header) (v w : Content) → SpellsPdu h v a → SpellsPdu k w b → a ++ x ≡ b ++ y → (a ≡ b) × (h ≡ k) × (v ≡ w)
+one_form a b x y h k v w p q e =
+    let r = header.one_form a b x y h k p.header q.header e in
+    let moved : Says k v (drop (header_len k.id_width k.number_width) b) = subst (λ (t : List ℕ). Says k v (drop (header_len k.id_width k.number_width) t)) r.0 (subst (λ (g : Header). Says g v (drop (header_len g.id_width g.number_width) a)) r.1 p.content) in
+    (r.0, r.1, same k v w (drop (header_len k.id_width k.number_width) b) moved q.content)
+
+-- ---- codes fit their fields
+
+pub one_octet : (n : ℕ) → n < 256 → octets 1 n ≡ n ∷ []
+unfolding octets
+one_octet n h = let e : n % 256 ≡ n = omega arith in rw e refl
+
+pub delivery_below : (delivery : Delivery) → delivery_code delivery < 2
+delivery_below Complete = omega arith
+delivery_below Incomplete = omega arith
+
+pub file_status_below : (status : FileStatus) → file_status_code status < 4
+file_status_below Discarded = omega arith
+file_status_below Rejected = omega arith
+file_status_below Retained = omega arith
+file_status_below Unreported = omega arith
+
+pub transaction_status_below : (status : TransactionStatus) → transaction_status_code status < 4
+transaction_status_below Undefined = omega arith
+transaction_status_below Active = omega arith
+transaction_status_below Terminated = omega arith
+transaction_status_below Unrecognized = omega arith
+
+pub acknowledged_below : (of : Acknowledged) → 16 * acknowledged_code of + acknowledged_subtype of < 256
+acknowledged_below acknowledged.Eof = omega arith
+acknowledged_below acknowledged.Finished = omega arith
+
+-- ---- data fields
+
+file_data_written : (offset : ℕ) (bytes : List ℕ) → offset < 2 ^ 32 → IsFileData 4 false offset bytes (content_octets 4 (FileData offset bytes))
+unfolding octets
+file_data_written offset bytes f = record {
+  room = omega arith;
+  offset_field = field_between [] bytes 4 offset 0 32 f refl refl;
+  after = refl;
+}
+
+metadata_written : (k z : ℕ) (s t : List ℕ) → FitsContent 4 (Metadata k z s t) → IsMetadata 4 k z s t (content_octets 4 (Metadata k z s t))
+unfolding octets
+metadata_written k z s t f =
+    let d = octets 1 7 ++ octets 1 k ++ octets 4 z ++ (lv s ++ lv t) in
+    let grouped : content_octets 4 (Metadata k z s t) ≡ d = simp append_assoc in
+    let low = f.0 in
+    let kind = field_in_octet d 12 4 1 4 (k % 256) refl (omega arith) refl in
+    rw grouped (record {
+      room = omega arith;
+      code = field_in_octet d 0 8 0 0 7 refl (omega arith) refl;
+      kind_field = omega arith;
+      size_field = field_between (octets 1 7 ++ octets 1 k) (lv s ++ lv t) 4 z 16 32 f.1 refl refl;
+      rest = refl;
+    })
+
+eof_written : (c k z : ℕ) → FitsContent 4 (Eof c k z) → IsEof 4 c k z (content_octets 4 (Eof c k z))
+unfolding octets
+eof_written c k z f =
+    let d = content_octets 4 (Eof c k z) in
+    let low = f.0.0 in
+    let condition = field_in_octet d 8 4 1 0 (16 * c % 256) refl (omega arith) refl in
+    record {
+      size_octets = refl;
+      code = field_in_octet d 0 8 0 0 4 refl (omega arith) refl;
+      condition_field = omega arith;
+      allowed = f.0.1;
+      checksum_field = field_between (octets 1 4 ++ octets 1 (16 * c)) (octets 4 z) 4 k 16 32 f.1 refl refl;
+      size_field = field_between (octets 1 4 ++ octets 1 (16 * c) ++ octets 4 k) [] 4 z 48 32 f.2 refl refl;
+    }
+
+finished_written : (c : ℕ) (i : Delivery) (s : FileStatus) → FitsContent 4 (Finished c i s) → IsFinished c i s (content_octets 4 (Finished c i s))
+unfolding octets
+finished_written c i s f =
+    let d = content_octets 4 (Finished c i s) in
+    let x : ℕ = (16 * c + 4 * delivery_code i + file_status_code s) % 256 in
+    let low = f.0 in
+    let low2 = delivery_below i in
+    let low3 = file_status_below s in
+    let condition = field_in_octet d 8 4 1 0 x refl (omega arith) refl in
+    let delivery = field_in_octet d 13 1 1 5 x refl (omega arith) refl in
+    let status = field_in_octet d 14 2 1 6 x refl (omega arith) refl in
+    record {
+      size_octets = refl;
+      code = field_in_octet d 0 8 0 0 5 refl (omega arith) refl;
+      condition_field = omega arith;
+      allowed = f.1;
+      delivery_field = omega arith;
+      status_field = omega arith;
+    }
+
+code_written : (of : Acknowledged) → (16 * acknowledged_code of + acknowledged_subtype of) % 256 / 2 ^ 4 % 2 ^ 4 ≡ acknowledged_code of
+code_written acknowledged.Eof = refl
+code_written acknowledged.Finished = refl
+
+ack_written : (of : Acknowledged) (c : ℕ) (s : TransactionStatus) → FitsContent 4 (Ack of c s) → IsAck of c s (content_octets 4 (Ack of c s))
+unfolding octets
+ack_written of c s f =
+    let d = content_octets 4 (Ack of c s) in
+    let x : ℕ = (16 * c + transaction_status_code s) % 256 in
+    let low = f.0 in
+    let low2 = transaction_status_below s in
+    let condition = field_in_octet d 16 4 2 0 x refl (omega arith) refl in
+    let status = field_in_octet d 22 2 2 6 x refl (omega arith) refl in
+    record {
+      size_octets = refl;
+      code = field_in_octet d 0 8 0 0 6 refl (omega arith) refl;
+      of_field = field_in_octet d 8 4 1 0 ((16 * acknowledged_code of + acknowledged_subtype of) % 256) refl (omega arith) refl ∙ code_written of;
+      condition_field = omega arith;
+      allowed = f.1;
+      status_field = omega arith;
+    }
+
+said : (h : Header) (v : Content) → FitsContent 4 v → h.file_data ≡ is_file_data v → h.segment_metadata ≡ false → Says h v (content_octets 4 v)
+said h (FileData a b) f k plain = (k, subst (λ (m : Bool). IsFileData 4 m a b (content_octets 4 (FileData a b))) (sym plain) (file_data_written a b f))
+said h (Metadata a b s t) f k plain = (k, metadata_written a b s t f)
+said h (Eof a b c) f k plain = (k, eof_written a b c f)
+said h (Finished a b c) f k plain = (k, finished_written a b c f)
+said h (Ack a b c) f k plain = (k, ack_written a b c f)
+
+pub length-content_octets : (v : Content) → length (content_octets 4 v) ≡ content_len 4 v
+unfolding octets
+length-content_octets (FileData a b) = omega arith
+length-content_octets (Metadata a b s t) =
+    let grouped : content_octets 4 (Metadata a b s t) ≡ octets 1 7 ++ octets 1 a ++ octets 4 b ++ (lv s ++ lv t) = simp append_assoc in
+    ap length grouped ∙ omega (arith, length-append s (lv t))
+length-content_octets (Eof a b c) = refl
+length-content_octets (Finished a b c) = refl
+length-content_octets (Ack a b c) = refl
+
+-- what is written spells the PDU
+pub spelled : (h : Header) (v : Content) → CanWrite h v → SpellsPdu h v (pdu_octets h v)
+spelled h v can =
+    let len = can.len in
+    let heads = header.spelled h (content_octets 4 v) can.header (omega (arith, length-content_octets v)) in
+    record {
+      header = heads;
+      content = rw (drop_at (header_octets h) (content_octets 4 v) (header_len h.id_width h.number_width) (header.length-header_octets h)) (said h v can.content can.kind can.no_segment_metadata);
+    }
+
+pub length-pdu_octets : (h : Header) (v : Content) → CanWrite h v → length (pdu_octets h v) ≡ header_len h.id_width h.number_width + h.length
+length-pdu_octets h v can =
+    let len = can.len in
+    omega (arith, length-append (header_octets h) (content_octets 4 v), header.length-header_octets h, length-content_octets v)

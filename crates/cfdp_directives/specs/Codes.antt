@@ -1,0 +1,76 @@
+-- The codes of the standard's tables.
+use Rattle.std.specs.Prelude.{ℕ, Bool, ◌==◌, ◌||◌, ◌≡◌, ◌<◌, false}
+use Rattle.cfdp_directives.specs.declared.codes.Delivery.{Delivery}
+use Rattle.cfdp_directives.specs.declared.codes.Delivery.TheVariants.{Complete, Incomplete}
+use Rattle.cfdp_directives.specs.declared.codes.FileStatus.{FileStatus}
+use Rattle.cfdp_directives.specs.declared.codes.FileStatus.TheVariants.{Discarded, Rejected, Retained, Unreported}
+use Rattle.cfdp_directives.specs.declared.codes.TransactionStatus.{TransactionStatus}
+use Rattle.cfdp_directives.specs.declared.codes.TransactionStatus.TheVariants.{Undefined, Active, Terminated, Unrecognized}
+use Rattle.cfdp_directives.specs.declared.codes.Acknowledged.{Acknowledged}
+use Rattle.cfdp_directives.specs.declared.codes.Acknowledged.TheVariants as acknowledged
+
+-- conditions that have names here (CCSDS 727.0-B-5, table 5-5)
+abbrev pub no_error : ℕ
+no_error = 0
+
+abbrev pub positive_ack_limit : ℕ
+positive_ack_limit = 1
+
+abbrev pub filestore_rejection : ℕ
+filestore_rejection = 4
+
+abbrev pub file_checksum_failure : ℕ
+file_checksum_failure = 5
+
+abbrev pub file_size_error : ℕ
+file_size_error = 6
+
+abbrev pub unsupported_checksum_type : ℕ
+unsupported_checksum_type = 11
+
+abbrev pub cancel_request : ℕ
+cancel_request = 15
+
+-- the conditions that are refused
+abbrev pub is_refused : ℕ → Bool
+is_refused condition = (condition == 12) || (condition == 13)
+
+-- A number that a condition may be.
+abbrev pub IsCondition : ℕ → Type 0
+IsCondition condition = (condition < 16) × (is_refused condition ≡ false)
+
+-- checksum types (CCSDS 727.0-B-5, 4.2.2)
+abbrev pub modular : ℕ
+modular = 0
+
+abbrev pub null : ℕ
+null = 15
+
+-- delivery code (CCSDS 727.0-B-5, table 5-7)
+abbrev pub delivery_code : Delivery → ℕ
+delivery_code Complete = 0
+delivery_code Incomplete = 1
+
+-- file status (CCSDS 727.0-B-5, table 5-7)
+abbrev pub file_status_code : FileStatus → ℕ
+file_status_code Discarded = 0
+file_status_code Rejected = 1
+file_status_code Retained = 2
+file_status_code Unreported = 3
+
+-- transaction status (CCSDS 727.0-B-5, table 5-8)
+abbrev pub transaction_status_code : TransactionStatus → ℕ
+transaction_status_code Undefined = 0
+transaction_status_code Active = 1
+transaction_status_code Terminated = 2
+transaction_status_code Unrecognized = 3
+
+-- the directive code that an ACK names (CCSDS 727.0-B-5, table 5-4)
+abbrev pub acknowledged_code : Acknowledged → ℕ
+acknowledged_code acknowledged.Eof = 4
+acknowledged_code acknowledged.Finished = 5
+
+-- the subtype that is written with it: 1 for Finished
+abbrev pub acknowledged_subtype : Acknowledged → ℕ
+acknowledged_subtype acknowledged.Eof = 0
+acknowledged_subtype acknowledged.Finished = 1

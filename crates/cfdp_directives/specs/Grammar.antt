@@ -1,0 +1,77 @@
+-- Which octets are which PDU, by the bit fields of the standard's tables. Spare bits are in no line: they are read as anything.
+use Rattle.std.specs.Prelude.{◌≡◌, ℕ, ◌+◌, ◌*◌, ◌≤◌, Bool, true, false, List, ◌∷◌, ◌++◌, length, drop, if◌then◌else◌}
+use Rattle.cfd_bits.specs.Field.{field}
+use Rattle.cfdp_header.specs.declared.value.Header.{Header}
+use Rattle.cfdp_header.specs.Header.{SpellsHeader, header_len}
+use Rattle.cfdp_directives.specs.declared.codes.Delivery.{Delivery}
+use Rattle.cfdp_directives.specs.declared.codes.FileStatus.{FileStatus}
+use Rattle.cfdp_directives.specs.declared.codes.TransactionStatus.{TransactionStatus}
+use Rattle.cfdp_directives.specs.declared.codes.Acknowledged.{Acknowledged}
+use Rattle.cfdp_directives.specs.Codes.{is_refused, delivery_code, file_status_code, transaction_status_code, acknowledged_code}
+use Rattle.cfdp_directives.specs.Content.{Content, FileData, Metadata, Eof, Finished, Ack}
+
+-- octets of a file-size field, FSS (CCSDS 727.0-B-5, 5.1.10)
+abbrev pub fss : Header → ℕ
+fss h = 4
+
+-- an octet of length, and that many octets: LV (CCSDS 727.0-B-5, 5.1.8)
+abbrev pub lv : List ℕ → List ℕ
+lv value = length value ∷ value
+
+-- the octets of segment metadata in front of the offset (CCSDS 727.0-B-5, 5.3, table 5-14)
+abbrev pub skipped : Bool → List ℕ → ℕ
+skipped segment_metadata d = if segment_metadata then 1 + field d 2 6 else 0
+
+-- File data (CCSDS 727.0-B-5, 5.3): the offset, whose field has w octets, and the data to the end.
+pub record IsFileData (w : ℕ) (segment_metadata : Bool) (offset : ℕ) (bytes : List ℕ) (d : List ℕ) : Type 0 where
+  pub room : skipped segment_metadata d + w ≤ length d
+  pub offset_field : field d (8 * skipped segment_metadata d) (8 * w) ≡ offset
+  pub after : drop (skipped segment_metadata d + w) d ≡ bytes
+
+-- Metadata (CCSDS 727.0-B-5, 5.2.5). Bits 8 to 11 are free: spare, closure requested, spare.
+pub record IsMetadata (w : ℕ) (checksum_kind size : ℕ) (source destination : List ℕ) (d : List ℕ) : Type 0 where
+  pub room : 2 + w ≤ length d
+  pub code : field d 0 8 ≡ 7
+  pub kind_field : field d 12 4 ≡ checksum_kind
+  pub size_field : field d 16 (8 * w) ≡ size
+  pub rest : drop (2 + w) d ≡ lv source ++ lv destination
+
+-- EOF (CCSDS 727.0-B-5, 5.2.2). Bits 12 to 15 are free.
+pub record IsEof (w : ℕ) (condition checksum size : ℕ) (d : List ℕ) : Type 0 where
+  pub size_octets : length d ≡ 6 + w
+  pub code : field d 0 8 ≡ 4
+  pub condition_field : field d 8 4 ≡ condition
+  pub allowed : is_refused condition ≡ false
+  pub checksum_field : field d 16 32 ≡ checksum
+  pub size_field : field d 48 (8 * w) ≡ size
+
+-- Finished (CCSDS 727.0-B-5, 5.2.3). Bit 12 is free.
+pub record IsFinished (condition : ℕ) (delivery : Delivery) (status : FileStatus) (d : List ℕ) : Type 0 where
+  pub size_octets : length d ≡ 2
+  pub code : field d 0 8 ≡ 5
+  pub condition_field : field d 8 4 ≡ condition
+  pub allowed : is_refused condition ≡ false
+  pub delivery_field : field d 13 1 ≡ delivery_code delivery
+  pub status_field : field d 14 2 ≡ file_status_code status
+
+-- ACK (CCSDS 727.0-B-5, 5.2.4). Bits 12 to 15, the subtype, and 20 and 21 are free.
+pub record IsAck (of : Acknowledged) (condition : ℕ) (status : TransactionStatus) (d : List ℕ) : Type 0 where
+  pub size_octets : length d ≡ 3
+  pub code : field d 0 8 ≡ 6
+  pub of_field : field d 8 4 ≡ acknowledged_code of
+  pub condition_field : field d 16 4 ≡ condition
+  pub allowed : is_refused condition ≡ false
+  pub status_field : field d 22 2 ≡ transaction_status_code status
+
+-- The data field d of a PDU with this header says this.
+abbrev pub Says : Header → Content → List ℕ → Type 0
+Says h (FileData offset bytes) d = (h.file_data ≡ true) × IsFileData (fss h) h.segment_metadata offset bytes d
+Says h (Metadata kind size source destination) d = (h.file_data ≡ false) × IsMetadata (fss h) kind size source destination d
+Says h (Eof condition checksum size) d = (h.file_data ≡ false) × IsEof (fss h) condition checksum size d
+Says h (Finished condition delivery status) d = (h.file_data ≡ false) × IsFinished condition delivery status d
+Says h (Ack of condition status) d = (h.file_data ≡ false) × IsAck of condition status d
+
+-- The octets, all of them, are this PDU.
+pub record SpellsPdu (h : Header) (v : Content) (text : List ℕ) : Type 0 where
+  pub header : SpellsHeader h text
+  pub content : Says h v (drop (header_len h.id_width h.number_width) text)

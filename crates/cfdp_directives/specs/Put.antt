@@ -1,0 +1,80 @@
+-- A put, the PDUs that tell the truth about it, and when it was heard in full.
+use Rattle.std.specs.Prelude.{◌≡◌, ℕ, ◌+◌, ◌<◌, ◌≤◌, List, [], ◌∷◌, length, take, drop, Option, Some, None, Any}
+use Rattle.std.specs.Ordering.{nat_cmp}
+use Rattle.std.specs.Cmp.Lexicographic.{slice_cmp}
+use Rattle.std.specs.FinMap.{FinMap, insert}
+use Rattle.cfdp_header.specs.declared.value.Header.{Header}
+use Rattle.cfdp_header.specs.declared.value.TransactionId.{TransactionId}
+use Rattle.cfdp_directives.specs.Codes.{no_error}
+use Rattle.cfdp_directives.specs.Content.{Content, FileData, Metadata, Eof, Finished, Ack}
+use Rattle.cfdp_directives.specs.Grammar.{SpellsPdu}
+use Rattle.cfdp_directives.specs.Checksum.{checksum_of}
+
+-- files by their names
+abbrev pub Files : Type 0
+Files = FinMap (slice_cmp nat_cmp) (List ℕ)
+
+-- An accepted put: its id, the names, the octets that the outbox of its station has under the source name, and the
+-- checksum type that its station is configured with.
+pub record Put : Type 0 where
+  pub id : TransactionId
+  pub source : List ℕ
+  pub destination : List ℕ
+  pub octets : List ℕ
+  pub checksum_kind : ℕ
+
+-- What is said of the put is so: Metadata has its names and size, file data are the file's at that offset, and an EOF
+-- without an error has the file's size and checksum (CCSDS 727.0-B-5, 4.6.1.1). Other PDUs say nothing of the file.
+abbrev pub IsTruthful : Put → Content → Type 0
+IsTruthful put (Metadata kind size source destination) =
+    (kind ≡ put.checksum_kind) × (size ≡ length put.octets) × (source ≡ put.source) × (destination ≡ put.destination)
+IsTruthful put (FileData offset bytes) = bytes ≡ take (length bytes) (drop offset put.octets)
+IsTruthful put (Eof condition checksum size) =
+    condition ≡ no_error → (checksum ≡ checksum_of put.checksum_kind put.octets) × (size ≡ length put.octets)
+IsTruthful put (Finished condition delivery status) = Unit {0}
+IsTruthful put (Ack of condition status) = Unit {0}
+
+-- One of the PDUs, each a list of octets, is spelled by a header and a content of which P holds.
+abbrev pub SomePdu : (Header → Content → Type 0) → List (List ℕ) → Type 0
+SomePdu P pdus = Any (λ text. (h : Header) × ((v : Content) × (SpellsPdu h v text × P h v))) pdus
+
+-- It is Metadata of the put, and truthful.
+abbrev pub IsMetadataOf : Put → Header → Content → Type 0
+IsMetadataOf put h (Metadata kind size source destination) = (h.id ≡ put.id) × IsTruthful put (Metadata kind size source destination)
+IsMetadataOf put h (FileData offset bytes) = ⊥
+IsMetadataOf put h (Eof condition checksum size) = ⊥
+IsMetadataOf put h (Finished condition delivery status) = ⊥
+IsMetadataOf put h (Ack of condition status) = ⊥
+
+-- It is an EOF of the put without an error, and truthful.
+abbrev pub IsEofOf : Put → Header → Content → Type 0
+IsEofOf put h (Eof condition checksum size) = (h.id ≡ put.id) × (condition ≡ no_error) × IsTruthful put (Eof condition checksum size)
+IsEofOf put h (Metadata kind size source destination) = ⊥
+IsEofOf put h (FileData offset bytes) = ⊥
+IsEofOf put h (Finished condition delivery status) = ⊥
+IsEofOf put h (Ack of condition status) = ⊥
+
+-- It is file data of the put with the octet at offset n, and truthful.
+abbrev pub Brings : Put → ℕ → Header → Content → Type 0
+Brings put n h (FileData offset bytes) = (h.id ≡ put.id) × (offset ≤ n) × (n < offset + length bytes) × IsTruthful put (FileData offset bytes)
+Brings put n h (Metadata kind size source destination) = ⊥
+Brings put n h (Eof condition checksum size) = ⊥
+Brings put n h (Finished condition delivery status) = ⊥
+Brings put n h (Ack of condition status) = ⊥
+
+-- The put was heard in full: among the PDUs are its Metadata, its EOF without an error, and file data that cover every
+-- offset of the file, all of them truthful.
+pub record HeardInFull (put : Put) (pdus : List (List ℕ)) : Type 0 where
+  pub metadata : SomePdu (IsMetadataOf put) pdus
+  pub ending : SomePdu (IsEofOf put) pdus
+  pub file : (n : ℕ) → n < length put.octets → SomePdu (Brings put n) pdus
+
+-- files with a put's file written over them
+abbrev pub overwritten : Files → Option Put → Files
+overwritten files None = files
+overwritten files (Some put) = insert files put.destination put.octets
+
+-- the inbox after these completions: the first files, overwritten in turn by the files of the puts that the ids name
+abbrev pub inbox_after : (TransactionId → Option Put) → Files → List TransactionId → Files
+inbox_after put_of first [] = first
+inbox_after put_of first (id ∷ ids) = inbox_after put_of (overwritten first (put_of id)) ids

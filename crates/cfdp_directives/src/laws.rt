@@ -1,0 +1,24 @@
+// Laws of the definitions, each the contract of a function that does nothing: a caller's proof has them by a call.
+ghost use Rattle.std.specs.Prelude.{◌≡◌, ℕ, ◌+◌, ◌++◌, List, length};
+ghost use Rattle.cfdp_header.specs.declared.value.Header.{Header};
+ghost use Rattle.cfdp_header.specs.Header.{header_len};
+ghost use Rattle.cfdp_directives.specs.Content.{Content};
+ghost use Rattle.cfdp_directives.specs.Grammar.{SpellsPdu};
+ghost use Rattle.cfdp_directives.specs.Written.{CanWrite, pdu_octets};
+
+/// No spelling of a PDU begins another, and one spelling has one PDU.
+pub fn no_pdu_begins_another()
+    ensures { (a b x y : List ℕ) (h k : Header) (v w : Content) → SpellsPdu h v a → SpellsPdu k w b → a ++ x ≡ b ++ y
+        → (a ≡ b) × (h ≡ k) × (v ≡ w) }
+{}
+
+/// What is written of a PDU spells it.
+pub fn written_pdu_is_read()
+    ensures { (h : Header) (v : Content) → CanWrite h v → SpellsPdu h v (pdu_octets h v) }
+{}
+
+/// How many octets are written of a PDU.
+pub fn written_pdu_len()
+    ensures { (h : Header) (v : Content) → CanWrite h v
+        → length (pdu_octets h v) ≡ header_len h.id_width h.number_width + h.length }
+{}

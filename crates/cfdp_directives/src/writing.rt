@@ -1,0 +1,139 @@
+ghost use Rattle.std.specs.Prelude.{◌≡◌, ℕ, ◌+◌, ◌*◌, ◌^◌, ◌<◌, ◌≤◌, ◌++◌, List, length, take};
+ghost use Rattle.cfdp_header.specs.Header.{header_len};
+ghost use Rattle.cfdp_directives.specs.Content.{Content, FileData, Metadata, Eof, Finished, Ack, view};
+ghost use Rattle.cfdp_directives.specs.Grammar.{lv};
+ghost use Rattle.cfdp_directives.specs.Written.{content_octets, content_len, FitsContent, CanWrite, pdu_octets};
+
+use crate::codes::{
+    Acknowledged, ChecksumKind, Condition, Delivery, FileStatus, TransactionStatus,
+};
+use crate::pdu::{FILE_SIZE_OCTETS, Pdu};
+use cfd_bits::{put_bytes, put_uint};
+use cfdp_header::Header;
+
+#[tactic(auto, using(crate::proofs::Spelling::one_octet))]
+fn put_lv(out: &mut [u8], at: usize, value: &[u8]) -> usize
+    requires room { at + 1 + length value.now ≤ length out.old }
+    requires short { length value.now < 256 }
+    ensures end { result ≡ at + 1 + length value.now }
+    ensures front { take result out.new ≡ take at out.old ++ lv value.now }
+{
+    let at = put_uint(out, at, 1, value.len() as u64);
+    put_bytes(out, at, value)
+}
+
+fn put_file_data(out: &mut [u8], at: usize, offset: u64, bytes: &[u8]) -> usize
+    requires fits { FitsContent 4 (FileData offset bytes.now) }
+    requires room { at + content_len 4 (FileData offset bytes.now) ≤ length out.old }
+    ensures end { result ≡ at + content_len 4 (FileData offset bytes.now) }
+    ensures front { take result out.new ≡ take at out.old ++ content_octets 4 (FileData offset bytes.now) }
+{
+    let at = put_uint(out, at, FILE_SIZE_OCTETS, offset);
+    put_bytes(out, at, bytes)
+}
+
+fn put_metadata(
+    out: &mut [u8],
+    at: usize,
+    checksum_kind: ChecksumKind,
+    size: u64,
+    source: &[u8],
+    destination: &[u8],
+) -> usize
+    requires fits { FitsContent 4 (Metadata checksum_kind size source.now destination.now) }
+    requires room { at + content_len 4 (Metadata checksum_kind size source.now destination.now) ≤ length out.old }
+    ensures end { result ≡ at + content_len 4 (Metadata checksum_kind size source.now destination.now) }
+    ensures front { take result out.new ≡ take at out.old ++ content_octets 4 (Metadata checksum_kind size source.now destination.now) }
+{
+    let at = put_uint(out, at, 1, 7);
+    let at = put_uint(out, at, 1, u64::from(checksum_kind.code()));
+    let at = put_uint(out, at, FILE_SIZE_OCTETS, size);
+    let at = put_lv(out, at, source);
+    put_lv(out, at, destination)
+}
+
+fn put_eof(out: &mut [u8], at: usize, condition: Condition, checksum: u32, size: u64) -> usize
+    requires fits { FitsContent 4 (Eof condition checksum size) }
+    requires room { at + content_len 4 (Eof condition checksum size) ≤ length out.old }
+    ensures end { result ≡ at + content_len 4 (Eof condition checksum size) }
+    ensures front { take result out.new ≡ take at out.old ++ content_octets 4 (Eof condition checksum size) }
+{
+    let at = put_uint(out, at, 1, 4);
+    let at = put_uint(out, at, 1, 16 * u64::from(condition.code()));
+    let at = put_uint(out, at, 4, u64::from(checksum));
+    put_uint(out, at, FILE_SIZE_OCTETS, size)
+}
+
+#[tactic(auto, using(crate::proofs::Spelling::delivery_below, crate::proofs::Spelling::file_status_below))]
+fn put_finished(
+    out: &mut [u8],
+    at: usize,
+    condition: Condition,
+    delivery: Delivery,
+    status: FileStatus,
+) -> usize
+    requires room { at + content_len 4 (Finished condition delivery status) ≤ length out.old }
+    ensures end { result ≡ at + content_len 4 (Finished condition delivery status) }
+    ensures front { take result out.new ≡ take at out.old ++ content_octets 4 (Finished condition delivery status) }
+{
+    let second = 16 * u64::from(condition.code())
+        + 4 * u64::from(delivery.code())
+        + u64::from(status.code());
+    let at = put_uint(out, at, 1, 5);
+    put_uint(out, at, 1, second)
+}
+
+#[tactic(auto, using(crate::proofs::Spelling::acknowledged_below, crate::proofs::Spelling::transaction_status_below))]
+fn put_ack(
+    out: &mut [u8],
+    at: usize,
+    of: Acknowledged,
+    condition: Condition,
+    status: TransactionStatus,
+) -> usize
+    requires room { at + content_len 4 (Ack of condition status) ≤ length out.old }
+    ensures end { result ≡ at + content_len 4 (Ack of condition status) }
+    ensures front { take result out.new ≡ take at out.old ++ content_octets 4 (Ack of condition status) }
+{
+    let second = 16 * u64::from(of.code()) + u64::from(of.subtype());
+    let third = 16 * u64::from(condition.code()) + u64::from(status.code());
+    let at = put_uint(out, at, 1, 6);
+    let at = put_uint(out, at, 1, second);
+    put_uint(out, at, 1, third)
+}
+
+/// Writes the PDU into the first octets of `out`, spare bits as 0, and says how many they are.
+///
+/// `header.length` has to be `pdu.len()`, and `header.file_data` has to say what kind of PDU it is.
+pub fn encode(header: &Header, pdu: &Pdu<'_>, out: &mut [u8]) -> usize
+    requires fits { CanWrite header.now (view pdu.now) }
+    requires room { header_len header.now.id_width header.now.number_width + header.now.length ≤ length out.old }
+    ensures end { result ≡ header_len header.now.id_width header.now.number_width + header.now.length }
+    ensures front { take result out.new ≡ pdu_octets header.now (view pdu.now) }
+{
+    let at = cfdp_header::encode(header, out);
+    match pdu {
+        Pdu::FileData { offset, bytes } => put_file_data(out, at, *offset, bytes),
+        Pdu::Metadata {
+            checksum_kind,
+            size,
+            source,
+            destination,
+        } => put_metadata(out, at, *checksum_kind, *size, source, destination),
+        Pdu::Eof {
+            condition,
+            checksum,
+            size,
+        } => put_eof(out, at, *condition, *checksum, *size),
+        Pdu::Finished {
+            condition,
+            delivery,
+            status,
+        } => put_finished(out, at, *condition, *delivery, *status),
+        Pdu::Ack {
+            of,
+            condition,
+            status,
+        } => put_ack(out, at, *of, *condition, *status),
+    }
+}

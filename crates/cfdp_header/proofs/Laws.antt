@@ -1,0 +1,151 @@
+-- What a header's octets determine.
+use Rattle.std.proofs.Common.{◌≡◌, ℕ, zero, suc, ◌+◌, ◌-◌, ◌*◌, ◌%◌, ◌<◌, ◌≤◌, Bool, true, false, eqb, ltb, List, [], ◌∷◌, ◌++◌, length, take, None, Result, Ok, Err, refl, sym, ap, subst, ◌∙◌, eq-eqb, arith, append_assoc, length-append}
+use Rattle.std.specs.Prelude.{IsOkAnd, IfOk}
+use Rattle.std.specs.Result.{result_err}
+use Rattle.std.proofs.lemmas.Bool.{le-ltb, ne_eqb}
+use Rattle.std.proofs.lemmas.List.{take_at}
+use Rattle.cfd_bits.specs.Field.{field, octets}
+use Rattle.cfd_bits.proofs.Fields.{length-octets, field_between, field_in_octet, field-append_left}
+use Rattle.cfdp_header.specs.declared.value.Header.{Header}
+use Rattle.cfdp_header.specs.Header.{SpellsHeader, header_fault, flag, header_len_told, header_len, is_width, FitsHeader, fixed_octets, header_octets}
+
+pub same_flag : (a b : Bool) → flag a ≡ flag b → a ≡ b
+same_flag true true e = refl
+same_flag false false e = refl
+same_flag true false e = absurd cc
+same_flag false true e = absurd cc
+
+abbrev made : Bool → Bool → ℕ → Bool → ℕ → ℕ → ℕ → ℕ → ℕ → Header
+made a b l c i n source number d = record { file_data = a; toward_sender = b; length = l; segment_metadata = c; id_width = i; number_width = n; id = record { source = source; number = number }; destination = d }
+
+pub unique : (h k : Header) (t : List ℕ) → SpellsHeader h t → SpellsHeader k t → h ≡ k
+unique h k t p q =
+    let a = same_flag h.file_data k.file_data (sym p.file_data ∙ q.file_data) in
+    let b = same_flag h.toward_sender k.toward_sender (sym p.toward_sender ∙ q.toward_sender) in
+    let c = same_flag h.segment_metadata k.segment_metadata (sym p.segment_metadata ∙ q.segment_metadata) in
+    let same : made h.file_data h.toward_sender h.length h.segment_metadata h.id_width h.number_width h.id.source h.id.number h.destination ≡ made k.file_data k.toward_sender k.length k.segment_metadata k.id_width k.number_width k.id.source k.id.number k.destination = cc in
+    same
+
+pub accepted : (h : Header) (t : List ℕ) → SpellsHeader h t → header_fault t ≡ None
+accepted h t p =
+    let i : header_len_told t ≡ header_len h.id_width h.number_width = rw (p.id_width, p.number_width) refl in
+    let long : ltb (length t) 4 ≡ false = le-ltb _ _ (let s = p.size in omega arith) in
+    let all : eqb (length t) (header_len h.id_width h.number_width + h.length) ≡ true = eq-eqb _ _ p.size in
+    let whole : ltb (length t) (header_len h.id_width h.number_width) ≡ false = le-ltb _ _ (let s = p.size in omega arith) in
+    rw (long, p.version, p.crc_absent, p.acknowledged, p.small_file, p.id_width, p.number_width, p.id_width_read, p.number_width_read, whole, p.length_field, all) refl
+
+pub is_ok : {A E : Type 0} (r : Result A E) (P : A → Type 0) → result_err r ≡ None → IfOk r P → IsOkAnd r P
+is_ok (Ok x) P e p = p
+is_ok (Err d) P e p = absurd cc
+
+-- widths that are written take three bits, less one
+pub width_range : (width : ℕ) → is_width width ≡ true → (1 ≤ width) × (width ≤ 8)
+width_range zero e = absurd cc
+width_range (suc zero) e = (omega arith, omega arith)
+width_range (suc (suc zero)) e = (omega arith, omega arith)
+width_range (suc (suc (suc zero))) e = (omega arith, omega arith)
+width_range (suc (suc (suc (suc zero)))) e = (omega arith, omega arith)
+width_range (suc (suc (suc (suc (suc n))))) e =
+    let width : ℕ = suc (suc (suc (suc (suc n)))) in
+    let two : eqb width 2 ≡ false = ne_eqb width 2 (λ x. omega arith) in
+    let four : eqb width 4 ≡ false = ne_eqb width 4 (λ x. omega arith) in
+    absurd cc
+
+pub flag_below : (b : Bool) → flag b < 2
+flag_below true = omega arith
+flag_below false = omega arith
+
+-- what is written spells the header, whatever data follow
+pub spelled : (h : Header) (rest : List ℕ) → FitsHeader h → length rest ≡ h.length → SpellsHeader h (header_octets h ++ rest)
+unfolding octets
+spelled h rest fits len =
+    let f = fixed_octets h in
+    let s = octets h.id_width h.id.source in
+    let n = octets h.number_width h.id.number in
+    let d = octets h.id_width h.destination in
+    let text = f ++ (s ++ (n ++ (d ++ rest))) in
+    let grouped : header_octets h ++ rest ≡ text = simp append_assoc in
+    let ls = length-octets h.id_width h.id.source in
+    let ln = length-octets h.number_width h.id.number in
+    let ld = length-octets h.id_width h.destination in
+    let l : length text ≡ 4 + (length s + (length n + (length d + length rest))) = simp length-append (omega arith) in
+    let fs : length (f ++ s) ≡ 4 + h.id_width = omega (arith, length-append f s) in
+    let fsn : length (f ++ s ++ n) ≡ 4 + h.id_width + h.number_width = omega (arith, length-append (f ++ s) n) in
+    let id_range = width_range h.id_width fits.id_width in
+    let number_range = width_range h.number_width fits.number_width in
+    let low1 = id_range.0 in
+    let low2 = id_range.1 in
+    let low3 = number_range.0 in
+    let low4 = number_range.1 in
+    let long = fits.length in
+    let b1 = flag_below h.file_data in
+    let b2 = flag_below h.toward_sender in
+    let b3 = flag_below h.segment_metadata in
+    let first : ℕ = (32 + 16 * flag h.file_data + 8 * flag h.toward_sender) % 256 in
+    let widths : ℕ = (16 * (h.id_width - 1) + 8 * flag h.segment_metadata + (h.number_width - 1)) % 256 in
+    let version = field_in_octet text 0 3 0 0 first refl (omega arith) refl in
+    let kind = field_in_octet text 3 1 0 3 first refl (omega arith) refl in
+    let direction = field_in_octet text 4 1 0 4 first refl (omega arith) refl in
+    let mode = field_in_octet text 5 1 0 5 first refl (omega arith) refl in
+    let crc = field_in_octet text 6 1 0 6 first refl (omega arith) refl in
+    let large = field_in_octet text 7 1 0 7 first refl (omega arith) refl in
+    let id_width = field_in_octet text 25 3 3 1 widths refl (omega arith) refl in
+    let metadata = field_in_octet text 28 1 3 4 widths refl (omega arith) refl in
+    let number_width = field_in_octet text 29 3 3 5 widths refl (omega arith) refl in
+    let longs : field text 8 16 ≡ h.length = field_between (first ∷ []) (widths ∷ (s ++ (n ++ (d ++ rest)))) 2 h.length 8 16 long refl refl in
+    let source = field_between f (n ++ (d ++ rest)) h.id_width h.id.source 32 (8 * h.id_width) fits.source refl refl in
+    let at_number : (f ++ s) ++ (n ++ (d ++ rest)) ≡ text = simp append_assoc in
+    let number = field_between (f ++ s) (d ++ rest) h.number_width h.id.number (32 + 8 * h.id_width) (8 * h.number_width) fits.number (omega arith) refl in
+    let at_destination : (f ++ s ++ n) ++ (d ++ rest) ≡ text = simp append_assoc in
+    let destination = field_between (f ++ s ++ n) rest h.id_width h.destination (32 + 8 * h.id_width + 8 * h.number_width) (8 * h.id_width) fits.destination (omega arith) refl in
+    rw grouped (record {
+      size = omega arith;
+      version = omega arith;
+      file_data = omega arith;
+      toward_sender = omega arith;
+      acknowledged = omega arith;
+      crc_absent = omega arith;
+      small_file = omega arith;
+      length_field = longs;
+      id_width = omega arith;
+      segment_metadata = omega arith;
+      number_width = omega arith;
+      id_width_read = fits.id_width;
+      number_width_read = fits.number_width;
+      source = source;
+      number = rw at_number at number;
+      destination = rw at_destination at destination;
+    })
+
+-- fields of a front
+fronts : (a b x y : List ℕ) (at w : ℕ) → a ++ x ≡ b ++ y → at + w ≤ 8 * length a → at + w ≤ 8 * length b → field a at w ≡ field b at w
+fronts a b x y at w e h k = sym (field-append_left a x at w h) ∙ ap (λ (t : List ℕ). field t at w) e ∙ field-append_left b y at w k
+
+-- no spelling begins another
+pub one_form : (a b x y : List ℕ) (h k : Header) → SpellsHeader h a → SpellsHeader k b → a ++ x ≡ b ++ y → (a ≡ b) × (h ≡ k)
+one_form a b x y h k p q e =
+    let la = p.size in
+    let lb = q.size in
+    let i = fronts a b x y 25 3 e (omega arith) (omega arith) in
+    let n = fronts a b x y 29 3 e (omega arith) (omega arith) in
+    let l = fronts a b x y 8 16 e (omega arith) (omega arith) in
+    let p1 = p.id_width in
+    let p2 = p.number_width in
+    let p3 = p.length_field in
+    let q1 = q.id_width in
+    let q2 = q.number_width in
+    let q3 = q.length_field in
+    let long : length a ≡ length b = omega arith in
+    let same : a ≡ b = sym (take_at a x (length a) refl) ∙ ap (take (length a)) e ∙ take_at b y (length a) (sym long) in
+    (same, unique h k b (subst (SpellsHeader h) same p) q)
+
+pub length-header_octets : (h : Header) → length (header_octets h) ≡ header_len h.id_width h.number_width
+unfolding octets
+length-header_octets h =
+    let s = octets h.id_width h.id.source in
+    let n = octets h.number_width h.id.number in
+    let d = octets h.id_width h.destination in
+    let ls = length-octets h.id_width h.id.source in
+    let ln = length-octets h.number_width h.id.number in
+    let ld = length-octets h.id_width h.destination in
+    omega (arith, length-append (fixed_octets h) s, length-append (fixed_octets h ++ s) n, length-append (fixed_octets h ++ s ++ n) d)

@@ -1,0 +1,87 @@
+-- The fixed header of a PDU: which octets are which header, and what is wrong with octets that begin with none.
+use Rattle.std.specs.Prelude.{◌≡◌, ℕ, ◌+◌, ◌-◌, ◌*◌, ◌^◌, ◌<◌, Bool, true, false, List, ◌++◌, length, Option, Some, None, nat_lt, ◌==◌, ◌||◌, not, if◌then◌else◌}
+use Rattle.cfd_bits.specs.Field.{field, octets}
+use Rattle.cfdp_header.specs.declared.value.Header.{Header}
+use Rattle.cfdp_header.specs.declared.error.HeaderError.{HeaderError}
+use Rattle.cfdp_header.specs.declared.error.HeaderError.TheVariants.{Short, Version, CrcPresent, Length, Unacknowledged, LargeFile, Width}
+
+-- a flag, as the bit that spells it
+abbrev pub flag : Bool → ℕ
+flag true = 1
+flag false = 0
+
+-- octets of a header with these widths: four, the source id, the sequence number, the destination id
+abbrev pub header_len : ℕ → ℕ → ℕ
+header_len id_width number_width = 4 + id_width + number_width + id_width
+
+-- the widths that are read and written
+abbrev pub is_width : ℕ → Bool
+is_width width = (width == 2) || (width == 4)
+
+-- The octets are this header, and behind it as many octets as its length says (CCSDS 727.0-B-5, 5.1, table 5-1).
+-- Bit 24, segmentation control, is in no line: it is read as anything.
+pub record SpellsHeader (h : Header) (text : List ℕ) : Type 0 where
+  pub size : length text ≡ header_len h.id_width h.number_width + h.length
+  pub version : field text 0 3 ≡ 1
+  pub file_data : field text 3 1 ≡ flag h.file_data
+  pub toward_sender : field text 4 1 ≡ flag h.toward_sender
+  pub acknowledged : field text 5 1 ≡ 0
+  pub crc_absent : field text 6 1 ≡ 0
+  pub small_file : field text 7 1 ≡ 0
+  pub length_field : field text 8 16 ≡ h.length
+  pub id_width : field text 25 3 + 1 ≡ h.id_width
+  pub segment_metadata : field text 28 1 ≡ flag h.segment_metadata
+  pub number_width : field text 29 3 + 1 ≡ h.number_width
+  pub id_width_read : is_width h.id_width ≡ true
+  pub number_width_read : is_width h.number_width ≡ true
+  pub source : field text 32 (8 * h.id_width) ≡ h.id.source
+  pub number : field text (32 + 8 * h.id_width) (8 * h.number_width) ≡ h.id.number
+  pub destination : field text (32 + 8 * h.id_width + 8 * h.number_width) (8 * h.id_width) ≡ h.destination
+
+-- the octets of the header that the fourth octet tells of
+abbrev pub header_len_told : List ℕ → ℕ
+header_len_told text = header_len (field text 25 3 + 1) (field text 29 3 + 1)
+
+-- what is wrong with octets that are no header and its data field: the first cause in this order, or none
+abbrev pub header_fault : List ℕ → Option HeaderError
+header_fault text =
+    if nat_lt (length text) 4 then Some Short
+    else if not (field text 0 3 == 1) then Some Version
+    else if not (field text 6 1 == 0) then Some CrcPresent
+    else if not (field text 5 1 == 0) then Some Unacknowledged
+    else if not (field text 7 1 == 0) then Some LargeFile
+    else if not (is_width (field text 25 3 + 1)) then Some Width
+    else if not (is_width (field text 29 3 + 1)) then Some Width
+    else if nat_lt (length text) (header_len_told text) then Some Short
+    else if not (length text == header_len_told text + field text 8 16) then Some Length
+    else None
+
+-- The header can be written: its widths are known, and each number fits its field.
+pub record FitsHeader (h : Header) : Type 0 where
+  pub id_width : is_width h.id_width ≡ true
+  pub number_width : is_width h.number_width ≡ true
+  pub length : h.length < 2 ^ 16
+  pub source : h.id.source < 256 ^ h.id_width
+  pub number : h.id.number < 256 ^ h.number_width
+  pub destination : h.destination < 256 ^ h.id_width
+
+-- the four octets that every header has
+abbrev pub fixed_octets : Header → List ℕ
+fixed_octets h =
+    octets 1 (32 + 16 * flag h.file_data + 8 * flag h.toward_sender)
+    ++ octets 2 h.length
+    ++ octets 1 (16 * (h.id_width - 1) + 8 * flag h.segment_metadata + (h.number_width - 1))
+
+-- the written spelling of a header: spare bits are 0
+abbrev pub header_octets : Header → List ℕ
+header_octets h = fixed_octets h ++ octets h.id_width h.id.source ++ octets h.number_width h.id.number ++ octets h.id_width h.destination
+
+-- the number of a refusal
+abbrev pub refusal_number : HeaderError → ℕ
+refusal_number Short = 1
+refusal_number Version = 2
+refusal_number CrcPresent = 3
+refusal_number Length = 4
+refusal_number Unacknowledged = 5
+refusal_number LargeFile = 6
+refusal_number Width = 20

@@ -1,0 +1,85 @@
+//! Sequence counts, modulo 16,384 (CCSDS 133.0-B-2, 4.1.3.4.3).
+ghost use Rattle.std.specs.Prelude.{◌≡◌, ◌+◌, ◌%◌, ◌<◌, Some, None, IfSome};
+
+use std::marker::Model;
+
+/// The numbers that a 14 bit count can be.
+const COUNTS: u16 = 16_384;
+
+/// The sequence counts of the packets of one identifier, in order: 0, 1, .. 16,383, 0, ..
+#[derive(Debug, Drop)]
+pub struct Counter {
+    next: u16,
+}
+
+impl Model for Counter {
+    ghost use Rattle.std.specs.Prelude.{ℕ, ◌<◌};
+
+    ghost Value = { ℕ };
+
+    ghost view = { λ c. c.next };
+
+    ghost invariant = { λ c. c.next < 16384 };
+}
+
+impl Counter {
+    /// A counter that has given no count yet.
+    pub fn new() -> Self
+        ensures { result ≡ 0 }
+    {
+        Counter { next: 0 }
+    }
+
+    /// The next count, 0 to 16,383.
+    pub fn next(&mut self) -> u16
+        ensures count { result ≡ self.old }
+        ensures below { result < 16384 }
+        ensures after { self.new ≡ (self.old + 1) % 16384 }
+    {
+        let count = self.next;
+        self.next = (count + 1) % COUNTS;
+        count
+    }
+}
+
+/// Tells how many packets are missing between those that come.
+#[derive(Debug, Drop)]
+pub struct Watch {
+    last: Option<u16>,
+}
+
+impl Model for Watch {
+    ghost use Rattle.std.specs.Prelude.{ℕ, ◌<◌, Option};
+    ghost use Rattle.std.specs.Option.{ForSome};
+
+    ghost Value = { Option ℕ };
+
+    ghost view = { λ w. w.last };
+
+    ghost invariant = { λ w. ForSome w.last (λ n. n < 16384) };
+}
+
+impl Watch {
+    /// A watch that has seen no packet yet.
+    pub fn new() -> Self
+        ensures { result ≡ None }
+    {
+        Watch { last: None }
+    }
+
+    /// How many packets are missing between the last one seen and one with this count, modulo 16,384; 0 at the first.
+    pub fn see(&mut self, count: u16) -> u16
+        requires { count < 16384 }
+        ensures first { self.old ≡ None → result ≡ 0 }
+        ensures missing { IfSome self.old (λ last. (last + 1 + result) % 16384 ≡ count) }
+        ensures below { result < 16384 }
+        ensures seen { self.new ≡ Some count }
+    {
+        let missing = match self.last {
+            None => 0,
+            Some(last) => (count + (COUNTS - 1 - last)) % COUNTS,
+        };
+        self.last = Some(count);
+        missing
+    }
+}
