@@ -1,0 +1,14 @@
+pub mod FileLemmas
+pub mod HeldEntries
+pub mod HeldLemmas
+pub mod Growth
+pub mod ReceiverKeeps
+pub mod ReceiverSound
+pub mod StationSound
+pub mod Takes
+pub mod Hears
+pub mod PutsStay
+pub mod WorldSound
+pub mod WorkLemmas
+pub mod WorldSteps
+pub mod Runs

@@ -1,0 +1,194 @@
+-- One station: what a put, a poll and a PDU that arrives do to it.
+use Rattle.std.specs.Prelude.{◌≡◌, ℕ, ◌<◌, ◌≤◌, ◌^◌, ◌==◌, ◌&&◌, Bool, true, false, List, [], ◌∷◌, ◌++◌, length, Option, Some, None, unwrap_or, if◌then◌else◌}
+use Rattle.std.specs.Option.{option_map}
+use Rattle.std.specs.FinMap.{get}
+use Rattle.cfdp_header.specs.declared.value.TransactionId.{TransactionId}
+use Rattle.cfdp_header.specs.declared.value.Header.{Header}
+use Rattle.cfdp_header.specs.Header.{is_width}
+use Rattle.cfdp_directives.specs.Codes.{IsCondition}
+use Rattle.cfdp_directives.specs.declared.indication.Indication.{Indication}
+use Rattle.cfdp_directives.specs.declared.error.PduError.{PduError}
+use Rattle.cfdp_directives.specs.Content.{Content}
+use Rattle.cfdp_directives.specs.Grammar.{SpellsPdu}
+use Rattle.cfdp_directives.specs.Faults.{pdu_fault}
+use Rattle.cfdp_directives.specs.Written.{pdu_octets}
+use Rattle.cfdp_directives.specs.Put.{Files}
+use Rattle.cfdp_directives.specs.Completions.{same_id}
+use Rattle.link_sim.specs.declared.side.Side.{Side}
+use Rattle.link_sim.specs.declared.config.SimConfig.{SimConfig}
+use Rattle.link_sim.specs.declared.sender.Sender.{Sender}
+use Rattle.link_sim.specs.declared.sender.SenderDue.{SenderDue}
+use Rattle.link_sim.specs.declared.receiver.Receiver.{Receiver}
+use Rattle.link_sim.specs.declared.receiver.Outcome.{Outcome}
+use Rattle.link_sim.specs.declared.receiver.ReceiverDue.{ReceiverDue}
+use Rattle.link_sim.specs.declared.receiver.ReceiverPhase.{ReceiverPhase}
+use Rattle.link_sim.specs.declared.transaction.Transaction.{Transaction}
+use Rattle.link_sim.specs.declared.transaction.Transaction.TheVariants.{Sends, Receives}
+use Rattle.link_sim.specs.Sides.{other, entity_of, id_octets, number_octets, header_of, is_for}
+use Rattle.link_sim.specs.Link.{LinkState, with_pdu}
+use Rattle.link_sim.specs.Sender.{SenderAfter, sender_due, sender_says, sender_taken, sender_tells, sender_hears}
+use Rattle.link_sim.specs.Receiver.{ReceiverAfter, receiver_due, receiver_says, receiver_taken, receiver_hears, opened_receiver, opening_phase}
+
+-- the files that can be sent, the files that were published, what was indicated, and the transaction, if there is one
+pub record StationState : Type 0 where
+  pub sources : Files
+  pub published : Files
+  pub told : List Indication
+  pub transaction : Option Transaction
+
+-- the id of a transaction
+abbrev pub id_of : Transaction → TransactionId
+id_of (Sends x) = x.id
+id_of (Receives r) = r.id
+
+-- the octets of a file, none where there is no such file
+abbrev pub file_at : Files → List ℕ → List ℕ
+file_at files name = unwrap_or (get files name) []
+
+-- a PDU that is taken to be sent: the transaction then, and what that indicates
+pub record Taken : Type 0 where
+  pub header : Header
+  pub content : Content
+  pub transaction : Transaction
+  pub told : List Indication
+
+-- the sender's PDU that is due is taken: it has this station's widths, and goes to the other entity
+abbrev pub takes_from_sender : SimConfig → Side → List ℕ → Sender → SenderDue → Taken
+takes_from_sender config s file x d = record {
+  header = header_of id_octets number_octets x.id (entity_of (other s)) (sender_says config file x d);
+  content = sender_says config file x d;
+  transaction = Sends (sender_taken config x d);
+  told = sender_tells x d;
+}
+
+-- the receiver's PDU that is due is taken: it has the widths of the first PDU heard; its destination is the file's receiver
+abbrev pub takes_from_receiver : Side → Receiver → ReceiverDue → Taken
+takes_from_receiver s r d = record {
+  header = header_of r.id_width r.number_width r.id (entity_of s) (receiver_says r d);
+  content = receiver_says r d;
+  transaction = Receives (receiver_taken r d);
+  told = [];
+}
+
+abbrev pub takes_of : SimConfig → Side → Files → Option Transaction → Option Taken
+takes_of config s sources None = None
+takes_of config s sources (Some (Sends x)) = option_map (takes_from_sender config s (file_at sources x.source) x) (sender_due x)
+takes_of config s sources (Some (Receives r)) = option_map (takes_from_receiver s r) (receiver_due r)
+
+-- what a poll takes at this side
+abbrev pub takes : SimConfig → Side → StationState → Option Taken
+takes config s st = takes_of config s st.sources st.transaction
+
+-- the station once a PDU was taken
+abbrev pub after_taken : StationState → Taken → StationState
+after_taken st t = record st { told = st.told ++ t.told; transaction = Some t.transaction }
+
+-- A poll took this, or nothing: whether it did, the transaction, what it indicated, and the link.
+abbrev pub Polls : Option Taken → Bool → Transaction → Transaction → List Indication → List Indication → LinkState → LinkState → Type 0
+Polls None moved old new told_before told_now link_before link_now =
+    (moved ≡ false) × (new ≡ old) × (told_now ≡ told_before) × (link_now ≡ link_before)
+Polls (Some t) moved old new told_before told_now link_before link_now =
+    (moved ≡ true) × (new ≡ t.transaction) × (told_now ≡ told_before ++ t.told) × (link_now ≡ with_pdu (pdu_octets t.header t.content) link_before)
+
+-- A poll of a receiver took this, or nothing: it indicates nothing.
+abbrev pub PollsReceiver : Option Taken → Bool → Receiver → Receiver → LinkState → LinkState → Type 0
+PollsReceiver None moved old new link_before link_now = (moved ≡ false) × (new ≡ old) × (link_now ≡ link_before)
+PollsReceiver (Some t) moved old new link_before link_now =
+    (moved ≡ true) × (Receives new ≡ t.transaction) × (t.told ≡ []) × (link_now ≡ with_pdu (pdu_octets t.header t.content) link_before)
+
+-- A poll of a station took this, or nothing.
+abbrev pub PollsStation : Option Taken → Bool → StationState → StationState → LinkState → LinkState → Type 0
+PollsStation None moved old new link_before link_now = (moved ≡ false) × (new ≡ old) × (link_now ≡ link_before)
+PollsStation (Some t) moved old new link_before link_now =
+    (moved ≡ true) × (new ≡ after_taken old t) × (link_now ≡ with_pdu (pdu_octets t.header t.content) link_before)
+
+-- what hearing a PDU leaves: the transaction, what it indicated, and the published files
+pub record After : Type 0 where
+  pub transaction : Option Transaction
+  pub told : List Indication
+  pub files : Files
+
+abbrev pub no_change : Option Transaction → Files → After
+no_change transaction files = record { transaction = transaction; told = []; files = files }
+
+abbrev pub from_sender : Files → SenderAfter → After
+from_sender files a = record { transaction = Some (Sends a.sender); told = a.told; files = files }
+
+abbrev pub from_receiver : ReceiverAfter → After
+from_receiver a = record { transaction = Some (Receives a.receiver); told = a.told; files = a.files }
+
+-- a PDU of no transaction opens one, where it is one that may
+abbrev pub opens : Option ReceiverPhase → Header → Content → Files → After
+opens None h v files = no_change None files
+opens (Some phase) h v files = from_receiver (receiver_hears v (opened_receiver phase h) files)
+
+-- a PDU of another transaction than the one that is here changes nothing
+abbrev pub heard_by : Option Transaction → Header → Content → Files → After
+heard_by None h v files = opens (opening_phase v) h v files
+heard_by (Some (Sends x)) h v files =
+    if same_id x.id h.id then from_sender files (sender_hears v x) else no_change (Some (Sends x)) files
+heard_by (Some (Receives r)) h v files =
+    if same_id r.id h.id then from_receiver (receiver_hears v r files) else no_change (Some (Receives r)) files
+
+-- what a PDU does that comes to the station of this side: one that isn't for it changes nothing
+abbrev pub comes_to : Side → Option Transaction → Header → Content → Files → After
+comes_to s transaction h v files = if is_for s h v then heard_by transaction h v files else no_change transaction files
+
+abbrev pub after_heard : StationState → After → StationState
+after_heard st a = record st { published = a.files; told = st.told ++ a.told; transaction = a.transaction }
+
+-- Hearing a PDU left this transaction, with what it indicated and the published files.
+pub record Leaves (a : After) (new : Option Transaction) (told_before told_now : List Indication) (files_now : Files) : Type 0 where
+  pub transaction : new ≡ a.transaction
+  pub tells : told_now ≡ told_before ++ a.told
+  pub files : files_now ≡ a.files
+
+-- It found no memory, and left all as it was.
+pub record KeepsAll (old new : Option Transaction) (told_before told_now : List Indication) (files_before files_now : Files) : Type 0 where
+  pub transaction : new ≡ old
+  pub tells : told_now ≡ told_before
+  pub files : files_now ≡ files_before
+
+-- the station of this side once it heard a PDU
+abbrev pub hears : Side → Header → Content → StationState → StationState
+hears s h v st = after_heard st (comes_to s st.transaction h v st.published)
+
+-- An id can be written in these widths.
+pub record FitsWidths (ids numbers : ℕ) (id : TransactionId) : Type 0 where
+  pub id_width : is_width ids ≡ true
+  pub number_width : is_width numbers ≡ true
+  pub source : id.source < 256 ^ ids
+  pub number : id.number < 256 ^ numbers
+
+-- All that a sender may have to say can be written.
+pub record IsWritableSender (x : Sender) : Type 0 where
+  pub id : FitsWidths id_octets number_octets x.id
+  pub size : x.size < 2 ^ 32
+  pub sent : x.sent ≤ x.size
+  pub source : length x.source < 256
+  pub destination : length x.destination < 256
+  pub condition : (c : ℕ) → x.ack_due ≡ Some c → IsCondition c
+
+-- All that a receiver may have to say can be written.
+pub record IsWritableReceiver (r : Receiver) : Type 0 where
+  pub id : FitsWidths r.id_width r.number_width r.id
+  pub condition : (c : ℕ) → r.ack_due ≡ Some c → IsCondition c
+  pub outcome : (o : Outcome) → r.outcome ≡ Some o → IsCondition o.condition
+
+abbrev pub IsWritable : Option Transaction → Type 0
+IsWritable None = Unit {0}
+IsWritable (Some (Sends x)) = IsWritableSender x
+IsWritable (Some (Receives r)) = IsWritableReceiver r
+
+-- The octets are this PDU, and it was heard.
+pub record HearsPdu (s : Side) (text : List ℕ) (old new : StationState) : Type 0 where
+  pub header : Header
+  pub content : Content
+  pub spelled : SpellsPdu header content text
+  pub heard : new ≡ hears s header content old
+
+-- The octets are no PDU, and nothing changed.
+pub record DropsPdu (text : List ℕ) (old new : StationState) : Type 0 where
+  pub fault : PduError
+  pub refused : pdu_fault text ≡ Some fault
+  pub same : new ≡ old

@@ -1,0 +1,80 @@
+use crate::side::Side;
+use cfdp_directives::Octets;
+use thiserror::Error;
+
+/// Something that happens to the two stations and the link between them.
+#[derive(Debug, Drop)]
+pub enum Event {
+    /// The station's user asks for a file to be put to the other station.
+    Put {
+        at: Side,
+        /// The file's name in the station's outbox: 1 to 255 octets.
+        source: Octets,
+        /// The file's name at the other station: 1 to 255 octets.
+        destination: Octets,
+    },
+    /// The station puts the PDU that is due on the link.
+    Poll(Side),
+    /// Nothing here: PDUs need no filling up.
+    Flush(Side),
+    /// The oldest waiting PDU that this station sent reaches the other one.
+    Deliver(Side),
+    /// The oldest waiting PDU that this station sent is lost.
+    Strike(Side),
+}
+
+/// What an event did.
+#[derive(Clone, Copy, Debug, PartialEq, Eq)]
+pub enum Applied {
+    /// It happened.
+    Applied,
+    /// There was nothing to do, and nothing changed.
+    Nothing,
+    /// It was refused, and nothing changed.
+    Refused(PutError),
+}
+
+/// Why a put is refused: the first cause that holds, in the order of the variants here.
+#[derive(Clone, Copy, Debug, PartialEq, Eq, Error)]
+pub enum PutError {
+    /// A name doesn't have 1 to 255 octets.
+    #[error("Name")]
+    Name,
+    /// A put was accepted before: there is room for one.
+    #[error("TableFull")]
+    TableFull,
+    /// The next sequence number doesn't fit its 4 octets.
+    #[error("NumbersSpent")]
+    NumbersSpent,
+    /// The outbox has no file of the source name.
+    #[error("NoSuchFile")]
+    NoSuchFile,
+    /// The file has 2^32 octets or more.
+    #[error("TooLarge")]
+    TooLarge,
+}
+
+/// What became of a PDU that was sent and no longer waits.
+#[derive(Clone, Copy, Debug, PartialEq, Eq)]
+pub enum Mark {
+    /// It reached the other station.
+    Delivered,
+    /// It was lost.
+    Struck,
+}
+
+/// A put that was accepted.
+#[derive(Debug, Drop)]
+pub struct AcceptedPut {
+    pub id: cfdp_header::TransactionId,
+    pub source: Octets,
+    pub destination: Octets,
+}
+
+/// Why settling stopped before it was done.
+#[derive(Clone, Copy, Debug, PartialEq, Eq, Error)]
+pub enum SettleError {
+    /// An event found no memory.
+    #[error("NoMemory")]
+    NoMemory,
+}

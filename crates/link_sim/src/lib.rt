@@ -1,0 +1,25 @@
+//! Two stations, the PDUs between them, and what may happen to both.
+#![tactic(auto)]
+
+mod config;
+mod event;
+mod files;
+mod header;
+mod held;
+mod link;
+mod receiver;
+mod sender;
+mod side;
+mod station;
+mod tell;
+mod transaction;
+mod world;
+
+pub use config::SimConfig;
+pub use event::{AcceptedPut, Applied, Event, Mark, PutError, SettleError};
+pub use files::Files;
+pub use side::Side;
+pub use world::{World, run};
+
+#[cfg(test)]
+mod tests;

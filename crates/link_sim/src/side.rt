@@ -1,0 +1,31 @@
+ghost use Rattle.std.specs.Prelude.{◌≡◌};
+ghost use Rattle.link_sim.specs.Sides as sides;
+
+/// One of the two stations. Its entity id is 1 or 2.
+#[derive(Clone, Copy, Debug, PartialEq, Eq)]
+pub enum Side {
+    One,
+    Two,
+}
+
+impl Side {
+    /// The other station.
+    pub fn other(self) -> Side
+        ensures { result ≡ sides.other self }
+    {
+        match self {
+            Side::One => Side::Two,
+            Side::Two => Side::One,
+        }
+    }
+
+    /// The station's entity id.
+    pub fn entity(self) -> u64
+        ensures { result ≡ sides.entity_of self }
+    {
+        match self {
+            Side::One => 1,
+            Side::Two => 2,
+        }
+    }
+}
