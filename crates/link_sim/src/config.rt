@@ -1,5 +1,5 @@
-ghost use Rattle.std.specs.Prelude.{◌≡◌};
-ghost use Rattle.link_sim.specs.Config.{is_valid_config};
+ghost use Rattle.std.specs.Prelude.{◌≡◌, ◌≤◌, ◌⊎◌, ◌↔◌, IsTrue};
+ghost use Rattle.link_sim.specs.Config.{IsValidConfig};
 
 use cfdp_directives::ChecksumKind;
 
@@ -17,7 +17,9 @@ pub struct SimConfig {
 impl SimConfig {
     /// Whether the segment and the checksum are in their ranges, as a world needs it.
     pub fn is_valid(&self) -> bool
-        ensures { result ≡ is_valid_config self.now }
+        ensures valid { IsTrue result ↔ IsValidConfig self.now }
+        ensures ranges { IsTrue result ↔ ((1 ≤ self.now.segment) × (self.now.segment ≤ 4096)
+            × ((self.now.checksum_kind ≡ 0) ⊎ (self.now.checksum_kind ≡ 15))) }
     {
         let kind = self.checksum_kind;
         1 <= self.segment

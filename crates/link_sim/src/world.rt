@@ -1,6 +1,6 @@
 ghost use Rattle.std.specs.Prelude.{◌≡◌, ◌<◌, List, [], true, MatchBool, None, Some, OnOk, OnErr, IfOk};
 ghost use Rattle.cfdp_directives.specs.Put.{inbox_after};
-ghost use Rattle.link_sim.specs.Config.{is_valid_config};
+ghost use Rattle.link_sim.specs.Config.{IsValidConfig};
 ghost use Rattle.link_sim.specs.Sides.{other};
 ghost use Rattle.link_sim.specs.Station.{takes};
 ghost use Rattle.link_sim.specs.World.{Steps, Becomes, Delivers, PutsAt, StrikesAt, DeliversAt, put_step, poll_step, strike_step, first_world, station_at, link_from, Reaches, SettlesTo, IsSettled, files_of};
@@ -62,7 +62,7 @@ impl World {
         outboxes: (Files, Files),
         inboxes: (Files, Files),
     ) -> World
-        requires { is_valid_config config ≡ true }
+        requires { IsValidConfig config }
         ensures { result ≡ first_world config outboxes inboxes }
     {
         World {
@@ -366,7 +366,7 @@ pub fn run(
     inboxes: (Files, Files),
     events: &[Event],
 ) -> Result<World, AllocError>
-    requires { is_valid_config config ≡ true }
+    requires { IsValidConfig config }
     // Each event did what it does, in turn.
     ensures reaches { IfOk result (λ world. Reaches events.now (first_world config outboxes inboxes) world) }
 
