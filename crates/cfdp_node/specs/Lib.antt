@@ -1,0 +1,4 @@
+pub mod Exit
+pub mod Name
+pub mod Settings
+pub mod Report

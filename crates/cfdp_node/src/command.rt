@@ -1,0 +1,192 @@
+use crate::number::{parse_hex_octet, parse_number};
+use crate::settings::Setting;
+use crate::words::Words;
+use link_sim::Side;
+
+/// The longest line of a script, in octets, without its line feed.
+pub const MAX_LINE: usize = 4096;
+
+/// The longest file that `fill` makes, in octets.
+pub const MAX_FILL: u64 = 1_048_576;
+
+/// One line of a script.
+#[derive(Clone, Copy, Debug)]
+pub enum Line<'a> {
+    /// `set KEY N`.
+    Set(Setting, u64),
+    /// `file S NAME TEXT` or `fill S NAME N HH`.
+    File(FileLine<'a>),
+    /// A command that makes something happen.
+    Command(Command<'a>),
+}
+
+/// A file in a station's outbox.
+#[derive(Clone, Copy, Debug)]
+pub struct FileLine<'a> {
+    pub at: Side,
+    pub name: &'a [u8],
+    pub contents: Contents<'a>,
+}
+
+/// What is in a file.
+#[derive(Clone, Copy, Debug)]
+pub enum Contents<'a> {
+    /// These octets.
+    Text(&'a [u8]),
+    /// So many times the same octet: at most `MAX_FILL`.
+    Fill { count: u64, octet: u8 },
+}
+
+/// What happens to the stations and the link.
+#[derive(Clone, Copy, Debug)]
+pub enum Command<'a> {
+    /// `put S SRC DST`: the station is asked to send a file.
+    Put {
+        at: Side,
+        source: &'a [u8],
+        destination: &'a [u8],
+    },
+    /// `poll S`: the station puts its next PDU on the link.
+    Poll(Side),
+    /// `flush S`: the station sends what it held back.
+    Flush(Side),
+    /// `spread S`: polls until nothing is due, with a flush after each PDU.
+    Spread(Side),
+    /// `burst S`: polls until nothing is due, then one flush.
+    Burst(Side),
+    /// `deliver S [N]`: so many PDUs that the station sent arrive.
+    Deliver(Side, u64),
+    /// `strike S [N]`: so many PDUs that the station sent are lost.
+    Strike(Side, u64),
+    /// `settle`: polls, flushes and delivers until nothing is due and nothing waits.
+    Settle,
+}
+
+/// Why a line is bad.
+#[derive(Clone, Copy, Debug, PartialEq, Eq)]
+pub enum LineError {
+    /// It has more than `MAX_LINE` octets.
+    TooLong,
+    /// An octet of it isn't ASCII.
+    NotAscii,
+    /// A word or a text is missing.
+    MissingWord,
+    /// Two spaces stand together, or one begins or ends the line.
+    EmptyWord,
+    /// There are more words than the command takes.
+    ExtraWord,
+    /// There is no such command.
+    UnknownCommand,
+    /// There is no such key to set.
+    UnknownKey,
+    /// The station isn't 1 or 2.
+    UnknownStation,
+    /// A number isn't decimal digits below 2^64.
+    BadNumber,
+    /// A file to fill has more than `MAX_FILL` octets.
+    FileTooLong,
+    /// An octet isn't two hexadecimal digits.
+    BadOctet,
+    /// `set`, `file` or `fill` stands behind another command.
+    TooLate,
+    /// The last `set` leaves a configuration that isn't valid.
+    BadConfiguration,
+}
+
+/// Reads a line that is to be read: it isn't empty and doesn't begin with `#`.
+///
+/// # Errors
+///
+/// `LineError`, all but its last two.
+pub fn parse_line(line: &[u8]) -> Result<Line<'_>, LineError> {
+    if line.len() > MAX_LINE {
+        return Err(LineError::TooLong);
+    }
+    if !line.is_ascii() {
+        return Err(LineError::NotAscii);
+    }
+    let mut words = Words::of(line);
+    match words.take_word()? {
+        b"set" => set_line(words),
+        b"file" => file_line(words),
+        b"fill" => fill_line(words),
+        name => Ok(Line::Command(parse_command(name, words)?)),
+    }
+}
+
+fn set_line<'a>(mut words: Words<'a>) -> Result<Line<'a>, LineError> {
+    let setting = parse_setting(words.take_word()?)?;
+    let value = parse_value(words.take_word()?)?;
+    words.end()?;
+    Ok(Line::Set(setting, value))
+}
+
+fn file_line<'a>(mut words: Words<'a>) -> Result<Line<'a>, LineError> {
+    let at = parse_station(words.take_word()?)?;
+    let name = words.take_word()?;
+    let contents = Contents::Text(words.into_text()?);
+    Ok(Line::File(FileLine { at, name, contents }))
+}
+
+fn fill_line<'a>(mut words: Words<'a>) -> Result<Line<'a>, LineError> {
+    let at = parse_station(words.take_word()?)?;
+    let name = words.take_word()?;
+    let count = parse_value(words.take_word()?)?;
+    let octet = parse_hex_octet(words.take_word()?).ok_or(LineError::BadOctet)?;
+    words.end()?;
+    if count > MAX_FILL {
+        return Err(LineError::FileTooLong);
+    }
+    let contents = Contents::Fill { count, octet };
+    Ok(Line::File(FileLine { at, name, contents }))
+}
+
+fn parse_command<'a>(name: &[u8], mut words: Words<'a>) -> Result<Command<'a>, LineError> {
+    let command = match name {
+        b"put" => Command::Put {
+            at: parse_station(words.take_word()?)?,
+            source: words.take_word()?,
+            destination: words.take_word()?,
+        },
+        b"poll" => Command::Poll(parse_station(words.take_word()?)?),
+        b"flush" => Command::Flush(parse_station(words.take_word()?)?),
+        b"spread" => Command::Spread(parse_station(words.take_word()?)?),
+        b"burst" => Command::Burst(parse_station(words.take_word()?)?),
+        b"deliver" => Command::Deliver(parse_station(words.take_word()?)?, repeats(&mut words)?),
+        b"strike" => Command::Strike(parse_station(words.take_word()?)?, repeats(&mut words)?),
+        b"settle" => Command::Settle,
+        _ => return Err(LineError::UnknownCommand),
+    };
+    words.end()?;
+    Ok(command)
+}
+
+/// How often an event is to happen: the next word, or once where there is none.
+fn repeats(words: &mut Words<'_>) -> Result<u64, LineError> {
+    if words.is_empty() {
+        Ok(1)
+    } else {
+        parse_value(words.take_word()?)
+    }
+}
+
+fn parse_value(word: &[u8]) -> Result<u64, LineError> {
+    parse_number(word).ok_or(LineError::BadNumber)
+}
+
+fn parse_station(word: &[u8]) -> Result<Side, LineError> {
+    match word {
+        b"1" => Ok(Side::One),
+        b"2" => Ok(Side::Two),
+        _ => Err(LineError::UnknownStation),
+    }
+}
+
+fn parse_setting(word: &[u8]) -> Result<Setting, LineError> {
+    match word {
+        b"segment" => Ok(Setting::Segment),
+        b"checksum" => Ok(Setting::Checksum),
+        b"first_number" => Ok(Setting::FirstNumber),
+        _ => Err(LineError::UnknownKey),
+    }
+}

@@ -1,0 +1,196 @@
+ghost use Rattle.std.specs.Prelude.{◌≡◌, Some, OnOk};
+ghost use Rattle.std.specs.Io.KnownBytes.{Appends};
+ghost use Rattle.std.specs.List.{flat_map};
+ghost use Rattle.cfdp_node.specs.Report.{indication_line, indication_text, told_text, id_text};
+
+use crate::answer::Answer;
+use crate::name::Name;
+use crate::script::Step;
+use cfdp_directives::{Checksum, Delivery, FileStatus, Indication};
+use cfdp_header::TransactionId;
+use link_sim::{Files, Side, World};
+use std::io::Write;
+use std::{fmt, io};
+
+/// The puts of a script.
+#[derive(Clone, Copy, Debug, PartialEq, Eq)]
+pub struct Tally {
+    /// Those that were completed, by what their sender was told.
+    pub complete: usize,
+    /// All of them, refused ones too.
+    pub asked: usize,
+}
+
+/// Writes the report of a run: what each command answered, what each station indicated, the files that it received, and
+/// how many puts were completed. Takes no memory.
+///
+/// # Errors
+///
+/// That of the writer.
+pub fn write_report(
+    out: &mut impl Write,
+    steps: &[Step],
+    answers: &[Option<Answer>],
+    world: &World,
+    tally: Tally,
+) -> io::Result<()> {
+    for (step, answer) in steps.iter().zip(answers) {
+        if let Some(answer) = answer {
+            writeln!(out, "line {} {answer}", step.line)?;
+        }
+    }
+    write_indications(out, 1, world.indications(Side::One))?;
+    write_indications(out, 2, world.indications(Side::Two))?;
+    write_inbox(out, 1, world.inbox(Side::One))?;
+    write_inbox(out, 2, world.inbox(Side::Two))?;
+    writeln!(out, "complete {} of {}", tally.complete, tally.asked)
+}
+
+fn write_indications<W: Write>(out: &mut W, station: u8, all: &[Indication]) -> io::Result<()>
+    ensures { OnOk result (Appends (W.contents out.old) (W.contents out.new)
+        (flat_map (indication_line station) all.now)) }
+{
+    for indication in all {
+        writeln!(
+            out,
+            "{}",
+            Told {
+                station,
+                indication
+            }
+        )?;
+    }
+    Ok(())
+}
+
+/// What a station told its user.
+#[derive(Clone, Copy)]
+struct Told<'a> {
+    station: u8,
+    indication: &'a Indication,
+}
+
+impl fmt::Display for Told<'_> {
+    ghost output = { λ told. Some (indication_text told.station told.indication.now) };
+
+    fn fmt<W: fmt::Write>(&self, f: &mut fmt::Formatter<W>) -> fmt::Result {
+        write!(f, "{} {}", self.station, ToldWords(self.indication))
+    }
+}
+
+/// The same without the station.
+#[derive(Clone, Copy)]
+struct ToldWords<'a>(&'a Indication);
+
+impl fmt::Display for ToldWords<'_> {
+    ghost output = { λ told. Some (told_text told.0.now) };
+
+    fn fmt<W: fmt::Write>(&self, f: &mut fmt::Formatter<W>) -> fmt::Result {
+        match self.0 {
+            Indication::Transaction(id) => write!(f, "transaction {}", Id(*id)),
+            Indication::EofSent(id) => write!(f, "eof-sent {}", Id(*id)),
+            Indication::MetadataRecv {
+                id,
+                source,
+                destination,
+                size,
+            } => {
+                let (from, to) = (Name(source.as_slice()), Name(destination.as_slice()));
+                write!(f, "metadata {} {from} {to} {size}", Id(*id))
+            }
+            Indication::EofRecv(id) => write!(f, "eof-recv {}", Id(*id)),
+            Indication::Finished {
+                id,
+                condition,
+                delivery,
+                status,
+            } => {
+                let (code, delivery, status) = (
+                    condition.code(),
+                    delivery_word(*delivery),
+                    status_word(*status),
+                );
+                write!(f, "finished {} {code} {delivery} {status}", Id(*id))
+            }
+            Indication::Fault(id, condition) => write!(f, "fault {} {}", Id(*id), condition.code()),
+        }
+    }
+}
+
+/// A transaction, as the report names it.
+#[derive(Clone, Copy)]
+struct Id(TransactionId);
+
+impl fmt::Display for Id {
+    ghost output = { λ id. Some (id_text id.0) };
+
+    fn fmt<W: fmt::Write>(&self, f: &mut fmt::Formatter<W>) -> fmt::Result {
+        write!(f, "{}:{}", self.0.source, self.0.number)
+    }
+}
+
+fn delivery_word(delivery: Delivery) -> &'static str
+    ensures { result.now ≡ Rattle.cfdp_node.specs.Report.delivery_word delivery }
+{
+    match delivery {
+        Delivery::Complete => "complete",
+        Delivery::Incomplete => "incomplete",
+    }
+}
+
+fn status_word(status: FileStatus) -> &'static str
+    ensures { result.now ≡ Rattle.cfdp_node.specs.Report.status_word status }
+{
+    match status {
+        FileStatus::Discarded => "discarded",
+        FileStatus::Rejected => "rejected",
+        FileStatus::Retained => "retained",
+        FileStatus::Unreported => "unreported",
+    }
+}
+
+fn write_inbox(out: &mut impl Write, station: u8, inbox: &Files) -> io::Result<()> {
+    for (name, octets) in inbox.entries().iter() {
+        let mut checksum = Checksum::new();
+        checksum.add(0, octets.as_slice());
+        writeln!(
+            out,
+            "inbox {station} {} {} {:08X}",
+            Name(name.as_slice()),
+            octets.len(),
+            checksum.value()
+        )?;
+    }
+    Ok(())
+}
+
+/// How many of the puts that the world accepted were completed.
+pub fn completed_puts(world: &World) -> usize {
+    world
+        .puts()
+        .iter()
+        .filter(|put| is_completed(world, put.id))
+        .count()
+}
+
+/// Whether the sender of this transaction was told that it is over with no error, with the file complete and retained.
+fn is_completed(world: &World, id: TransactionId) -> bool {
+    let sender = if id.source == 1 { Side::One } else { Side::Two };
+    world
+        .indications(sender)
+        .iter()
+        .any(|indication| match indication {
+            Indication::Finished {
+                id: finished,
+                condition,
+                delivery,
+                status,
+            } => {
+                *finished == id
+                    && condition.code() == 0
+                    && *delivery == Delivery::Complete
+                    && *status == FileStatus::Retained
+            }
+            _ => false,
+        })
+}

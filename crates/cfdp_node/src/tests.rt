@@ -1,0 +1,375 @@
+use crate::command::{LineError, MAX_FILL, parse_line};
+use crate::exit::Exit;
+use crate::number::{parse_hex_octet, parse_number};
+use crate::script::Script;
+use crate::sim::run_sim;
+use std::alloc::Global;
+use std::io;
+use std::io::{ErrorKind, Read, Write};
+use std::process::Abort;
+use std::test::Fail;
+
+/// Runs a script that is to end so, with this report.
+fn check_run(
+    rt: &impl Abort,
+    alloc: Global,
+    script: &str,
+    exit: Exit,
+    report: &str,
+) -> io::Result<()> {
+    let mut written = Vec::new(alloc);
+    let ended = run_sim(alloc, script.as_bytes(), &mut written);
+    let text = String::from_utf8(written).expect(rt, "the report is text");
+    assert_eq!(rt; text.as_str(), report, "the report of {script}");
+    assert_eq!(rt; ended, exit, "the end of {script}");
+    Ok(())
+}
+
+const HELLO: &str = "\
+1 transaction 1:1
+1 eof-sent 1:1
+1 finished 1:1 0 complete retained
+2 metadata 1:1 a.txt b.txt 5
+2 eof-recv 1:1
+2 finished 1:1 0 complete retained
+inbox 2 b.txt 5 D7656C6C
+complete 1 of 1
+";
+
+#[test]
+fn sends_hello(rt: HostRuntime) -> Result<(), Fail> {
+    let alloc = rt.alloc();
+    let scripts = [
+        "file 1 a.txt hello\nput 1 a.txt b.txt\nsettle\n",
+        "file 1 a.txt hello\nput 1 a.txt b.txt\nsettle",
+        "# \u{e9} and\n\nset segment 0001\nset checksum 15\nset checksum 0\nfill 1 a.txt 3 5a\nfile 1 a.txt hello\nput 1 a.txt b.txt\nsettle",
+        "file 1 a.txt hello\nput 1 a.txt b.txt\ndeliver 1 0\nstrike 2 0\nspread 1\ndeliver 1 3\nspread 2\ndeliver 2 2\nburst 1\ndeliver 1",
+    ];
+    for script in scripts {
+        check_run(&rt, alloc, script, Exit::Complete, HELLO)?;
+    }
+    Ok(())
+}
+
+#[test]
+fn reports_each_end(rt: HostRuntime) -> Result<(), Fail> {
+    let alloc = rt.alloc();
+    // A lost PDU.
+    let lost = "file 1 a.txt hello\nput 1 a.txt b.txt\nspread 1\ndeliver 1\nstrike 1\nsettle\n";
+    let report =
+        "1 transaction 1:1\n1 eof-sent 1:1\n2 metadata 1:1 a.txt b.txt 5\n2 eof-recv 1:1\ncomplete 0 of 1\n";
+    check_run(&rt, alloc, lost, Exit::Incomplete, report)?;
+    // An empty file.
+    let empty = "fill 1 a.txt 0 00\nput 1 a.txt b.txt\nsettle\n";
+    let report = "\
+1 transaction 1:1
+1 eof-sent 1:1
+1 finished 1:1 0 complete retained
+2 metadata 1:1 a.txt b.txt 0
+2 eof-recv 1:1
+2 finished 1:1 0 complete retained
+inbox 2 b.txt 0 00000000
+complete 1 of 1
+";
+    check_run(&rt, alloc, empty, Exit::Complete, report)?;
+    // From station 2, with names that have to be escaped.
+    let other = "set first_number 7\nfile 2 a%\x7f  b\t\nput 2 a%\x7f ~\x01\nsettle\n";
+    let report = "\
+1 metadata 2:7 a%25%7F ~%01 3
+1 eof-recv 2:7
+1 finished 2:7 0 complete retained
+2 transaction 2:7
+2 eof-sent 2:7
+2 finished 2:7 0 complete retained
+inbox 1 ~%01 3 20620900
+complete 1 of 1
+";
+    check_run(&rt, alloc, other, Exit::Complete, report)?;
+    // Nothing to do at all.
+    check_run(&rt, alloc, "", Exit::Complete, "complete 0 of 0\n")?;
+    check_run(
+        &rt,
+        alloc,
+        "\n#put\n\n",
+        Exit::Complete,
+        "complete 0 of 0\n",
+    )?;
+    Ok(())
+}
+
+#[test]
+fn tells_what_was_not_done(rt: HostRuntime) -> Result<(), Fail> {
+    let alloc = rt.alloc();
+    check_run(
+        &rt,
+        alloc,
+        "put 1 none x\n",
+        Exit::Incomplete,
+        "line 1 NoSuchFile\ncomplete 0 of 1\n",
+    )?;
+    let script = "set first_number 4294967296\n\nfile 1 a x\nput 1 a b\n";
+    check_run(
+        &rt,
+        alloc,
+        script,
+        Exit::Incomplete,
+        "line 4 NumbersSpent\ncomplete 0 of 1\n",
+    )?;
+    let script =
+        "file 1 a x\nput 1 a b\nput 1 a c\npoll 2\nflush 1\nburst 2\nspread 2\ndeliver 1 9\nstrike 2\npoll 1\nstrike 1 5\n";
+    let report = "\
+line 3 TableFull
+line 4 Nothing
+line 5 Nothing
+line 8 Nothing
+line 9 Nothing
+line 11 Nothing
+1 transaction 1:1
+complete 0 of 2
+";
+    check_run(&rt, alloc, script, Exit::Incomplete, report)?;
+    Ok(())
+}
+
+#[test]
+fn names_the_first_bad_line(rt: HostRuntime) -> Result<(), Fail> {
+    let alloc = rt.alloc();
+    let scripts = [
+        // The form of a line.
+        ("settle\nSettle\n", 2),
+        ("settle \n", 1),
+        (" settle\n", 1),
+        ("put  1 a b\n", 1),
+        ("put 1 a\n", 1),
+        ("put 1 a b c\n", 1),
+        ("put 3 a b\n", 1),
+        ("put 01 a b\n", 1),
+        ("settle\r\n", 1),
+        ("file 1 a \u{e9}\n", 1),
+        ("file 1 a\n", 1),
+        ("file 1 a \n", 1),
+        ("fill 1 a 1048577 00\n", 1),
+        ("fill 1 a 1 0\n", 1),
+        ("fill 1 a 1 0g\n", 1),
+        ("fill 1 a 1 000\n", 1),
+        ("deliver 1 x\n", 1),
+        ("deliver 1 18446744073709551616\n", 1),
+        ("deliver 1 +1\n", 1),
+        ("deliver 1 -1\n", 1),
+        ("set zone 256\n", 1),
+        ("set segment\n", 1),
+        ("tick 1 5\n", 1),
+        ("cancel 1 1:1\n", 1),
+        ("recover\n", 1),
+        // The order of lines.
+        ("poll 1\n\n#\nset segment 5\n", 4),
+        ("poll 1\nfile 1 a x\n", 2),
+        ("poll 1\nfill 1 a 1 00\n", 2),
+        // The configuration, which is judged at the last `set`.
+        ("set segment 0\nsettle\n", 1),
+        ("set segment 4097\nset first_number 5\nsettle\n", 2),
+        ("set segment 65536\n", 1),
+        ("set checksum 1\n", 1),
+        ("set checksum 271\n", 1),
+        ("set segment 0\nbad\nset segment 1\n", 2),
+        ("set segment 0\nbad\n", 1),
+        ("bad\nset segment 0\n", 1),
+    ];
+    for (script, line) in scripts {
+        check_run(&rt, alloc, script, Exit::BadScript(line), "")?;
+    }
+    Ok(())
+}
+
+#[test]
+fn names_what_is_wrong(rt: HostRuntime) -> Result<(), Fail> {
+    let lines = [
+        ("run 1", LineError::UnknownCommand),
+        ("put 1 a", LineError::MissingWord),
+        ("put 1  b", LineError::EmptyWord),
+        ("settle 1", LineError::ExtraWord),
+        ("set size 1", LineError::UnknownKey),
+        ("poll 3", LineError::UnknownStation),
+        ("set segment 1x", LineError::BadNumber),
+        ("fill 1 a 1048577 00", LineError::FileTooLong),
+        ("fill 1 a 1048576 0", LineError::BadOctet),
+        ("file 1 a \u{e9}", LineError::NotAscii),
+    ];
+    for (line, error) in lines {
+        assert_eq!(rt; parse_line(line.as_bytes()).err(), Some(error), "at {line}");
+    }
+    let mut long = vec![in rt.alloc(); b'x'; 4097]?;
+    long.as_mut_slice()[..9].copy_from_slice(b"file 1 a ");
+    assert_eq!(rt; parse_line(long.as_slice()).err(), Some(LineError::TooLong));
+    assert!(rt; parse_line(&long[1..]).is_err());
+    assert_eq!(rt; MAX_FILL, 1_048_576);
+    Ok(())
+}
+
+#[test]
+fn reads_numbers(rt: HostRuntime) -> Result<(), Fail> {
+    let words = [
+        ("0", Some(0)),
+        ("007", Some(7)),
+        ("18446744073709551615", Some(18_446_744_073_709_551_615)),
+        ("18446744073709551616", None),
+        ("", None),
+        ("1 ", None),
+    ];
+    for (word, number) in words {
+        assert_eq!(rt; parse_number(word.as_bytes()), number, "at {word}");
+    }
+    assert_eq!(rt; parse_hex_octet(b"aF"), Some(0xAF));
+    assert_eq!(rt; parse_hex_octet(b"A"), None);
+    Ok(())
+}
+
+/// Gives line feeds for ever.
+#[derive(Drop)]
+struct Endless;
+
+impl Read for Endless {
+    fn read(&mut self, buf: &mut [u8]) -> io::Result<usize> {
+        let count = buf.len().min(1000);
+        buf[..count].fill(b'\n');
+        Ok(count)
+    }
+}
+
+/// Is interrupted for ever.
+#[derive(Drop)]
+struct Interrupted;
+
+impl Read for Interrupted {
+    fn read(&mut self, _buf: &mut [u8]) -> io::Result<usize> {
+        Err(io::Error::from(ErrorKind::Interrupted))
+    }
+}
+
+/// Gives octets one by one, each after an interruption where `interrupts`, and fails after the last one where `fails`.
+#[derive(Drop)]
+struct OneByOne<'a> {
+    rest: &'a [u8],
+    interrupts: bool,
+    was_interrupted: bool,
+    fails: bool,
+}
+
+impl Read for OneByOne<'_> {
+    fn read(&mut self, buf: &mut [u8]) -> io::Result<usize> {
+        if self.interrupts && !self.was_interrupted {
+            self.was_interrupted = true;
+            return Err(io::Error::from(ErrorKind::Interrupted));
+        }
+        self.was_interrupted = false;
+        match self.rest.split_first() {
+            Some((first, rest)) if !buf.is_empty() => {
+                buf[0] = *first;
+                self.rest = rest;
+                Ok(1)
+            }
+            _ if self.fails => Err(io::Error::from(ErrorKind::BrokenPipe)),
+            _ => Ok(0),
+        }
+    }
+}
+
+/// Takes so many octets, then fails.
+#[derive(Drop)]
+struct Full {
+    room: usize,
+}
+
+impl Write for Full {
+    fn write(&mut self, buf: &[u8]) -> io::Result<usize> {
+        let count = buf.len().min(self.room);
+        if count == 0 && !buf.is_empty() {
+            return Err(io::Error::from(ErrorKind::StorageFull));
+        }
+        self.room -= count;
+        Ok(count)
+    }
+
+    fn flush(&mut self) -> io::Result<()> {
+        Ok(())
+    }
+}
+
+#[test]
+fn ends_at_bad_readers(rt: HostRuntime) -> Result<(), Fail> {
+    let alloc = rt.alloc();
+    assert_eq!(rt; run_sim(alloc, Endless, Full { room: 0 }), Exit::Device);
+    assert_eq!(rt; run_sim(alloc, Interrupted, Full { room: 0 }), Exit::Device);
+    let rest = b"settle\n".as_slice();
+    for fails in [false, true] {
+        let reader = OneByOne {
+            rest,
+            interrupts: true,
+            was_interrupted: false,
+            fails,
+        };
+        let exit = if fails { Exit::Device } else { Exit::Complete };
+        assert_eq!(rt; run_sim(alloc, reader, Full { room: 99 }), exit);
+    }
+    Ok(())
+}
+
+#[test]
+fn ends_at_bad_writers(rt: HostRuntime) -> Result<(), Fail> {
+    let alloc = rt.alloc();
+    let script = "file 1 a.txt hello\nput 1 a.txt b.txt\nsettle\n".as_bytes();
+    for room in [0, 1, HELLO.len() - 1] {
+        assert_eq!(rt;
+            run_sim(alloc, script, Full { room }),
+            Exit::Device,
+            "at {room}"
+        );
+    }
+    assert_eq!(rt;
+        run_sim(alloc, script, Full { room: HELLO.len() }),
+        Exit::Complete
+    );
+    Ok(())
+}
+
+#[test]
+fn reads_long_scripts(rt: HostRuntime) -> Result<(), Fail> {
+    let alloc = rt.alloc();
+    // As long as a script may be, and one octet longer.
+    let mut text = vec![in alloc; b'\n'; 1_048_576]?;
+    assert_eq!(rt;
+        run_sim(alloc, text.as_slice(), Full { room: 99 }),
+        Exit::Complete
+    );
+    let reader = OneByOne {
+        rest: text.as_slice(),
+        interrupts: false,
+        was_interrupted: false,
+        fails: false,
+    };
+    assert_eq!(rt; run_sim(alloc, reader, Full { room: 99 }), Exit::Complete);
+    let at = text.len() - 1;
+    text.as_mut_slice()[at] = b'x';
+    assert_eq!(rt;
+        run_sim(alloc, text.as_slice(), Full { room: 0 }),
+        Exit::BadScript(1_048_576)
+    );
+    text.push(b'\n')?;
+    assert_eq!(rt;
+        run_sim(alloc, text.as_slice(), Full { room: 0 }),
+        Exit::Device
+    );
+    Ok(())
+}
+
+#[test]
+fn keeps_line_numbers(rt: HostRuntime) -> Result<(), Fail> {
+    let script = Script::parse(rt.alloc(), b"#\n\npoll 1\n#\nsettle")?;
+    let lines: Vec<usize> = script
+        .steps
+        .iter()
+        .map(|step| step.line)
+        .collect(rt.alloc())?;
+    assert_eq!(rt; lines.as_slice(), [3, 5].as_slice());
+    Ok(())
+}
