@@ -1,6 +1,6 @@
 -- What is written spells the PDU, and no spelling begins another.
-use Rattle.std.proofs.Common.{◌≡◌, ℕ, ◌+◌, ◌*◌, ◌/◌, ◌%◌, ◌^◌, ◌<◌, Bool, false, List, [], ◌∷◌, ◌++◌, length, drop, refl, sym, ap, subst, ◌∙◌, append_assoc, arith, length-append}
-use Rattle.std.proofs.lemmas.List.{drop_at}
+use Rattle.std.proofs.Common.{◌≡◌, ℕ, ◌+◌, ◌*◌, ◌/◌, ◌%◌, ◌^◌, ◌<◌, ◌≤◌, Bool, false, List, [], ◌∷◌, ◌++◌, length, take, drop, refl, sym, ap, subst, ◌∙◌, append_assoc, arith, length-append}
+use Rattle.std.proofs.lemmas.List.{drop_at, drop-drop, length-take-le}
 use Rattle.cfd_bits.specs.Field.{octets}
 use Rattle.cfd_bits.proofs.Fields.{field_between, field_in_octet}
 use Rattle.cfdp_header.specs.declared.value.Header.{Header}
@@ -165,3 +165,10 @@ pub length-pdu_octets : (h : Header) (v : Content) → CanWrite h v → length (
 length-pdu_octets h v can =
     let len = can.len in
     omega (arith, length-append (header_octets h) (content_octets 4 v), header.length-header_octets h, length-content_octets v)
+
+-- octets that stayed behind a header also stay behind its data field
+pub behind_data : (out middle front : List ℕ) (at len end : ℕ) → drop at middle ≡ drop at out → length front ≡ length (take (at + len) middle) → at + len ≤ length middle → end ≡ at + len → drop end (front ++ drop (at + len) middle) ≡ drop end out
+behind_data out middle front at len end stayed size room ends =
+    let whole : length front ≡ at + len = size ∙ length-take-le (at + len) middle room in
+    let cut : drop (at + len) middle ≡ drop (at + len) out = sym (drop-drop len at middle) ∙ ap (λ (t : List ℕ). drop len t) stayed ∙ drop-drop len at out in
+    rw ends (drop_at front (drop (at + len) middle) (at + len) whole ∙ cut)

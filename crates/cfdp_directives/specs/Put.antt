@@ -23,8 +23,9 @@ pub record Put : Type 0 where
   pub octets : List ℕ
   pub checksum_kind : ℕ
 
--- What is said of the put is so: Metadata has its names and size, file data are the file's at that offset, and an EOF
--- without an error has the file's size and checksum (CCSDS 727.0-B-5, 4.6.1.1). Other PDUs say nothing of the file.
+-- What is said of the put is so: Metadata has its names, size and checksum type, file data are the file's
+-- at that offset, and an EOF without an error has the file's size and checksum (CCSDS 727.0-B-5, 4.6.1.1). Other PDUs
+-- say nothing of the file.
 abbrev pub IsTruthful : Put → Content → Type 0
 IsTruthful put (Metadata kind size source destination) =
     (kind ≡ put.checksum_kind) × (size ≡ length put.octets) × (source ≡ put.source) × (destination ≡ put.destination)

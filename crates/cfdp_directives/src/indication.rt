@@ -2,14 +2,14 @@ use crate::codes::{Condition, Delivery, FileStatus};
 use crate::octets::Octets;
 use cfdp_header::TransactionId;
 
-/// What an entity tells its user of a transaction (CCSDS 727.0-B-5, 3.5).
+/// What an entity tells its user of a transaction (CCSDS 727.0-B-5, section 3).
 #[derive(Debug, Drop, PartialEq, Eq)]
 pub enum Indication {
-    /// A put was accepted and has this id (3.5.1).
+    /// A put was accepted and has this id.
     Transaction(TransactionId),
-    /// The EOF was sent for the first time (3.5.2).
+    /// The EOF was sent for the first time.
     EofSent(TransactionId),
-    /// Metadata was received for the first time (3.5.4).
+    /// Metadata was received for the first time.
     MetadataRecv {
         id: TransactionId,
         /// The file's name at its sender.
@@ -19,15 +19,15 @@ pub enum Indication {
         /// Octets of the file.
         size: u64,
     },
-    /// An EOF without an error was received for the first time (3.5.12).
+    /// An EOF without an error was received for the first time.
     EofRecv(TransactionId),
-    /// The transaction is over at this entity (3.5.3).
+    /// The transaction is over at this entity.
     Finished {
         id: TransactionId,
         condition: Condition,
         delivery: Delivery,
         status: FileStatus,
     },
-    /// Something went wrong (3.5.9).
+    /// Something went wrong.
     Fault(TransactionId, Condition),
 }

@@ -1,4 +1,4 @@
-ghost use Rattle.std.specs.Prelude.{◌≡◌, ℕ, ◌+◌, ◌*◌, ◌^◌, ◌<◌, ◌≤◌, ◌++◌, List, length, take};
+ghost use Rattle.std.specs.Prelude.{◌≡◌, ℕ, ◌+◌, ◌*◌, ◌^◌, ◌<◌, ◌≤◌, ◌++◌, List, length, take, drop};
 ghost use Rattle.cfdp_header.specs.Header.{header_len};
 ghost use Rattle.cfdp_directives.specs.Content.{Content, FileData, Metadata, Eof, Finished, Ack, view};
 ghost use Rattle.cfdp_directives.specs.Grammar.{lv};
@@ -102,16 +102,19 @@ fn put_ack(
     put_uint(out, at, 1, third)
 }
 
-/// Writes the PDU into the first octets of `out`, spare bits as 0, and says how many they are.
+/// Writes the PDU into the first octets of `out`, spare bits as 0, and says how many they are. The octets behind stay.
 ///
 /// `header.length` has to be `pdu.len()`, and `header.file_data` has to say what kind of PDU it is.
+#[tactic(auto, using(crate::proofs::Spelling::behind_data))]
 pub fn encode(header: &Header, pdu: &Pdu<'_>, out: &mut [u8]) -> usize
     requires fits { CanWrite header.now (view pdu.now) }
     requires room { header_len header.now.id_width header.now.number_width + header.now.length ≤ length out.old }
     ensures end { result ≡ header_len header.now.id_width header.now.number_width + header.now.length }
     ensures front { take result out.new ≡ pdu_octets header.now (view pdu.now) }
+    ensures behind { drop result out.new ≡ drop result out.old }
 {
     let at = cfdp_header::encode(header, out);
+    let out = &mut out[..at + header.length as usize];
     match pdu {
         Pdu::FileData { offset, bytes } => put_file_data(out, at, *offset, bytes),
         Pdu::Metadata {

@@ -84,7 +84,7 @@ pub fn decode(bytes: &[u8]) -> Result<(Header, &[u8]), HeaderError>
     Ok((header, &bytes[len..]))
 }
 
-/// Writes the header into the first octets of `out`, spare bits as 0, and says how many they are.
+/// Writes the header into the first octets of `out`, spare bits as 0, and says how many they are. The octets behind stay.
 ///
 /// The data field, of `header.length` octets, is the caller's to write behind it.
 #[tactic(auto, using(crate::proofs::Laws::width_range, crate::proofs::Laws::flag_below))]
@@ -93,17 +93,20 @@ pub fn encode(header: &Header, out: &mut [u8]) -> usize
     requires room { header_len header.now.id_width header.now.number_width ≤ length out.old }
     ensures len { result ≡ header_len header.now.id_width header.now.number_width }
     ensures text { take result out.new ≡ header_octets header.now }
+    ensures behind { drop result out.new ≡ drop result out.old }
 {
     let first = 32 + 16 * u64::from(header.file_data) + 8 * u64::from(header.toward_sender);
     let widths = 16 * (u64::from(header.id_width) - 1)
         + 8 * u64::from(header.segment_metadata)
         + (u64::from(header.number_width) - 1);
     let id_octets = header.id_width as usize;
+    let number_octets = header.number_width as usize;
+    let out = &mut out[..4 + id_octets + number_octets + id_octets];
     let at = put_uint(out, 0, 1, first);
     let at = put_uint(out, at, 2, u64::from(header.length));
     let at = put_uint(out, at, 1, widths);
     let at = put_uint(out, at, id_octets, header.id.source);
-    let at = put_uint(out, at, header.number_width as usize, header.id.number);
+    let at = put_uint(out, at, number_octets, header.id.number);
     put_uint(out, at, id_octets, header.destination)
 }
 

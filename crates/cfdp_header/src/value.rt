@@ -1,5 +1,5 @@
 /// Names a transaction: the entity that sends the file, and the number that it gave the transaction
-/// (CCSDS 727.0-B-5, 4.2.1). Two ids are the same where both numbers are, whatever width they are written in.
+/// (CCSDS 727.0-B-5). Two ids are the same where both numbers are, whatever width they are written in.
 #[derive(Clone, Copy, Debug, PartialEq, Eq)]
 pub struct TransactionId {
     /// The entity id of the file's sender.
@@ -17,7 +17,7 @@ pub struct Header {
     pub toward_sender: bool,
     /// Octets of the data field, behind the header: 0 to 65,535.
     pub length: u16,
-    /// Whether segment metadata stands before each offset of file data. Never written as true here.
+    /// Whether segment metadata stands before each offset of file data. This stack's senders never set it.
     pub segment_metadata: bool,
     /// Octets of an entity id: 2 or 4.
     pub id_width: u8,

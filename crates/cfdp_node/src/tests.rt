@@ -3,7 +3,7 @@ use crate::exit::Exit;
 use crate::number::{parse_hex_octet, parse_number};
 use crate::script::Script;
 use crate::sim::run_sim;
-use std::alloc::Global;
+use std::alloc::{AllocError, Global};
 use std::io;
 use std::io::{ErrorKind, Read, Write};
 use std::process::Abort;
@@ -94,6 +94,130 @@ complete 1 of 1
         Exit::Complete,
         "complete 0 of 0\n",
     )?;
+    Ok(())
+}
+
+/// Which PDUs of a put arrive: those of the file, the two answers to it, and the last acknowledgement.
+#[derive(Clone, Copy, Debug)]
+struct Arrivals {
+    metadata: bool,
+    data: bool,
+    eof: bool,
+    ack_of_eof: bool,
+    finished: bool,
+    ack_of_finished: bool,
+}
+
+impl Arrivals {
+    fn of(choice: u8) -> Arrivals {
+        Arrivals {
+            metadata: choice & 1 != 0,
+            data: choice & 2 != 0,
+            eof: choice & 4 != 0,
+            ack_of_eof: choice & 8 != 0,
+            finished: choice & 16 != 0,
+            ack_of_finished: choice & 32 != 0,
+        }
+    }
+
+    /// Whether the put was heard in full.
+    fn complete(self) -> bool {
+        self.metadata && self.data && self.eof
+    }
+
+    /// Whether the sender was told so.
+    fn told(self) -> bool {
+        self.complete() && self.finished
+    }
+}
+
+/// A station sends the PDU that is due, and it arrives or is lost.
+fn pass(script: &mut String, station: char, arrives: bool) -> Result<(), AllocError> {
+    let verb = if arrives { "deliver" } else { "strike" };
+    write!(script, "poll {station}\n{verb} {station}\n")
+}
+
+/// A put of three PDUs, of which these arrive. The receiver answers an EOF, and then what it heard in full.
+fn script_of(
+    alloc: Global,
+    from: char,
+    to: char,
+    arrivals: Arrivals,
+) -> Result<String, AllocError> {
+    let mut script = format!(in alloc; "file {from} a.txt hello\nput {from} a.txt b.txt\n")?;
+    pass(&mut script, from, arrivals.metadata)?;
+    pass(&mut script, from, arrivals.data)?;
+    pass(&mut script, from, arrivals.eof)?;
+    if arrivals.eof {
+        pass(&mut script, to, arrivals.ack_of_eof)?;
+    }
+    if arrivals.complete() {
+        pass(&mut script, to, arrivals.finished)?;
+    }
+    if arrivals.told() {
+        pass(&mut script, from, arrivals.ack_of_finished)?;
+    }
+    Ok(script)
+}
+
+/// What the sender indicates.
+fn sender_lines(alloc: Global, from: char, arrivals: Arrivals) -> Result<String, AllocError> {
+    let mut lines = format!(in alloc; "{from} transaction {from}:1\n{from} eof-sent {from}:1\n")?;
+    if arrivals.told() {
+        write!(&mut lines, "{from} finished {from}:1 0 complete retained\n")?;
+    }
+    Ok(lines)
+}
+
+/// What the receiver indicates.
+fn receiver_lines(
+    alloc: Global,
+    from: char,
+    to: char,
+    arrivals: Arrivals,
+) -> Result<String, AllocError> {
+    let mut lines = String::new(alloc);
+    if arrivals.metadata {
+        write!(&mut lines, "{to} metadata {from}:1 a.txt b.txt 5\n")?;
+    }
+    if arrivals.eof {
+        write!(&mut lines, "{to} eof-recv {from}:1\n")?;
+    }
+    if arrivals.complete() {
+        write!(&mut lines, "{to} finished {from}:1 0 complete retained\n")?;
+    }
+    Ok(lines)
+}
+
+// What is heard in full is published and indicated once, and the sender is told exactly where that Finished comes back.
+#[test]
+fn every_choice_of_losses_does_what_the_definitions_say(rt: HostRuntime) -> Result<(), Fail> {
+    let alloc = rt.alloc();
+    for choice in 0u8..128 {
+        let arrivals = Arrivals::of(choice);
+        let (from, to) = if choice < 64 { ('1', '2') } else { ('2', '1') };
+        let script = script_of(alloc, from, to, arrivals)?;
+        let sent = sender_lines(alloc, from, arrivals)?;
+        let received = receiver_lines(alloc, from, to, arrivals)?;
+        let (first, second) = if choice < 64 {
+            (&sent, &received)
+        } else {
+            (&received, &sent)
+        };
+        let inbox = if arrivals.complete() {
+            format!(in alloc; "inbox {to} b.txt 5 D7656C6C\n")?
+        } else {
+            String::new(alloc)
+        };
+        let told = u8::from(arrivals.told());
+        let report = format!(in alloc; "{first}{second}{inbox}complete {told} of 1\n")?;
+        let exit = if arrivals.told() {
+            Exit::Complete
+        } else {
+            Exit::Incomplete
+        };
+        check_run(&rt, alloc, script.as_str(), exit, report.as_str())?;
+    }
     Ok(())
 }
 

@@ -1,4 +1,5 @@
--- What is proved of every list of events, in the words of puts, PDUs delivered, indications and files.
+-- What is proved of every list of events, in the words of puts, PDUs delivered, indications and files. Of a world it reads
+-- the files, what was indicated, the PDUs with their marks, and the accepted puts: nothing of the machines.
 use Rattle.std.specs.Prelude.{◌≡◌, ℕ, ◌==◌, Bool, List, [], ◌∷◌, ◌++◌, Option, Some, None, Contains, if◌then◌else◌}
 use Rattle.std.specs.Option.{option_map}
 use Rattle.std.specs.FinMap.{get}

@@ -1,3 +1,6 @@
+ghost use Rattle.std.specs.Prelude.{◌≡◌};
+ghost use Rattle.link_sim.specs.Refusals.{put_refusal_number};
+
 use crate::side::Side;
 use cfdp_directives::Octets;
 use thiserror::Error;
@@ -54,6 +57,21 @@ pub enum PutError {
     TooLarge,
 }
 
+impl PutError {
+    /// The number that names this refusal in reports.
+    pub fn number(self) -> u8
+        ensures { result ≡ put_refusal_number self }
+    {
+        match self {
+            PutError::NoSuchFile => 1,
+            PutError::Name => 2,
+            PutError::TooLarge => 3,
+            PutError::TableFull => 4,
+            PutError::NumbersSpent => 5,
+        }
+    }
+}
+
 /// What became of a PDU that was sent and no longer waits.
 #[derive(Clone, Copy, Debug, PartialEq, Eq)]
 pub enum Mark {
@@ -77,4 +95,15 @@ pub enum SettleError {
     /// An event found no memory.
     #[error("NoMemory")]
     NoMemory,
+}
+
+impl SettleError {
+    /// The number that names this error in reports.
+    pub fn number(self) -> u8
+        ensures { result ≡ 1 }
+    {
+        match self {
+            SettleError::NoMemory => 1,
+        }
+    }
 }

@@ -16,7 +16,7 @@ mod transaction;
 mod world;
 
 pub use config::SimConfig;
-pub use event::{AcceptedPut, Applied, Event, Mark, PutError, SettleError};
+pub use event::{AcceptedPut, Applied, Event, PutError, SettleError};
 pub use files::Files;
 pub use side::Side;
 pub use world::{World, run};

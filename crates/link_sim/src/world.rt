@@ -63,7 +63,11 @@ impl World {
         inboxes: (Files, Files),
     ) -> World
         requires { IsValidConfig config }
-        ensures { result ≡ first_world config outboxes inboxes }
+        ensures first { result ≡ first_world config outboxes inboxes }
+
+        // Each inbox is its first files, overwritten by those of the puts completed there: none so far.
+        ensures inboxes { (side : Side) → (station_at side result).published ≡ inbox_after (put_of result) (files_of side inboxes) (completions_at side result) }
+        ensures holds { (side : Side) → HoldsAt side result }
     {
         World {
             alloc,

@@ -1,0 +1,78 @@
+-- An AOS transfer frame with a packet zone: which octets are which frame of a link, and what is wrong with octets that are none
+-- (CCSDS 732.0-B-4, 4.1).
+use Rattle.std.specs.Prelude.{◌≡◌, ℕ, ◌+◌, ◌*◌, ◌<◌, ◌≤◌, List, ◌++◌, length, Option, Some, None, ◌==◌, not, if◌then◌else◌}
+use Rattle.cfd_bits.specs.Field.{field, octets}
+use Rattle.aos_frame.specs.Counts.{frame_counts}
+use Rattle.aos_frame.specs.declared.header.FrameHeader.{FrameHeader}
+use Rattle.aos_frame.specs.declared.config.LinkConfig.{LinkConfig}
+use Rattle.aos_frame.specs.declared.error.FrameError.{FrameError}
+use Rattle.aos_frame.specs.declared.error.FrameError.TheVariants.{Length, Version, OtherProfile, OtherSpacecraft, OtherChannel, OnlyIdle}
+
+-- the virtual channel whose frames hold only idle data (4.1.2.3)
+abbrev pub idle_channel : ℕ
+idle_channel = 63
+
+-- the octets of a frame: the header, the M_PDU header and the packet zone
+abbrev pub frame_len : LinkConfig → ℕ
+frame_len link = 6 + 2 + link.zone
+
+-- A link that can be: its frames carry packets, and none of these packets is idle.
+pub record IsLink (link : LinkConfig) : Type 0 where
+  pub channel : link.channel < idle_channel
+  pub least_zone : 16 ≤ link.zone
+  pub most_zone : link.zone ≤ 2040
+  pub apid : link.apid ≤ 2046
+
+-- The octets are a frame of the link with this header. Bit 41, the usage flag of the count cycle, and bits 44 to 47, the count cycle, are
+-- in no line: they are read as anything.
+pub record SpellsFrame (link : LinkConfig) (h : FrameHeader) (text : List ℕ) : Type 0 where
+  pub size : length text ≡ frame_len link
+  -- 4.1.2.2, the transfer frame version number and the spacecraft identifier
+  pub version : field text 0 2 ≡ 1
+  pub spacecraft : field text 2 8 ≡ h.spacecraft
+  -- 4.1.2.3, the virtual channel identifier
+  pub channel : field text 10 6 ≡ h.channel
+  -- 4.1.2.4, the virtual channel frame count
+  pub count : field text 16 24 ≡ h.count
+  -- 4.1.2.5, the signaling field: no replay, and the two bits behind the usage flag
+  pub not_replayed : field text 40 1 ≡ 0
+  pub two_bits : field text 42 2 ≡ 0
+  -- it is one of this link's
+  pub our_spacecraft : h.spacecraft ≡ link.spacecraft
+  pub our_channel : h.channel ≡ link.channel
+  pub carries_packets : h.channel < idle_channel
+
+-- what is wrong with octets that are no frame of the link: the first cause in this order, or none
+abbrev pub frame_fault : List ℕ → LinkConfig → Option FrameError
+frame_fault text link =
+    if not (length text == frame_len link) then Some Length
+    else if not (field text 0 2 == 1) then Some Version
+    else if not (field text 40 1 == 0) then Some OtherProfile
+    else if not (field text 42 2 == 0) then Some OtherProfile
+    else if not (field text 2 8 == link.spacecraft) then Some OtherSpacecraft
+    else if field text 10 6 == idle_channel then Some OnlyIdle
+    else if not (field text 10 6 == link.channel) then Some OtherChannel
+    else None
+
+-- the header can be written: each part fits its field, and its frame isn't for idle data only
+pub record FitsHeader (h : FrameHeader) : Type 0 where
+  pub spacecraft : h.spacecraft < 256
+  pub channel : h.channel < idle_channel
+  pub count : h.count < frame_counts
+
+-- the written spelling of a header: usage flag 0, count cycle 0
+abbrev pub header_octets : FrameHeader → List ℕ
+header_octets h = octets 2 (16384 + 64 * h.spacecraft + h.channel) ++ octets 3 h.count ++ octets 1 0
+
+-- the written spelling of a frame, from the M_PDU header and the packet zone
+abbrev pub frame_octets : FrameHeader → List ℕ → List ℕ
+frame_octets h rest = header_octets h ++ rest
+
+-- the number of a refusal
+abbrev pub refusal_number : FrameError → ℕ
+refusal_number Length = 1
+refusal_number Version = 2
+refusal_number OtherProfile = 3
+refusal_number OtherSpacecraft = 4
+refusal_number OtherChannel = 5
+refusal_number OnlyIdle = 6

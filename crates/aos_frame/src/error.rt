@@ -1,0 +1,44 @@
+//! Why octets are no frame of a link.
+ghost use Rattle.std.specs.Prelude.{◌≡◌};
+ghost use Rattle.aos_frame.specs.Frame.{refusal_number};
+
+use thiserror::Error;
+
+/// Why octets are no frame of a link: the first cause that holds, in the order in which they stand here.
+#[derive(Clone, Copy, Debug, PartialEq, Eq, Error)]
+pub enum FrameError {
+    /// The octets aren't as many as those of a frame of the link.
+    #[error("Length")]
+    Length,
+    /// The transfer frame version number isn't `01` (CCSDS 732.0-B-4, 4.1.2.2.2).
+    #[error("Version")]
+    Version,
+    /// The replay flag is 1, or the two bits behind the usage flag of the count cycle aren't `00` (CCSDS 732.0-B-4, 4.1.2.5).
+    #[error("OtherProfile")]
+    OtherProfile,
+    /// The frame is of another spacecraft.
+    #[error("OtherSpacecraft")]
+    OtherSpacecraft,
+    /// The frame is of virtual channel 63, and so holds only idle data (CCSDS 732.0-B-4, 4.1.2.3).
+    #[error("OnlyIdle")]
+    OnlyIdle,
+    /// The frame is of another virtual channel that carries data.
+    #[error("OtherChannel")]
+    OtherChannel,
+}
+
+impl FrameError {
+    /// The number that names this refusal in reports.
+    pub fn number(self) -> u8
+        ensures { result ≡ refusal_number self }
+    {
+        match self {
+            FrameError::Length => 1,
+            FrameError::Version => 2,
+            FrameError::OtherProfile => 3,
+            FrameError::OtherSpacecraft => 4,
+            FrameError::OtherChannel => 5,
+            FrameError::OnlyIdle => 6,
+        }
+    }
+}

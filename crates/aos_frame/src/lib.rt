@@ -1,0 +1,93 @@
+//! AOS transfer frames with packet zones (CCSDS 732.0-B-4): their headers, their counts, and the counts that are missing.
+//!
+//! None of these calls takes memory: what stands behind a frame's header is borrowed from the octets that it was read from.
+#![tactic(auto)]
+
+ghost use Rattle.std.specs.Prelude.{◌≡◌, ◌+◌, ◌≤◌, length, drop, IfOk, IsOkAnd};
+ghost use Rattle.std.specs.Result.{result_err};
+ghost use Rattle.aos_frame.specs.declared.header.FrameHeader.{FrameHeader};
+ghost use Rattle.aos_frame.specs.Frame.{SpellsFrame, frame_fault, FitsHeader, frame_octets};
+
+mod config;
+mod count;
+mod error;
+mod header;
+mod laws;
+#[cfg(test)]
+mod tests;
+
+use cfd_bits::{get, put_uint};
+pub use config::LinkConfig;
+pub use count::{Continuity, FRAME_COUNTS, VcCounter, VcMonitor};
+pub use error::FrameError;
+pub use header::{FrameHeader, IDLE_CHANNEL};
+pub use laws::{a_frame_has_one_header, one_number_is_missing, written_frame_is_read};
+
+/// Octets of a frame's primary header (CCSDS 732.0-B-4, 4.1.2).
+const HEADER_LEN: usize = 6;
+
+/// Octets of the M_PDU header, in front of the packet zone (CCSDS 732.0-B-4, 4.1.4.2).
+const MPDU_HEADER_LEN: usize = 2;
+
+/// The header of a whole frame of the link, and the octets behind it: the M_PDU header and the packet zone.
+///
+/// Of the 2 octets of the M_PDU header the last 11 bits are the first header pointer. The usage flag of the count cycle, and the count
+/// cycle, are read as anything.
+///
+/// # Errors
+///
+/// The first of these that holds, in this order: `Length`, `Version`, `OtherProfile`, `OtherSpacecraft`, `OnlyIdle`, `OtherChannel`.
+/// `FrameError` says what each means.
+pub fn decode<'a>(bytes: &'a [u8], link: &LinkConfig) -> Result<(FrameHeader, &'a [u8]), FrameError>
+    // What is answered is spelled so.
+    ensures found { IfOk result (λ x. SpellsFrame link.now x.0 bytes.now) }
+    // The M_PDU header and the packet zone.
+    ensures rest { IfOk result (λ x. x.1.now ≡ drop 6 bytes.now) }
+    ensures len { IfOk result (λ x. length x.1.now ≡ 2 + link.now.zone) }
+    // What was read can be written.
+    ensures fits { IfOk result (λ x. FitsHeader x.0) }
+    // What is spelled so is answered.
+    ensures only { (h : FrameHeader) → SpellsFrame link.now h bytes.now → IsOkAnd result (λ x. x.0 ≡ h) }
+    // Which refusal it is.
+    ensures refused { result_err result ≡ frame_fault bytes.now link.now }
+{
+    if bytes.len() != HEADER_LEN + MPDU_HEADER_LEN + link.zone as usize {
+        return Err(FrameError::Length);
+    }
+    if get(bytes, 0, 2) != 1 {
+        return Err(FrameError::Version);
+    }
+    if get(bytes, 40, 1) != 0 || get(bytes, 42, 2) != 0 {
+        return Err(FrameError::OtherProfile);
+    }
+    let spacecraft = get(bytes, 2, 8) as u8;
+    if spacecraft != link.spacecraft {
+        return Err(FrameError::OtherSpacecraft);
+    }
+    let channel = get(bytes, 10, 6) as u8;
+    if channel == IDLE_CHANNEL {
+        return Err(FrameError::OnlyIdle);
+    }
+    if channel != link.channel {
+        return Err(FrameError::OtherChannel);
+    }
+    let header = FrameHeader {
+        spacecraft,
+        channel,
+        count: get(bytes, 16, 24) as u32,
+    };
+    Ok((header, &bytes[HEADER_LEN..]))
+}
+
+/// Writes the header into the first 6 octets: usage flag 0, count cycle 0. The octets behind stay.
+pub fn encode(header: &FrameHeader, out: &mut [u8])
+    requires fits { FitsHeader header.now }
+    requires room { 6 ≤ length out.old }
+    ensures { out.new ≡ frame_octets header.now (drop 6 out.old) }
+{
+    let identification = 16_384 + 64 * u64::from(header.spacecraft) + u64::from(header.channel);
+    let out = &mut out[..HEADER_LEN];
+    let at = put_uint(out, 0, 2, identification);
+    let at = put_uint(out, at, 3, u64::from(header.count));
+    put_uint(out, at, 1, 0);
+}
