@@ -1,0 +1,5 @@
+pub mod Apart
+pub mod Members
+pub mod Joined
+pub mod Missing
+pub mod Taken

@@ -1,0 +1,124 @@
+-- The offsets of ranges, one by one.
+use Rattle.std.proofs.Common.{◌≡◌, ℕ, zero, suc, ◌+◌, ◌-◌, ◌<◌, ◌≤◌, false, ◌||◌, List, [], ◌∷◌, ◌++◌, length, get_or, take, drop, ap, ◌∙◌, arith, ◌⊎◌, inl, inr, eqb}
+use Rattle.std.specs.Bool.{Decides}
+use Rattle.std.specs.Ordering.{nat_cmp}
+use Rattle.std.specs.Cmp.{nat_cmp_total, unsigned_tied}
+use Rattle.std.specs.FinSet.{contains, contains-empty, contains-insert, contains-union, same_set, nat_cmp-IsAntisymmetric}
+use Rattle.std.proofs.lemmas.Bool.{both_ways, leb-true, ltb-true, le-leb, lt-ltb, and_parts, and_from}
+use Rattle.std.proofs.lemmas.Bool.Decides.{nat_tests, Decides-or, Decides-at}
+use Rattle.cfdp_extents.specs.Offsets.{Offsets, is_within, offsets_from, range, union_of, AreApart, StartBehind}
+use Rattle.cfdp_extents.proofs.Apart.{start_behind, apart_at}
+
+pub Decides-within : (s e n : ℕ) → Decides (is_within s e n) ((s ≤ n) × (n < e))
+Decides-within s e n = (
+  λ t. let p = and_parts _ _ t in (leb-true s n p.0, ltb-true n e p.1),
+  λ w. and_from _ _ (le-leb s n w.0) (lt-ltb n e w.1),
+)
+
+within_none : (s n : ℕ) → false ≡ is_within s (s + 0) n
+within_none s n = grind (arith, nat_tests)
+
+within_more : (s k n : ℕ) → (eqb n s || is_within (s + 1) (s + 1 + k) n) ≡ is_within s (s + suc k) n
+within_more s k n = grind (arith, nat_tests)
+
+contains-offsets_from : (s k n : ℕ) → contains (offsets_from s k) n ≡ is_within s (s + k) n
+unfolding offsets_from
+contains-offsets_from s zero n = contains-empty nat_cmp n ∙ within_none s n
+contains-offsets_from s (suc k) n =
+    contains-insert nat_cmp_total (offsets_from (s + 1) k) s n
+    ∙ ap (λ b. b || contains (offsets_from (s + 1) k) n) (unsigned_tied n s)
+    ∙ ap (λ b. eqb n s || b) (contains-offsets_from (s + 1) k n)
+    ∙ within_more s k n
+
+within_length : (s e n : ℕ) → is_within s (s + (e - s)) n ≡ is_within s e n
+within_length s e n = grind (arith, nat_tests)
+
+-- the offsets of a range
+pub contains-range : (s e n : ℕ) → contains (range s e) n ≡ is_within s e n
+unfolding range
+contains-range s e n = contains-offsets_from s (e - s) n ∙ within_length s e n
+
+-- n lies in one of the ranges
+abbrev pub InRanges : List (ℕ × ℕ) → ℕ → Type 0
+InRanges [] n = ⊥
+InRanges (r ∷ rs) n = ((r.0 ≤ n) × (n < r.1)) ⊎ InRanges rs n
+
+pub Decides-union_of : (xs : List (ℕ × ℕ)) (n : ℕ) → Decides (contains (union_of xs) n) (InRanges xs n)
+unfolding union_of
+Decides-union_of [] n = (λ t. absurd (both_ways _ (contains-empty nat_cmp n) t), λ w. absurd w)
+Decides-union_of (r ∷ rs) n =
+    Decides-at _ _ (contains-union nat_cmp_total (range r.0 r.1) (union_of rs) n)
+    (Decides-or _ _ (Decides-at _ _ (contains-range r.0 r.1 n) (Decides-within r.0 r.1 n)) (Decides-union_of rs n))
+
+pub same_offsets : (a b : Offsets) → ((n : ℕ) → contains a n ≡ contains b n) → a ≡ b
+same_offsets a b h = same_set nat_cmp_total nat_cmp-IsAntisymmetric a b h
+
+pub InRanges-append : (xs ys : List (ℕ × ℕ)) (n : ℕ) → InRanges (xs ++ ys) n → InRanges xs n ⊎ InRanges ys n
+InRanges-append [] ys n h = inr h
+InRanges-append (x ∷ xs) ys n (inl h) = inl (inl h)
+InRanges-append (x ∷ xs) ys n (inr h) = elim (InRanges-append xs ys n h) [ inl a ↦ inl (inr a) | inr b ↦ inr b ]
+
+pub InRanges-left : (xs ys : List (ℕ × ℕ)) (n : ℕ) → InRanges xs n → InRanges (xs ++ ys) n
+InRanges-left [] ys n h = absurd h
+InRanges-left (x ∷ xs) ys n (inl h) = inl h
+InRanges-left (x ∷ xs) ys n (inr h) = inr (InRanges-left xs ys n h)
+
+pub InRanges-right : (xs ys : List (ℕ × ℕ)) (n : ℕ) → InRanges ys n → InRanges (xs ++ ys) n
+InRanges-right [] ys n h = h
+InRanges-right (x ∷ xs) ys n h = inr (InRanges-right xs ys n h)
+
+-- in the ranges before a place, or in those from it on
+pub InRanges-parts : (i : ℕ) (xs : List (ℕ × ℕ)) (n : ℕ) → InRanges xs n → InRanges (take i xs) n ⊎ InRanges (drop i xs) n
+InRanges-parts zero xs n h = inr h
+InRanges-parts (suc i) [] n h = absurd h
+InRanges-parts (suc i) (x ∷ xs) n (inl h) = inl (inl h)
+InRanges-parts (suc i) (x ∷ xs) n (inr h) = elim (InRanges-parts i xs n h) [ inl a ↦ inl (inr a) | inr b ↦ inr b ]
+
+pub InRanges-take : (i : ℕ) (xs : List (ℕ × ℕ)) (n : ℕ) → InRanges (take i xs) n → InRanges xs n
+InRanges-take zero xs n h = absurd h
+InRanges-take (suc i) [] n h = absurd h
+InRanges-take (suc i) (x ∷ xs) n (inl h) = inl h
+InRanges-take (suc i) (x ∷ xs) n (inr h) = inr (InRanges-take i xs n h)
+
+pub InRanges-drop : (i : ℕ) (xs : List (ℕ × ℕ)) (n : ℕ) → InRanges (drop i xs) n → InRanges xs n
+InRanges-drop zero xs n h = h
+InRanges-drop (suc i) [] n h = absurd h
+InRanges-drop (suc i) (x ∷ xs) n h = inr (InRanges-drop i xs n h)
+
+pub InRanges-at : (xs : List (ℕ × ℕ)) (k n : ℕ) (d : ℕ × ℕ) → k < length xs → (get_or xs k d).0 ≤ n → n < (get_or xs k d).1 → InRanges xs n
+InRanges-at [] k n d l low high = absurd (omega arith)
+InRanges-at (x ∷ xs) zero n d l low high = inl (low, high)
+InRanges-at (x ∷ xs) (suc k) n d l low high = inr (InRanges-at xs k n d (omega arith) low high)
+
+-- what lies in ranges lies behind an offset that the first starts behind
+pub behind_start : (m : ℕ) (xs : List (ℕ × ℕ)) (n : ℕ) → AreApart xs → StartBehind m xs → InRanges xs n → m < n
+behind_start m [] n h b w = absurd w
+behind_start m (x ∷ xs) n h b (inl w) = let low : x.0 ≤ n = w.0 in let first : m < x.0 = b in omega arith
+behind_start m (x ∷ xs) n h b (inr w) =
+    let later : x.1 < n = behind_start x.1 xs n h.2 h.1 w in
+    let here : x.0 < x.1 = h.0 in
+    let first : m < x.0 = b in
+    omega arith
+
+-- what lies in ranges from a place on is no less than the start there
+pub low_at : (i : ℕ) (xs : List (ℕ × ℕ)) (n : ℕ) (d : ℕ × ℕ) → AreApart xs → InRanges (drop i xs) n → (get_or xs i d).0 ≤ n
+low_at zero [] n d h w = absurd w
+low_at zero (x ∷ xs) n d h (inl w) = w.0
+low_at zero (x ∷ xs) n d h (inr w) =
+    let later : x.1 < n = behind_start x.1 xs n h.2 h.1 w in
+    let here : x.0 < x.1 = h.0 in
+    omega arith
+low_at (suc i) [] n d h w = absurd w
+low_at (suc i) (x ∷ xs) n d h w = low_at i xs n d h.2 w
+
+-- what lies in the ranges up to a place is less than the end there
+pub high_at : (k : ℕ) (xs : List (ℕ × ℕ)) (n : ℕ) (d : ℕ × ℕ) → AreApart xs → k < length xs → InRanges (take (suc k) xs) n → n < (get_or xs k d).1
+high_at k [] n d h l w = absurd w
+high_at zero (x ∷ xs) n d h l (inl w) = w.1
+high_at zero (x ∷ xs) n d h l (inr w) = absurd w
+high_at (suc k) (x ∷ xs) n d h l (inl w) =
+    let up : x.1 < (get_or xs k d).0 = start_behind x.1 xs k d h.2 h.1 (omega arith) in
+    let some : (get_or xs k d).0 < (get_or xs k d).1 = apart_at xs k d h.2 (omega arith) in
+    let here : n < x.1 = w.1 in
+    omega arith
+high_at (suc k) (x ∷ xs) n d h l (inr w) = high_at k xs n d h.2 (omega arith) w

@@ -1,0 +1,150 @@
+-- What is held after the front of the first range was taken, and the last offset held.
+use Rattle.std.proofs.Common.{◌≡◌, ℕ, suc, ◌+◌, ◌-◌, ◌<◌, ◌≤◌, true, false, List, [], ◌∷◌, length, get_or, set, subst, take, drop, eqb, refl, ap, ◌∙◌, sym, arith, ◌⊎◌, inl, inr}
+use Rattle.std.specs.Cmp.{nat_cmp_total}
+use Rattle.std.specs.FinSet.{contains, empty, difference, contains-difference}
+use Rattle.std.specs.List.{slice_get}
+use Rattle.std.specs.declared.option.Option.TheVariants.{Some, None}
+use Rattle.std.proofs.lemmas.List.{take_all}
+use Rattle.std.proofs.lemmas.Option.{slice_get_within, get_or_from_slice_get, slice_get-get_or, none-some}
+use Rattle.std.proofs.lemmas.Bool.{cases_lt, false_from_ne_true, eqb-true}
+use Rattle.std.proofs.lemmas.Bool.Decides.{Decides-and, Decides-not, Decides-at, Decides-like, same_from_decides, nat_tests}
+use Rattle.cfdp_extents.specs.Offsets.{Offsets, range, union_of, AreApart}
+use Rattle.cfdp_extents.specs.Front.{IsFront}
+use Rattle.cfdp_extents.proofs.Apart.{apart_at}
+use Rattle.cfdp_extents.proofs.Members.{Decides-within, contains-range, InRanges, Decides-union_of, same_offsets, InRanges-at, behind_start, high_at}
+use Rattle.cfdp_extents.proofs.Joined.{Decides-is_subset}
+
+-- ranges that hold what others do, without a range
+pub difference-less : (new old : List (ℕ × ℕ)) (s e : ℕ) → ((n : ℕ) → InRanges new n → InRanges old n × ((s ≤ n) × (n < e) → ⊥)) → ((n : ℕ) → InRanges old n × ((s ≤ n) × (n < e) → ⊥) → InRanges new n) → union_of new ≡ difference (union_of old) (range s e)
+difference-less new old s e forth back =
+    same_offsets _ _ (λ n.
+    same_from_decides _ _ (Decides-union_of new n)
+    (Decides-at _ _ (contains-difference nat_cmp_total (union_of old) (range s e) n)
+    (Decides-like _ (back n) (forth n)
+    (Decides-and _ _ (Decides-union_of old n) (Decides-not _ (Decides-at _ _ (contains-range s e n) (Decides-within s e n)))))))
+
+-- without its first range
+pub union-without_first : (r : ℕ × ℕ) (rs : List (ℕ × ℕ)) → AreApart (r ∷ rs) → union_of rs ≡ difference (union_of (r ∷ rs)) (range r.0 r.1)
+union-without_first r rs h = difference-less rs (r ∷ rs) r.0 r.1
+    (λ n w. (inr w, λ i. let up : r.1 < n = behind_start r.1 rs n h.2 h.1 w in let high : n < r.1 = i.1 in omega arith))
+    (λ n w. elim w.0 [ inl i ↦ absurd (w.1 i) | inr i ↦ i ])
+
+-- without the front of its first range
+pub union-without_front : (s e t : ℕ) (rs : List (ℕ × ℕ)) → AreApart ((s, e) ∷ rs) → s < t → t < e → union_of ((t, e) ∷ rs) ≡ difference (union_of ((s, e) ∷ rs)) (range s t)
+union-without_front s e t rs h low high = difference-less ((t, e) ∷ rs) ((s, e) ∷ rs) s t
+    (λ n w. elim w [
+      | inl i ↦ let from : t ≤ n = i.0 in (inl (let le : s ≤ n = omega arith in le, i.1), λ j. let no : n < t = j.1 in omega arith)
+      | inr i ↦ (inr i, λ j. let up : e < n = behind_start e rs n h.2 h.1 i in let no : n < t = j.1 in omega arith)
+    ])
+    (λ n w. elim w.0 [
+      | inl i ↦ elim (cases_lt n t) [ inl before ↦ absurd (w.1 (i.0, before)) | inr from ↦ inl (from, i.1) ]
+      | inr i ↦ inr i
+    ])
+
+pub apart-without_front : (s e t : ℕ) (rs : List (ℕ × ℕ)) → AreApart ((s, e) ∷ rs) → t < e → AreApart ((t, e) ∷ rs)
+apart-without_front s e t rs h high = (high, h.1, h.2)
+
+-- the front of the first range: whole, or as much of it as may be taken
+pub is-front : (s e t max : ℕ) (rs : List (ℕ × ℕ)) → AreApart ((s, e) ∷ rs) → s < t → t ≤ e → t ≤ s + max → (t ≡ s + max) ⊎ (t ≡ e) → IsFront (union_of ((s, e) ∷ rs)) max s t
+is-front s e t max rs h some within most whole = record {
+  least = λ n held. elim ((Decides-union_of ((s, e) ∷ rs) n).0 held) [
+    | inl i ↦ i.0
+    | inr i ↦ let up : e < n = behind_start e rs n h.2 h.1 i in omega arith
+  ];
+  some = some;
+  at_most = most;
+  gapless = (Decides-is_subset s t (union_of ((s, e) ∷ rs))).1 (λ n low high. (Decides-union_of ((s, e) ∷ rs) n).1 (inl (low, let up : n < e = omega arith in up)));
+  whole = elim whole [
+    | inl is ↦ inl is
+    | inr is ↦ inr (false_from_ne_true _ (λ held. elim ((Decides-union_of ((s, e) ∷ rs) t).0 held) [
+      | inl i ↦ let no : t < e = i.1 in omega arith
+      | inr i ↦ let no : e < t = behind_start e rs t h.2 h.1 i in omega arith
+    ]))
+  ];
+}
+
+-- a list with a first element
+pub first-and-rest : (xs : List (ℕ × ℕ)) (r : ℕ × ℕ) → 0 < length xs → r ≡ get_or xs 0 r → xs ≡ r ∷ drop 1 xs
+first-and-rest [] r l e = absurd (omega arith)
+first-and-rest (x ∷ xs) r l e = ap (λ z. z ∷ xs) (sym e)
+
+pub no-offsets : (xs : List (ℕ × ℕ)) → length xs ≡ 0 → union_of xs ≡ empty
+unfolding union_of
+no-offsets [] l = refl
+no-offsets (x ∷ xs) l = absurd (omega arith)
+
+-- what is held lies before the last range's end
+pub all-before_last : (xs : List (ℕ × ℕ)) (r : ℕ × ℕ) → AreApart xs → 0 < length xs → get_or xs (length xs - 1) r ≡ r → (n : ℕ) → contains (union_of xs) n ≡ true → n < r.1
+all-before_last xs r h some is n held =
+    let last : suc (length xs - 1) ≡ length xs = omega arith in
+    let whole : take (suc (length xs - 1)) xs ≡ xs = take_all (suc (length xs - 1)) xs (omega arith) in
+    let up : n < (get_or xs (length xs - 1) r).1 = high_at (length xs - 1) xs n r h (omega arith) (rw whole ((Decides-union_of xs n).0 held)) in
+    rw is at up
+
+pub last-is_held : (xs : List (ℕ × ℕ)) (r : ℕ × ℕ) → AreApart xs → 0 < length xs → get_or xs (length xs - 1) r ≡ r → contains (union_of xs) (r.1 - 1) ≡ true
+last-is_held xs r h some is =
+    let apart : (get_or xs (length xs - 1) r).0 < (get_or xs (length xs - 1) r).1 = apart_at xs (length xs - 1) r h (omega arith) in
+    let apart' : r.0 < r.1 = rw is at apart in
+    (Decides-union_of xs (r.1 - 1)).1 (InRanges-at xs (length xs - 1) (r.1 - 1) r (omega arith) (rw is (omega arith)) (rw is (omega arith)))
+
+pub none-held : (xs : List (ℕ × ℕ)) → length xs ≡ 0 → (n : ℕ) → contains (union_of xs) n ≡ true → ⊥
+none-held [] l n held = (Decides-union_of [] n).0 held
+none-held (x ∷ xs) l n held = absurd (omega arith)
+
+-- what `last` of a slice reads
+pub last-read : (ys xs : List (ℕ × ℕ)) (r : ℕ × ℕ) → ys ≡ xs → Some r ≡ slice_get ys (length ys - 1) → (0 < length xs) × (get_or xs (length xs - 1) r ≡ r)
+last-read ys xs r same e =
+    let e' : slice_get xs (length xs - 1) ≡ Some r = rw same at (sym e) in
+    let within : length xs - 1 < length xs = slice_get_within xs (length xs - 1) r e' in
+    (omega arith, get_or_from_slice_get xs (length xs - 1) r r e')
+
+pub last-none : (ys xs : List (ℕ × ℕ)) → ys ≡ xs → None ≡ slice_get ys (length ys - 1) → length xs ≡ 0
+last-none ys [] same e = refl
+last-none ys (x ∷ xs) same e =
+    let e' : None ≡ slice_get (x ∷ xs) (length (x ∷ xs) - 1) = rw same at e in
+    let some = slice_get-get_or (x ∷ xs) (length (x ∷ xs) - 1) x (omega arith) in
+    absurd (none-some _ (e' ∙ some))
+
+some-len : (n : ℕ) → false ≡ eqb n 0 → 0 < n
+some-len n e = grind (arith, nat_tests)
+
+no-len : (n : ℕ) → true ≡ eqb n 0 → n ≡ 0
+no-len n e = eqb-true n 0 (sym e)
+
+pub no-offsets_by_test : (xs : List (ℕ × ℕ)) (held : Offsets) → union_of xs ≡ held → true ≡ eqb (length xs) 0 → held ≡ empty
+no-offsets_by_test xs held view e = sym view ∙ no-offsets xs (no-len (length xs) e)
+
+-- the first range `r` of a set's ranges, and the rest
+pub record First (xs : List (ℕ × ℕ)) (held : Offsets) (r : ℕ × ℕ) : Type 0 where
+  pub is : xs ≡ r ∷ drop 1 xs
+  pub apart : AreApart (r ∷ drop 1 xs)
+  pub view : union_of (r ∷ drop 1 xs) ≡ held
+
+pub first : (xs : List (ℕ × ℕ)) (held : Offsets) (r : ℕ × ℕ) → AreApart xs → union_of xs ≡ held → false ≡ eqb (length xs) 0 → r ≡ get_or xs 0 r → First xs held r
+first xs held r h view some read =
+    let is = first-and-rest xs r (some-len (length xs) some) read in
+    record { is = is; apart = subst AreApart is h; view = ap union_of (sym is) ∙ view }
+
+pub whole-front : (xs : List (ℕ × ℕ)) (held : Offsets) (r : ℕ × ℕ) (max : ℕ) → First xs held r → r.1 - r.0 ≤ max → IsFront held max r.0 r.1
+whole-front xs held r max f h =
+    let some : r.0 < r.1 = f.apart.0 in
+    subst (λ s. IsFront s max r.0 r.1) f.view (is-front r.0 r.1 r.1 max (drop 1 xs) f.apart some (omega arith) (omega arith) (inr refl))
+
+pub whole-rest : (xs : List (ℕ × ℕ)) (held : Offsets) (r : ℕ × ℕ) → First xs held r → union_of (drop 1 xs) ≡ difference held (range r.0 r.1)
+whole-rest xs held r f = union-without_first r (drop 1 xs) f.apart ∙ ap (λ s. difference s (range r.0 r.1)) f.view
+
+pub part-front : (xs : List (ℕ × ℕ)) (held : Offsets) (r : ℕ × ℕ) (max : ℕ) → First xs held r → (max ≡ 0 → ⊥) → max < r.1 - r.0 → IsFront held max r.0 (r.0 + max)
+part-front xs held r max f pos h =
+    let pos' : 0 < max = grind (arith, pos) in
+    subst (λ s. IsFront s max r.0 (r.0 + max)) f.view (is-front r.0 r.1 (r.0 + max) max (drop 1 xs) f.apart (omega arith) (omega arith) (omega arith) (inl refl))
+
+pub part-rest : (xs : List (ℕ × ℕ)) (held : Offsets) (r : ℕ × ℕ) (max : ℕ) → First xs held r → (max ≡ 0 → ⊥) → max < r.1 - r.0 → union_of (set xs 0 (r.0 + max, r.1)) ≡ difference held (range r.0 (r.0 + max))
+part-rest xs held r max f pos h =
+    let pos' : 0 < max = grind (arith, pos) in
+    ap (λ v. union_of (set v 0 (r.0 + max, r.1))) f.is
+    ∙ union-without_front r.0 r.1 (r.0 + max) (drop 1 xs) f.apart (omega arith) (omega arith)
+    ∙ ap (λ s. difference s (range r.0 (r.0 + max))) f.view
+
+pub part-apart : (xs : List (ℕ × ℕ)) (held : Offsets) (r : ℕ × ℕ) (max : ℕ) → First xs held r → max < r.1 - r.0 → AreApart (set xs 0 (r.0 + max, r.1))
+part-apart xs held r max f h =
+    subst (λ v. AreApart (set v 0 (r.0 + max, r.1))) (sym f.is) (apart-without_front r.0 r.1 (r.0 + max) (drop 1 xs) f.apart (omega arith))

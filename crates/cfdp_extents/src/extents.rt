@@ -1,0 +1,136 @@
+// A set of offsets in a sorted vector of ranges.
+ghost use Rattle.std.specs.Prelude.{◌≡◌, ◌⊎◌, ℕ, ◌+◌, ◌-◌, ◌<◌, ◌≤◌, true, false, List, OnOk, OnErr, IsOk, IfNone, IfSome};
+ghost use Rattle.std.specs.FinSet as set;
+ghost use Rattle.cfdp_extents.specs.Offsets.{range, missing_from, AreRangesOf};
+ghost use Rattle.cfdp_extents.specs.Front.{IsFront};
+
+use crate::gaps::Gaps;
+use crate::search::{ending_before, starting_by};
+use std::alloc::{AllocError, Global};
+use std::marker::Model;
+
+/// A set of offsets of a file, as those that are held of it. Only `insert` takes memory.
+#[derive(Debug, Drop)]
+pub struct Extents {
+    // Each range's start and end.
+    ranges: Vec<(u64, u64)>,
+}
+
+impl Model for Extents {
+    ghost use Rattle.std.specs.Ordering.{nat_cmp};
+    ghost use Rattle.std.specs.FinSet as set;
+    ghost use Rattle.std.specs.Coded.{coded_ℕ};
+    ghost use Rattle.cfdp_extents.specs.Offsets.{union_of, AreApart};
+
+    ghost Value = { set.FinSet nat_cmp };
+
+    ghost coded = { set.code coded_ℕ };
+
+    ghost view = { λ e. union_of e.ranges.items };
+
+    ghost invariant = { λ e. AreApart e.ranges.items };
+}
+
+impl Extents {
+    /// The empty set.
+    pub fn new(alloc: Global) -> Self
+        ensures { result ≡ set.empty }
+    {
+        Extents {
+            ranges: Vec::new(alloc),
+        }
+    }
+
+    /// Adds the offsets from `start` up to, and without, `end`; an empty range adds none.
+    ///
+    /// # Errors
+    ///
+    /// Where there is no memory for one more range. The set is then unchanged.
+    pub fn insert(&mut self, start: u64, end: u64) -> Result<(), AllocError>
+        requires { start ≤ end }
+        ensures ok { OnOk result (self.new ≡ set.union self.old (range start end)) }
+        ensures err { OnErr result (self.new ≡ self.old) }
+        // What adds no offset takes no memory.
+        ensures empty { start ≡ end → IsOk result }
+    {
+        if start == end {
+            return Ok(());
+        }
+        let first = ending_before(&self.ranges, start);
+        let past = starting_by(&self.ranges, end);
+        if first == past {
+            self.ranges.insert(first, (start, end))?;
+            return Ok(());
+        }
+        let joined = (
+            start.min(self.ranges[first].0),
+            end.max(self.ranges[past - 1].1),
+        );
+        self.ranges[first] = joined;
+        self.ranges.drain(first + 1..past);
+        Ok(())
+    }
+
+    /// Whether each offset from `start` up to, and without, `end` is held; so it is of an empty range.
+    pub fn covers(&self, start: u64, end: u64) -> bool
+        requires { start ≤ end }
+        ensures { result ≡ set.is_subset (range start end) self.now }
+    {
+        let past = starting_by(&self.ranges, start);
+        start == end || past > 0 && end <= self.ranges[past - 1].1
+    }
+
+    /// The gaps below `limit`, ascending.
+    pub fn missing(&self, limit: u64) -> Gaps<'_>
+        // Ascending, none empty, no two touching, and together what isn't held below the limit.
+        ensures gaps { AreRangesOf (missing_from self.now 0 limit) result }
+        // No other list is so.
+        ensures only { (gaps : List (ℕ × ℕ)) → AreRangesOf (missing_from self.now 0 limit) gaps → gaps ≡ result }
+    {
+        self.missing_in(0, limit)
+    }
+
+    /// The gaps from `start` on and below `limit`, ascending.
+    pub fn missing_in(&self, start: u64, limit: u64) -> Gaps<'_>
+        ensures gaps { AreRangesOf (missing_from self.now start limit) result }
+        ensures only { (gaps : List (ℕ × ℕ)) → AreRangesOf (missing_from self.now start limit) gaps → gaps ≡ result }
+    {
+        let (held, behind) = self.ranges.split_at(starting_by(&self.ranges, start));
+        let from = match held.last() {
+            Some(range) => start.max(range.1),
+            None => start,
+        };
+        Gaps::new(behind, from, limit)
+    }
+
+    /// One more than the greatest offset held; 0 where none is.
+    pub fn end(&self) -> u64
+        ensures all_before { (n : ℕ) → set.contains self.now n ≡ true → n < result }
+        ensures last { 0 < result → set.contains self.now (result - 1) ≡ true }
+    {
+        match self.ranges.last() {
+            Some(range) => range.1,
+            None => 0,
+        }
+    }
+
+    /// Takes away the front of the least gapless range, at most `max` offsets of it, and gives its start and
+    /// its end; `None` where no offset is held, or `max` is 0.
+    pub fn take_front(&mut self, max: u64) -> Option<(u64, u64)>
+        ensures none { IfNone result (self.new ≡ self.old) }
+        ensures spent { IfNone result ((max ≡ 0) ⊎ (self.old ≡ set.empty)) }
+        ensures front { IfSome result (λ r. IsFront self.old max r.0 r.1) }
+        ensures rest { IfSome result (λ r. self.new ≡ set.difference self.old (range r.0 r.1)) }
+    {
+        if max == 0 || self.ranges.is_empty() {
+            return None;
+        }
+        let (start, end) = self.ranges[0];
+        if end - start <= max {
+            self.ranges.remove(0);
+            return Some((start, end));
+        }
+        self.ranges[0] = (start + max, end);
+        Some((start, start + max))
+    }
+}
