@@ -1,0 +1,12 @@
+pub mod Spans
+pub mod Scan
+pub mod Zone
+pub mod Struck
+pub mod Fronts
+pub mod Taken
+pub mod Packed
+pub mod Counted
+pub mod Carried
+pub mod Whole
+pub mod Noted
+pub mod Pointers

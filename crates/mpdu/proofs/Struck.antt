@@ -1,0 +1,115 @@
+use Rattle.std.proofs.Common.{◌≡◌, ℕ, zero, suc, ◌+◌, ◌-◌, ◌*◌, ◌/◌, ◌<◌, ◌≤◌, ◌↔◌, Bool, true, false, not, ◌&&◌, cond, nat_le, List, [], ◌∷◌, ◌++◌, length, get_or, refl, sym, ap, ◌∙◌, inl, inr, arith}
+use Rattle.std.proofs.lemmas.Bool.{lt-ltb, le-leb, lt-leb, leb-true, cases_lt}
+use Rattle.std.proofs.Math.Nat.{div-mul-le_self, lt-div-mul-add}
+use Rattle.mpdu.specs.Stream.{keep, is_idle, ArePackets, arrived, meets, survivors, begun}
+use Rattle.mpdu.specs.Places.{IsInSpan}
+use Rattle.mpdu.proofs.Spans.{arrived-before, arrived-past, arrived-behind, arrived-into, meets_no_behind, meets_no_before}
+use Rattle.mpdu.proofs.Scan.{packet_long}
+use Rattle.mpdu.proofs.Zone.{end_more}
+
+-- a struck zone lets what is begun go
+pub begun-struck : (z : ℕ) (marks : List Bool) (a : ℕ) (ps : List (List ℕ)) → 0 < z → begun z (marks ++ false ∷ []) a ps ≡ []
+begun-struck z marks a [] pos = refl
+begun-struck z marks a (p ∷ ps) pos =
+    let m : List Bool = marks ++ false ∷ [] in
+    let e : ℕ = length marks * z in
+    let b : ℕ = length m * z in
+    let em : length (marks ++ false ∷ []) * z ≡ length marks * z + z = end_more z marks false in
+    let G : Type 0 = begun z m a (p ∷ ps) ≡ [] in
+    let below : a + length p ≤ b → G = λ (c : a + length p ≤ b).
+    let t : nat_le (a + length p) b ≡ true = le-leb (a + length p) b c in
+    rw t (begun-struck z marks (a + length p) ps pos) in
+    let cut : b < a + length p → a < e + z → G = λ (c : b < a + length p) (d : a < e + z).
+    let t : nat_le (a + length p) b ≡ false = lt-leb (a + length p) b c in
+    let f : arrived z 0 m a b ≡ false = arrived-into z 0 marks false a b e pos (omega arith) (omega arith) (omega arith) d in
+    rw (t, f) refl in
+    let behind : b < a + length p → e + z ≤ a → G = λ (c : b < a + length p) (d : e + z ≤ a).
+    let t : nat_le (a + length p) b ≡ false = lt-leb (a + length p) b c in
+    let f : arrived z 0 m a b ≡ true = arrived-behind z 0 m a b (omega arith) (omega arith) in
+    let k : b - a ≡ 0 = omega arith in
+    rw (t, f, k) refl in
+    elim (cases_lt b (a + length p)) [ inl c ↦ elim (cases_lt a (e + z)) [ inl d ↦ cut c d | inr d ↦ behind c d ] | inr c ↦ below c ]
+
+-- and completes no packet
+pub survivors-struck : (z : ℕ) (marks : List Bool) (a : ℕ) (ps : List (List ℕ)) → 0 < z → ArePackets ps → survivors z (marks ++ false ∷ []) a ps ≡ survivors z marks a ps
+survivors-struck z marks a [] pos h = refl
+survivors-struck z marks a (p ∷ ps) pos h =
+    let m : List Bool = marks ++ false ∷ [] in
+    let e : ℕ = length marks * z in
+    let b : ℕ = a + length p in
+    let long : 7 ≤ length p = packet_long p h.0 in
+    let em : length (marks ++ false ∷ []) * z ≡ length marks * z + z = end_more z marks false in
+    let A : Type 0 = arrived z 0 m a b ≡ arrived z 0 marks a b in
+    let below : b ≤ e → A = λ (c : b ≤ e). arrived-before z 0 marks false a b (omega arith) in
+    let into : e < b → b ≤ e + z → A = λ (c : e < b) (d : b ≤ e + z).
+    arrived-into z 0 marks false a b e pos (omega arith) c d (omega arith) ∙ sym (arrived-past z 0 marks a b (omega arith)) in
+    let past : e < b → e + z < b → A = λ (c : e < b) (d : e + z < b). arrived-past z 0 m a b (omega arith) ∙ sym (arrived-past z 0 marks a b (omega arith)) in
+    let same : A = elim (cases_lt e b) [ inl c ↦ elim (cases_lt (e + z) b) [ inl d ↦ past c d | inr d ↦ into c d ] | inr c ↦ below c ] in
+    ap (λ t. keep (t && not (is_idle p)) p (survivors z m b ps)) same ∙ ap (λ l. keep (arrived z 0 marks a b && not (is_idle p)) p l) (survivors-struck z marks b ps pos h.1)
+
+pub begun-none : (z : ℕ) (ps : List (List ℕ)) → ArePackets ps → begun z [] 0 ps ≡ []
+begun-none z [] h = refl
+begun-none z (p ∷ ps) h =
+    let t : nat_le (0 + length p) (0 * z) ≡ false = lt-leb (0 + length p) (0 * z) (omega (arith, packet_long p h.0)) in
+    let u : nat_le (0 * z) 0 ≡ true = le-leb (0 * z) 0 (omega arith) in
+    let k : 0 * z - 0 ≡ 0 = omega arith in
+    rw (t, u, k) refl
+
+and_first : (x y : Bool) → (x && y) ≡ true → x ≡ true
+and_first true y e = refl
+and_first false y e = e
+
+and_second : (x y : Bool) → (x && y) ≡ true → y ≡ true
+and_second true y e = e
+and_second false y e = absurd (cc)
+
+either_second : (t x y : Bool) → cond t (x && y) y ≡ true → y ≡ true
+either_second true x y e = and_second x y e
+either_second false x y e = e
+
+-- What a range that arrived says: each zone that has an octet in common with it was delivered.
+pub arrived_says : (z s : ℕ) (marks : List Bool) (a b : ℕ) → arrived z s marks a b ≡ true →
+    (f : ℕ) → s + f * z < b → a < s + f * z + z → get_or marks f false ≡ true
+arrived_says z s [] a b ok f h1 h2 =
+    let le : b ≤ s = leb-true b s ok in absurd (omega arith)
+arrived_says z s (m ∷ marks) a b ok zero h1 h2 =
+    let lt1 : s < b = omega arith in
+    let lt2 : a < s + z = omega arith in
+    and_first m (arrived z (s + z) marks a b) (rw (lt-ltb a (s + z) lt2, lt-ltb s b lt1) at ok)
+arrived_says z s (m ∷ marks) a b ok (suc f) h1 h2 =
+    arrived_says z (s + z) marks a b (either_second (meets s (s + z) a b) m (arrived z (s + z) marks a b) ok) f (omega arith) (omega arith)
+
+some_zone : (z s a b : ℕ) → 0 < z → a < b → s < b → (f : ℕ) × (s + f * z < b) × (a < s + f * z + z)
+some_zone z s a b pos lt out =
+    elim (cases_lt s a) [
+      | inl c ↦ (let q : ℕ = (a - s) / z in
+          let low : q * z ≤ a - s = div-mul-le_self (a - s) z in
+          let high : a - s < q * z + z = lt-div-mul-add pos in
+          (q, omega arith, omega arith))
+      | inr c ↦ (0, omega arith, omega arith)
+    ]
+
+pub arrived_from : (z s : ℕ) (marks : List Bool) (a b : ℕ) → 0 < z → a < b →
+    ((f : ℕ) → s + f * z < b → a < s + f * z + z → get_or marks f false ≡ true) → arrived z s marks a b ≡ true
+arrived_from z s [] a b pos lt each =
+    elim (cases_lt s b) [
+      | inl c ↦ (let w : (f : ℕ) × (s + f * z < b) × (a < s + f * z + z) = some_zone z s a b pos lt c in
+          let bad : false ≡ true = each w.0 w.1 w.2 in absurd (cc))
+      | inr c ↦ le-leb b s c
+    ]
+arrived_from z s (m ∷ marks) a b pos lt each =
+    let ih : arrived z (s + z) marks a b ≡ true = arrived_from z (s + z) marks a b pos lt (λ (f : ℕ) (h1 : s + z + f * z < b) (h2 : a < s + z + f * z + z). each (suc f) (omega arith) (omega arith)) in
+    let met : a < s + z → s < b → arrived z s (m ∷ marks) a b ≡ true = λ (h2 : a < s + z) (h1 : s < b).
+    let first : m ≡ true = each 0 (omega arith) (omega arith) in
+    rw (lt-ltb a (s + z) h2, lt-ltb s b h1, first, ih) refl in
+    elim (cases_lt a (s + z)) [
+      | inl h2 ↦ elim (cases_lt s b) [ inl h1 ↦ met h2 h1 | inr c ↦ rw (meets_no_behind s (s + z) a b c, ih) refl ]
+      | inr c ↦ rw (meets_no_before s (s + z) a b c, ih) refl
+    ]
+
+-- What arrived is what has all zones of its span.
+pub arrived_with_span : (z a b : ℕ) (marks : List Bool) → 0 < z → a < b → (arrived z 0 marks a b ≡ true) ↔ ((f : ℕ) → IsInSpan z a b f → get_or marks f false ≡ true)
+arrived_with_span z a b marks pos lt = (
+  (λ ok f h. arrived_says z 0 marks a b ok f (omega (arith, h.0)) (omega (arith, h.1))),
+  (λ each. arrived_from z 0 marks a b pos lt (λ f h1 h2. each f (omega arith, omega arith))),
+)

@@ -1,0 +1,17 @@
+use Rattle.std.proofs.Common.{◌≡◌, ◌≤◌, ◌-◌, ◌++◌, length, drop}
+use Rattle.mpdu.specs.Reading.{scan}
+use Rattle.mpdu.specs.Feeding.{octets_of_each}
+use Rattle.mpdu.proofs.reassembler.cut.Given as goal
+
+abbrev pub invariant-loop-rest : goal.invariant-loop-rest
+invariant-loop-rest l = record {
+  shorter : length l.rest ≤ length l.bytes;
+  behind : l.rest ≡ drop (length l.bytes - length l.rest) l.bytes;
+  begun : (scan (length l.bytes) l.bytes).begun ≡ (scan (length l.rest) l.rest).begun;
+  bad : (scan (length l.bytes) l.bytes).bad ≡ (scan (length l.rest) l.rest).bad;
+  out : octets_of_each l.initial.out.items ++ (scan (length l.bytes) l.bytes).out ≡ octets_of_each l.out.items ++ (scan (length l.rest) l.rest).out;
+  grown : length (octets_of_each l.initial.out.items) ≤ length (octets_of_each l.out.items);
+}
+
+abbrev pub decreases-loop-rest : goal.decreases-loop-rest
+decreases-loop-rest l = length l.rest

@@ -1,0 +1,6 @@
+pub mod Stream
+pub mod Reading
+pub mod Feeding
+pub mod Packing
+pub mod Carrying
+pub mod Places

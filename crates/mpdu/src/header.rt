@@ -1,0 +1,67 @@
+//! What the primary header in front of some octets says (CCSDS 133.0-B-2, 4.1.3), also where its packet isn't all there.
+ghost use Rattle.std.specs.Prelude.{◌≡◌, ◌≤◌, ◌↔◌, IsTrue, length, drop, vec_capacity};
+ghost use Rattle.mpdu.specs.Stream.{IsPacket, ArePackets, header_len, header_ok, is_idle};
+ghost use Rattle.mpdu.specs.Feeding.{octets_of_each};
+
+use cfd_bits::get;
+use space_packet::{IDLE_APID, decode};
+
+/// Octets of a primary header.
+pub(crate) const HEADER_LEN: usize = 6;
+
+/// Whether the octets are one whole space packet and nothing else, idle or not.
+pub fn is_packet(bytes: &[u8]) -> bool
+    ensures { IsTrue result ↔ IsPacket bytes.now }
+{
+    match decode(bytes) {
+        Ok((_, rest)) => rest.is_empty(),
+        Err(_) => false,
+    }
+}
+
+/// Whether each item is one whole space packet, idle or not.
+pub fn are_packets(packets: &[Vec<u8>]) -> bool
+    ensures { IsTrue result ↔ ArePackets (octets_of_each packets.now) }
+{
+    for packet in packets {
+        if !is_packet(packet) {
+            return false;
+        }
+    }
+    true
+}
+
+/// The octets of the packet that begins here, 7 to 65,542.
+pub(crate) fn packet_len(bytes: &[u8]) -> usize
+    requires { 6 ≤ length bytes.now }
+    ensures told { result ≡ header_len bytes.now }
+    ensures long { 7 ≤ result }
+    ensures short { result ≤ 65542 }
+{
+    get(bytes, 32, 16) as usize + 7
+}
+
+pub(crate) fn has_good_version(bytes: &[u8]) -> bool
+    requires { 6 ≤ length bytes.now }
+    ensures { result ≡ header_ok bytes.now }
+{
+    get(bytes, 0, 3) == 0
+}
+
+pub(crate) fn has_idle_apid(bytes: &[u8]) -> bool
+    requires { 6 ≤ length bytes.now }
+    ensures { result ≡ is_idle bytes.now }
+{
+    get(bytes, 5, 11) as u16 == IDLE_APID
+}
+
+/// Removes the first `count` octets, and keeps the room.
+pub(crate) fn drop_front(octets: &mut Vec<u8>, count: usize)
+    requires { count ≤ length octets.old.items }
+    ensures items { octets.new.items ≡ drop count octets.old.items }
+    ensures capacity { vec_capacity octets.new ≡ vec_capacity octets.old }
+{
+    let left = octets.len() - count;
+    octets.copy_within(count.., 0);
+    octets.truncate(left);
+}

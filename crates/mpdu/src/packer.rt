@@ -1,0 +1,201 @@
+//! Packets into zones.
+ghost use Rattle.std.specs.Prelude.{◌≡◌, ℕ, ◌+◌, ◌-◌, ◌<◌, ◌≤◌, ◌↔◌, ◌⊎◌, ◌++◌, List, [], ◌∷◌, false, true, length, take, drop, IfOk, OnOk, OnErr, IsErr, IsNone, IfNone, IfSome, vec_capacity};
+ghost use Rattle.mpdu.specs.Stream.{IsPacket, stream};
+ghost use Rattle.mpdu.specs.Reading.{pointer_after};
+ghost use Rattle.mpdu.specs.Packing.{Packing, skip, IsAt, ZoneOf, idle_packet, flush_of};
+
+use crate::header::{HEADER_LEN, drop_front, packet_len};
+use crate::{MAX_ZONE, NO_START};
+use space_packet::encode_idle;
+use std::alloc::{AllocError, Global};
+use std::marker::Model;
+
+/// Octets of the shortest packet.
+const MIN_PACKET: usize = 7;
+
+/// Octets that a packer keeps beside its capacity, for what a flush adds.
+const FLUSH_ROOM: usize = 2047;
+
+/// There is no room for the packet.
+#[derive(Clone, Copy, Debug, PartialEq, Eq)]
+pub struct Full;
+
+/// The first start at `size` or behind it, going by the headers from the start `first`.
+fn next_first(bytes: &[u8], first: usize, size: usize) -> usize
+    requires { size ≤ 2040 }
+    ensures { result ≡ skip size size first bytes.now }
+{
+    let mut at = first;
+    while at < size && at + HEADER_LEN <= bytes.len() {
+        at += packet_len(&bytes[at..]);
+    }
+    at
+}
+
+/// Writes an idle packet of `len` octets behind what is there, where there is room for it.
+fn append_idle(octets: &mut Vec<u8>, len: usize)
+    requires least { 7 ≤ len }
+    requires most { len ≤ 2040 }
+    requires room { length octets.old.items + len ≤ vec_capacity octets.old }
+    ensures items { octets.new.items ≡ octets.old.items ++ idle_packet len }
+    ensures len { length octets.new.items ≡ length octets.old.items + len }
+    ensures capacity { vec_capacity octets.old ≤ vec_capacity octets.new }
+{
+    let mut packet = [0; MAX_ZONE];
+    encode_idle(len, &mut packet);
+    let _ = octets.extend_from_slice(&packet[..len]);
+}
+
+/// Lays packets end to end over zones of one size, and lends each zone's first header pointer.
+///
+/// All octets that wait lie in one buffer, made with it: beside the capacity 2,047 octets for what `flush` adds. So no call takes memory.
+#[derive(Drop)]
+pub struct Packer {
+    size: usize,
+    capacity: usize,
+    waiting: Vec<u8>,
+    first: usize,
+    flushed: bool,
+}
+
+impl Model for Packer {
+    ghost Value = { Packing };
+
+    ghost view = { λ s. record { size = s.size; capacity = s.capacity; waiting = s.waiting.items; first = s.first; flushed = s.flushed } };
+
+    ghost invariant = { λ s. (16 ≤ s.size) × (s.size ≤ 2040) × (length s.waiting.items ≤ s.capacity + 2047) × (s.capacity + 2047 ≤ vec_capacity s.waiting) × (s.flushed ≡ false → length s.waiting.items ≤ s.capacity) };
+}
+
+impl Packer {
+    /// A packer of zones of `zone` octets (16 to 2,040) that holds `capacity` octets at most (up to 131,072), none of them yet.
+    ///
+    /// `AllocError` comes only where its buffer was refused.
+    pub fn new(alloc: Global, zone: usize, capacity: usize) -> Result<Self, AllocError>
+        requires least { 16 ≤ zone }
+        requires most { zone ≤ 2040 }
+        requires capacity { capacity ≤ 131072 }
+        ensures { IfOk result (λ p. p ≡ record { size = zone; capacity = capacity; waiting = []; first = 0; flushed = false }) }
+    {
+        Ok(Packer {
+            size: zone,
+            capacity,
+            waiting: Vec::with_capacity(alloc, capacity + FLUSH_ROOM)?,
+            first: 0,
+            flushed: false,
+        })
+    }
+
+    /// The octets that wait: those given to it, by packets and flushes, and not yet taken by zones.
+    pub fn waiting_len(&self) -> usize
+        ensures len { result ≡ length self.now.waiting }
+        ensures most { result ≤ self.now.capacity + 2047 }
+    {
+        let _ = &self.capacity;
+        self.waiting.len()
+    }
+
+    /// The octets of the longest packet for which there is room.
+    pub fn room(&self) -> usize
+        ensures { result ≡ self.now.capacity - length self.now.waiting }
+    {
+        self.capacity.saturating_sub(self.waiting.len())
+    }
+
+    /// Puts a packet behind the others, or tells that there is no room for it: that the waiting octets with its own pass the capacity.
+    ///
+    /// The packet is a whole one, which [`is_packet`](crate::is_packet) tests. Where it answers `Full` nothing changed.
+    pub fn push(&mut self, packet: &[u8]) -> Result<(), Full>
+        requires { IsPacket packet.now }
+        ensures full { IsErr result ↔ (self.old.capacity < length self.old.waiting + length packet.now) }
+        ensures err { OnErr result (self.new ≡ self.old) }
+        ensures fixed { (self.new.size ≡ self.old.size) × (self.new.capacity ≡ self.old.capacity) }
+        ensures unflushed { OnOk result (self.new.flushed ≡ false) }
+        ensures len { OnOk result (length self.new.waiting ≡ length self.old.waiting + length packet.now) }
+
+        // Its stream is then longer by the packet.
+        ensures stream { (ps : List (List ℕ)) (taken : ℕ) → IsAt self.old ps taken → OnOk result (IsAt self.new (ps ++ packet.now ∷ []) taken) }
+    {
+        self.append(packet)
+    }
+
+    fn append(&mut self, packet: &[u8]) -> Result<(), Full>
+        requires { 1 ≤ length packet.now }
+        ensures full { IsErr result ↔ (self.old.capacity < length self.old.waiting + length packet.now) }
+        ensures err { OnErr result (self.new ≡ self.old) }
+        ensures ok { OnOk result (self.new ≡ record self.old { waiting = self.old.waiting ++ packet.now; flushed = false }) }
+    {
+        if packet.len() > self.room() {
+            return Err(Full);
+        }
+        let _ = self.waiting.extend_from_slice(packet);
+        self.flushed = false;
+        Ok(())
+    }
+
+    /// Writes the oldest whole zone, takes it off, and answers its first header pointer; `None` where no whole zone waits.
+    pub fn zone(&mut self, out: &mut [u8]) -> Option<u16>
+        requires { length out.old ≡ self.old.size }
+        ensures none { IsNone result ↔ (length self.old.waiting < self.old.size) }
+        ensures kept { IfNone result ((self.new ≡ self.old) × (out.new ≡ out.old)) }
+
+        // It is the stream's zone behind those taken, and one more is taken then.
+        ensures stream { (ps : List (List ℕ)) (taken : ℕ) → IsAt self.old ps taken → IfSome result (λ at.
+            ZoneOf ps taken self.old.size at out.new × IsAt self.new ps (taken + 1)) }
+        ensures flag { self.new.flushed ≡ self.old.flushed }
+        ensures fixed { (self.new.size ≡ self.old.size) × (self.new.capacity ≡ self.old.capacity) }
+        ensures shorter { IfSome result (λ at. length self.new.waiting + self.old.size ≡ length self.old.waiting) }
+    {
+        if self.waiting.len() < self.size {
+            return None;
+        }
+        Some(self.take_zone(out))
+    }
+
+    fn take_zone(&mut self, out: &mut [u8]) -> u16
+        requires room { length out.old ≡ self.old.size }
+        requires whole { self.old.size ≤ length self.old.waiting }
+        ensures pointer { result ≡ pointer_after self.old.size self.old.first }
+        ensures octets { out.new ≡ take self.old.size self.old.waiting }
+        ensures rest { self.new ≡ record self.old { waiting = drop self.old.size self.old.waiting; first = skip self.old.size self.old.size self.old.first self.old.waiting - self.old.size } }
+    {
+        out.copy_from_slice(&self.waiting[..self.size]);
+        let pointer = if self.first < self.size {
+            self.first as u16
+        } else {
+            NO_START
+        };
+        let next = next_first(&self.waiting, self.first, self.size);
+        self.first = next.saturating_sub(self.size);
+        drop_front(&mut self.waiting, self.size);
+        pointer
+    }
+
+    /// Fills the begun zone by an idle packet, where one is begun.
+    ///
+    /// Of r free octets the idle packet has r, or 7 where r is less: its rest opens the next zone then. A zone that holds nothing, or only
+    /// such a rest, isn't begun: a second flush adds nothing.
+    pub fn flush(&mut self)
+        // Its stream is then longer by the idle packet, or as it was.
+        ensures stream { (ps : List (List ℕ)) (taken : ℕ) → IsAt self.old ps taken → IsAt self.new (ps ++ flush_of self.old) taken }
+        ensures fixed { (self.new.size ≡ self.old.size) × (self.new.capacity ≡ self.old.capacity) }
+        ensures once { flush_of self.new ≡ [] }
+        ensures flushed { (self.new ≡ self.old) ⊎ (self.new ≡ record self.old { waiting = self.old.waiting ++ stream (flush_of self.old); flushed = true }) }
+    {
+        let _ = &self.size;
+        self.fill();
+    }
+
+    fn fill(&mut self)
+        ensures fixed { (self.new.size ≡ self.old.size) × (self.new.capacity ≡ self.old.capacity) }
+        ensures same { flush_of self.old ≡ [] → self.new ≡ self.old }
+        ensures more { (n : ℕ) → flush_of self.old ≡ idle_packet n ∷ [] → self.new ≡ record self.old { waiting = self.old.waiting ++ idle_packet n; flushed = true } }
+    {
+        let begun = self.waiting.len() % self.size;
+        if self.flushed || begun == 0 {
+            return;
+        }
+        let free = self.size - begun;
+        append_idle(&mut self.waiting, free.max(MIN_PACKET));
+        self.flushed = true;
+    }
+}
