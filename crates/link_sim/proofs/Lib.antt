@@ -12,3 +12,4 @@ pub mod WorldSound
 pub mod WorkLemmas
 pub mod WorldSteps
 pub mod Runs
+pub mod Rows

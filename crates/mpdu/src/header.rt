@@ -61,6 +61,9 @@ pub(crate) fn drop_front(octets: &mut Vec<u8>, count: usize)
     ensures items { octets.new.items ≡ drop count octets.old.items }
     ensures capacity { vec_capacity octets.new ≡ vec_capacity octets.old }
 {
+    if count == 0 {
+        return;
+    }
     let left = octets.len() - count;
     octets.copy_within(count.., 0);
     octets.truncate(left);

@@ -46,6 +46,21 @@ fn append_idle(octets: &mut Vec<u8>, len: usize)
     let _ = octets.extend_from_slice(&packet[..len]);
 }
 
+// Moves what waits behind the octets that were taken to the buffer's start, where so many more octets do not fit behind it.
+fn make_room(octets: &mut Vec<u8>, taken: &mut usize, count: usize)
+    requires { taken.old ≤ length octets.old.items }
+    ensures waiting { drop taken.new octets.new.items ≡ drop taken.old octets.old.items }
+    ensures taken { taken.new ≤ length octets.new.items }
+    ensures len { length octets.new.items + taken.old ≡ length octets.old.items + taken.new }
+    ensures capacity { vec_capacity octets.new ≡ vec_capacity octets.old }
+    ensures room { (length octets.new.items + count ≤ vec_capacity octets.new) ⊎ (taken.new ≡ 0) }
+{
+    if octets.capacity() - octets.len() < count {
+        drop_front(octets, *taken);
+        *taken = 0;
+    }
+}
+
 /// Lays packets end to end over zones of one size, and lends each zone's first header pointer.
 ///
 /// All octets that wait lie in one buffer, made with it: beside the capacity 2,047 octets for what `flush` adds. So no call takes memory.
@@ -53,7 +68,9 @@ fn append_idle(octets: &mut Vec<u8>, len: usize)
 pub struct Packer {
     size: usize,
     capacity: usize,
+    // behind the octets that were taken: moving the others at each zone would cost more the more wait
     waiting: Vec<u8>,
+    taken: usize,
     first: usize,
     flushed: bool,
 }
@@ -61,9 +78,9 @@ pub struct Packer {
 impl Model for Packer {
     ghost Value = { Packing };
 
-    ghost view = { λ s. record { size = s.size; capacity = s.capacity; waiting = s.waiting.items; first = s.first; flushed = s.flushed } };
+    ghost view = { λ s. record { size = s.size; capacity = s.capacity; waiting = drop s.taken s.waiting.items; first = s.first; flushed = s.flushed } };
 
-    ghost invariant = { λ s. (16 ≤ s.size) × (s.size ≤ 2040) × (length s.waiting.items ≤ s.capacity + 2047) × (s.capacity + 2047 ≤ vec_capacity s.waiting) × (s.flushed ≡ false → length s.waiting.items ≤ s.capacity) };
+    ghost invariant = { λ s. (16 ≤ s.size) × (s.size ≤ 2040) × (s.taken ≤ length s.waiting.items) × (length s.waiting.items ≤ s.taken + s.capacity + 2047) × (s.capacity + 2047 ≤ vec_capacity s.waiting) × (s.flushed ≡ false → length s.waiting.items ≤ s.taken + s.capacity) };
 }
 
 impl Packer {
@@ -80,6 +97,7 @@ impl Packer {
             size: zone,
             capacity,
             waiting: Vec::with_capacity(alloc, capacity + FLUSH_ROOM)?,
+            taken: 0,
             first: 0,
             flushed: false,
         })
@@ -91,14 +109,15 @@ impl Packer {
         ensures most { result ≤ self.now.capacity + 2047 }
     {
         let _ = &self.capacity;
-        self.waiting.len()
+        self.waiting.len() - self.taken
     }
 
     /// The octets of the longest packet for which there is room.
     pub fn room(&self) -> usize
         ensures { result ≡ self.now.capacity - length self.now.waiting }
     {
-        self.capacity.saturating_sub(self.waiting.len())
+        self.capacity
+            .saturating_sub(self.waiting.len() - self.taken)
     }
 
     /// Puts a packet behind the others, or tells that there is no room for it: that the waiting octets with its own pass the capacity.
@@ -127,6 +146,7 @@ impl Packer {
         if packet.len() > self.room() {
             return Err(Full);
         }
+        make_room(&mut self.waiting, &mut self.taken, packet.len());
         let _ = self.waiting.extend_from_slice(packet);
         self.flushed = false;
         Ok(())
@@ -145,7 +165,7 @@ impl Packer {
         ensures fixed { (self.new.size ≡ self.old.size) × (self.new.capacity ≡ self.old.capacity) }
         ensures shorter { IfSome result (λ at. length self.new.waiting + self.old.size ≡ length self.old.waiting) }
     {
-        if self.waiting.len() < self.size {
+        if self.waiting_len() < self.size {
             return None;
         }
         Some(self.take_zone(out))
@@ -158,15 +178,16 @@ impl Packer {
         ensures octets { out.new ≡ take self.old.size self.old.waiting }
         ensures rest { self.new ≡ record self.old { waiting = drop self.old.size self.old.waiting; first = skip self.old.size self.old.size self.old.first self.old.waiting - self.old.size } }
     {
-        out.copy_from_slice(&self.waiting[..self.size]);
+        let waiting = &self.waiting[self.taken..];
+        out.copy_from_slice(&waiting[..self.size]);
         let pointer = if self.first < self.size {
             self.first as u16
         } else {
             NO_START
         };
-        let next = next_first(&self.waiting, self.first, self.size);
+        let next = next_first(waiting, self.first, self.size);
         self.first = next.saturating_sub(self.size);
-        drop_front(&mut self.waiting, self.size);
+        self.taken += self.size;
         pointer
     }
 
@@ -190,12 +211,13 @@ impl Packer {
         ensures same { flush_of self.old ≡ [] → self.new ≡ self.old }
         ensures more { (n : ℕ) → flush_of self.old ≡ idle_packet n ∷ [] → self.new ≡ record self.old { waiting = self.old.waiting ++ idle_packet n; flushed = true } }
     {
-        let begun = self.waiting.len() % self.size;
+        let begun = (self.waiting.len() - self.taken) % self.size;
         if self.flushed || begun == 0 {
             return;
         }
-        let free = self.size - begun;
-        append_idle(&mut self.waiting, free.max(MIN_PACKET));
+        let free = (self.size - begun).max(MIN_PACKET);
+        make_room(&mut self.waiting, &mut self.taken, free);
+        append_idle(&mut self.waiting, free);
         self.flushed = true;
     }
 }
