@@ -1,4 +1,4 @@
--- Rows of the two machines, computed: what the step functions answer where the answer was worked out by hand.
+-- Rows, computed: what the definitions of the two machines and of the theorem answer where the answer was worked out by hand.
 use Rattle.std.proofs.Common.{◌≡◌, ℕ, Bool, List, [], ◌∷◌, Option, Some, None, refl}
 use Rattle.std.specs.FinMap.{empty, insert}
 use Rattle.cfdp_header.specs.declared.value.TransactionId.{TransactionId}
@@ -9,7 +9,8 @@ use Rattle.cfdp_directives.specs.declared.codes.Acknowledged.TheVariants as ackn
 use Rattle.cfdp_directives.specs.declared.indication.Indication.{Indication}
 use Rattle.cfdp_directives.specs.declared.indication.Indication.TheVariants as indication
 use Rattle.cfdp_directives.specs.Content.{Content, FileData, Metadata, Eof, Finished, Ack}
-use Rattle.cfdp_directives.specs.Put.{Files}
+use Rattle.cfdp_directives.specs.Put.{Files, Put, IsTruthful, inbox_after}
+use Rattle.cfdp_directives.specs.Completions.{completions}
 use Rattle.cfdp_directives.specs.Checksum as checksums
 use Rattle.link_sim.specs.declared.receiver.Receiver.{Receiver}
 use Rattle.link_sim.specs.declared.receiver.FileInfo.{FileInfo}
@@ -22,6 +23,10 @@ use Rattle.link_sim.specs.declared.sender.SenderPhase.TheVariants as sender_phas
 use Rattle.link_sim.specs.declared.sender.SenderDue.TheVariants as sender_dues
 use Rattle.link_sim.specs.Held.{Held, holds_below, holds_from, front, with_data}
 use Rattle.link_sim.specs.Receiver.{receiver_hears, receiver_due, receiver_says, receiver_taken, opening_phase}
+use Rattle.link_sim.specs.declared.event.Mark.TheVariants.{Delivered, Struck}
+use Rattle.link_sim.specs.declared.event.AcceptedPut.{AcceptedPut}
+use Rattle.link_sim.specs.Link.{waiting}
+use Rattle.link_sim.specs.Theorem.{delivered, accepted_as}
 use Rattle.link_sim.specs.Sender.{opened_sender, sender_due, sender_taken, sender_hears}
 
 abbrev id : TransactionId
@@ -246,3 +251,50 @@ finished_due = refl
 
 finished_again : (sender_hears (Finished 0 Complete Retained) closed).told ≡ []
 finished_again = refl
+
+-- a receiver's complete Finished is a completion there; a fault, and what the sender is told, are none
+completes : completions 2 (indication.EofRecv id ∷ indication.Finished id 0 Complete Retained ∷ []) ≡ id ∷ []
+completes = refl
+
+fault_completes_nothing : completions 2 (indication.Fault id 5 ∷ indication.Finished id 5 Incomplete Discarded ∷ []) ≡ []
+fault_completes_nothing = refl
+
+sender_completes_nothing : completions 1 (indication.EofSent id ∷ indication.Finished id 0 Complete Retained ∷ []) ≡ []
+sender_completes_nothing = refl
+
+-- of three PDUs one was struck and one waits
+delivered_alone : delivered ((1 ∷ []) ∷ (2 ∷ []) ∷ (3 ∷ []) ∷ []) (Struck ∷ Delivered ∷ []) ≡ (2 ∷ []) ∷ []
+delivered_alone = refl
+
+waits : waiting (record { pdus = (1 ∷ []) ∷ (2 ∷ []) ∷ (3 ∷ []) ∷ []; marks = Struck ∷ Delivered ∷ [] }) ≡ Some (3 ∷ [])
+waits = refl
+
+-- the put of the file, and another id
+abbrev accepted : AcceptedPut
+accepted = record { id = id; source = 97 ∷ []; destination = 98 ∷ [] }
+
+accepted_by_id : accepted_as (accepted ∷ []) id ≡ Some accepted
+accepted_by_id = refl
+
+not_accepted : accepted_as (accepted ∷ []) (record { source = 1; number = 2 }) ≡ None
+not_accepted = refl
+
+abbrev put : Put
+put = record { id = id; source = 97 ∷ []; destination = 98 ∷ []; octets = file; checksum_kind = 0 }
+
+-- its file is what a completion leaves in the inbox, under the destination name
+inbox : (first : Files) → inbox_after (λ of. Some put) first (id ∷ []) ≡ insert first (98 ∷ []) file
+inbox first = refl
+
+truthful_data : IsTruthful put last_data
+truthful_data = refl
+
+truthful_metadata : IsTruthful put metadata
+truthful_metadata = (refl, refl, refl, refl)
+
+truthful_eof : IsTruthful put eof
+unfolding checksums.word_sum
+truthful_eof no_error = (refl, refl)
+
+untruthful_data : IsTruthful put (FileData 1 (33 ∷ [])) → ◌≡◌ {A = List ℕ} (33 ∷ []) (105 ∷ [])
+untruthful_data same = same
