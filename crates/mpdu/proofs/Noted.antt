@@ -87,7 +87,7 @@ joined ps marks held at octets lo is =
     subst (λ (l : List ℕ). Joins z l at octets) (sym is.as_left) j2
 
 -- A stream's pointers are usable, and none is that of idle data.
-usable : (z e a : ℕ) (ps : List (List ℕ)) → z ≤ 2040 → (is_usable z (first_header_pointer z e a ps) ≡ true) × ((first_header_pointer z e a ps == 2046) ≡ false)
+pub usable : (z e a : ℕ) (ps : List (List ℕ)) → z ≤ 2040 → (is_usable z (first_header_pointer z e a ps) ≡ true) × ((first_header_pointer z e a ps == 2046) ≡ false)
 usable z e a [] most = (rw (le-ltb 2047 z (omega arith)) refl, refl)
 usable z e a (p ∷ ps) most =
     let G : Type 0 = (is_usable z (first_header_pointer z e a (p ∷ ps)) ≡ true) × ((first_header_pointer z e a (p ∷ ps) == 2046) ≡ false) in

@@ -129,6 +129,7 @@ impl Packer {
         ensures err { OnErr result (self.new ≡ self.old) }
         ensures fixed { (self.new.size ≡ self.old.size) × (self.new.capacity ≡ self.old.capacity) }
         ensures unflushed { OnOk result (self.new.flushed ≡ false) }
+        ensures waiting { OnOk result (self.new.waiting ≡ self.old.waiting ++ packet.now) }
         ensures len { OnOk result (length self.new.waiting ≡ length self.old.waiting + length packet.now) }
 
         // Its stream is then longer by the packet.
@@ -161,6 +162,8 @@ impl Packer {
         // It is the stream's zone behind those taken, and one more is taken then.
         ensures stream { (ps : List (List ℕ)) (taken : ℕ) → IsAt self.old ps taken → IfSome result (λ at.
             ZoneOf ps taken self.old.size at out.new × IsAt self.new ps (taken + 1)) }
+        ensures octets { IfSome result (λ at. out.new ≡ take self.old.size self.old.waiting) }
+        ensures rest { IfSome result (λ at. self.new.waiting ≡ drop self.old.size self.old.waiting) }
         ensures flag { self.new.flushed ≡ self.old.flushed }
         ensures fixed { (self.new.size ≡ self.old.size) × (self.new.capacity ≡ self.old.capacity) }
         ensures shorter { IfSome result (λ at. length self.new.waiting + self.old.size ≡ length self.old.waiting) }
@@ -200,6 +203,9 @@ impl Packer {
         ensures stream { (ps : List (List ℕ)) (taken : ℕ) → IsAt self.old ps taken → IsAt self.new (ps ++ flush_of self.old) taken }
         ensures fixed { (self.new.size ≡ self.old.size) × (self.new.capacity ≡ self.old.capacity) }
         ensures once { flush_of self.new ≡ [] }
+        ensures same { flush_of self.old ≡ [] → self.new ≡ self.old }
+        ensures waiting { self.new.waiting ≡ self.old.waiting ++ stream (flush_of self.old) }
+        ensures most { length self.new.waiting ≤ self.new.capacity + 2047 }
         ensures flushed { (self.new ≡ self.old) ⊎ (self.new ≡ record self.old { waiting = self.old.waiting ++ stream (flush_of self.old); flushed = true }) }
     {
         let _ = &self.size;
@@ -208,6 +214,7 @@ impl Packer {
 
     fn fill(&mut self)
         ensures fixed { (self.new.size ≡ self.old.size) × (self.new.capacity ≡ self.old.capacity) }
+        ensures most { length self.new.waiting ≤ self.new.capacity + 2047 }
         ensures same { flush_of self.old ≡ [] → self.new ≡ self.old }
         ensures more { (n : ℕ) → flush_of self.old ≡ idle_packet n ∷ [] → self.new ≡ record self.old { waiting = self.old.waiting ++ idle_packet n; flushed = true } }
     {

@@ -152,6 +152,13 @@ impl Reassembler {
         }
     }
 
+    /// Lets the begun packet go, where there is one. It takes no memory.
+    pub fn let_go(&mut self)
+        ensures { self.new ≡ [] }
+    {
+        self.begun.clear();
+    }
+
     /// Reads one zone, and may leave anything of it held where memory is wanting.
     fn read_zone(
         &mut self,

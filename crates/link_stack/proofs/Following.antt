@@ -1,0 +1,66 @@
+-- What the monitor of frame counts tells.
+use Rattle.std.proofs.Common.{◌≡◌, ◌≢◌, ℕ, zero, suc, ◌+◌, ◌-◌, ◌%◌, ◌<◌, ◌==◌, ◌&&◌, not, Bool, true, false, List, [], Option, Some, None, IfSome, refl, sym, ap, subst, ◌∙◌, inl, inr, arith}
+use Rattle.std.proofs.lemmas.Bool.{cases_Bool, eq-eqb, eqb-true, ne_eqb}
+use Rattle.aos_frame.specs.Counts.{frame_counts, AreMissing, continuity}
+use Rattle.aos_frame.specs.declared.count.Continuity.{Continuity}
+use Rattle.aos_frame.specs.declared.count.Continuity.TheVariants.{Follows, Gap}
+use Rattle.mpdu.specs.Reading.{held_at, is_some}
+use Rattle.link_stack.specs.Upward.{follows}
+
+some_missing : (last count : ℕ) → count < frame_counts → (n : ℕ) × AreMissing last count n
+some_missing last count h = ((count + (frame_counts - (last + 1) % frame_counts)) % frame_counts, record { below = omega arith; reached = omega arith })
+
+follows_so : (last count n : ℕ) → AreMissing last count n → Follows ≡ continuity n → true ≡ ((last + 1) % frame_counts == count)
+follows_so last count zero is e =
+    let same : (last + 1) % frame_counts ≡ count = omega (arith, is.reached) in
+    sym (eq-eqb ((last + 1) % frame_counts) count same)
+follows_so last count (suc n) is e = absurd cc
+
+pub told_follows : (last : Option ℕ) (count : ℕ) → count < frame_counts → IfSome last (λ l. (n : ℕ) → AreMissing l count n → Follows ≡ continuity n) → true ≡ follows last count
+told_follows None count h told = refl
+told_follows (Some l) count h told = let n = some_missing l count h in follows_so l count n.0 n.1 (told n.0 n.1)
+
+pub told_gap : (last : Option ℕ) (count gap : ℕ) → count < frame_counts → (last ≡ None → Gap gap ≡ Follows) → IfSome last (λ l. (n : ℕ) → AreMissing l count n → Gap gap ≡ continuity n) → false ≡ follows last count
+told_gap None count gap h first told = absurd (let e : Gap gap ≡ Follows = first refl in cc)
+told_gap (Some l) count gap h first told =
+    elim (cases_Bool ((l + 1) % frame_counts == count)) [
+      | inl e ↦ absurd (
+          let same : (l + 1) % frame_counts ≡ count = eqb-true _ _ e in
+          let bad : Gap gap ≡ Follows = told 0 (record { below = omega arith; reached = omega (arith, same) }) in cc)
+      | inr e ↦ sym e
+    ]
+
+nothing_held : (a b : Bool) → held_at a [] ≡ held_at b []
+nothing_held true true = refl
+nothing_held true false = refl
+nothing_held false true = refl
+nothing_held false false = refl
+
+nothing_let_go : (a b : Bool) → (not a && is_some []) ≡ (not b && is_some [])
+nothing_let_go true true = refl
+nothing_let_go true false = refl
+nothing_let_go false true = refl
+nothing_let_go false false = refl
+
+-- Of the counts of frames in order it follows where none is missed.
+follows_some : (last count n taken missed : ℕ) → missed < frame_counts → last ≡ n % frame_counts → taken ≡ n + 1 + missed → count ≡ taken % frame_counts → ((last + 1) % frame_counts == count) ≡ (missed == 0)
+follows_some last count n taken zero few e f g =
+    let same : (last + 1) % frame_counts ≡ count = omega (arith, e, f, g) in
+    eq-eqb ((last + 1) % frame_counts) count same
+follows_some last count n taken (suc m) few e f g =
+    let other : (last + 1) % frame_counts ≡ count → ⊥ = λ (same : (last + 1) % frame_counts ≡ count). omega (arith, e, f, g, same) in
+    let some : suc m ≡ 0 → ⊥ = λ (z : suc m ≡ 0). omega (arith, z) in
+    ne_eqb ((last + 1) % frame_counts) count other ∙ sym (ne_eqb (suc m) 0 some)
+
+pub held_follows : (last : Option ℕ) (count taken missed : ℕ) (begun : List ℕ) → missed < frame_counts → IfSome last (λ l. (n : ℕ) × (l ≡ n % frame_counts) × (taken ≡ n + 1 + missed)) → (last ≡ None → begun ≡ []) → count ≡ taken % frame_counts →
+    (held_at (follows last count) begun ≡ held_at (missed == 0) begun) × ((not (follows last count) && is_some begun) ≡ (not (missed == 0) && is_some begun))
+held_follows None count taken missed begun few seen unseen e =
+    let none : begun ≡ [] = unseen refl in (
+      rw none (nothing_held true (missed == 0)),
+      rw none (nothing_let_go true (missed == 0)),
+    )
+held_follows (Some l) count taken missed begun few seen unseen e =
+    let same : follows (Some l) count ≡ (missed == 0) = follows_some l count seen.0 taken missed few seen.1 seen.2 e in (
+      ap (λ b. held_at b begun) same,
+      ap (λ b. not b && is_some begun) same,
+    )

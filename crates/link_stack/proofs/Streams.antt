@@ -1,0 +1,157 @@
+-- The frames of a stream, taken in order.
+use Rattle.std.proofs.Common.{◌≡◌, ℕ, zero, suc, ◌+◌, ◌-◌, ◌*◌, ◌%◌, ◌<◌, ◌≤◌, ◌==◌, ◌&&◌, not, if◌then◌else◌, Bool, true, false, Option, Some, None, IfSome, List, [], ◌∷◌, ◌++◌, ◌⊎◌, length, take, drop, map, refl, sym, ap, subst, ◌∙◌, inl, inr, arith, length-append}
+use Rattle.std.proofs.lemmas.Bool.{cases_Bool}
+use Rattle.cfd_bits.specs.Field.{field}
+use Rattle.aos_frame.specs.Counts.{frame_counts}
+use Rattle.aos_frame.specs.Frame.{IsLink, frame_fault}
+use Rattle.aos_frame.specs.declared.config.LinkConfig.{LinkConfig}
+use Rattle.mpdu.specs.Stream.{ArePackets, stream, zone, first_header_pointer, begun, survivors, arrived, keep, is_idle}
+use Rattle.mpdu.specs.Reading.{step, held_at, resync, bad_count, is_some}
+use Rattle.mpdu.specs.Feeding.{IsNext}
+use Rattle.mpdu.proofs.Zone.{FedRight}
+use Rattle.mpdu.proofs.Taken.{next_right}
+use Rattle.mpdu.proofs.Noted.{resync_is, bad_is}
+use Rattle.mpdu.proofs.Struck.{begun-struck}
+use Rattle.link_stack.specs.declared.drops.LinkDrop.TheVariants.{NoMemory}
+use Rattle.link_stack.specs.Frames.{packet_drop, AreOfLink}
+use Rattle.link_stack.specs.Drops.{counted, all_counted}
+use Rattle.link_stack.specs.Upward.{Ascent, FrameRead, pdus_of, drops_of, with_pdu, with_drop, zone_drops, follows, idle_read, packets_read, read_unless, frame_read, Takes, TakesFront, ReadsFront, HasZone, IsUp, IsNextFrame, TakesNext, TakesPart, pdus_in}
+use Rattle.link_stack.proofs.Decoded.{IsDecoded, decoded}
+use Rattle.link_stack.proofs.Following.{held_follows}
+
+-- packets that all carry a PDU of the link
+abbrev pub AreOurs : LinkConfig → List (List ℕ) → Type 0
+AreOurs link [] = Unit {0}
+AreOurs link (p ∷ ps) = (packet_drop link p ≡ None) × AreOurs link ps
+
+ours-keep : (link : LinkConfig) (b : Bool) (p : List ℕ) (ps : List (List ℕ)) → ((is_idle p ≡ true) ⊎ (packet_drop link p ≡ None)) → AreOurs link ps → AreOurs link (keep (b && not (is_idle p)) p ps)
+ours-keep link false p ps is all = all
+ours-keep link true p ps (inr e) all =
+    elim (cases_Bool (is_idle p)) [ inl f ↦ rw f all | inr f ↦ rw f (e, all) ]
+ours-keep link true p ps (inl e) all = rw e all
+
+pub ours_survive : (link : LinkConfig) (z : ℕ) (marks : List Bool) (a : ℕ) (ps : List (List ℕ)) → AreOfLink link ps → AreOurs link (survivors z marks a ps)
+ours_survive link z marks a [] all = tt
+ours_survive link z marks a (p ∷ ps) all =
+    ours-keep link (arrived z 0 marks a (a + length p)) p (survivors z marks (a + length p) ps) all.0 (ours_survive link z marks (a + length p) ps all.1)
+
+ours-behind : (link : LinkConfig) (xs ys : List (List ℕ)) → AreOurs link (xs ++ ys) → AreOurs link ys
+ours-behind link [] ys all = all
+ours-behind link (x ∷ xs) ys all = ours-behind link xs ys all.1
+
+ours-take : (link : LinkConfig) (n : ℕ) (xs : List (List ℕ)) → AreOurs link xs → AreOurs link (take n xs)
+ours-take link zero xs all = tt
+ours-take link (suc n) [] all = tt
+ours-take link (suc n) (x ∷ xs) all = (all.0, ours-take link n xs all.1)
+
+pdus-all : (link : LinkConfig) (ps : List (List ℕ)) → AreOurs link ps → pdus_of link ps ≡ pdus_in ps
+pdus-all link [] all = refl
+pdus-all link (p ∷ ps) all = ap (λ o. with_pdu o p (pdus_of link ps)) all.0 ∙ ap (λ l. drop 6 p ∷ l) (pdus-all link ps all.1)
+
+drops-none : (link : LinkConfig) (ps : List (List ℕ)) → AreOurs link ps → drops_of link ps ≡ []
+drops-none link [] all = refl
+drops-none link (p ∷ ps) all = ap (λ o. with_drop o (drops_of link ps)) all.0 ∙ drops-none link ps all.1
+
+-- a frame of the link with packets in its zone
+packets_are_read : (up : Ascent) (frame : List ℕ) → frame_fault frame up.link ≡ None → (field (drop 6 frame) 5 11 == 2046) ≡ false →
+    frame_read up frame ≡ packets_read up (field frame 16 24) (field (drop 6 frame) 5 11) (drop 2 (drop 6 frame))
+packets_are_read up frame sound busy =
+    let count : ℕ = field frame 16 24 in
+    ap (λ e. read_unless e up frame) sound ∙ ap (λ b. if b then idle_read count else packets_read up count (field (drop 6 frame) 5 11) (drop 2 (drop 6 frame))) busy
+
+-- what is read of it
+pub record IsRight (up : Ascent) (ps : List (List ℕ)) (marks : List Bool) (missed : ℕ) (read : FrameRead) : Type 0 where
+  pub last : read.last ≡ Some (length marks % frame_counts)
+  pub held : read.begun ≡ begun up.link.zone (marks ++ true ∷ []) 0 ps
+  pub given : survivors up.link.zone (marks ++ true ∷ []) 0 ps ≡ survivors up.link.zone marks 0 ps ++ read.packets
+  pub ours : AreOurs up.link read.packets
+  pub told : read.told ≡ zone_drops (not (missed == 0) && is_some up.begun) 0
+
+pub right : (up : Ascent) (ps : List (List ℕ)) (marks : List Bool) (missed : ℕ) (frame : List ℕ) → IsLink up.link → IsUp up ps marks missed → ArePackets ps → length marks * up.link.zone + up.link.zone ≤ length (stream ps) →
+    IsDecoded up.link ps (length marks) frame → IsRight up ps marks missed (frame_read up frame)
+right up ps marks missed frame valid is whole room d =
+    let z : ℕ = up.link.zone in
+    let n : ℕ = length marks in
+    let at : ℕ = field (drop 6 frame) 5 11 in
+    let oct : List ℕ = drop 2 (drop 6 frame) in
+    let f : Bool = follows up.last (field frame 16 24) in
+    let held : List ℕ = held_at f up.begun in
+    let told = held_follows up.last (field frame 16 24) n missed up.begun is.few is.seen is.unseen d.count in
+    let P : ℕ → Type 0 = λ (k : ℕ). (held ≡ begun k marks 0 ps) × (n * k + k ≤ length (stream ps)) × (at ≡ first_header_pointer k (n * k) 0 ps) × (oct ≡ zone k (n * k) (stream ps)) in
+    let at_z : P z = (told.0 ∙ is.as_left, room, d.pointer, d.zone_is) in
+    let at_len : P (length oct) = subst P (sym d.size) at_z in
+    let next : IsNext ps marks held at oct = record { packets_whole = whole; as_left = at_len.0; inside = at_len.1; pointed = at_len.2; cut_out = at_len.3 } in
+    let lo : 6 ≤ length oct = omega (arith, d.size, valid.least_zone) in
+    let hi : length oct ≤ 2040 = omega (arith, d.size, valid.most_zone) in
+    let fed : FedRight (length oct) marks 0 ps (step (length oct) held at oct) = next_right ps marks held at oct lo hi next in
+    let given : survivors z (marks ++ true ∷ []) 0 ps ≡ survivors z marks 0 ps ++ (step (length oct) held at oct).out =
+    subst (λ (k : ℕ). survivors k (marks ++ true ∷ []) 0 ps ≡ survivors k marks 0 ps ++ (step (length oct) held at oct).out) d.size fed.given in
+    let ours : AreOurs up.link (step (length oct) held at oct).out =
+    ours-behind up.link (survivors z marks 0 ps) (step (length oct) held at oct).out (subst (λ (l : List (List ℕ)). AreOurs up.link l) given (ours_survive up.link z (marks ++ true ∷ []) 0 ps is.of_link)) in
+    let tells : zone_drops (resync (length oct) up.begun f at oct) (bad_count (length oct) held at oct) ≡ zone_drops (not (missed == 0) && is_some up.begun) 0 =
+    ap (λ b. zone_drops b (bad_count (length oct) held at oct)) (resync_is ps marks up.begun f at oct lo hi next ∙ told.1)
+    ∙ ap (λ k. zone_drops (not (missed == 0) && is_some up.begun) k) (bad_is ps marks held at oct lo hi next) in
+    let zoned : IsRight up ps marks missed (packets_read up (field frame 16 24) at oct) =
+    record { last = ap (λ k. Some k) d.count; held = fed.held ∙ ap (λ k. begun k (marks ++ true ∷ []) 0 ps) d.size; given = given; ours = ours; told = tells } in
+    subst (λ (r : FrameRead). IsRight up ps marks missed r) (sym (packets_are_read up frame d.sound d.not_idle)) zoned
+
+seen_last : (last : Option ℕ) (marks : List Bool) (b : Bool) → last ≡ Some (length marks % frame_counts) → IfSome last (λ l. (n : ℕ) × (l ≡ n % frame_counts) × (length (marks ++ b ∷ []) ≡ n + 1 + 0))
+seen_last None marks b e = tt
+seen_last (Some l) marks b e =
+    let same : l ≡ length marks % frame_counts = cc in
+    (length marks, same, omega (arith, length-append marks (b ∷ [])))
+
+pub next_taken : (up new : Ascent) (ps : List (List ℕ)) (marks : List Bool) (missed : ℕ) (frame : List ℕ) (old out : List (List ℕ)) → IsUp up ps marks missed → IsRight up ps marks missed (frame_read up frame) →
+    Takes (frame_read up frame) up new old out → TakesNext up new ps marks missed old out
+next_taken up new ps marks missed frame old out is r t =
+    let packets = (frame_read up frame).packets in
+    let known : new.last ≡ Some (length marks % frame_counts) = t.last ∙ r.last in
+    record {
+      after = record {
+        packets_whole = is.packets_whole;
+        of_link = subst (λ (l : LinkConfig). AreOfLink l ps) (sym t.link) is.of_link;
+        few = omega arith;
+        seen = seen_last new.last marks true known;
+        unseen = λ (none : new.last ≡ None). absurd (let bad : Some (length marks % frame_counts) ≡ None = sym known ∙ none in cc);
+        as_left = t.begun ∙ r.held ∙ ap (λ (l : LinkConfig). begun l.zone (marks ++ true ∷ []) 0 ps) (sym t.link);
+      };
+      added = packets;
+      completed = r.given;
+      pdus = t.pdus ∙ ap (λ l. old ++ l) (pdus-all up.link packets r.ours);
+      drops = t.drops ∙ ap (λ l. all_counted (all_counted up.drops (frame_read up frame).told) l) (drops-none up.link packets r.ours) ∙ ap (λ l. all_counted up.drops l) r.told;
+    }
+
+pub part_taken : (up new : Ascent) (ps : List (List ℕ)) (marks : List Bool) (missed : ℕ) (frame : List ℕ) (old out : List (List ℕ)) → 0 < up.link.zone → IsUp up ps marks missed → IsRight up ps marks missed (frame_read up frame) →
+    TakesFront (frame_read up frame) up new old out → TakesPart up new ps marks old out
+part_taken up new ps marks missed frame old out some is r t =
+    let packets = (frame_read up frame).packets in
+    let n : ℕ = t.front.count in
+    let known : new.last ≡ Some (length marks % frame_counts) = t.last ∙ r.last in
+    let ours : AreOurs up.link (take n packets) = ours-take up.link n packets r.ours in
+    record {
+      after = record {
+        packets_whole = is.packets_whole;
+        of_link = subst (λ (l : LinkConfig). AreOfLink l ps) (sym t.link) is.of_link;
+        few = omega arith;
+        seen = seen_last new.last marks false known;
+        unseen = λ (none : new.last ≡ None). t.front.begun;
+        as_left = t.front.begun ∙ sym (begun-struck up.link.zone marks 0 ps some) ∙ ap (λ (l : LinkConfig). begun l.zone (marks ++ false ∷ []) 0 ps) (sym t.link);
+      };
+      added = packets;
+      completed = r.given;
+      count = n;
+      pdus = t.front.pdus ∙ ap (λ l. old ++ l) (pdus-all up.link (take n packets) ours);
+      drops = t.front.drops ∙ ap (λ l. all_counted (counted up.drops NoMemory) l) (drops-none up.link (take n packets) ours);
+    }
+
+-- whichever it was
+pub taken_either : (whole : Bool) (up new : Ascent) (ps : List (List ℕ)) (marks : List Bool) (missed : ℕ) (frame : List ℕ) (old out : List (List ℕ)) → IsLink up.link → up.link.spacecraft < 256 → IsUp up ps marks missed → IsNextFrame up.link ps marks frame →
+    (whole ≡ true → Takes (frame_read up frame) up new old out) → (whole ≡ false → HasZone up.link frame × TakesFront (frame_read up frame) up new old out) →
+    TakesNext up new ps marks missed old out ⊎ TakesPart up new ps marks old out
+taken_either whole up new ps marks missed frame old out valid byte is next all front =
+    let d : IsDecoded up.link ps (length marks) frame = decoded up.link ps (length marks) frame valid byte next.inside next.octets in
+    let r : IsRight up ps marks missed (frame_read up frame) = right up ps marks missed frame valid is is.packets_whole next.inside d in
+    elim (cases_Bool whole) [
+      | inl e ↦ inl (next_taken up new ps marks missed frame old out is r (all e))
+      | inr e ↦ inr (part_taken up new ps marks missed frame old out (omega (arith, valid.least_zone)) is r (front e).1)
+    ]

@@ -1,0 +1,30 @@
+-- What is dropped on the way up, and the counts of it.
+use Rattle.std.specs.Prelude.{ℕ, ◌+◌, ◌-◌, ◌^◌, min, max, List, [], ◌∷◌, ◌==◌, if◌then◌else◌, slice_index_or, slice_set}
+use Rattle.aos_frame.specs.Frame.{refusal_number}
+use Rattle.link_stack.specs.declared.drops.LinkDrop.{LinkDrop}
+use Rattle.link_stack.specs.declared.drops.LinkDrop.TheVariants.{Frame, Resync, BadPacket, OtherApid, Segmented, NoMemory}
+
+-- the number of a drop, 1 to 11
+abbrev pub drop_number : LinkDrop → ℕ
+drop_number (Frame error) = refusal_number error
+drop_number Resync = 7
+drop_number BadPacket = 8
+drop_number OtherApid = 9
+drop_number Segmented = 10
+drop_number NoMemory = 11
+
+-- one more, save at the greatest value
+abbrev pub raised : ℕ → ℕ
+raised n = max n (min (n + 1) (2 ^ 64 - 1))
+
+-- Counts stand in the order of their numbers, that of number 1 first.
+abbrev pub count_of : List ℕ → ℕ → ℕ
+count_of counts number = if number == 0 then 0 else slice_index_or counts (number - 1) 0
+
+-- the counts after one drop more, and after these
+unfoldable pub counted : List ℕ → LinkDrop → List ℕ
+counted counts drop = slice_set counts (drop_number drop - 1) (raised (slice_index_or counts (drop_number drop - 1) 0))
+
+abbrev pub all_counted : List ℕ → List LinkDrop → List ℕ
+all_counted counts [] = counts
+all_counted counts (drop ∷ drops) = all_counted (counted counts drop) drops

@@ -1,0 +1,4 @@
+pub mod Frames
+pub mod Downward
+pub mod Drops
+pub mod Upward

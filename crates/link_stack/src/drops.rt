@@ -1,0 +1,45 @@
+//! What is dropped on the way up, and why.
+ghost use Rattle.std.specs.Prelude.{◌≡◌};
+ghost use Rattle.link_stack.specs.Drops.{drop_number};
+
+use aos_frame::FrameError;
+use thiserror::Error;
+
+/// Why a frame, a part of its zone or a packet gave no PDU.
+#[derive(Clone, Copy, Debug, PartialEq, Eq, Error)]
+pub enum LinkDrop {
+    /// The octets are no frame of the link, or the frame holds only idle data, which the first header pointer 2046 tells too.
+    #[error("{0}")]
+    Frame(FrameError),
+    /// A begun packet was let go, since a frame was missing or the first header pointer did not fit it, or the pointer lies outside the zone.
+    #[error("Resync")]
+    Resync,
+    /// A packet's version isn't `000` (CCSDS 133.0-B-2, 4.1.3.2).
+    #[error("BadPacket")]
+    BadPacket,
+    /// A packet is of another application process identifier than the link's, and isn't idle.
+    #[error("OtherApid")]
+    OtherApid,
+    /// A packet of the link is a segment, or has a secondary header.
+    #[error("Segmented")]
+    Segmented,
+    /// There was no memory for what a zone holds.
+    #[error("NoMemory")]
+    NoMemory,
+}
+
+impl LinkDrop {
+    /// The number that names this drop in reports, 1 to 11.
+    pub fn number(self) -> u8
+        ensures { result ≡ drop_number self }
+    {
+        match self {
+            LinkDrop::Frame(error) => error.number(),
+            LinkDrop::Resync => 7,
+            LinkDrop::BadPacket => 8,
+            LinkDrop::OtherApid => 9,
+            LinkDrop::Segmented => 10,
+            LinkDrop::NoMemory => 11,
+        }
+    }
+}

@@ -1,0 +1,24 @@
+//! PDUs down to AOS transfer frames (CCSDS 732.0-B-4), a space packet (CCSDS 133.0-B-2) each, and up again.
+//!
+//! One packet carries one whole PDU. A [`Down`] lays the packets of one direction over the frames of a virtual channel, and an [`Up`] gives
+//! back the PDUs all of whose frames came, in order. What can't be read is dropped, and each drop is counted under its number.
+#![tactic(auto)]
+
+mod down;
+mod drops;
+mod laws;
+#[cfg(test)]
+mod tests;
+mod up;
+
+pub use aos_frame::LinkConfig;
+pub use down::Down;
+pub use drops::LinkDrop;
+pub use laws::{
+    a_later_packet_changes_nothing, a_packet_carries_its_pdu, a_struck_frame_is_missed,
+};
+pub use mpdu::Full;
+pub use up::Up;
+
+/// Octets of the M_PDU header, in front of the packet zone (CCSDS 732.0-B-4, 4.1.4.2).
+const MPDU_HEADER_LEN: usize = 2;

@@ -1,0 +1,302 @@
+//! Frames up to PDUs.
+ghost use Rattle.std.specs.Prelude.{◌≡◌, ℕ, ◌+◌, ◌-◌, ◌==◌, ◌<◌, ◌≤◌, ◌⊎◌, ◌++◌, List, Bool, [], ◌∷◌, true, false, length, take, drop, replicate, Some, None, IfOk, OnErr};
+ghost use Rattle.cfd_bits.specs.Field.{field};
+ghost use Rattle.aos_frame.specs.Frame.{IsLink};
+ghost use Rattle.mpdu.specs.Feeding.{octets_of_each};
+ghost use Rattle.mpdu.specs.Reading.{step, held_at, resync, bad_count};
+ghost use Rattle.mpdu.specs.Stream.{ArePackets};
+ghost use Rattle.link_stack.specs.Frames.{packet_drop, AreOfLink};
+ghost use Rattle.link_stack.specs.Drops.{raised, counted, all_counted, count_of};
+ghost use Rattle.aos_frame.specs.Counts.{frame_counts};
+ghost use Rattle.link_stack.specs.Upward as upward;
+ghost use Rattle.link_stack.specs.Upward.{AreLong, pdus_of, drops_of, zone_drops, ReadsFront, HasZone, zone_read, frame_read, Takes, TakesFront, IsUp, IsNextFrame, TakesNext, TakesPart};
+ghost use Rattle.link_stack.specs.declared.drops.LinkDrop.TheVariants.{BadPacket, NoMemory};
+
+use crate::MPDU_HEADER_LEN;
+use crate::drops::LinkDrop;
+use aos_frame::{Continuity, FrameError, LinkConfig, VcMonitor, decode};
+use cfd_bits::get;
+use mpdu::{Notes, ONLY_IDLE, Reassembler};
+use std::alloc::{AllocError, Global};
+use std::marker::Model;
+
+/// Octets of a packet's primary header (CCSDS 133.0-B-2, 4.1.3).
+const PACKET_HEADER_LEN: usize = 6;
+
+/// The sequence flags of an unsegmented packet (CCSDS 133.0-B-2, 4.1.3.4.2).
+const UNSEGMENTED: u64 = 3;
+
+/// The causes that drops are counted under.
+const CAUSES: usize = 11;
+
+/// How often something was dropped, for each cause.
+#[derive(Drop)]
+struct Drops {
+    // in the order of their numbers, from 1
+    counts: [u64; CAUSES],
+}
+
+impl Model for Drops {
+    ghost use Rattle.std.specs.Prelude.{ℕ, List};
+
+    ghost Value = { List ℕ };
+
+    ghost view = { λ d. d.counts };
+}
+
+/// One more, save at the greatest value.
+fn one_more(count: u64) -> u64
+    ensures { result ≡ raised count }
+{
+    count.saturating_add(1)
+}
+
+impl Drops {
+    fn new() -> Self
+        ensures { result ≡ replicate 11 0 }
+    {
+        Drops {
+            counts: [0; CAUSES],
+        }
+    }
+
+    fn of(&self, number: u8) -> u64
+        ensures { result ≡ count_of self.now number }
+    {
+        match number {
+            1..=11 => self.counts[usize::from(number) - 1],
+            _ => 0,
+        }
+    }
+
+    fn count(&mut self, drop: LinkDrop)
+        ensures { self.new ≡ counted self.old drop }
+    {
+        let place = usize::from(drop.number()) - 1;
+        self.counts[place] = one_more(self.counts[place]);
+    }
+}
+
+/// Counts what a zone tells, or that it found no memory.
+fn note(fed: &Result<Notes, AllocError>, drops: &mut Drops)
+    ensures read { IfOk fed.now (λ n. drops.new ≡ all_counted drops.old (zone_drops n.resync n.bad)) }
+    ensures no_memory { OnErr fed.now (drops.new ≡ counted drops.old NoMemory) }
+{
+    let Ok(notes) = fed else {
+        drops.count(LinkDrop::NoMemory);
+        return;
+    };
+    if notes.resync {
+        drops.count(LinkDrop::Resync);
+    }
+    count_bad(notes.bad, drops);
+}
+
+/// Counts so many bad packets.
+fn count_bad(bad: u8, drops: &mut Drops)
+    ensures { drops.new ≡ all_counted drops.old (replicate bad BadPacket) }
+{
+    for _ in 0..bad {
+        drops.count(LinkDrop::BadPacket);
+    }
+}
+
+/// Why a whole packet that isn't idle carries no PDU of the link, if it doesn't.
+fn packet_drop_of(link: &LinkConfig, packet: &[u8]) -> Option<LinkDrop>
+    requires { 6 ≤ length packet.now }
+    ensures { result ≡ packet_drop link.now packet.now }
+{
+    if get(packet, 5, 11) != u64::from(link.apid) {
+        return Some(LinkDrop::OtherApid);
+    }
+    if get(packet, 16, 2) != UNSEGMENTED || get(packet, 4, 1) != 0 {
+        return Some(LinkDrop::Segmented);
+    }
+    None
+}
+
+/// Leaves what stands behind a packet's header.
+fn drop_header(packet: &mut Vec<u8>)
+    requires { 6 ≤ length packet.old.items }
+    ensures { packet.new.items ≡ drop 6 packet.old.items }
+{
+    packet.drain(..PACKET_HEADER_LEN);
+}
+
+/// Makes the packet at a place its PDU, or takes it out and counts why it carries none. Answers the place of the next.
+fn unpack_one(
+    link: &LinkConfig,
+    packets: &mut Vec<Vec<u8>>,
+    place: usize,
+    drops: &mut Drops,
+) -> usize
+    requires there { place < length packets.old.items }
+    requires long { AreLong (drop place (octets_of_each packets.old.items)) }
+    ensures nearer { length packets.new.items + place < length packets.old.items + result }
+    ensures within { result ≤ length packets.new.items }
+    ensures one { (q : List ℕ) (left : List (List ℕ)) → drop place (octets_of_each packets.old.items) ≡ q ∷ left →
+        (drop result (octets_of_each packets.new.items) ≡ left)
+        × (take result (octets_of_each packets.new.items) ≡ take place (octets_of_each packets.old.items) ++ pdus_of link.now (q ∷ []))
+        × (drops.new ≡ all_counted drops.old (drops_of link.now (q ∷ []))) }
+{
+    if let Some(drop) = packet_drop_of(link, &packets[place]) {
+        drops.count(drop);
+        packets.remove(place);
+        return place;
+    }
+    drop_header(&mut packets[place]);
+    place + 1
+}
+
+/// Makes the packets from a place on their PDUs, and takes out and counts those that carry none.
+fn unpack(link: &LinkConfig, packets: &mut Vec<Vec<u8>>, first: usize, drops: &mut Drops)
+    requires there { first ≤ length packets.old.items }
+    requires long { AreLong (drop first (octets_of_each packets.old.items)) }
+    ensures pdus { octets_of_each packets.new.items ≡ take first (octets_of_each packets.old.items) ++ pdus_of link.now (drop first (octets_of_each packets.old.items)) }
+    ensures drops { drops.new ≡ all_counted drops.old (drops_of link.now (drop first (octets_of_each packets.old.items))) }
+{
+    let mut place = first;
+    while place < packets.len() {
+        place = unpack_one(link, packets, place, drops);
+    }
+}
+
+/// Whether a frame with this count follows the last one seen.
+fn follows(monitor: &mut VcMonitor, count: u32) -> bool
+    requires { count < frame_counts }
+    ensures told { result ≡ upward.follows monitor.old count }
+    ensures seen { monitor.new ≡ Some count }
+{
+    match monitor.see(count) {
+        Continuity::Follows => true,
+        Continuity::Gap(_) => false,
+    }
+}
+
+/// The receiving end of one direction of a link: what it takes of frames are the PDUs all of whose frames came, in order.
+///
+/// Whatever can't be read is dropped, and counted under one number.
+#[derive(Drop)]
+pub struct Up {
+    link: LinkConfig,
+    monitor: VcMonitor,
+    reassembler: Reassembler,
+    drops: Drops,
+}
+
+impl Model for Up {
+    ghost use Rattle.aos_frame.specs.Frame.{IsLink};
+    ghost use Rattle.aos_frame.specs.Counts.{frame_counts};
+    ghost use Rattle.link_stack.specs.Upward as upward;
+    ghost use Rattle.link_stack.specs.Upward.{Ascent};
+
+    ghost Value = { Ascent };
+
+    ghost view = { λ u. record { link = u.link; last = u.monitor; begun = u.reassembler; drops = u.drops } };
+
+    ghost invariant = { λ u. IsLink u.link };
+}
+
+impl Up {
+    /// The end of a valid link, which has taken no frame. It takes no memory yet.
+    pub fn new(alloc: Global, link: LinkConfig) -> Self
+        requires { IsLink link }
+        ensures new { result ≡ record { link = link; last = None; begun = []; drops = replicate 11 0 } }
+        // It is as no frame of a stream of the link leaves it.
+        ensures stream { (ps : List (List ℕ)) → ArePackets ps → AreOfLink link ps → IsUp result ps [] 0 }
+    {
+        Up {
+            link,
+            monitor: VcMonitor::new(),
+            reassembler: Reassembler::new(alloc),
+            drops: Drops::new(),
+        }
+    }
+
+    /// How often something was dropped under a number: 1 to 6 are [`FrameError`]'s, 7 to 11 those of
+    /// [`LinkDrop`]. It stays at the greatest `u64`; of any other number it is 0.
+    pub fn drops(&self, number: u8) -> u64
+        ensures { result ≡ count_of self.now.drops number }
+    {
+        self.drops.of(number)
+    }
+
+    /// Reads a zone whose first header pointer may be any but that of idle data. False where it found no memory.
+    fn read_zone(
+        &mut self,
+        pointer: u16,
+        zone: &[u8],
+        follows: bool,
+        out: &mut Vec<Vec<u8>>,
+    ) -> bool
+        requires least { 16 ≤ length zone.now }
+        requires most { length zone.now ≤ 2040 }
+        ensures kept { (self.new.link ≡ self.old.link) × (self.new.last ≡ self.old.last) }
+        ensures begun { result ≡ true → self.new.begun ≡ (step (length zone.now) (held_at follows self.old.begun) pointer zone.now).begun }
+        ensures drops { result ≡ true → self.new.drops ≡ all_counted
+            (all_counted self.old.drops (zone_drops (resync (length zone.now) self.old.begun follows pointer zone.now) (bad_count (length zone.now) (held_at follows self.old.begun) pointer zone.now)))
+            (drops_of self.old.link (step (length zone.now) (held_at follows self.old.begun) pointer zone.now).out) }
+        ensures pdus { result ≡ true → octets_of_each out.new.items ≡ octets_of_each out.old.items ++ pdus_of self.old.link (step (length zone.now) (held_at follows self.old.begun) pointer zone.now).out }
+        ensures no_memory { result ≡ false → ReadsFront self.old (step (length zone.now) (held_at follows self.old.begun) pointer zone.now).out self.new (octets_of_each out.old.items) (octets_of_each out.new.items) }
+    {
+        let first = out.len();
+        let fed = self.reassembler.feed(pointer, zone, follows, out);
+        note(&fed, &mut self.drops);
+        unpack(&self.link, out, first, &mut self.drops);
+        fed.is_ok()
+    }
+
+    /// Reads the M_PDU of a frame of the link with this count. False where its zone found no memory.
+    fn read_mpdu(&mut self, count: u32, mpdu: &[u8], out: &mut Vec<Vec<u8>>) -> bool
+        requires count { count < frame_counts }
+        requires len { length mpdu.now ≡ 2 + self.old.link.zone }
+        ensures all { result ≡ true → Takes (zone_read self.old count (field mpdu.now 5 11) (drop 2 mpdu.now)) self.old self.new (octets_of_each out.old.items) (octets_of_each out.new.items) }
+        ensures front { result ≡ false → ((field mpdu.now 5 11 == 2046) ≡ false)
+            × TakesFront (zone_read self.old count (field mpdu.now 5 11) (drop 2 mpdu.now)) self.old self.new (octets_of_each out.old.items) (octets_of_each out.new.items) }
+    {
+        let in_order = follows(&mut self.monitor, count);
+        let pointer = get(mpdu, 5, 11) as u16;
+        if pointer == ONLY_IDLE {
+            self.reassembler.let_go();
+            self.drops.count(LinkDrop::Frame(FrameError::OnlyIdle));
+            return true;
+        }
+        self.read_zone(pointer, &mpdu[MPDU_HEADER_LEN..], in_order, out)
+    }
+
+    /// Reads a frame. False where its zone found no memory.
+    fn read_frame(&mut self, frame: &[u8], out: &mut Vec<Vec<u8>>) -> bool
+        ensures all { result ≡ true → Takes (frame_read self.old frame.now) self.old self.new (octets_of_each out.old.items) (octets_of_each out.new.items) }
+        ensures front { result ≡ false → HasZone self.old.link frame.now
+            × TakesFront (frame_read self.old frame.now) self.old self.new (octets_of_each out.old.items) (octets_of_each out.new.items) }
+    {
+        match decode(frame, &self.link) {
+            Ok((header, mpdu)) => self.read_mpdu(header.count, mpdu, out),
+            Err(error) => {
+                self.drops.count(LinkDrop::Frame(error));
+                true
+            }
+        }
+    }
+
+    /// Takes a frame, whatever its octets are, appends the PDUs that it completes, and counts what is dropped of it.
+    ///
+    /// A frame that `decode` of `aos_frame` refuses counts as its refusal, 1 to 6, and changes nothing else. A first header pointer of 2046 counts
+    /// as 6 alone, and lets a begun packet go. Else a zone counts at most one `Resync`, a `BadPacket` for each header of another version than
+    /// `000`, and an `OtherApid` or else a `Segmented` for each whole packet that isn't idle and carries no PDU of the link.
+    ///
+    /// Where a growth was refused, `NoMemory` is counted in the place of what the zone tells: a front of its PDUs was appended, the begun packet
+    /// and the rest of the zone are let go, and the next zone is read from its pointer, as if this frame had been lost.
+    pub fn take(&mut self, frame: &[u8], out: &mut Vec<Vec<u8>>)
+        // What any frame does.
+        ensures takes { Takes (frame_read self.old frame.now) self.old self.new (octets_of_each out.old.items) (octets_of_each out.new.items)
+            ⊎ (HasZone self.old.link frame.now × TakesFront (frame_read self.old frame.now) self.old self.new (octets_of_each out.old.items) (octets_of_each out.new.items)) }
+        // What the next frame of a stream does, where the end is as those before it leave it.
+        ensures stream { (ps : List (List ℕ)) (marks : List Bool) (missed : ℕ) → IsUp self.old ps marks missed → IsNextFrame self.old.link ps marks frame.now →
+            TakesNext self.old self.new ps marks missed (octets_of_each out.old.items) (octets_of_each out.new.items)
+            ⊎ TakesPart self.old self.new ps marks (octets_of_each out.old.items) (octets_of_each out.new.items) }
+    {
+        let _ = &self.link;
+        let _whole = self.read_frame(frame, out);
+    }
+}
