@@ -13,13 +13,6 @@ use cfd_bits::{get, put_uint};
 pub use error::HeaderError;
 pub use value::{Header, TransactionId};
 
-/// Whether entity ids or sequence numbers of so many octets are read and written.
-fn is_width(octets: u8) -> bool
-    ensures { result ≡ Rattle.cfdp_header.specs.Header.is_width octets }
-{
-    octets == 2 || octets == 4
-}
-
 /// The header at the front of `bytes`, and the data field behind it, to the end.
 ///
 /// The bit of segmentation control is read as anything (CCSDS 727.0-B-5, table 5-1).
@@ -27,7 +20,7 @@ fn is_width(octets: u8) -> bool
 /// # Errors
 ///
 /// The first of these that holds, in this order: `Short`, `Version`, `CrcPresent`, `Unacknowledged`,
-/// `LargeFile`, `Width`, `Short` again for a header that isn't whole, `Length`. `HeaderError` says what each means.
+/// `LargeFile`, `Short` again for a header that isn't whole, `Length`. `HeaderError` says what each means.
 pub fn decode(bytes: &[u8]) -> Result<(Header, &[u8]), HeaderError>
     // What is answered is spelled so.
     ensures found { IfOk result (λ x. SpellsHeader x.0 bytes.now) }
@@ -55,9 +48,6 @@ pub fn decode(bytes: &[u8]) -> Result<(Header, &[u8]), HeaderError>
     }
     let id_width = get(bytes, 25, 3) as u8 + 1;
     let number_width = get(bytes, 29, 3) as u8 + 1;
-    if !is_width(id_width) || !is_width(number_width) {
-        return Err(HeaderError::Width);
-    }
     let length = get(bytes, 8, 16) as u16;
     let id_octets = id_width as usize;
     let number_octets = number_width as usize;
@@ -87,7 +77,7 @@ pub fn decode(bytes: &[u8]) -> Result<(Header, &[u8]), HeaderError>
 /// Writes the header into the first octets of `out`, spare bits as 0, and says how many they are. The octets behind stay.
 ///
 /// The data field, of `header.length` octets, is the caller's to write behind it.
-#[tactic(auto, using(crate::proofs::Laws::width_range, crate::proofs::Laws::flag_below))]
+#[tactic(auto, using(crate::proofs::Laws::flag_below))]
 pub fn encode(header: &Header, out: &mut [u8]) -> usize
     requires fits { FitsHeader header.now }
     requires room { header_len header.now.id_width header.now.number_width ≤ length out.old }
