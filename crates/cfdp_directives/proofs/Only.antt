@@ -4,7 +4,7 @@ use Rattle.std.specs.Prelude.{IfOk, IsOkAnd}
 use Rattle.std.specs.Result.{result_err}
 use Rattle.std.specs.List.{flat_map}
 use Rattle.std.proofs.lemmas.Bool.{le-ltb, le-leb}
-use Rattle.std.proofs.Common.{eq-eqb, zero, suc}
+use Rattle.std.proofs.Common.{zero, suc}
 use Rattle.std.proofs.lemmas.List.{take_at, drop_at}
 use Rattle.cfdp_header.specs.declared.value.Header.{Header}
 use Rattle.cfdp_header.specs.Header.{flag, header_len_told, header_len}

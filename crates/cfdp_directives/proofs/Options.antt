@@ -1,5 +1,5 @@
 -- Options, one behind the other.
-use Rattle.std.proofs.Common.{◌≡◌, ℕ, zero, suc, ◌%◌, ◌<◌, ◌≤◌, Bool, true, false, cond, leb, List, [], ◌∷◌, ◌++◌, length, get_or, take, drop, Option, Some, None, refl, sym, ap, ◌∙◌, arith, length-drop, length-append, append-nil}
+use Rattle.std.proofs.Common.{◌≡◌, ℕ, zero, suc, ◌+◌, ◌%◌, ◌<◌, ◌≤◌, Bool, true, false, cond, leb, List, [], ◌∷◌, ◌++◌, length, get_or, take, drop, Option, Some, None, refl, sym, ap, ◌∙◌, arith, length-drop, length-append, append-nil}
 use Rattle.std.proofs.lemmas.Bool.{le-leb, lt-leb, leb-true}
 use Rattle.std.proofs.lemmas.List.{take_at, drop_at, take-append-drop, length-take-le}
 use Rattle.std.proofs.lemmas.List.Concat.{flat_map-cons}
@@ -140,3 +140,8 @@ location_whole entity width kind len text is_six is_width h e = rw (location_rea
 
 pub location_view : (entity width kind len : ℕ) (text : List ℕ) → kind ≡ 6 → len ≡ width → width < 256 → text ≡ octets 1 kind ++ octets 1 len ++ octets width entity → unwrap_or (tlvs_of text) [] ≡ fault_location entity width ∷ []
 location_view entity width kind len text is_six is_width h e = rw (location_read entity width kind len text is_six is_width h e) refl
+
+pub length-location : (entity width : ℕ) (ts : List Tlv) → ts ≡ fault_location entity width ∷ [] → length (flat_map tlv ts) ≡ 2 + width
+length-location entity width ts e =
+    let whole : flat_map tlv (fault_location entity width ∷ []) ≡ 6 ∷ length (octets width entity) ∷ (octets width entity ++ []) = refl in
+    ap (λ (us : List Tlv). length (flat_map tlv us)) e ∙ ap length whole ∙ omega (arith, length-octets width entity, length-append (octets width entity) [])

@@ -1,5 +1,5 @@
 -- Options: each an octet of type, one of length, and that many octets (TLV).
-use Rattle.std.specs.Prelude.{◌≡◌, ◌*◌, ℕ, zero, suc, ◌≤◌, Bool, true, List, [], ◌∷◌, ◌++◌, length, take, drop, Option, Some, None, is_some, nat_le, ◌==◌, ◌&&◌, if◌then◌else◌}
+use Rattle.std.specs.Prelude.{◌≡◌, ◌*◌, ℕ, zero, suc, ◌≤◌, Bool, true, List, [], ◌∷◌, length, take, drop, Option, Some, None, is_some, nat_le, ◌==◌, ◌&&◌, if◌then◌else◌}
 use Rattle.std.specs.Option.{option_map}
 use Rattle.cfd_bits.specs.Field.{field, octets}
 use Rattle.cfdp_directives.specs.declared.tlv.Form.{Form}

@@ -1,4 +1,4 @@
-ghost use Rattle.std.specs.Prelude.{◌≡◌, ◌<◌, ◌^◌, ◌∷◌, [], length, Some, unwrap_or, is_some, IfSome, IfNone, true, false};
+ghost use Rattle.std.specs.Prelude.{◌≡◌, ◌+◌, ◌<◌, ◌^◌, ◌∷◌, [], length, Some, unwrap_or, is_some, IfSome, IfNone, true, false};
 ghost use Rattle.std.specs.List.{flat_map};
 ghost use Rattle.cfdp_header.specs.Header.{IsWidth};
 ghost use Rattle.cfdp_directives.specs.Tlv.{tlv, tlvs_of, location_of, fault_location, octets_in, IsWhole};
@@ -54,7 +54,8 @@ impl<'a> Tlvs<'a> {
     pub fn fault_location_of(entity: u64, width: u8) -> Self
         requires width { IsWidth width }
         requires fits { entity < 256 ^ width }
-        ensures { result ≡ fault_location entity width ∷ [] }
+        ensures value { result ≡ fault_location entity width ∷ [] }
+        ensures len { length (flat_map tlv result) ≡ 2 + width }
     {
         let mut octets = [0; 10];
         let at = put_uint(&mut octets, 0, 1, u64::from(FAULT_LOCATION));
