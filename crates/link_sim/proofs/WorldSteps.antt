@@ -1,6 +1,6 @@
 -- What the parts of an event do to one station, its link and the puts makes the event's step of the world.
-use Rattle.std.proofs.Common.{◌≡◌, ℕ, ◌<◌, Bool, true, false, List, [], ◌∷◌, ◌++◌, length, Option, Some, None, Result, Ok, Err, refl, sym, ap, subst, ◌∙◌, inl, inr}
-use Rattle.std.specs.Prelude.{◌^◌, nat_lt, MatchBool, IfOk, OnErr, if◌then◌else◌}
+use Rattle.std.proofs.Common.{◌≡◌, ℕ, ◌<◌, Bool, true, false, cond, not, List, [], ◌∷◌, ◌++◌, length, Option, Some, None, Result, Ok, Err, refl, sym, ap, subst, ◌∙◌, inl, inr, arith}
+use Rattle.std.specs.Prelude.{◌&&◌, ◌||◌, ◌==◌, ◌^◌, nat_lt, MatchBool, IfOk, OnOk, OnErr, if◌then◌else◌}
 use Rattle.std.specs.FinMap.{get}
 use Rattle.cfdp_header.specs.declared.value.TransactionId.{TransactionId}
 use Rattle.link_sim.specs.declared.side.Side.{Side}
@@ -13,7 +13,7 @@ use Rattle.link_sim.specs.declared.event.AcceptedPut.{AcceptedPut}
 use Rattle.link_sim.specs.Sides.{other, entity_of}
 use Rattle.link_sim.specs.Link.{LinkState, waiting}
 use Rattle.link_sim.specs.Station.{StationState, Taken, takes, after_taken, PollsStation}
-use Rattle.link_sim.specs.World.{WorldState, Result as Stepped, sends_file, accepts, refuses, station_at, link_from, with_station, with_link, is_name, put_step, put_file, poll_step, poll_by, strike_step, strike_by, Becomes, Delivers, PutsAt, StrikesAt, DeliversAt}
+use Rattle.link_sim.specs.World.{WorldState, Result as Stepped, sends_file, accepts, refuses, station_at, link_from, with_station, with_link, is_name, put_step, put_file, poll_step, poll_by, strike_step, strike_by, Becomes, Delivers, DeliversNothing, DeliversPdu, PutsAt, StrikesAt, DeliversAt}
 use Rattle.link_sim.specs.Sound.{IsSound}
 use Rattle.link_sim.specs.Work.{work}
 use Rattle.link_sim.proofs.WorldSound.{sound-put, sound-poll, sound-strike, sound-deliver, takes-can_write}

@@ -1,6 +1,7 @@
 -- What is proved of every list of events, in the words of puts, PDUs delivered, indications and files. Of a world it reads
 -- the files, what was indicated, the PDUs with their marks, and the accepted puts: nothing of the machines.
-use Rattle.std.specs.Prelude.{◌≡◌, ℕ, ◌==◌, List, [], ◌∷◌, ◌++◌, Option, Some, None, Contains, if◌then◌else◌}
+use Rattle.std.specs.Prelude.{◌≡◌, ℕ, ◌==◌, Bool, List, [], ◌∷◌, ◌++◌, Option, Some, None, Contains, if◌then◌else◌}
+use Rattle.std.specs.Option.{option_map}
 use Rattle.std.specs.FinMap.{get}
 use Rattle.cfdp_header.specs.declared.value.Header.{Header}
 use Rattle.cfdp_header.specs.declared.value.TransactionId.{TransactionId}
@@ -10,7 +11,7 @@ use Rattle.cfdp_directives.specs.Codes.{no_error}
 use Rattle.cfdp_directives.specs.Tlv.{Tlv}
 use Rattle.cfdp_directives.specs.Content.{Content, FileData, Metadata, Eof, Finished, Ack, Nak, Prompt, KeepAlive}
 use Rattle.cfdp_directives.specs.Grammar.{SpellsPdu}
-use Rattle.cfdp_directives.specs.Put.{Put, IsTruthful, HeardInFull, SomePdu, inbox_after}
+use Rattle.cfdp_directives.specs.Put.{Put, Files, IsTruthful, HeardInFull, SomePdu, inbox_after}
 use Rattle.cfdp_directives.specs.Completions.{same_id, completions, FinishedOnce, IsToldComplete}
 use Rattle.link_sim.specs.declared.side.Side.{Side}
 use Rattle.link_sim.specs.declared.side.Side.TheVariants.{One, Two}

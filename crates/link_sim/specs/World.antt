@@ -1,5 +1,5 @@
 -- Two stations and the PDUs between them: what each event does.
-use Rattle.std.specs.Prelude.{◌≡◌, ◌⊎◌, ℕ, ◌^◌, ◌==◌, ◌&&◌, ◌||◌, not, Bool, nat_lt, nat_le, List, [], ◌∷◌, ◌++◌, length, Option, Some, None, All, MatchBool, if◌then◌else◌}
+use Rattle.std.specs.Prelude.{◌≡◌, ◌⊎◌, ℕ, ◌+◌, ◌<◌, ◌≤◌, ◌^◌, ◌==◌, ◌&&◌, ◌||◌, not, Bool, nat_lt, nat_le, List, [], ◌∷◌, ◌++◌, length, slice_get, is_none, Option, Some, None, All, MatchBool, if◌then◌else◌}
 use Rattle.std.specs.FinMap.{get}
 use Rattle.cfdp_header.specs.declared.value.TransactionId.{TransactionId}
 use Rattle.cfdp_directives.specs.declared.indication.Indication.TheVariants as indication
@@ -8,13 +8,14 @@ use Rattle.cfdp_directives.specs.Put.{Files}
 use Rattle.link_sim.specs.declared.side.Side.{Side}
 use Rattle.link_sim.specs.declared.side.Side.TheVariants.{One, Two}
 use Rattle.link_sim.specs.declared.config.SimConfig.{SimConfig}
-use Rattle.link_sim.specs.declared.transaction.Transaction.TheVariants.{Sends}
+use Rattle.link_sim.specs.declared.transaction.Transaction.TheVariants.{Sends, Receives}
 use Rattle.link_sim.specs.declared.event.Event.{Event}
 use Rattle.link_sim.specs.declared.event.Event.TheVariants as event
 use Rattle.link_sim.specs.declared.event.Applied.{Applied}
 use Rattle.link_sim.specs.declared.event.Applied.TheVariants as applied
 use Rattle.link_sim.specs.declared.event.PutError.{PutError}
 use Rattle.link_sim.specs.declared.event.PutError.TheVariants as refusal
+use Rattle.link_sim.specs.declared.event.Mark.{Mark}
 use Rattle.link_sim.specs.declared.event.Mark.TheVariants.{Delivered, Struck}
 use Rattle.link_sim.specs.declared.event.AcceptedPut.{AcceptedPut}
 use Rattle.link_sim.specs.Sides.{other, entity_of}
