@@ -1,13 +1,13 @@
 -- Options, one behind the other.
-use Rattle.std.proofs.Common.{◌≡◌, ℕ, zero, suc, ◌+◌, ◌%◌, ◌<◌, ◌≤◌, Bool, true, false, cond, leb, List, [], ◌∷◌, ◌++◌, length, get_or, take, drop, Option, Some, None, refl, sym, ap, ◌∙◌, arith, length-drop, length-append, append-nil}
+use Rattle.std.proofs.Common.{◌≡◌, ℕ, zero, suc, ◌+◌, ◌*◌, ◌%◌, ◌<◌, ◌≤◌, Bool, true, false, cond, leb, List, [], ◌∷◌, ◌++◌, length, get_or, take, drop, Option, Some, None, refl, sym, ap, ◌∙◌, arith, length-drop, length-append, append-nil}
 use Rattle.std.proofs.lemmas.Bool.{le-leb, lt-leb, leb-true}
 use Rattle.std.proofs.lemmas.List.{take_at, drop_at, take-append-drop, length-take-le}
 use Rattle.std.proofs.lemmas.List.Concat.{flat_map-cons}
 use Rattle.std.specs.Prelude.{is_some, unwrap_or}
 use Rattle.std.specs.Option.{option_map}
 use Rattle.std.specs.List.{flat_map}
-use Rattle.cfd_bits.specs.Field.{octets}
-use Rattle.cfd_bits.proofs.Fields.{length-octets}
+use Rattle.cfd_bits.specs.Field.{field, octets}
+use Rattle.cfd_bits.proofs.Fields.{length-octets, field-drop}
 use Rattle.cfdp_directives.specs.Tlv.{Tlv, tlv, tlvs_at, tlvs_of, fault_location}
 
 -- more turns than octets change nothing
@@ -145,3 +145,7 @@ pub length-location : (entity width : ℕ) (ts : List Tlv) → ts ≡ fault_loca
 length-location entity width ts e =
     let whole : flat_map tlv (fault_location entity width ∷ []) ≡ 6 ∷ length (octets width entity) ∷ (octets width entity ++ []) = refl in
     ap (λ (us : List Tlv). length (flat_map tlv us)) e ∙ ap length whole ∙ omega (arith, length-octets width entity, length-append (octets width entity) [])
+
+-- a field of whole octets behind others
+pub field_behind : (n w : ℕ) (o : List ℕ) → field (drop n o) 0 w ≡ field o (8 * n) w
+field_behind n w o = let place : 8 * n + 0 ≡ 8 * n = omega arith in field-drop n o 0 w ∙ ap (λ (at : ℕ). field o at w) place

@@ -16,7 +16,7 @@ use crate::error::PduError;
 use crate::pairs::Pairs;
 use crate::pdu::Pdu;
 use crate::tlv::Tlvs;
-use cfd_bits::get;
+use cfd_bits::{get, read_uint};
 use cfdp_header::Header;
 
 /// The condition with this code, where it is one.
@@ -48,6 +48,7 @@ fn split_lv(bytes: &[u8]) -> Option<(&[u8], &[u8])>
     Some(rest.split_at(len))
 }
 
+#[tactic(auto, using(crate::proofs::Options::field_behind))]
 fn file_data<'a>(header: &Header, body: &'a [u8]) -> Result<Pdu<'a>, PduError>
     requires { header.now.file_data ≡ true }
     ensures found { IfOk result (λ v. Says header.now (view v) body.now) }
@@ -63,9 +64,11 @@ fn file_data<'a>(header: &Header, body: &'a [u8]) -> Result<Pdu<'a>, PduError>
     if body.len() < skipped + FILE_SIZE_OCTETS {
         return Err(PduError::Truncated);
     }
+    let (_, offset) = body.split_at(skipped);
+    let (_, bytes) = body.split_at(skipped + FILE_SIZE_OCTETS);
     Ok(Pdu::FileData {
-        offset: get(body, 8 * skipped, 8 * FILE_SIZE_OCTETS),
-        bytes: &body[skipped + FILE_SIZE_OCTETS..],
+        offset: read_uint(offset, FILE_SIZE_OCTETS),
+        bytes,
     })
 }
 

@@ -3,15 +3,28 @@
 
 ghost use Rattle.std.specs.Prelude.{◌≡◌, ℕ, ◌+◌, ◌*◌, ◌^◌, ◌<◌, ◌≤◌, ◌++◌, List, length, take, drop, true, IfOk, IsOkAnd};
 ghost use Rattle.std.specs.Result.{result_err};
+ghost use Rattle.cfd_bits.specs.Field.{field};
 ghost use Rattle.cfdp_header.specs.declared.value.Header.{Header};
 ghost use Rattle.cfdp_header.specs.Header.{SpellsHeader, header_fault, FitsHeader, header_octets, header_len};
 
 mod error;
 mod value;
 
-use cfd_bits::{get, put_uint};
+use cfd_bits::{get, put_uint, read_uint};
 pub use error::HeaderError;
 pub use value::{Header, TransactionId};
+
+/// The number of `count` octets from octet `at` on.
+#[inline]
+#[tactic(auto, using(crate::proofs::Laws::field_behind))]
+fn number_at(bytes: &[u8], at: usize, count: usize) -> u64
+    requires room { at + count ≤ length bytes.now }
+    requires narrow { count ≤ 8 }
+    ensures { result ≡ field bytes.now (8 * at) (8 * count) }
+{
+    let (_, rest) = bytes.split_at(at);
+    read_uint(rest, count)
+}
 
 /// The header at the front of `bytes`, and the data field behind it, to the end.
 ///
@@ -66,10 +79,10 @@ pub fn decode(bytes: &[u8]) -> Result<(Header, &[u8]), HeaderError>
         id_width,
         number_width,
         id: TransactionId {
-            source: get(bytes, 32, 8 * id_octets),
-            number: get(bytes, 32 + 8 * id_octets, 8 * number_octets),
+            source: number_at(bytes, 4, id_octets),
+            number: number_at(bytes, 4 + id_octets, number_octets),
         },
-        destination: get(bytes, 32 + 8 * id_octets + 8 * number_octets, 8 * id_octets),
+        destination: number_at(bytes, 4 + id_octets + number_octets, id_octets),
     };
     Ok((header, &bytes[len..]))
 }
