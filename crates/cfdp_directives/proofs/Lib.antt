@@ -1,3 +1,5 @@
+pub mod Options
+pub mod Ranges
 pub mod Only
 pub mod Spelling
 pub mod Sums

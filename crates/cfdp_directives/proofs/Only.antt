@@ -1,10 +1,11 @@
 -- Octets that spell a PDU have no fault, and spell no other.
-use Rattle.std.proofs.Common.{◌≡◌, ℕ, ◌+◌, Bool, true, false, ltb, eqb, List, [], ◌++◌, length, take, drop, None, Result, Ok, Err, refl, sym, ap, subst, ◌∙◌, arith, length-append}
+use Rattle.std.proofs.Common.{◌≡◌, ℕ, ◌+◌, ◌-◌, ◌%◌, Bool, true, false, ltb, eqb, List, ◌++◌, length, take, drop, Some, None, Result, Ok, Err, refl, sym, ap, subst, ◌∙◌, arith, length-append, length-drop}
 use Rattle.std.specs.Prelude.{IfOk, IsOkAnd}
 use Rattle.std.specs.Result.{result_err}
+use Rattle.std.specs.List.{flat_map}
 use Rattle.std.proofs.lemmas.Bool.{le-ltb, le-leb}
-use Rattle.std.proofs.Common.{eq-eqb, zero, suc, append-nil}
-use Rattle.std.proofs.lemmas.List.{take_at, drop_at, nil_from_length}
+use Rattle.std.proofs.Common.{zero, suc}
+use Rattle.std.proofs.lemmas.List.{take_at, drop_at}
 use Rattle.cfdp_header.specs.declared.value.Header.{Header}
 use Rattle.cfdp_header.specs.Header.{flag, header_len_told, header_len}
 use Rattle.cfdp_header.proofs.Laws as header
@@ -19,9 +20,12 @@ use Rattle.cfdp_directives.specs.declared.codes.Acknowledged.TheVariants as ackn
 use Rattle.cfdp_directives.specs.declared.pdu.Pdu.{Pdu}
 use Rattle.cfdp_directives.specs.declared.error.PduError.{PduError}
 use Rattle.cfdp_directives.specs.Codes.{delivery_code, file_status_code, transaction_status_code, acknowledged_code}
-use Rattle.cfdp_directives.specs.Content.{Content, FileData, Metadata, Eof, Finished, Ack, view}
-use Rattle.cfdp_directives.specs.Grammar.{Says, SpellsPdu, IsFileData, IsMetadata, IsEof, IsFinished, IsAck, skipped, lv}
-use Rattle.cfdp_directives.specs.Faults.{has_lv, after_lv, file_data_fault, metadata_fault, eof_fault, finished_fault, ack_fault, content_fault, pdu_fault}
+use Rattle.cfdp_directives.specs.Tlv.{Tlv, tlv, tlvs_of}
+use Rattle.cfdp_directives.specs.Content.{Content, FileData, Metadata, Eof, Finished, Ack, Nak, Prompt, KeepAlive, view}
+use Rattle.cfdp_directives.specs.Grammar.{Says, SpellsPdu, IsFileData, IsMetadata, IsEof, IsFinished, IsAck, IsNak, skipped, lv}
+use Rattle.cfdp_directives.specs.Faults.{has_lv, after_lv, file_data_fault, metadata_fault, eof_fault, finished_fault, ack_fault, nak_fault, content_fault, pdu_fault}
+use Rattle.cfdp_directives.proofs.Options.{reads}
+use Rattle.cfdp_directives.proofs.Ranges.{same_pairs, pairs_even}
 
 -- ---- texts with a length
 
@@ -39,12 +43,10 @@ same_lv s t x y e =
     let rest : s ++ x ≡ t ++ y = cc in
     (sym (take_at s x (length s) refl) ∙ ap (take (length s)) rest ∙ take_at t y (length s) (sym len), sym (drop_at s x (length s) refl) ∙ ap (drop (length s)) rest ∙ drop_at t y (length s) (sym len))
 
--- two texts and nothing behind them
-pub texts_end : (d s t x y : List ℕ) → d ≡ lv s ++ x → x ≡ lv t ++ y → length y ≡ 0 → d ≡ lv s ++ lv t
-texts_end d s t x y e f h =
-    let nil : y ≡ [] = nil_from_length y h in
-    let whole : x ≡ lv t = f ∙ ap (λ (z : List ℕ). lv t ++ z) nil ∙ append-nil (lv t) in
-    e ∙ ap (λ (z : List ℕ). lv s ++ z) whole
+same_tlvs : (ts us : List Tlv) → flat_map tlv ts ≡ flat_map tlv us → ts ≡ us
+same_tlvs ts us e =
+    let a : Some ts ≡ Some us = sym (reads ts) ∙ ap tlvs_of e ∙ reads us in
+    cc
 
 -- ---- no fault
 
@@ -53,23 +55,28 @@ file_data_accepted w s offset bytes d p =
     let long : ltb (length d) (skipped s d + w) ≡ false = le-ltb _ _ p.room in
     rw long refl
 
-metadata_accepted : (w kind size : ℕ) (source destination : List ℕ) (d : List ℕ) → IsMetadata w kind size source destination d → metadata_fault w d ≡ None
-metadata_accepted w kind size source destination d p =
+metadata_accepted : (w kind size : ℕ) (source destination : List ℕ) (options : List Tlv) (d : List ℕ) → IsMetadata w kind size source destination options d → metadata_fault w d ≡ None
+metadata_accepted w kind size source destination options d p =
     let long : ltb (length d) (2 + w) ≡ false = le-ltb _ _ p.room in
-    let one = has source (lv destination) in
-    let two = after source (lv destination) in
-    let three : has_lv (lv destination) ≡ true = rw append-nil at (has destination []) in
-    let four : after_lv (lv destination) ≡ [] = rw append-nil at (after destination []) in
-    rw (long, p.rest, one, two, three, four) refl
+    let rest = lv destination ++ flat_map tlv options in
+    rw (long, p.rest, has source rest, after source rest, has destination (flat_map tlv options), after destination (flat_map tlv options), reads options) refl
 
-eof_accepted : (w c k z : ℕ) (d : List ℕ) → IsEof w c k z d → eof_fault w d ≡ None
-eof_accepted w c k z d p =
-    let long : ltb (length d) (6 + w) ≡ false = le-ltb _ _ (let s = p.size_octets in omega arith) in
-    let whole : eqb (length d) (6 + w) ≡ true = eq-eqb _ _ p.size_octets in
-    rw (long, p.condition_field, p.allowed, whole) refl
+eof_accepted : (w c k z : ℕ) (ts : List Tlv) (d : List ℕ) → IsEof w c k z ts d → eof_fault w d ≡ None
+eof_accepted w c k z ts d p =
+    let long : ltb (length d) (6 + w) ≡ false = le-ltb _ _ p.room in
+    rw (long, p.condition_field, p.allowed, p.rest, reads ts) refl
 
-finished_accepted : (c : ℕ) (i : Delivery) (s : FileStatus) (d : List ℕ) → IsFinished c i s d → finished_fault d ≡ None
-finished_accepted c i s d p = rw (p.size_octets, p.condition_field, p.allowed) refl
+finished_accepted : (c : ℕ) (i : Delivery) (s : FileStatus) (ts : List Tlv) (d : List ℕ) → IsFinished c i s ts d → finished_fault d ≡ None
+finished_accepted c i s ts d p =
+    let long : ltb (length d) 2 ≡ false = le-ltb _ _ p.room in
+    rw (long, p.condition_field, p.allowed, p.rest, reads ts) refl
+
+nak_accepted : (s e : ℕ) (ps : List (ℕ × ℕ)) (d : List ℕ) → IsNak 4 s e ps d → nak_fault 4 d ≡ None
+nak_accepted s e ps d p =
+    let long : ltb (length d) 9 ≡ false = le-ltb _ _ p.room in
+    let whole = pairs_even ps (drop 9 d) p.rest in
+    let even : (length d - 9) % 8 ≡ 0 = omega (arith, length-drop 9 d) in
+    rw (long, even) refl
 
 ack_accepted : (of : Acknowledged) (condition : ℕ) (status : TransactionStatus) (d : List ℕ) → IsAck of condition status d → ack_fault d ≡ None
 ack_accepted acknowledged.Eof condition status d p = rw (p.size_octets, p.of_field, p.condition_field, p.allowed) refl
@@ -81,15 +88,24 @@ told false = refl
 
 accepted : (h : Header) (v : Content) (d : List ℕ) → Says h v d → content_fault 4 h.file_data h.segment_metadata d ≡ None
 accepted h (FileData offset bytes) d p = rw p.0 (file_data_accepted 4 h.segment_metadata offset bytes d p.1)
-accepted h (Metadata kind size source destination) d p =
+accepted h (Metadata kind size source destination options) d p =
     let long : ltb (length d) 1 ≡ false = le-ltb _ _ (let r = p.1.room in omega arith) in
-    rw (p.0, long, p.1.code) (metadata_accepted 4 kind size source destination d p.1)
-accepted h (Eof c k z) d p =
+    rw (p.0, long, p.1.code) (metadata_accepted 4 kind size source destination options d p.1)
+accepted h (Eof c k z ts) d p =
+    let long : ltb (length d) 1 ≡ false = le-ltb _ _ (let r = p.1.room in omega arith) in
+    rw (p.0, long, p.1.code) (eof_accepted 4 c k z ts d p.1)
+accepted h (Finished c i s ts) d p =
+    let long : ltb (length d) 1 ≡ false = le-ltb _ _ (let r = p.1.room in omega arith) in
+    rw (p.0, long, p.1.code) (finished_accepted c i s ts d p.1)
+accepted h (Nak s e ps) d p =
+    let long : ltb (length d) 1 ≡ false = le-ltb _ _ (let r = p.1.room in omega arith) in
+    rw (p.0, long, p.1.code) (nak_accepted s e ps d p.1)
+accepted h (Prompt k) d p =
     let long : ltb (length d) 1 ≡ false = le-ltb _ _ (let r = p.1.size_octets in omega arith) in
-    rw (p.0, long, p.1.code) (eof_accepted 4 c k z d p.1)
-accepted h (Finished c i s) d p =
+    rw (p.0, long, p.1.code) (rw p.1.size_octets refl)
+accepted h (KeepAlive k) d p =
     let long : ltb (length d) 1 ≡ false = le-ltb _ _ (let r = p.1.size_octets in omega arith) in
-    rw (p.0, long, p.1.code) (finished_accepted c i s d p.1)
+    rw (p.0, long, p.1.code) (rw p.1.size_octets refl)
 accepted h (Ack of condition status) d p =
     let long : ltb (length d) 1 ≡ false = le-ltb _ _ (let r = p.1.size_octets in omega arith) in
     rw (p.0, long, p.1.code) (ack_accepted of condition status d p.1)
@@ -152,25 +168,45 @@ same h (FileData a b) (FileData a' b') d p q =
     let q' = q.1 in
     cc
 same h (FileData a b) w d p q = absurd cc
-same h (Metadata a b s t) (Metadata a' b' s' t') d p q =
+same h (Metadata a b s t o) (Metadata a' b' s' t' o') d p q =
     let p' = p.1 in
     let q' = q.1 in
-    let one = same_lv s s' (lv t) (lv t') (sym p'.rest ∙ q'.rest) in
-    let two : t ≡ t' = cc in
+    let one = same_lv s s' (lv t ++ flat_map tlv o) (lv t' ++ flat_map tlv o') (sym p'.rest ∙ q'.rest) in
+    let two = same_lv t t' (flat_map tlv o) (flat_map tlv o') one.1 in
+    let three = same_tlvs o o' two.1 in
     cc
-same h (Metadata a b s t) w d p q = let k = p.1.code in absurd cc
-same h (Eof a b c) (Eof a' b' c') d p q =
+same h (Metadata a b s t o) w d p q = let k = p.1.code in absurd cc
+same h (Eof a b c o) (Eof a' b' c' o') d p q =
     let p' = p.1 in
     let q' = q.1 in
+    let one = same_tlvs o o' (sym p'.rest ∙ q'.rest) in
     cc
-same h (Eof a b c) w d p q = let k = p.1.code in absurd cc
-same h (Finished a b c) (Finished a' b' c') d p q =
+same h (Eof a b c o) w d p q = let k = p.1.code in absurd cc
+same h (Finished a b c o) (Finished a' b' c' o') d p q =
     let p' = p.1 in
     let q' = q.1 in
     let one = same_delivery b b' (sym p'.delivery_field ∙ q'.delivery_field) in
     let two = same_file_status c c' (sym p'.status_field ∙ q'.status_field) in
+    let three = same_tlvs o o' (sym p'.rest ∙ q'.rest) in
     cc
-same h (Finished a b c) w d p q = let k = p.1.code in absurd cc
+same h (Finished a b c o) w d p q = let k = p.1.code in absurd cc
+same h (Nak a b o) (Nak a' b' o') d p q =
+    let p' = p.1 in
+    let q' = q.1 in
+    let one = same_pairs o o' (drop 9 d) p'.rest q'.rest in
+    cc
+same h (Nak a b o) w d p q = let k = p.1.code in absurd cc
+same h (Prompt b) (Prompt b') d p q =
+    let p' = p.1 in
+    let q' = q.1 in
+    let one = header.same_flag b b' (sym p'.kind_field ∙ q'.kind_field) in
+    cc
+same h (Prompt b) w d p q = let k = p.1.code in absurd cc
+same h (KeepAlive a) (KeepAlive a') d p q =
+    let p' = p.1 in
+    let q' = q.1 in
+    cc
+same h (KeepAlive a) w d p q = let k = p.1.code in absurd cc
 same h (Ack a b c) (Ack a' b' c') d p q =
     let p' = p.1 in
     let q' = q.1 in

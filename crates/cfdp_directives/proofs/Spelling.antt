@@ -1,10 +1,12 @@
 -- What is written spells the PDU, and no spelling begins another.
 use Rattle.std.proofs.Common.{◌≡◌, ℕ, ◌+◌, ◌*◌, ◌/◌, ◌%◌, ◌^◌, ◌<◌, ◌≤◌, Bool, false, List, [], ◌∷◌, ◌++◌, length, take, drop, refl, sym, ap, subst, ◌∙◌, append_assoc, arith, length-append}
+use Rattle.std.specs.List.{flat_map, AllByRecursion}
 use Rattle.std.proofs.lemmas.List.{drop_at, drop-drop, length-take-le}
-use Rattle.cfd_bits.specs.Field.{octets}
+use Rattle.std.proofs.lemmas.List.Concat.{flat_map-cons}
+use Rattle.cfd_bits.specs.Field.{field, octets}
 use Rattle.cfd_bits.proofs.Fields.{field_between, field_in_octet}
 use Rattle.cfdp_header.specs.declared.value.Header.{Header}
-use Rattle.cfdp_header.specs.Header.{header_len, header_octets}
+use Rattle.cfdp_header.specs.Header.{header_len, header_octets, flag}
 use Rattle.cfdp_header.proofs.Laws as header
 use Rattle.cfdp_directives.specs.declared.codes.Delivery.{Delivery}
 use Rattle.cfdp_directives.specs.declared.codes.Delivery.TheVariants.{Complete, Incomplete}
@@ -15,10 +17,13 @@ use Rattle.cfdp_directives.specs.declared.codes.TransactionStatus.TheVariants.{U
 use Rattle.cfdp_directives.specs.declared.codes.Acknowledged.{Acknowledged}
 use Rattle.cfdp_directives.specs.declared.codes.Acknowledged.TheVariants as acknowledged
 use Rattle.cfdp_directives.specs.Codes.{delivery_code, file_status_code, transaction_status_code, acknowledged_code, acknowledged_subtype}
-use Rattle.cfdp_directives.specs.Content.{Content, FileData, Metadata, Eof, Finished, Ack, is_file_data}
-use Rattle.cfdp_directives.specs.Grammar.{Says, SpellsPdu, IsFileData, IsMetadata, IsEof, IsFinished, IsAck, lv}
+use Rattle.cfdp_directives.specs.Tlv.{Tlv, tlv}
+use Rattle.cfdp_directives.specs.Pair.{pair, IsPair, ArePairs}
+use Rattle.cfdp_directives.specs.Content.{Content, FileData, Metadata, Eof, Finished, Ack, Nak, Prompt, KeepAlive, is_file_data}
+use Rattle.cfdp_directives.specs.Grammar.{Says, SpellsPdu, IsFileData, IsMetadata, IsEof, IsFinished, IsAck, IsNak, IsPrompt, IsKeepAlive, lv}
 use Rattle.cfdp_directives.specs.Written.{content_octets, content_len, FitsContent, CanWrite, pdu_octets}
 use Rattle.cfdp_directives.proofs.Only.{same}
+use Rattle.cfdp_directives.proofs.Ranges.{pairs_len}
 
 pub one_form : (a b x y : List ℕ) (h k : Header) (v w : Content) → SpellsPdu h v a → SpellsPdu k w b → a ++ x ≡ b ++ y → (a ≡ b) × (h ≡ k) × (v ≡ w)
 one_form a b x y h k v w p q e =
@@ -52,6 +57,18 @@ pub acknowledged_below : (of : Acknowledged) → 16 * acknowledged_code of + ack
 acknowledged_below acknowledged.Eof = omega arith
 acknowledged_below acknowledged.Finished = omega arith
 
+-- ---- pairs
+
+pairs_written : (ps : List (ℕ × ℕ)) → AllByRecursion (IsPair 4) ps → ArePairs 4 ps (flat_map (pair 4) ps)
+unfolding octets
+pairs_written [] h = refl
+pairs_written (p ∷ ps) h =
+    let rest = flat_map (pair 4) ps in
+    let whole : flat_map (pair 4) (p ∷ ps) ≡ octets 4 p.0 ++ (octets 4 p.1 ++ rest) = flat_map-cons (pair 4) p ps in
+    let one : field (octets 4 p.0 ++ (octets 4 p.1 ++ rest)) 0 32 ≡ p.0 = field_between [] (octets 4 p.1 ++ rest) 4 p.0 0 32 h.0.0 refl refl in
+    let two : field (octets 4 p.0 ++ (octets 4 p.1 ++ rest)) 32 32 ≡ p.1 = field_between (octets 4 p.0) rest 4 p.1 32 32 h.0.1 refl refl in
+    subst (λ (t : List ℕ). ArePairs 4 (p ∷ ps) t) (sym whole) (omega arith, one, two, pairs_written ps h.1)
+
 -- ---- data fields
 
 file_data_written : (offset : ℕ) (bytes : List ℕ) → offset < 2 ^ 32 → IsFileData 4 false offset bytes (content_octets 4 (FileData offset bytes))
@@ -62,40 +79,41 @@ file_data_written offset bytes f = record {
   after = refl;
 }
 
-metadata_written : (k z : ℕ) (s t : List ℕ) → FitsContent 4 (Metadata k z s t) → IsMetadata 4 k z s t (content_octets 4 (Metadata k z s t))
+metadata_written : (k z : ℕ) (s t : List ℕ) (o : List Tlv) → FitsContent 4 (Metadata k z s t o) → IsMetadata 4 k z s t o (content_octets 4 (Metadata k z s t o))
 unfolding octets
-metadata_written k z s t f =
-    let d = octets 1 7 ++ octets 1 k ++ octets 4 z ++ (lv s ++ lv t) in
-    let grouped : content_octets 4 (Metadata k z s t) ≡ d = simp append_assoc in
+metadata_written k z s t o f =
+    let d = octets 1 7 ++ octets 1 k ++ octets 4 z ++ (lv s ++ (lv t ++ flat_map tlv o)) in
+    let grouped : content_octets 4 (Metadata k z s t o) ≡ d = simp append_assoc in
     let low = f.0 in
     let kind = field_in_octet d 12 4 1 4 (k % 256) refl (omega arith) refl in
     rw grouped (record {
       room = omega arith;
       code = field_in_octet d 0 8 0 0 7 refl (omega arith) refl;
       kind_field = omega arith;
-      size_field = field_between (octets 1 7 ++ octets 1 k) (lv s ++ lv t) 4 z 16 32 f.1 refl refl;
+      size_field = field_between (octets 1 7 ++ octets 1 k) (lv s ++ (lv t ++ flat_map tlv o)) 4 z 16 32 f.1 refl refl;
       rest = refl;
     })
 
-eof_written : (c k z : ℕ) → FitsContent 4 (Eof c k z) → IsEof 4 c k z (content_octets 4 (Eof c k z))
+eof_written : (c k z : ℕ) (o : List Tlv) → FitsContent 4 (Eof c k z o) → IsEof 4 c k z o (content_octets 4 (Eof c k z o))
 unfolding octets
-eof_written c k z f =
-    let d = content_octets 4 (Eof c k z) in
+eof_written c k z o f =
+    let d = content_octets 4 (Eof c k z o) in
     let low = f.0.0 in
     let condition = field_in_octet d 8 4 1 0 (16 * c % 256) refl (omega arith) refl in
     record {
-      size_octets = refl;
+      room = omega arith;
       code = field_in_octet d 0 8 0 0 4 refl (omega arith) refl;
       condition_field = omega arith;
       allowed = f.0.1;
-      checksum_field = field_between (octets 1 4 ++ octets 1 (16 * c)) (octets 4 z) 4 k 16 32 f.1 refl refl;
-      size_field = field_between (octets 1 4 ++ octets 1 (16 * c) ++ octets 4 k) [] 4 z 48 32 f.2 refl refl;
+      checksum_field = field_between (octets 1 4 ++ octets 1 (16 * c)) (octets 4 z ++ flat_map tlv o) 4 k 16 32 f.1 refl refl;
+      size_field = field_between (octets 1 4 ++ octets 1 (16 * c) ++ octets 4 k) (flat_map tlv o) 4 z 48 32 f.2 refl refl;
+      rest = refl;
     }
 
-finished_written : (c : ℕ) (i : Delivery) (s : FileStatus) → FitsContent 4 (Finished c i s) → IsFinished c i s (content_octets 4 (Finished c i s))
+finished_written : (c : ℕ) (i : Delivery) (s : FileStatus) (o : List Tlv) → FitsContent 4 (Finished c i s o) → IsFinished c i s o (content_octets 4 (Finished c i s o))
 unfolding octets
-finished_written c i s f =
-    let d = content_octets 4 (Finished c i s) in
+finished_written c i s o f =
+    let d = content_octets 4 (Finished c i s o) in
     let x : ℕ = (16 * c + 4 * delivery_code i + file_status_code s) % 256 in
     let low = f.0 in
     let low2 = delivery_below i in
@@ -104,12 +122,43 @@ finished_written c i s f =
     let delivery = field_in_octet d 13 1 1 5 x refl (omega arith) refl in
     let status = field_in_octet d 14 2 1 6 x refl (omega arith) refl in
     record {
-      size_octets = refl;
+      room = omega arith;
       code = field_in_octet d 0 8 0 0 5 refl (omega arith) refl;
       condition_field = omega arith;
       allowed = f.1;
       delivery_field = omega arith;
       status_field = omega arith;
+      rest = refl;
+    }
+
+nak_written : (s e : ℕ) (ps : List (ℕ × ℕ)) → FitsContent 4 (Nak s e ps) → IsNak 4 s e ps (content_octets 4 (Nak s e ps))
+unfolding octets
+nak_written s e ps f =
+    let d = content_octets 4 (Nak s e ps) in
+    record {
+      room = omega arith;
+      code = field_in_octet d 0 8 0 0 8 refl (omega arith) refl;
+      start_field = field_between (octets 1 8) (octets 4 e ++ flat_map (pair 4) ps) 4 s 8 32 f.0 refl refl;
+      end_field = field_between (octets 1 8 ++ octets 4 s) (flat_map (pair 4) ps) 4 e 40 32 f.1 refl refl;
+      rest = pairs_written ps f.2;
+    }
+
+prompt_written : (k : Bool) → IsPrompt k (content_octets 4 (Prompt k))
+unfolding octets
+prompt_written k =
+    let d = content_octets 4 (Prompt k) in
+    let low = header.flag_below k in
+    let kind = field_in_octet d 8 1 1 0 (128 * flag k % 256) refl (omega arith) refl in
+    record { size_octets = refl; code = field_in_octet d 0 8 0 0 9 refl (omega arith) refl; kind_field = omega arith }
+
+keep_alive_written : (n : ℕ) → FitsContent 4 (KeepAlive n) → IsKeepAlive 4 n (content_octets 4 (KeepAlive n))
+unfolding octets
+keep_alive_written n f =
+    let d = content_octets 4 (KeepAlive n) in
+    record {
+      size_octets = refl;
+      code = field_in_octet d 0 8 0 0 12 refl (omega arith) refl;
+      progress_field = field_between (octets 1 12) [] 4 n 8 32 f refl refl;
     }
 
 code_written : (of : Acknowledged) → (16 * acknowledged_code of + acknowledged_subtype of) % 256 / 2 ^ 4 % 2 ^ 4 ≡ acknowledged_code of
@@ -136,20 +185,26 @@ ack_written of c s f =
 
 said : (h : Header) (v : Content) → FitsContent 4 v → h.file_data ≡ is_file_data v → h.segment_metadata ≡ false → Says h v (content_octets 4 v)
 said h (FileData a b) f k plain = (k, subst (λ (m : Bool). IsFileData 4 m a b (content_octets 4 (FileData a b))) (sym plain) (file_data_written a b f))
-said h (Metadata a b s t) f k plain = (k, metadata_written a b s t f)
-said h (Eof a b c) f k plain = (k, eof_written a b c f)
-said h (Finished a b c) f k plain = (k, finished_written a b c f)
+said h (Metadata a b s t o) f k plain = (k, metadata_written a b s t o f)
+said h (Eof a b c o) f k plain = (k, eof_written a b c o f)
+said h (Finished a b c o) f k plain = (k, finished_written a b c o f)
 said h (Ack a b c) f k plain = (k, ack_written a b c f)
+said h (Nak a b o) f k plain = (k, nak_written a b o f)
+said h (Prompt a) f k plain = (k, prompt_written a)
+said h (KeepAlive a) f k plain = (k, keep_alive_written a f)
 
 pub length-content_octets : (v : Content) → length (content_octets 4 v) ≡ content_len 4 v
 unfolding octets
 length-content_octets (FileData a b) = omega arith
-length-content_octets (Metadata a b s t) =
-    let grouped : content_octets 4 (Metadata a b s t) ≡ octets 1 7 ++ octets 1 a ++ octets 4 b ++ (lv s ++ lv t) = simp append_assoc in
-    ap length grouped ∙ omega (arith, length-append s (lv t))
-length-content_octets (Eof a b c) = refl
-length-content_octets (Finished a b c) = refl
+length-content_octets (Metadata a b s t o) =
+    let grouped : content_octets 4 (Metadata a b s t o) ≡ octets 1 7 ++ octets 1 a ++ octets 4 b ++ (lv s ++ (lv t ++ flat_map tlv o)) = simp append_assoc in
+    ap length grouped ∙ omega (arith, length-append s (lv t ++ flat_map tlv o), length-append t (flat_map tlv o))
+length-content_octets (Eof a b c o) = omega arith
+length-content_octets (Finished a b c o) = omega arith
 length-content_octets (Ack a b c) = refl
+length-content_octets (Nak a b o) = omega (arith, pairs_len o)
+length-content_octets (Prompt a) = refl
+length-content_octets (KeepAlive a) = refl
 
 -- what is written spells the PDU
 pub spelled : (h : Header) (v : Content) → CanWrite h v → SpellsPdu h v (pdu_octets h v)

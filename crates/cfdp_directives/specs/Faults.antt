@@ -1,11 +1,12 @@
 -- What is wrong with octets that are no PDU: the first fault, in the order in which faults are told.
-use Rattle.std.specs.Prelude.{ℕ, ◌+◌, Bool, false, List, [], ◌∷◌, length, drop, Option, Some, None, ◌==◌, nat_lt, nat_le, not, ◌&&◌, if◌then◌else◌}
+use Rattle.std.specs.Prelude.{ℕ, ◌+◌, ◌-◌, ◌*◌, ◌%◌, Bool, false, List, [], ◌∷◌, length, drop, Option, Some, None, is_none, ◌==◌, nat_lt, nat_le, not, ◌&&◌, if◌then◌else◌}
 use Rattle.cfd_bits.specs.Field.{field}
 use Rattle.cfdp_header.specs.declared.error.HeaderError.{HeaderError}
 use Rattle.cfdp_header.specs.Header.{header_fault, header_len_told, refusal_number}
 use Rattle.cfdp_directives.specs.declared.error.PduError.{PduError}
 use Rattle.cfdp_directives.specs.declared.error.PduError.TheVariants.{Header, Directive, Truncated, Trailing, Tlv, Condition}
 use Rattle.cfdp_directives.specs.Codes.{is_refused}
+use Rattle.cfdp_directives.specs.Tlv.{tlvs_of}
 use Rattle.cfdp_directives.specs.Grammar.{skipped}
 
 -- whether an octet of length and that many octets stand at the front
@@ -27,21 +28,21 @@ metadata_fault w d =
     if nat_lt (length d) (2 + w) then Some Truncated
     else if not (has_lv (drop (2 + w) d)) then Some Truncated
     else if not (has_lv (after_lv (drop (2 + w) d))) then Some Truncated
-    else if not (length (after_lv (after_lv (drop (2 + w) d))) == 0) then Some Tlv
+    else if is_none (tlvs_of (after_lv (after_lv (drop (2 + w) d)))) then Some Tlv
     else None
 
 abbrev pub eof_fault : ℕ → List ℕ → Option PduError
 eof_fault w d =
     if nat_lt (length d) (6 + w) then Some Truncated
     else if is_refused (field d 8 4) then Some Condition
-    else if not (length d == 6 + w) then Some Tlv
+    else if is_none (tlvs_of (drop (6 + w) d)) then Some Tlv
     else None
 
 abbrev pub finished_fault : List ℕ → Option PduError
 finished_fault d =
     if nat_lt (length d) 2 then Some Truncated
     else if is_refused (field d 8 4) then Some Condition
-    else if not (length d == 2) then Some Tlv
+    else if is_none (tlvs_of (drop 2 d)) then Some Tlv
     else None
 
 abbrev pub ack_fault : List ℕ → Option PduError
@@ -52,6 +53,19 @@ ack_fault d =
     else if not (length d == 3) then Some Trailing
     else None
 
+abbrev pub nak_fault : ℕ → List ℕ → Option PduError
+nak_fault w d =
+    if nat_lt (length d) (1 + 2 * w) then Some Truncated
+    else if not ((length d - (1 + 2 * w)) % (2 * w) == 0) then Some Truncated
+    else None
+
+-- of a directive that has this many octets, Prompt or Keep Alive
+abbrev pub length_fault : ℕ → List ℕ → Option PduError
+length_fault len d =
+    if nat_lt (length d) len then Some Truncated
+    else if not (length d == len) then Some Trailing
+    else None
+
 -- of a directive: a code that isn't known is refused whatever follows
 abbrev pub directive_fault : ℕ → List ℕ → Option PduError
 directive_fault w d =
@@ -60,6 +74,9 @@ directive_fault w d =
     else if field d 0 8 == 5 then finished_fault d
     else if field d 0 8 == 6 then ack_fault d
     else if field d 0 8 == 7 then metadata_fault w d
+    else if field d 0 8 == 8 then nak_fault w d
+    else if field d 0 8 == 9 then length_fault 2 d
+    else if field d 0 8 == 12 then length_fault (1 + w) d
     else Some Directive
 
 abbrev pub content_fault : ℕ → Bool → Bool → List ℕ → Option PduError

@@ -1,14 +1,17 @@
 -- Which octets are which PDU, by the bit fields of the standard's tables. Spare bits are in no line: they are read as anything.
 use Rattle.std.specs.Prelude.{◌≡◌, ℕ, ◌+◌, ◌*◌, ◌≤◌, Bool, true, false, List, ◌∷◌, ◌++◌, length, drop, if◌then◌else◌}
+use Rattle.std.specs.List.{flat_map}
 use Rattle.cfd_bits.specs.Field.{field}
 use Rattle.cfdp_header.specs.declared.value.Header.{Header}
-use Rattle.cfdp_header.specs.Header.{SpellsHeader, header_len}
+use Rattle.cfdp_header.specs.Header.{SpellsHeader, header_len, flag}
 use Rattle.cfdp_directives.specs.declared.codes.Delivery.{Delivery}
 use Rattle.cfdp_directives.specs.declared.codes.FileStatus.{FileStatus}
 use Rattle.cfdp_directives.specs.declared.codes.TransactionStatus.{TransactionStatus}
 use Rattle.cfdp_directives.specs.declared.codes.Acknowledged.{Acknowledged}
 use Rattle.cfdp_directives.specs.Codes.{is_refused, delivery_code, file_status_code, transaction_status_code, acknowledged_code}
-use Rattle.cfdp_directives.specs.Content.{Content, FileData, Metadata, Eof, Finished, Ack}
+use Rattle.cfdp_directives.specs.Tlv.{Tlv, tlv}
+use Rattle.cfdp_directives.specs.Pair.{ArePairs}
+use Rattle.cfdp_directives.specs.Content.{Content, FileData, Metadata, Eof, Finished, Ack, Nak, Prompt, KeepAlive}
 
 -- octets of a file-size field, FSS (CCSDS 727.0-B-5, 5.1.10)
 abbrev pub fss : Header → ℕ
@@ -29,30 +32,32 @@ pub record IsFileData (w : ℕ) (segment_metadata : Bool) (offset : ℕ) (bytes 
   pub after : drop (skipped segment_metadata d + w) d ≡ bytes
 
 -- Metadata (CCSDS 727.0-B-5, 5.2.5). Bits 8 to 11 are free: spare, closure requested, spare.
-pub record IsMetadata (w : ℕ) (checksum_kind size : ℕ) (source destination : List ℕ) (d : List ℕ) : Type 0 where
+pub record IsMetadata (w : ℕ) (checksum_kind size : ℕ) (source destination : List ℕ) (options : List Tlv) (d : List ℕ) : Type 0 where
   pub room : 2 + w ≤ length d
   pub code : field d 0 8 ≡ 7
   pub kind_field : field d 12 4 ≡ checksum_kind
   pub size_field : field d 16 (8 * w) ≡ size
-  pub rest : drop (2 + w) d ≡ lv source ++ lv destination
+  pub rest : drop (2 + w) d ≡ lv source ++ (lv destination ++ flat_map tlv options)
 
 -- EOF (CCSDS 727.0-B-5, 5.2.2). Bits 12 to 15 are free.
-pub record IsEof (w : ℕ) (condition checksum size : ℕ) (d : List ℕ) : Type 0 where
-  pub size_octets : length d ≡ 6 + w
+pub record IsEof (w : ℕ) (condition checksum size : ℕ) (tlvs : List Tlv) (d : List ℕ) : Type 0 where
+  pub room : 6 + w ≤ length d
   pub code : field d 0 8 ≡ 4
   pub condition_field : field d 8 4 ≡ condition
   pub allowed : is_refused condition ≡ false
   pub checksum_field : field d 16 32 ≡ checksum
   pub size_field : field d 48 (8 * w) ≡ size
+  pub rest : drop (6 + w) d ≡ flat_map tlv tlvs
 
 -- Finished (CCSDS 727.0-B-5, 5.2.3). Bit 12 is free.
-pub record IsFinished (condition : ℕ) (delivery : Delivery) (status : FileStatus) (d : List ℕ) : Type 0 where
-  pub size_octets : length d ≡ 2
+pub record IsFinished (condition : ℕ) (delivery : Delivery) (status : FileStatus) (tlvs : List Tlv) (d : List ℕ) : Type 0 where
+  pub room : 2 ≤ length d
   pub code : field d 0 8 ≡ 5
   pub condition_field : field d 8 4 ≡ condition
   pub allowed : is_refused condition ≡ false
   pub delivery_field : field d 13 1 ≡ delivery_code delivery
   pub status_field : field d 14 2 ≡ file_status_code status
+  pub rest : drop 2 d ≡ flat_map tlv tlvs
 
 -- ACK (CCSDS 727.0-B-5, 5.2.4). Bits 12 to 15, the subtype, and 20 and 21 are free.
 pub record IsAck (of : Acknowledged) (condition : ℕ) (status : TransactionStatus) (d : List ℕ) : Type 0 where
@@ -63,13 +68,36 @@ pub record IsAck (of : Acknowledged) (condition : ℕ) (status : TransactionStat
   pub allowed : is_refused condition ≡ false
   pub status_field : field d 22 2 ≡ transaction_status_code status
 
+-- NAK (CCSDS 727.0-B-5, 5.2.6): the scope, and the requested ranges to the end.
+pub record IsNak (w : ℕ) (start end : ℕ) (pairs : List (ℕ × ℕ)) (d : List ℕ) : Type 0 where
+  pub room : 1 + 2 * w ≤ length d
+  pub code : field d 0 8 ≡ 8
+  pub start_field : field d 8 (8 * w) ≡ start
+  pub end_field : field d (8 + 8 * w) (8 * w) ≡ end
+  pub rest : ArePairs w pairs (drop (1 + 2 * w) d)
+
+-- Prompt (CCSDS 727.0-B-5, 5.2.7). Bits 9 to 15 are free.
+pub record IsPrompt (keep_alive : Bool) (d : List ℕ) : Type 0 where
+  pub size_octets : length d ≡ 2
+  pub code : field d 0 8 ≡ 9
+  pub kind_field : field d 8 1 ≡ flag keep_alive
+
+-- Keep Alive (CCSDS 727.0-B-5, 5.2.8).
+pub record IsKeepAlive (w : ℕ) (progress : ℕ) (d : List ℕ) : Type 0 where
+  pub size_octets : length d ≡ 1 + w
+  pub code : field d 0 8 ≡ 12
+  pub progress_field : field d 8 (8 * w) ≡ progress
+
 -- The data field d of a PDU with this header says this.
 abbrev pub Says : Header → Content → List ℕ → Type 0
 Says h (FileData offset bytes) d = (h.file_data ≡ true) × IsFileData (fss h) h.segment_metadata offset bytes d
-Says h (Metadata kind size source destination) d = (h.file_data ≡ false) × IsMetadata (fss h) kind size source destination d
-Says h (Eof condition checksum size) d = (h.file_data ≡ false) × IsEof (fss h) condition checksum size d
-Says h (Finished condition delivery status) d = (h.file_data ≡ false) × IsFinished condition delivery status d
+Says h (Metadata kind size source destination options) d = (h.file_data ≡ false) × IsMetadata (fss h) kind size source destination options d
+Says h (Eof condition checksum size tlvs) d = (h.file_data ≡ false) × IsEof (fss h) condition checksum size tlvs d
+Says h (Finished condition delivery status tlvs) d = (h.file_data ≡ false) × IsFinished condition delivery status tlvs d
 Says h (Ack of condition status) d = (h.file_data ≡ false) × IsAck of condition status d
+Says h (Nak start end pairs) d = (h.file_data ≡ false) × IsNak (fss h) start end pairs d
+Says h (Prompt keep_alive) d = (h.file_data ≡ false) × IsPrompt keep_alive d
+Says h (KeepAlive progress) d = (h.file_data ≡ false) × IsKeepAlive (fss h) progress d
 
 -- The octets, all of them, are this PDU.
 pub record SpellsPdu (h : Header) (v : Content) (text : List ℕ) : Type 0 where

@@ -6,7 +6,7 @@ use Rattle.std.specs.FinMap.{FinMap, insert}
 use Rattle.cfdp_header.specs.declared.value.Header.{Header}
 use Rattle.cfdp_header.specs.declared.value.TransactionId.{TransactionId}
 use Rattle.cfdp_directives.specs.Codes.{no_error}
-use Rattle.cfdp_directives.specs.Content.{Content, FileData, Metadata, Eof, Finished, Ack}
+use Rattle.cfdp_directives.specs.Content.{Content, FileData, Metadata, Eof, Finished, Ack, Nak, Prompt, KeepAlive}
 use Rattle.cfdp_directives.specs.Grammar.{SpellsPdu}
 use Rattle.cfdp_directives.specs.Checksum.{checksum_of}
 
@@ -27,13 +27,16 @@ pub record Put : Type 0 where
 -- at that offset, and an EOF without an error has the file's size and checksum (CCSDS 727.0-B-5, 4.6.1.1). Other PDUs
 -- say nothing of the file.
 abbrev pub IsTruthful : Put → Content → Type 0
-IsTruthful put (Metadata kind size source destination) =
+IsTruthful put (Metadata kind size source destination options) =
     (kind ≡ put.checksum_kind) × (size ≡ length put.octets) × (source ≡ put.source) × (destination ≡ put.destination)
 IsTruthful put (FileData offset bytes) = bytes ≡ take (length bytes) (drop offset put.octets)
-IsTruthful put (Eof condition checksum size) =
+IsTruthful put (Eof condition checksum size tlvs) =
     condition ≡ no_error → (checksum ≡ checksum_of put.checksum_kind put.octets) × (size ≡ length put.octets)
-IsTruthful put (Finished condition delivery status) = Unit {0}
+IsTruthful put (Finished condition delivery status tlvs) = Unit {0}
 IsTruthful put (Ack of condition status) = Unit {0}
+IsTruthful put (Nak start end pairs) = Unit {0}
+IsTruthful put (Prompt keep_alive) = Unit {0}
+IsTruthful put (KeepAlive progress) = Unit {0}
 
 -- One of the PDUs, each a list of octets, is spelled by a header and a content of which P holds.
 abbrev pub SomePdu : (Header → Content → Type 0) → List (List ℕ) → Type 0
@@ -41,27 +44,38 @@ SomePdu P pdus = Any (λ text. (h : Header) × ((v : Content) × (SpellsPdu h v 
 
 -- It is Metadata of the put, and truthful.
 abbrev pub IsMetadataOf : Put → Header → Content → Type 0
-IsMetadataOf put h (Metadata kind size source destination) = (h.id ≡ put.id) × IsTruthful put (Metadata kind size source destination)
+IsMetadataOf put h (Metadata kind size source destination options) =
+    (h.id ≡ put.id) × IsTruthful put (Metadata kind size source destination options)
 IsMetadataOf put h (FileData offset bytes) = ⊥
-IsMetadataOf put h (Eof condition checksum size) = ⊥
-IsMetadataOf put h (Finished condition delivery status) = ⊥
+IsMetadataOf put h (Eof condition checksum size tlvs) = ⊥
+IsMetadataOf put h (Finished condition delivery status tlvs) = ⊥
 IsMetadataOf put h (Ack of condition status) = ⊥
+IsMetadataOf put h (Nak start end pairs) = ⊥
+IsMetadataOf put h (Prompt keep_alive) = ⊥
+IsMetadataOf put h (KeepAlive progress) = ⊥
 
 -- It is an EOF of the put without an error, and truthful.
 abbrev pub IsEofOf : Put → Header → Content → Type 0
-IsEofOf put h (Eof condition checksum size) = (h.id ≡ put.id) × (condition ≡ no_error) × IsTruthful put (Eof condition checksum size)
-IsEofOf put h (Metadata kind size source destination) = ⊥
+IsEofOf put h (Eof condition checksum size tlvs) =
+    (h.id ≡ put.id) × (condition ≡ no_error) × IsTruthful put (Eof condition checksum size tlvs)
+IsEofOf put h (Metadata kind size source destination options) = ⊥
 IsEofOf put h (FileData offset bytes) = ⊥
-IsEofOf put h (Finished condition delivery status) = ⊥
+IsEofOf put h (Finished condition delivery status tlvs) = ⊥
 IsEofOf put h (Ack of condition status) = ⊥
+IsEofOf put h (Nak start end pairs) = ⊥
+IsEofOf put h (Prompt keep_alive) = ⊥
+IsEofOf put h (KeepAlive progress) = ⊥
 
 -- It is file data of the put with the octet at offset n, and truthful.
 abbrev pub Brings : Put → ℕ → Header → Content → Type 0
 Brings put n h (FileData offset bytes) = (h.id ≡ put.id) × (offset ≤ n) × (n < offset + length bytes) × IsTruthful put (FileData offset bytes)
-Brings put n h (Metadata kind size source destination) = ⊥
-Brings put n h (Eof condition checksum size) = ⊥
-Brings put n h (Finished condition delivery status) = ⊥
+Brings put n h (Metadata kind size source destination options) = ⊥
+Brings put n h (Eof condition checksum size tlvs) = ⊥
+Brings put n h (Finished condition delivery status tlvs) = ⊥
 Brings put n h (Ack of condition status) = ⊥
+Brings put n h (Nak start end pairs) = ⊥
+Brings put n h (Prompt keep_alive) = ⊥
+Brings put n h (KeepAlive progress) = ⊥
 
 -- The put was heard in full: among the PDUs are its Metadata, its EOF without an error, and file data that cover every
 -- offset of the file, all of them truthful.

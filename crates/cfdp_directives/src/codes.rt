@@ -4,6 +4,9 @@ ghost use Rattle.cfdp_directives.specs.Codes.{IsCondition, delivery_code, file_s
 
 use std::marker::Model;
 
+/// Octets of a file-size field (CCSDS 727.0-B-5, 5.1.10).
+pub const FILE_SIZE_OCTETS: usize = 4;
+
 /// Why a transaction ended, or what went wrong in it: a condition code of 4 bits (CCSDS 727.0-B-5, table 5-5).
 /// Codes 12 and 13 are never one.
 #[derive(Clone, Copy, Debug, PartialEq, Eq)]

@@ -14,13 +14,13 @@ pub enum PduError {
     /// The directive code isn't known, or an ACK is neither of EOF nor of Finished.
     #[error("Directive")]
     Directive,
-    /// A field of the data field passes its end.
+    /// A field of the data field passes its end, or the last requested range of a NAK does.
     #[error("Truncated")]
     Truncated,
-    /// Octets are left over behind an ACK.
+    /// Octets are left over behind an ACK, a Prompt or a Keep Alive.
     #[error("Trailing")]
     Trailing,
-    /// Octets are left over where options would stand, none of which is read yet.
+    /// The octets where options stand aren't whole options.
     #[error("Tlv")]
     Tlv,
     /// The condition is 12 or 13.

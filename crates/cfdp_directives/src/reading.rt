@@ -6,14 +6,17 @@ ghost use Rattle.cfdp_directives.specs.declared.error.PduError.TheVariants as er
 ghost use Rattle.cfdp_directives.specs.Codes.{is_refused};
 ghost use Rattle.cfdp_directives.specs.Content.{Content, view};
 ghost use Rattle.cfdp_directives.specs.Grammar.{Says, SpellsPdu, lv};
-ghost use Rattle.cfdp_directives.specs.Faults.{has_lv, after_lv, file_data_fault, metadata_fault, eof_fault, finished_fault, ack_fault, directive_fault, content_fault, pdu_fault};
+ghost use Rattle.cfdp_directives.specs.Faults.{has_lv, after_lv, file_data_fault, metadata_fault, eof_fault, finished_fault, ack_fault, nak_fault, length_fault, directive_fault, content_fault, pdu_fault};
 
 use crate::codes::{
-    Acknowledged, ChecksumKind, Condition, Delivery, FileStatus, TransactionStatus,
+    Acknowledged, ChecksumKind, Condition, Delivery, FILE_SIZE_OCTETS, FileStatus,
+    TransactionStatus,
 };
 use crate::error::PduError;
-use crate::pdu::{FILE_SIZE_OCTETS, Pdu};
-use cfd_bits::get;
+use crate::pairs::Pairs;
+use crate::pdu::Pdu;
+use crate::tlv::Tlvs;
+use cfd_bits::{get, read_uint};
 use cfdp_header::Header;
 
 /// The condition with this code, where it is one.
@@ -45,6 +48,7 @@ fn split_lv(bytes: &[u8]) -> Option<(&[u8], &[u8])>
     Some(rest.split_at(len))
 }
 
+#[tactic(auto, using(crate::proofs::Options::field_behind))]
 fn file_data<'a>(header: &Header, body: &'a [u8]) -> Result<Pdu<'a>, PduError>
     requires { header.now.file_data ≡ true }
     ensures found { IfOk result (λ v. Says header.now (view v) body.now) }
@@ -60,13 +64,15 @@ fn file_data<'a>(header: &Header, body: &'a [u8]) -> Result<Pdu<'a>, PduError>
     if body.len() < skipped + FILE_SIZE_OCTETS {
         return Err(PduError::Truncated);
     }
+    let (_, offset) = body.split_at(skipped);
+    let (_, bytes) = body.split_at(skipped + FILE_SIZE_OCTETS);
     Ok(Pdu::FileData {
-        offset: get(body, 8 * skipped, 8 * FILE_SIZE_OCTETS),
-        bytes: &body[skipped + FILE_SIZE_OCTETS..],
+        offset: read_uint(offset, FILE_SIZE_OCTETS),
+        bytes,
     })
 }
 
-#[tactic(auto, using(crate::proofs::Only::texts_end))]
+#[tactic(auto, using(crate::proofs::Options::spelled_so))]
 fn metadata<'a>(header: &Header, body: &'a [u8]) -> Result<Pdu<'a>, PduError>
     requires kind { header.now.file_data ≡ false }
     requires code { field body.now 0 8 ≡ 7 }
@@ -83,14 +89,15 @@ fn metadata<'a>(header: &Header, body: &'a [u8]) -> Result<Pdu<'a>, PduError>
     let Some((destination, rest)) = split_lv(rest) else {
         return Err(PduError::Truncated);
     };
-    if !rest.is_empty() {
+    let Some(options) = Tlvs::read(rest) else {
         return Err(PduError::Tlv);
-    }
+    };
     Ok(Pdu::Metadata {
         checksum_kind: checksum_kind(get(body, 12, 4)),
         size: get(body, 16, 8 * FILE_SIZE_OCTETS),
         source,
         destination,
+        options,
     })
 }
 
@@ -102,6 +109,7 @@ fn checksum_kind(code: u64) -> ChecksumKind
     ChecksumKind::from_code(code as u8).unwrap()
 }
 
+#[tactic(auto, using(crate::proofs::Options::spelled_so))]
 fn eof<'a>(header: &Header, body: &'a [u8]) -> Result<Pdu<'a>, PduError>
     requires kind { header.now.file_data ≡ false }
     requires code { field body.now 0 8 ≡ 4 }
@@ -112,16 +120,19 @@ fn eof<'a>(header: &Header, body: &'a [u8]) -> Result<Pdu<'a>, PduError>
         return Err(PduError::Truncated);
     }
     let condition = condition(get(body, 8, 4))?;
-    if body.len() != 6 + FILE_SIZE_OCTETS {
+    let (_, behind) = body.split_at(6 + FILE_SIZE_OCTETS);
+    let Some(tlvs) = Tlvs::read(behind) else {
         return Err(PduError::Tlv);
-    }
+    };
     Ok(Pdu::Eof {
         condition,
         checksum: get(body, 16, 32) as u32,
         size: get(body, 48, 8 * FILE_SIZE_OCTETS),
+        tlvs,
     })
 }
 
+#[tactic(auto, using(crate::proofs::Options::spelled_so))]
 fn finished<'a>(header: &Header, body: &'a [u8]) -> Result<Pdu<'a>, PduError>
     requires kind { header.now.file_data ≡ false }
     requires code { field body.now 0 8 ≡ 5 }
@@ -132,9 +143,10 @@ fn finished<'a>(header: &Header, body: &'a [u8]) -> Result<Pdu<'a>, PduError>
         return Err(PduError::Truncated);
     }
     let condition = condition(get(body, 8, 4))?;
-    if body.len() != 2 {
+    let (_, behind) = body.split_at(2);
+    let Some(tlvs) = Tlvs::read(behind) else {
         return Err(PduError::Tlv);
-    }
+    };
     let delivery = match get(body, 13, 1) {
         0 => Delivery::Complete,
         _ => Delivery::Incomplete,
@@ -149,6 +161,7 @@ fn finished<'a>(header: &Header, body: &'a [u8]) -> Result<Pdu<'a>, PduError>
         condition,
         delivery,
         status,
+        tlvs,
     })
 }
 
@@ -183,6 +196,60 @@ fn ack<'a>(header: &Header, body: &'a [u8]) -> Result<Pdu<'a>, PduError>
     })
 }
 
+fn nak<'a>(header: &Header, body: &'a [u8]) -> Result<Pdu<'a>, PduError>
+    requires kind { header.now.file_data ≡ false }
+    requires code { field body.now 0 8 ≡ 8 }
+    ensures found { IfOk result (λ v. Says header.now (view v) body.now) }
+    ensures refused { result_err result ≡ nak_fault 4 body.now }
+{
+    if body.len() < 1 + 2 * FILE_SIZE_OCTETS {
+        return Err(PduError::Truncated);
+    }
+    let (_, behind) = body.split_at(1 + 2 * FILE_SIZE_OCTETS);
+    let Some(pairs) = Pairs::read(behind) else {
+        return Err(PduError::Truncated);
+    };
+    Ok(Pdu::Nak {
+        start: get(body, 8, 8 * FILE_SIZE_OCTETS),
+        end: get(body, 8 + 8 * FILE_SIZE_OCTETS, 8 * FILE_SIZE_OCTETS),
+        pairs,
+    })
+}
+
+fn prompt<'a>(header: &Header, body: &'a [u8]) -> Result<Pdu<'a>, PduError>
+    requires kind { header.now.file_data ≡ false }
+    requires code { field body.now 0 8 ≡ 9 }
+    ensures found { IfOk result (λ v. Says header.now (view v) body.now) }
+    ensures refused { result_err result ≡ length_fault 2 body.now }
+{
+    if body.len() < 2 {
+        return Err(PduError::Truncated);
+    }
+    if body.len() != 2 {
+        return Err(PduError::Trailing);
+    }
+    Ok(Pdu::Prompt {
+        keep_alive: get(body, 8, 1) == 1,
+    })
+}
+
+fn keep_alive<'a>(header: &Header, body: &'a [u8]) -> Result<Pdu<'a>, PduError>
+    requires kind { header.now.file_data ≡ false }
+    requires code { field body.now 0 8 ≡ 12 }
+    ensures found { IfOk result (λ v. Says header.now (view v) body.now) }
+    ensures refused { result_err result ≡ length_fault 5 body.now }
+{
+    if body.len() < 1 + FILE_SIZE_OCTETS {
+        return Err(PduError::Truncated);
+    }
+    if body.len() != 1 + FILE_SIZE_OCTETS {
+        return Err(PduError::Trailing);
+    }
+    Ok(Pdu::KeepAlive {
+        progress: get(body, 8, 8 * FILE_SIZE_OCTETS),
+    })
+}
+
 fn directive<'a>(header: &Header, body: &'a [u8]) -> Result<Pdu<'a>, PduError>
     requires { header.now.file_data ≡ false }
     ensures found { IfOk result (λ v. Says header.now (view v) body.now) }
@@ -196,6 +263,9 @@ fn directive<'a>(header: &Header, body: &'a [u8]) -> Result<Pdu<'a>, PduError>
         5 => finished(header, body),
         6 => ack(header, body),
         7 => metadata(header, body),
+        8 => nak(header, body),
+        9 => prompt(header, body),
+        12 => keep_alive(header, body),
         _ => Err(PduError::Directive),
     }
 }
@@ -223,8 +293,9 @@ fn pdu(bytes: &[u8]) -> Result<(Header, Pdu<'_>), PduError>
 /// # Errors
 ///
 /// The first of these that holds. `Header` with the header's refusal. Then, of the data field:
-/// `Truncated` where a field passes its end, `Directive` where the directive or what an ACK acknowledges
-/// isn't known, `Condition` where the condition is 12 or 13, and `Tlv` or `Trailing` where octets are left over.
+/// `Truncated` where a field or the last range of a NAK passes its end, `Directive` where the directive or what an ACK
+/// acknowledges isn't known, `Condition` where the condition is 12 or 13, `Tlv` where the octets of options aren't whole
+/// options, and `Trailing` where octets are left over. A directive that isn't known is `Directive` whatever follows.
 pub fn decode(bytes: &[u8]) -> Result<(Header, Pdu<'_>), PduError>
     // What is answered is spelled so.
     ensures found { IfOk result (λ x. SpellsPdu x.0 (view x.1) bytes.now) }

@@ -1,13 +1,16 @@
 ghost use Rattle.std.specs.Prelude.{◌≡◌, ℕ, ◌+◌, ◌*◌, ◌^◌, ◌<◌, ◌≤◌, ◌++◌, List, length, take, drop};
 ghost use Rattle.cfdp_header.specs.Header.{header_len};
-ghost use Rattle.cfdp_directives.specs.Content.{Content, FileData, Metadata, Eof, Finished, Ack, view};
+ghost use Rattle.cfdp_directives.specs.Content.{Content, FileData, Metadata, Eof, Finished, Ack, Nak, Prompt, KeepAlive, view};
 ghost use Rattle.cfdp_directives.specs.Grammar.{lv};
 ghost use Rattle.cfdp_directives.specs.Written.{content_octets, content_len, FitsContent, CanWrite, pdu_octets};
 
 use crate::codes::{
-    Acknowledged, ChecksumKind, Condition, Delivery, FileStatus, TransactionStatus,
+    Acknowledged, ChecksumKind, Condition, Delivery, FILE_SIZE_OCTETS, FileStatus,
+    TransactionStatus,
 };
-use crate::pdu::{FILE_SIZE_OCTETS, Pdu};
+use crate::pairs::Pairs;
+use crate::pdu::Pdu;
+use crate::tlv::Tlvs;
 use cfd_bits::{put_bytes, put_uint};
 use cfdp_header::Header;
 
@@ -39,29 +42,39 @@ fn put_metadata(
     size: u64,
     source: &[u8],
     destination: &[u8],
+    options: &Tlvs<'_>,
 ) -> usize
-    requires fits { FitsContent 4 (Metadata checksum_kind size source.now destination.now) }
-    requires room { at + content_len 4 (Metadata checksum_kind size source.now destination.now) ≤ length out.old }
-    ensures end { result ≡ at + content_len 4 (Metadata checksum_kind size source.now destination.now) }
-    ensures front { take result out.new ≡ take at out.old ++ content_octets 4 (Metadata checksum_kind size source.now destination.now) }
+    requires fits { FitsContent 4 (Metadata checksum_kind size source.now destination.now options.now) }
+    requires room { at + content_len 4 (Metadata checksum_kind size source.now destination.now options.now) ≤ length out.old }
+    ensures end { result ≡ at + content_len 4 (Metadata checksum_kind size source.now destination.now options.now) }
+    ensures front { take result out.new ≡ take at out.old ++ content_octets 4 (Metadata checksum_kind size source.now destination.now options.now) }
 {
     let at = put_uint(out, at, 1, 7);
     let at = put_uint(out, at, 1, u64::from(checksum_kind.code()));
     let at = put_uint(out, at, FILE_SIZE_OCTETS, size);
     let at = put_lv(out, at, source);
-    put_lv(out, at, destination)
+    let at = put_lv(out, at, destination);
+    put_bytes(out, at, options.octets())
 }
 
-fn put_eof(out: &mut [u8], at: usize, condition: Condition, checksum: u32, size: u64) -> usize
-    requires fits { FitsContent 4 (Eof condition checksum size) }
-    requires room { at + content_len 4 (Eof condition checksum size) ≤ length out.old }
-    ensures end { result ≡ at + content_len 4 (Eof condition checksum size) }
-    ensures front { take result out.new ≡ take at out.old ++ content_octets 4 (Eof condition checksum size) }
+fn put_eof(
+    out: &mut [u8],
+    at: usize,
+    condition: Condition,
+    checksum: u32,
+    size: u64,
+    tlvs: &Tlvs<'_>,
+) -> usize
+    requires fits { FitsContent 4 (Eof condition checksum size tlvs.now) }
+    requires room { at + content_len 4 (Eof condition checksum size tlvs.now) ≤ length out.old }
+    ensures end { result ≡ at + content_len 4 (Eof condition checksum size tlvs.now) }
+    ensures front { take result out.new ≡ take at out.old ++ content_octets 4 (Eof condition checksum size tlvs.now) }
 {
     let at = put_uint(out, at, 1, 4);
     let at = put_uint(out, at, 1, 16 * u64::from(condition.code()));
     let at = put_uint(out, at, 4, u64::from(checksum));
-    put_uint(out, at, FILE_SIZE_OCTETS, size)
+    let at = put_uint(out, at, FILE_SIZE_OCTETS, size);
+    put_bytes(out, at, tlvs.octets())
 }
 
 #[tactic(auto, using(crate::proofs::Spelling::delivery_below, crate::proofs::Spelling::file_status_below))]
@@ -71,16 +84,18 @@ fn put_finished(
     condition: Condition,
     delivery: Delivery,
     status: FileStatus,
+    tlvs: &Tlvs<'_>,
 ) -> usize
-    requires room { at + content_len 4 (Finished condition delivery status) ≤ length out.old }
-    ensures end { result ≡ at + content_len 4 (Finished condition delivery status) }
-    ensures front { take result out.new ≡ take at out.old ++ content_octets 4 (Finished condition delivery status) }
+    requires room { at + content_len 4 (Finished condition delivery status tlvs.now) ≤ length out.old }
+    ensures end { result ≡ at + content_len 4 (Finished condition delivery status tlvs.now) }
+    ensures front { take result out.new ≡ take at out.old ++ content_octets 4 (Finished condition delivery status tlvs.now) }
 {
     let second = 16 * u64::from(condition.code())
         + 4 * u64::from(delivery.code())
         + u64::from(status.code());
     let at = put_uint(out, at, 1, 5);
-    put_uint(out, at, 1, second)
+    let at = put_uint(out, at, 1, second);
+    put_bytes(out, at, tlvs.octets())
 }
 
 #[tactic(auto, using(crate::proofs::Spelling::acknowledged_below, crate::proofs::Spelling::transaction_status_below))]
@@ -100,6 +115,37 @@ fn put_ack(
     let at = put_uint(out, at, 1, 6);
     let at = put_uint(out, at, 1, second);
     put_uint(out, at, 1, third)
+}
+
+fn put_nak(out: &mut [u8], at: usize, start: u64, end: u64, pairs: &Pairs<'_>) -> usize
+    requires fits { FitsContent 4 (Nak start end pairs.now) }
+    requires room { at + content_len 4 (Nak start end pairs.now) ≤ length out.old }
+    ensures end { result ≡ at + content_len 4 (Nak start end pairs.now) }
+    ensures front { take result out.new ≡ take at out.old ++ content_octets 4 (Nak start end pairs.now) }
+{
+    let at = put_uint(out, at, 1, 8);
+    let at = put_uint(out, at, FILE_SIZE_OCTETS, start);
+    let at = put_uint(out, at, FILE_SIZE_OCTETS, end);
+    pairs.put(out, at)
+}
+
+fn put_prompt(out: &mut [u8], at: usize, keep_alive: bool) -> usize
+    requires room { at + content_len 4 (Prompt keep_alive) ≤ length out.old }
+    ensures end { result ≡ at + content_len 4 (Prompt keep_alive) }
+    ensures front { take result out.new ≡ take at out.old ++ content_octets 4 (Prompt keep_alive) }
+{
+    let at = put_uint(out, at, 1, 9);
+    put_uint(out, at, 1, 128 * u64::from(keep_alive))
+}
+
+fn put_keep_alive(out: &mut [u8], at: usize, progress: u64) -> usize
+    requires fits { FitsContent 4 (KeepAlive progress) }
+    requires room { at + content_len 4 (KeepAlive progress) ≤ length out.old }
+    ensures end { result ≡ at + content_len 4 (KeepAlive progress) }
+    ensures front { take result out.new ≡ take at out.old ++ content_octets 4 (KeepAlive progress) }
+{
+    let at = put_uint(out, at, 1, 12);
+    put_uint(out, at, FILE_SIZE_OCTETS, progress)
 }
 
 /// Writes the PDU into the first octets of `out`, spare bits as 0, and says how many they are. The octets behind stay.
@@ -122,21 +168,27 @@ pub fn encode(header: &Header, pdu: &Pdu<'_>, out: &mut [u8]) -> usize
             size,
             source,
             destination,
-        } => put_metadata(out, at, *checksum_kind, *size, source, destination),
+            options,
+        } => put_metadata(out, at, *checksum_kind, *size, source, destination, options),
         Pdu::Eof {
             condition,
             checksum,
             size,
-        } => put_eof(out, at, *condition, *checksum, *size),
+            tlvs,
+        } => put_eof(out, at, *condition, *checksum, *size, tlvs),
         Pdu::Finished {
             condition,
             delivery,
             status,
-        } => put_finished(out, at, *condition, *delivery, *status),
+            tlvs,
+        } => put_finished(out, at, *condition, *delivery, *status, tlvs),
         Pdu::Ack {
             of,
             condition,
             status,
         } => put_ack(out, at, *of, *condition, *status),
+        Pdu::Nak { start, end, pairs } => put_nak(out, at, *start, *end, pairs),
+        Pdu::Prompt { keep_alive } => put_prompt(out, at, *keep_alive),
+        Pdu::KeepAlive { progress } => put_keep_alive(out, at, *progress),
     }
 }

@@ -1,13 +1,13 @@
 -- What a header's octets determine.
-use Rattle.std.proofs.Common.{◌≡◌, ℕ, zero, suc, ◌+◌, ◌-◌, ◌*◌, ◌%◌, ◌<◌, ◌≤◌, Bool, true, false, eqb, ltb, List, [], ◌∷◌, ◌++◌, length, take, None, Result, Ok, Err, refl, sym, ap, subst, ◌∙◌, eq-eqb, arith, append_assoc, length-append}
+use Rattle.std.proofs.Common.{◌≡◌, ℕ, ◌+◌, ◌-◌, ◌*◌, ◌%◌, ◌<◌, ◌≤◌, Bool, true, false, eqb, ltb, List, [], ◌∷◌, ◌++◌, length, take, drop, None, Result, Ok, Err, refl, sym, ap, subst, ◌∙◌, eq-eqb, arith, append_assoc, length-append}
 use Rattle.std.specs.Prelude.{IsOkAnd, IfOk}
 use Rattle.std.specs.Result.{result_err}
-use Rattle.std.proofs.lemmas.Bool.{le-ltb, ne_eqb}
+use Rattle.std.proofs.lemmas.Bool.{le-ltb}
 use Rattle.std.proofs.lemmas.List.{take_at}
 use Rattle.cfd_bits.specs.Field.{field, octets}
-use Rattle.cfd_bits.proofs.Fields.{length-octets, field_between, field_in_octet, field-append_left}
+use Rattle.cfd_bits.proofs.Fields.{length-octets, field_between, field_in_octet, field-append_left, field-drop}
 use Rattle.cfdp_header.specs.declared.value.Header.{Header}
-use Rattle.cfdp_header.specs.Header.{SpellsHeader, header_fault, flag, header_len_told, header_len, is_width, FitsHeader, fixed_octets, header_octets}
+use Rattle.cfdp_header.specs.Header.{SpellsHeader, header_fault, flag, header_len_told, header_len, FitsHeader, fixed_octets, header_octets}
 
 pub same_flag : (a b : Bool) → flag a ≡ flag b → a ≡ b
 same_flag true true e = refl
@@ -32,24 +32,11 @@ accepted h t p =
     let long : ltb (length t) 4 ≡ false = le-ltb _ _ (let s = p.size in omega arith) in
     let all : eqb (length t) (header_len h.id_width h.number_width + h.length) ≡ true = eq-eqb _ _ p.size in
     let whole : ltb (length t) (header_len h.id_width h.number_width) ≡ false = le-ltb _ _ (let s = p.size in omega arith) in
-    rw (long, p.version, p.crc_absent, p.acknowledged, p.small_file, p.id_width, p.number_width, p.id_width_read, p.number_width_read, whole, p.length_field, all) refl
+    rw (long, p.version, p.crc_absent, p.acknowledged, p.small_file, p.id_width, p.number_width, whole, p.length_field, all) refl
 
 pub is_ok : {A E : Type 0} (r : Result A E) (P : A → Type 0) → result_err r ≡ None → IfOk r P → IsOkAnd r P
 is_ok (Ok x) P e p = p
 is_ok (Err d) P e p = absurd cc
-
--- widths that are written take three bits, less one
-pub width_range : (width : ℕ) → is_width width ≡ true → (1 ≤ width) × (width ≤ 8)
-width_range zero e = absurd cc
-width_range (suc zero) e = (omega arith, omega arith)
-width_range (suc (suc zero)) e = (omega arith, omega arith)
-width_range (suc (suc (suc zero))) e = (omega arith, omega arith)
-width_range (suc (suc (suc (suc zero)))) e = (omega arith, omega arith)
-width_range (suc (suc (suc (suc (suc n))))) e =
-    let width : ℕ = suc (suc (suc (suc (suc n)))) in
-    let two : eqb width 2 ≡ false = ne_eqb width 2 (λ x. omega arith) in
-    let four : eqb width 4 ≡ false = ne_eqb width 4 (λ x. omega arith) in
-    absurd cc
 
 pub flag_below : (b : Bool) → flag b < 2
 flag_below true = omega arith
@@ -71,12 +58,10 @@ spelled h rest fits len =
     let l : length text ≡ 4 + (length s + (length n + (length d + length rest))) = simp length-append (omega arith) in
     let fs : length (f ++ s) ≡ 4 + h.id_width = omega (arith, length-append f s) in
     let fsn : length (f ++ s ++ n) ≡ 4 + h.id_width + h.number_width = omega (arith, length-append (f ++ s) n) in
-    let id_range = width_range h.id_width fits.id_width in
-    let number_range = width_range h.number_width fits.number_width in
-    let low1 = id_range.0 in
-    let low2 = id_range.1 in
-    let low3 = number_range.0 in
-    let low4 = number_range.1 in
+    let low1 = fits.id_width.0 in
+    let low2 = fits.id_width.1 in
+    let low3 = fits.number_width.0 in
+    let low4 = fits.number_width.1 in
     let long = fits.length in
     let b1 = flag_below h.file_data in
     let b2 = flag_below h.toward_sender in
@@ -110,12 +95,14 @@ spelled h rest fits len =
       id_width = omega arith;
       segment_metadata = omega arith;
       number_width = omega arith;
-      id_width_read = fits.id_width;
-      number_width_read = fits.number_width;
       source = source;
       number = rw at_number at number;
       destination = rw at_destination at destination;
     })
+
+-- a field of whole octets behind others
+pub field_behind : (n w : ℕ) (o : List ℕ) → field (drop n o) 0 w ≡ field o (8 * n) w
+field_behind n w o = let place : 8 * n + 0 ≡ 8 * n = omega arith in field-drop n o 0 w ∙ ap (λ (at : ℕ). field o at w) place
 
 -- fields of a front
 fronts : (a b x y : List ℕ) (at w : ℕ) → a ++ x ≡ b ++ y → at + w ≤ 8 * length a → at + w ≤ 8 * length b → field a at w ≡ field b at w

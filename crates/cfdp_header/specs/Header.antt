@@ -1,9 +1,9 @@
 -- The fixed header of a PDU: which octets are which header, and what is wrong with octets that begin with none.
-use Rattle.std.specs.Prelude.{◌≡◌, ℕ, ◌+◌, ◌-◌, ◌*◌, ◌^◌, ◌<◌, Bool, true, false, List, ◌++◌, length, Option, Some, None, nat_lt, ◌==◌, ◌||◌, not, if◌then◌else◌}
+use Rattle.std.specs.Prelude.{◌≡◌, ℕ, ◌+◌, ◌-◌, ◌*◌, ◌^◌, ◌<◌, ◌≤◌, Bool, true, false, List, ◌++◌, length, Option, Some, None, nat_lt, ◌==◌, not, if◌then◌else◌}
 use Rattle.cfd_bits.specs.Field.{field, octets}
 use Rattle.cfdp_header.specs.declared.value.Header.{Header}
 use Rattle.cfdp_header.specs.declared.error.HeaderError.{HeaderError}
-use Rattle.cfdp_header.specs.declared.error.HeaderError.TheVariants.{Short, Version, CrcPresent, Length, Unacknowledged, LargeFile, Width}
+use Rattle.cfdp_header.specs.declared.error.HeaderError.TheVariants.{Short, Version, CrcPresent, Length, Unacknowledged, LargeFile}
 
 -- a flag, as the bit that spells it
 abbrev pub flag : Bool → ℕ
@@ -14,9 +14,9 @@ flag false = 0
 abbrev pub header_len : ℕ → ℕ → ℕ
 header_len id_width number_width = 4 + id_width + number_width + id_width
 
--- the widths that are read and written
-abbrev pub is_width : ℕ → Bool
-is_width width = (width == 2) || (width == 4)
+-- The octets that an entity id or a sequence number may have.
+abbrev pub IsWidth : ℕ → Type 0
+IsWidth width = (1 ≤ width) × (width ≤ 8)
 
 -- The octets are this header, and behind it as many octets as its length says (CCSDS 727.0-B-5, 5.1, table 5-1).
 -- Bit 24, segmentation control, is in no line: it is read as anything.
@@ -32,8 +32,6 @@ pub record SpellsHeader (h : Header) (text : List ℕ) : Type 0 where
   pub id_width : field text 25 3 + 1 ≡ h.id_width
   pub segment_metadata : field text 28 1 ≡ flag h.segment_metadata
   pub number_width : field text 29 3 + 1 ≡ h.number_width
-  pub id_width_read : is_width h.id_width ≡ true
-  pub number_width_read : is_width h.number_width ≡ true
   pub source : field text 32 (8 * h.id_width) ≡ h.id.source
   pub number : field text (32 + 8 * h.id_width) (8 * h.number_width) ≡ h.id.number
   pub destination : field text (32 + 8 * h.id_width + 8 * h.number_width) (8 * h.id_width) ≡ h.destination
@@ -50,16 +48,14 @@ header_fault text =
     else if not (field text 6 1 == 0) then Some CrcPresent
     else if not (field text 5 1 == 0) then Some Unacknowledged
     else if not (field text 7 1 == 0) then Some LargeFile
-    else if not (is_width (field text 25 3 + 1)) then Some Width
-    else if not (is_width (field text 29 3 + 1)) then Some Width
     else if nat_lt (length text) (header_len_told text) then Some Short
     else if not (length text == header_len_told text + field text 8 16) then Some Length
     else None
 
--- The header can be written: its widths are known, and each number fits its field.
+-- The header can be written: each number fits its field.
 pub record FitsHeader (h : Header) : Type 0 where
-  pub id_width : is_width h.id_width ≡ true
-  pub number_width : is_width h.number_width ≡ true
+  pub id_width : IsWidth h.id_width
+  pub number_width : IsWidth h.number_width
   pub length : h.length < 2 ^ 16
   pub source : h.id.source < 256 ^ h.id_width
   pub number : h.id.number < 256 ^ h.number_width
@@ -84,4 +80,3 @@ refusal_number CrcPresent = 3
 refusal_number Length = 4
 refusal_number Unacknowledged = 5
 refusal_number LargeFile = 6
-refusal_number Width = 20

@@ -24,9 +24,6 @@ pub enum HeaderError {
     /// The large file flag is 1.
     #[error("LargeFile")]
     LargeFile,
-    /// Entity ids or sequence numbers have another width than 2 or 4 octets.
-    #[error("Width")]
-    Width,
 }
 
 impl HeaderError {
@@ -41,7 +38,6 @@ impl HeaderError {
             HeaderError::Length => 4,
             HeaderError::Unacknowledged => 5,
             HeaderError::LargeFile => 6,
-            HeaderError::Width => 20,
         }
     }
 }

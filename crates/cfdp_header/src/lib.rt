@@ -3,21 +3,27 @@
 
 ghost use Rattle.std.specs.Prelude.{◌≡◌, ℕ, ◌+◌, ◌*◌, ◌^◌, ◌<◌, ◌≤◌, ◌++◌, List, length, take, drop, true, IfOk, IsOkAnd};
 ghost use Rattle.std.specs.Result.{result_err};
+ghost use Rattle.cfd_bits.specs.Field.{field};
 ghost use Rattle.cfdp_header.specs.declared.value.Header.{Header};
 ghost use Rattle.cfdp_header.specs.Header.{SpellsHeader, header_fault, FitsHeader, header_octets, header_len};
 
 mod error;
 mod value;
 
-use cfd_bits::{get, put_uint};
+use cfd_bits::{get, put_uint, read_uint};
 pub use error::HeaderError;
 pub use value::{Header, TransactionId};
 
-/// Whether entity ids or sequence numbers of so many octets are read and written.
-fn is_width(octets: u8) -> bool
-    ensures { result ≡ Rattle.cfdp_header.specs.Header.is_width octets }
+/// The number of `count` octets from octet `at` on.
+#[inline]
+#[tactic(auto, using(crate::proofs::Laws::field_behind))]
+fn number_at(bytes: &[u8], at: usize, count: usize) -> u64
+    requires room { at + count ≤ length bytes.now }
+    requires narrow { count ≤ 8 }
+    ensures { result ≡ field bytes.now (8 * at) (8 * count) }
 {
-    octets == 2 || octets == 4
+    let (_, rest) = bytes.split_at(at);
+    read_uint(rest, count)
 }
 
 /// The header at the front of `bytes`, and the data field behind it, to the end.
@@ -27,7 +33,7 @@ fn is_width(octets: u8) -> bool
 /// # Errors
 ///
 /// The first of these that holds, in this order: `Short`, `Version`, `CrcPresent`, `Unacknowledged`,
-/// `LargeFile`, `Width`, `Short` again for a header that isn't whole, `Length`. `HeaderError` says what each means.
+/// `LargeFile`, `Short` again for a header that isn't whole, `Length`. `HeaderError` says what each means.
 pub fn decode(bytes: &[u8]) -> Result<(Header, &[u8]), HeaderError>
     // What is answered is spelled so.
     ensures found { IfOk result (λ x. SpellsHeader x.0 bytes.now) }
@@ -55,9 +61,6 @@ pub fn decode(bytes: &[u8]) -> Result<(Header, &[u8]), HeaderError>
     }
     let id_width = get(bytes, 25, 3) as u8 + 1;
     let number_width = get(bytes, 29, 3) as u8 + 1;
-    if !is_width(id_width) || !is_width(number_width) {
-        return Err(HeaderError::Width);
-    }
     let length = get(bytes, 8, 16) as u16;
     let id_octets = id_width as usize;
     let number_octets = number_width as usize;
@@ -76,10 +79,10 @@ pub fn decode(bytes: &[u8]) -> Result<(Header, &[u8]), HeaderError>
         id_width,
         number_width,
         id: TransactionId {
-            source: get(bytes, 32, 8 * id_octets),
-            number: get(bytes, 32 + 8 * id_octets, 8 * number_octets),
+            source: number_at(bytes, 4, id_octets),
+            number: number_at(bytes, 4 + id_octets, number_octets),
         },
-        destination: get(bytes, 32 + 8 * id_octets + 8 * number_octets, 8 * id_octets),
+        destination: number_at(bytes, 4 + id_octets + number_octets, id_octets),
     };
     Ok((header, &bytes[len..]))
 }
@@ -87,7 +90,7 @@ pub fn decode(bytes: &[u8]) -> Result<(Header, &[u8]), HeaderError>
 /// Writes the header into the first octets of `out`, spare bits as 0, and says how many they are. The octets behind stay.
 ///
 /// The data field, of `header.length` octets, is the caller's to write behind it.
-#[tactic(auto, using(crate::proofs::Laws::width_range, crate::proofs::Laws::flag_below))]
+#[tactic(auto, using(crate::proofs::Laws::flag_below))]
 pub fn encode(header: &Header, out: &mut [u8]) -> usize
     requires fits { FitsHeader header.now }
     requires room { header_len header.now.id_width header.now.number_width ≤ length out.old }

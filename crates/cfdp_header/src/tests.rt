@@ -1,62 +1,70 @@
+ghost use Rattle.std.specs.Prelude.{◌≡◌, true, false};
+ghost use Rattle.cfdp_header.specs.Header.{FitsHeader};
+
 use super::*;
+use std::alloc::Global;
+use std::process::Abort;
 use std::test::Fail;
 
-/// The header of an ACK, toward the file's sender.
-const OF_ACK: Header = Header {
-    file_data: false,
-    toward_sender: true,
-    length: 3,
-    segment_metadata: false,
-    id_width: 2,
-    number_width: 4,
-    id: TransactionId {
-        source: 1,
-        number: 1,
-    },
-    destination: 2,
-};
+/// The header of an ACK of transaction `source`:`number`, toward the file's sender.
+fn of_ack(id_width: u8, number_width: u8, number: u64) -> Header
+    ensures { result ≡ record {
+      file_data = false;
+      toward_sender = true;
+      length = 3;
+      segment_metadata = false;
+      id_width = id_width;
+      number_width = number_width;
+      id = record { source = 1; number = number };
+      destination = 2;
+    } }
+{
+    Header {
+        file_data: false,
+        toward_sender: true,
+        length: 3,
+        segment_metadata: false,
+        id_width,
+        number_width,
+        id: TransactionId { source: 1, number },
+        destination: 2,
+    }
+}
 
-/// The same with ids of 4 octets and numbers of 2.
-const WITH_LONG_IDS: Header = Header {
-    file_data: false,
-    toward_sender: true,
-    length: 3,
-    segment_metadata: false,
-    id_width: 4,
-    number_width: 2,
-    id: TransactionId {
-        source: 1,
-        number: 1,
-    },
-    destination: 2,
-};
+/// The header is written as the front of these digits, and read again from all of them.
+fn goes_both_ways(rt: &impl Abort, alloc: Global, header: &Header, text: &str) -> Result<(), Fail>
+    requires { FitsHeader header.now }
+{
+    let octets = hex::decode(alloc, text)?;
+    let mut out = [0u8; 28];
+    let len = encode(header, &mut out);
+    assert_eq!(rt; decode(&octets), Ok((*header, [6u8, 0x40, 1].as_slice())));
+    assert!(rt; octets.starts_with(&out[..len]));
+    Ok(())
+}
 
 #[test]
 fn headers_go_both_ways(rt: HostRuntime) -> Result<(), Fail> {
     let alloc = rt.alloc();
-    let text = hex::decode(alloc, "280003130001000000010002064001")?;
-    let mut out = [0u8; 12];
-    let len = encode(&OF_ACK, &mut out);
-    assert_eq!(rt; len, 12);
-    assert_eq!(rt; decode(&text), Ok((OF_ACK, [6u8, 0x40, 1].as_slice())));
-    assert_eq!(rt;
-        hex::encode_upper(alloc, out)?.as_str(),
-        "280003130001000000010002"
-    );
-
-    let text = hex::decode(alloc, "2800033100000001000100000002064001")?;
-    let mut out = [0u8; 14];
-    let len = encode(&WITH_LONG_IDS, &mut out);
-    assert_eq!(rt; len, 14);
-    assert_eq!(rt;
-        decode(&text),
-        Ok((WITH_LONG_IDS, [6u8, 0x40, 1].as_slice()))
-    );
-    assert_eq!(rt;
-        hex::encode_upper(alloc, out)?.as_str(),
-        "2800033100000001000100000002"
-    );
-    Ok(())
+    goes_both_ways(
+        &rt,
+        alloc,
+        &of_ack(2, 4, 1),
+        "280003130001000000010002064001",
+    )?;
+    goes_both_ways(
+        &rt,
+        alloc,
+        &of_ack(4, 2, 1),
+        "2800033100000001000100000002064001",
+    )?;
+    goes_both_ways(&rt, alloc, &of_ack(1, 1, 1), "28000300010102064001")?;
+    goes_both_ways(
+        &rt,
+        alloc,
+        &of_ack(8, 8, u64::MAX),
+        "280003770000000000000001FFFFFFFFFFFFFFFF0000000000000002064001",
+    )
 }
 
 #[test]
@@ -70,7 +78,6 @@ fn refusals_have_their_numbers(rt: HostRuntime) -> Result<(), Fail> {
         ("280004130001000000010002064001", 4),
         ("240003130001000000010002064001", 5),
         ("290003130001000000010002064001", 6),
-        ("28000300010102064001", 20),
     ] {
         let octets = hex::decode(alloc, text)?;
         let told = match decode(&octets) {
@@ -84,4 +91,17 @@ fn refusals_have_their_numbers(rt: HostRuntime) -> Result<(), Fail> {
         "CrcPresent"
     );
     Ok(())
+}
+
+#[test]
+fn ids_are_ordered_by_source_first(rt: HostRuntime) {
+    let early = TransactionId {
+        source: 1,
+        number: u64::MAX,
+    };
+    let late = TransactionId {
+        source: 2,
+        number: 0,
+    };
+    assert!(rt; early < late);
 }

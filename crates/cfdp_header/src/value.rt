@@ -1,6 +1,7 @@
 /// Names a transaction: the entity that sends the file, and the number that it gave the transaction
-/// (CCSDS 727.0-B-5). Two ids are the same where both numbers are, whatever width they are written in.
-#[derive(Clone, Copy, Debug, PartialEq, Eq)]
+/// (CCSDS 727.0-B-5). Two ids are the same where both numbers are, whatever width they are written in. They are ordered by source,
+/// then by number.
+#[derive(Clone, Copy, Debug, PartialEq, Eq, PartialOrd, Ord, Hash)]
 pub struct TransactionId {
     /// The entity id of the file's sender.
     pub source: u64,
@@ -19,9 +20,9 @@ pub struct Header {
     pub length: u16,
     /// Whether segment metadata stands before each offset of file data. This stack's senders never set it.
     pub segment_metadata: bool,
-    /// Octets of an entity id: 2 or 4.
+    /// Octets of an entity id: 1 to 8.
     pub id_width: u8,
-    /// Octets of a sequence number: 2 or 4.
+    /// Octets of a sequence number: 1 to 8.
     pub number_width: u8,
     /// The transaction. Its source is the file's sender in both directions.
     pub id: TransactionId,

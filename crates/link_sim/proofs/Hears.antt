@@ -1,9 +1,8 @@
 -- What a PDU that is heard does keeps what holds at the station.
-use Rattle.std.proofs.Common.{◌≡◌, ℕ, zero, suc, ◌+◌, ◌*◌, ◌^◌, ◌<◌, ◌≤◌, ◌==◌, ◌&&◌, ◌||◌, not, Bool, true, false, cond, List, [], ◌∷◌, ◌++◌, length, drop, Option, Some, None, is_none, refl, sym, ap, subst, ◌∙◌, arith, append-nil, length-append, inl, inr, ◌⊎◌}
+use Rattle.std.proofs.Common.{◌≡◌, ℕ, ◌+◌, ◌*◌, ◌^◌, ◌<◌, ◌≤◌, ◌==◌, ◌&&◌, not, Bool, true, false, cond, List, [], ◌∷◌, ◌++◌, length, drop, Option, Some, None, is_none, refl, sym, ap, subst, ◌∙◌, arith, append-nil, inl, inr, ◌⊎◌}
 use Rattle.std.specs.Prelude.{Contains, if◌then◌else◌}
 use Rattle.std.proofs.lemmas.Bool.{eqb-true, eq-eqb, and_parts, and_right, cases_Bool, cases_lt}
 use Rattle.std.proofs.lemmas.List.Elements.{Contains-push_cases}
-use Rattle.cfd_bits.specs.Field.{field}
 use Rattle.cfd_bits.proofs.BitFields.{field-below, field-below_octets}
 use Rattle.cfdp_header.specs.declared.value.Header.{Header}
 use Rattle.cfdp_header.specs.declared.value.TransactionId.{TransactionId}
@@ -16,15 +15,15 @@ use Rattle.cfdp_directives.specs.declared.codes.FileStatus.TheVariants.{Retained
 use Rattle.cfdp_directives.specs.declared.indication.Indication.{Indication}
 use Rattle.cfdp_directives.specs.declared.indication.Indication.TheVariants as indication
 use Rattle.cfdp_directives.specs.Codes.{no_error, file_checksum_failure, file_size_error, unsupported_checksum_type, IsCondition}
-use Rattle.cfdp_directives.specs.Content.{Content, FileData, Metadata, Eof, Finished, Ack}
+use Rattle.cfdp_directives.specs.Tlv.{Tlv}
+use Rattle.cfdp_directives.specs.Content.{Content, FileData, Metadata, Eof, Finished, Ack, Nak, Prompt, KeepAlive}
 use Rattle.cfdp_directives.specs.Grammar.{SpellsPdu}
-use Rattle.cfdp_directives.specs.Put.{Put, Files, SomePdu, inbox_after}
-use Rattle.cfdp_directives.specs.Completions.{same_id, is_complete, completion, completions, FinishedOnce, IsToldComplete, is_finished}
-use Rattle.cfdp_directives.proofs.Puts.{SomePdu-last, completions-append, completions-last, finished-append, finished-last}
+use Rattle.cfdp_directives.specs.Put.{Put, Files, inbox_after}
+use Rattle.cfdp_directives.specs.Completions.{same_id, is_complete, completions, FinishedOnce}
+use Rattle.cfdp_directives.proofs.Puts.{SomePdu-last, completions-append, completions-last, finished-append}
 use Rattle.link_sim.specs.declared.side.Side.{Side}
 use Rattle.link_sim.specs.declared.side.Side.TheVariants.{One, Two}
 use Rattle.link_sim.specs.declared.sender.Sender.{Sender}
-use Rattle.link_sim.specs.declared.sender.SenderPhase.{SenderPhase}
 use Rattle.link_sim.specs.declared.sender.SenderPhase.TheVariants.{Sending, Closed}
 use Rattle.link_sim.specs.declared.receiver.Receiver.{Receiver}
 use Rattle.link_sim.specs.declared.receiver.ReceiverPhase.{ReceiverPhase}
@@ -37,12 +36,12 @@ use Rattle.link_sim.specs.declared.transaction.Transaction.TheVariants.{Sends, R
 use Rattle.link_sim.specs.Sides.{other, entity_of, goes_toward_sender, is_for}
 use Rattle.link_sim.specs.Link.{LinkState}
 use Rattle.link_sim.specs.Held.{holds_below, holds_from, front, with_data}
-use Rattle.link_sim.specs.Sender.{sender_hears, hears_finished, hears_ack_of_eof, is_sending}
-use Rattle.link_sim.specs.Receiver.{ReceiverAfter, receiver_hears, opened_receiver, opening_phase, discarded, faulted, published, completed, completed_by, agrees, is_supported, is_receiving, is_finishing, exceeds, hears_ending, hears_cancel, hears_ack_of_finished, unchanged}
-use Rattle.link_sim.specs.Station.{StationState, After, after_heard, no_change, from_sender, from_receiver, opens, heard_by, comes_to, hears, HearsPdu, DropsPdu, id_of, IsWritable, IsWritableSender, IsWritableReceiver}
+use Rattle.link_sim.specs.Sender.{sender_hears, hears_finished, is_sending}
+use Rattle.link_sim.specs.Receiver.{ReceiverAfter, receiver_hears, opened_receiver, opening_phase, discarded, faulted, published, completed, completed_by, agrees, is_supported, is_receiving, is_finishing, exceeds, hears_ending, hears_cancel}
+use Rattle.link_sim.specs.Station.{StationState, After, after_heard, no_change, from_sender, from_receiver, opens, heard_by, comes_to, HearsPdu, DropsPdu, id_of, IsWritable, IsWritableSender, IsWritableReceiver}
 use Rattle.link_sim.specs.Theorem.{SaysComplete}
-use Rattle.link_sim.specs.Sound.{finished_count, SendsPut, ReceivesPut, IsSoundTransaction, SaysDelivered, StepsSoundly}
-use Rattle.link_sim.proofs.Growth.{same_id-is, same_id-itself, counted}
+use Rattle.link_sim.specs.Sound.{finished_count, SendsPut, ReceivesPut, IsSoundTransaction, SaysDelivered}
+use Rattle.link_sim.proofs.Growth.{same_id-is, counted}
 use Rattle.link_sim.proofs.ReceiverKeeps.{receiver-open}
 use Rattle.link_sim.proofs.ReceiverSound.{receiver-sound}
 use Rattle.link_sim.proofs.Takes.{sender-like}
@@ -50,14 +49,14 @@ use Rattle.link_sim.proofs.StationSound.{TruthBy, truth-of, Parts, Moves, parts-
 
 -- ---- what is spelled can be written again
 
-finished-condition : (h : Header) (c : ℕ) (d : Delivery) (s : FileStatus) (text : List ℕ) → SpellsPdu h (Finished c d s) text → IsCondition c
-finished-condition h c d s text spelled =
+finished-condition : (h : Header) (c : ℕ) (d : Delivery) (s : FileStatus) (tlvs : List Tlv) (text : List ℕ) → SpellsPdu h (Finished c d s tlvs) text → IsCondition c
+finished-condition h c d s tlvs text spelled =
     let f = spelled.content.1 in
     let e = f.condition_field in
     (omega (arith, field-below (drop (header_len h.id_width h.number_width) text) 8 4), f.allowed)
 
-eof-condition : (h : Header) (c k z : ℕ) (text : List ℕ) → SpellsPdu h (Eof c k z) text → IsCondition c
-eof-condition h c k z text spelled =
+eof-condition : (h : Header) (c k z : ℕ) (tlvs : List Tlv) (text : List ℕ) → SpellsPdu h (Eof c k z tlvs) text → IsCondition c
+eof-condition h c k z tlvs text spelled =
     let f = spelled.content.1 in
     let e = f.condition_field in
     (omega (arith, field-below (drop (header_len h.id_width h.number_width) text) 8 4), f.allowed)
@@ -67,8 +66,8 @@ opened-writable phase h v text spelled =
     let f = spelled.header in
     record {
       id = record {
-        id_width = f.id_width_read;
-        number_width = f.number_width_read;
+        id_width = (let e = f.id_width in let low = field-below text 25 3 in (omega arith, omega arith));
+        number_width = (let e = f.number_width in let low = field-below text 29 3 in (omega arith, omega arith));
         source = subst (λ (n : ℕ). n < 256 ^ h.id_width) f.source (field-below_octets text 32 h.id_width);
         number = subst (λ (n : ℕ). n < 256 ^ h.number_width) f.number (field-below_octets text (32 + 8 * h.id_width) h.number_width);
       };
@@ -106,7 +105,7 @@ writable-completed (Some info) (Some ending) r files w =
     w
 
 writable-hears : (h : Header) (v : Content) (text : List ℕ) (r : Receiver) (files : Files) → SpellsPdu h v text → IsWritableReceiver r → W (receiver_hears v r files)
-writable-hears h (Metadata kind size source destination) text r files spelled w =
+writable-hears h (Metadata kind size source destination options) text r files spelled w =
     let r1 : Receiver = record r { file = Some (record { checksum_kind = kind; destination = destination }) } in
     let w1 : IsWritableReceiver r1 = record { id = w.id; condition = w.condition; outcome = w.outcome } in
     either (is_receiving r.phase && is_none r.file) _ _
@@ -118,8 +117,8 @@ writable-hears h (FileData offset bytes) text r files spelled w =
     either (is_receiving r.phase) _ _
     (either (exceeds r.ending (offset + length bytes)) _ _ (writable-faulted file_size_error r files (omega arith, refl) w) (writable-completed r1.file r1.ending r1 files w1))
     w
-writable-hears h (Eof c k z) text r files spelled w =
-    let is : IsCondition c = eof-condition h c k z text spelled in
+writable-hears h (Eof c k z tlvs) text r files spelled w =
+    let is : IsCondition c = eof-condition h c k z tlvs text spelled in
     let acks : IsWritableReceiver (record r { ack_due = Some c }) = record { id = w.id; condition = λ d e. some-condition c d is e; outcome = w.outcome } in
     let r1 : Receiver = record r { ending = Some (record { checksum = k; size = z }); ack_due = Some no_error } in
     let w1 : IsWritableReceiver r1 = record { id = w.id; condition = λ d e. some-condition no_error d (omega arith, refl) e; outcome = w.outcome } in
@@ -133,7 +132,10 @@ writable-hears h (Ack acknowledged.Finished c s) text r files spelled w = elim (
   | false ↦ w
 ]
 writable-hears h (Ack acknowledged.Eof c s) text r files spelled w = w
-writable-hears h (Finished c d s) text r files spelled w = w
+writable-hears h (Finished c d s tlvs) text r files spelled w = w
+writable-hears h (Nak start end pairs) text r files spelled w = w
+writable-hears h (Prompt keep_alive) text r files spelled w = w
+writable-hears h (KeepAlive progress) text r files spelled w = w
 
 -- ---- what is heard
 
@@ -157,17 +159,23 @@ only-here told t only id low =
 -- a PDU that opens a transaction goes toward the receiver, and speaks of a put
 opening-goes : (v : Content) (phase : ReceiverPhase) → opening_phase v ≡ Some phase → goes_toward_sender v ≡ false
 opening-goes (FileData offset bytes) phase e = refl
-opening-goes (Metadata kind size source destination) phase e = refl
-opening-goes (Eof c k z) phase e = refl
-opening-goes (Finished c d s) phase e = absurd cc
+opening-goes (Metadata kind size source destination options) phase e = refl
+opening-goes (Eof c k z tlvs) phase e = refl
+opening-goes (Finished c d s tlvs) phase e = absurd cc
 opening-goes (Ack of c s) phase e = absurd cc
+opening-goes (Nak start end pairs) phase e = absurd cc
+opening-goes (Prompt keep_alive) phase e = absurd cc
+opening-goes (KeepAlive progress) phase e = absurd cc
 
 opening-put : (own : ℕ) (p : TransactionId → Option Put) (id : TransactionId) (v : Content) (phase : ReceiverPhase) → opening_phase v ≡ Some phase → TruthBy own p id v → (put : Put) × (p id ≡ Some put)
 opening-put own p id (FileData offset bytes) phase e t = (t.0, t.1.1)
-opening-put own p id (Metadata kind size source destination) phase e t = (t.0, t.1.1)
-opening-put own p id (Eof c k z) phase e t = (t.0, t.1.1)
-opening-put own p id (Finished c d s) phase e t = absurd cc
+opening-put own p id (Metadata kind size source destination options) phase e t = (t.0, t.1.1)
+opening-put own p id (Eof c k z tlvs) phase e t = (t.0, t.1.1)
+opening-put own p id (Finished c d s tlvs) phase e t = absurd cc
 opening-put own p id (Ack of c s) phase e t = absurd cc
+opening-put own p id (Nak start end pairs) phase e t = absurd cc
+opening-put own p id (Prompt keep_alive) phase e t = absurd cc
+opening-put own p id (KeepAlive progress) phase e t = absurd cc
 
 module _ (own : ℕ) (p : TransactionId → Option Put) (sources : Files) (heard : List (List ℕ)) (told : List Indication) (before : Files) (their_own : ℕ) (their_told : List Indication) (text : List ℕ) (h : Header) where
   -- a sender hears something else than the first Finished
@@ -178,9 +186,9 @@ module _ (own : ℕ) (p : TransactionId → Option Put) (sources : Files) (heard
   sends-on x y a id source destination size still = sender-like own p sources told x y [] a id source destination size (λ o. (still o, refl))
 
   -- it hears the first
-  sender-finishes : (c : ℕ) (d : Delivery) (s : FileStatus) (x : Sender) → SpellsPdu h (Finished c d s) text → FinishedOnce told → ((id : TransactionId) → 0 < finished_count id told → x.id ≡ id) → SendsPut own p sources told x → IsWritableSender x → x.id ≡ h.id →
-      SaysDelivered their_own their_told h.id (Finished c d s) → x.phase ≡ Sending → Moves own p sources (heard ++ text ∷ []) told before (completions their_own their_told) (from_sender before (hears_finished Sending c d s x))
-  sender-finishes c d s x spelled once only a w same says sending = record {
+  sender-finishes : (c : ℕ) (d : Delivery) (s : FileStatus) (tlvs : List Tlv) (x : Sender) → SpellsPdu h (Finished c d s tlvs) text → FinishedOnce told → ((id : TransactionId) → 0 < finished_count id told → x.id ≡ id) → SendsPut own p sources told x → IsWritableSender x → x.id ≡ h.id →
+      SaysDelivered their_own their_told h.id (Finished c d s tlvs) → x.phase ≡ Sending → Moves own p sources (heard ++ text ∷ []) told before (completions their_own their_told) (from_sender before (hears_finished Sending c d s x))
+  sender-finishes c d s tlvs x spelled once only a w same says sending = record {
     once = λ id. elim (cases_Bool (same_id x.id id)) [
       | inl t ↦
           let none : finished_count id told ≡ 0 = ap (λ (i : TransactionId). finished_count i told) (sym (same_id-is x.id id t)) ∙ a.unfinished sending in
@@ -204,7 +212,7 @@ module _ (own : ℕ) (p : TransactionId → Option Put) (sources : Files) (heard
       ),
     );
     transaction = sender-like own p sources told x y more a refl refl refl refl (λ o. absurd cc);
-    writable = record { id = w.id; size = w.size; sent = w.sent; source = w.source; destination = w.destination; condition = λ k e. some-condition c k (finished-condition h c d s text spelled) e };
+    writable = record { id = w.id; size = w.size; sent = w.sent; source = w.source; destination = w.destination; condition = λ k e. some-condition c k (finished-condition h c d s tlvs text spelled) e };
     completes = record {
       inbox = sym (ap (inbox_after p before) none_completed);
       caused = λ id k. absurd (none_contained id (subst (λ (ids : List TransactionId). Contains ids id) none_completed k));
@@ -212,9 +220,9 @@ module _ (own : ℕ) (p : TransactionId → Option Put) (sources : Files) (heard
     complete = λ id t.
         let told_so : indication.Finished x.id c d s ≡ indication.Finished id no_error Complete Retained = one-is _ _ t.1 in
         let is_id : x.id ≡ id = cc in
-        let is_so : Finished c d s ≡ Finished no_error Complete Retained = cc in
+        let is_so : Finished c d s tlvs ≡ Finished no_error Complete Retained tlvs = cc in
         let yes : is_complete c d s ≡ true = (let e1 : c ≡ no_error = cc in let e2 : d ≡ Complete = cc in let e3 : s ≡ Retained = cc in rw (e1, e2, e3) refl) in (
-          SomePdu-last (SaysComplete id) heard text h (Finished c d s) spelled (sym same ∙ is_id, is_so),
+          SomePdu-last (SaysComplete id) heard text h (Finished c d s tlvs) spelled (sym same ∙ is_id, (tlvs, is_so)),
           subst (λ (i : TransactionId). Contains (completions their_own their_told) i) (sym same ∙ is_id) (says yes),
         );
   }
@@ -236,11 +244,11 @@ module _ (own : ℕ) (p : TransactionId → Option Put) (sources : Files) (heard
 
   sender-moves : (v : Content) (x : Sender) → SpellsPdu h v text → FinishedOnce told → ((id : TransactionId) → 0 < finished_count id told → x.id ≡ id) → SendsPut own p sources told x → IsWritableSender x → x.id ≡ h.id →
       SaysDelivered their_own their_told h.id v → Moves own p sources (heard ++ text ∷ []) told before (completions their_own their_told) (from_sender before (sender_hears v x))
-  sender-moves (Finished c d s) x spelled once only a w same says =
+  sender-moves (Finished c d s tlvs) x spelled once only a w same says =
       elim x.phase as (λ phase. x.phase ≡ phase → Moves own p sources (heard ++ text ∷ []) told before (completions their_own their_told) (from_sender before (hears_finished phase c d s x))) [
-        | Sending ↦ λ e. sender-finishes c d s x spelled once only a w same says e
+        | Sending ↦ λ e. sender-finishes c d s tlvs x spelled once only a w same says e
         | Closed ↦ λ e. sender-quiet x (record x { ack_due = Some c }) once only refl (sends-on x (record x { ack_due = Some c }) a refl refl refl refl (λ o. o))
-            (record { id = w.id; size = w.size; sent = w.sent; source = w.source; destination = w.destination; condition = λ k e. some-condition c k (finished-condition h c d s text spelled) e })
+            (record { id = w.id; size = w.size; sent = w.sent; source = w.source; destination = w.destination; condition = λ k e. some-condition c k (finished-condition h c d s tlvs text spelled) e })
       ] refl
   sender-moves (Ack acknowledged.Eof c s) x spelled once only a w same says =
       elim (is_sending x.phase && x.eof_taken && (c == no_error)) as (λ b. Moves own p sources (heard ++ text ∷ []) told before (completions their_own their_told) (record { transaction = Some (Sends (if b then record x { acknowledged = true } else x)); told = []; files = before })) [
@@ -250,8 +258,11 @@ module _ (own : ℕ) (p : TransactionId → Option Put) (sources : Files) (heard
       ]
   sender-moves (Ack acknowledged.Finished c s) x spelled once only a w same says = sender-quiet x x once only refl (sends-on x x a refl refl refl refl (λ o. o)) w
   sender-moves (FileData offset bytes) x spelled once only a w same says = sender-quiet x x once only refl (sends-on x x a refl refl refl refl (λ o. o)) w
-  sender-moves (Metadata kind size source destination) x spelled once only a w same says = sender-quiet x x once only refl (sends-on x x a refl refl refl refl (λ o. o)) w
-  sender-moves (Eof c k z) x spelled once only a w same says = sender-quiet x x once only refl (sends-on x x a refl refl refl refl (λ o. o)) w
+  sender-moves (Metadata kind size source destination options) x spelled once only a w same says = sender-quiet x x once only refl (sends-on x x a refl refl refl refl (λ o. o)) w
+  sender-moves (Eof c k z tlvs) x spelled once only a w same says = sender-quiet x x once only refl (sends-on x x a refl refl refl refl (λ o. o)) w
+  sender-moves (Nak start end pairs) x spelled once only a w same says = sender-quiet x x once only refl (sends-on x x a refl refl refl refl (λ o. o)) w
+  sender-moves (Prompt keep_alive) x spelled once only a w same says = sender-quiet x x once only refl (sends-on x x a refl refl refl refl (λ o. o)) w
+  sender-moves (KeepAlive progress) x spelled once only a w same says = sender-quiet x x once only refl (sends-on x x a refl refl refl refl (λ o. o)) w
 
   receiver-moves : (v : Content) (r : Receiver) → HasId p → SpellsPdu h v text → FinishedOnce told → ((id : TransactionId) → 0 < finished_count id told → h.id ≡ id) → ReceivesPut own p heard told r → IsWritableReceiver r → r.id ≡ h.id →
       TruthBy their_own p h.id v → Moves own p sources (heard ++ text ∷ []) told before (completions their_own their_told) (from_receiver (receiver_hears v r before))

@@ -13,10 +13,10 @@ use Rattle.cfdp_directives.specs.declared.codes.Acknowledged.TheVariants as ackn
 use Rattle.cfdp_directives.specs.declared.indication.Indication.{Indication}
 use Rattle.cfdp_directives.specs.declared.indication.Indication.TheVariants as indication
 use Rattle.cfdp_directives.specs.Codes.{no_error, file_checksum_failure, file_size_error, unsupported_checksum_type}
-use Rattle.cfdp_directives.specs.Content.{Content, FileData, Metadata, Eof, Finished, Ack}
+use Rattle.cfdp_directives.specs.Content.{Content, FileData, Metadata, Eof, Finished, Ack, Nak, Prompt, KeepAlive}
 use Rattle.cfdp_directives.specs.Grammar.{SpellsPdu}
 use Rattle.cfdp_directives.specs.Put.{Put, Files, IsTruthful, SomePdu, IsMetadataOf, IsEofOf, Brings, HeardInFull, overwritten, inbox_after}
-use Rattle.cfdp_directives.specs.Completions.{completion, completions}
+use Rattle.cfdp_directives.specs.Completions.{completions}
 use Rattle.cfdp_directives.proofs.Puts.{SomePdu-last, completions-append, finished-append}
 use Rattle.link_sim.specs.declared.receiver.Receiver.{Receiver}
 use Rattle.link_sim.specs.declared.receiver.ReceiverPhase.{ReceiverPhase}
@@ -32,10 +32,13 @@ use Rattle.link_sim.proofs.ReceiverKeeps.{receives-more, receives-told, complete
 -- What a content of a transaction says is true of a put that `put_of` knows.
 abbrev pub TruthOf : (TransactionId → Option Put) → TransactionId → Content → Type 0
 TruthOf put_of id (FileData offset bytes) = (put : Put) × ((put_of id ≡ Some put) × IsTruthful put (FileData offset bytes))
-TruthOf put_of id (Metadata kind size source destination) = (put : Put) × ((put_of id ≡ Some put) × IsTruthful put (Metadata kind size source destination))
-TruthOf put_of id (Eof condition checksum size) = (put : Put) × ((put_of id ≡ Some put) × IsTruthful put (Eof condition checksum size))
-TruthOf put_of id (Finished condition delivery status) = Unit {0}
+TruthOf put_of id (Metadata kind size source destination options) = (put : Put) × ((put_of id ≡ Some put) × IsTruthful put (Metadata kind size source destination options))
+TruthOf put_of id (Eof condition checksum size tlvs) = (put : Put) × ((put_of id ≡ Some put) × IsTruthful put (Eof condition checksum size tlvs))
+TruthOf put_of id (Finished condition delivery status tlvs) = Unit {0}
 TruthOf put_of id (Ack of condition status) = Unit {0}
+TruthOf put_of id (Nak start end pairs) = Unit {0}
+TruthOf put_of id (Prompt keep_alive) = Unit {0}
+TruthOf put_of id (KeepAlive progress) = Unit {0}
 
 -- ---- small steps
 is_receiving-is : (p : ReceiverPhase) → is_receiving p ≡ true → p ≡ Receiving
@@ -351,15 +354,15 @@ module _ (own : ℕ) (put_of : TransactionId → Option Put) (heard : List (List
       SpellsPdu h v text → r.id ≡ h.id → TruthOf put_of h.id v →
       ReceivesPut own put_of (heard ++ text ∷ []) told r → finished_count r.id told ≤ 1 →
       StepsSoundly own put_of (heard ++ text ∷ []) told files r.id (receiver_hears v r files)
-  hears (Metadata kind size source destination) ids spells same truth s once =
+  hears (Metadata kind size source destination options) ids spells same truth s once =
       let put : Put = truth.0 in
       let is_put : put_of h.id ≡ Some put = truth.1.0 in
-      let says : IsTruthful put (Metadata kind size source destination) = truth.1.1 in
+      let says : IsTruthful put (Metadata kind size source destination options) = truth.1.1 in
       steps-metadata own put_of (heard ++ text ∷ []) told kind size source destination r files (record {
         put = put;
         is_put = ap put_of same ∙ is_put;
         same_destination = says.3;
-        was_heard = SomePdu-last (IsMetadataOf put) heard text h (Metadata kind size source destination) spells (sym (ids h.id put is_put), says);
+        was_heard = SomePdu-last (IsMetadataOf put) heard text h (Metadata kind size source destination options) spells (sym (ids h.id put is_put), says);
       }) s once
   hears (FileData offset bytes) ids spells same truth s once =
       let put : Put = truth.0 in
@@ -373,17 +376,20 @@ module _ (own : ℕ) (put_of : TransactionId → Option Put) (heard : List (List
         octet = data-is put.octets bytes offset n b says low is;
         was_heard = SomePdu-last (Brings put n) heard text h (FileData offset bytes) spells (sym (ids h.id put is_put), low, omega (arith, low, within), says);
       }) s once
-  hears (Eof condition checksum size) ids spells same truth s once =
+  hears (Eof condition checksum size tlvs) ids spells same truth s once =
       let put : Put = truth.0 in
       let is_put : put_of h.id ≡ Some put = truth.1.0 in
-      let says : IsTruthful put (Eof condition checksum size) = truth.1.1 in
+      let says : IsTruthful put (Eof condition checksum size tlvs) = truth.1.1 in
       steps-eof own put_of (heard ++ text ∷ []) told condition checksum size r files (λ fine. record {
         put = put;
         is_put = ap put_of same ∙ is_put;
         same_size = (says fine).1;
-        was_heard = SomePdu-last (IsEofOf put) heard text h (Eof condition checksum size) spells (sym (ids h.id put is_put), fine, says);
+        was_heard = SomePdu-last (IsEofOf put) heard text h (Eof condition checksum size tlvs) spells (sym (ids h.id put is_put), fine, says);
       }) s once
-  hears (Finished condition delivery status) ids spells same truth s once = steps-unchanged own put_of (heard ++ text ∷ []) told r files s once
+  hears (Finished condition delivery status tlvs) ids spells same truth s once = steps-unchanged own put_of (heard ++ text ∷ []) told r files s once
+  hears (Nak start end pairs) ids spells same truth s once = steps-unchanged own put_of (heard ++ text ∷ []) told r files s once
+  hears (Prompt keep_alive) ids spells same truth s once = steps-unchanged own put_of (heard ++ text ∷ []) told r files s once
+  hears (KeepAlive progress) ids spells same truth s once = steps-unchanged own put_of (heard ++ text ∷ []) told r files s once
   hears (Ack acknowledged.Eof condition status) ids spells same truth s once = steps-unchanged own put_of (heard ++ text ∷ []) told r files s once
   hears (Ack acknowledged.Finished condition status) ids spells same truth s once = steps-ack own put_of (heard ++ text ∷ []) told r files s once
 

@@ -27,7 +27,7 @@ use Rattle.link_sim.specs.declared.event.Mark.TheVariants.{Delivered, Struck}
 use Rattle.link_sim.specs.declared.event.AcceptedPut.{AcceptedPut}
 use Rattle.link_sim.specs.Link.{waiting}
 use Rattle.link_sim.specs.Theorem.{delivered, accepted_as}
-use Rattle.link_sim.specs.Sender.{opened_sender, sender_due, sender_taken, sender_hears}
+use Rattle.link_sim.specs.Sender.{opened_sender, sender_due, sender_hears}
 
 abbrev id : TransactionId
 id = record { source = 1; number = 1 }
@@ -65,7 +65,7 @@ abbrev file : List ℕ
 file = 104 ∷ 105 ∷ 33 ∷ []
 
 abbrev metadata : Content
-metadata = Metadata 0 3 (97 ∷ []) (98 ∷ [])
+metadata = Metadata 0 3 (97 ∷ []) (98 ∷ []) []
 
 abbrev front_data : Content
 front_data = FileData 0 (104 ∷ 105 ∷ [])
@@ -74,7 +74,7 @@ abbrev last_data : Content
 last_data = FileData 2 (33 ∷ [])
 
 abbrev eof : Content
-eof = Eof 0 1751720192 3
+eof = Eof 0 1751720192 3 []
 
 abbrev metadata_told : Indication
 metadata_told = indication.MetadataRecv id (97 ∷ []) (98 ∷ []) 3
@@ -118,14 +118,14 @@ what_is_published held none_behind all_below same = rw (none_behind, all_below, 
 
 -- a checksum that differs by one is a fault
 wrong_checksum : (held : Held) → holds_from held 3 ≡ Bool.false → holds_below held 3 ≡ Bool.true → front held 3 ≡ file
-    → told_at (Eof 0 1751720193 3) (holding held (info 0) None)
+    → told_at (Eof 0 1751720193 3 []) (holding held (info 0) None)
     ≡ indication.EofRecv id ∷ indication.Fault id 5 ∷ indication.Finished id 5 Incomplete Discarded ∷ []
 unfolding checksums.word_sum
 wrong_checksum held none_behind all_below same = rw (none_behind, all_below, same) refl
 
 -- no checksum is compared where the type is null
 null_checksum : (held : Held) → holds_from held 3 ≡ Bool.false → holds_below held 3 ≡ Bool.true
-    → told_at (Eof 0 1 3) (holding held (info 15) None) ≡ indication.EofRecv id ∷ indication.Finished id 0 Complete Retained ∷ []
+    → told_at (Eof 0 1 3 []) (holding held (info 15) None) ≡ indication.EofRecv id ∷ indication.Finished id 0 Complete Retained ∷ []
 null_checksum held none_behind all_below = rw (none_behind, all_below) refl
 
 -- data behind the EOF's size, and an EOF whose size is before data that was heard
@@ -133,26 +133,26 @@ data_behind : (held : Held) → told_at last_data (holding held None (ending 0 2
     ≡ indication.Fault id 6 ∷ indication.Finished id 6 Incomplete Discarded ∷ []
 data_behind held = refl
 
-eof_before : (held : Held) → holds_from held 2 ≡ Bool.true → told_at (Eof 0 0 2) (holding held None None)
+eof_before : (held : Held) → holds_from held 2 ≡ Bool.true → told_at (Eof 0 0 2 []) (holding held None None)
     ≡ indication.EofRecv id ∷ indication.Fault id 6 ∷ indication.Finished id 6 Incomplete Discarded ∷ []
 eof_before held some_behind = rw (some_behind) refl
 
 -- a checksum type that cannot be made
-unknown_checksum : told_at (Metadata 3 3 (97 ∷ []) (98 ∷ [])) silent
+unknown_checksum : told_at (Metadata 3 3 (97 ∷ []) (98 ∷ []) []) silent
     ≡ metadata_told ∷ indication.Fault id 11 ∷ indication.Finished id 11 Incomplete Discarded ∷ []
 unknown_checksum = refl
 
 -- an EOF with an error closes: it is acknowledged as terminated, and no fault is told
-cancelled_told : told_at (Eof 15 0 0) (after metadata silent) ≡ indication.Finished id 15 Incomplete Discarded ∷ []
+cancelled_told : told_at (Eof 15 0 0 []) (after metadata silent) ≡ indication.Finished id 15 Incomplete Discarded ∷ []
 cancelled_told = refl
 
-cancelled_closes : (after (Eof 15 0 0) (after metadata silent)).phase ≡ Closed
+cancelled_closes : (after (Eof 15 0 0 []) (after metadata silent)).phase ≡ Closed
 cancelled_closes = refl
 
-cancelled_says : receiver_says (after (Eof 15 0 0) silent) (receiver_dues.AckOfEof 15) ≡ Ack acknowledged.Eof 15 Terminated
+cancelled_says : receiver_says (after (Eof 15 0 0 []) silent) (receiver_dues.AckOfEof 15) ≡ Ack acknowledged.Eof 15 Terminated
 cancelled_says = refl
 
-cancelled_opens : opening_phase (Eof 15 0 0) ≡ Some Closed
+cancelled_opens : opening_phase (Eof 15 0 0 []) ≡ Some Closed
 cancelled_opens = refl
 
 -- a receiver that has completed
@@ -240,16 +240,16 @@ acknowledged_noted : (sender_hears (Ack acknowledged.Eof 0 Active) without_eof).
 acknowledged_noted = refl
 
 -- a Finished is told as it says, once, and is acknowledged each time
-finished_told : (sender_hears (Finished 5 Incomplete Discarded) without_eof).told ≡ indication.Finished id 5 Incomplete Discarded ∷ []
+finished_told : (sender_hears (Finished 5 Incomplete Discarded []) without_eof).told ≡ indication.Finished id 5 Incomplete Discarded ∷ []
 finished_told = refl
 
 abbrev closed : Sender
-closed = (sender_hears (Finished 0 Complete Retained) without_eof).sender
+closed = (sender_hears (Finished 0 Complete Retained []) without_eof).sender
 
 finished_due : sender_due closed ≡ Some (sender_dues.AckOfFinished 0)
 finished_due = refl
 
-finished_again : (sender_hears (Finished 0 Complete Retained) closed).told ≡ []
+finished_again : (sender_hears (Finished 0 Complete Retained []) closed).told ≡ []
 finished_again = refl
 
 -- a receiver's complete Finished is a completion there; a fault, and what the sender is told, are none

@@ -1,5 +1,5 @@
 -- What holds at one station, said without the world around it, and what keeps it.
-use Rattle.std.proofs.Common.{◌≡◌, ℕ, ◌+◌, ◌<◌, ◌≤◌, Bool, true, false, List, [], ◌∷◌, ◌++◌, length, Option, Some, None, refl, sym, ap, subst, ◌∙◌, arith, append-nil, length-append, inl, inr, ◌⊎◌}
+use Rattle.std.proofs.Common.{◌≡◌, ℕ, ◌<◌, ◌≤◌, List, [], ◌∷◌, ◌++◌, length, Option, Some, None, refl, sym, ap, subst, arith, length-append, inl, inr}
 use Rattle.std.specs.Prelude.{Contains}
 use Rattle.std.proofs.lemmas.List.Elements.{Contains-append_cases, Contains-push_cases}
 use Rattle.cfdp_header.specs.declared.value.Header.{Header}
@@ -9,23 +9,21 @@ use Rattle.cfdp_directives.specs.declared.codes.FileStatus.TheVariants.{Retained
 use Rattle.cfdp_directives.specs.declared.indication.Indication.{Indication}
 use Rattle.cfdp_directives.specs.declared.indication.Indication.TheVariants as indication
 use Rattle.cfdp_directives.specs.Codes.{no_error}
-use Rattle.cfdp_directives.specs.Content.{Content, FileData, Metadata, Eof, Finished, Ack}
+use Rattle.cfdp_directives.specs.Content.{Content, FileData, Metadata, Eof, Finished, Ack, Nak, Prompt, KeepAlive}
 use Rattle.cfdp_directives.specs.Grammar.{SpellsPdu}
 use Rattle.cfdp_directives.specs.Put.{Put, Files, SomePdu, IsTruthful, HeardInFull, inbox_after}
 use Rattle.cfdp_directives.specs.Completions.{completions, FinishedOnce, IsToldComplete}
-use Rattle.cfdp_directives.proofs.Puts.{SomePdu-append_left, HeardInFull-append, completions-append, finished-append, Contains-append_left, Contains-append_right}
+use Rattle.cfdp_directives.proofs.Puts.{SomePdu-append_left, HeardInFull-append, completions-append, finished-append, Contains-append_left}
 use Rattle.link_sim.specs.declared.side.Side.{Side}
 use Rattle.link_sim.specs.declared.event.Mark.{Mark}
-use Rattle.link_sim.specs.declared.sender.Sender.{Sender}
-use Rattle.link_sim.specs.declared.sender.SenderPhase.TheVariants.{Sending}
 use Rattle.link_sim.specs.declared.transaction.Transaction.{Transaction}
 use Rattle.link_sim.specs.declared.transaction.Transaction.TheVariants.{Sends, Receives}
 use Rattle.link_sim.specs.Sides.{other, entity_of}
 use Rattle.link_sim.specs.Link.{LinkState, with_pdu, with_mark}
-use Rattle.link_sim.specs.Station.{StationState, After, after_heard, no_change, id_of, IsWritable}
+use Rattle.link_sim.specs.Station.{StationState, After, after_heard, id_of, IsWritable}
 use Rattle.link_sim.specs.World.{WorldState, station_at, link_from}
 use Rattle.link_sim.specs.Theorem.{put_of, delivered_to, completions_at, SaysComplete, SaysTruth}
-use Rattle.link_sim.specs.Sound.{finished_count, SendsPut, Completes, IsSoundTransaction, SaysDelivered, IsSoundAt}
+use Rattle.link_sim.specs.Sound.{finished_count, Completes, IsSoundTransaction, SaysDelivered, IsSoundAt}
 use Rattle.link_sim.proofs.Growth.{counted}
 use Rattle.link_sim.proofs.ReceiverKeeps.{receives-more, receives-puts}
 use Rattle.link_sim.proofs.ReceiverSound.{TruthOf}
@@ -36,10 +34,13 @@ OfPut own p id v = (put : Put) × ((id.source ≡ own) × (p id ≡ Some put) ×
 
 abbrev pub TruthBy : ℕ → (TransactionId → Option Put) → TransactionId → Content → Type 0
 TruthBy own p id (FileData offset bytes) = OfPut own p id (FileData offset bytes)
-TruthBy own p id (Metadata kind size source destination) = OfPut own p id (Metadata kind size source destination)
-TruthBy own p id (Eof condition checksum size) = OfPut own p id (Eof condition checksum size)
-TruthBy own p id (Finished condition delivery status) = Unit {0}
+TruthBy own p id (Metadata kind size source destination options) = OfPut own p id (Metadata kind size source destination options)
+TruthBy own p id (Eof condition checksum size tlvs) = OfPut own p id (Eof condition checksum size tlvs)
+TruthBy own p id (Finished condition delivery status tlvs) = Unit {0}
 TruthBy own p id (Ack of condition status) = Unit {0}
+TruthBy own p id (Nak start end pairs) = Unit {0}
+TruthBy own p id (Prompt keep_alive) = Unit {0}
+TruthBy own p id (KeepAlive progress) = Unit {0}
 
 -- What holds at the station of a side: `p` finds the put of an id, `sent` is the link that the station sends on, `heard`
 -- is the PDUs that were delivered to it, and `theirs` is the transactions that the other station completed.
@@ -58,17 +59,23 @@ pub record Parts (s : Side) (p : TransactionId → Option Put) (st : StationStat
 
 truth-by : (s : Side) (w : WorldState) (id : TransactionId) (v : Content) → SaysTruth s w id v → TruthBy (entity_of s) (put_of w) id v
 truth-by s w id (FileData offset bytes) t = t
-truth-by s w id (Metadata kind size source destination) t = t
-truth-by s w id (Eof condition checksum size) t = t
-truth-by s w id (Finished condition delivery status) t = t
+truth-by s w id (Metadata kind size source destination options) t = t
+truth-by s w id (Eof condition checksum size tlvs) t = t
+truth-by s w id (Finished condition delivery status tlvs) t = t
 truth-by s w id (Ack of condition status) t = t
+truth-by s w id (Nak start end pairs) t = t
+truth-by s w id (Prompt keep_alive) t = t
+truth-by s w id (KeepAlive progress) t = t
 
 truth-says : (s : Side) (w : WorldState) (id : TransactionId) (v : Content) → TruthBy (entity_of s) (put_of w) id v → SaysTruth s w id v
 truth-says s w id (FileData offset bytes) t = t
-truth-says s w id (Metadata kind size source destination) t = t
-truth-says s w id (Eof condition checksum size) t = t
-truth-says s w id (Finished condition delivery status) t = t
+truth-says s w id (Metadata kind size source destination options) t = t
+truth-says s w id (Eof condition checksum size tlvs) t = t
+truth-says s w id (Finished condition delivery status tlvs) t = t
 truth-says s w id (Ack of condition status) t = t
+truth-says s w id (Nak start end pairs) t = t
+truth-says s w id (Prompt keep_alive) t = t
+truth-says s w id (KeepAlive progress) t = t
 
 pub parts-of : (s : Side) (w : WorldState) → IsSoundAt s w → Parts s (put_of w) (station_at s w) (link_from s w) (delivered_to s w) (completions_at (other s) w)
 parts-of s w a = record {
@@ -101,10 +108,13 @@ sound_at-of s w a = record {
 -- what the sender's side says is true for the receiver
 pub truth-of : (own : ℕ) (p : TransactionId → Option Put) (id : TransactionId) (v : Content) → TruthBy own p id v → TruthOf p id v
 truth-of own p id (FileData offset bytes) t = (t.0, (t.1.1, t.1.2))
-truth-of own p id (Metadata kind size source destination) t = (t.0, (t.1.1, t.1.2))
-truth-of own p id (Eof condition checksum size) t = (t.0, (t.1.1, t.1.2))
-truth-of own p id (Finished condition delivery status) t = t
+truth-of own p id (Metadata kind size source destination options) t = (t.0, (t.1.1, t.1.2))
+truth-of own p id (Eof condition checksum size tlvs) t = (t.0, (t.1.1, t.1.2))
+truth-of own p id (Finished condition delivery status tlvs) t = t
 truth-of own p id (Ack of condition status) t = t
+truth-of own p id (Nak start end pairs) t = t
+truth-of own p id (Prompt keep_alive) t = t
+truth-of own p id (KeepAlive progress) t = t
 
 -- ---- more puts, and more that the other station completed
 
@@ -114,10 +124,13 @@ Stays p q = (id : TransactionId) (put : Put) → p id ≡ Some put → q id ≡ 
 
 truth-puts : (own : ℕ) (p q : TransactionId → Option Put) (id : TransactionId) (v : Content) → Stays p q → TruthBy own p id v → TruthBy own q id v
 truth-puts own p q id (FileData offset bytes) stays t = (t.0, (t.1.0, stays id t.0 t.1.1, t.1.2))
-truth-puts own p q id (Metadata kind size source destination) stays t = (t.0, (t.1.0, stays id t.0 t.1.1, t.1.2))
-truth-puts own p q id (Eof condition checksum size) stays t = (t.0, (t.1.0, stays id t.0 t.1.1, t.1.2))
-truth-puts own p q id (Finished condition delivery status) stays t = t
+truth-puts own p q id (Metadata kind size source destination options) stays t = (t.0, (t.1.0, stays id t.0 t.1.1, t.1.2))
+truth-puts own p q id (Eof condition checksum size tlvs) stays t = (t.0, (t.1.0, stays id t.0 t.1.1, t.1.2))
+truth-puts own p q id (Finished condition delivery status tlvs) stays t = t
 truth-puts own p q id (Ack of condition status) stays t = t
+truth-puts own p q id (Nak start end pairs) stays t = t
+truth-puts own p q id (Prompt keep_alive) stays t = t
+truth-puts own p q id (KeepAlive progress) stays t = t
 
 transaction-puts : (own : ℕ) (p q : TransactionId → Option Put) (sources : Files) (heard : List (List ℕ)) (told : List Indication) (t : Option Transaction) → Stays p q → IsSoundTransaction own p sources heard told t → IsSoundTransaction own q sources heard told t
 transaction-puts own p q sources heard told None stays a = a
@@ -217,12 +230,15 @@ pub record Moves (own : ℕ) (p : TransactionId → Option Put) (sources : Files
   pub complete : (id : TransactionId) → IsToldComplete own a.told id → SomePdu (SaysComplete id) heard × Contains theirs id
 
 says-more : (own : ℕ) (told more : List Indication) (id : TransactionId) (v : Content) → SaysDelivered own told id v → SaysDelivered own (told ++ more) id v
-says-more own told more id (Finished condition delivery status) says =
+says-more own told more id (Finished condition delivery status tlvs) says =
     λ complete. subst (λ (ids : List TransactionId). Contains ids id) (sym (completions-append own told more)) (Contains-append_left (completions own told) (completions own more) id (says complete))
 says-more own told more id (FileData offset bytes) says = says
-says-more own told more id (Metadata kind size source destination) says = says
-says-more own told more id (Eof condition checksum size) says = says
+says-more own told more id (Metadata kind size source destination options) says = says
+says-more own told more id (Eof condition checksum size tlvs) says = says
 says-more own told more id (Ack of condition status) says = says
+says-more own told more id (Nak start end pairs) says = says
+says-more own told more id (Prompt keep_alive) says = says
+says-more own told more id (KeepAlive progress) says = says
 
 pub parts-moved : (s : Side) (p : TransactionId → Option Put) (st : StationState) (sent : LinkState) (heard : List (List ℕ)) (theirs : List TransactionId) (a : After) →
     Moves (entity_of s) p st.sources heard st.told st.published theirs a → Parts s p st sent heard theirs → Parts s p (after_heard st a) sent heard theirs

@@ -1,22 +1,18 @@
 -- What a poll takes can be written, tells the truth, and keeps what holds at the station.
-use Rattle.std.proofs.Common.{◌≡◌, ℕ, zero, suc, ◌+◌, ◌*◌, ◌^◌, ◌<◌, ◌≤◌, ◌==◌, ◌&&◌, ◌||◌, not, min, Bool, true, false, cond, List, [], ◌∷◌, ◌++◌, length, take, drop, Option, Some, None, refl, sym, ap, subst, ◌∙◌, arith, append-nil, length-append, length-take, inl, inr, ◌⊎◌}
+use Rattle.std.proofs.Common.{◌≡◌, ℕ, zero, suc, ◌^◌, ◌<◌, ◌≤◌, ◌==◌, ◌&&◌, ◌||◌, not, Bool, true, false, List, [], ◌∷◌, ◌++◌, length, take, drop, Option, Some, None, refl, sym, ap, subst, ◌∙◌, arith, append-nil, length-take, inl, inr}
 use Rattle.std.specs.Prelude.{Contains, unwrap_or, nat_lt, nat_le, if◌then◌else◌}
 use Rattle.std.specs.Option.{option_map}
 use Rattle.std.specs.FinMap.{get}
 use Rattle.std.proofs.lemmas.Bool.{eqb-true, leb-true, and_parts, or_cases}
 use Rattle.cfdp_header.specs.declared.value.Header.{Header}
 use Rattle.cfdp_header.specs.declared.value.TransactionId.{TransactionId}
-use Rattle.cfdp_header.specs.Header.{is_width}
-use Rattle.cfdp_directives.specs.declared.codes.Acknowledged.TheVariants as acknowledged
 use Rattle.cfdp_directives.specs.declared.indication.Indication.{Indication}
-use Rattle.cfdp_directives.specs.declared.indication.Indication.TheVariants as indication
-use Rattle.cfdp_directives.specs.Codes.{no_error, modular, null, IsCondition}
+use Rattle.cfdp_directives.specs.Codes.{modular, null}
 use Rattle.cfdp_directives.specs.Checksum.{checksum_of, modular_checksum}
-use Rattle.cfdp_directives.specs.Content.{Content, FileData, Metadata, Eof, Finished, Ack}
-use Rattle.cfdp_directives.specs.Grammar.{SpellsPdu}
+use Rattle.cfdp_directives.specs.Content.{Content}
 use Rattle.cfdp_directives.specs.Written.{CanWrite, FitsContent, content_len, pdu_octets}
 use Rattle.cfdp_directives.specs.Put.{Put, Files}
-use Rattle.cfdp_directives.specs.Completions.{completions, FinishedOnce, is_complete}
+use Rattle.cfdp_directives.specs.Completions.{completions, FinishedOnce}
 use Rattle.cfdp_directives.proofs.Puts.{finished-append}
 use Rattle.cfdp_directives.proofs.Spelling.{one_form, spelled}
 use Rattle.link_sim.specs.declared.side.Side.{Side}
@@ -34,7 +30,7 @@ use Rattle.link_sim.specs.declared.receiver.Outcome.{Outcome}
 use Rattle.link_sim.specs.declared.transaction.Transaction.{Transaction}
 use Rattle.link_sim.specs.declared.transaction.Transaction.TheVariants.{Sends, Receives}
 use Rattle.link_sim.specs.Config.{is_valid_config}
-use Rattle.link_sim.specs.Sides.{other, entity_of, id_octets, number_octets, header_of}
+use Rattle.link_sim.specs.Sides.{other, entity_of, header_of}
 use Rattle.link_sim.specs.Link.{LinkState, with_pdu}
 use Rattle.link_sim.specs.Sender.{sender_due, sender_says, sender_taken, sender_tells, file_due, open_due}
 use Rattle.link_sim.specs.Sender as sender
@@ -84,11 +80,10 @@ receiver-finished r None y e =
 
 -- ---- what is due can be written
 
-width-fits : (width n : ℕ) → is_width width ≡ true → n < 256 → n < 256 ^ width
-width-fits width n e low = elim (or_cases (width == 2) (width == 4) e) [
-  | inl two ↦ let w : width ≡ 2 = eqb-true width 2 two in subst (λ (k : ℕ). n < 256 ^ k) (sym w) (omega arith)
-  | inr four ↦ let w : width ≡ 4 = eqb-true width 4 four in subst (λ (k : ℕ). n < 256 ^ k) (sym w) (omega arith)
-]
+width-fits : (width n : ℕ) → 1 ≤ width → n < 256 → n < 256 ^ width
+width-fits zero n least low = absurd (omega arith)
+width-fits (suc zero) n least low = omega arith
+width-fits (suc (suc width)) n least low = let fewer : n < 256 ^ suc width = width-fits (suc width) n (omega arith) low in omega (arith, fewer)
 
 entity-fits : (s : Side) → entity_of s < 256
 entity-fits One = omega arith
@@ -102,7 +97,7 @@ can-write ids numbers id destination v fits low short content = record {
     length = short;
     source = fits.source;
     number = fits.number;
-    destination = width-fits ids destination fits.id_width low;
+    destination = width-fits ids destination fits.id_width.0 low;
   };
   content = content;
   kind = refl;
@@ -152,9 +147,9 @@ sender-can_write config s file x sending.FileData f w e =
     can-write 2 4 x.id (entity_of (other s)) _ w.id (entity-fits (other s)) (omega (arith, taken-length config.segment (drop x.sent file))) (omega arith)
 sender-can_write config s file x sending.Eof f w e = can-write 2 4 x.id (entity_of (other s)) _ w.id (entity-fits (other s)) (omega arith) ((omega arith, refl), checksum-fits config.checksum_kind file, w.size)
 
-receiver-can_write : (s : Side) (r : Receiver) (d : ReceiverDue) → IsWritableReceiver r → receiver_due r ≡ Some d → CanWrite (takes_from_receiver s r d).header (takes_from_receiver s r d).content
-receiver-can_write s r (receiving.AckOfEof c) w e = can-write r.id_width r.number_width r.id (entity_of s) _ w.id (entity-fits s) (omega arith) (w.condition c (receiver-ack r r.ack_due c e))
-receiver-can_write s r (receiving.Finished o) w e = can-write r.id_width r.number_width r.id (entity_of s) _ w.id (entity-fits s) (omega arith) (w.outcome o (receiver-finished r r.ack_due o e))
+pub receiver_can_write : (s : Side) (r : Receiver) (d : ReceiverDue) → IsWritableReceiver r → receiver_due r ≡ Some d → CanWrite (takes_from_receiver s r d).header (takes_from_receiver s r d).content
+receiver_can_write s r (receiving.AckOfEof c) w e = can-write r.id_width r.number_width r.id (entity_of s) _ w.id (entity-fits s) (omega arith) (w.condition c (receiver-ack r r.ack_due c e))
+receiver_can_write s r (receiving.Finished o) w e = can-write r.id_width r.number_width r.id (entity_of s) _ w.id (entity-fits s) (omega arith) (w.outcome o (receiver-finished r r.ack_due o e))
 
 takes_of-can_write : (config : SimConfig) (s : Side) (sources : Files) (transaction : Option Transaction) (t : Taken) → IsWritable transaction → is_valid_config config ≡ true → takes_of config s sources transaction ≡ Some t → CanWrite t.header t.content
 takes_of-can_write config s sources None t w valid e = absurd cc
@@ -163,7 +158,7 @@ takes_of-can_write config s sources (Some (Sends x)) t w valid e =
     subst (λ (y : Taken). CanWrite y.header y.content) d.1.1 (sender-can_write config s (file_at sources x.source) x d.0 (fine config valid) w d.1.0)
 takes_of-can_write config s sources (Some (Receives r)) t w valid e =
     let d = some-map (takes_from_receiver s r) (receiver_due r) t e in
-    subst (λ (y : Taken). CanWrite y.header y.content) d.1.1 (receiver-can_write s r d.0 w d.1.0)
+    subst (λ (y : Taken). CanWrite y.header y.content) d.1.1 (receiver_can_write s r d.0 w d.1.0)
 
 -- what a poll takes can be written
 pub takes-can_write : (config : SimConfig) (s : Side) (st : StationState) (t : Taken) → IsWritable st.transaction → is_valid_config config ≡ true → takes config s st ≡ Some t → CanWrite t.header t.content

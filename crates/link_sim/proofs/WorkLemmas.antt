@@ -9,7 +9,7 @@ use Rattle.std.proofs.Math.Seq.{drop-cons}
 use Rattle.cfdp_directives.specs.Field.{field}
 use Rattle.cfdp_header.specs.declared.value.Header.{Header}
 use Rattle.cfdp_header.specs.Header.{flag, header_len, header_len_told, SpellsHeader}
-use Rattle.cfdp_directives.specs.Content.{Content, FileData, Metadata, Eof, Finished, Ack}
+use Rattle.cfdp_directives.specs.Content.{Content, FileData, Metadata, Eof, Finished, Ack, Nak, Prompt, KeepAlive}
 use Rattle.cfdp_directives.specs.declared.codes.Acknowledged.TheVariants as acknowledged
 use Rattle.cfdp_directives.specs.Grammar.{SpellsPdu}
 use Rattle.cfdp_directives.specs.Written.{CanWrite, pdu_octets}
@@ -74,10 +74,13 @@ file_data h text s is_data =
 
 pub text-works : (h : Header) (v : Content) (text : List ℕ) → SpellsPdu h v text → text_work text ≡ content_work v
 text-works h (FileData offset bytes) text s = file_data h text s.header s.content.0
-text-works h (Metadata kind size source destination) text s = directive h text 7 s.header s.content.0 s.content.1.code
-text-works h (Eof condition checksum size) text s = directive h text 4 s.header s.content.0 s.content.1.code
-text-works h (Finished condition delivery status) text s = directive h text 5 s.header s.content.0 s.content.1.code
+text-works h (Metadata kind size source destination options) text s = directive h text 7 s.header s.content.0 s.content.1.code
+text-works h (Eof condition checksum size tlvs) text s = directive h text 4 s.header s.content.0 s.content.1.code
+text-works h (Finished condition delivery status tlvs) text s = directive h text 5 s.header s.content.0 s.content.1.code
 text-works h (Ack of condition status) text s = directive h text 6 s.header s.content.0 s.content.1.code
+text-works h (Nak start end pairs) text s = directive h text 8 s.header s.content.0 s.content.1.code
+text-works h (Prompt keep_alive) text s = directive h text 9 s.header s.content.0 s.content.1.code
+text-works h (KeepAlive progress) text s = directive h text 12 s.header s.content.0 s.content.1.code
 
 -- no PDU that waits is nothing
 pub text-some : (text : List ℕ) → 1 ≤ text_work text
@@ -175,7 +178,7 @@ hears_ack_of_eof-works condition x =
     by_test (is_sending x.phase && x.eof_taken && (condition == no_error)) (record x { acknowledged = true }) x (λ y. sender_work y ≤ sender_work x) (λ _. omega arith) (λ _. omega arith)
 
 pub sender-hears-works : (v : Content) (x : Sender) → sender_work (sender_hears v x).sender + 1 ≤ sender_work x + content_work v
-sender-hears-works (Finished condition delivery status) x =
+sender-hears-works (Finished condition delivery status tlvs) x =
     let h : sender_work (hears_finished x.phase condition delivery status x).sender ≤ sender_work x + 2 = hears_finished-works x.phase condition delivery status x refl in
     omega (arith, h)
 sender-hears-works (Ack acknowledged.Eof condition status) x =
@@ -183,8 +186,11 @@ sender-hears-works (Ack acknowledged.Eof condition status) x =
     omega (arith, h)
 sender-hears-works (Ack acknowledged.Finished condition status) x = omega arith
 sender-hears-works (FileData offset bytes) x = omega arith
-sender-hears-works (Metadata kind size source destination) x = omega arith
-sender-hears-works (Eof condition checksum size) x = omega arith
+sender-hears-works (Metadata kind size source destination options) x = omega arith
+sender-hears-works (Eof condition checksum size tlvs) x = omega arith
+sender-hears-works (Nak start end pairs) x = omega arith
+sender-hears-works (Prompt keep_alive) x = omega arith
+sender-hears-works (KeepAlive progress) x = omega arith
 
 -- A receiver's step leaves at most this much.
 abbrev LeavesWithin : ℕ → ReceiverAfter → Type 0
@@ -254,27 +260,33 @@ hears_ack_of_finished-works r =
     by_test (is_finishing r.phase && not r.finished_due) (record r { phase = receiver_phase.Closed }) r (λ r1. receiver_work r1 ≤ receiver_work r) (λ _. omega arith) (λ _. omega arith)
 
 pub receiver-hears-works : (v : Content) (r : Receiver) (files : Files) → receiver_work (receiver_hears v r files).receiver + 1 ≤ receiver_work r + content_work v
-receiver-hears-works (Metadata kind size source destination) r files =
+receiver-hears-works (Metadata kind size source destination options) r files =
     let h : LeavesWithin (receiver_work r) (hears_metadata kind size source destination r files) = hears_metadata-works kind size source destination r files in
     omega (arith, h)
 receiver-hears-works (FileData offset bytes) r files =
     let h : LeavesWithin (receiver_work r) (hears_data offset bytes r files) = hears_data-works offset bytes r files in
     omega (arith, h)
-receiver-hears-works (Eof condition checksum size) r files =
+receiver-hears-works (Eof condition checksum size tlvs) r files =
     let h : LeavesWithin (receiver_work r + 2) (hears_eof condition checksum size r files) = hears_eof-works condition checksum size r files in
     omega (arith, h)
 receiver-hears-works (Ack acknowledged.Finished condition status) r files =
     let h : receiver_work (hears_ack_of_finished r) ≤ receiver_work r = hears_ack_of_finished-works r in
     omega (arith, h)
 receiver-hears-works (Ack acknowledged.Eof condition status) r files = omega arith
-receiver-hears-works (Finished condition delivery status) r files = omega arith
+receiver-hears-works (Finished condition delivery status tlvs) r files = omega arith
+receiver-hears-works (Nak start end pairs) r files = omega arith
+receiver-hears-works (Prompt keep_alive) r files = omega arith
+receiver-hears-works (KeepAlive progress) r files = omega arith
 
 content-some : (v : Content) → 1 ≤ content_work v
 content-some (FileData offset bytes) = omega arith
-content-some (Metadata kind size source destination) = omega arith
-content-some (Eof condition checksum size) = omega arith
-content-some (Finished condition delivery status) = omega arith
+content-some (Metadata kind size source destination options) = omega arith
+content-some (Eof condition checksum size tlvs) = omega arith
+content-some (Finished condition delivery status tlvs) = omega arith
 content-some (Ack of condition status) = omega arith
+content-some (Nak start end pairs) = omega arith
+content-some (Prompt keep_alive) = omega arith
+content-some (KeepAlive progress) = omega arith
 
 -- a PDU that opens a receiver leaves no more than a station with none counts
 opens-works : (phase : Option ReceiverPhase) (h : Header) (v : Content) (files : Files) → transaction_work (opens phase h v files).transaction + 1 ≤ 5 + content_work v

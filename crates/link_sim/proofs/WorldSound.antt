@@ -1,18 +1,16 @@
 -- What every event keeps of a world, and what it does to the inboxes.
-use Rattle.std.proofs.Common.{◌≡◌, ℕ, ◌+◌, ◌^◌, ◌<◌, ◌≤◌, ◌==◌, ◌&&◌, ◌||◌, not, Bool, true, false, List, [], ◌∷◌, ◌++◌, length, Option, Some, None, refl, sym, ap, subst, ◌∙◌, arith, append-nil, append_assoc, length-append, inl, inr, ◌⊎◌}
+use Rattle.std.proofs.Common.{◌≡◌, ℕ, ◌^◌, ◌<◌, ◌≤◌, ◌==◌, ◌||◌, not, Bool, true, false, List, [], ◌∷◌, ◌++◌, length, Option, Some, None, refl, sym, ap, subst, ◌∙◌, arith, append-nil, append_assoc, length-append, inl, inr, ◌⊎◌}
 use Rattle.std.specs.Prelude.{Contains, slice_get, nat_le, nat_lt, if◌then◌else◌}
 use Rattle.std.specs.FinMap.{get}
 use Rattle.std.proofs.lemmas.Bool.{eqb-true, leb-true, ltb-true, and_parts, or_parts, cases_lt, not-false}
 use Rattle.std.proofs.lemmas.List.{nil_from_length}
 use Rattle.std.proofs.lemmas.Option.{slice_get_within, get_or_from_slice_get}
-use Rattle.cfdp_header.specs.declared.value.Header.{Header}
 use Rattle.cfdp_header.specs.declared.value.TransactionId.{TransactionId}
 use Rattle.cfdp_directives.specs.declared.indication.Indication.{Indication}
 use Rattle.cfdp_directives.specs.declared.indication.Indication.TheVariants as indication
-use Rattle.cfdp_directives.specs.Content.{Content}
 use Rattle.cfdp_directives.specs.Written.{pdu_octets}
 use Rattle.cfdp_directives.specs.Put.{Put, Files, inbox_after}
-use Rattle.cfdp_directives.specs.Completions.{completions, same_id}
+use Rattle.cfdp_directives.specs.Completions.{completions}
 use Rattle.cfdp_directives.proofs.Puts.{completions-append, finished-append, inbox_after-append, Contains-append_left, Contains-append_right}
 use Rattle.link_sim.specs.declared.side.Side.{Side}
 use Rattle.link_sim.specs.declared.side.Side.TheVariants.{One, Two}
@@ -24,20 +22,19 @@ use Rattle.link_sim.specs.declared.event.Applied.TheVariants as applied
 use Rattle.link_sim.specs.declared.event.PutError.TheVariants as refusal
 use Rattle.link_sim.specs.declared.event.Mark.TheVariants.{Delivered, Struck}
 use Rattle.link_sim.specs.declared.event.AcceptedPut.{AcceptedPut}
-use Rattle.link_sim.specs.declared.transaction.Transaction.{Transaction}
-use Rattle.link_sim.specs.declared.transaction.Transaction.TheVariants.{Sends, Receives}
+use Rattle.link_sim.specs.declared.transaction.Transaction.TheVariants.{Sends}
 use Rattle.link_sim.specs.Config.{is_valid_config}
 use Rattle.link_sim.specs.Sides.{other, entity_of, id_octets, number_octets}
-use Rattle.link_sim.specs.Link.{LinkState, waiting, with_pdu, with_mark}
+use Rattle.link_sim.specs.Link.{LinkState, waiting, with_mark}
 use Rattle.link_sim.specs.Sender.{opened_sender}
-use Rattle.link_sim.specs.Station.{StationState, Taken, takes, takes_of, after_taken, after_heard, id_of, FitsWidths, HearsPdu, DropsPdu}
-use Rattle.link_sim.specs.World.{WorldState, Result, station_at, link_from, with_station, with_link, is_name, sends_file, accepts, refuses, put_file, put_step, poll_by, poll_step, strike_by, strike_step, Delivers, DeliversPdu, Steps, first_station, first_world}
+use Rattle.link_sim.specs.Station.{StationState, Taken, takes, takes_of, FitsWidths, HearsPdu, DropsPdu}
+use Rattle.link_sim.specs.World.{WorldState, Result, station_at, link_from, with_station, with_link, is_name, sends_file, accepts, refuses, put_file, put_step, poll_by, poll_step, strike_by, strike_step, Delivers, Steps, first_station, first_world}
 use Rattle.link_sim.specs.Theorem.{delivered, delivered_to, put_of, put_by, with_octets, accepted_as, completions_at, FoldsAt}
 use Rattle.link_sim.specs.Sound.{finished_count, SendsPut, IsSoundAt, IsSound}
 use Rattle.link_sim.proofs.Growth.{delivered-push, delivered-strike, delivered-send, inbox_after-same, same_id-itself}
 use Rattle.link_sim.proofs.StationSound.{Parts, Stays, parts-of, sound_at-of, parts-puts, parts-mark, parts-moved, moves-quiet}
 use Rattle.link_sim.proofs.Takes.{takes-soundly, parts-poll}
-use Rattle.link_sim.proofs.Hears.{HeardSoundly, heard-parts}
+use Rattle.link_sim.proofs.Hears.{heard-parts}
 use Rattle.link_sim.proofs.PutsStay.{put_of-id, put_of-kind, put_of-none, put_of-same}
 pub use Rattle.link_sim.proofs.Takes.{takes-can_write}
 
@@ -283,7 +280,7 @@ some-put : (puts : List AcceptedPut) (q : AcceptedPut) → puts ++ q ∷ [] ≡ 
 some-put puts q e = let long : length (puts ++ q ∷ []) ≡ 0 = ap length e in omega (arith, length-append puts (q ∷ []))
 
 fits : (s : Side) (w : WorldState) → w.config.first_number < 256 ^ 4 → FitsWidths id_octets number_octets (record { source = entity_of s; number = w.config.first_number })
-fits s w low = record { id_width = refl; number_width = refl; source = entity-low s; number = low }
+fits s w low = record { id_width = (omega arith, omega arith); number_width = (omega arith, omega arith); source = entity-low s; number = low }
   where
     entity-low : (s : Side) → entity_of s < 256 ^ 2
     entity-low One = omega arith

@@ -7,12 +7,11 @@ use Rattle.cfdp_directives.specs.declared.codes.Delivery.TheVariants.{Complete, 
 use Rattle.cfdp_directives.specs.declared.codes.FileStatus.TheVariants.{Discarded, Retained}
 use Rattle.cfdp_directives.specs.declared.codes.TransactionStatus.{TransactionStatus}
 use Rattle.cfdp_directives.specs.declared.codes.TransactionStatus.TheVariants.{Active, Terminated}
-use Rattle.cfdp_directives.specs.declared.codes.Acknowledged.{Acknowledged}
 use Rattle.cfdp_directives.specs.declared.codes.Acknowledged.TheVariants as acknowledged
 use Rattle.cfdp_directives.specs.declared.indication.Indication.{Indication}
 use Rattle.cfdp_directives.specs.declared.indication.Indication.TheVariants as indication
 use Rattle.cfdp_directives.specs.Codes.{no_error, file_checksum_failure, file_size_error, unsupported_checksum_type, modular, null}
-use Rattle.cfdp_directives.specs.Content.{Content, FileData, Metadata, Eof, Finished, Ack}
+use Rattle.cfdp_directives.specs.Content.{Content, FileData, Metadata, Eof, Finished, Ack, Nak, Prompt, KeepAlive}
 use Rattle.cfdp_directives.specs.Checksum.{modular_checksum}
 use Rattle.cfdp_directives.specs.Put.{Files}
 use Rattle.link_sim.specs.declared.receiver.Receiver.{Receiver}
@@ -53,10 +52,13 @@ opened_receiver phase h = record {
 -- the phase that a PDU opens a receiver in, where it opens one: an EOF with an error opens it closed
 abbrev pub opening_phase : Content → Option ReceiverPhase
 opening_phase (FileData offset bytes) = Some Receiving
-opening_phase (Metadata kind size source destination) = Some Receiving
-opening_phase (Eof condition checksum size) = if condition == no_error then Some Receiving else Some Closed
-opening_phase (Finished condition delivery status) = None
+opening_phase (Metadata kind size source destination options) = Some Receiving
+opening_phase (Eof condition checksum size tlvs) = if condition == no_error then Some Receiving else Some Closed
+opening_phase (Finished condition delivery status tlvs) = None
 opening_phase (Ack of condition status) = None
+opening_phase (Nak start end pairs) = None
+opening_phase (Prompt keep_alive) = None
+opening_phase (KeepAlive progress) = None
 
 abbrev pub finished_due_by : Bool → Option Outcome → Option ReceiverDue
 finished_due_by true outcome = option_map due.Finished outcome
@@ -79,7 +81,7 @@ status_in Closed = Terminated
 -- what the PDU says that is due
 abbrev pub receiver_says : Receiver → ReceiverDue → Content
 receiver_says r (due.AckOfEof condition) = Ack acknowledged.Eof condition (status_in r.phase)
-receiver_says r (due.Finished o) = Finished o.condition o.delivery o.status
+receiver_says r (due.Finished o) = Finished o.condition o.delivery o.status []
 
 -- the receiver once it was taken
 abbrev pub receiver_taken : Receiver → ReceiverDue → Receiver
@@ -206,12 +208,15 @@ hears_ack_of_finished r = if is_finishing r.phase && not r.finished_due then rec
 
 -- what else is heard changes nothing
 abbrev pub receiver_hears : Content → Receiver → Files → ReceiverAfter
-receiver_hears (Metadata kind size source destination) r files = hears_metadata kind size source destination r files
+receiver_hears (Metadata kind size source destination options) r files = hears_metadata kind size source destination r files
 receiver_hears (FileData offset bytes) r files = hears_data offset bytes r files
-receiver_hears (Eof condition checksum size) r files = hears_eof condition checksum size r files
+receiver_hears (Eof condition checksum size tlvs) r files = hears_eof condition checksum size r files
 receiver_hears (Ack acknowledged.Finished condition status) r files = unchanged (hears_ack_of_finished r) files
 receiver_hears (Ack acknowledged.Eof condition status) r files = unchanged r files
-receiver_hears (Finished condition delivery status) r files = unchanged r files
+receiver_hears (Finished condition delivery status tlvs) r files = unchanged r files
+receiver_hears (Nak start end pairs) r files = unchanged r files
+receiver_hears (Prompt keep_alive) r files = unchanged r files
+receiver_hears (KeepAlive progress) r files = unchanged r files
 
 -- A step left this receiver, with what it indicated and the published files.
 pub record Does (a : ReceiverAfter) (new : Receiver) (told_before told_now : List Indication) (files_now : Files) : Type 0 where

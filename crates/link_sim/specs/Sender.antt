@@ -8,7 +8,7 @@ use Rattle.cfdp_directives.specs.declared.codes.Acknowledged.TheVariants as ackn
 use Rattle.cfdp_directives.specs.declared.indication.Indication.{Indication}
 use Rattle.cfdp_directives.specs.declared.indication.Indication.TheVariants as indication
 use Rattle.cfdp_directives.specs.Codes.{no_error}
-use Rattle.cfdp_directives.specs.Content.{Content, FileData, Metadata, Eof, Finished, Ack}
+use Rattle.cfdp_directives.specs.Content.{Content, FileData, Metadata, Eof, Finished, Ack, Nak, Prompt, KeepAlive}
 use Rattle.cfdp_directives.specs.Checksum.{checksum_of}
 use Rattle.link_sim.specs.declared.config.SimConfig.{SimConfig}
 use Rattle.link_sim.specs.declared.sender.Sender.{Sender}
@@ -55,9 +55,9 @@ sender_due x = due_by x.ack_due x
 -- what the PDU says that is due; `file` is the octets that the outbox has under the source name
 abbrev pub sender_says : SimConfig → List ℕ → Sender → SenderDue → Content
 sender_says config file x (due.AckOfFinished condition) = Ack acknowledged.Finished condition Terminated
-sender_says config file x due.Metadata = Metadata config.checksum_kind x.size x.source x.destination
+sender_says config file x due.Metadata = Metadata config.checksum_kind x.size x.source x.destination []
 sender_says config file x due.FileData = FileData x.sent (take config.segment (drop x.sent file))
-sender_says config file x due.Eof = Eof no_error (checksum_of config.checksum_kind file) x.size
+sender_says config file x due.Eof = Eof no_error (checksum_of config.checksum_kind file) x.size []
 
 -- the sender once it was taken
 abbrev pub sender_taken : SimConfig → Sender → SenderDue → Sender
@@ -99,9 +99,12 @@ hears_ack_of_eof condition x = record {
 
 -- what else is heard changes nothing
 abbrev pub sender_hears : Content → Sender → SenderAfter
-sender_hears (Finished condition delivery status) x = hears_finished x.phase condition delivery status x
+sender_hears (Finished condition delivery status tlvs) x = hears_finished x.phase condition delivery status x
 sender_hears (Ack acknowledged.Eof condition status) x = hears_ack_of_eof condition x
 sender_hears (Ack acknowledged.Finished condition status) x = record { sender = x; told = [] }
 sender_hears (FileData offset bytes) x = record { sender = x; told = [] }
-sender_hears (Metadata kind size source destination) x = record { sender = x; told = [] }
-sender_hears (Eof condition checksum size) x = record { sender = x; told = [] }
+sender_hears (Metadata kind size source destination options) x = record { sender = x; told = [] }
+sender_hears (Eof condition checksum size tlvs) x = record { sender = x; told = [] }
+sender_hears (Nak start end pairs) x = record { sender = x; told = [] }
+sender_hears (Prompt keep_alive) x = record { sender = x; told = [] }
+sender_hears (KeepAlive progress) x = record { sender = x; told = [] }

@@ -3,7 +3,7 @@ use Rattle.std.specs.Prelude.{ℕ, ◌==◌, ◌&&◌, not, Bool, true, false, i
 use Rattle.cfdp_header.specs.declared.value.TransactionId.{TransactionId}
 use Rattle.cfdp_header.specs.declared.value.Header.{Header}
 use Rattle.cfdp_directives.specs.declared.codes.Acknowledged.TheVariants as acknowledged
-use Rattle.cfdp_directives.specs.Content.{Content, FileData, Metadata, Eof, Finished, Ack, is_file_data}
+use Rattle.cfdp_directives.specs.Content.{Content, FileData, Metadata, Eof, Finished, Ack, Nak, Prompt, KeepAlive, is_file_data}
 use Rattle.cfdp_directives.specs.Written.{content_len}
 use Rattle.link_sim.specs.declared.side.Side.{Side}
 use Rattle.link_sim.specs.declared.side.Side.TheVariants.{One, Two}
@@ -24,14 +24,17 @@ id_octets = 2
 abbrev pub number_octets : ℕ
 number_octets = 4
 
--- whether a PDU goes toward the file's sender (CCSDS 727.0-B-5, table 5-1): Finished, and ACK of EOF
+-- whether a PDU goes toward the file's sender (CCSDS 727.0-B-5, table 5-1): Finished, NAK, Keep Alive, and ACK of EOF
 abbrev pub goes_toward_sender : Content → Bool
 goes_toward_sender (FileData offset bytes) = false
-goes_toward_sender (Metadata kind size source destination) = false
-goes_toward_sender (Eof condition checksum size) = false
-goes_toward_sender (Finished condition delivery status) = true
+goes_toward_sender (Metadata kind size source destination options) = false
+goes_toward_sender (Eof condition checksum size tlvs) = false
+goes_toward_sender (Finished condition delivery status tlvs) = true
 goes_toward_sender (Ack acknowledged.Eof condition status) = true
 goes_toward_sender (Ack acknowledged.Finished condition status) = false
+goes_toward_sender (Nak start end pairs) = true
+goes_toward_sender (Prompt keep_alive) = false
+goes_toward_sender (KeepAlive progress) = true
 
 -- the header of a content, ids and numbers in these widths
 abbrev pub header_of : ℕ → ℕ → TransactionId → ℕ → Content → Header

@@ -1,15 +1,15 @@
 -- What every event keeps of a world. It holds of a world in which nothing happened yet, and what is promised of every
 -- world follows from it. The parts speak of one station: `own` is its entity, `put_of` finds the put of an id, `heard` is
 -- the PDUs that were delivered to it, `told` what it indicated.
-use Rattle.std.specs.Prelude.{◌≡◌, ℕ, ◌+◌, ◌<◌, ◌≤◌, Bool, true, List, [], ◌++◌, length, Option, Some, None, slice_get, count_by, Contains}
+use Rattle.std.specs.Prelude.{◌≡◌, ℕ, ◌+◌, ◌<◌, ◌≤◌, true, List, [], ◌++◌, length, Option, Some, None, slice_get, count_by, Contains}
 use Rattle.std.specs.FinMap.{get}
 use Rattle.cfdp_header.specs.declared.value.TransactionId.{TransactionId}
 use Rattle.cfdp_header.specs.declared.value.Header.{Header}
 use Rattle.cfdp_directives.specs.declared.indication.Indication.{Indication}
-use Rattle.cfdp_directives.specs.Content.{Content, FileData, Metadata, Eof, Finished, Ack}
+use Rattle.cfdp_directives.specs.Content.{Content, FileData, Metadata, Eof, Finished, Ack, Nak, Prompt, KeepAlive}
 use Rattle.cfdp_directives.specs.Grammar.{SpellsPdu}
 use Rattle.cfdp_directives.specs.Put.{Put, Files, SomePdu, IsMetadataOf, IsEofOf, Brings, HeardInFull, inbox_after}
-use Rattle.cfdp_directives.specs.Completions.{is_complete, is_finished, completions, FinishedOnce}
+use Rattle.cfdp_directives.specs.Completions.{is_complete, is_finished, completions}
 use Rattle.link_sim.specs.declared.side.Side.{Side}
 use Rattle.link_sim.specs.declared.sender.Sender.{Sender}
 use Rattle.link_sim.specs.declared.sender.SenderPhase.TheVariants.{Sending}
@@ -21,9 +21,9 @@ use Rattle.link_sim.specs.declared.receiver.Outcome.{Outcome}
 use Rattle.link_sim.specs.declared.transaction.Transaction.{Transaction}
 use Rattle.link_sim.specs.declared.transaction.Transaction.TheVariants.{Sends, Receives}
 use Rattle.link_sim.specs.Config.{is_valid_config}
-use Rattle.link_sim.specs.Sides.{other, entity_of}
+use Rattle.link_sim.specs.Sides.{entity_of}
 use Rattle.link_sim.specs.Receiver.{ReceiverAfter}
-use Rattle.link_sim.specs.Station.{StationState, id_of, IsWritable}
+use Rattle.link_sim.specs.Station.{id_of, IsWritable}
 use Rattle.link_sim.specs.World.{WorldState, station_at, link_from}
 use Rattle.link_sim.specs.Theorem.{put_of, delivered_to, HoldsAt}
 
@@ -96,11 +96,14 @@ IsSoundTransaction own put_of sources heard told (Some (Receives r)) = ReceivesP
 
 -- A Finished that says that the file was delivered is of a transaction that the station completed.
 abbrev pub SaysDelivered : ℕ → List Indication → TransactionId → Content → Type 0
-SaysDelivered own told id (Finished condition delivery status) = is_complete condition delivery status ≡ true → Contains (completions own told) id
+SaysDelivered own told id (Finished condition delivery status tlvs) = is_complete condition delivery status ≡ true → Contains (completions own told) id
 SaysDelivered own told id (FileData offset bytes) = Unit {0}
-SaysDelivered own told id (Metadata kind size source destination) = Unit {0}
-SaysDelivered own told id (Eof condition checksum size) = Unit {0}
+SaysDelivered own told id (Metadata kind size source destination options) = Unit {0}
+SaysDelivered own told id (Eof condition checksum size tlvs) = Unit {0}
 SaysDelivered own told id (Ack of condition status) = Unit {0}
+SaysDelivered own told id (Nak start end pairs) = Unit {0}
+SaysDelivered own told id (Prompt keep_alive) = Unit {0}
+SaysDelivered own told id (KeepAlive progress) = Unit {0}
 
 -- What holds at one station.
 pub record IsSoundAt (s : Side) (w : WorldState) : Type 0 where

@@ -1,10 +1,10 @@
 -- One station: what a put, a poll and a PDU that arrives do to it.
-use Rattle.std.specs.Prelude.{◌≡◌, ℕ, ◌<◌, ◌≤◌, ◌^◌, ◌==◌, ◌&&◌, Bool, true, false, List, [], ◌∷◌, ◌++◌, length, Option, Some, None, unwrap_or, if◌then◌else◌}
+use Rattle.std.specs.Prelude.{◌≡◌, ℕ, ◌<◌, ◌≤◌, ◌^◌, Bool, true, false, List, [], ◌++◌, length, Option, Some, None, unwrap_or, if◌then◌else◌}
 use Rattle.std.specs.Option.{option_map}
 use Rattle.std.specs.FinMap.{get}
 use Rattle.cfdp_header.specs.declared.value.TransactionId.{TransactionId}
 use Rattle.cfdp_header.specs.declared.value.Header.{Header}
-use Rattle.cfdp_header.specs.Header.{is_width}
+use Rattle.cfdp_header.specs.Header.{IsWidth}
 use Rattle.cfdp_directives.specs.Codes.{IsCondition}
 use Rattle.cfdp_directives.specs.declared.indication.Indication.{Indication}
 use Rattle.cfdp_directives.specs.declared.error.PduError.{PduError}
@@ -155,8 +155,8 @@ hears s h v st = after_heard st (comes_to s st.transaction h v st.published)
 
 -- An id can be written in these widths.
 pub record FitsWidths (ids numbers : ℕ) (id : TransactionId) : Type 0 where
-  pub id_width : is_width ids ≡ true
-  pub number_width : is_width numbers ≡ true
+  pub id_width : IsWidth ids
+  pub number_width : IsWidth numbers
   pub source : id.source < 256 ^ ids
   pub number : id.number < 256 ^ numbers
 

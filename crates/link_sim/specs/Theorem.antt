@@ -8,7 +8,8 @@ use Rattle.cfdp_header.specs.declared.value.TransactionId.{TransactionId}
 use Rattle.cfdp_directives.specs.declared.codes.Delivery.TheVariants.{Complete}
 use Rattle.cfdp_directives.specs.declared.codes.FileStatus.TheVariants.{Retained}
 use Rattle.cfdp_directives.specs.Codes.{no_error}
-use Rattle.cfdp_directives.specs.Content.{Content, FileData, Metadata, Eof, Finished, Ack}
+use Rattle.cfdp_directives.specs.Tlv.{Tlv}
+use Rattle.cfdp_directives.specs.Content.{Content, FileData, Metadata, Eof, Finished, Ack, Nak, Prompt, KeepAlive}
 use Rattle.cfdp_directives.specs.Grammar.{SpellsPdu}
 use Rattle.cfdp_directives.specs.Put.{Put, Files, IsTruthful, HeardInFull, SomePdu, inbox_after}
 use Rattle.cfdp_directives.specs.Completions.{same_id, completions, FinishedOnce, IsToldComplete}
@@ -71,7 +72,7 @@ CausedAt s w = (id : TransactionId) → Contains (completions_at s w) id →
 
 -- a Finished of this transaction that says that the file was delivered
 abbrev pub SaysComplete : TransactionId → Header → Content → Type 0
-SaysComplete id h v = (h.id ≡ id) × (v ≡ Finished no_error Complete Retained)
+SaysComplete id h v = (h.id ≡ id) × ((tlvs : List Tlv) × (v ≡ Finished no_error Complete Retained tlvs))
 
 -- Where a sender was told complete, it heard so, and the other station has completed the put.
 pub record IsTold (s : Side) (w : WorldState) (id : TransactionId) : Type 0 where
@@ -88,10 +89,13 @@ IsOfPut s w id v = (put : Put) × ((id.source ≡ entity_of s) × (put_of w id �
 -- a content that speaks of a file speaks the truth; the other contents speak of none
 abbrev pub SaysTruth : Side → WorldState → TransactionId → Content → Type 0
 SaysTruth s w id (FileData offset bytes) = IsOfPut s w id (FileData offset bytes)
-SaysTruth s w id (Metadata kind size source destination) = IsOfPut s w id (Metadata kind size source destination)
-SaysTruth s w id (Eof condition checksum size) = IsOfPut s w id (Eof condition checksum size)
-SaysTruth s w id (Finished condition delivery status) = Unit {0}
+SaysTruth s w id (Metadata kind size source destination options) = IsOfPut s w id (Metadata kind size source destination options)
+SaysTruth s w id (Eof condition checksum size tlvs) = IsOfPut s w id (Eof condition checksum size tlvs)
+SaysTruth s w id (Finished condition delivery status tlvs) = Unit {0}
 SaysTruth s w id (Ack of condition status) = Unit {0}
+SaysTruth s w id (Nak start end pairs) = Unit {0}
+SaysTruth s w id (Prompt keep_alive) = Unit {0}
+SaysTruth s w id (KeepAlive progress) = Unit {0}
 
 -- Each Metadata, file data and EOF that a station put on the link is truthful for a put that it made.
 abbrev pub TruthAt : Side → WorldState → Type 0

@@ -4,7 +4,7 @@
 use Rattle.std.specs.Prelude.{ℕ, ◌+◌, ◌-◌, ◌*◌, ◌==◌, ◌||◌, Bool, List, length, drop, sum_by, Option, Some, None, if◌then◌else◌}
 use Rattle.cfdp_directives.specs.Field.{field}
 use Rattle.cfdp_header.specs.Header.{header_len_told}
-use Rattle.cfdp_directives.specs.Content.{Content, FileData, Metadata, Eof, Finished, Ack}
+use Rattle.cfdp_directives.specs.Content.{Content, FileData, Metadata, Eof, Finished, Ack, Nak, Prompt, KeepAlive}
 use Rattle.link_sim.specs.declared.sender.Sender.{Sender}
 use Rattle.link_sim.specs.declared.sender.SenderPhase.{SenderPhase}
 use Rattle.link_sim.specs.declared.sender.SenderPhase.TheVariants as sending
@@ -20,10 +20,13 @@ use Rattle.link_sim.specs.World.{WorldState}
 -- A PDU that waits is 1. An EOF or a Finished is 3: each one that is heard makes an ACK due.
 abbrev pub content_work : Content → ℕ
 content_work (FileData offset bytes) = 1
-content_work (Metadata kind size source destination) = 1
-content_work (Eof condition checksum size) = 3
-content_work (Finished condition delivery status) = 3
+content_work (Metadata kind size source destination options) = 1
+content_work (Eof condition checksum size tlvs) = 3
+content_work (Finished condition delivery status tlvs) = 3
 content_work (Ack of condition status) = 1
+content_work (Nak start end pairs) = 1
+content_work (Prompt keep_alive) = 1
+content_work (KeepAlive progress) = 1
 
 -- the same by the directive code (CCSDS 727.0-B-5, table 5-4): 4 is EOF, and 5 is Finished
 abbrev pub code_work : ℕ → ℕ

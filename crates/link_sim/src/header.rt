@@ -16,8 +16,8 @@ fn goes_toward_sender(pdu: &Pdu<'_>) -> bool
     ensures { result ≡ sides.goes_toward_sender (view pdu.now) }
 {
     match pdu {
-        Pdu::FileData { .. } | Pdu::Metadata { .. } | Pdu::Eof { .. } => false,
-        Pdu::Finished { .. } => true,
+        Pdu::FileData { .. } | Pdu::Metadata { .. } | Pdu::Eof { .. } | Pdu::Prompt { .. } => false,
+        Pdu::Finished { .. } | Pdu::Nak { .. } | Pdu::KeepAlive { .. } => true,
         Pdu::Ack { of, .. } => *of == Acknowledged::Eof,
     }
 }

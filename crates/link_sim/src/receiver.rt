@@ -9,7 +9,7 @@ use crate::held::HeldOctets;
 use crate::tell::tell;
 use cfdp_directives::{
     Acknowledged, Checksum, ChecksumKind, Condition, Delivery, FileStatus, Indication, Octets, Pdu,
-    TransactionStatus,
+    Tlvs, TransactionStatus,
 };
 use cfdp_header::{Header, TransactionId};
 use std::alloc::{AllocError, Global};
@@ -124,6 +124,7 @@ impl Receiver {
                 condition: outcome.condition,
                 delivery: outcome.delivery,
                 status: outcome.status,
+                tlvs: Tlvs::none(),
             },
         }
     }
@@ -370,6 +371,7 @@ impl Receiver {
                 size,
                 source,
                 destination,
+                ..
             } => {
                 let info = FileNames {
                     checksum_kind: *checksum_kind,
@@ -386,6 +388,7 @@ impl Receiver {
                 condition,
                 checksum,
                 size,
+                ..
             } => {
                 let ending = Ending {
                     checksum: *checksum,

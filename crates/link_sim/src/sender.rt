@@ -7,7 +7,7 @@ use crate::config::SimConfig;
 use crate::tell::tell;
 use cfdp_directives::{
     Acknowledged, Checksum, ChecksumKind, Condition, Delivery, FileStatus, Indication, Octets, Pdu,
-    TransactionStatus,
+    Tlvs, TransactionStatus,
 };
 use cfdp_header::TransactionId;
 
@@ -108,6 +108,7 @@ impl Sender {
                 size: self.size,
                 source: self.source.as_slice(),
                 destination: self.destination.as_slice(),
+                options: Tlvs::none(),
             },
             SenderDue::FileData => Pdu::FileData {
                 offset: self.sent,
@@ -117,6 +118,7 @@ impl Sender {
                 condition: Condition::NO_ERROR,
                 checksum: checksum(config.checksum_kind, file),
                 size: self.size,
+                tlvs: Tlvs::none(),
             },
         }
     }
@@ -192,6 +194,7 @@ impl Sender {
                 condition,
                 delivery,
                 status,
+                ..
             } => self.hear_finished(told, *condition, *delivery, *status),
             Pdu::Ack {
                 of: Acknowledged::Eof,

@@ -110,7 +110,11 @@ fn opening_phase(pdu: &Pdu<'_>) -> Option<ReceiverPhase>
                 Some(ReceiverPhase::Closed)
             }
         }
-        Pdu::Finished { .. } | Pdu::Ack { .. } => None,
+        Pdu::Finished { .. }
+        | Pdu::Ack { .. }
+        | Pdu::Nak { .. }
+        | Pdu::Prompt { .. }
+        | Pdu::KeepAlive { .. } => None,
     }
 }
 
