@@ -1,1 +1,4 @@
-pub mod Alarms
+pub mod Order
+pub mod Armed
+pub mod Due
+pub mod Entries

@@ -1,6 +1,6 @@
 // The deadlines of one transaction.
 ghost use Rattle.std.specs.Prelude.{◌≡◌};
-ghost use Rattle.cfdp_timers.specs.Alarms.{deadline_at, with_deadline};
+ghost use Rattle.cfdp_timers.specs.Entries.{deadline_at, with_deadline};
 
 use crate::Kind;
 

@@ -1,13 +1,80 @@
 // Which timers are armed, and until when.
+ghost use Rattle.std.specs.Prelude.{◌≡◌, ◌≤◌, ◌^◌, ◌+◌, ◌-◌, min, max, true, OnOk, OnErr, IfOk, IfSome, IfNone, None, Some};
+ghost use Rattle.std.specs.FinMap as map;
+ghost use Rattle.std.specs.FinSet as set;
+ghost use Rattle.cfdp_timers.specs.Armed.{deadline_of};
+
 use crate::deadlines::Deadlines;
 use crate::Kind;
 use cfdp_header::TransactionId;
 use indexmap::IndexMap;
-use std::alloc::Global;
+use std::alloc::{AllocError, Global};
+use std::marker::Model;
 
 #[derive(Debug, Drop)]
 pub struct Timers {
     entries: IndexMap<TransactionId, Deadlines>,
+    time: u64,
     alloc: Global,
-    now: u64,
+}
+
+impl Model for Timers {
+    ghost use Rattle.std.specs.Prelude.{◌≤◌, ◌^◌, length};
+    ghost use Rattle.std.specs.List.{IsDistinct};
+    ghost use Rattle.std.specs.Map.{keys_of};
+    ghost use Rattle.std.specs.Ordering.{eq_by_cmp};
+    ghost use Rattle.cfdp_timers.specs.Order.{id_cmp};
+    ghost use Rattle.cfdp_timers.specs.Armed.{Clock, clock_code};
+    ghost use Rattle.cfdp_timers.specs.Entries.{clock_of};
+
+    ghost Value = { Clock };
+
+    ghost coded = { clock_code };
+
+    ghost view = { λ t. clock_of t.time t.entries.entries };
+
+    ghost invariant = { λ t. IsDistinct (eq_by_cmp id_cmp) (keys_of t.entries.entries) × (length t.entries.entries ≤ 2 ^ 61) };
+}
+
+impl Timers {
+    /// No timers, at time 0.
+    pub fn new(alloc: Global) -> Self
+        ensures time { result.time ≡ 0 }
+        ensures roomy { result.roomy ≡ set.empty }
+        ensures armed { result.armed ≡ map.empty }
+    {
+        Timers {
+            entries: IndexMap::new(alloc),
+            time: 0,
+            alloc,
+        }
+    }
+
+    /// The latest time that was told.
+    pub fn now(&self) -> u64
+        ensures { result ≡ self.now.time }
+    {
+        self.time
+    }
+
+    /// The time so many units after now, or the greatest there is.
+    pub fn deadline_after(&self, duration: u32) -> u64
+        ensures { result ≡ min (self.now.time + duration) (2 ^ 64 - 1) }
+    {
+        self.time.saturating_add(u64::from(duration))
+    }
+
+    /// Whether a transaction has room, so that its timers can be armed.
+    pub fn has_room(&self, id: TransactionId) -> bool
+        ensures { result ≡ set.contains self.now.roomy id }
+    {
+        self.entries.contains_key(&id)
+    }
+
+    /// The deadline of a timer, if it is armed.
+    pub fn deadline_of(&self, id: TransactionId, kind: Kind) -> Option<u64>
+        ensures { result ≡ deadline_of self.now id kind }
+    {
+        self.entries.get(&id)?.get(kind)
+    }
 }
