@@ -115,3 +115,6 @@ get-armed_of es i k apart = get-from_entries timer_total (alarms es) (i, k) ∙ 
 pub deadline-entries : (es : List (TransactionId × Deadlines)) (i : TransactionId) (k : Kind) → IsDistinct (eq_by_cmp id_cmp) (keys_of es)
     → option_and_then (λ d. deadline_at d k) (lookup ((eq-value).it i) es) ≡ map.get (armed_of es) (i, k)
 deadline-entries es i k apart = ap (option_and_then (λ d. deadline_at d k)) (by_id es i) ∙ sym (get-armed_of es i k apart)
+
+pub has-room : (es : List (TransactionId × Deadlines)) (i : TransactionId) → is_some (lookup ((eq-value).it i) es) ≡ set.contains (roomy_of es) i
+has-room es i = ap is_some (by_id es i) ∙ sym (contains-roomy_of es i)

@@ -1,3 +1,4 @@
 pub mod Orders
 pub mod SortedLists
 pub mod Kept
+pub mod Written

@@ -14,6 +14,14 @@ pub(crate) struct Deadlines {
 }
 
 impl Deadlines {
+    /// No timer is armed.
+    pub(crate) const NONE: Deadlines = Deadlines {
+        eof_ack: None,
+        nak: None,
+        finished_ack: None,
+        inactivity: None,
+    };
+
     pub(crate) fn get(&self, kind: Kind) -> Option<u64>
         ensures { result ≡ deadline_at self.now kind }
     {

@@ -1,5 +1,5 @@
 // Which timers are armed, and until when.
-ghost use Rattle.std.specs.Prelude.{◌≡◌, ◌≤◌, ◌^◌, ◌+◌, ◌-◌, min, max, true, OnOk, OnErr, IfOk, IfSome, IfNone, None, Some};
+ghost use Rattle.std.specs.Prelude.{◌≡◌, ◌≤◌, ◌^◌, ◌+◌, ◌-◌, min, max, true, OnOk, OnErr, IfOk, IfSome, IfNone, None, Some, IsOk};
 ghost use Rattle.std.specs.FinMap as map;
 ghost use Rattle.std.specs.FinSet as set;
 ghost use Rattle.cfdp_timers.specs.Armed.{deadline_of};
@@ -11,6 +11,12 @@ use indexmap::IndexMap;
 use std::alloc::{AllocError, Global};
 use std::marker::Model;
 
+// More than memory holds: an entry takes over 8 octets.
+const MOST_TRANSACTIONS: usize = 1 << 61;
+
+/// When timers of transactions are due: of each transaction that has room, one timer of each kind.
+///
+/// Times are in units of the caller's, from 0 on.
 #[derive(Debug, Drop)]
 pub struct Timers {
     entries: IndexMap<TransactionId, Deadlines>,
@@ -76,5 +82,45 @@ impl Timers {
         ensures { result ≡ deadline_of self.now id kind }
     {
         self.entries.get(&id)?.get(kind)
+    }
+
+    /// Makes room for a transaction, so that its timers can be armed.
+    ///
+    /// # Errors
+    ///
+    /// Where there is no memory for one more transaction. All is then unchanged.
+    pub fn room(&mut self, id: TransactionId) -> Result<(), AllocError>
+        ensures ok { OnOk result (self.new ≡ record self.old { roomy = set.insert self.old.roomy id }) }
+        ensures err { OnErr result (self.new ≡ self.old) }
+        // A transaction that has room takes no more memory.
+        ensures again { set.contains self.old.roomy id ≡ true → IsOk result }
+    {
+        if self.entries.contains_key(&id) {
+            return Ok(());
+        }
+        if self.entries.len() >= MOST_TRANSACTIONS {
+            return Err(AllocError);
+        }
+        self.entries.insert(id, Deadlines::NONE)?;
+        Ok(())
+    }
+
+    /// Arms a timer, or gives one that is armed another deadline, earlier or later.
+    pub fn arm(&mut self, id: TransactionId, kind: Kind, deadline: u64)
+        requires has_room { set.contains self.old.roomy id ≡ true }
+        ensures { self.new ≡ record self.old { armed = map.insert self.old.armed (id, kind) deadline } }
+    {
+        if let Some(deadlines) = self.entries.get_mut(&id) {
+            deadlines.set(kind, Some(deadline));
+        }
+    }
+
+    /// Clears a timer; one that isn't armed stays so.
+    pub fn clear(&mut self, id: TransactionId, kind: Kind)
+        ensures { self.new ≡ record self.old { armed = map.remove self.old.armed (id, kind) } }
+    {
+        if let Some(deadlines) = self.entries.get_mut(&id) {
+            deadlines.set(kind, None);
+        }
     }
 }
