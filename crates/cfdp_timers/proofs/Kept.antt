@@ -45,16 +45,16 @@ unfolding roomy_of
 contains-roomy_of es id = set.contains-from_list id_total (keys_of es) id ∙ sym (is_some-lookup (eq_by_cmp id_cmp id) es)
 
 -- ---- one transaction's timers
-step : Ordering → Kind → ℕ → Option ℕ → Option ℕ → Option ℕ
+unfoldable pub step : Ordering → Kind → ℕ → Option ℕ → Option ℕ → Option ℕ
 step r k j o f = cond (is_eq (ordering_then r (nat_cmp (kind_place k) j))) (option_or o f) f
 
 -- what is found where a timer may stand in front
-found_one : (i : TransactionId) (k : Kind) (id : TransactionId) (kind : Kind) (o : Option ℕ) (rest : List (Timer × ℕ))
+pub found_one : (i : TransactionId) (k : Kind) (id : TransactionId) (kind : Kind) (o : Option ℕ) (rest : List (Timer × ℕ))
     → lookup (eq_by_cmp timer_cmp (i, k)) (alarm_if id kind o ++ rest) ≡ step (id_cmp i id) k (kind_place kind) o (lookup (eq_by_cmp timer_cmp (i, k)) rest)
 unfolding step
 found_one i k id kind None rest =
     elim (is_eq (ordering_then (id_cmp i id) (nat_cmp (kind_place k) (kind_place kind))))
-      as (λ b. lookup (eq_by_cmp timer_cmp (i, k)) rest ≡ cond b (option_or None (lookup (eq_by_cmp timer_cmp (i, k)) rest)) (lookup (eq_by_cmp timer_cmp (i, k)) rest)) [
+    as (λ b. lookup (eq_by_cmp timer_cmp (i, k)) rest ≡ cond b (option_or None (lookup (eq_by_cmp timer_cmp (i, k)) rest)) (lookup (eq_by_cmp timer_cmp (i, k)) rest)) [
       | true ↦ refl
       | false ↦ refl
     ]
@@ -83,8 +83,8 @@ found_of i k id d rest =
     ap look (append_assoc e0 (e1 ++ (e2 ++ e3)) rest ∙ ap (λ l. e0 ++ l) (append_assoc e1 (e2 ++ e3) rest ∙ ap (λ l. e1 ++ l) (append_assoc e2 e3 rest)))
     ∙ found_one i k id EofAck d.eof_ack (e1 ++ (e2 ++ (e3 ++ rest)))
     ∙ ap (step (id_cmp i id) k 0 d.eof_ack) (found_one i k id Nak d.nak (e2 ++ (e3 ++ rest))
-        ∙ ap (step (id_cmp i id) k 1 d.nak) (found_one i k id FinishedAck d.finished_ack (e3 ++ rest)
-            ∙ ap (step (id_cmp i id) k 2 d.finished_ack) (found_one i k id Inactivity d.inactivity rest)))
+    ∙ ap (step (id_cmp i id) k 1 d.nak) (found_one i k id FinishedAck d.finished_ack (e3 ++ rest)
+    ∙ ap (step (id_cmp i id) k 2 d.finished_ack) (found_one i k id Inactivity d.inactivity rest)))
     ∙ steps (id_cmp i id) k d (look rest)
 
 -- ---- all timers
@@ -100,8 +100,8 @@ found_in (e ∷ es) i k apart =
     let rest = found_in es i k (IsDistinct-tail (eq_by_cmp id_cmp) e.0 (keys_of es) apart) in
     found_of i k e.0 e.1 (alarms es)
     ∙ elim (eq_by_cmp id_cmp i e.0) as (λ b. eq_by_cmp id_cmp i e.0 ≡ b
-        → cond b (option_or (deadline_at e.1 k) (lookup (eq_by_cmp timer_cmp (i, k)) (alarms es))) (lookup (eq_by_cmp timer_cmp (i, k)) (alarms es))
-        ≡ option_and_then (λ d. deadline_at d k) (cond b (Some e.1) (lookup (eq_by_cmp id_cmp i) es))) [
+    → cond b (option_or (deadline_at e.1 k) (lookup (eq_by_cmp timer_cmp (i, k)) (alarms es))) (lookup (eq_by_cmp timer_cmp (i, k)) (alarms es))
+    ≡ option_and_then (λ d. deadline_at d k) (cond b (Some e.1) (lookup (eq_by_cmp id_cmp i) es))) [
       | true ↦ λ tie. ap (option_or (deadline_at e.1 k)) (rest ∙ ap (option_and_then (λ d. deadline_at d k)) (lookup-none (eq_by_cmp id_cmp i) es (none_past_head id_laws i e es apart tie)))
           ∙ or_none (deadline_at e.1 k)
       | false ↦ λ tie. rest

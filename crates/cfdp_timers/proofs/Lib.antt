@@ -2,3 +2,5 @@ pub mod Orders
 pub mod SortedLists
 pub mod Kept
 pub mod Written
+pub mod Alarms
+pub mod Distinct

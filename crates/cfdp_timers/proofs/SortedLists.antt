@@ -51,7 +51,7 @@ pub same_list : {K : Type 0} {R : K → K → Ordering} → IsTotalOrder R → (
 same_list {K} {R} o same xs ys g h is =
     sym (keys-mark xs)
     ∙ ap (λ l. map (λ (e : K × Unit {0}). e.0) l) (same_entries R o same (mark xs) (mark ys) (subst T (sym (rises R xs g)) tt) (subst T (sym (rises R ys h)) tt)
-        (λ q. alike _ _ (found R q xs ∙ is q ∙ sym (found R q ys))))
+    (λ q. alike _ _ (found R q xs ∙ is q ∙ sym (found R q ys))))
     ∙ keys-mark ys
 
 by_tests : (r : Ordering) → is_lt (ordering_reverse r) ≡ false → is_eq r ≡ false → r ≡ Less
@@ -70,6 +70,7 @@ unfolding IsStrictlySortedBy
 strictly o [] up apart = tt
 strictly {K} {R} o (x ∷ xs) up apart =
     let far = sorted_far (λ a b. is_lt (R a b)) (ranks_by o (λ k. k)) (x ∷ xs) up in
-    let others : All (λ y. eq_by_cmp R x y ≡ false) xs = All-from_recursion _ xs (IsDistinct-head (eq_by_cmp R) x xs apart) in
-    (recursion_from_All _ xs (λ k d l. by_tests (R x (get_or xs k d)) (ap is_lt (sym (o.antisymm (get_or xs k d) x)) ∙ far 0 (suc k) d (omega arith) (omega arith)) (others k d l)),
-     strictly o xs (tail_sorted R x xs up) (IsDistinct-tail (eq_by_cmp R) x xs apart))
+    let others : All (λ y. eq_by_cmp R x y ≡ false) xs = All-from_recursion _ xs (IsDistinct-head (eq_by_cmp R) x xs apart) in (
+      recursion_from_All _ xs (λ k d l. by_tests (R x (get_or xs k d)) (ap is_lt (sym (o.antisymm (get_or xs k d) x)) ∙ far 0 (suc k) d (omega arith) (omega arith)) (others k d l)),
+      strictly o xs (tail_sorted R x xs up) (IsDistinct-tail (eq_by_cmp R) x xs apart),
+    )

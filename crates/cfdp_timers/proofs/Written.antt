@@ -92,8 +92,8 @@ module _ (es fs : List (TransactionId × Deadlines)) (id : TransactionId) (kind 
         | false ↦ ap at (by_id es t.0)
       ]
       ∙ split_tie (id_cmp t.0 id) (nat_cmp (kind_place t.1) (kind_place kind)) o (at (lookup (eq_by_cmp id_cmp t.0) es)) (deadline_at w t.1)
-          (λ tie. ap (cond (is_eq (nat_cmp (kind_place t.1) (kind_place kind))) o) (ap (λ i. at (lookup (eq_by_cmp id_cmp i) es)) (same_id t.0 id tie) ∙ sym found)
-            ∙ sym (ap (λ v. deadline_at v t.1) is ∙ written d kind o t.1))
+      (λ tie. ap (cond (is_eq (nat_cmp (kind_place t.1) (kind_place kind))) o) (ap (λ i. at (lookup (eq_by_cmp id_cmp i) es)) (same_id t.0 id tie) ∙ sym found)
+      ∙ sym (ap (λ v. deadline_at v t.1) is ∙ written d kind o t.1))
       ∙ ap (cond (eq_by_cmp timer_cmp t (id, kind)) o) (sym old)
 
   module _ (time : ℕ) (same : keys_of fs ≡ keys_of es) where
@@ -104,13 +104,13 @@ module _ (es fs : List (TransactionId × Deadlines)) (id : TransactionId) (kind 
     pub clock_of-armed : (at : ℕ) → o ≡ Some at → clock_of time fs ≡ record { time = time; roomy = roomy_of es; armed = map.insert (armed_of es) (id, kind) at }
     clock_of-armed at some =
         let armed : armed_of fs ≡ map.insert (armed_of es) (id, kind) at = map.same_map timer_total same_timer _ _ (λ t.
-            get-written t ∙ ap (λ v. cond (eq_by_cmp timer_cmp t (id, kind)) v (map.get (armed_of es) t)) some ∙ sym (map.get-insert timer_total (armed_of es) (id, kind) at t)) in
+        get-written t ∙ ap (λ v. cond (eq_by_cmp timer_cmp t (id, kind)) v (map.get (armed_of es) t)) some ∙ sym (map.get-insert timer_total (armed_of es) (id, kind) at t)) in
         λ i. record { time = time; roomy = roomy_stays i; armed = armed i }
 
     pub clock_of-cleared : o ≡ None → clock_of time fs ≡ record { time = time; roomy = roomy_of es; armed = map.remove (armed_of es) (id, kind) }
     clock_of-cleared none =
         let armed : armed_of fs ≡ map.remove (armed_of es) (id, kind) = map.same_map timer_total same_timer _ _ (λ t.
-            get-written t ∙ ap (λ v. cond (eq_by_cmp timer_cmp t (id, kind)) v (map.get (armed_of es) t)) none ∙ sym (map.get-remove timer_total (armed_of es) (id, kind) t)) in
+        get-written t ∙ ap (λ v. cond (eq_by_cmp timer_cmp t (id, kind)) v (map.get (armed_of es) t)) none ∙ sym (map.get-remove timer_total (armed_of es) (id, kind) t)) in
         λ i. record { time = time; roomy = roomy_stays i; armed = armed i }
 
 -- clearing a timer of a transaction that has no room changes nothing

@@ -28,7 +28,7 @@ armed_code = map.code (coded× (id.the_row).coded (kind.the_row).coded) coded_�
 abbrev pub clock_code : Coded Clock
 clock_code =
     code_by (ℕ × (set.FinSet id_cmp × Armed)) (coded× coded_ℕ (coded× roomy_code armed_code)) (λ c. (c.time, (c.roomy, c.armed)))
-      (λ p. record { time = p.0; roomy = p.1.0; armed = p.1.1 }) (λ _. refl)
+    (λ p. record { time = p.0; roomy = p.1.0; armed = p.1.1 }) (λ _. refl)
 
 -- the deadline of a timer, if it is armed
 abbrev pub deadline_of : Clock → TransactionId → Kind → Option ℕ

@@ -1,5 +1,5 @@
 -- Timers that are due, and the order in which they fire.
-use Rattle.std.specs.Prelude.{ℕ, ◌≡◌, Bool, false, Option, None, Some, List, nat_le, unwrap_or, count_by, if◌then◌else◌}
+use Rattle.std.specs.Prelude.{ℕ, ◌≡◌, ◌≤◌, Bool, false, Option, None, Some, List, nat_le, unwrap_or, count_by, if◌then◌else◌}
 use Rattle.std.specs.List.{list_any}
 use Rattle.std.specs.List.Sorted.{IsStrictlySortedBy}
 use Rattle.std.specs.Option.{option_map_or}
@@ -29,3 +29,8 @@ due_count armed at = count_by (λ e. nat_le e.1 at) (map.entries armed)
 -- what is left once those that are due have fired
 pub record AreLeft (old : Armed) (at : ℕ) (new : Armed) : Type 0 where
   pub left : (t : Timer) → map.get new t ≡ (if is_due old at t then None else map.get old t)
+
+-- the least deadline of the armed timers
+pub record IsLeast (armed : Armed) (deadline : ℕ) : Type 0 where
+  pub armed_so : (t : Timer) × (map.get armed t ≡ Some deadline)
+  pub least : (t : Timer) (other : ℕ) → map.get armed t ≡ Some other → deadline ≤ other

@@ -1,5 +1,5 @@
 -- How the armed timers are kept: for each transaction that has room, the deadlines of its four kinds.
-use Rattle.std.specs.Prelude.{ℕ, Option, None, Some, List, [], ◌∷◌, ◌++◌}
+use Rattle.std.specs.Prelude.{ℕ, Option, None, Some, List, [], ◌∷◌, ◌++◌, filter, nat_le, min}
 use Rattle.std.specs.Map.{keys_of}
 use Rattle.std.specs.FinMap.{from_entries}
 use Rattle.std.specs.FinSet.{FinSet, from_list}
@@ -7,6 +7,7 @@ use Rattle.cfdp_header.specs.declared.value.TransactionId.{TransactionId}
 use Rattle.cfdp_timers.specs.declared.kind.Kind.{Kind}
 use Rattle.cfdp_timers.specs.declared.kind.Kind.TheVariants.{EofAck, Nak, FinishedAck, Inactivity}
 use Rattle.cfdp_timers.specs.declared.deadlines.Deadlines.{Deadlines}
+use Rattle.cfdp_timers.specs.declared.alarm.Alarm.{Alarm}
 use Rattle.cfdp_timers.specs.Order.{Timer, id_cmp}
 use Rattle.cfdp_timers.specs.Armed.{Clock, Armed}
 
@@ -35,6 +36,26 @@ alarms_of id d = alarm_if id EofAck d.eof_ack ++ (alarm_if id Nak d.nak ++ (alar
 unfoldable pub alarms : List (TransactionId × Deadlines) → List (Timer × ℕ)
 alarms [] = []
 alarms (e ∷ es) = alarms_of e.0 e.1 ++ alarms es
+
+-- those that are due at a time
+abbrev pub due : ℕ → List (Timer × ℕ) → List (Timer × ℕ)
+due at = filter (λ e. nat_le e.1 at)
+
+abbrev pub timer_of : Alarm → Timer
+timer_of a = (a.id, a.kind)
+
+abbrev pub entry_of : Alarm → Timer × ℕ
+entry_of a = ((a.id, a.kind), a.deadline)
+
+-- the earlier of two deadlines, where both are there
+abbrev pub earlier : Option ℕ → Option ℕ → Option ℕ
+earlier None b = b
+earlier (Some x) None = Some x
+earlier (Some x) (Some y) = Some (min x y)
+
+unfoldable pub earliest : List (Timer × ℕ) → Option ℕ
+earliest [] = None
+earliest (e ∷ es) = earlier (Some e.1) (earliest es)
 
 -- the transactions that have room, and the armed timers
 unfoldable pub roomy_of : List (TransactionId × Deadlines) → FinSet id_cmp

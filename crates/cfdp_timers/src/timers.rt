@@ -1,11 +1,17 @@
 // Which timers are armed, and until when.
-ghost use Rattle.std.specs.Prelude.{◌≡◌, ◌≤◌, ◌^◌, ◌+◌, ◌-◌, min, max, true, OnOk, OnErr, IfOk, IfSome, IfNone, None, Some, IsOk};
+ghost use Rattle.std.specs.Prelude.{◌≡◌, ◌≤◌, ◌^◌, ◌+◌, ◌-◌, min, max, true, OnOk, OnErr, IfOk, IfSome, IfNone, None, Some, IsOk, MatchOption, List, length, if◌then◌else◌, map as map_list};
+ghost use Rattle.std.specs.List.{list_any};
 ghost use Rattle.std.specs.FinMap as map;
 ghost use Rattle.std.specs.FinSet as set;
+ghost use Rattle.std.specs.Ordering.{eq_by_cmp};
+ghost use Rattle.cfdp_timers.specs.Order.{Timer, timer_cmp};
 ghost use Rattle.cfdp_timers.specs.Armed.{deadline_of};
+ghost use Rattle.cfdp_timers.specs.Due.{AreDue, AreLeft, IsLeast, due_count};
+ghost use Rattle.cfdp_timers.specs.Entries.{timer_of};
 
-use crate::deadlines::Deadlines;
 use crate::Kind;
+use crate::alarm::Alarm;
+use crate::deadlines::{Deadlines, earlier};
 use cfdp_header::TransactionId;
 use indexmap::IndexMap;
 use std::alloc::{AllocError, Global};
@@ -121,6 +127,80 @@ impl Timers {
     {
         if let Some(deadlines) = self.entries.get_mut(&id) {
             deadlines.set(kind, None);
+        }
+    }
+
+    /// The earliest deadline of the armed timers; `None` where none is armed.
+    pub fn next(&self) -> Option<u64>
+        ensures { MatchOption result (self.now.armed ≡ map.empty) (λ deadline. IsLeast self.now.armed deadline) }
+    {
+        let mut earliest = None;
+        for (_id, deadlines) in self.entries.iter() {
+            earliest = earlier(earliest, deadlines.next());
+        }
+        earliest
+    }
+
+    /// How many timers `fire` would give at that time.
+    pub fn due_count(&self, now: u64) -> usize
+        ensures { result ≡ due_count self.now.armed (max self.now.time now) }
+    {
+        let now = self.time.max(now);
+        let mut count = 0;
+        for (_id, deadlines) in self.entries.iter() {
+            count += deadlines.due_count(now);
+        }
+        count
+    }
+
+    /// Tells the time, and gives and clears the timers whose deadline is then or before: by deadline, then by
+    /// transaction, then by kind. A time before the latest that was told counts as the latest.
+    ///
+    /// # Errors
+    ///
+    /// Where there is no memory for the answer. All is then unchanged, the time too.
+    pub fn fire(&mut self, now: u64) -> Result<Vec<(TransactionId, Kind)>, AllocError>
+        ensures time { OnOk result (self.new.time ≡ max self.old.time now) }
+        ensures roomy { OnOk result (self.new.roomy ≡ self.old.roomy) }
+        ensures fired { IfOk result (λ fired. AreDue self.old.armed self.new.time fired.items) }
+        // No other list is so.
+        ensures only { IfOk result (λ fired. (others : List Timer) → AreDue self.old.armed self.new.time others → others ≡ fired.items) }
+        ensures count { IfOk result (λ fired. length fired.items ≡ due_count self.old.armed self.new.time) }
+        ensures left { OnOk result (AreLeft self.old.armed self.new.time self.new.armed) }
+        ensures err { OnErr result (self.new ≡ self.old) }
+    {
+        let now = self.time.max(now);
+        let due = self.due(now)?;
+        let fired: Vec<(TransactionId, Kind)> = due
+            .iter()
+            .map(|alarm| (alarm.id, alarm.kind))
+            .collect(self.alloc)?;
+        self.time = now;
+        self.clear_all(&fired);
+        Ok(fired)
+    }
+
+    // The timers that are due, as they fire.
+    fn due(&self, now: u64) -> Result<Vec<Alarm>, AllocError>
+        ensures fired { IfOk result (λ due. AreDue self.now.armed now (map_list timer_of due.items)) }
+        ensures count { IfOk result (λ due. length due.items ≡ due_count self.now.armed now) }
+    {
+        let mut due = Vec::new(self.alloc);
+        for (id, deadlines) in self.entries.iter() {
+            deadlines.push_due(*id, now, &mut due)?;
+        }
+        due.sort_unstable();
+        Ok(due)
+    }
+
+    fn clear_all(&mut self, timers: &[(TransactionId, Kind)])
+        ensures time { self.new.time ≡ self.old.time }
+        ensures roomy { self.new.roomy ≡ self.old.roomy }
+        ensures cleared { (t : Timer) → map.get self.new.armed t
+            ≡ (if list_any (eq_by_cmp timer_cmp t) timers.now then None else map.get self.old.armed t) }
+    {
+        for (id, kind) in timers {
+            self.clear(*id, *kind);
         }
     }
 }
