@@ -4,3 +4,4 @@ pub mod Kept
 pub mod Written
 pub mod Alarms
 pub mod Distinct
+pub mod Firing

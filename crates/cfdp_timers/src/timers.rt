@@ -10,7 +10,7 @@ ghost use Rattle.cfdp_timers.specs.Due.{AreDue, AreLeft, IsLeast, due_count};
 ghost use Rattle.cfdp_timers.specs.Entries.{timer_of};
 
 use crate::Kind;
-use crate::alarm::Alarm;
+use crate::alarm::{Alarm, timers_of};
 use crate::deadlines::{Deadlines, earlier};
 use cfdp_header::TransactionId;
 use indexmap::IndexMap;
@@ -171,10 +171,7 @@ impl Timers {
     {
         let now = self.time.max(now);
         let due = self.due(now)?;
-        let fired: Vec<(TransactionId, Kind)> = due
-            .iter()
-            .map(|alarm| (alarm.id, alarm.kind))
-            .collect(self.alloc)?;
+        let fired = timers_of(self.alloc, &due)?;
         self.time = now;
         self.clear_all(&fired);
         Ok(fired)

@@ -16,7 +16,7 @@ pub loop-id-preserved : goal.loop-id-preserved
 loop-id-preserved c =
     let e : TransactionId × Deadlines = (c.in-Some._id.now, c.in-Some.deadlines.now) in
     let left = rest_more deref_pair c.loop-id._id-iterator c.next.new.self c.next.result (c.in-Some._id, c.in-Some.deadlines) c.in-Some.is c.next.ensures.steps in
-    ap (λ o. earlier o (earliest (alarms c.next.new.self))) (c.earlier-earliest.ensures ∙ ap (earlier c.loop-id.earliest) (c.next-2.ensures e.0))
+    ap (λ o. earlier o (earliest (alarms c.next.new.self))) (c.earlier-earliest.ensures ∙ ap (earlier c.loop-id.earliest) (c.next-in-loop-id.ensures e.0))
     ∙ earlier_assoc c.loop-id.earliest (earliest (alarms_of e.0 e.1)) (earliest (alarms c.next.new.self))
     ∙ ap (earlier c.loop-id.earliest) (sym (earliest-more c.loop-id._id-iterator c.next.new.self e left))
     ∙ c.loop-id.invariant
