@@ -134,6 +134,7 @@ earliest-le (x ∷ xs) t o d found e =
     front : (r : Option ℕ) → earlier (Some x.1) r ≡ Some d → d ≤ x.1
     front None h = let k : x.1 ≡ d = same_Some x.1 d h in omega (arith, k)
     front (Some y) h = let k : min x.1 y ≡ d = same_Some _ d h in omega (arith, k)
+
     behind : ((y : ℕ) → earliest xs ≡ Some y → y ≤ o) → (r : Option ℕ) → earliest xs ≡ r → earlier (Some x.1) r ≡ Some d → lookup (eq_by_cmp timer_cmp t) xs ≡ Some o → d ≤ o
     behind rest None is h f = let nil : xs ≡ [] = earliest-none xs is in absurd (true≢false (sym (ap is_some (ap (lookup (eq_by_cmp timer_cmp t)) (sym nil) ∙ f))))
     behind rest (Some y) is h f = let k : min x.1 y ≡ d = same_Some _ d h in let later : y ≤ o = rest y is in omega (arith, k, later)
@@ -145,21 +146,25 @@ earliest-found (x ∷ xs) d apart e = by (λ y is. earliest-found xs y (IsDistin
   where
     here : x.1 ≡ d → (t : Timer) × (lookup (eq_by_cmp timer_cmp t) (x ∷ xs) ≡ Some d)
     here h = (x.0, ap (λ b. cond b (Some x.1) (lookup (eq_by_cmp timer_cmp x.0) xs)) (timer_laws.refl x.0) ∙ ap Some h)
+
     there : (y : ℕ) → (t : Timer) × (lookup (eq_by_cmp timer_cmp t) xs ≡ Some y) → y ≡ d → (t : Timer) × (lookup (eq_by_cmp timer_cmp t) (x ∷ xs) ≡ Some d)
-    there y found h =
-      (found.0, elim (eq_by_cmp timer_cmp found.0 x.0) as (λ b. eq_by_cmp timer_cmp found.0 x.0 ≡ b → cond b (Some x.1) (lookup (eq_by_cmp timer_cmp found.0) xs) ≡ Some d) [
+    there y found h = (
+      found.0,
+      elim (eq_by_cmp timer_cmp found.0 x.0) as (λ b. eq_by_cmp timer_cmp found.0 x.0 ≡ b → cond b (Some x.1) (lookup (eq_by_cmp timer_cmp found.0) xs) ≡ Some d) [
         | true ↦ λ tie. absurd (true≢false (sym (ap is_some (sym (lookup-none (eq_by_cmp timer_cmp found.0) xs (none_past_head timer_laws found.0 x xs apart tie)) ∙ found.1))))
         | false ↦ λ tie. found.1 ∙ ap Some h
-      ] refl)
+      ] refl,
+    )
+
     by : ((y : ℕ) → earliest xs ≡ Some y → (t : Timer) × (lookup (eq_by_cmp timer_cmp t) xs ≡ Some y)) → (r : Option ℕ) → earliest xs ≡ r → earlier (Some x.1) r ≡ Some d
         → (t : Timer) × (lookup (eq_by_cmp timer_cmp t) (x ∷ xs) ≡ Some d)
     by rest None is h = here (same_Some x.1 d h)
     by rest (Some y) is h =
-      let k : min x.1 y ≡ d = same_Some _ d h in
-      elim (nat_le x.1 y) as (λ b. nat_le x.1 y ≡ b → (t : Timer) × (lookup (eq_by_cmp timer_cmp t) (x ∷ xs) ≡ Some d)) [
-        | true ↦ λ le. let l = leb-true x.1 y le in let first : x.1 ≡ d = omega (arith, k, l) in here first
-        | false ↦ λ gt. let l = leb-false x.1 y gt in let later : y ≡ d = omega (arith, k, l) in there y (rest y is) later
-      ] refl
+        let k : min x.1 y ≡ d = same_Some _ d h in
+        elim (nat_le x.1 y) as (λ b. nat_le x.1 y ≡ b → (t : Timer) × (lookup (eq_by_cmp timer_cmp t) (x ∷ xs) ≡ Some d)) [
+          | true ↦ λ le. let l = leb-true x.1 y le in let first : x.1 ≡ d = omega (arith, k, l) in here first
+          | false ↦ λ gt. let l = leb-false x.1 y gt in let later : y ≡ d = omega (arith, k, l) in there y (rest y is) later
+        ] refl
 
 -- ---- one transaction more of a walk
 module _ (at : ℕ) (s t : List (TransactionId × Deadlines)) (e : TransactionId × Deadlines) (is : s ≡ e ∷ t) where

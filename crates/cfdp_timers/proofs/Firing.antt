@@ -80,7 +80,7 @@ module _ (es : List (TransactionId × Deadlines)) (at : ℕ) (apart : IsDistinct
       let due_so : All (λ (e : Timer × ℕ). map.get (armed_of es) e.0 ≡ Some e.1) (due at (alarms es)) = All-filter (λ e. nat_le e.1 at) (λ e. map.get (armed_of es) e.0 ≡ Some e.1) (alarms es) (found-alarms es apart) in
       let entries_so : All (λ (e : Timer × ℕ). map.get (armed_of es) e.0 ≡ Some e.1) (map entry_of ds) = subst (λ l. All (λ (e : Timer × ℕ). map.get (armed_of es) e.0 ≡ Some e.1) l) (sym collected) due_so in
       All-permutation (λ a. map.get (armed_of es) (timer_of a) ≡ Some a.deadline) ds fs moved
-        (All-from_recursion _ ds (each-entry (armed_of es) ds (recursion_from_All _ (map entry_of ds) entries_so)))
+      (All-from_recursion _ ds (each-entry (armed_of es) ds (recursion_from_All _ (map entry_of ds) entries_so)))
 
   apart_timers : IsDistinct (eq_by_cmp timer_cmp) (map timer_of fs)
   apart_timers = IsDistinct-IsPermutation (eq_by_cmp timer_cmp) timer_laws.symm (map timer_of ds) (map timer_of fs) moved_timers
@@ -102,5 +102,5 @@ module _ (es : List (TransactionId × Deadlines)) (at : ℕ) (apart : IsDistinct
   are_due up = record {
     all = λ t. sym (list_any-IsPermutation (eq_by_cmp timer_cmp t) (map timer_of ds) (map timer_of fs) moved_timers) ∙ ap (λ l. list_any (eq_by_cmp timer_cmp t) l) keys ∙ any-due-alarms es at t apart;
     in_order = strictly (firing_total (armed_of es)) (map timer_of fs) (sorted_timers up)
-      (subst (λ e. IsDistinct e (map timer_of fs)) (λ i x y. sym (firing_ties (armed_of es) x y) i) apart_timers);
+        (subst (λ e. IsDistinct e (map timer_of fs)) (λ i x y. sym (firing_ties (armed_of es) x y) i) apart_timers);
   }

@@ -5,3 +5,4 @@ pub mod Written
 pub mod Alarms
 pub mod Distinct
 pub mod Firing
+pub mod CallerLemmas

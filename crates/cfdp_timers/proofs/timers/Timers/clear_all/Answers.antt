@@ -23,9 +23,9 @@ loop-id-preserved c =
       time = ap (λ clock. clock.time) c.clear.ensures ∙ c.loop-id.invariant.time;
       roomy = ap (λ clock. clock.roomy) c.clear.ensures ∙ c.loop-id.invariant.roomy;
       cleared = λ t.
-        ap (λ clock. map.get clock.armed t) c.clear.ensures
-        ∙ map.get-remove timer_total c.loop-id.self.armed next t
-        ∙ ap (cond (eq_by_cmp timer_cmp t next) None) (c.loop-id.invariant.cleared t)
-        ∙ twice (eq_by_cmp timer_cmp t next) (list_any (eq_by_cmp timer_cmp t) (take c.loop-id.id-index c.args.timers.now)) (map.get c.args.self.now.armed t)
-        ∙ ap (λ b. cond b None (map.get c.args.self.now.armed t)) (sym (list_any_more (eq_by_cmp timer_cmp t) c.args.timers.now c.loop-id.id-index first (omega arith)))
+          ap (λ clock. map.get clock.armed t) c.clear.ensures
+          ∙ map.get-remove timer_total c.loop-id.self.armed next t
+          ∙ ap (cond (eq_by_cmp timer_cmp t next) None) (c.loop-id.invariant.cleared t)
+          ∙ twice (eq_by_cmp timer_cmp t next) (list_any (eq_by_cmp timer_cmp t) (take c.loop-id.id-index c.args.timers.now)) (map.get c.args.self.now.armed t)
+          ∙ ap (λ b. cond b None (map.get c.args.self.now.armed t)) (sym (list_any_more (eq_by_cmp timer_cmp t) c.args.timers.now c.loop-id.id-index first (omega arith)));
     }

@@ -29,18 +29,18 @@ returns-clause-fired c =
     let es = c.self.inside.entries.entries in
     let none = rest_all deref_pair c.loop-id.id-iterator c.next.new.self c.next.result c.in-None.is c.next.ensures.steps in
     let collected : map entry_of c.loop-id.due.items ≡ due c.args.now (alarms es) =
-      sym (append-nil _) ∙ ap (λ l. map entry_of c.loop-id.due.items ++ l) (sym (ap (λ l. due c.args.now (alarms l)) none ∙ due-nil c.args.now)) ∙ c.loop-id.invariant
-      ∙ ap (λ l. due c.args.now (alarms l)) (c.into_iter-id-iterator.ensures.into_iter_gives ∙ c.iter-id-items.ensures.rest) in
+    sym (append-nil _) ∙ ap (λ l. map entry_of c.loop-id.due.items ++ l) (sym (ap (λ l. due c.args.now (alarms l)) none ∙ due-nil c.args.now)) ∙ c.loop-id.invariant
+    ∙ ap (λ l. due c.args.now (alarms l)) (c.into_iter-id-iterator.ensures.into_iter_gives ∙ c.iter-id-items.ensures.rest) in
     let up : IsSorted (cmp-value).it c.sort_unstable.new.self.items = c.sort_unstable.ensures.sorted in
     subst (λ clock. AreDue clock.armed c.args.now (map timer_of c.sort_unstable.new.self.items)) c.self.view_is
-      (are_due es c.args.now c.self.invariant.0 c.loop-id.due.items c.sort_unstable.new.self.items collected c.sort_unstable.ensures.permutation up)
+    (are_due es c.args.now c.self.invariant.0 c.loop-id.due.items c.sort_unstable.new.self.items collected c.sort_unstable.ensures.permutation up)
 
 pub returns-clause-count : goal.returns-clause-count
 returns-clause-count c =
     let es = c.self.inside.entries.entries in
     let none = rest_all deref_pair c.loop-id.id-iterator c.next.new.self c.next.result c.in-None.is c.next.ensures.steps in
     let collected : map entry_of c.loop-id.due.items ≡ due c.args.now (alarms es) =
-      sym (append-nil _) ∙ ap (λ l. map entry_of c.loop-id.due.items ++ l) (sym (ap (λ l. due c.args.now (alarms l)) none ∙ due-nil c.args.now)) ∙ c.loop-id.invariant
-      ∙ ap (λ l. due c.args.now (alarms l)) (c.into_iter-id-iterator.ensures.into_iter_gives ∙ c.iter-id-items.ensures.rest) in
+    sym (append-nil _) ∙ ap (λ l. map entry_of c.loop-id.due.items ++ l) (sym (ap (λ l. due c.args.now (alarms l)) none ∙ due-nil c.args.now)) ∙ c.loop-id.invariant
+    ∙ ap (λ l. due c.args.now (alarms l)) (c.into_iter-id-iterator.ensures.into_iter_gives ∙ c.iter-id-items.ensures.rest) in
     length_permutation c.loop-id.due.items c.sort_unstable.new.self.items c.sort_unstable.ensures.permutation ∙ sym (length-map c.loop-id.due.items entry_of) ∙ ap length collected
     ∙ length-due-alarms es c.args.now c.self.invariant.0 ∙ ap (λ clock. due_count clock.armed c.args.now) c.self.view_is

@@ -26,7 +26,7 @@ returns c =
     let es = c.self.inside.entries.entries in
     let none = rest_all deref_pair c.loop-id._id-iterator c.next.new.self c.next.result c.in-None.is c.next.ensures.steps in
     let is : earliest (alarms es) ≡ c.loop-id.earliest =
-      ap (λ l. earliest (alarms l)) (sym (c.into_iter-id-iterator.ensures.into_iter_gives ∙ c.iter-id-items.ensures.rest)) ∙ sym c.loop-id.invariant
-      ∙ ap (earlier c.loop-id.earliest) (ap (λ l. earliest (alarms l)) none ∙ earliest-nil) ∙ earlier_none c.loop-id.earliest in
+    ap (λ l. earliest (alarms l)) (sym (c.into_iter-id-iterator.ensures.into_iter_gives ∙ c.iter-id-items.ensures.rest)) ∙ sym c.loop-id.invariant
+    ∙ ap (earlier c.loop-id.earliest) (ap (λ l. earliest (alarms l)) none ∙ earliest-nil) ∙ earlier_none c.loop-id.earliest in
     subst (λ clock. MatchOption c.loop-id.earliest (clock.armed ≡ map.empty) (λ deadline. IsLeast clock.armed deadline)) c.self.view_is
-      (earliest-alarms es c.loop-id.earliest c.self.invariant.0 is)
+    (earliest-alarms es c.loop-id.earliest c.self.invariant.0 is)
