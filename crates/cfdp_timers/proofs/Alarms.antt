@@ -1,5 +1,5 @@
 -- Lists of alarms: those that are due, and the earliest.
-use Rattle.std.proofs.Common.{◌≡◌, ℕ, ◌+◌, ◌*◌, ◌≤◌, suc, List, [], ◌∷◌, ◌++◌, length, filter, refl, sym, ap, ◌∙◌, Bool, true, false, cond, Option, Some, None, append_assoc, arith, length-append, min, nat_le, is_some, true≢false, subst}
+use Rattle.std.proofs.Common.{◌≡◌, ℕ, ◌+◌, ◌*◌, ◌≤◌, List, [], ◌∷◌, ◌++◌, length, filter, refl, sym, ap, ◌∙◌, Bool, true, false, cond, Option, Some, None, arith, length-append, min, nat_le, is_some, true≢false}
 use Rattle.std.specs.List.{IsDistinct}
 use Rattle.std.specs.Map.{keys_of, lookup}
 use Rattle.std.specs.Ordering.{eq_by_cmp}

@@ -1,5 +1,5 @@
 -- No timer stands twice among the alarms, and what follows for those that are due.
-use Rattle.std.proofs.Common.{◌≡◌, ℕ, ◌+◌, ◌<◌, List, [], ◌∷◌, ◌++◌, length, get_or, filter, refl, sym, ap, subst, ◌∙◌, Bool, true, false, cond, true≢false, ◌||◌, ◌&&◌, T, Option, Some, None, append_assoc, nat_le}
+use Rattle.std.proofs.Common.{◌≡◌, ℕ, List, [], ◌∷◌, ◌++◌, length, get_or, refl, sym, ap, subst, ◌∙◌, Bool, true, false, cond, ◌||◌, ◌&&◌, T, Option, Some, None, append_assoc, nat_le}
 use Rattle.std.specs.declared.cmp.Ordering.{Ordering}
 use Rattle.std.specs.declared.cmp.Ordering.TheVariants.{Less, Equal, Greater}
 use Rattle.std.specs.Cmp.{tied_itself}
@@ -13,15 +13,14 @@ use Rattle.std.specs.FinMap.Entries.{below_all}
 use Rattle.std.proofs.lemmas.List.Sums.{length-filter}
 use Rattle.std.proofs.lemmas.Map.{lookup-none, none_passes_from_lookup}
 use Rattle.std.proofs.lemmas.Map.Entries.{none_past_head, length-keys_of, lookup_from_place}
-use Rattle.std.proofs.lemmas.Map.Keys.{IsDistinct-tail, IsDistinct-head}
-use Rattle.std.proofs.lemmas.Map.Made.{IsDistinct-keys_filter, length-from_same_keys, is_some-lookup}
+use Rattle.std.proofs.lemmas.Map.Keys.{IsDistinct-tail}
+use Rattle.std.proofs.lemmas.Map.Made.{IsDistinct-keys_filter, length-from_same_keys}
 use Rattle.std.proofs.lemmas.Option.{slice_get-get_or}
 use Rattle.cfdp_header.specs.declared.value.TransactionId.{TransactionId}
 use Rattle.cfdp_timers.specs.declared.kind.Kind.{Kind}
 use Rattle.cfdp_timers.specs.declared.kind.Kind.TheVariants.{EofAck, Nak, FinishedAck, Inactivity}
 use Rattle.cfdp_timers.specs.declared.deadlines.Deadlines.{Deadlines}
 use Rattle.cfdp_timers.specs.Order.{Timer, id_cmp, kind_place, timer_cmp}
-use Rattle.cfdp_timers.specs.Armed.{Armed}
 use Rattle.cfdp_timers.specs.Due.{is_due, due_count, IsLeast}
 use Rattle.cfdp_timers.specs.Entries.{deadline_at, alarm_if, alarms_of, alarms, armed_of, due, earliest}
 use Rattle.cfdp_timers.proofs.Orders.{id_total, timer_total, id_laws, timer_laws}

@@ -1,17 +1,17 @@
 -- What the entries of a map from transactions to deadlines hold.
-use Rattle.std.proofs.Common.{◌≡◌, ℕ, List, [], ◌∷◌, ◌++◌, refl, sym, ap, subst, ◌∙◌, Bool, true, false, cond, true≢false, Option, Some, None, is_some, append_assoc, filter, length, nat_le}
+use Rattle.std.proofs.Common.{◌≡◌, ℕ, List, [], ◌∷◌, ◌++◌, refl, sym, ap, ◌∙◌, true, false, cond, Option, Some, None, is_some, append_assoc}
 use Rattle.std.specs.declared.cmp.Ordering.{Ordering}
 use Rattle.std.specs.declared.cmp.Ordering.TheVariants.{Less, Equal, Greater}
-use Rattle.std.specs.List.{list_any, IsDistinct, AllByRecursion}
+use Rattle.std.specs.List.{IsDistinct}
 use Rattle.std.specs.Map.{keys_of, lookup}
-use Rattle.std.specs.Option.{option_or, option_and_then, option_map_or}
+use Rattle.std.specs.Option.{option_or, option_and_then}
 use Rattle.std.specs.Ordering.{eq_by_cmp, is_eq, ordering_then, nat_cmp}
 use Rattle.std.specs.FinMap as map
 use Rattle.std.specs.FinSet as set
-use Rattle.std.specs.FinMap.{find, from_entries, get-from_entries}
-use Rattle.std.proofs.lemmas.Map.{lookup-none, NonePasses}
+use Rattle.std.specs.FinMap.{find, get-from_entries}
+use Rattle.std.proofs.lemmas.Map.{lookup-none}
 use Rattle.std.proofs.lemmas.Map.Entries.{none_past_head}
-use Rattle.std.proofs.lemmas.Map.Keys.{IsDistinct-tail, IsDistinct-head}
+use Rattle.std.proofs.lemmas.Map.Keys.{IsDistinct-tail}
 use Rattle.std.proofs.lemmas.Map.Made.{is_some-lookup}
 use Rattle.cfdp_header.specs.declared.value.TransactionId.{TransactionId}
 use Rattle.cfdp_header.specs.contracts.value.TransactionIdPartialEq.TheImpl.{eq-value}
@@ -20,7 +20,7 @@ use Rattle.cfdp_timers.specs.declared.kind.Kind.TheVariants.{EofAck, Nak, Finish
 use Rattle.cfdp_timers.specs.declared.deadlines.Deadlines.{Deadlines}
 use Rattle.cfdp_timers.specs.Order.{Timer, id_cmp, kind_place, timer_cmp}
 use Rattle.cfdp_timers.specs.Entries.{deadline_at, alarm_if, alarms_of, alarms, roomy_of, armed_of}
-use Rattle.cfdp_timers.proofs.Orders.{id_total, timer_total, id_laws, timer_laws, id_eq}
+use Rattle.cfdp_timers.proofs.Orders.{id_total, timer_total, id_laws, id_eq}
 
 -- the first entry with a key that ties, as a look-up
 pub find-lookup : {K X : Type 0} (R : K → K → Ordering) (q : K) (es : List (K × X)) → find R q es ≡ lookup (eq_by_cmp R q) es

@@ -1,5 +1,5 @@
 -- What an entry that is added or written does to the armed timers.
-use Rattle.std.proofs.Common.{◌≡◌, ℕ, List, [], ◌∷◌, ◌++◌, refl, sym, ap, subst, ◌∙◌, Bool, true, false, cond, ◌||◌, Option, Some, None, is_some, append_assoc}
+use Rattle.std.proofs.Common.{◌≡◌, ℕ, List, [], ◌∷◌, ◌++◌, refl, sym, ap, subst, ◌∙◌, true, false, cond, ◌||◌, Option, Some, None, append_assoc}
 use Rattle.std.specs.declared.cmp.Ordering.{Ordering}
 use Rattle.std.specs.declared.cmp.Ordering.TheVariants.{Less, Equal, Greater}
 use Rattle.std.specs.Cmp.{Equal-is}
@@ -16,9 +16,8 @@ use Rattle.cfdp_timers.specs.declared.kind.Kind.{Kind}
 use Rattle.cfdp_timers.specs.declared.kind.Kind.TheVariants.{EofAck, Nak, FinishedAck, Inactivity}
 use Rattle.cfdp_timers.specs.declared.deadlines.Deadlines.{Deadlines}
 use Rattle.cfdp_timers.specs.Order.{Timer, id_cmp, kind_place, timer_cmp}
-use Rattle.cfdp_timers.specs.Armed.{Armed}
 use Rattle.cfdp_timers.specs.Entries.{deadline_at, with_deadline, alarms_of, alarms, roomy_of, armed_of, clock_of}
-use Rattle.cfdp_timers.proofs.Orders.{id_total, timer_total, id_laws, timer_laws, same_id, same_timer, id_eq}
+use Rattle.cfdp_timers.proofs.Orders.{id_total, timer_total, id_laws, same_id, same_timer, id_eq}
 use Rattle.cfdp_timers.proofs.Kept.{get-armed_of, by_id}
 
 -- keys that differ by `==` differ by the order

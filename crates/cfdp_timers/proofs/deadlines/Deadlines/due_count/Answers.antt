@@ -1,7 +1,6 @@
 -- The four timers are counted one by one.
-use Rattle.std.proofs.Common.{◌+◌, arith, sym, ◌∙◌, length, ℕ, ◌≡◌}
+use Rattle.std.proofs.Common.{arith}
 use Rattle.cfdp_timers.specs.declared.kind.Kind.TheVariants.{EofAck, Nak, FinishedAck, Inactivity}
-use Rattle.cfdp_timers.specs.Entries.{alarm_if, due}
 use Rattle.cfdp_timers.proofs.Alarms.{length-due_of}
 use Rattle.cfdp_timers.proofs.deadlines.Deadlines.due_count.Goals as goal
 

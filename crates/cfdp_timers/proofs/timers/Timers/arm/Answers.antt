@@ -1,16 +1,11 @@
 -- The entry of the transaction, which has room, is written.
-use Rattle.std.proofs.Common.{◌≡◌, Option, Some, None, true, false, true≢false, cond, is_some, refl, sym, ap, ◌∙◌}
+use Rattle.std.proofs.Common.{◌≡◌, Some, true≢false, is_some, refl, sym, ap, ◌∙◌}
 use Rattle.std.specs.FinMap as map
 use Rattle.std.specs.FinSet as set
-use Rattle.std.specs.List.{IsDistinct}
-use Rattle.std.specs.Map.{keys_of, lookup}
+use Rattle.std.specs.Map.{lookup}
 use Rattle.std.specs.Option.{option_copied_mut}
-use Rattle.std.specs.Ordering.{eq_by_cmp}
-use Rattle.indexmap.specs.IndexMap.{IndexMap, WritesThrough}
-use Rattle.cfdp_header.specs.declared.value.TransactionId.{TransactionId}
+use Rattle.indexmap.specs.IndexMap.{WritesThrough}
 use Rattle.cfdp_header.specs.contracts.value.TransactionIdPartialEq.TheImpl.{eq-value}
-use Rattle.cfdp_timers.specs.declared.deadlines.Deadlines.{Deadlines}
-use Rattle.cfdp_timers.specs.Order.{id_cmp}
 use Rattle.cfdp_timers.specs.Entries.{clock_of}
 use Rattle.cfdp_timers.proofs.Kept.{has-room}
 use Rattle.cfdp_timers.proofs.Written.{clock_of-armed, distinct_ids}

@@ -1,5 +1,5 @@
 -- The deadline in the transaction's entry, if it has one.
-use Rattle.std.proofs.Common.{sym, ap, ◌∙◌, Some, None}
+use Rattle.std.proofs.Common.{sym, ap, ◌∙◌}
 use Rattle.std.specs.Option.{option_and_then, option_copied}
 use Rattle.cfdp_timers.specs.Armed.{deadline_of}
 use Rattle.cfdp_timers.specs.Entries.{deadline_at}

@@ -1,11 +1,11 @@
 -- Each transaction's timers that are due are counted, and all together are no more than four of each transaction.
-use Rattle.std.proofs.Common.{◌≡◌, ℕ, ◌+◌, ◌*◌, ◌≤◌, arith, sym, ap, ◌∙◌, length, max, List}
+use Rattle.std.proofs.Common.{◌≡◌, arith, ap, ◌∙◌, length, max}
 use Rattle.std.specs.Map.Iter.{deref_pair}
 use Rattle.std.proofs.lemmas.Map.Iter.{rest_more, rest_all}
 use Rattle.cfdp_header.specs.declared.value.TransactionId.{TransactionId}
 use Rattle.cfdp_timers.specs.declared.deadlines.Deadlines.{Deadlines}
 use Rattle.cfdp_timers.specs.Due.{due_count}
-use Rattle.cfdp_timers.specs.Entries.{due, alarms, alarms_of}
+use Rattle.cfdp_timers.specs.Entries.{due, alarms}
 use Rattle.cfdp_timers.proofs.Alarms.{length-due-more, length-due-le, due-nil}
 use Rattle.cfdp_timers.proofs.Distinct.{length-due-alarms}
 use Rattle.cfdp_timers.proofs.timers.Timers.due_count.Goals as goal

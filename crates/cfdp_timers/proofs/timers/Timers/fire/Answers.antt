@@ -1,5 +1,5 @@
 -- Only one list is that of the timers that are due.
-use Rattle.std.proofs.Common.{rules, arith, sym, subst}
+use Rattle.std.proofs.Common.{rules, arith}
 use Rattle.std.proofs.lemmas.Grind.{common_steps}
 use Rattle.cfdp_timers.specs.Due.{AreDue}
 use Rattle.cfdp_timers.proofs.Firing.{only_due}

@@ -1,9 +1,6 @@
 -- An empty map has no transactions and no timers.
-use Rattle.std.proofs.Common.{ap, refl, ◌∙◌}
-use Rattle.cfdp_timers.specs.Entries.{roomy_of, armed_of, alarms}
-use Rattle.std.specs.Map.{keys_of}
-use Rattle.std.specs.FinSet.{from_list}
-use Rattle.std.specs.FinMap.{from_entries}
+use Rattle.std.proofs.Common.{ap, ◌∙◌}
+use Rattle.cfdp_timers.specs.Entries.{roomy_of, armed_of}
 use Rattle.cfdp_timers.proofs.Kept.{roomy_of-nil, armed_of-nil}
 use Rattle.cfdp_timers.proofs.timers.Timers.new.Goals as goal
 
