@@ -1,0 +1,35 @@
+-- Which timers are armed.
+use Rattle.std.specs.Prelude.{ℕ, refl, Option}
+use Rattle.std.specs.Coded.{Coded, code_by, coded×, coded_ℕ}
+use Rattle.std.specs.FinMap as map
+use Rattle.std.specs.FinSet as set
+use Rattle.cfdp_header.specs.declared.value.TransactionId.{TransactionId}
+use Rattle.cfdp_header.specs.contracts.value.TransactionId as id
+use Rattle.cfdp_timers.specs.declared.kind.Kind.{Kind}
+use Rattle.cfdp_timers.specs.contracts.kind.Kind as kind
+use Rattle.cfdp_timers.specs.Order.{id_cmp, timer_cmp}
+
+-- the deadlines of the timers that are armed
+abbrev pub Armed : Type 0
+Armed = map.FinMap timer_cmp ℕ
+
+-- the latest time told, the transactions whose timers can be armed, and the armed timers
+pub record Clock : Type 0 where
+  pub time : ℕ
+  pub roomy : set.FinSet id_cmp
+  pub armed : Armed
+
+abbrev roomy_code : Coded (set.FinSet id_cmp)
+roomy_code = set.code (id.the_row).coded
+
+abbrev armed_code : Coded Armed
+armed_code = map.code (coded× (id.the_row).coded (kind.the_row).coded) coded_ℕ
+
+abbrev pub clock_code : Coded Clock
+clock_code =
+    code_by (ℕ × (set.FinSet id_cmp × Armed)) (coded× coded_ℕ (coded× roomy_code armed_code)) (λ c. (c.time, (c.roomy, c.armed)))
+    (λ p. record { time = p.0; roomy = p.1.0; armed = p.1.1 }) (λ _. refl)
+
+-- the deadline of a timer, if it is armed
+abbrev pub deadline_of : Clock → TransactionId → Kind → Option ℕ
+deadline_of c id kind = map.get c.armed (id, kind)

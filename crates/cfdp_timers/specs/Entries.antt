@@ -1,0 +1,68 @@
+-- How the armed timers are kept: for each transaction that has room, the deadlines of its four kinds.
+use Rattle.std.specs.Prelude.{ℕ, Option, None, Some, List, [], ◌∷◌, ◌++◌, filter, nat_le, min}
+use Rattle.std.specs.Map.{keys_of}
+use Rattle.std.specs.FinMap.{from_entries}
+use Rattle.std.specs.FinSet.{FinSet, from_list}
+use Rattle.cfdp_header.specs.declared.value.TransactionId.{TransactionId}
+use Rattle.cfdp_timers.specs.declared.kind.Kind.{Kind}
+use Rattle.cfdp_timers.specs.declared.kind.Kind.TheVariants.{EofAck, Nak, FinishedAck, Inactivity}
+use Rattle.cfdp_timers.specs.declared.deadlines.Deadlines.{Deadlines}
+use Rattle.cfdp_timers.specs.declared.alarm.Alarm.{Alarm}
+use Rattle.cfdp_timers.specs.Order.{Timer, id_cmp}
+use Rattle.cfdp_timers.specs.Armed.{Clock, Armed}
+
+abbrev pub deadline_at : Deadlines → Kind → Option ℕ
+deadline_at d EofAck = d.eof_ack
+deadline_at d Nak = d.nak
+deadline_at d FinishedAck = d.finished_ack
+deadline_at d Inactivity = d.inactivity
+
+abbrev pub with_deadline : Deadlines → Kind → Option ℕ → Deadlines
+with_deadline d EofAck at = record d { eof_ack = at }
+with_deadline d Nak at = record d { nak = at }
+with_deadline d FinishedAck at = record d { finished_ack = at }
+with_deadline d Inactivity at = record d { inactivity = at }
+
+-- a timer with its deadline, if it is armed
+abbrev pub alarm_if : TransactionId → Kind → Option ℕ → List (Timer × ℕ)
+alarm_if id kind None = []
+alarm_if id kind (Some at) = ((id, kind), at) ∷ []
+
+-- the armed timers of one transaction
+unfoldable pub alarms_of : TransactionId → Deadlines → List (Timer × ℕ)
+alarms_of id d = alarm_if id EofAck d.eof_ack ++ (alarm_if id Nak d.nak ++ (alarm_if id FinishedAck d.finished_ack ++ alarm_if id Inactivity d.inactivity))
+
+-- and those of all
+unfoldable pub alarms : List (TransactionId × Deadlines) → List (Timer × ℕ)
+alarms [] = []
+alarms (e ∷ es) = alarms_of e.0 e.1 ++ alarms es
+
+-- those that are due at a time
+abbrev pub due : ℕ → List (Timer × ℕ) → List (Timer × ℕ)
+due at = filter (λ e. nat_le e.1 at)
+
+abbrev pub timer_of : Alarm → Timer
+timer_of a = (a.id, a.kind)
+
+abbrev pub entry_of : Alarm → Timer × ℕ
+entry_of a = ((a.id, a.kind), a.deadline)
+
+-- the earlier of two deadlines, where both are there
+abbrev pub earlier : Option ℕ → Option ℕ → Option ℕ
+earlier None b = b
+earlier (Some x) None = Some x
+earlier (Some x) (Some y) = Some (min x y)
+
+unfoldable pub earliest : List (Timer × ℕ) → Option ℕ
+earliest [] = None
+earliest (e ∷ es) = earlier (Some e.1) (earliest es)
+
+-- the transactions that have room, and the armed timers
+unfoldable pub roomy_of : List (TransactionId × Deadlines) → FinSet id_cmp
+roomy_of es = from_list (keys_of es)
+
+unfoldable pub armed_of : List (TransactionId × Deadlines) → Armed
+armed_of es = from_entries (alarms es)
+
+abbrev pub clock_of : ℕ → List (TransactionId × Deadlines) → Clock
+clock_of time es = record { time = time; roomy = roomy_of es; armed = armed_of es }

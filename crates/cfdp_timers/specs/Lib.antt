@@ -1,0 +1,4 @@
+pub mod Order
+pub mod Armed
+pub mod Due
+pub mod Entries

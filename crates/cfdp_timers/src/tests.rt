@@ -1,0 +1,57 @@
+use crate::{Kind, Timers};
+use cfdp_header::TransactionId;
+use std::test::Fail;
+
+fn id(source: u64, number: u64) -> TransactionId {
+    TransactionId { source, number }
+}
+
+#[test]
+fn timers_fire_by_deadline_then_transaction_then_kind(rt: HostRuntime) -> Result<(), Fail> {
+    let (first, second) = (id(1, 1), id(1, 2));
+    let mut timers = Timers::new(rt.alloc());
+    timers.room(second)?;
+    timers.room(first)?;
+    assert!(rt; timers.has_room(first));
+    assert!(rt; timers.has_room(second));
+    timers.arm(second, Kind::Nak, 10);
+    timers.arm(first, Kind::Inactivity, 10);
+    timers.arm(first, Kind::EofAck, 5);
+    assert_eq!(rt; timers.next(), Some(5));
+    assert_eq!(rt; timers.fire(4)?.len(), 0);
+    assert_eq!(rt; timers.due_count(10), 3);
+    let fired = timers.fire(10)?;
+    assert_eq!(rt;
+        fired.as_slice(),
+        [
+            (first, Kind::EofAck),
+            (first, Kind::Inactivity),
+            (second, Kind::Nak),
+        ]
+        .as_slice()
+    );
+    assert_eq!(rt; timers.next(), None);
+    assert!(rt; timers.has_room(first));
+    timers.arm(first, Kind::Nak, 7);
+    let late = timers.fire(3)?;
+    assert_eq!(rt; late.as_slice(), [(first, Kind::Nak)].as_slice());
+    assert_eq!(rt; timers.now(), 10);
+    Ok(())
+}
+
+#[test]
+fn a_timer_is_armed_anew_and_cleared(rt: HostRuntime) -> Result<(), Fail> {
+    let (first, second) = (id(1, 1), id(1, 2));
+    let mut timers = Timers::new(rt.alloc());
+    timers.room(first)?;
+    assert!(rt; timers.has_room(first));
+    assert!(rt; !timers.has_room(second));
+    timers.arm(first, Kind::FinishedAck, 3);
+    let later = timers.deadline_after(9);
+    timers.arm(first, Kind::FinishedAck, later);
+    assert_eq!(rt; timers.deadline_of(first, Kind::FinishedAck), Some(9));
+    timers.clear(second, Kind::Nak);
+    timers.clear(first, Kind::FinishedAck);
+    assert_eq!(rt; timers.deadline_of(first, Kind::FinishedAck), None);
+    Ok(())
+}

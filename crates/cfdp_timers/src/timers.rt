@@ -1,0 +1,203 @@
+// Which timers are armed, and until when.
+ghost use Rattle.std.specs.Prelude.{◌≡◌, ◌≤◌, ◌^◌, ◌+◌, ◌-◌, min, max, true, OnOk, OnErr, IfOk, IfSome, IfNone, None, Some, IsOk, MatchOption, List, length, if◌then◌else◌, map as map_list};
+ghost use Rattle.std.specs.List.{list_any};
+ghost use Rattle.std.specs.FinMap as map;
+ghost use Rattle.std.specs.FinSet as set;
+ghost use Rattle.std.specs.Ordering.{eq_by_cmp};
+ghost use Rattle.cfdp_timers.specs.Order.{Timer, timer_cmp};
+ghost use Rattle.cfdp_timers.specs.Armed.{deadline_of};
+ghost use Rattle.cfdp_timers.specs.Due.{AreDue, AreLeft, IsLeast, due_count};
+ghost use Rattle.cfdp_timers.specs.Entries.{timer_of};
+
+use crate::Kind;
+use crate::alarm::{Alarm, timers_of};
+use crate::deadlines::{Deadlines, earlier};
+use cfdp_header::TransactionId;
+use indexmap::IndexMap;
+use std::alloc::{AllocError, Global};
+use std::marker::Model;
+
+// More than memory holds: an entry takes over 8 octets.
+const MOST_TRANSACTIONS: usize = 1 << 61;
+
+/// When timers of transactions are due: of each transaction that has room, one timer of each kind.
+///
+/// Times are in units of the caller's, from 0 on.
+#[derive(Debug, Drop)]
+pub struct Timers {
+    entries: IndexMap<TransactionId, Deadlines>,
+    time: u64,
+    alloc: Global,
+}
+
+impl Model for Timers {
+    ghost use Rattle.std.specs.Prelude.{◌≤◌, ◌^◌, length};
+    ghost use Rattle.std.specs.List.{IsDistinct};
+    ghost use Rattle.std.specs.Map.{keys_of};
+    ghost use Rattle.std.specs.Ordering.{eq_by_cmp};
+    ghost use Rattle.cfdp_timers.specs.Order.{id_cmp};
+    ghost use Rattle.cfdp_timers.specs.Armed.{Clock, clock_code};
+    ghost use Rattle.cfdp_timers.specs.Entries.{clock_of};
+
+    ghost Value = { Clock };
+
+    ghost coded = { clock_code };
+
+    ghost view = { λ t. clock_of t.time t.entries.entries };
+
+    ghost invariant = { λ t. IsDistinct (eq_by_cmp id_cmp) (keys_of t.entries.entries) × (length t.entries.entries ≤ 2 ^ 61) };
+}
+
+impl Timers {
+    /// No timers, at time 0.
+    pub fn new(alloc: Global) -> Self
+        ensures time { result.time ≡ 0 }
+        ensures roomy { result.roomy ≡ set.empty }
+        ensures armed { result.armed ≡ map.empty }
+    {
+        Timers {
+            entries: IndexMap::new(alloc),
+            time: 0,
+            alloc,
+        }
+    }
+
+    /// The latest time that was told.
+    pub fn now(&self) -> u64
+        ensures { result ≡ self.now.time }
+    {
+        self.time
+    }
+
+    /// The time so many units after now, or the greatest there is.
+    pub fn deadline_after(&self, duration: u32) -> u64
+        ensures { result ≡ min (self.now.time + duration) (2 ^ 64 - 1) }
+    {
+        self.time.saturating_add(u64::from(duration))
+    }
+
+    /// Whether a transaction has room, so that its timers can be armed.
+    pub fn has_room(&self, id: TransactionId) -> bool
+        ensures { result ≡ set.contains self.now.roomy id }
+    {
+        self.entries.contains_key(&id)
+    }
+
+    /// The deadline of a timer, if it is armed.
+    pub fn deadline_of(&self, id: TransactionId, kind: Kind) -> Option<u64>
+        ensures { result ≡ deadline_of self.now id kind }
+    {
+        self.entries.get(&id)?.get(kind)
+    }
+
+    /// Makes room for a transaction, so that its timers can be armed.
+    ///
+    /// # Errors
+    ///
+    /// Where there is no memory for one more transaction. All is then unchanged.
+    pub fn room(&mut self, id: TransactionId) -> Result<(), AllocError>
+        ensures ok { OnOk result (self.new ≡ record self.old { roomy = set.insert self.old.roomy id }) }
+        ensures err { OnErr result (self.new ≡ self.old) }
+        // A transaction that has room takes no more memory.
+        ensures again { set.contains self.old.roomy id ≡ true → IsOk result }
+    {
+        if self.entries.contains_key(&id) {
+            return Ok(());
+        }
+        if self.entries.len() >= MOST_TRANSACTIONS {
+            return Err(AllocError);
+        }
+        self.entries.insert(id, Deadlines::NONE)?;
+        Ok(())
+    }
+
+    /// Arms a timer, or gives one that is armed another deadline, earlier or later.
+    pub fn arm(&mut self, id: TransactionId, kind: Kind, deadline: u64)
+        requires has_room { set.contains self.old.roomy id ≡ true }
+        ensures { self.new ≡ record self.old { armed = map.insert self.old.armed (id, kind) deadline } }
+    {
+        if let Some(deadlines) = self.entries.get_mut(&id) {
+            deadlines.set(kind, Some(deadline));
+        }
+    }
+
+    /// Clears a timer; one that isn't armed stays so.
+    pub fn clear(&mut self, id: TransactionId, kind: Kind)
+        ensures { self.new ≡ record self.old { armed = map.remove self.old.armed (id, kind) } }
+    {
+        if let Some(deadlines) = self.entries.get_mut(&id) {
+            deadlines.set(kind, None);
+        }
+    }
+
+    /// The earliest deadline of the armed timers; `None` where none is armed.
+    pub fn next(&self) -> Option<u64>
+        ensures { MatchOption result (self.now.armed ≡ map.empty) (λ deadline. IsLeast self.now.armed deadline) }
+    {
+        let mut earliest = None;
+        for (_id, deadlines) in self.entries.iter() {
+            earliest = earlier(earliest, deadlines.next());
+        }
+        earliest
+    }
+
+    /// How many timers `fire` would give at that time.
+    pub fn due_count(&self, now: u64) -> usize
+        ensures { result ≡ due_count self.now.armed (max self.now.time now) }
+    {
+        let now = self.time.max(now);
+        let mut count = 0;
+        for (_id, deadlines) in self.entries.iter() {
+            count += deadlines.due_count(now);
+        }
+        count
+    }
+
+    /// Tells the time, and gives and clears the timers whose deadline is then or before: by deadline, then by
+    /// transaction, then by kind. A time before the latest that was told counts as the latest.
+    ///
+    /// # Errors
+    ///
+    /// Where there is no memory for the answer. All is then unchanged, the time too.
+    pub fn fire(&mut self, now: u64) -> Result<Vec<(TransactionId, Kind)>, AllocError>
+        ensures time { OnOk result (self.new.time ≡ max self.old.time now) }
+        ensures roomy { OnOk result (self.new.roomy ≡ self.old.roomy) }
+        ensures fired { IfOk result (λ fired. AreDue self.old.armed self.new.time fired.items) }
+        // No other list is so.
+        ensures only { IfOk result (λ fired. (others : List Timer) → AreDue self.old.armed self.new.time others → others ≡ fired.items) }
+        ensures count { IfOk result (λ fired. length fired.items ≡ due_count self.old.armed self.new.time) }
+        ensures left { OnOk result (AreLeft self.old.armed self.new.time self.new.armed) }
+        ensures err { OnErr result (self.new ≡ self.old) }
+    {
+        let now = self.time.max(now);
+        let due = self.due(now)?;
+        let fired = timers_of(self.alloc, &due)?;
+        self.time = now;
+        self.clear_all(&fired);
+        Ok(fired)
+    }
+
+    // The timers that are due, as they fire.
+    fn due(&self, now: u64) -> Result<Vec<Alarm>, AllocError>
+        ensures fired { IfOk result (λ due. AreDue self.now.armed now (map_list timer_of due.items)) }
+        ensures count { IfOk result (λ due. length due.items ≡ due_count self.now.armed now) }
+    {
+        let mut due = Vec::new(self.alloc);
+        for (id, deadlines) in self.entries.iter() {
+            deadlines.push_due(*id, now, &mut due)?;
+        }
+        due.sort_unstable();
+        Ok(due)
+    }
+
+    fn clear_all(&mut self, timers: &[(TransactionId, Kind)])
+        ensures time { self.new.time ≡ self.old.time }
+        ensures roomy { self.new.roomy ≡ self.old.roomy }
+        ensures cleared { (t : Timer) → map.get self.new.armed t
+            ≡ (if list_any (eq_by_cmp timer_cmp t) timers.now then None else map.get self.old.armed t) }
+    {
+        for (id, kind) in timers {
+            self.clear(*id, *kind);
+        }
+    }
+}
