@@ -1,6 +1,6 @@
 /// Names a transaction: the entity that sends the file, and the number that it gave the transaction
 /// (CCSDS 727.0-B-5). Two ids are the same where both numbers are, whatever width they are written in.
-#[derive(Clone, Copy, Debug, PartialEq, Eq)]
+#[derive(Clone, Copy, Debug, PartialEq, Eq, PartialOrd, Ord, Hash)]
 pub struct TransactionId {
     /// The entity id of the file's sender.
     pub source: u64,

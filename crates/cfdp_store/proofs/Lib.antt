@@ -1,0 +1,4 @@
+mod FileLemmas
+mod Ids
+pub mod Octets
+mod PieceLemmas
