@@ -80,12 +80,27 @@ impl<O: Outbox> Outbox for FuseOutbox<O> {
 
     ghost failures = { λ f. all_failures (O.failures f.store) f.fuse };
 
-    fn len(&mut self, name: &[u8]) -> Result<Option<u64>, StoreError> {
+    fn len(&mut self, name: &[u8]) -> Result<Option<u64>, StoreError>
+        ensures answer { IfOk result (λ len. len ≡ option_map length (map.get (O.files self.old.store) name.now)) }
+        ensures files { O.files self.new.store ≡ O.files self.old.store }
+        ensures failures { all_failures (O.failures self.new.store) self.new.fuse
+            ≡ failures_after (all_failures (O.failures self.old.store) self.old.fuse) (is_ok result) }
+        ensures through { 0 < self.old.fuse.left → self.new.fuse ≡ burnt self.old.fuse }
+        ensures refused { self.old.fuse.left ≡ 0 → (result ≡ Err StoreError.Device) × (self.new ≡ record { store = self.old.store; fuse = blown self.old.fuse }) }
+    {
         self.fuse.pass()?;
         self.store.len(name)
     }
 
-    fn read(&mut self, name: &[u8], offset: u64, out: &mut [u8]) -> Result<(), StoreError> {
+    fn read(&mut self, name: &[u8], offset: u64, out: &mut [u8]) -> Result<(), StoreError>
+        requires { IsSomeAnd (map.get (O.files self.old.store) name.now) (λ octets. offset + length out.old ≤ length octets) }
+        ensures octets { OnOk result (out.new ≡ take (length out.old) (drop offset (unwrap_or (map.get (O.files self.old.store) name.now) []))) }
+        ensures files { O.files self.new.store ≡ O.files self.old.store }
+        ensures failures { all_failures (O.failures self.new.store) self.new.fuse
+            ≡ failures_after (all_failures (O.failures self.old.store) self.old.fuse) (is_ok result) }
+        ensures through { 0 < self.old.fuse.left → self.new.fuse ≡ burnt self.old.fuse }
+        ensures refused { self.old.fuse.left ≡ 0 → (result ≡ Err StoreError.Device) × (self.new ≡ record { store = self.old.store; fuse = blown self.old.fuse }) }
+    {
         self.fuse.pass()?;
         self.store.read(name, offset, out)
     }
@@ -137,22 +152,58 @@ impl<I: Inbox> Inbox for FuseInbox<I> {
 
     ghost failures = { λ f. all_failures (I.failures f.store) f.fuse };
 
-    fn begin(&mut self, id: TransactionId) -> Result<(), StoreError> {
+    fn begin(&mut self, id: TransactionId) -> Result<(), StoreError>
+        ensures staged { OnOk result (I.staged self.new.store id ≡ Some map.empty) }
+        ensures others { OthersKeep id (I.staged self.old.store) (I.staged self.new.store) }
+        ensures published { I.published self.new.store ≡ I.published self.old.store }
+        ensures failures { all_failures (I.failures self.new.store) self.new.fuse
+            ≡ failures_after (all_failures (I.failures self.old.store) self.old.fuse) (is_ok result) }
+        ensures through { 0 < self.old.fuse.left → self.new.fuse ≡ burnt self.old.fuse }
+        ensures refused { self.old.fuse.left ≡ 0 → (result ≡ Err StoreError.Device) × (self.new ≡ record { store = self.old.store; fuse = blown self.old.fuse }) }
+    {
         self.fuse.pass()?;
         self.store.begin(id)
     }
 
-    fn write(&mut self, id: TransactionId, offset: u64, octets: &[u8]) -> Result<(), StoreError> {
+    fn write(&mut self, id: TransactionId, offset: u64, octets: &[u8]) -> Result<(), StoreError>
+        requires { IsSome (I.staged self.old.store id) }
+        ensures staged { OnOk result (I.staged self.new.store id ≡ option_map (λ m. written m offset octets.now) (I.staged self.old.store id)) }
+        ensures others { OthersKeep id (I.staged self.old.store) (I.staged self.new.store) }
+        ensures published { I.published self.new.store ≡ I.published self.old.store }
+        ensures failures { all_failures (I.failures self.new.store) self.new.fuse
+            ≡ failures_after (all_failures (I.failures self.old.store) self.old.fuse) (is_ok result) }
+        ensures through { 0 < self.old.fuse.left → self.new.fuse ≡ burnt self.old.fuse }
+        ensures refused { self.old.fuse.left ≡ 0 → (result ≡ Err StoreError.Device) × (self.new ≡ record { store = self.old.store; fuse = blown self.old.fuse }) }
+    {
         self.fuse.pass()?;
         self.store.write(id, offset, octets)
     }
 
-    fn publish(&mut self, id: TransactionId, name: &[u8], size: u64) -> Result<(), StoreError> {
+    fn publish(&mut self, id: TransactionId, name: &[u8], size: u64) -> Result<(), StoreError>
+        requires { IsSomeAnd (I.staged self.old.store id) (Covers size) }
+        ensures ok { OnOk result (I.published self.new.store
+            ≡ map.insert (I.published self.old.store) name.now (front (staged_for (I.staged self.old.store) id) size)) }
+        ensures err { OnErr result (I.published self.new.store ≡ I.published self.old.store) }
+        ensures staged { OnOk result (I.staged self.new.store id ≡ None) }
+        ensures others { OthersKeep id (I.staged self.old.store) (I.staged self.new.store) }
+        ensures failures { all_failures (I.failures self.new.store) self.new.fuse
+            ≡ failures_after (all_failures (I.failures self.old.store) self.old.fuse) (is_ok result) }
+        ensures through { 0 < self.old.fuse.left → self.new.fuse ≡ burnt self.old.fuse }
+        ensures refused { self.old.fuse.left ≡ 0 → (result ≡ Err StoreError.Device) × (self.new ≡ record { store = self.old.store; fuse = blown self.old.fuse }) }
+    {
         self.fuse.pass()?;
         self.store.publish(id, name, size)
     }
 
-    fn discard(&mut self, id: TransactionId) -> Result<(), StoreError> {
+    fn discard(&mut self, id: TransactionId) -> Result<(), StoreError>
+        ensures staged { OnOk result (I.staged self.new.store id ≡ None) }
+        ensures others { OthersKeep id (I.staged self.old.store) (I.staged self.new.store) }
+        ensures published { I.published self.new.store ≡ I.published self.old.store }
+        ensures failures { all_failures (I.failures self.new.store) self.new.fuse
+            ≡ failures_after (all_failures (I.failures self.old.store) self.old.fuse) (is_ok result) }
+        ensures through { 0 < self.old.fuse.left → self.new.fuse ≡ burnt self.old.fuse }
+        ensures refused { self.old.fuse.left ≡ 0 → (result ≡ Err StoreError.Device) × (self.new ≡ record { store = self.old.store; fuse = blown self.old.fuse }) }
+    {
         self.fuse.pass()?;
         self.store.discard(id)
     }

@@ -1,8 +1,9 @@
-ghost use Rattle.std.specs.Prelude.{◌≡◌, None, [], false, unwrap_or, IsOk, IsOkUnless, OnErr, OnOk};
+ghost use Rattle.std.specs.Prelude.{◌≡◌, ◌+◌, ◌≤◌, Some, None, [], false, length, take, drop, unwrap_or, is_ok, IsOk, IsOkUnless, IsSome, IsSomeAnd, OnErr, OnOk};
 ghost use Rattle.std.specs.FinMap as map;
 ghost use Rattle.std.specs.Option.{option_map};
+ghost use Rattle.cfdp_header.specs.declared.value.TransactionId.{TransactionId};
 ghost use Rattle.cfdp_store.specs.Stores.{files_of, failures_after};
-ghost use Rattle.cfdp_store.specs.Staged.{OthersKeep, written, front, staged_for};
+ghost use Rattle.cfdp_store.specs.Staged.{Covers, OthersKeep, written, front, staged_for};
 ghost use Rattle.cfdp_store.specs.Memory.{octets_for};
 
 use crate::files::Files;
@@ -70,11 +71,19 @@ impl Outbox for MemoryOutbox {
 
     ghost failures = { λ _. 0 };
 
-    fn len(&mut self, name: &[u8]) -> Result<Option<u64>, StoreError> {
+    fn len(&mut self, name: &[u8]) -> Result<Option<u64>, StoreError>
+        ensures answer { result ≡ Ok (option_map length (map.get self.old name.now)) }
+        ensures files { self.new ≡ self.old }
+    {
         Ok(self.files.get(name).map(|octets| octets.len() as u64))
     }
 
-    fn read(&mut self, name: &[u8], offset: u64, out: &mut [u8]) -> Result<(), StoreError> {
+    fn read(&mut self, name: &[u8], offset: u64, out: &mut [u8]) -> Result<(), StoreError>
+        requires { IsSomeAnd (map.get self.old name.now) (λ octets. offset + length out.old ≤ length octets) }
+        ensures ok { IsOk result }
+        ensures octets { out.new ≡ take (length out.old) (drop offset (unwrap_or (map.get self.old name.now) [])) }
+        ensures files { self.new ≡ self.old }
+    {
         if let Some(octets) = self.files.get(name) {
             let start = offset as usize;
             out.copy_from_slice(&octets[start..start + out.len()]);
@@ -98,13 +107,36 @@ pub struct MemoryInbox {
 
 impl MemoryInbox {
     /// An inbox with nothing published and nothing staged. Takes no memory; `alloc` serves what comes later.
-    pub fn new(alloc: Global) -> Self {
+    pub fn new(alloc: Global) -> Self
+        ensures published { ⟦<MemoryInbox as Inbox>⟧.published result ≡ map.empty }
+        ensures staged { (id : TransactionId) → ⟦<MemoryInbox as Inbox>⟧.staged result id ≡ None }
+        ensures failures { ⟦<MemoryInbox as Inbox>⟧.failures result ≡ 0 }
+    {
         MemoryInbox {
             files: Files::new(alloc),
             staged: HashMap::new(alloc),
             failed: 0,
             alloc,
         }
+    }
+
+    /// An inbox in which these files, by their names, are published already. Nothing is staged. Takes no memory.
+    pub fn with_files(alloc: Global, files: BTreeMap<Vec<u8>, Vec<u8>>) -> Self
+        ensures published { ⟦<MemoryInbox as Inbox>⟧.published result ≡ files_of files.entries }
+        ensures staged { (id : TransactionId) → ⟦<MemoryInbox as Inbox>⟧.staged result id ≡ None }
+        ensures failures { ⟦<MemoryInbox as Inbox>⟧.failures result ≡ 0 }
+    {
+        MemoryInbox {
+            files: Files::from_map(files),
+            ..MemoryInbox::new(alloc)
+        }
+    }
+
+    /// The published files, names and octets, which it goes over in ascending order of the names.
+    pub fn entries(&self) -> &BTreeMap<Vec<u8>, Vec<u8>>
+        ensures { files_of result.now.entries ≡ ⟦<MemoryInbox as Inbox>⟧.published self.now }
+    {
+        self.files.entries()
     }
 
     /// Counts a failure for want of memory, and names it.
@@ -156,28 +188,55 @@ impl Inbox for MemoryInbox {
 
     ghost failures = { λ i. i.failed };
 
-    fn begin(&mut self, id: TransactionId) -> Result<(), StoreError> {
+    fn begin(&mut self, id: TransactionId) -> Result<(), StoreError>
+        ensures staged { OnOk result (octets_for self.new.staged id ≡ Some map.empty) }
+        ensures others { OthersKeep id (octets_for self.old.staged) (octets_for self.new.staged) }
+        ensures published { self.new.files ≡ self.old.files }
+        ensures failures { self.new.failed ≡ failures_after self.old.failed (is_ok result) }
+        ensures only_memory { IsOkUnless result StoreError.NoMemory }
+    {
         match self.staged.insert(id, Pieces::new(self.alloc)) {
             Ok(_) => Ok(()),
             Err(_) => Err(self.no_memory()),
         }
     }
 
-    fn write(&mut self, id: TransactionId, offset: u64, octets: &[u8]) -> Result<(), StoreError> {
+    fn write(&mut self, id: TransactionId, offset: u64, octets: &[u8]) -> Result<(), StoreError>
+        requires { IsSome (octets_for self.old.staged id) }
+        ensures staged { OnOk result (octets_for self.new.staged id ≡ option_map (λ m. written m offset octets.now) (octets_for self.old.staged id)) }
+        ensures others { OthersKeep id (octets_for self.old.staged) (octets_for self.new.staged) }
+        ensures published { self.new.files ≡ self.old.files }
+        ensures failures { self.new.failed ≡ failures_after self.old.failed (is_ok result) }
+        ensures only_memory { IsOkUnless result StoreError.NoMemory }
+    {
         match stage(&mut self.staged, id, offset, octets) {
             Ok(()) => Ok(()),
             Err(_) => Err(self.no_memory()),
         }
     }
 
-    fn publish(&mut self, id: TransactionId, name: &[u8], size: u64) -> Result<(), StoreError> {
+    fn publish(&mut self, id: TransactionId, name: &[u8], size: u64) -> Result<(), StoreError>
+        requires { IsSomeAnd (octets_for self.old.staged id) (Covers size) }
+        ensures ok { OnOk result (self.new.files ≡ map.insert self.old.files name.now (front (staged_for (octets_for self.old.staged) id) size)) }
+        ensures err { OnErr result (self.new.files ≡ self.old.files) }
+        ensures staged { OnOk result (octets_for self.new.staged id ≡ None) }
+        ensures others { OthersKeep id (octets_for self.old.staged) (octets_for self.new.staged) }
+        ensures failures { self.new.failed ≡ failures_after self.old.failed (is_ok result) }
+        ensures only_memory { IsOkUnless result StoreError.NoMemory }
+    {
         match self.try_publish(id, name, size) {
             Ok(()) => Ok(()),
             Err(_) => Err(self.no_memory()),
         }
     }
 
-    fn discard(&mut self, id: TransactionId) -> Result<(), StoreError> {
+    fn discard(&mut self, id: TransactionId) -> Result<(), StoreError>
+        ensures ok { IsOk result }
+        ensures staged { octets_for self.new.staged id ≡ None }
+        ensures others { OthersKeep id (octets_for self.old.staged) (octets_for self.new.staged) }
+        ensures published { self.new.files ≡ self.old.files }
+        ensures failures { self.new.failed ≡ self.old.failed }
+    {
         let _ = self.staged.remove(&id);
         Ok(())
     }
