@@ -1,6 +1,9 @@
 -- What stands at an offset once octets are written, and in the front of what is staged.
-use Rattle.std.proofs.Common.{◌≡◌, ◌≢◌, ◌==◌, ℕ, zero, suc, ◌+◌, ◌-◌, ◌<◌, ◌≤◌, Bool, cond, List, [], ◌∷◌, ◌++◌, length, get_or, Option, Some, IsSome, unwrap_or, refl, sym, ap, ◌∙◌, inl, inr, arith, rules, add-zero}
-use Rattle.std.specs.Prelude.{slice_get, take}
+use Rattle.std.proofs.Common.{◌≡◌, ◌≢◌, ◌==◌, ℕ, zero, suc, ◌+◌, ◌-◌, ◌<◌, ◌≤◌, Bool, cond, List, [], ◌∷◌, ◌++◌, length, get_or, Option, Some, None, IsSome, unwrap_or, refl, sym, ap, subst, ◌∙◌, inl, inr, arith, rules, add-zero}
+use Rattle.std.specs.Prelude.{slice_get, max, IsSomeAnd}
+use Rattle.std.specs.Option.{option_map}
+use Rattle.std.proofs.lemmas.Bool.{cases_lt}
+use Rattle.std.proofs.lemmas.Option.{slice_get-get_or}
 use Rattle.std.specs.Ordering.{nat_cmp}
 use Rattle.std.specs.Cmp.{nat_cmp_total, unsigned_tied}
 use Rattle.std.specs.FinMap.{get, insert, empty, get-insert, get-empty}
@@ -67,3 +70,31 @@ length-front m size = length-front_from m 0 size
 -- each of them is what is staged there
 pub get_or-front : (m : OctetMap) (size k d : ℕ) → k < size → get_or (front m size) k d ≡ unwrap_or (get m k) 0
 get_or-front m size k d h = get_or-front_from m 0 size k d h ∙ ap (λ j. unwrap_or (get m j) 0) (omega arith)
+
+-- where all of them were written, each is the octet that stands there
+pub slice_get-front : (m : OctetMap) (size n : ℕ) → Covers size m → n < size → slice_get (front m size) n ≡ get m n
+slice_get-front m size n covers h =
+    let inside : n < length (front m size) = omega (arith, length-front m size) in
+    slice_get-get_or (front m size) n 0 inside ∙ ap Some (get_or-front m size n 0 h) ∙ some_of (get m n) 0 (covers n h)
+  where
+    some_of : (o : Option ℕ) (d : ℕ) → IsSome o → Some (unwrap_or o d) ≡ o
+    some_of None d s = absurd (cc)
+    some_of (Some x) d s = refl
+
+-- a write from within what was written, or just behind it, on
+pub Covers-written : (m : OctetMap) (size at : ℕ) (xs : List ℕ) → Covers size m → at ≤ size → Covers (max size (at + length xs)) (written m at xs)
+Covers-written m size at xs covers within n h = elim (cases_lt n at) [
+  | inl low ↦ subst IsSome (sym (get-written_below m at xs n low)) (covers n (omega arith))
+  | inr from ↦ elim (cases_lt n (at + length xs)) [
+    | inl low ↦ subst IsSome (sym (get-written_within m at xs n 0 from low)) refl
+    | inr past ↦ subst IsSome (sym (get-written_behind m at xs n past)) (covers n (omega arith))
+  ]
+]
+
+-- what is staged after a write, where it is known what was
+pub staged-written : (before after : Option OctetMap) (m : OctetMap) (at : ℕ) (xs : List ℕ) → after ≡ option_map (λ m. written m at xs) before → before ≡ Some m → after ≡ Some (written m at xs)
+staged-written before after m at xs e was = e ∙ ap (option_map (λ m. written m at xs)) was
+
+-- the condition of `publish`, where it is known what is staged
+pub may_publish : (staged : Option OctetMap) (m : OctetMap) (size : ℕ) → staged ≡ Some m → Covers size m → IsSomeAnd staged (Covers size)
+may_publish staged m size is covers = subst (λ o. IsSomeAnd o (Covers size)) (sym is) covers
