@@ -1,7 +1,6 @@
 -- What stands at an offset once octets are written, and in the front of what is staged.
 use Rattle.std.proofs.Common.{◌≡◌, ◌≢◌, ◌==◌, ℕ, zero, suc, ◌+◌, ◌-◌, ◌<◌, ◌≤◌, Bool, cond, List, [], ◌∷◌, ◌++◌, length, get_or, Option, Some, None, IsSome, unwrap_or, refl, sym, ap, subst, ◌∙◌, inl, inr, arith, rules, add-zero}
-use Rattle.std.specs.Prelude.{slice_get, max, IsSomeAnd}
-use Rattle.std.specs.Option.{option_map}
+use Rattle.std.specs.Prelude.{slice_get, max}
 use Rattle.std.proofs.lemmas.Bool.{cases_lt}
 use Rattle.std.proofs.lemmas.Option.{slice_get-get_or}
 use Rattle.std.specs.Ordering.{nat_cmp}
@@ -90,11 +89,3 @@ Covers-written m size at xs covers within n h = elim (cases_lt n at) [
     | inr past ↦ subst IsSome (sym (get-written_behind m at xs n past)) (covers n (omega arith))
   ]
 ]
-
--- what is staged after a write, where it is known what was
-pub staged-written : (before after : Option OctetMap) (m : OctetMap) (at : ℕ) (xs : List ℕ) → after ≡ option_map (λ m. written m at xs) before → before ≡ Some m → after ≡ Some (written m at xs)
-staged-written before after m at xs e was = e ∙ ap (option_map (λ m. written m at xs)) was
-
--- the condition of `publish`, where it is known what is staged
-pub may_publish : (staged : Option OctetMap) (m : OctetMap) (size : ℕ) → staged ≡ Some m → Covers size m → IsSomeAnd staged (Covers size)
-may_publish staged m size is covers = subst (λ o. IsSomeAnd o (Covers size)) (sym is) covers

@@ -1,7 +1,7 @@
-ghost use Rattle.std.specs.Prelude.{◌≡◌, ◌-◌, ◌+◌, ◌≤◌, ◌<◌, [], Some, None, length, take, drop, unwrap_or, is_ok, IsOk, IsSome, IsSomeAnd, IfOk, OnOk, OnErr};
+ghost use Rattle.std.specs.Prelude.{◌≡◌, ◌-◌, ◌+◌, ◌≤◌, ◌<◌, Some, None, length, take, drop, is_ok, IsOk, IsSome, IfOk, OnOk, OnErr};
 ghost use Rattle.std.specs.FinMap as map;
 ghost use Rattle.std.specs.Option.{option_map};
-ghost use Rattle.cfdp_store.specs.Stores.{failures_after};
+ghost use Rattle.cfdp_store.specs.Stores.{octets_in, failures_after};
 ghost use Rattle.cfdp_store.specs.Staged.{Covers, OthersKeep, written, front, staged_for};
 ghost use Rattle.cfdp_store.specs.Fuse.{all_failures, blown, burnt};
 
@@ -93,8 +93,9 @@ impl<O: Outbox> Outbox for FuseOutbox<O> {
     }
 
     fn read(&mut self, name: &[u8], offset: u64, out: &mut [u8]) -> Result<(), StoreError>
-        requires { IsSomeAnd (map.get (O.files self.old.store) name.now) (λ octets. offset + length out.old ≤ length octets) }
-        ensures octets { OnOk result (out.new ≡ take (length out.old) (drop offset (unwrap_or (map.get (O.files self.old.store) name.now) []))) }
+        requires there { IsSome (map.get (O.files self.old.store) name.now) }
+        requires within { offset + length out.old ≤ length (octets_in (O.files self.old.store) name.now) }
+        ensures octets { OnOk result (out.new ≡ take (length out.old) (drop offset (octets_in (O.files self.old.store) name.now))) }
         ensures files { O.files self.new.store ≡ O.files self.old.store }
         ensures failures { all_failures (O.failures self.new.store) self.new.fuse
             ≡ failures_after (all_failures (O.failures self.old.store) self.old.fuse) (is_ok result) }
@@ -167,7 +168,7 @@ impl<I: Inbox> Inbox for FuseInbox<I> {
 
     fn write(&mut self, id: TransactionId, offset: u64, octets: &[u8]) -> Result<(), StoreError>
         requires { IsSome (I.staged self.old.store id) }
-        ensures staged { OnOk result (I.staged self.new.store id ≡ option_map (λ m. written m offset octets.now) (I.staged self.old.store id)) }
+        ensures staged { OnOk result (I.staged self.new.store id ≡ Some (written (staged_for (I.staged self.old.store) id) offset octets.now)) }
         ensures others { OthersKeep id (I.staged self.old.store) (I.staged self.new.store) }
         ensures published { I.published self.new.store ≡ I.published self.old.store }
         ensures failures { all_failures (I.failures self.new.store) self.new.fuse
@@ -180,7 +181,8 @@ impl<I: Inbox> Inbox for FuseInbox<I> {
     }
 
     fn publish(&mut self, id: TransactionId, name: &[u8], size: u64) -> Result<(), StoreError>
-        requires { IsSomeAnd (I.staged self.old.store id) (Covers size) }
+        requires begun { IsSome (I.staged self.old.store id) }
+        requires whole { Covers size (staged_for (I.staged self.old.store) id) }
         ensures ok { OnOk result (I.published self.new.store
             ≡ map.insert (I.published self.old.store) name.now (front (staged_for (I.staged self.old.store) id) size)) }
         ensures err { OnErr result (I.published self.new.store ≡ I.published self.old.store) }

@@ -1,6 +1,5 @@
-ghost use Rattle.std.specs.Prelude.{◌≡◌, ℕ, Option, Some, None, is_ok, IsSome, IsSomeAnd, OnOk, OnErr};
+ghost use Rattle.std.specs.Prelude.{◌≡◌, ℕ, Option, Some, None, is_ok, IsSome, OnOk, OnErr};
 ghost use Rattle.std.specs.FinMap as map;
-ghost use Rattle.std.specs.Option.{option_map};
 ghost use Rattle.cfdp_header.specs.declared.value.TransactionId.{TransactionId};
 ghost use Rattle.cfdp_store.specs.Stores.{FileMap, failures_after};
 ghost use Rattle.cfdp_store.specs.Staged.{OctetMap, Covers, OthersKeep, written, front, staged_for};
@@ -42,7 +41,7 @@ pub trait Inbox: Drop {
     /// As with `begin`.
     fn write(&mut self, id: TransactionId, offset: u64, octets: &[u8]) -> Result<(), StoreError>
         requires { IsSome (staged self.old id) }
-        ensures staged { OnOk result (staged self.new id ≡ option_map (λ m. written m offset octets.now) (staged self.old id)) }
+        ensures staged { OnOk result (staged self.new id ≡ Some (written (staged_for (staged self.old) id) offset octets.now)) }
         ensures others { OthersKeep id (staged self.old) (staged self.new) }
         ensures published { published self.new ≡ published self.old }
         ensures failures { failures self.new ≡ failures_after (failures self.old) (is_ok result) };
@@ -54,7 +53,8 @@ pub trait Inbox: Drop {
     ///
     /// As with `begin`. The published files are then as before.
     fn publish(&mut self, id: TransactionId, name: &[u8], size: u64) -> Result<(), StoreError>
-        requires { IsSomeAnd (staged self.old id) (Covers size) }
+        requires begun { IsSome (staged self.old id) }
+        requires whole { Covers size (staged_for (staged self.old) id) }
         ensures ok { OnOk result (published self.new ≡ map.insert (published self.old) name.now (front (staged_for (staged self.old) id) size)) }
         ensures err { OnErr result (published self.new ≡ published self.old) }
         ensures staged { OnOk result (staged self.new id ≡ None) }

@@ -1,8 +1,8 @@
-ghost use Rattle.std.specs.Prelude.{◌≡◌, ◌+◌, ◌≤◌, Some, None, [], false, length, take, drop, unwrap_or, is_ok, IsOk, IsOkUnless, IsSome, IsSomeAnd, OnErr, OnOk};
+ghost use Rattle.std.specs.Prelude.{◌≡◌, ◌+◌, ◌≤◌, Some, None, false, length, take, drop, is_ok, IsOk, IsOkUnless, IsSome, OnErr, OnOk};
 ghost use Rattle.std.specs.FinMap as map;
 ghost use Rattle.std.specs.Option.{option_map};
 ghost use Rattle.cfdp_header.specs.declared.value.TransactionId.{TransactionId};
-ghost use Rattle.cfdp_store.specs.Stores.{files_of, failures_after};
+ghost use Rattle.cfdp_store.specs.Stores.{files_of, octets_in, failures_after};
 ghost use Rattle.cfdp_store.specs.Staged.{Covers, OthersKeep, written, front, staged_for};
 ghost use Rattle.cfdp_store.specs.Memory.{octets_for};
 
@@ -79,9 +79,10 @@ impl Outbox for MemoryOutbox {
     }
 
     fn read(&mut self, name: &[u8], offset: u64, out: &mut [u8]) -> Result<(), StoreError>
-        requires { IsSomeAnd (map.get self.old name.now) (λ octets. offset + length out.old ≤ length octets) }
+        requires there { IsSome (map.get self.old name.now) }
+        requires within { offset + length out.old ≤ length (octets_in self.old name.now) }
         ensures ok { IsOk result }
-        ensures octets { out.new ≡ take (length out.old) (drop offset (unwrap_or (map.get self.old name.now) [])) }
+        ensures octets { out.new ≡ take (length out.old) (drop offset (octets_in self.old name.now)) }
         ensures files { self.new ≡ self.old }
     {
         if let Some(octets) = self.files.get(name) {
@@ -172,7 +173,8 @@ fn stage(
     offset: u64,
     octets: &[u8],
 ) -> Result<(), AllocError>
-    ensures ok { OnOk result (octets_for staged.new id ≡ option_map (λ m. written m offset octets.now) (octets_for staged.old id)) }
+    requires { IsSome (octets_for staged.old id) }
+    ensures ok { OnOk result (octets_for staged.new id ≡ Some (written (staged_for (octets_for staged.old) id) offset octets.now)) }
     ensures others { OthersKeep id (octets_for staged.old) (octets_for staged.new) }
 {
     match staged.get_mut(&id) {
@@ -203,7 +205,7 @@ impl Inbox for MemoryInbox {
 
     fn write(&mut self, id: TransactionId, offset: u64, octets: &[u8]) -> Result<(), StoreError>
         requires { IsSome (octets_for self.old.staged id) }
-        ensures staged { OnOk result (octets_for self.new.staged id ≡ option_map (λ m. written m offset octets.now) (octets_for self.old.staged id)) }
+        ensures staged { OnOk result (octets_for self.new.staged id ≡ Some (written (staged_for (octets_for self.old.staged) id) offset octets.now)) }
         ensures others { OthersKeep id (octets_for self.old.staged) (octets_for self.new.staged) }
         ensures published { self.new.files ≡ self.old.files }
         ensures failures { self.new.failed ≡ failures_after self.old.failed (is_ok result) }
@@ -216,7 +218,8 @@ impl Inbox for MemoryInbox {
     }
 
     fn publish(&mut self, id: TransactionId, name: &[u8], size: u64) -> Result<(), StoreError>
-        requires { IsSomeAnd (octets_for self.old.staged id) (Covers size) }
+        requires begun { IsSome (octets_for self.old.staged id) }
+        requires whole { Covers size (staged_for (octets_for self.old.staged) id) }
         ensures ok { OnOk result (self.new.files ≡ map.insert self.old.files name.now (front (staged_for (octets_for self.old.staged) id) size)) }
         ensures err { OnErr result (self.new.files ≡ self.old.files) }
         ensures staged { OnOk result (octets_for self.new.staged id ≡ None) }

@@ -1,7 +1,7 @@
-ghost use Rattle.std.specs.Prelude.{◌≡◌, ℕ, ◌+◌, ◌≤◌, [], length, take, drop, unwrap_or, is_ok, IfOk, OnOk, IsSomeAnd};
+ghost use Rattle.std.specs.Prelude.{◌≡◌, ℕ, ◌+◌, ◌≤◌, length, take, drop, is_ok, IsSome, IfOk, OnOk};
 ghost use Rattle.std.specs.FinMap as map;
 ghost use Rattle.std.specs.Option.{option_map};
-ghost use Rattle.cfdp_store.specs.Stores.{FileMap, failures_after};
+ghost use Rattle.cfdp_store.specs.Stores.{FileMap, octets_in, failures_after};
 
 use crate::StoreError;
 
@@ -30,8 +30,9 @@ pub trait Outbox: Drop {
     ///
     /// Any `StoreError`, at the store's will. It is counted as a failure. What `out` then holds is left open.
     fn read(&mut self, name: &[u8], offset: u64, out: &mut [u8]) -> Result<(), StoreError>
-        requires { IsSomeAnd (map.get (files self.old) name.now) (λ octets. offset + length out.old ≤ length octets) }
-        ensures octets { OnOk result (out.new ≡ take (length out.old) (drop offset (unwrap_or (map.get (files self.old) name.now) []))) }
+        requires there { IsSome (map.get (files self.old) name.now) }
+        requires within { offset + length out.old ≤ length (octets_in (files self.old) name.now) }
+        ensures octets { OnOk result (out.new ≡ take (length out.old) (drop offset (octets_in (files self.old) name.now))) }
         ensures files { files self.new ≡ files self.old }
         ensures failures { failures self.new ≡ failures_after (failures self.old) (is_ok result) };
 
