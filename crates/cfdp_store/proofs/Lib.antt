@@ -1,4 +1,4 @@
 mod FileLemmas
-mod Ids
+pub mod Ids
 pub mod Octets
 mod PieceLemmas

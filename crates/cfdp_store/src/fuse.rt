@@ -81,12 +81,14 @@ impl<O: Outbox> Outbox for FuseOutbox<O> {
     ghost failures = { λ f. all_failures (O.failures f.store) f.fuse };
 
     fn len(&mut self, name: &[u8]) -> Result<Option<u64>, StoreError>
-        ensures answer { IfOk result (λ len. len ≡ option_map length (map.get (O.files self.old.store) name.now)) }
+        ensures answer { IfOk result (λ len. len
+            ≡ option_map length (map.get (O.files self.old.store) name.now)) }
         ensures files { O.files self.new.store ≡ O.files self.old.store }
         ensures failures { all_failures (O.failures self.new.store) self.new.fuse
             ≡ failures_after (all_failures (O.failures self.old.store) self.old.fuse) (is_ok result) }
         ensures through { 0 < self.old.fuse.left → self.new.fuse ≡ burnt self.old.fuse }
-        ensures refused { self.old.fuse.left ≡ 0 → (result ≡ Err StoreError.Device) × (self.new ≡ record { store = self.old.store; fuse = blown self.old.fuse }) }
+        ensures refused { self.old.fuse.left ≡ 0 → (result ≡ Err StoreError.Device)
+            × (self.new ≡ record { store = self.old.store; fuse = blown self.old.fuse }) }
     {
         self.fuse.pass()?;
         self.store.len(name)
@@ -95,12 +97,14 @@ impl<O: Outbox> Outbox for FuseOutbox<O> {
     fn read(&mut self, name: &[u8], offset: u64, out: &mut [u8]) -> Result<(), StoreError>
         requires there { IsSome (map.get (O.files self.old.store) name.now) }
         requires within { offset + length out.old ≤ length (octets_in (O.files self.old.store) name.now) }
-        ensures octets { OnOk result (out.new ≡ take (length out.old) (drop offset (octets_in (O.files self.old.store) name.now))) }
+        ensures octets { OnOk result (out.new
+            ≡ take (length out.old) (drop offset (octets_in (O.files self.old.store) name.now))) }
         ensures files { O.files self.new.store ≡ O.files self.old.store }
         ensures failures { all_failures (O.failures self.new.store) self.new.fuse
             ≡ failures_after (all_failures (O.failures self.old.store) self.old.fuse) (is_ok result) }
         ensures through { 0 < self.old.fuse.left → self.new.fuse ≡ burnt self.old.fuse }
-        ensures refused { self.old.fuse.left ≡ 0 → (result ≡ Err StoreError.Device) × (self.new ≡ record { store = self.old.store; fuse = blown self.old.fuse }) }
+        ensures refused { self.old.fuse.left ≡ 0 → (result ≡ Err StoreError.Device)
+            × (self.new ≡ record { store = self.old.store; fuse = blown self.old.fuse }) }
     {
         self.fuse.pass()?;
         self.store.read(name, offset, out)
@@ -160,7 +164,8 @@ impl<I: Inbox> Inbox for FuseInbox<I> {
         ensures failures { all_failures (I.failures self.new.store) self.new.fuse
             ≡ failures_after (all_failures (I.failures self.old.store) self.old.fuse) (is_ok result) }
         ensures through { 0 < self.old.fuse.left → self.new.fuse ≡ burnt self.old.fuse }
-        ensures refused { self.old.fuse.left ≡ 0 → (result ≡ Err StoreError.Device) × (self.new ≡ record { store = self.old.store; fuse = blown self.old.fuse }) }
+        ensures refused { self.old.fuse.left ≡ 0 → (result ≡ Err StoreError.Device)
+            × (self.new ≡ record { store = self.old.store; fuse = blown self.old.fuse }) }
     {
         self.fuse.pass()?;
         self.store.begin(id)
@@ -168,13 +173,15 @@ impl<I: Inbox> Inbox for FuseInbox<I> {
 
     fn write(&mut self, id: TransactionId, offset: u64, octets: &[u8]) -> Result<(), StoreError>
         requires { IsSome (I.staged self.old.store id) }
-        ensures staged { OnOk result (I.staged self.new.store id ≡ Some (written (staged_for (I.staged self.old.store) id) offset octets.now)) }
+        ensures staged { OnOk result (I.staged self.new.store id
+            ≡ Some (written (staged_for (I.staged self.old.store) id) offset octets.now)) }
         ensures others { OthersKeep id (I.staged self.old.store) (I.staged self.new.store) }
         ensures published { I.published self.new.store ≡ I.published self.old.store }
         ensures failures { all_failures (I.failures self.new.store) self.new.fuse
             ≡ failures_after (all_failures (I.failures self.old.store) self.old.fuse) (is_ok result) }
         ensures through { 0 < self.old.fuse.left → self.new.fuse ≡ burnt self.old.fuse }
-        ensures refused { self.old.fuse.left ≡ 0 → (result ≡ Err StoreError.Device) × (self.new ≡ record { store = self.old.store; fuse = blown self.old.fuse }) }
+        ensures refused { self.old.fuse.left ≡ 0 → (result ≡ Err StoreError.Device)
+            × (self.new ≡ record { store = self.old.store; fuse = blown self.old.fuse }) }
     {
         self.fuse.pass()?;
         self.store.write(id, offset, octets)
@@ -184,14 +191,16 @@ impl<I: Inbox> Inbox for FuseInbox<I> {
         requires begun { IsSome (I.staged self.old.store id) }
         requires whole { Covers size (staged_for (I.staged self.old.store) id) }
         ensures ok { OnOk result (I.published self.new.store
-            ≡ map.insert (I.published self.old.store) name.now (front (staged_for (I.staged self.old.store) id) size)) }
+            ≡ map.insert (I.published self.old.store) name.now
+            (front (staged_for (I.staged self.old.store) id) size)) }
         ensures err { OnErr result (I.published self.new.store ≡ I.published self.old.store) }
         ensures staged { OnOk result (I.staged self.new.store id ≡ None) }
         ensures others { OthersKeep id (I.staged self.old.store) (I.staged self.new.store) }
         ensures failures { all_failures (I.failures self.new.store) self.new.fuse
             ≡ failures_after (all_failures (I.failures self.old.store) self.old.fuse) (is_ok result) }
         ensures through { 0 < self.old.fuse.left → self.new.fuse ≡ burnt self.old.fuse }
-        ensures refused { self.old.fuse.left ≡ 0 → (result ≡ Err StoreError.Device) × (self.new ≡ record { store = self.old.store; fuse = blown self.old.fuse }) }
+        ensures refused { self.old.fuse.left ≡ 0 → (result ≡ Err StoreError.Device)
+            × (self.new ≡ record { store = self.old.store; fuse = blown self.old.fuse }) }
     {
         self.fuse.pass()?;
         self.store.publish(id, name, size)
@@ -204,7 +213,8 @@ impl<I: Inbox> Inbox for FuseInbox<I> {
         ensures failures { all_failures (I.failures self.new.store) self.new.fuse
             ≡ failures_after (all_failures (I.failures self.old.store) self.old.fuse) (is_ok result) }
         ensures through { 0 < self.old.fuse.left → self.new.fuse ≡ burnt self.old.fuse }
-        ensures refused { self.old.fuse.left ≡ 0 → (result ≡ Err StoreError.Device) × (self.new ≡ record { store = self.old.store; fuse = blown self.old.fuse }) }
+        ensures refused { self.old.fuse.left ≡ 0 → (result ≡ Err StoreError.Device)
+            × (self.new ≡ record { store = self.old.store; fuse = blown self.old.fuse }) }
     {
         self.fuse.pass()?;
         self.store.discard(id)

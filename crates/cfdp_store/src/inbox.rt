@@ -41,7 +41,8 @@ pub trait Inbox: Drop {
     /// As with `begin`.
     fn write(&mut self, id: TransactionId, offset: u64, octets: &[u8]) -> Result<(), StoreError>
         requires { IsSome (staged self.old id) }
-        ensures staged { OnOk result (staged self.new id ≡ Some (written (staged_for (staged self.old) id) offset octets.now)) }
+        ensures staged { OnOk result (staged self.new id
+            ≡ Some (written (staged_for (staged self.old) id) offset octets.now)) }
         ensures others { OthersKeep id (staged self.old) (staged self.new) }
         ensures published { published self.new ≡ published self.old }
         ensures failures { failures self.new ≡ failures_after (failures self.old) (is_ok result) };
@@ -55,7 +56,8 @@ pub trait Inbox: Drop {
     fn publish(&mut self, id: TransactionId, name: &[u8], size: u64) -> Result<(), StoreError>
         requires begun { IsSome (staged self.old id) }
         requires whole { Covers size (staged_for (staged self.old) id) }
-        ensures ok { OnOk result (published self.new ≡ map.insert (published self.old) name.now (front (staged_for (staged self.old) id) size)) }
+        ensures ok { OnOk result (published self.new
+            ≡ map.insert (published self.old) name.now (front (staged_for (staged self.old) id) size)) }
         ensures err { OnErr result (published self.new ≡ published self.old) }
         ensures staged { OnOk result (staged self.new id ≡ None) }
         ensures others { OthersKeep id (staged self.old) (staged self.new) }

@@ -150,7 +150,8 @@ impl MemoryInbox {
     }
 
     fn try_publish(&mut self, id: TransactionId, name: &[u8], size: u64) -> Result<(), AllocError>
-        ensures ok { OnOk result (self.new.files ≡ map.insert self.old.files name.now (front (staged_for (octets_for self.old.staged) id) size)) }
+        ensures ok { OnOk result (self.new.files
+            ≡ map.insert self.old.files name.now (front (staged_for (octets_for self.old.staged) id) size)) }
         ensures err { OnErr result (self.new.files ≡ self.old.files) }
         ensures staged { octets_for self.new.staged id ≡ None }
         ensures others { OthersKeep id (octets_for self.old.staged) (octets_for self.new.staged) }
@@ -174,7 +175,8 @@ fn stage(
     octets: &[u8],
 ) -> Result<(), AllocError>
     requires { IsSome (octets_for staged.old id) }
-    ensures ok { OnOk result (octets_for staged.new id ≡ Some (written (staged_for (octets_for staged.old) id) offset octets.now)) }
+    ensures ok { OnOk result (octets_for staged.new id
+        ≡ Some (written (staged_for (octets_for staged.old) id) offset octets.now)) }
     ensures others { OthersKeep id (octets_for staged.old) (octets_for staged.new) }
 {
     match staged.get_mut(&id) {
@@ -205,7 +207,8 @@ impl Inbox for MemoryInbox {
 
     fn write(&mut self, id: TransactionId, offset: u64, octets: &[u8]) -> Result<(), StoreError>
         requires { IsSome (octets_for self.old.staged id) }
-        ensures staged { OnOk result (octets_for self.new.staged id ≡ Some (written (staged_for (octets_for self.old.staged) id) offset octets.now)) }
+        ensures staged { OnOk result (octets_for self.new.staged id
+            ≡ Some (written (staged_for (octets_for self.old.staged) id) offset octets.now)) }
         ensures others { OthersKeep id (octets_for self.old.staged) (octets_for self.new.staged) }
         ensures published { self.new.files ≡ self.old.files }
         ensures failures { self.new.failed ≡ failures_after self.old.failed (is_ok result) }
@@ -220,7 +223,8 @@ impl Inbox for MemoryInbox {
     fn publish(&mut self, id: TransactionId, name: &[u8], size: u64) -> Result<(), StoreError>
         requires begun { IsSome (octets_for self.old.staged id) }
         requires whole { Covers size (staged_for (octets_for self.old.staged) id) }
-        ensures ok { OnOk result (self.new.files ≡ map.insert self.old.files name.now (front (staged_for (octets_for self.old.staged) id) size)) }
+        ensures ok { OnOk result (self.new.files
+            ≡ map.insert self.old.files name.now (front (staged_for (octets_for self.old.staged) id) size)) }
         ensures err { OnErr result (self.new.files ≡ self.old.files) }
         ensures staged { OnOk result (octets_for self.new.staged id ≡ None) }
         ensures others { OthersKeep id (octets_for self.old.staged) (octets_for self.new.staged) }

@@ -32,7 +32,8 @@ pub trait Outbox: Drop {
     fn read(&mut self, name: &[u8], offset: u64, out: &mut [u8]) -> Result<(), StoreError>
         requires there { IsSome (map.get (files self.old) name.now) }
         requires within { offset + length out.old ≤ length (octets_in (files self.old) name.now) }
-        ensures octets { OnOk result (out.new ≡ take (length out.old) (drop offset (octets_in (files self.old) name.now))) }
+        ensures octets { OnOk result (out.new
+            ≡ take (length out.old) (drop offset (octets_in (files self.old) name.now))) }
         ensures files { files self.new ≡ files self.old }
         ensures failures { failures self.new ≡ failures_after (failures self.old) (is_ok result) };
 

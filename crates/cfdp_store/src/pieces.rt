@@ -81,7 +81,8 @@ fn copy_into(octets: &mut [u8], offset: u64, piece: &[u8])
     ensures below { (k : ℕ) → k < offset → slice_index octets.new k ≡ slice_index octets.old k }
     ensures within { (k : ℕ) → offset ≤ k → k < offset + length piece.now → k < length octets.old
         → slice_index octets.new k ≡ slice_index piece.now (k - offset) }
-    ensures behind { (k : ℕ) → offset + length piece.now ≤ k → slice_index octets.new k ≡ slice_index octets.old k }
+    ensures behind { (k : ℕ) → offset + length piece.now ≤ k
+        → slice_index octets.new k ≡ slice_index octets.old k }
 {
     let start = octets.len().min(offset as usize);
     let len = piece.len().min(octets.len() - start);
