@@ -1,5 +1,5 @@
 -- What a map from names to octets does, seen as a `FileMap`.
-use Rattle.std.proofs.Common.{◌≡◌, ℕ, Bool, cond, List, [], ◌∷◌, Option, Some, None, refl, sym, ap, ◌∙◌}
+use Rattle.std.proofs.Common.{◌≡◌, ℕ, Bool, cond, List, [], ◌∷◌, Option, Some, refl, sym, ap, ◌∙◌}
 use Rattle.std.specs.Prelude.{map, Vec}
 use Rattle.std.specs.Option.{option_map}
 use Rattle.std.specs.Map.{lookup}
@@ -8,9 +8,9 @@ use Rattle.std.specs.declared.cmp.Ordering.{Ordering}
 use Rattle.std.specs.declared.cmp.Ordering.TheVariants.{Less, Equal, Greater}
 use Rattle.std.specs.Cmp.Lexicographic.{slice_cmp, nat_list_cmp_total}
 use Rattle.std.specs.BTreeMap.{insert_entry}
-use Rattle.std.specs.FinMap.{get, insert, find, put, from_entries, same_map, slice_cmp-IsAntisymmetric, nat_cmp-IsAntisymmetric, get-from_entries, get-insert}
+use Rattle.std.specs.FinMap.{get, insert, find, put, same_map, slice_cmp-IsAntisymmetric, nat_cmp-IsAntisymmetric, get-from_entries, get-insert}
 use Rattle.std.specs.FinMap.Entries.{by_order, find-put}
-use Rattle.cfdp_store.specs.Stores.{FileMap, files_of}
+use Rattle.cfdp_store.specs.Stores.{files_of}
 
 abbrev R : List ℕ → List ℕ → Ordering
 R = slice_cmp nat_cmp

@@ -2,7 +2,6 @@
 use Rattle.std.specs.Prelude.{◌==◌, Bool, ◌&&◌, Option}
 use Rattle.std.specs.HashMap.{HashMap, get}
 use Rattle.cfdp_header.specs.declared.value.TransactionId.{TransactionId}
-use Rattle.cfdp_store.specs.Stores.{FileMap}
 use Rattle.cfdp_store.specs.Staged.{OctetMap}
 
 -- whether two ids name one transaction

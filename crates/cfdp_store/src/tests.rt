@@ -57,13 +57,14 @@ fn publish_both<I: Inbox>(
     inbox.publish(id, name, (first.len() + second.len()) as u64)
 }
 
-/// The published files, one a line.
-fn shown(alloc: Global, inbox: &MemoryInbox) -> Result<String, AllocError> {
-    let mut text = String::new(alloc);
+/// The published files, each a name, a space, its octets and a semicolon.
+fn shown(alloc: Global, inbox: &MemoryInbox) -> Result<Vec<u8>, AllocError> {
+    let mut text = Vec::new(alloc);
     for (name, octets) in inbox.entries() {
-        let name = String::from_utf8_lossy(alloc, name.as_slice())?;
-        let octets = String::from_utf8_lossy(alloc, octets.as_slice())?;
-        write!(text, "{name} {octets};")?;
+        text.extend_from_slice(name.as_slice())?;
+        text.push(b' ')?;
+        text.extend_from_slice(octets.as_slice())?;
+        text.push(b';')?;
     }
     Ok(text)
 }
@@ -105,13 +106,13 @@ fn later_octets_replace_earlier_ones(rt: HostRuntime) -> Result<(), Fail> {
     publish_both(&mut inbox, FIRST, b"", b"x", b"")?;
     publish_over(&mut inbox, SECOND, b"c.txt", b"HELLO", b"he")?;
     assert_eq!(rt;
-        shown(rt.alloc(), &inbox)?.as_str(),
-        " x;a.txt one;b.txt heLLO;c.txt heLLO;"
+        shown(rt.alloc(), &inbox)?.as_slice(),
+        b" x;a.txt one;b.txt heLLO;c.txt heLLO;".as_slice()
     );
     publish_both(&mut inbox, FIRST, b"a.txt", b"t", b"wo")?;
     assert_eq!(rt;
-        shown(rt.alloc(), &inbox)?.as_str(),
-        " x;a.txt two;b.txt heLLO;c.txt heLLO;"
+        shown(rt.alloc(), &inbox)?.as_slice(),
+        b" x;a.txt two;b.txt heLLO;c.txt heLLO;".as_slice()
     );
     inbox.begin(SECOND)?;
     inbox.discard(SECOND)?;
@@ -129,7 +130,10 @@ fn an_inbox_begins_with_given_files(rt: HostRuntime) -> Result<(), Fail> {
     )?;
     let mut inbox = MemoryInbox::with_files(alloc, files);
     publish_both(&mut inbox, FIRST, b"new", b"2", b"3")?;
-    assert_eq!(rt; shown(alloc, &inbox)?.as_str(), "new 23;old 1;");
+    assert_eq!(rt;
+        shown(alloc, &inbox)?.as_slice(),
+        b"new 23;old 1;".as_slice()
+    );
     Ok(())
 }
 
@@ -170,8 +174,8 @@ fn an_inbox_fails_from_the_call_on_that_its_fuse_names(rt: HostRuntime) -> Resul
         assert_eq!(rt; inbox.failures(), u64::from(!works), "at {call}");
         let _ = inbox.discard(FIRST);
         assert_eq!(rt; inbox.failures(), if works { 1 } else { 2 }, "at {call}");
-        let text = if works { "a.txt hello;" } else { "" };
-        assert_eq!(rt; shown(alloc, inbox.inner())?.as_str(), text, "at {call}");
+        let text: &[u8] = if works { b"a.txt hello;" } else { b"" };
+        assert_eq!(rt; shown(alloc, inbox.inner())?.as_slice(), text, "at {call}");
         assert_eq!(rt; inbox.into_inner().failures(), 0, "at {call}");
     }
     Ok(())

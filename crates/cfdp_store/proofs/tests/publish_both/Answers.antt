@@ -1,8 +1,8 @@
 -- The first octets cover their length, and the second ones the rest of the size.
-use Rattle.std.proofs.Common.{◌≡◌, ◌∙◌, ℕ, ◌+◌, ◌<◌, length, arith, ap, sym, subst, unwrap_or}
+use Rattle.std.proofs.Common.{◌+◌, length, arith, ap, sym, subst, unwrap_or}
 use Rattle.std.specs.Prelude.{max}
 use Rattle.std.specs.FinMap.{empty}
-use Rattle.cfdp_store.specs.Staged.{OctetMap, Covers, written, staged_for}
+use Rattle.cfdp_store.specs.Staged.{OctetMap, Covers, staged_for}
 use Rattle.cfdp_store.proofs.Octets.{Covers-written}
 use Rattle.cfdp_store.proofs.tests.publish_both.Goals as goal
 

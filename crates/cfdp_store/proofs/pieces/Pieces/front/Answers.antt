@@ -1,4 +1,4 @@
-use Rattle.std.proofs.Common.{◌≡◌, ◌∙◌, ap, sym, ◌<◌, length, get_or, arith, rules, ◌≤◌, ◌++◌, take, drop, vec_len, refl, List, ℕ}
+use Rattle.std.proofs.Common.{◌≡◌, ◌∙◌, ap, sym, length, get_or, arith, ◌++◌, take, drop}
 use Rattle.std.proofs.lemmas.List.{get_or-replicate, with_items_is, take_all}
 use Rattle.cfdp_store.specs.Staged.{front}
 use Rattle.cfdp_store.specs.Pieces.{octets_of}
