@@ -57,16 +57,20 @@ fn publish_both<I: Inbox>(
     inbox.publish(id, name, (first.len() + second.len()) as u64)
 }
 
-/// The published files, each a name, a space, its octets and a semicolon.
+/// The published files, each its name and its octets, with a semicolon behind them.
 fn shown(alloc: Global, inbox: &MemoryInbox) -> Result<Vec<u8>, AllocError> {
     let mut text = Vec::new(alloc);
     for (name, octets) in inbox.entries() {
-        text.extend_from_slice(name.as_slice())?;
-        text.push(b' ')?;
-        text.extend_from_slice(octets.as_slice())?;
-        text.push(b';')?;
+        add_file(&mut text, name, octets)?;
     }
     Ok(text)
+}
+
+fn add_file(text: &mut Vec<u8>, name: &[u8], octets: &[u8]) -> Result<(), AllocError> {
+    text.extend_from_slice(name)?;
+    text.extend_from_slice(b" ")?;
+    text.extend_from_slice(octets)?;
+    text.extend_from_slice(b";")
 }
 
 /// Stages octets over others, and publishes all that the first ones reach.
