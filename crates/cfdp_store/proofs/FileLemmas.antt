@@ -1,0 +1,57 @@
+-- What a map from names to octets does, seen as a `FileMap`.
+use Rattle.std.proofs.Common.{◌≡◌, ℕ, Bool, cond, List, [], ◌∷◌, Option, Some, refl, sym, ap, ◌∙◌}
+use Rattle.std.specs.Prelude.{map, Vec}
+use Rattle.std.specs.Option.{option_map}
+use Rattle.std.specs.Map.{lookup}
+use Rattle.std.specs.Ordering.{nat_cmp, is_eq, eq_by_cmp, match_ordering}
+use Rattle.std.specs.declared.cmp.Ordering.{Ordering}
+use Rattle.std.specs.declared.cmp.Ordering.TheVariants.{Less, Equal, Greater}
+use Rattle.std.specs.Cmp.Lexicographic.{slice_cmp, nat_list_cmp_total}
+use Rattle.std.specs.BTreeMap.{insert_entry}
+use Rattle.std.specs.FinMap.{get, insert, find, put, same_map, slice_cmp-IsAntisymmetric, nat_cmp-IsAntisymmetric, get-from_entries, get-insert}
+use Rattle.std.specs.FinMap.Entries.{by_order, find-put}
+use Rattle.cfdp_store.specs.Stores.{files_of}
+
+abbrev R : List ℕ → List ℕ → Ordering
+R = slice_cmp nat_cmp
+
+abbrev by_items : {Y : Type 0} → Vec ℕ Y → Vec ℕ Y → Ordering
+by_items a b = slice_cmp nat_cmp a.items b.items
+
+-- the octets that a look-up found
+abbrev pub octets_at : {Z : Type 0} → Option (Vec ℕ Z) → Option (List ℕ)
+octets_at o = option_map (λ v. v.items) o
+
+shown_value : {Z : Type 0} (b : Bool) (v : Vec ℕ Z) (o : Option (Vec ℕ Z)) (p : Option (List ℕ)) → p ≡ octets_at o → cond b (Some v.items) p ≡ octets_at (cond b (Some v) o)
+shown_value Bool.true v o p e = refl
+shown_value Bool.false v o p e = e
+
+module _ {Y Z : Type 0} where
+  abbrev show : Vec ℕ Y × Vec ℕ Z → List ℕ × List ℕ
+  show e = (e.0.items, e.1.items)
+
+  find-shown : (es : List (Vec ℕ Y × Vec ℕ Z)) (name : List ℕ) → find R name (map show es) ≡ octets_at (lookup (λ (k : Vec ℕ Y). is_eq (slice_cmp nat_cmp name k.items)) es)
+  find-shown [] name = refl
+  find-shown (e ∷ es) name = shown_value (is_eq (slice_cmp nat_cmp name e.0.items)) e.1 _ _ (find-shown es name)
+
+  -- a look-up in the map is one in the files
+  pub get-files_of : (es : List (Vec ℕ Y × Vec ℕ Z)) (name : List ℕ) → get (files_of es) name ≡ octets_at (lookup (λ (k : Vec ℕ Y). is_eq (slice_cmp nat_cmp name k.items)) es)
+  get-files_of es name = get-from_entries nat_list_cmp_total (map show es) name ∙ find-shown es name
+
+  shown-insert_entry : (es : List (Vec ℕ Y × Vec ℕ Z)) (k : Vec ℕ Y) (v : Vec ℕ Z) → map show (insert_entry by_items es k v) ≡ put R k.items v.items (map show es)
+  shown-insert_entry [] k v = refl
+  shown-insert_entry (e ∷ es) k v =
+      elim (slice_cmp nat_cmp k.items e.0.items) as (λ o. map show (match_ordering o ((k, v) ∷ e ∷ es) ((e.0, v) ∷ es) (e ∷ insert_entry by_items es k v)) ≡ by_order o ((k.items, v.items) ∷ show e ∷ map show es) ((e.0.items, v.items) ∷ map show es) (show e ∷ put R k.items v.items (map show es))) [
+        | Less ↦ refl
+        | Equal ↦ refl
+        | Greater ↦ ap (λ fs. show e ∷ fs) (shown-insert_entry es k v)
+      ]
+
+  -- an entry put into the map is a file put among the files
+  pub files_of-insert : (es : List (Vec ℕ Y × Vec ℕ Z)) (k : Vec ℕ Y) (v : Vec ℕ Z) → files_of (insert_entry by_items es k v) ≡ insert (files_of es) k.items v.items
+  files_of-insert es k v = same_map nat_list_cmp_total (slice_cmp-IsAntisymmetric nat_cmp-IsAntisymmetric) _ _ (λ q.
+      get-from_entries nat_list_cmp_total _ q
+      ∙ ap (find R q) (shown-insert_entry es k v)
+      ∙ find-put R nat_list_cmp_total q k.items v.items (map show es)
+      ∙ ap (cond (eq_by_cmp R q k.items) (Some v.items)) (sym (get-from_entries nat_list_cmp_total (map show es) q))
+      ∙ sym (get-insert nat_list_cmp_total (files_of es) k.items v.items q))

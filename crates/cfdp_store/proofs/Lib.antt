@@ -1,0 +1,4 @@
+mod FileLemmas
+pub mod Ids
+pub mod Octets
+mod PieceLemmas

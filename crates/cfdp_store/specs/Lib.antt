@@ -1,0 +1,5 @@
+pub mod Fuse
+pub mod Memory
+pub mod Pieces
+pub mod Staged
+pub mod Stores

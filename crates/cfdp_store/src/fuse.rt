@@ -1,0 +1,226 @@
+ghost use Rattle.std.specs.Prelude.{◌≡◌, ◌-◌, ◌+◌, ◌≤◌, ◌<◌, Some, None, length, take, drop, is_ok, IsOk, IsSome, IfOk, OnOk, OnErr};
+ghost use Rattle.std.specs.FinMap as map;
+ghost use Rattle.std.specs.Option.{option_map};
+ghost use Rattle.cfdp_store.specs.Stores.{octets_in, failures_after};
+ghost use Rattle.cfdp_store.specs.Staged.{Covers, OthersKeep, written, front, staged_for};
+ghost use Rattle.cfdp_store.specs.Fuse.{all_failures, blown, burnt};
+
+use crate::{Inbox, Outbox, StoreError};
+use cfdp_header::TransactionId;
+
+/// How many more calls go through to a store, and how many were refused since.
+#[derive(Debug, Drop)]
+pub struct Fuse {
+    left: u64,
+    refused: u64,
+}
+
+impl Fuse {
+    /// A fuse that blows at the given call, counting from 1. At 0 it blows at the first one, too.
+    fn new(call: u64) -> Self
+        ensures { result ≡ record { left = call - 1; refused = 0 } }
+    {
+        Fuse {
+            left: call.saturating_sub(1),
+            refused: 0,
+        }
+    }
+
+    /// Lets a call through, or refuses it.
+    fn pass(&mut self) -> Result<(), StoreError>
+        ensures through { 0 < self.old.left → IsOk result × (self.new ≡ burnt self.old) }
+        ensures refused { self.old.left ≡ 0 → (result ≡ Err StoreError.Device) × (self.new ≡ blown self.old) }
+    {
+        if self.left == 0 {
+            self.refused = self.refused.saturating_add(1);
+            return Err(StoreError::Device);
+        }
+        self.left -= 1;
+        Ok(())
+    }
+}
+
+/// An outbox that fails from a chosen call on: that call and all later ones answer `Device`, and the store behind it
+/// isn't called.
+#[derive(Debug, Drop)]
+pub struct FuseOutbox<O> {
+    store: O,
+    fuse: Fuse,
+}
+
+impl<O: Outbox> FuseOutbox<O> {
+    /// An outbox over `store` whose call number `call` fails, and all later ones, counting from 1. `failures` isn't
+    /// counted as a call. At 0 all calls fail, as at 1.
+    pub fn new(store: O, call: u64) -> Self
+        ensures { result ≡ record { store = store; fuse = record { left = call - 1; refused = 0 } } }
+    {
+        FuseOutbox {
+            store,
+            fuse: Fuse::new(call),
+        }
+    }
+
+    /// The store behind the fuse.
+    pub fn inner(&self) -> &O
+        ensures { result.now ≡ self.now.store }
+    {
+        &self.store
+    }
+
+    /// The store behind the fuse, which is let go.
+    pub fn into_inner(self) -> O
+        ensures { result ≡ self.store }
+    {
+        self.store
+    }
+}
+
+impl<O: Outbox> Outbox for FuseOutbox<O> {
+    ghost files = { λ f. O.files f.store };
+
+    ghost failures = { λ f. all_failures (O.failures f.store) f.fuse };
+
+    fn len(&mut self, name: &[u8]) -> Result<Option<u64>, StoreError>
+        ensures answer { IfOk result (λ len. len
+            ≡ option_map length (map.get (O.files self.old.store) name.now)) }
+        ensures files { O.files self.new.store ≡ O.files self.old.store }
+        ensures failures { all_failures (O.failures self.new.store) self.new.fuse
+            ≡ failures_after (all_failures (O.failures self.old.store) self.old.fuse) (is_ok result) }
+        ensures through { 0 < self.old.fuse.left → self.new.fuse ≡ burnt self.old.fuse }
+        ensures refused { self.old.fuse.left ≡ 0 → (result ≡ Err StoreError.Device)
+            × (self.new ≡ record { store = self.old.store; fuse = blown self.old.fuse }) }
+    {
+        self.fuse.pass()?;
+        self.store.len(name)
+    }
+
+    fn read(&mut self, name: &[u8], offset: u64, out: &mut [u8]) -> Result<(), StoreError>
+        requires there { IsSome (map.get (O.files self.old.store) name.now) }
+        requires within { offset + length out.old ≤ length (octets_in (O.files self.old.store) name.now) }
+        ensures octets { OnOk result (out.new
+            ≡ take (length out.old) (drop offset (octets_in (O.files self.old.store) name.now))) }
+        ensures files { O.files self.new.store ≡ O.files self.old.store }
+        ensures failures { all_failures (O.failures self.new.store) self.new.fuse
+            ≡ failures_after (all_failures (O.failures self.old.store) self.old.fuse) (is_ok result) }
+        ensures through { 0 < self.old.fuse.left → self.new.fuse ≡ burnt self.old.fuse }
+        ensures refused { self.old.fuse.left ≡ 0 → (result ≡ Err StoreError.Device)
+            × (self.new ≡ record { store = self.old.store; fuse = blown self.old.fuse }) }
+    {
+        self.fuse.pass()?;
+        self.store.read(name, offset, out)
+    }
+
+    fn failures(&self) -> u64 {
+        self.store.failures().saturating_add(self.fuse.refused)
+    }
+}
+
+/// An inbox that fails from a chosen call on: that call and all later ones answer `Device`, and the store behind it
+/// isn't called.
+#[derive(Debug, Drop)]
+pub struct FuseInbox<I> {
+    store: I,
+    fuse: Fuse,
+}
+
+impl<I: Inbox> FuseInbox<I> {
+    /// An inbox over `store` whose call number `call` fails, and all later ones, counting from 1. `failures` isn't
+    /// counted as a call. At 0 all calls fail, as at 1.
+    pub fn new(store: I, call: u64) -> Self
+        ensures { result ≡ record { store = store; fuse = record { left = call - 1; refused = 0 } } }
+    {
+        FuseInbox {
+            store,
+            fuse: Fuse::new(call),
+        }
+    }
+
+    /// The store behind the fuse.
+    pub fn inner(&self) -> &I
+        ensures { result.now ≡ self.now.store }
+    {
+        &self.store
+    }
+
+    /// The store behind the fuse, which is let go.
+    pub fn into_inner(self) -> I
+        ensures { result ≡ self.store }
+    {
+        self.store
+    }
+}
+
+impl<I: Inbox> Inbox for FuseInbox<I> {
+    ghost published = { λ f. I.published f.store };
+
+    ghost staged = { λ f. I.staged f.store };
+
+    ghost failures = { λ f. all_failures (I.failures f.store) f.fuse };
+
+    fn begin(&mut self, id: TransactionId) -> Result<(), StoreError>
+        ensures staged { OnOk result (I.staged self.new.store id ≡ Some map.empty) }
+        ensures others { OthersKeep id (I.staged self.old.store) (I.staged self.new.store) }
+        ensures published { I.published self.new.store ≡ I.published self.old.store }
+        ensures failures { all_failures (I.failures self.new.store) self.new.fuse
+            ≡ failures_after (all_failures (I.failures self.old.store) self.old.fuse) (is_ok result) }
+        ensures through { 0 < self.old.fuse.left → self.new.fuse ≡ burnt self.old.fuse }
+        ensures refused { self.old.fuse.left ≡ 0 → (result ≡ Err StoreError.Device)
+            × (self.new ≡ record { store = self.old.store; fuse = blown self.old.fuse }) }
+    {
+        self.fuse.pass()?;
+        self.store.begin(id)
+    }
+
+    fn write(&mut self, id: TransactionId, offset: u64, octets: &[u8]) -> Result<(), StoreError>
+        requires { IsSome (I.staged self.old.store id) }
+        ensures staged { OnOk result (I.staged self.new.store id
+            ≡ Some (written (staged_for (I.staged self.old.store) id) offset octets.now)) }
+        ensures others { OthersKeep id (I.staged self.old.store) (I.staged self.new.store) }
+        ensures published { I.published self.new.store ≡ I.published self.old.store }
+        ensures failures { all_failures (I.failures self.new.store) self.new.fuse
+            ≡ failures_after (all_failures (I.failures self.old.store) self.old.fuse) (is_ok result) }
+        ensures through { 0 < self.old.fuse.left → self.new.fuse ≡ burnt self.old.fuse }
+        ensures refused { self.old.fuse.left ≡ 0 → (result ≡ Err StoreError.Device)
+            × (self.new ≡ record { store = self.old.store; fuse = blown self.old.fuse }) }
+    {
+        self.fuse.pass()?;
+        self.store.write(id, offset, octets)
+    }
+
+    fn publish(&mut self, id: TransactionId, name: &[u8], size: u64) -> Result<(), StoreError>
+        requires begun { IsSome (I.staged self.old.store id) }
+        requires whole { Covers size (staged_for (I.staged self.old.store) id) }
+        ensures ok { OnOk result (I.published self.new.store
+            ≡ map.insert (I.published self.old.store) name.now
+            (front (staged_for (I.staged self.old.store) id) size)) }
+        ensures err { OnErr result (I.published self.new.store ≡ I.published self.old.store) }
+        ensures staged { OnOk result (I.staged self.new.store id ≡ None) }
+        ensures others { OthersKeep id (I.staged self.old.store) (I.staged self.new.store) }
+        ensures failures { all_failures (I.failures self.new.store) self.new.fuse
+            ≡ failures_after (all_failures (I.failures self.old.store) self.old.fuse) (is_ok result) }
+        ensures through { 0 < self.old.fuse.left → self.new.fuse ≡ burnt self.old.fuse }
+        ensures refused { self.old.fuse.left ≡ 0 → (result ≡ Err StoreError.Device)
+            × (self.new ≡ record { store = self.old.store; fuse = blown self.old.fuse }) }
+    {
+        self.fuse.pass()?;
+        self.store.publish(id, name, size)
+    }
+
+    fn discard(&mut self, id: TransactionId) -> Result<(), StoreError>
+        ensures staged { OnOk result (I.staged self.new.store id ≡ None) }
+        ensures others { OthersKeep id (I.staged self.old.store) (I.staged self.new.store) }
+        ensures published { I.published self.new.store ≡ I.published self.old.store }
+        ensures failures { all_failures (I.failures self.new.store) self.new.fuse
+            ≡ failures_after (all_failures (I.failures self.old.store) self.old.fuse) (is_ok result) }
+        ensures through { 0 < self.old.fuse.left → self.new.fuse ≡ burnt self.old.fuse }
+        ensures refused { self.old.fuse.left ≡ 0 → (result ≡ Err StoreError.Device)
+            × (self.new ≡ record { store = self.old.store; fuse = blown self.old.fuse }) }
+    {
+        self.fuse.pass()?;
+        self.store.discard(id)
+    }
+
+    fn failures(&self) -> u64 {
+        self.store.failures().saturating_add(self.fuse.refused)
+    }
+}

@@ -1,0 +1,80 @@
+ghost use Rattle.std.specs.Prelude.{◌≡◌, ℕ, Option, Some, None, is_ok, IsSome, OnOk, OnErr};
+ghost use Rattle.std.specs.FinMap as map;
+ghost use Rattle.cfdp_header.specs.declared.value.TransactionId.{TransactionId};
+ghost use Rattle.cfdp_store.specs.Stores.{FileMap, failures_after};
+ghost use Rattle.cfdp_store.specs.Staged.{OctetMap, Covers, OthersKeep, written, front, staged_for};
+
+use crate::StoreError;
+use cfdp_header::TransactionId;
+
+/// Where received files are staged, by transaction, and then published, each under a name.
+///
+/// A name is a run of octets, and so is what a file has in it.
+pub trait Inbox: Drop {
+    /// The octets of each published file by its name. Only a `publish` that answers `Ok` changes them.
+    ghost published: { Self → FileMap };
+
+    /// The octets staged for a transaction, by their offsets in the file. `None` where nothing may be written for it:
+    /// it wasn't begun, was published or discarded since, or a call of it failed since.
+    ghost staged: { Self → TransactionId → Option OctetMap };
+
+    /// How many calls failed.
+    ghost failures: { Self → ℕ };
+
+    /// Begins a transaction, with nothing staged for it. What was staged for it is let go.
+    ///
+    /// # Errors
+    ///
+    /// Any `StoreError`, at the store's will. It is counted as a failure, and nothing is known of what is then staged
+    /// for this transaction.
+    fn begin(&mut self, id: TransactionId) -> Result<(), StoreError>
+        ensures staged { OnOk result (staged self.new id ≡ Some map.empty) }
+        ensures others { OthersKeep id (staged self.old) (staged self.new) }
+        ensures published { published self.new ≡ published self.old }
+        ensures failures { failures self.new ≡ failures_after (failures self.old) (is_ok result) };
+
+    /// Stages octets of a transaction, the first of them at an offset of its file. They replace what was staged there.
+    /// The transaction is begun: its last `begin` answered `Ok`, and no call of it failed, published or discarded since.
+    ///
+    /// # Errors
+    ///
+    /// As with `begin`.
+    fn write(&mut self, id: TransactionId, offset: u64, octets: &[u8]) -> Result<(), StoreError>
+        requires { IsSome (staged self.old id) }
+        ensures staged { OnOk result (staged self.new id
+            ≡ Some (written (staged_for (staged self.old) id) offset octets.now)) }
+        ensures others { OthersKeep id (staged self.old) (staged self.new) }
+        ensures published { published self.new ≡ published self.old }
+        ensures failures { failures self.new ≡ failures_after (failures self.old) (is_ok result) };
+
+    /// Publishes the first `size` staged octets of a transaction under a name, in the place of a file that is there.
+    /// The transaction is begun, as with `write`, and all these octets were written. What is staged for it is let go.
+    ///
+    /// # Errors
+    ///
+    /// As with `begin`. The published files are then as before.
+    fn publish(&mut self, id: TransactionId, name: &[u8], size: u64) -> Result<(), StoreError>
+        requires begun { IsSome (staged self.old id) }
+        requires whole { Covers size (staged_for (staged self.old) id) }
+        ensures ok { OnOk result (published self.new
+            ≡ map.insert (published self.old) name.now (front (staged_for (staged self.old) id) size)) }
+        ensures err { OnErr result (published self.new ≡ published self.old) }
+        ensures staged { OnOk result (staged self.new id ≡ None) }
+        ensures others { OthersKeep id (staged self.old) (staged self.new) }
+        ensures failures { failures self.new ≡ failures_after (failures self.old) (is_ok result) };
+
+    /// Lets what is staged for a transaction go, if anything is.
+    ///
+    /// # Errors
+    ///
+    /// As with `begin`.
+    fn discard(&mut self, id: TransactionId) -> Result<(), StoreError>
+        ensures staged { OnOk result (staged self.new id ≡ None) }
+        ensures others { OthersKeep id (staged self.old) (staged self.new) }
+        ensures published { published self.new ≡ published self.old }
+        ensures failures { failures self.new ≡ failures_after (failures self.old) (is_ok result) };
+
+    /// How many calls failed so far. The count stays at the greatest `u64`.
+    fn failures(&self) -> u64
+        ensures { result ≡ failures self.now };
+}

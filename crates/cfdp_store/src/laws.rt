@@ -1,0 +1,20 @@
+ghost use Rattle.std.specs.Prelude.{◌≡◌, ℕ, ◌+◌, ◌-◌, ◌<◌, ◌≤◌, List, Some, length, slice_get, slice_index};
+ghost use Rattle.std.specs.FinMap as map;
+ghost use Rattle.cfdp_store.specs.Staged.{OctetMap, Covers, written, front};
+
+/// A law: what is written stands from its offset on, and replaces what stood there. All else stays.
+pub fn written_octets_stand()
+    ensures written { (m : OctetMap) (at : ℕ) (xs : List ℕ) (n : ℕ) → at ≤ n → n < at + length xs
+        → map.get (written m at xs) n ≡ Some (slice_index xs (n - at)) }
+    ensures below { (m : OctetMap) (at : ℕ) (xs : List ℕ) (n : ℕ) → n < at
+        → map.get (written m at xs) n ≡ map.get m n }
+    ensures behind { (m : OctetMap) (at : ℕ) (xs : List ℕ) (n : ℕ) → at + length xs ≤ n
+        → map.get (written m at xs) n ≡ map.get m n }
+{}
+
+/// A law: the first `size` staged octets are as many, and each is the one that stands there, where all were written.
+pub fn front_is_what_stands()
+    ensures len { (m : OctetMap) (size : ℕ) → length (front m size) ≡ size }
+    ensures octets { (m : OctetMap) (size n : ℕ) → Covers size m → n < size
+        → slice_get (front m size) n ≡ map.get m n }
+{}

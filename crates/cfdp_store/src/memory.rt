@@ -1,0 +1,254 @@
+ghost use Rattle.std.specs.Prelude.{◌≡◌, ◌+◌, ◌≤◌, Some, None, false, length, take, drop, is_ok, IsOk, IsOkUnless, IsSome, OnErr, OnOk};
+ghost use Rattle.std.specs.FinMap as map;
+ghost use Rattle.std.specs.Option.{option_map};
+ghost use Rattle.cfdp_header.specs.declared.value.TransactionId.{TransactionId};
+ghost use Rattle.cfdp_store.specs.Stores.{files_of, octets_in, failures_after};
+ghost use Rattle.cfdp_store.specs.Staged.{Covers, OthersKeep, written, front, staged_for};
+ghost use Rattle.cfdp_store.specs.Memory.{octets_for};
+
+use crate::files::Files;
+use crate::pieces::Pieces;
+use crate::{Inbox, Outbox, StoreError};
+use cfdp_header::TransactionId;
+use std::alloc::{AllocError, Global};
+use std::collections::{BTreeMap, HashMap};
+use std::marker::Model;
+
+/// Files in memory, to be sent. Contracts see it as the map from their names to their octets.
+#[derive(Debug, Drop)]
+pub struct MemoryOutbox {
+    files: Files,
+}
+
+impl Model for MemoryOutbox {
+    ghost use Rattle.std.specs.Prelude.{ℕ, List};
+    ghost use Rattle.std.specs.Ordering.{nat_cmp};
+    ghost use Rattle.std.specs.Cmp.Lexicographic.{slice_cmp};
+    ghost use Rattle.std.specs.Coded.{coded_ℕ, coded_list};
+    ghost use Rattle.std.specs.FinMap as map;
+
+    ghost Value = { map.FinMap (slice_cmp nat_cmp) (List ℕ) };
+
+    ghost coded = { map.code (coded_list coded_ℕ) (coded_list coded_ℕ) };
+
+    ghost view = { λ o. o.files };
+}
+
+impl MemoryOutbox {
+    /// No files. Takes no memory; `alloc` serves what is added later.
+    pub fn new(alloc: Global) -> Self
+        ensures { result ≡ map.empty }
+    {
+        MemoryOutbox {
+            files: Files::new(alloc),
+        }
+    }
+
+    /// The files of a map from names to octets. Takes no memory.
+    pub fn with_files(files: BTreeMap<Vec<u8>, Vec<u8>>) -> Self
+        ensures { result ≡ files_of files.entries }
+    {
+        MemoryOutbox {
+            files: Files::from_map(files),
+        }
+    }
+
+    /// Puts a file under a name, in the place of one that is there.
+    ///
+    /// # Errors
+    ///
+    /// `AllocError` where there is no memory for it. The files are then as before.
+    pub fn add(&mut self, name: Vec<u8>, octets: Vec<u8>) -> Result<(), AllocError>
+        ensures ok { OnOk result (self.new ≡ map.insert self.old name.items octets.items) }
+        ensures err { OnErr result (self.new ≡ self.old) }
+    {
+        self.files.insert(name, octets)
+    }
+}
+
+impl Outbox for MemoryOutbox {
+    ghost files = { λ o. o };
+
+    ghost failures = { λ _. 0 };
+
+    fn len(&mut self, name: &[u8]) -> Result<Option<u64>, StoreError>
+        ensures answer { result ≡ Ok (option_map length (map.get self.old name.now)) }
+        ensures files { self.new ≡ self.old }
+    {
+        Ok(self.files.get(name).map(|octets| octets.len() as u64))
+    }
+
+    fn read(&mut self, name: &[u8], offset: u64, out: &mut [u8]) -> Result<(), StoreError>
+        requires there { IsSome (map.get self.old name.now) }
+        requires within { offset + length out.old ≤ length (octets_in self.old name.now) }
+        ensures ok { IsOk result }
+        ensures octets { out.new ≡ take (length out.old) (drop offset (octets_in self.old name.now)) }
+        ensures files { self.new ≡ self.old }
+    {
+        if let Some(octets) = self.files.get(name) {
+            let start = offset as usize;
+            out.copy_from_slice(&octets[start..start + out.len()]);
+        }
+        Ok(())
+    }
+
+    fn failures(&self) -> u64 {
+        0
+    }
+}
+
+/// Files in memory, as they were received. Every name is good, and a call fails only for want of memory.
+#[derive(Debug, Drop)]
+pub struct MemoryInbox {
+    files: Files,
+    staged: HashMap<TransactionId, Pieces>,
+    failed: u64,
+    alloc: Global,
+}
+
+impl MemoryInbox {
+    /// An inbox with nothing published and nothing staged. Takes no memory; `alloc` serves what comes later.
+    pub fn new(alloc: Global) -> Self
+        ensures published { ⟦<MemoryInbox as Inbox>⟧.published result ≡ map.empty }
+        ensures staged { (id : TransactionId) → ⟦<MemoryInbox as Inbox>⟧.staged result id ≡ None }
+        ensures failures { ⟦<MemoryInbox as Inbox>⟧.failures result ≡ 0 }
+    {
+        MemoryInbox {
+            files: Files::new(alloc),
+            staged: HashMap::new(alloc),
+            failed: 0,
+            alloc,
+        }
+    }
+
+    /// An inbox in which these files, by their names, are published already. Nothing is staged. Takes no memory.
+    pub fn with_files(alloc: Global, files: BTreeMap<Vec<u8>, Vec<u8>>) -> Self
+        ensures published { ⟦<MemoryInbox as Inbox>⟧.published result ≡ files_of files.entries }
+        ensures staged { (id : TransactionId) → ⟦<MemoryInbox as Inbox>⟧.staged result id ≡ None }
+        ensures failures { ⟦<MemoryInbox as Inbox>⟧.failures result ≡ 0 }
+    {
+        MemoryInbox {
+            files: Files::from_map(files),
+            ..MemoryInbox::new(alloc)
+        }
+    }
+
+    /// The published files, names and octets, which it goes over in ascending order of the names.
+    pub fn entries(&self) -> &BTreeMap<Vec<u8>, Vec<u8>>
+        ensures { files_of result.now.entries ≡ ⟦<MemoryInbox as Inbox>⟧.published self.now }
+    {
+        self.files.entries()
+    }
+
+    /// Counts a failure for want of memory, and names it.
+    fn no_memory(&mut self) -> StoreError
+        ensures counted { self.new ≡ record self.old { failed = failures_after self.old.failed false } }
+        ensures error { result ≡ StoreError.NoMemory }
+    {
+        self.failed = self.failed.saturating_add(1);
+        StoreError::NoMemory
+    }
+
+    fn try_publish(&mut self, id: TransactionId, name: &[u8], size: u64) -> Result<(), AllocError>
+        ensures ok { OnOk result (self.new.files
+            ≡ map.insert self.old.files name.now (front (staged_for (octets_for self.old.staged) id) size)) }
+        ensures err { OnErr result (self.new.files ≡ self.old.files) }
+        ensures staged { octets_for self.new.staged id ≡ None }
+        ensures others { OthersKeep id (octets_for self.old.staged) (octets_for self.new.staged) }
+        ensures failed { self.new.failed ≡ self.old.failed }
+    {
+        let pieces = match self.staged.remove(&id) {
+            Some(pieces) => pieces,
+            None => Pieces::new(self.alloc),
+        };
+        let octets = pieces.front(size)?;
+        self.files
+            .insert(Vec::from_slice(self.alloc, name)?, octets)
+    }
+}
+
+/// Stages octets of a transaction that is begun.
+fn stage(
+    staged: &mut HashMap<TransactionId, Pieces>,
+    id: TransactionId,
+    offset: u64,
+    octets: &[u8],
+) -> Result<(), AllocError>
+    requires { IsSome (octets_for staged.old id) }
+    ensures ok { OnOk result (octets_for staged.new id
+        ≡ Some (written (staged_for (octets_for staged.old) id) offset octets.now)) }
+    ensures others { OthersKeep id (octets_for staged.old) (octets_for staged.new) }
+{
+    match staged.get_mut(&id) {
+        Some(pieces) => pieces.write(offset, octets),
+        None => Ok(()),
+    }
+}
+
+impl Inbox for MemoryInbox {
+    ghost published = { λ i. i.files };
+
+    ghost staged = { λ i. octets_for i.staged };
+
+    ghost failures = { λ i. i.failed };
+
+    fn begin(&mut self, id: TransactionId) -> Result<(), StoreError>
+        ensures staged { OnOk result (octets_for self.new.staged id ≡ Some map.empty) }
+        ensures others { OthersKeep id (octets_for self.old.staged) (octets_for self.new.staged) }
+        ensures published { self.new.files ≡ self.old.files }
+        ensures failures { self.new.failed ≡ failures_after self.old.failed (is_ok result) }
+        ensures only_memory { IsOkUnless result StoreError.NoMemory }
+    {
+        match self.staged.insert(id, Pieces::new(self.alloc)) {
+            Ok(_) => Ok(()),
+            Err(_) => Err(self.no_memory()),
+        }
+    }
+
+    fn write(&mut self, id: TransactionId, offset: u64, octets: &[u8]) -> Result<(), StoreError>
+        requires { IsSome (octets_for self.old.staged id) }
+        ensures staged { OnOk result (octets_for self.new.staged id
+            ≡ Some (written (staged_for (octets_for self.old.staged) id) offset octets.now)) }
+        ensures others { OthersKeep id (octets_for self.old.staged) (octets_for self.new.staged) }
+        ensures published { self.new.files ≡ self.old.files }
+        ensures failures { self.new.failed ≡ failures_after self.old.failed (is_ok result) }
+        ensures only_memory { IsOkUnless result StoreError.NoMemory }
+    {
+        match stage(&mut self.staged, id, offset, octets) {
+            Ok(()) => Ok(()),
+            Err(_) => Err(self.no_memory()),
+        }
+    }
+
+    fn publish(&mut self, id: TransactionId, name: &[u8], size: u64) -> Result<(), StoreError>
+        requires begun { IsSome (octets_for self.old.staged id) }
+        requires whole { Covers size (staged_for (octets_for self.old.staged) id) }
+        ensures ok { OnOk result (self.new.files
+            ≡ map.insert self.old.files name.now (front (staged_for (octets_for self.old.staged) id) size)) }
+        ensures err { OnErr result (self.new.files ≡ self.old.files) }
+        ensures staged { OnOk result (octets_for self.new.staged id ≡ None) }
+        ensures others { OthersKeep id (octets_for self.old.staged) (octets_for self.new.staged) }
+        ensures failures { self.new.failed ≡ failures_after self.old.failed (is_ok result) }
+        ensures only_memory { IsOkUnless result StoreError.NoMemory }
+    {
+        match self.try_publish(id, name, size) {
+            Ok(()) => Ok(()),
+            Err(_) => Err(self.no_memory()),
+        }
+    }
+
+    fn discard(&mut self, id: TransactionId) -> Result<(), StoreError>
+        ensures ok { IsOk result }
+        ensures staged { octets_for self.new.staged id ≡ None }
+        ensures others { OthersKeep id (octets_for self.old.staged) (octets_for self.new.staged) }
+        ensures published { self.new.files ≡ self.old.files }
+        ensures failures { self.new.failed ≡ self.old.failed }
+    {
+        let _ = self.staged.remove(&id);
+        Ok(())
+    }
+
+    fn failures(&self) -> u64 {
+        self.failed
+    }
+}

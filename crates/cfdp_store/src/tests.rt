@@ -1,0 +1,200 @@
+ghost use Rattle.std.specs.Prelude.{◌+◌, ◌<◌, ◌^◌, length};
+
+use super::*;
+use cfdp_header::TransactionId;
+use std::alloc::{AllocError, Global};
+use std::collections::BTreeMap;
+use std::test::Fail;
+
+const FIRST: TransactionId = TransactionId {
+    source: 1,
+    number: 1,
+};
+
+const SECOND: TransactionId = TransactionId {
+    source: 1,
+    number: 2,
+};
+
+/// An outbox with one file.
+fn with_one(alloc: Global, name: &[u8], octets: &[u8]) -> Result<MemoryOutbox, AllocError> {
+    let mut outbox = MemoryOutbox::new(alloc);
+    outbox.add(
+        Vec::from_slice(alloc, name)?,
+        Vec::from_slice(alloc, octets)?,
+    )?;
+    Ok(outbox)
+}
+
+/// A whole file, read in one call, if it is there.
+fn read_whole<O: Outbox>(
+    alloc: Global,
+    outbox: &mut O,
+    name: &[u8],
+) -> Result<Option<Vec<u8>>, StoreError> {
+    let Some(len) = outbox.len(name)? else {
+        return Ok(None);
+    };
+    let mut octets = vec![in alloc; 0u8; len as usize]?;
+    outbox.read(name, 0, &mut octets)?;
+    Ok(Some(octets))
+}
+
+/// Stages two pieces, the second right behind the first, and publishes them.
+fn publish_both<I: Inbox>(
+    inbox: &mut I,
+    id: TransactionId,
+    name: &[u8],
+    first: &[u8],
+    second: &[u8],
+) -> Result<(), StoreError>
+    requires { length first.now + length second.now < 2 ^ 64 }
+{
+    inbox.begin(id)?;
+    inbox.write(id, 4_000_000_000, b"!")?;
+    inbox.write(id, 0, first)?;
+    inbox.write(id, first.len() as u64, second)?;
+    inbox.publish(id, name, (first.len() + second.len()) as u64)
+}
+
+/// The published files, each its name and its octets, with a semicolon behind them.
+fn shown(alloc: Global, inbox: &MemoryInbox) -> Result<Vec<u8>, AllocError> {
+    let mut text = Vec::new(alloc);
+    for (name, octets) in inbox.entries() {
+        add_file(&mut text, name, octets)?;
+    }
+    Ok(text)
+}
+
+fn add_file(text: &mut Vec<u8>, name: &[u8], octets: &[u8]) -> Result<(), AllocError> {
+    text.extend_from_slice(name)?;
+    text.extend_from_slice(b" ")?;
+    text.extend_from_slice(octets)?;
+    text.extend_from_slice(b";")
+}
+
+/// Stages octets over others, and publishes all that the first ones reach.
+fn publish_over<I: Inbox>(
+    inbox: &mut I,
+    id: TransactionId,
+    name: &[u8],
+    first: &[u8],
+    over: &[u8],
+) -> Result<(), StoreError> {
+    inbox.begin(id)?;
+    inbox.write(id, 0, first)?;
+    inbox.write(id, 0, over)?;
+    inbox.publish(id, name, first.len() as u64)
+}
+
+#[test]
+fn an_outbox_tells_and_reads_its_files(rt: HostRuntime) -> Result<(), Fail> {
+    let alloc = rt.alloc();
+    let mut outbox = with_one(alloc, b"a.txt", b"hello")?;
+    assert_eq!(rt; outbox.len(b"a.txt")?, Some(5));
+    assert_eq!(rt; outbox.len(b"b.txt")?, None);
+    let octets = read_whole(alloc, &mut outbox, b"a.txt")?.ok_or("no file")?;
+    assert_eq!(rt; octets.as_slice(), b"hello".as_slice());
+    assert_eq!(rt; outbox.failures(), 0);
+    let mut files = BTreeMap::new(alloc);
+    files.insert(Vec::from_slice(alloc, b"a")?, Vec::from_slice(alloc, b"b")?)?;
+    assert_eq!(rt; MemoryOutbox::with_files(files).len(b"a")?, Some(1));
+    Ok(())
+}
+
+#[test]
+fn later_octets_replace_earlier_ones(rt: HostRuntime) -> Result<(), Fail> {
+    let mut inbox = MemoryInbox::new(rt.alloc());
+    publish_both(&mut inbox, FIRST, b"b.txt", b"he", b"LLO")?;
+    publish_both(&mut inbox, SECOND, b"a.txt", b"", b"one")?;
+    publish_both(&mut inbox, FIRST, b"", b"x", b"")?;
+    publish_over(&mut inbox, SECOND, b"c.txt", b"HELLO", b"he")?;
+    assert_eq!(rt;
+        shown(rt.alloc(), &inbox)?.as_slice(),
+        b" x;a.txt one;b.txt heLLO;c.txt heLLO;".as_slice()
+    );
+    publish_both(&mut inbox, FIRST, b"a.txt", b"t", b"wo")?;
+    assert_eq!(rt;
+        shown(rt.alloc(), &inbox)?.as_slice(),
+        b" x;a.txt two;b.txt heLLO;c.txt heLLO;".as_slice()
+    );
+    inbox.begin(SECOND)?;
+    inbox.discard(SECOND)?;
+    assert_eq!(rt; inbox.failures(), 0);
+    Ok(())
+}
+
+#[test]
+fn an_inbox_begins_with_given_files(rt: HostRuntime) -> Result<(), Fail> {
+    let alloc = rt.alloc();
+    let mut files = BTreeMap::new(alloc);
+    files.insert(
+        Vec::from_slice(alloc, b"old")?,
+        Vec::from_slice(alloc, b"1")?,
+    )?;
+    let mut inbox = MemoryInbox::with_files(alloc, files);
+    publish_both(&mut inbox, FIRST, b"new", b"2", b"3")?;
+    assert_eq!(rt;
+        shown(alloc, &inbox)?.as_slice(),
+        b"new 23;old 1;".as_slice()
+    );
+    Ok(())
+}
+
+#[test]
+fn an_outbox_fails_from_the_call_on_that_its_fuse_names(rt: HostRuntime) -> Result<(), Fail> {
+    let alloc = rt.alloc();
+    for (call, works) in [(0, false), (1, false), (2, false), (3, true)] {
+        let mut outbox = FuseOutbox::new(with_one(alloc, b"a.txt", b"hello")?, call);
+        let answer = read_whole(alloc, &mut outbox, b"a.txt");
+        assert_eq!(rt; answer.is_ok(), works, "at {call}");
+        assert_eq!(rt; outbox.failures(), u64::from(!works), "at {call}");
+        let _ = outbox.len(b"a.txt");
+        assert_eq!(rt;
+            outbox.failures(),
+            if call == 3 { 1 } else { 2 },
+            "at {call}"
+        );
+        assert_eq!(rt; outbox.inner().failures(), 0, "at {call}");
+        assert_eq!(rt; outbox.into_inner().len(b"a.txt")?, Some(5), "at {call}");
+    }
+    Ok(())
+}
+
+#[test]
+fn an_inbox_fails_from_the_call_on_that_its_fuse_names(rt: HostRuntime) -> Result<(), Fail> {
+    let alloc = rt.alloc();
+    for (call, works) in [
+        (1, false),
+        (2, false),
+        (3, false),
+        (4, false),
+        (5, false),
+        (6, true),
+    ] {
+        let mut inbox = FuseInbox::new(MemoryInbox::new(alloc), call);
+        let answer = publish_both(&mut inbox, FIRST, b"a.txt", b"he", b"llo");
+        assert_eq!(rt; answer.is_ok(), works, "at {call}");
+        assert_eq!(rt; inbox.failures(), u64::from(!works), "at {call}");
+        let _ = inbox.discard(FIRST);
+        assert_eq!(rt; inbox.failures(), if works { 1 } else { 2 }, "at {call}");
+        let text: &[u8] = if works { b"a.txt hello;" } else { b"" };
+        assert_eq!(rt; shown(alloc, inbox.inner())?.as_slice(), text, "at {call}");
+        assert_eq!(rt; inbox.into_inner().failures(), 0, "at {call}");
+    }
+    Ok(())
+}
+
+#[test]
+fn errors_have_names_and_numbers(rt: HostRuntime) -> Result<(), Fail> {
+    for (error, number, name) in [
+        (StoreError::Device, 1, "Device"),
+        (StoreError::Name, 2, "Name"),
+        (StoreError::NoMemory, 3, "NoMemory"),
+    ] {
+        assert_eq!(rt; error.number(), number);
+        let text = format!(in rt.alloc(); "{error}")?;
+        assert!(rt; text.as_str() == name, "number {number}");
+    }
+    Ok(())
+}
