@@ -8,27 +8,22 @@ use Rattle.hex.specs.Hex.{decode_of}
 use Rattle.cfd_bits.specs.Field.{field}
 use Rattle.cfdp_header.specs.declared.value.Header.{Header}
 use Rattle.cfdp_header.specs.declared.value.TransactionId.{TransactionId}
-use Rattle.cfdp_header.specs.declared.error.HeaderError.{HeaderError}
-use Rattle.cfdp_header.specs.declared.error.HeaderError.TheVariants as header_error
 use Rattle.cfdp_directives.specs.declared.error.PduError.{PduError}
-use Rattle.cfdp_directives.specs.declared.error.PduError.TheVariants as pdu_error
 use Rattle.cfdp_directives.specs.Codes.{acknowledged_code, transaction_status_code}
 use Rattle.cfdp_directives.specs.declared.pdu.Pdu as pdus
 use Rattle.cfdp_directives.specs.declared.pdu.Pdu.TheVariants as pdu
-use Rattle.cfdp_directives.specs.Faults.{pdu_refusal_number, pdu_fault}
+use Rattle.cfdp_directives.specs.Faults.{pdu_fault}
 use Rattle.cfdp_directives.specs.Content.{view}
 use Rattle.cfdp_directives.specs.Grammar.{SpellsPdu}
 use Rattle.aos_frame.specs.declared.header.FrameHeader.{FrameHeader}
 use Rattle.aos_frame.specs.declared.error.FrameError.{FrameError}
-use Rattle.aos_frame.specs.declared.error.FrameError.TheVariants as frame_error
 use Rattle.aos_frame.specs.declared.config.LinkConfig.{LinkConfig}
-use Rattle.aos_frame.specs.Frame as frames
 use Rattle.aos_frame.specs.Frame.{SpellsFrame, frame_fault}
 use Rattle.cfdp_node.specs.declared.dump.DumpKind.{DumpKind}
 use Rattle.cfdp_node.specs.declared.dump.DumpKind.TheVariants.{Pdus, Frames}
-use Rattle.cfdp_node.specs.declared.refusal.Refusal.{Refusal}
 use Rattle.cfdp_node.specs.declared.refusal.Refusal.TheVariants.{Hex, Pdu, Frame}
 use Rattle.cfdp_node.specs.Name.{printed_octet}
+use Rattle.cfdp_node.specs.Refusal.{refusal_text}
 use Rattle.cfdp_node.specs.Wording.{id_text, delivery_word, status_word}
 
 -- a number as eight upper-case hexadecimal digits
@@ -74,44 +69,6 @@ pdu_text id p = pdu_word p ++ codes " " ++ id_text id ++ codes " " ++ fields_tex
 abbrev pub frame_text : FrameHeader → ℕ → List ℕ
 frame_text h pointer =
     codes "frame " ++ decimal h.spacecraft ++ codes " " ++ decimal h.channel ++ codes " " ++ decimal h.count ++ codes " " ++ decimal pointer
-
-abbrev pub header_error_name : HeaderError → List ℕ
-header_error_name header_error.Short = codes "Short"
-header_error_name header_error.Version = codes "Version"
-header_error_name header_error.CrcPresent = codes "CrcPresent"
-header_error_name header_error.Length = codes "Length"
-header_error_name header_error.Unacknowledged = codes "Unacknowledged"
-header_error_name header_error.LargeFile = codes "LargeFile"
-
-abbrev pub pdu_error_name : PduError → List ℕ
-pdu_error_name (pdu_error.Header e) = header_error_name e
-pdu_error_name pdu_error.Directive = codes "Directive"
-pdu_error_name pdu_error.Truncated = codes "Truncated"
-pdu_error_name pdu_error.Trailing = codes "Trailing"
-pdu_error_name pdu_error.Tlv = codes "Tlv"
-pdu_error_name pdu_error.Condition = codes "Condition"
-
-abbrev pub frame_error_name : FrameError → List ℕ
-frame_error_name frame_error.Length = codes "Length"
-frame_error_name frame_error.Version = codes "Version"
-frame_error_name frame_error.OtherProfile = codes "OtherProfile"
-frame_error_name frame_error.OtherSpacecraft = codes "OtherSpacecraft"
-frame_error_name frame_error.OtherChannel = codes "OtherChannel"
-frame_error_name frame_error.OnlyIdle = codes "OnlyIdle"
-
--- the number and the name of a refusal
-abbrev pub refusal_number : Refusal → ℕ
-refusal_number Hex = 0
-refusal_number (Pdu e) = pdu_refusal_number e
-refusal_number (Frame e) = frames.refusal_number e
-
-abbrev pub refusal_name : Refusal → List ℕ
-refusal_name Hex = codes "Hex"
-refusal_name (Pdu e) = pdu_error_name e
-refusal_name (Frame e) = frame_error_name e
-
-abbrev pub refusal_text : Refusal → List ℕ
-refusal_text refusal = codes "error " ++ decimal (refusal_number refusal) ++ codes " " ++ refusal_name refusal
 
 -- an octet in front of the first line
 unfoldable pub onto_first_line : ℕ → List (List ℕ) → List (List ℕ)

@@ -3,5 +3,6 @@ pub mod Name
 pub mod Settings
 pub mod Report
 pub mod Wording
+pub mod Refusal
 pub mod Dump
 pub mod Request

@@ -1,6 +1,6 @@
 //! Why a line of a dump spells nothing.
 ghost use Rattle.std.specs.Prelude.{◌≡◌, Some};
-ghost use Rattle.cfdp_node.specs.Dump.{refusal_text};
+ghost use Rattle.cfdp_node.specs.Refusal.{refusal_text};
 
 use aos_frame::FrameError;
 use cfdp_directives::PduError;
@@ -28,7 +28,7 @@ impl fmt::Display for Refusal {
 
 impl Refusal {
     fn number(self) -> u8
-        ensures { result ≡ Rattle.cfdp_node.specs.Dump.refusal_number self }
+        ensures { result ≡ Rattle.cfdp_node.specs.Refusal.refusal_number self }
     {
         match self {
             Refusal::Hex => 0,
@@ -38,7 +38,7 @@ impl Refusal {
     }
 
     fn name(self) -> &'static str
-        ensures { result.now ≡ Rattle.cfdp_node.specs.Dump.refusal_name self }
+        ensures { result.now ≡ Rattle.cfdp_node.specs.Refusal.refusal_name self }
     {
         match self {
             Refusal::Hex => "Hex",
@@ -49,7 +49,7 @@ impl Refusal {
 }
 
 fn header_error_name(error: HeaderError) -> &'static str
-    ensures { result.now ≡ Rattle.cfdp_node.specs.Dump.header_error_name error }
+    ensures { result.now ≡ Rattle.cfdp_node.specs.Refusal.header_error_name error }
 {
     match error {
         HeaderError::Short => "Short",
@@ -62,7 +62,7 @@ fn header_error_name(error: HeaderError) -> &'static str
 }
 
 fn pdu_error_name(error: PduError) -> &'static str
-    ensures { result.now ≡ Rattle.cfdp_node.specs.Dump.pdu_error_name error }
+    ensures { result.now ≡ Rattle.cfdp_node.specs.Refusal.pdu_error_name error }
 {
     match error {
         PduError::Header(error) => header_error_name(error),
@@ -75,7 +75,7 @@ fn pdu_error_name(error: PduError) -> &'static str
 }
 
 fn frame_error_name(error: FrameError) -> &'static str
-    ensures { result.now ≡ Rattle.cfdp_node.specs.Dump.frame_error_name error }
+    ensures { result.now ≡ Rattle.cfdp_node.specs.Refusal.frame_error_name error }
 {
     match error {
         FrameError::Length => "Length",

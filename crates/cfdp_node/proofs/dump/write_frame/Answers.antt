@@ -1,5 +1,6 @@
 use Rattle.std.proofs.Common.{sym, inl, inr, refl}
-use Rattle.cfdp_node.specs.Dump.{TellsOctets, refusal_text, frame_text}
+use Rattle.cfdp_node.specs.Dump.{TellsOctets, frame_text}
+use Rattle.cfdp_node.specs.Refusal.{refusal_text}
 use Rattle.cfdp_node.specs.declared.dump.DumpKind.TheVariants.{Frames}
 use Rattle.cfdp_node.specs.declared.refusal.Refusal.TheVariants.{Frame}
 use Rattle.cfdp_node.proofs.TextLines.{line_is_written}

@@ -1,5 +1,6 @@
 use Rattle.std.proofs.Common.{sym, inr, refl}
-use Rattle.cfdp_node.specs.Dump.{TellsOctets, refusal_text}
+use Rattle.cfdp_node.specs.Dump.{TellsOctets}
+use Rattle.cfdp_node.specs.Refusal.{refusal_text}
 use Rattle.cfdp_node.specs.declared.dump.DumpKind.TheVariants.{Pdus}
 use Rattle.cfdp_node.specs.declared.refusal.Refusal.TheVariants.{Pdu}
 use Rattle.cfdp_node.proofs.TextLines.{line_is_written}
