@@ -2,3 +2,7 @@ pub mod Exit
 pub mod Name
 pub mod Settings
 pub mod Report
+pub mod Wording
+pub mod Refusal
+pub mod Dump
+pub mod Request

@@ -1,13 +1,13 @@
 /// How a run of the program ended.
 #[derive(Clone, Copy, Debug, PartialEq, Eq)]
 pub enum Exit {
-    /// Every put was completed.
+    /// Every put was completed, or every line was told.
     Complete,
     /// Some put wasn't completed.
     Incomplete,
     /// The script is bad, and this is its first bad line. The first line is 1.
     BadScript(usize),
-    /// The script couldn't be read, the report couldn't be written, or there was no memory.
+    /// What was to be read couldn't be, what was to be written couldn't be, or there was no memory.
     Device,
 }
 

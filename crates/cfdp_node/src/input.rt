@@ -4,7 +4,7 @@ use std::alloc::Global;
 use std::io;
 use std::io::{ErrorKind, Read};
 
-/// The longest script that is read, in octets.
+/// The longest script that is read, and the longest input of a dump, in octets.
 pub const MAX_SCRIPT: usize = 1_048_576;
 
 const MAX_READS: u32 = 1_100_000;

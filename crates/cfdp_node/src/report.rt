@@ -1,11 +1,12 @@
-ghost use Rattle.std.specs.Prelude.{◌≡◌, Some, OnOk};
+ghost use Rattle.std.specs.Prelude.{Some, OnOk};
 ghost use Rattle.std.specs.Io.KnownBytes.{Appends};
 ghost use Rattle.std.specs.List.{flat_map};
-ghost use Rattle.cfdp_node.specs.Report.{indication_line, indication_text, told_text, id_text};
+ghost use Rattle.cfdp_node.specs.Report.{indication_line, indication_text, told_text};
 
 use crate::answer::Answer;
 use crate::name::Name;
 use crate::script::Step;
+use crate::wording::{Id, delivery_word, status_word};
 use cfdp_directives::{Checksum, Delivery, FileStatus, Indication};
 use cfdp_header::TransactionId;
 use link_sim::{Files, Side, World};
@@ -114,38 +115,6 @@ impl fmt::Display for ToldWords<'_> {
             }
             Indication::Fault(id, condition) => write!(f, "fault {} {}", Id(*id), condition.code()),
         }
-    }
-}
-
-/// A transaction, as the report names it.
-#[derive(Clone, Copy)]
-struct Id(TransactionId);
-
-impl fmt::Display for Id {
-    ghost output = { λ id. Some (id_text id.0) };
-
-    fn fmt<W: fmt::Write>(&self, f: &mut fmt::Formatter<W>) -> fmt::Result {
-        write!(f, "{}:{}", self.0.source, self.0.number)
-    }
-}
-
-fn delivery_word(delivery: Delivery) -> &'static str
-    ensures { result.now ≡ Rattle.cfdp_node.specs.Report.delivery_word delivery }
-{
-    match delivery {
-        Delivery::Complete => "complete",
-        Delivery::Incomplete => "incomplete",
-    }
-}
-
-fn status_word(status: FileStatus) -> &'static str
-    ensures { result.now ≡ Rattle.cfdp_node.specs.Report.status_word status }
-{
-    match status {
-        FileStatus::Discarded => "discarded",
-        FileStatus::Rejected => "rejected",
-        FileStatus::Retained => "retained",
-        FileStatus::Unreported => "unreported",
     }
 }
 

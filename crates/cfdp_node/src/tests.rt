@@ -1,4 +1,5 @@
 use crate::command::{LineError, MAX_FILL, parse_line};
+use crate::dump::{DumpKind, run_dump};
 use crate::exit::Exit;
 use crate::number::{parse_hex_octet, parse_number};
 use crate::script::Script;
@@ -453,6 +454,36 @@ fn ends_at_bad_writers(rt: HostRuntime) -> Result<(), Fail> {
         run_sim(alloc, script, Full { room: HELLO.len() }),
         Exit::Complete
     );
+    Ok(())
+}
+
+#[test]
+fn dumps_end_at_bad_readers_and_writers(rt: HostRuntime) -> Result<(), Fail> {
+    let alloc = rt.alloc();
+    let rest = b"20000A1300010000000100020400D7656C6C00000005\n".as_slice();
+    let told = "eof 1:1 0 D7656C6C 5\n";
+    for room in [0, 1, told.len() - 1, told.len()] {
+        let exit = if room < told.len() {
+            Exit::Device
+        } else {
+            Exit::Complete
+        };
+        let ended = run_dump(alloc, DumpKind::Pdus, 256, rest, Full { room });
+        assert_eq!(rt; ended, exit, "at {room}");
+    }
+    for fails in [false, true] {
+        let reader = OneByOne {
+            rest,
+            interrupts: true,
+            was_interrupted: false,
+            fails,
+        };
+        let exit = if fails { Exit::Device } else { Exit::Complete };
+        let ended = run_dump(alloc, DumpKind::Pdus, 256, reader, Full { room: 99 });
+        assert_eq!(rt; ended, exit);
+    }
+    let ended = run_dump(alloc, DumpKind::Frames, 16, Endless, Full { room: 99 });
+    assert_eq!(rt; ended, Exit::Device);
     Ok(())
 }
 

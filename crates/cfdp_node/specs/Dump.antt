@@ -1,0 +1,140 @@
+-- What the program's `dump` prints.
+use Rattle.std.specs.Prelude.{◌≡◌, ◌⊎◌, ℕ, ◌-◌, ◌==◌, true, List, [], ◌∷◌, ◌++◌, codes, decimal, drop, length, replicate, if◌then◌else◌, Option, Some, MatchOption}
+use Rattle.std.specs.List.{flat_map, AllZip}
+use Rattle.std.specs.Result.{result_ok}
+use Rattle.std.specs.Io.KnownBytes.{Appends}
+use Rattle.std.specs.Fmt.{digits}
+use Rattle.hex.specs.Hex.{decode_of}
+use Rattle.cfd_bits.specs.Field.{field}
+use Rattle.cfdp_header.specs.declared.value.Header.{Header}
+use Rattle.cfdp_header.specs.declared.value.TransactionId.{TransactionId}
+use Rattle.cfdp_directives.specs.declared.error.PduError.{PduError}
+use Rattle.cfdp_directives.specs.Codes.{acknowledged_code, transaction_status_code}
+use Rattle.cfdp_directives.specs.declared.pdu.Pdu as pdus
+use Rattle.cfdp_directives.specs.declared.pdu.Pdu.TheVariants as pdu
+use Rattle.cfdp_directives.specs.Faults.{pdu_fault}
+use Rattle.cfdp_directives.specs.Content.{view}
+use Rattle.cfdp_directives.specs.Grammar.{SpellsPdu}
+use Rattle.aos_frame.specs.declared.header.FrameHeader.{FrameHeader}
+use Rattle.aos_frame.specs.declared.error.FrameError.{FrameError}
+use Rattle.aos_frame.specs.declared.config.LinkConfig.{LinkConfig}
+use Rattle.aos_frame.specs.Frame.{SpellsFrame, frame_fault}
+use Rattle.cfdp_node.specs.declared.dump.DumpKind.{DumpKind}
+use Rattle.cfdp_node.specs.declared.dump.DumpKind.TheVariants.{Pdus, Frames}
+use Rattle.cfdp_node.specs.declared.refusal.Refusal.TheVariants.{Hex, Pdu, Frame}
+use Rattle.cfdp_node.specs.Name.{printed_octet}
+use Rattle.cfdp_node.specs.Refusal.{refusal_text}
+use Rattle.cfdp_node.specs.Wording.{id_text, delivery_word, status_word}
+
+-- a number as eight upper-case hexadecimal digits
+abbrev pub hex_number_text : ℕ → List ℕ
+hex_number_text number = let numeral = digits 16 true number in replicate (8 - length numeral) 48 ++ numeral
+
+abbrev pub name_text : List ℕ → List ℕ
+name_text name = flat_map printed_octet name
+
+-- the word for this kind of PDU
+abbrev pub pdu_word : pdus.Pdu → List ℕ
+pdu_word (pdu.FileData offset bytes) = codes "data"
+pdu_word (pdu.Metadata kind size source destination options) = codes "metadata"
+pdu_word (pdu.Eof condition checksum size tlvs) = codes "eof"
+pdu_word (pdu.Finished condition delivery status tlvs) = codes "finished"
+pdu_word (pdu.Ack of condition status) = codes "ack"
+pdu_word (pdu.Nak start end pairs) = codes "nak"
+pdu_word (pdu.Prompt keep_alive) = codes "prompt"
+pdu_word (pdu.KeepAlive progress) = codes "keepalive"
+
+-- a range that a NAK asks for: its start and its end
+abbrev pub range_text : ℕ × ℕ → List ℕ
+range_text range = codes " " ++ (decimal range.0 ++ (codes "-" ++ decimal range.1))
+
+-- what a PDU says, but for its options: numbers in decimal digits, the checksum in hexadecimal ones, names as in the report
+abbrev pub fields_text : pdus.Pdu → List ℕ
+fields_text (pdu.FileData offset bytes) = decimal offset ++ codes " " ++ decimal (length bytes.now)
+fields_text (pdu.Metadata kind size source destination options) =
+    decimal kind ++ codes " " ++ decimal size ++ codes " " ++ name_text source.now ++ codes " " ++ name_text destination.now
+fields_text (pdu.Eof condition checksum size tlvs) = decimal condition ++ codes " " ++ hex_number_text checksum ++ codes " " ++ decimal size
+fields_text (pdu.Finished condition delivery status tlvs) = decimal condition ++ codes " " ++ delivery_word delivery ++ codes " " ++ status_word status
+fields_text (pdu.Ack of condition status) =
+    decimal (acknowledged_code of) ++ codes " " ++ decimal condition ++ codes " " ++ decimal (transaction_status_code status)
+fields_text (pdu.Nak start end pairs) = decimal start ++ codes " " ++ decimal end ++ flat_map range_text pairs
+fields_text (pdu.Prompt keep_alive) = if keep_alive then codes "keep" else codes "nak"
+fields_text (pdu.KeepAlive progress) = decimal progress
+
+-- a PDU of this transaction
+abbrev pub pdu_text : TransactionId → pdus.Pdu → List ℕ
+pdu_text id p = pdu_word p ++ codes " " ++ id_text id ++ codes " " ++ fields_text p
+
+-- a frame with this header and first header pointer
+abbrev pub frame_text : FrameHeader → ℕ → List ℕ
+frame_text h pointer =
+    codes "frame " ++ decimal h.spacecraft ++ codes " " ++ decimal h.channel ++ codes " " ++ decimal h.count ++ codes " " ++ decimal pointer
+
+-- an octet in front of the first line
+unfoldable pub onto_first_line : ℕ → List (List ℕ) → List (List ℕ)
+onto_first_line octet [] = (octet ∷ []) ∷ []
+onto_first_line octet (line ∷ rest) = (octet ∷ line) ∷ rest
+
+-- the lines of a text: each ends with a line feed, which the last needs not
+unfoldable pub lines : List ℕ → List (List ℕ)
+lines [] = []
+lines (octet ∷ rest) = if octet == 10 then [] ∷ lines rest else onto_first_line octet (lines rest)
+
+-- The octets are a PDU, and this text says which.
+pub record TellsPdu (octets text : List ℕ) : Type 0 where
+  pub header : Header
+  pub says : pdus.Pdu
+  pub spelled : SpellsPdu header (view says) octets
+  pub words : text ≡ pdu_text header.id says
+
+-- The octets are no PDU, and this text says why.
+pub record TellsPduFault (octets text : List ℕ) : Type 0 where
+  pub error : PduError
+  pub fault : pdu_fault octets ≡ Some error
+  pub words : text ≡ refusal_text (Pdu error)
+
+-- the link that the header of a frame names
+abbrev pub own_link : List ℕ → ℕ → LinkConfig
+own_link octets zone = record { spacecraft = field octets 2 8; channel = field octets 10 6; zone = zone; apid = 0 }
+
+-- The octets are a frame with a packet zone of so many octets, and this text says which. Behind the header stand 5 spare bits and the
+-- 11 bits of the first header pointer (CCSDS 732.0-B-4, 4.1.4.2).
+pub record TellsFrame (zone : ℕ) (octets text : List ℕ) : Type 0 where
+  pub header : FrameHeader
+  pub spelled : SpellsFrame (own_link octets zone) header octets
+  pub words : text ≡ frame_text header (field (drop 6 octets) 5 11)
+
+-- The octets are no such frame, and this text says why.
+pub record TellsFrameFault (zone : ℕ) (octets text : List ℕ) : Type 0 where
+  pub error : FrameError
+  pub fault : frame_fault octets (own_link octets zone) ≡ Some error
+  pub words : text ≡ refusal_text (Frame error)
+
+-- This text is written for these octets.
+abbrev pub TellsOctets : DumpKind → ℕ → List ℕ → List ℕ → Type 0
+TellsOctets Pdus zone octets text = TellsPdu octets text ⊎ TellsPduFault octets text
+TellsOctets Frames zone octets text = TellsFrame zone octets text ⊎ TellsFrameFault zone octets text
+
+-- the octets that a line's pairs of hexadecimal digits spell, in either case
+abbrev pub hex_octets : List ℕ → Option (List ℕ)
+hex_octets line = result_ok (decode_of line)
+
+-- This text is written for this line.
+abbrev pub TellsLine : DumpKind → ℕ → List ℕ → List ℕ → Type 0
+TellsLine kind zone line text = MatchOption (hex_octets line) (text ≡ refusal_text Hex) (λ octets. TellsOctets kind zone octets text)
+
+-- a text as a line
+abbrev pub as_line : List ℕ → List ℕ
+as_line text = text ++ 10 ∷ []
+
+-- One line was written, and its text is such.
+pub record WritesLine (P : List ℕ → Type 0) (old new : Option (List ℕ)) : Type 0 where
+  pub text : List ℕ
+  pub such : P text
+  pub written : Appends old new (as_line text)
+
+-- For each of these lines one line was written, whose text belongs to it.
+pub record WritesLines (P : List ℕ → List ℕ → Type 0) (lines_read : List (List ℕ)) (old new : Option (List ℕ)) : Type 0 where
+  pub texts : List (List ℕ)
+  pub each : AllZip P lines_read texts
+  pub written : Appends old new (flat_map as_line texts)

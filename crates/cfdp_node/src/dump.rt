@@ -1,0 +1,186 @@
+//! What lines of hexadecimal digits spell.
+ghost use Rattle.std.specs.Prelude.{◌≡◌, ◌≢◌, ◌⊎◌, ◌<◌, ◌≤◌, ◌∷◌, drop, length, IfOk, OnOk};
+ghost use Rattle.std.specs.Result.{result_err};
+ghost use Rattle.std.specs.Option.{option_map};
+ghost use Rattle.cfd_bits.specs.Field.{field};
+ghost use Rattle.aos_frame.specs.Frame.{SpellsFrame, frame_fault};
+ghost use Rattle.cfdp_node.specs.Dump.{hex_octets, own_link, TellsOctets, TellsLine, WritesLine, WritesLines};
+ghost use Rattle.cfdp_node.specs.Dump as dumps;
+
+use crate::dump_line::{FrameLine, PduLine};
+use crate::exit::Exit;
+use crate::input::read_script;
+use crate::refusal::Refusal;
+use crate::words::cut_at_first;
+use aos_frame::{FrameError, LinkConfig};
+use cfd_bits::get;
+use hex::FromHexError;
+use std::alloc::{AllocError, Global};
+use std::io;
+use std::io::{BufWriter, Read, Write};
+
+/// What the lines of a dump are to spell.
+#[derive(Clone, Copy, Debug, PartialEq, Eq)]
+pub enum DumpKind {
+    /// PDUs.
+    Pdus,
+    /// AOS transfer frames.
+    Frames,
+}
+
+/// Reads lines of hexadecimal digits to their end, and writes for each a line that says what it spells. Lines end with a line
+/// feed, which the last needs not; an empty line is no octets.
+///
+/// Frames have packet zones of `zone` octets, 16 to 2,040, and are told whatever their spacecraft and channel. Of PDUs `zone` says
+/// nothing.
+///
+/// The answer is `Complete` whatever the lines say, and `Device` where they couldn't be read, as `read_script` says, where a line
+/// couldn't be written, or where there was no memory. Nothing is written unless all was read.
+pub fn run_dump<R: Read + Drop, W: Write + Drop>(
+    alloc: Global,
+    kind: DumpKind,
+    zone: u16,
+    reader: R,
+    writer: W,
+) -> Exit
+    requires { (16 ≤ zone) × (zone ≤ 2040) }
+    ensures { (result ≡ Exit.Complete) ⊎ (result ≡ Exit.Device) }
+{
+    let Ok(text) = read_script(alloc, reader) else {
+        return Exit::Device;
+    };
+    let Ok(mut out) = BufWriter::new(alloc, writer) else {
+        return Exit::Device;
+    };
+    let written = write_dump(alloc, kind, zone, text.as_slice(), &mut out);
+    if written.is_err() || out.flush().is_err() {
+        return Exit::Device;
+    }
+    Exit::Complete
+}
+
+/// Writes a line for each line of the text.
+///
+/// # Errors
+///
+/// That of the writer, or `OutOfMemory`.
+fn write_dump<W: Write>(
+    alloc: Global,
+    kind: DumpKind,
+    zone: u16,
+    text: &[u8],
+    out: &mut W,
+) -> io::Result<()>
+    ensures { OnOk result (WritesLines (TellsLine kind zone) (dumps.lines text.now) (W.contents out.old) (W.contents out.new)) }
+{
+    let mut rest = text;
+    while !rest.is_empty() {
+        let (line, behind) = cut_line(rest);
+        write_line(alloc, kind, zone, line, out)?;
+        rest = behind;
+    }
+    Ok(())
+}
+
+/// The first line of a text, without its line feed, and the text behind it.
+fn cut_line(text: &[u8]) -> (&[u8], &[u8])
+    requires { 0 < length text.now }
+    ensures lines { dumps.lines text.now ≡ result.0.now ∷ dumps.lines result.1.now }
+    ensures shorter { length result.1.now < length text.now }
+{
+    let (line, behind) = cut_at_first(text, b'\n');
+    match behind {
+        Some(behind) => (line, behind),
+        None => (line, &text[text.len()..]),
+    }
+}
+
+/// Writes what one line spells.
+///
+/// # Errors
+///
+/// That of the writer, or `OutOfMemory`.
+fn write_line<W: Write>(
+    alloc: Global,
+    kind: DumpKind,
+    zone: u16,
+    line: &[u8],
+    out: &mut W,
+) -> io::Result<()>
+    ensures { OnOk result (WritesLine (TellsLine kind zone line.now) (W.contents out.old) (W.contents out.new)) }
+{
+    let Some(octets) = parse_hex_line(alloc, line)? else {
+        return writeln!(out, "{}", Refusal::Hex);
+    };
+    match kind {
+        DumpKind::Pdus => write_pdu(octets.as_slice(), out),
+        DumpKind::Frames => write_frame(octets.as_slice(), zone, out),
+    }
+}
+
+/// The octets that the line's pairs of hexadecimal digits spell, in either case. `None` where it has anything else.
+fn parse_hex_line(alloc: Global, line: &[u8]) -> Result<Option<Vec<u8>>, AllocError>
+    ensures { IfOk result (λ octets. option_map (λ v. v.items) octets ≡ hex_octets line.now) }
+{
+    match hex::decode(alloc, line) {
+        Ok(octets) => Ok(Some(octets)),
+        Err(FromHexError::OutOfMemory) => Err(AllocError),
+        Err(FromHexError::InvalidHexCharacter { .. }) => Ok(None),
+        Err(FromHexError::OddLength) => Ok(None),
+        Err(FromHexError::InvalidStringLength) => Ok(None),
+    }
+}
+
+/// Writes which PDU the octets are, or why they are none.
+fn write_pdu<W: Write>(octets: &[u8], out: &mut W) -> io::Result<()>
+    ensures { OnOk result (WritesLine (TellsOctets DumpKind.Pdus 0 octets.now) (W.contents out.old) (W.contents out.new)) }
+{
+    match cfdp_directives::decode(octets) {
+        Ok((header, pdu)) => writeln!(
+            out,
+            "{}",
+            PduLine {
+                id: header.id,
+                pdu: &pdu
+            }
+        ),
+        Err(error) => writeln!(out, "{}", Refusal::Pdu(error)),
+    }
+}
+
+/// Writes which frame the octets are, or why they are none.
+fn write_frame<W: Write>(octets: &[u8], zone: u16, out: &mut W) -> io::Result<()>
+    ensures { OnOk result (WritesLine (TellsOctets DumpKind.Frames zone octets.now) (W.contents out.old) (W.contents out.new)) }
+{
+    match read_frame(octets, zone) {
+        Ok(frame) => writeln!(out, "{frame}"),
+        Err(error) => writeln!(out, "{}", Refusal::Frame(error)),
+    }
+}
+
+/// The frame that the octets are, of the link that its own header names.
+///
+/// # Errors
+///
+/// `Length`, `Version`, `OtherProfile` or `OnlyIdle`, the first that holds: the frame is never one of another link.
+fn read_frame(octets: &[u8], zone: u16) -> Result<FrameLine, FrameError>
+    ensures found { IfOk result (λ frame. SpellsFrame (own_link octets.now zone) frame.header octets.now) }
+    ensures pointer { IfOk result (λ frame. frame.pointer ≡ field (drop 6 octets.now) 5 11) }
+    ensures refused { result_err result ≡ frame_fault octets.now (own_link octets.now zone) }
+    ensures own { (result_err result ≢ Some FrameError.OtherSpacecraft) × (result_err result ≢ Some FrameError.OtherChannel) }
+{
+    if octets.len() < 2 {
+        return Err(FrameError::Length);
+    }
+    let link = LinkConfig {
+        spacecraft: get(octets, 2, 8) as u8,
+        channel: get(octets, 10, 6) as u8,
+        zone,
+        apid: 0,
+    };
+    let (header, rest) = aos_frame::decode(octets, &link)?;
+    Ok(FrameLine {
+        header,
+        pointer: get(rest, 5, 11),
+    })
+}
