@@ -1,4 +1,4 @@
-ghost use Rattle.std.specs.Prelude.{IfOk};
+ghost use Rattle.std.specs.Prelude.{◌≢◌, IfOk};
 ghost use Rattle.cfdp_node.specs.Request.{HasZone};
 
 use crate::dump::DumpKind;
@@ -99,7 +99,8 @@ fn parse<'a>(alloc: Global, words: &'a [String]) -> Result<Request, Error>
 
 /// What the words behind `dump` ask for. The parser has refused all others.
 fn dump_request(arguments: &ArgMatches<'_>) -> Request
-    ensures { HasZone result }
+    ensures dumps { result ≢ Request.Sim }
+    ensures zone { HasZone result }
 {
     let kind = match arguments.get_str("kind") {
         Some("frames") => DumpKind::Frames,

@@ -1,5 +1,5 @@
 //! What lines of hexadecimal digits spell.
-ghost use Rattle.std.specs.Prelude.{◌≡◌, ◌≢◌, ◌⊎◌, ◌<◌, ◌≤◌, ◌∷◌, drop, length, IfOk, OnOk};
+ghost use Rattle.std.specs.Prelude.{◌≡◌, ◌≢◌, ◌⊎◌, ◌<◌, ◌≤◌, ◌∷◌, drop, length, IfOk, IfSome, OnOk};
 ghost use Rattle.std.specs.Result.{result_err};
 ghost use Rattle.std.specs.Option.{option_map};
 ghost use Rattle.cfd_bits.specs.Field.{field};
@@ -46,17 +46,33 @@ pub fn run_dump<R: Read + Drop, W: Write + Drop>(
     requires { (16 ≤ zone) × (zone ≤ 2040) }
     ensures { (result ≡ Exit.Complete) ⊎ (result ≡ Exit.Device) }
 {
-    let Ok(text) = read_script(alloc, reader) else {
-        return Exit::Device;
-    };
     let Ok(mut out) = BufWriter::new(alloc, writer) else {
         return Exit::Device;
     };
-    let written = write_dump(alloc, kind, zone, text.as_slice(), &mut out);
+    let written = dump_all(alloc, kind, zone, reader, &mut out);
     if written.is_err() || out.flush().is_err() {
         return Exit::Device;
     }
     Exit::Complete
+}
+
+/// Writes a line for each line that the reader gives.
+///
+/// # Errors
+///
+/// Those of `read_script`, after which nothing is written, and of `write_dump`.
+fn dump_all<R: Read + Drop, W: Write>(
+    alloc: Global,
+    kind: DumpKind,
+    zone: u16,
+    reader: R,
+    out: &mut W,
+) -> io::Result<()>
+    ensures { OnOk result (IfSome (R.remaining reader)
+        (λ text. WritesLines (TellsLine kind zone) (dumps.lines text) (W.contents out.old) (W.contents out.new))) }
+{
+    let text = read_script(alloc, reader)?;
+    write_dump(alloc, kind, zone, text.as_slice(), out)
 }
 
 /// Writes a line for each line of the text.
