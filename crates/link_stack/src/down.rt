@@ -7,7 +7,7 @@ ghost use Rattle.link_stack.specs.Frames.{packet_of, frame_of};
 ghost use Rattle.link_stack.specs.Downward.{packing, IsDown};
 ghost use Rattle.link_stack.specs.Downward as downward;
 
-use crate::MPDU_HEADER_LEN;
+use crate::{MPDU_HEADER_LEN, PACKET_HEADER_LEN, UNSEGMENTED};
 use aos_frame::{FrameHeader, LinkConfig, VcCounter};
 use cfd_bits::put_uint;
 use mpdu::{Full, Packer};
@@ -15,14 +15,8 @@ use space_packet::{Counter, Packet};
 use std::alloc::{AllocError, Global};
 use std::marker::Model;
 
-/// Octets of a packet's primary header (CCSDS 133.0-B-2, 4.1.3).
-const PACKET_HEADER_LEN: usize = 6;
-
 /// Octets of a frame's primary header (CCSDS 732.0-B-4, 4.1.2).
 const FRAME_HEADER_LEN: usize = 6;
-
-/// The sequence flags of an unsegmented packet (CCSDS 133.0-B-2, 4.1.3.4.2).
-const UNSEGMENTED: u8 = 3;
 
 /// The sending end of one direction of a link: each PDU in a packet of its own, the packets end to end over frames.
 ///

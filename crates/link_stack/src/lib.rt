@@ -22,3 +22,9 @@ pub use up::Up;
 
 /// Octets of the M_PDU header, in front of the packet zone (CCSDS 732.0-B-4, 4.1.4.2).
 const MPDU_HEADER_LEN: usize = 2;
+
+/// Octets of a packet's primary header (CCSDS 133.0-B-2, 4.1.3).
+const PACKET_HEADER_LEN: usize = 6;
+
+/// The sequence flags of an unsegmented packet (CCSDS 133.0-B-2, 4.1.3.4.2).
+const UNSEGMENTED: u8 = 3;

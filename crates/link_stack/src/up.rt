@@ -12,19 +12,13 @@ ghost use Rattle.link_stack.specs.Upward as upward;
 ghost use Rattle.link_stack.specs.Upward.{AreLong, pdus_of, drops_of, zone_drops, ReadsFront, HasZone, zone_read, frame_read, Takes, TakesFront, IsUp, IsNextFrame, TakesNext, TakesPart};
 ghost use Rattle.link_stack.specs.declared.drops.LinkDrop.TheVariants.{BadPacket, NoMemory};
 
-use crate::MPDU_HEADER_LEN;
 use crate::drops::LinkDrop;
+use crate::{MPDU_HEADER_LEN, PACKET_HEADER_LEN, UNSEGMENTED};
 use aos_frame::{Continuity, FrameError, LinkConfig, VcMonitor, decode};
 use cfd_bits::get;
 use mpdu::{Notes, ONLY_IDLE, Reassembler};
 use std::alloc::{AllocError, Global};
 use std::marker::Model;
-
-/// Octets of a packet's primary header (CCSDS 133.0-B-2, 4.1.3).
-const PACKET_HEADER_LEN: usize = 6;
-
-/// The sequence flags of an unsegmented packet (CCSDS 133.0-B-2, 4.1.3.4.2).
-const UNSEGMENTED: u64 = 3;
 
 /// The causes that drops are counted under.
 const CAUSES: usize = 11;
@@ -109,7 +103,7 @@ fn packet_drop_of(link: &LinkConfig, packet: &[u8]) -> Option<LinkDrop>
     if get(packet, 5, 11) != u64::from(link.apid) {
         return Some(LinkDrop::OtherApid);
     }
-    if get(packet, 16, 2) != UNSEGMENTED || get(packet, 4, 1) != 0 {
+    if get(packet, 16, 2) != u64::from(UNSEGMENTED) || get(packet, 4, 1) != 0 {
         return Some(LinkDrop::Segmented);
     }
     None

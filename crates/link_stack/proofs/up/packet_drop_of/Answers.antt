@@ -7,9 +7,9 @@ pub returns-then-get-from : goal.returns-then-get-from
 unfolding packet_drop
 returns-then-get-from c = first_of (search rules, grind (arith, common_steps))
 
-pub returns-then-get-ne-UNSEGMENTED : goal.returns-then-get-ne-UNSEGMENTED
+pub returns-then-get-from-2 : goal.returns-then-get-from-2
 unfolding packet_drop
-returns-then-get-ne-UNSEGMENTED c = first_of (search rules, grind (arith, common_steps))
+returns-then-get-from-2 c = first_of (search rules, grind (arith, common_steps))
 
 pub returns : goal.returns
 unfolding packet_drop
