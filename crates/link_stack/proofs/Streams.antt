@@ -1,6 +1,7 @@
 -- The frames of a stream, taken in order.
 use Rattle.std.proofs.Common.{◌≡◌, ℕ, zero, suc, ◌+◌, ◌-◌, ◌*◌, ◌%◌, ◌<◌, ◌≤◌, ◌==◌, ◌&&◌, not, if◌then◌else◌, Bool, true, false, Option, Some, None, IfSome, List, [], ◌∷◌, ◌++◌, ◌⊎◌, length, take, drop, map, refl, sym, ap, subst, ◌∙◌, inl, inr, arith, length-append}
 use Rattle.std.proofs.lemmas.Bool.{cases_Bool}
+use Rattle.std.proofs.lemmas.List.{append_assoc, map-append}
 use Rattle.cfd_bits.specs.Field.{field}
 use Rattle.aos_frame.specs.Counts.{frame_counts}
 use Rattle.aos_frame.specs.Frame.{IsLink, frame_fault}
@@ -155,3 +156,15 @@ taken_either whole up new ps marks missed frame old out valid byte is next all f
       | inl e ↦ inl (next_taken up new ps marks missed frame old out is r (all e))
       | inr e ↦ inr (part_taken up new ps marks missed frame old out (omega (arith, valid.least_zone)) is r (front e).1)
     ]
+
+-- all that was appended
+pub all_given : (up new : Ascent) (ps : List (List ℕ)) (marks : List Bool) (missed : ℕ) (first old out : List (List ℕ)) → old ≡ first ++ pdus_in (survivors up.link.zone marks 0 ps) →
+    TakesNext up new ps marks missed old out ⊎ TakesPart up new ps marks old out →
+    (out ≡ first ++ pdus_in (survivors up.link.zone (marks ++ true ∷ []) 0 ps)) ⊎ (new.drops ≡ counted up.drops NoMemory)
+all_given up new ps marks missed first old out so_far (inl t) =
+    let before : List (List ℕ) = survivors up.link.zone marks 0 ps in
+    inl (
+    t.pdus ∙ ap (λ l. l ++ pdus_in t.added) so_far ∙ append_assoc first (pdus_in before) (pdus_in t.added)
+    ∙ ap (λ l. first ++ l) (sym (map-append (λ p. drop 6 p) before t.added) ∙ ap pdus_in (sym t.completed))
+    )
+all_given up new ps marks missed first old out so_far (inr t) = inr t.drops

@@ -4,12 +4,12 @@ ghost use Rattle.cfd_bits.specs.Field.{field};
 ghost use Rattle.aos_frame.specs.Frame.{IsLink};
 ghost use Rattle.mpdu.specs.Feeding.{octets_of_each};
 ghost use Rattle.mpdu.specs.Reading.{step, held_at, resync, bad_count};
-ghost use Rattle.mpdu.specs.Stream.{ArePackets};
+ghost use Rattle.mpdu.specs.Stream.{ArePackets, survivors};
 ghost use Rattle.link_stack.specs.Frames.{packet_drop, AreOfLink};
 ghost use Rattle.link_stack.specs.Drops.{raised, counted, all_counted, count_of};
 ghost use Rattle.aos_frame.specs.Counts.{frame_counts};
 ghost use Rattle.link_stack.specs.Upward as upward;
-ghost use Rattle.link_stack.specs.Upward.{AreLong, pdus_of, drops_of, zone_drops, ReadsFront, HasZone, zone_read, frame_read, Takes, TakesFront, IsUp, IsNextFrame, TakesNext, TakesPart};
+ghost use Rattle.link_stack.specs.Upward.{AreLong, pdus_of, drops_of, zone_drops, ReadsFront, HasZone, zone_read, frame_read, Takes, TakesFront, IsUp, IsNextFrame, TakesNext, TakesPart, pdus_in};
 ghost use Rattle.link_stack.specs.declared.drops.LinkDrop.TheVariants.{BadPacket, NoMemory};
 
 use crate::drops::LinkDrop;
@@ -180,8 +180,6 @@ pub struct Up {
 
 impl Model for Up {
     ghost use Rattle.aos_frame.specs.Frame.{IsLink};
-    ghost use Rattle.aos_frame.specs.Counts.{frame_counts};
-    ghost use Rattle.link_stack.specs.Upward as upward;
     ghost use Rattle.link_stack.specs.Upward.{Ascent};
 
     ghost Value = { Ascent };
@@ -289,6 +287,10 @@ impl Up {
         ensures stream { (ps : List (List ℕ)) (marks : List Bool) (missed : ℕ) → IsUp self.old ps marks missed → IsNextFrame self.old.link ps marks frame.now →
             TakesNext self.old self.new ps marks missed (octets_of_each out.old.items) (octets_of_each out.new.items)
             ⊎ TakesPart self.old self.new ps marks (octets_of_each out.old.items) (octets_of_each out.new.items) }
+        // So where all that was appended are the PDUs of the survivors of the frames so far, that is so of this frame too, unless it found no memory.
+        ensures survivors { (ps : List (List ℕ)) (marks : List Bool) (missed : ℕ) (first : List (List ℕ)) → IsUp self.old ps marks missed → IsNextFrame self.old.link ps marks frame.now →
+            octets_of_each out.old.items ≡ first ++ pdus_in (survivors self.old.link.zone marks 0 ps) →
+            (octets_of_each out.new.items ≡ first ++ pdus_in (survivors self.old.link.zone (marks ++ true ∷ []) 0 ps)) ⊎ (self.new.drops ≡ counted self.old.drops NoMemory) }
     {
         let _ = &self.link;
         let _whole = self.read_frame(frame, out);
