@@ -20,16 +20,6 @@ pub told_follows : (last : Option ℕ) (count : ℕ) → count < frame_counts �
 told_follows None count h told = refl
 told_follows (Some l) count h told = let n = some_missing l count h in follows_so l count n.0 n.1 (told n.0 n.1)
 
-pub told_gap : (last : Option ℕ) (count gap : ℕ) → count < frame_counts → (last ≡ None → Gap gap ≡ Follows) → IfSome last (λ l. (n : ℕ) → AreMissing l count n → Gap gap ≡ continuity n) → false ≡ follows last count
-told_gap None count gap h first told = absurd (let e : Gap gap ≡ Follows = first refl in cc)
-told_gap (Some l) count gap h first told =
-    elim (cases_Bool ((l + 1) % frame_counts == count)) [
-      | inl e ↦ absurd (
-          let same : (l + 1) % frame_counts ≡ count = eqb-true _ _ e in
-          let bad : Gap gap ≡ Follows = told 0 (record { below = omega arith; reached = omega (arith, same) }) in cc)
-      | inr e ↦ sym e
-    ]
-
 nothing_held : (a b : Bool) → held_at a [] ≡ held_at b []
 nothing_held true true = refl
 nothing_held true false = refl

@@ -27,15 +27,6 @@ skip_more (suc n) at xs h room =
     rw (lt-ltb at (suc n) h, le-leb (at + 6) (length xs) room)
     (skip_same n (suc n) (suc n) (at + header_len (drop at xs)) xs (omega (arith, header_len-long (drop at xs))) (omega arith))
 
-pub skip_ends : (z at : ℕ) (xs : List ℕ) → z ≤ at → skip z z at xs ≡ at
-skip_ends zero at xs h = refl
-skip_ends (suc n) at xs h = rw (le-ltb at (suc n) h) refl
-
-pub skip_short : (z at : ℕ) (xs : List ℕ) → length xs < at + 6 → skip z z at xs ≡ at
-skip_short zero at xs h = refl
-skip_short (suc n) at xs h =
-    elim (cases_lt at (suc n)) [ inl c ↦ rw (lt-ltb at (suc n) c, lt-leb (at + 6) (length xs) h) refl | inr c ↦ rw (le-ltb at (suc n) c) refl ]
-
 next_start-at : (e a : ℕ) (ps : List (List ℕ)) → e ≤ a → next_start e a ps ≡ a - e
 next_start-at e a [] h = refl
 next_start-at e a (p ∷ ps) h = rw (le-leb e a h) refl
@@ -175,12 +166,6 @@ zone_is p ps taken at octets whole h ha ho =
 pub idle_is : (n : ℕ) → 7 ≤ n → n ≤ 2046 → IsPacket (idle_packet n)
 unfolding idle_packet
 idle_is n lo hi = record { parts = idle n; spelled = written_packet_is_read (idle n) (idle_is_writable n lo (omega arith)) }
-
-pub length-idle : (n : ℕ) → 7 ≤ n → n ≤ 2046 → length (idle_packet n) ≡ n
-unfolding idle_packet
-length-idle n lo hi =
-    let spelled : SpellsPacket (idle n) (packet_octets (idle n)) = written_packet_is_read (idle n) (idle_is_writable n lo (omega arith)) in
-    omega (arith, spelled.size, length-replicate {A = ℕ} (n - 6) 0)
 
 pub idle_len-low : (free : ℕ) → 7 ≤ idle_len free
 idle_len-low free = elim (cases_lt free 7) [ inl c ↦ rw (lt-leb 7 free c) (omega arith) | inr c ↦ rw (le-leb 7 free c) c ]
