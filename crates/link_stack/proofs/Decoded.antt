@@ -1,12 +1,12 @@
 -- A frame of a stream, read again.
-use Rattle.std.proofs.Common.{◌≡◌, ℕ, zero, suc, ◌+◌, ◌-◌, ◌*◌, ◌/◌, ◌%◌, ◌^◌, ◌<◌, ◌≤◌, ◌==◌, nat_le, nat_lt, inl, inr, Bool, true, false, Option, None, List, [], ◌∷◌, ◌++◌, length, take, drop, refl, sym, ap, subst, ◌∙◌, arith, length-take, length-drop, length-append}
+use Rattle.std.proofs.Common.{◌≡◌, ℕ, ◌+◌, ◌-◌, ◌*◌, ◌/◌, ◌%◌, ◌^◌, ◌<◌, ◌≤◌, ◌==◌, nat_le, nat_lt, inl, inr, true, false, None, List, [], ◌∷◌, ◌++◌, length, drop, refl, sym, ap, subst, ◌∙◌, arith, length-take, length-drop, length-append}
 use Rattle.std.proofs.lemmas.Bool.{eq-eqb, ne_eqb, lt-ltb, le-ltb, le-leb, lt-leb, cases_lt}
 use Rattle.std.proofs.lemmas.List.{drop_at}
 use Rattle.cfd_bits.specs.Field.{field, octets}
 use Rattle.cfd_bits.proofs.Fields.{length-octets}
 use Rattle.cfd_bits.proofs.BitFields.{field_of_octets}
 use Rattle.aos_frame.specs.Counts.{frame_counts}
-use Rattle.aos_frame.specs.Frame.{IsLink, SpellsFrame, frame_fault, frame_octets}
+use Rattle.aos_frame.specs.Frame.{IsLink, SpellsFrame, frame_fault}
 use Rattle.aos_frame.specs.declared.config.LinkConfig.{LinkConfig}
 use Rattle.aos_frame.specs.declared.header.FrameHeader.{FrameHeader}
 use Rattle.aos_frame.proofs.Spelling.{written_frame_is_read}

@@ -1,9 +1,8 @@
 -- What the monitor of frame counts tells.
-use Rattle.std.proofs.Common.{◌≡◌, ◌≢◌, ℕ, zero, suc, ◌+◌, ◌-◌, ◌%◌, ◌<◌, ◌==◌, ◌&&◌, not, Bool, true, false, List, [], Option, Some, None, IfSome, refl, sym, ap, subst, ◌∙◌, inl, inr, arith}
-use Rattle.std.proofs.lemmas.Bool.{cases_Bool, eq-eqb, eqb-true, ne_eqb}
+use Rattle.std.proofs.Common.{◌≡◌, ◌≢◌, ℕ, zero, suc, ◌+◌, ◌-◌, ◌%◌, ◌<◌, ◌==◌, ◌&&◌, not, Bool, true, false, List, [], Option, Some, None, IfSome, refl, sym, ap, ◌∙◌, arith}
+use Rattle.std.proofs.lemmas.Bool.{eq-eqb, ne_eqb}
 use Rattle.aos_frame.specs.Counts.{frame_counts, AreMissing, continuity}
-use Rattle.aos_frame.specs.declared.count.Continuity.{Continuity}
-use Rattle.aos_frame.specs.declared.count.Continuity.TheVariants.{Follows, Gap}
+use Rattle.aos_frame.specs.declared.count.Continuity.TheVariants.{Follows}
 use Rattle.mpdu.specs.Reading.{held_at, is_some}
 use Rattle.link_stack.specs.Upward.{follows}
 

@@ -1,5 +1,5 @@
 -- The frames of a stream, taken in order.
-use Rattle.std.proofs.Common.{◌≡◌, ℕ, zero, suc, ◌+◌, ◌-◌, ◌*◌, ◌%◌, ◌<◌, ◌≤◌, ◌==◌, ◌&&◌, not, if◌then◌else◌, Bool, true, false, Option, Some, None, IfSome, List, [], ◌∷◌, ◌++◌, ◌⊎◌, length, take, drop, map, refl, sym, ap, subst, ◌∙◌, inl, inr, arith, length-append}
+use Rattle.std.proofs.Common.{◌≡◌, ℕ, zero, suc, ◌+◌, ◌-◌, ◌*◌, ◌%◌, ◌<◌, ◌≤◌, ◌==◌, ◌&&◌, not, if◌then◌else◌, Bool, true, false, Option, Some, None, IfSome, List, [], ◌∷◌, ◌++◌, ◌⊎◌, length, take, drop, refl, sym, ap, subst, ◌∙◌, inl, inr, arith, length-append}
 use Rattle.std.proofs.lemmas.Bool.{cases_Bool}
 use Rattle.std.proofs.lemmas.List.{append_assoc, map-append}
 use Rattle.cfd_bits.specs.Field.{field}
@@ -16,7 +16,7 @@ use Rattle.mpdu.proofs.Struck.{begun-struck}
 use Rattle.link_stack.specs.declared.drops.LinkDrop.TheVariants.{NoMemory}
 use Rattle.link_stack.specs.Frames.{packet_drop, AreOfLink}
 use Rattle.link_stack.specs.Drops.{counted, all_counted}
-use Rattle.link_stack.specs.Upward.{Ascent, FrameRead, pdus_of, drops_of, with_pdu, with_drop, zone_drops, follows, idle_read, packets_read, read_unless, frame_read, Takes, TakesFront, ReadsFront, HasZone, IsUp, IsNextFrame, TakesNext, TakesPart, pdus_in}
+use Rattle.link_stack.specs.Upward.{Ascent, FrameRead, pdus_of, drops_of, with_pdu, with_drop, zone_drops, follows, idle_read, packets_read, read_unless, frame_read, Takes, TakesFront, HasZone, IsUp, IsNextFrame, TakesNext, TakesPart, pdus_in}
 use Rattle.link_stack.proofs.Decoded.{IsDecoded, decoded}
 use Rattle.link_stack.proofs.Following.{held_follows}
 

@@ -1,7 +1,7 @@
-use Rattle.std.proofs.Common.{◌≡◌, ℕ, ◌∷◌, [], ◌≤◌, List, length, drop, suc, slice_index_or, refl, arith}
+use Rattle.std.proofs.Common.{◌≡◌, ℕ, ◌∷◌, [], ◌≤◌, List, drop, suc, slice_index_or, refl, arith}
 use Rattle.std.proofs.lemmas.List.{length-map}
 use Rattle.mpdu.specs.Feeding.{octets_of_each}
-use Rattle.link_stack.proofs.Unpacked.{at_place, unpacked_one, unpacked_all}
+use Rattle.link_stack.proofs.Unpacked.{at_place, unpacked_one}
 use Rattle.link_stack.proofs.up.unpack.Goals as goal
 
 pub loop-place-init : goal.loop-place-init

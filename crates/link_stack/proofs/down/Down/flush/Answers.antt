@@ -1,4 +1,4 @@
-use Rattle.std.proofs.Common.{◌≡◌, ◌++◌, refl, sym, ap, subst, ◌∙◌, arith}
+use Rattle.std.proofs.Common.{◌≡◌, ◌++◌, sym, ap, subst, ◌∙◌, arith}
 use Rattle.mpdu.specs.Packing.{Packing, IsAt, flush_of}
 use Rattle.link_stack.specs.Downward.{packing}
 use Rattle.link_stack.proofs.Sent.{flushed_of_link, same_packing, at_of, down_is}

@@ -1,9 +1,8 @@
-use Rattle.std.proofs.Common.{◌≡◌, ℕ, ◌+◌, ◌*◌, ◌≤◌, ◌%◌, ◌++◌, List, length, drop, take, ap, sym, subst, ◌∙◌, arith}
+use Rattle.std.proofs.Common.{◌≡◌, ℕ, ◌+◌, ◌*◌, ◌≤◌, ◌%◌, ◌++◌, length, drop, take, ap, sym, subst, ◌∙◌, arith}
 use Rattle.cfd_bits.specs.Field.{octets}
 use Rattle.aos_frame.specs.Counts.{frame_counts}
 use Rattle.aos_frame.specs.Frame.{frame_octets}
 use Rattle.aos_frame.specs.declared.config.LinkConfig.{LinkConfig}
-use Rattle.aos_frame.specs.declared.header.FrameHeader.{FrameHeader}
 use Rattle.mpdu.specs.Stream.{stream}
 use Rattle.mpdu.specs.Packing.{IsAt, ZoneOf}
 use Rattle.link_stack.specs.Frames.{frame_of}
