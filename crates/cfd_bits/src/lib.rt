@@ -116,25 +116,27 @@ pub fn write_uint(out: &mut [u8], count: usize, value: u64)
     }
 }
 
-/// Writes the number into `count` octets (0 to 8) from octet `at` on, the most significant first, and says where they end.
-///
-/// What is said of the octets up to there is all that is said: so a codec writes one part behind another.
+/// Writes the number into `count` octets (0 to 8) from octet `at` on, the most significant first, and says where they end: so a codec
+/// writes one part behind another. The octets before and behind stay.
 pub fn put_uint(out: &mut [u8], at: usize, count: usize, value: u64) -> usize
     requires room { at + count ≤ length out.old }
     requires narrow { count ≤ 8 }
     requires fits { value < 256 ^ count }
     ensures end { result ≡ at + count }
     ensures front { take result out.new ≡ take at out.old ++ octets count value }
+    ensures behind { drop result out.new ≡ drop result out.old }
 {
-    write_uint(&mut out[at..], count, value);
-    at + count
+    let end = at + count;
+    write_uint(&mut out[at..end], count, value);
+    end
 }
 
-/// Writes the octets from octet `at` on, and says where they end. What is said of the octets up to there is all that is said.
+/// Writes the octets from octet `at` on, and says where they end. The octets before and behind stay.
 pub fn put_bytes(out: &mut [u8], at: usize, bytes: &[u8]) -> usize
     requires room { at + length bytes.now ≤ length out.old }
     ensures end { result ≡ at + length bytes.now }
     ensures front { take result out.new ≡ take at out.old ++ bytes.now }
+    ensures behind { drop result out.new ≡ drop result out.old }
 {
     let end = at + bytes.len();
     out[at..end].copy_from_slice(bytes);

@@ -7,7 +7,8 @@ use Rattle.std.proofs.lemmas.Bool.{le-ltb, le-leb}
 use Rattle.std.proofs.Common.{zero, suc}
 use Rattle.std.proofs.lemmas.List.{take_at, drop_at}
 use Rattle.cfdp_header.specs.declared.value.Header.{Header}
-use Rattle.cfdp_header.specs.Header.{flag, header_len_told, header_len}
+use Rattle.cfdp_header.specs.Header.{header_len_told, header_len}
+use Rattle.cfd_bits.specs.Field.{flag}
 use Rattle.cfdp_header.proofs.Laws as header
 use Rattle.cfdp_directives.specs.declared.codes.Delivery.{Delivery}
 use Rattle.cfdp_directives.specs.declared.codes.Delivery.TheVariants.{Complete, Incomplete}

@@ -9,7 +9,8 @@ use Rattle.cfdp_header.specs.declared.value.TransactionId.{TransactionId}
 use Rattle.cfdp_directives.specs.declared.indication.Indication.{Indication}
 use Rattle.cfdp_directives.specs.Content.{Content}
 use Rattle.cfdp_directives.specs.Grammar.{SpellsPdu}
-use Rattle.cfdp_directives.specs.Put.{Put, Files, SomePdu, IsMetadataOf, IsEofOf, Brings, HeardInFull, overwritten, inbox_after}
+use Rattle.cfdp_directives.specs.Put.{Put, SomePdu, IsMetadataOf, IsEofOf, Brings, HeardInFull, overwritten, inbox_after}
+use Rattle.cfdp_header.specs.Files.{FileMap}
 use Rattle.cfdp_directives.specs.Completions.{completion, completions, is_finished}
 
 -- ---- some element
@@ -84,6 +85,6 @@ Contains-append_right xs ys x a =
 
 -- ---- the inbox
 
-pub inbox_after-append : (put_of : TransactionId → Option Put) (first : Files) (old new : List TransactionId) → inbox_after put_of first (old ++ new) ≡ inbox_after put_of (inbox_after put_of first old) new
+pub inbox_after-append : (put_of : TransactionId → Option Put) (first : FileMap) (old new : List TransactionId) → inbox_after put_of first (old ++ new) ≡ inbox_after put_of (inbox_after put_of first old) new
 inbox_after-append put_of first [] new = refl
 inbox_after-append put_of first (id ∷ old) new = inbox_after-append put_of (overwritten first (put_of id)) old new

@@ -3,10 +3,10 @@ use Rattle.std.proofs.Common.{◌≡◌, ℕ, ◌+◌, ◌*◌, ◌/◌, ◌%◌
 use Rattle.std.specs.List.{flat_map, AllByRecursion}
 use Rattle.std.proofs.lemmas.List.{drop_at, drop-drop, length-take-le}
 use Rattle.std.proofs.lemmas.List.Concat.{flat_map-cons}
-use Rattle.cfd_bits.specs.Field.{field, octets}
+use Rattle.cfd_bits.specs.Field.{field, octets, flag}
 use Rattle.cfd_bits.proofs.Fields.{field_between, field_in_octet}
 use Rattle.cfdp_header.specs.declared.value.Header.{Header}
-use Rattle.cfdp_header.specs.Header.{header_len, header_octets, flag}
+use Rattle.cfdp_header.specs.Header.{header_len, header_octets}
 use Rattle.cfdp_header.proofs.Laws as header
 use Rattle.cfdp_directives.specs.declared.codes.Delivery.{Delivery}
 use Rattle.cfdp_directives.specs.declared.codes.Delivery.TheVariants.{Complete, Incomplete}

@@ -2,6 +2,7 @@
 use Rattle.std.specs.Prelude.{◌≡◌, ◌==◌, ℕ, ◌≤◌, Bool, false, ◌&&◌, not, List, [], ◌∷◌, count_by, Contains, if◌then◌else◌}
 use Rattle.std.specs.List.{flat_map}
 use Rattle.cfdp_header.specs.declared.value.TransactionId.{TransactionId}
+use Rattle.cfdp_header.specs.Ids.{same_id}
 use Rattle.cfdp_directives.specs.declared.codes.Delivery.{Delivery}
 use Rattle.cfdp_directives.specs.declared.codes.Delivery.TheVariants.{Complete, Incomplete}
 use Rattle.cfdp_directives.specs.declared.codes.FileStatus.{FileStatus}
@@ -9,10 +10,6 @@ use Rattle.cfdp_directives.specs.declared.codes.FileStatus.TheVariants.{Discarde
 use Rattle.cfdp_directives.specs.declared.indication.Indication.{Indication}
 use Rattle.cfdp_directives.specs.declared.indication.Indication.TheVariants.{Transaction, EofSent, MetadataRecv, EofRecv, Finished, Fault}
 use Rattle.cfdp_directives.specs.Codes.{no_error}
-
--- whether two ids are the same
-abbrev pub same_id : TransactionId → TransactionId → Bool
-same_id a b = (a.source == b.source) && (a.number == b.number)
 
 -- whether a Finished says that the file was delivered: no error, complete, retained
 abbrev pub is_complete : ℕ → Delivery → FileStatus → Bool

@@ -1,9 +1,9 @@
 -- Which octets are which PDU, by the bit fields of the standard's tables. Spare bits are in no line: they are read as anything.
 use Rattle.std.specs.Prelude.{◌≡◌, ℕ, ◌+◌, ◌*◌, ◌≤◌, Bool, true, false, List, ◌∷◌, ◌++◌, length, drop, if◌then◌else◌}
 use Rattle.std.specs.List.{flat_map}
-use Rattle.cfd_bits.specs.Field.{field}
+use Rattle.cfd_bits.specs.Field.{field, flag}
 use Rattle.cfdp_header.specs.declared.value.Header.{Header}
-use Rattle.cfdp_header.specs.Header.{SpellsHeader, header_len, flag}
+use Rattle.cfdp_header.specs.Header.{SpellsHeader, header_len}
 use Rattle.cfdp_directives.specs.declared.codes.Delivery.{Delivery}
 use Rattle.cfdp_directives.specs.declared.codes.FileStatus.{FileStatus}
 use Rattle.cfdp_directives.specs.declared.codes.TransactionStatus.{TransactionStatus}

@@ -1,18 +1,13 @@
 -- A put, the PDUs that tell the truth about it, and when it was heard in full.
 use Rattle.std.specs.Prelude.{◌≡◌, ℕ, ◌+◌, ◌<◌, ◌≤◌, List, [], ◌∷◌, length, take, drop, Option, Some, None, Any}
-use Rattle.std.specs.Ordering.{nat_cmp}
-use Rattle.std.specs.Cmp.Lexicographic.{slice_cmp}
-use Rattle.std.specs.FinMap.{FinMap, insert}
+use Rattle.std.specs.FinMap.{insert}
 use Rattle.cfdp_header.specs.declared.value.Header.{Header}
 use Rattle.cfdp_header.specs.declared.value.TransactionId.{TransactionId}
+use Rattle.cfdp_header.specs.Files.{FileMap}
 use Rattle.cfdp_directives.specs.Codes.{no_error}
 use Rattle.cfdp_directives.specs.Content.{Content, FileData, Metadata, Eof, Finished, Ack, Nak, Prompt, KeepAlive}
 use Rattle.cfdp_directives.specs.Grammar.{SpellsPdu}
 use Rattle.cfdp_directives.specs.Checksum.{checksum_of}
-
--- files by their names
-abbrev pub Files : Type 0
-Files = FinMap (slice_cmp nat_cmp) (List ℕ)
 
 -- An accepted put: its id, the names, the octets that the outbox of its station has under the source name, and the
 -- checksum type that its station is configured with.
@@ -85,11 +80,11 @@ pub record HeardInFull (put : Put) (pdus : List (List ℕ)) : Type 0 where
   pub file : (n : ℕ) → n < length put.octets → SomePdu (Brings put n) pdus
 
 -- files with a put's file written over them
-abbrev pub overwritten : Files → Option Put → Files
+abbrev pub overwritten : FileMap → Option Put → FileMap
 overwritten files None = files
 overwritten files (Some put) = insert files put.destination put.octets
 
 -- the inbox after these completions: the first files, overwritten in turn by the files of the puts that the ids name
-abbrev pub inbox_after : (TransactionId → Option Put) → Files → List TransactionId → Files
+abbrev pub inbox_after : (TransactionId → Option Put) → FileMap → List TransactionId → FileMap
 inbox_after put_of first [] = first
 inbox_after put_of first (id ∷ ids) = inbox_after put_of (overwritten first (put_of id)) ids

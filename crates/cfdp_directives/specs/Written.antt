@@ -1,9 +1,9 @@
 -- The written spelling of each PDU: spare bits are 0.
 use Rattle.std.specs.Prelude.{◌≡◌, ℕ, ◌+◌, ◌*◌, ◌^◌, ◌<◌, false, List, ◌++◌, length}
 use Rattle.std.specs.List.{flat_map, AllByRecursion}
-use Rattle.cfd_bits.specs.Field.{octets}
+use Rattle.cfd_bits.specs.Field.{octets, flag}
 use Rattle.cfdp_header.specs.declared.value.Header.{Header}
-use Rattle.cfdp_header.specs.Header.{FitsHeader, header_octets, flag}
+use Rattle.cfdp_header.specs.Header.{FitsHeader, header_octets}
 use Rattle.cfdp_directives.specs.Codes.{IsCondition, delivery_code, file_status_code, transaction_status_code, acknowledged_code, acknowledged_subtype}
 use Rattle.cfdp_directives.specs.Tlv.{tlv}
 use Rattle.cfdp_directives.specs.Pair.{pair, IsPair}

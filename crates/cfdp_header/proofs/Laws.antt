@@ -4,10 +4,10 @@ use Rattle.std.specs.Prelude.{IsOkAnd, IfOk}
 use Rattle.std.specs.Result.{result_err}
 use Rattle.std.proofs.lemmas.Bool.{le-ltb}
 use Rattle.std.proofs.lemmas.List.{take_at}
-use Rattle.cfd_bits.specs.Field.{field, octets}
+use Rattle.cfd_bits.specs.Field.{field, octets, flag}
 use Rattle.cfd_bits.proofs.Fields.{length-octets, field_between, field_in_octet, field-append_left, field-drop}
 use Rattle.cfdp_header.specs.declared.value.Header.{Header}
-use Rattle.cfdp_header.specs.Header.{SpellsHeader, header_fault, flag, header_len_told, header_len, FitsHeader, fixed_octets, header_octets}
+use Rattle.cfdp_header.specs.Header.{SpellsHeader, header_fault, header_len_told, header_len, FitsHeader, fixed_octets, header_octets}
 
 pub same_flag : (a b : Bool) → flag a ≡ flag b → a ≡ b
 same_flag true true e = refl

@@ -1,14 +1,9 @@
 -- The fixed header of a PDU: which octets are which header, and what is wrong with octets that begin with none.
 use Rattle.std.specs.Prelude.{◌≡◌, ℕ, ◌+◌, ◌-◌, ◌*◌, ◌^◌, ◌<◌, ◌≤◌, Bool, true, false, List, ◌++◌, length, Option, Some, None, nat_lt, ◌==◌, not, if◌then◌else◌}
-use Rattle.cfd_bits.specs.Field.{field, octets}
+use Rattle.cfd_bits.specs.Field.{field, octets, flag}
 use Rattle.cfdp_header.specs.declared.value.Header.{Header}
 use Rattle.cfdp_header.specs.declared.error.HeaderError.{HeaderError}
 use Rattle.cfdp_header.specs.declared.error.HeaderError.TheVariants.{Short, Version, CrcPresent, Length, Unacknowledged, LargeFile}
-
--- a flag, as the bit that spells it
-abbrev pub flag : Bool → ℕ
-flag true = 1
-flag false = 0
 
 -- octets of a header with these widths: four, the source id, the sequence number, the destination id
 abbrev pub header_len : ℕ → ℕ → ℕ

@@ -1,4 +1,3 @@
 mod FileLemmas
-pub mod Ids
 pub mod Octets
 mod PieceLemmas

@@ -1,14 +1,9 @@
 -- What both kinds of stores are about: files by their names, failures, and their numbers in reports.
 use Rattle.std.specs.Prelude.{ℕ, Bool, ◌+◌, ◌-◌, ◌^◌, min, max, List, [], unwrap_or, map, Vec, if◌then◌else◌}
-use Rattle.std.specs.Ordering.{nat_cmp}
-use Rattle.std.specs.Cmp.Lexicographic.{slice_cmp}
-use Rattle.std.specs.FinMap.{FinMap, from_entries, get}
+use Rattle.std.specs.FinMap.{from_entries, get}
+use Rattle.cfdp_header.specs.Files.{FileMap}
 use Rattle.cfdp_store.specs.declared.error.StoreError.{StoreError}
 use Rattle.cfdp_store.specs.declared.error.StoreError.TheVariants.{Device, Name, NoMemory}
-
--- the octets of files by their names, which are octets too
-abbrev pub FileMap : Type 0
-FileMap = FinMap (slice_cmp nat_cmp) (List ℕ)
 
 module _ {Y Z : Type 0} where
   -- the files that these entries list, each a name and its octets

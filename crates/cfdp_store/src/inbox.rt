@@ -1,7 +1,8 @@
 ghost use Rattle.std.specs.Prelude.{◌≡◌, ℕ, Option, Some, None, is_ok, IsSome, OnOk, OnErr};
 ghost use Rattle.std.specs.FinMap as map;
 ghost use Rattle.cfdp_header.specs.declared.value.TransactionId.{TransactionId};
-ghost use Rattle.cfdp_store.specs.Stores.{FileMap, failures_after};
+ghost use Rattle.cfdp_store.specs.Stores.{failures_after};
+ghost use Rattle.cfdp_header.specs.Files.{FileMap};
 ghost use Rattle.cfdp_store.specs.Staged.{OctetMap, Covers, OthersKeep, written, front, staged_for};
 
 use crate::StoreError;

@@ -10,7 +10,8 @@ use Rattle.std.specs.FinSet as set
 use Rattle.std.proofs.lemmas.Bool.{leb-true, false≢true}
 use Rattle.std.proofs.lemmas.Map.Views.{list_any-from_Contains}
 use Rattle.cfdp_header.specs.declared.value.TransactionId.{TransactionId}
-use Rattle.cfdp_timers.specs.Order.{Timer, id_cmp, timer_cmp}
+use Rattle.cfdp_timers.specs.Order.{Timer, timer_cmp}
+use Rattle.cfdp_header.specs.Ids.{id_cmp}
 use Rattle.cfdp_timers.specs.Armed.{Armed}
 use Rattle.cfdp_timers.specs.Due.{AreDue, AreLeft, is_due}
 use Rattle.cfdp_timers.proofs.Orders.{id_total, id_laws, timer_total, timer_laws, same_timer}

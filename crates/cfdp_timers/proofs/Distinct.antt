@@ -20,7 +20,8 @@ use Rattle.cfdp_header.specs.declared.value.TransactionId.{TransactionId}
 use Rattle.cfdp_timers.specs.declared.kind.Kind.{Kind}
 use Rattle.cfdp_timers.specs.declared.kind.Kind.TheVariants.{EofAck, Nak, FinishedAck, Inactivity}
 use Rattle.cfdp_timers.specs.declared.deadlines.Deadlines.{Deadlines}
-use Rattle.cfdp_timers.specs.Order.{Timer, id_cmp, kind_place, timer_cmp}
+use Rattle.cfdp_timers.specs.Order.{Timer, kind_place, timer_cmp}
+use Rattle.cfdp_header.specs.Ids.{id_cmp}
 use Rattle.cfdp_timers.specs.Due.{is_due, due_count, IsLeast}
 use Rattle.cfdp_timers.specs.Entries.{deadline_at, alarm_if, alarms_of, alarms, armed_of, due, earliest}
 use Rattle.cfdp_timers.proofs.Orders.{id_total, timer_total, id_laws, timer_laws}

@@ -17,7 +17,8 @@ use Rattle.cfdp_timers.specs.contracts.kind.KindOrd.TheImpl.{cmp-value as kind-c
 use Rattle.cfdp_timers.specs.declared.kind.Kind.{Kind}
 use Rattle.cfdp_timers.specs.declared.kind.Kind.TheVariants.{EofAck, Nak, FinishedAck, Inactivity}
 use Rattle.cfdp_timers.specs.declared.deadlines.Deadlines.{Deadlines}
-use Rattle.cfdp_timers.specs.Order.{Timer, id_cmp, kind_place, timer_cmp}
+use Rattle.cfdp_timers.specs.Order.{Timer, kind_place, timer_cmp}
+use Rattle.cfdp_header.specs.Ids.{id_cmp}
 use Rattle.cfdp_timers.specs.Armed.{Armed}
 use Rattle.cfdp_timers.specs.Due.{AreDue, firing_cmp}
 use Rattle.cfdp_timers.specs.Entries.{alarms, armed_of, due, entry_of, timer_of}

@@ -15,7 +15,8 @@ use Rattle.cfdp_header.specs.contracts.value.TransactionIdPartialEq.TheImpl.{eq-
 use Rattle.cfdp_timers.specs.declared.kind.Kind.{Kind}
 use Rattle.cfdp_timers.specs.declared.kind.Kind.TheVariants.{EofAck, Nak, FinishedAck, Inactivity}
 use Rattle.cfdp_timers.specs.declared.deadlines.Deadlines.{Deadlines}
-use Rattle.cfdp_timers.specs.Order.{Timer, id_cmp, kind_place, timer_cmp}
+use Rattle.cfdp_timers.specs.Order.{Timer, kind_place, timer_cmp}
+use Rattle.cfdp_header.specs.Ids.{id_cmp}
 use Rattle.cfdp_timers.specs.Entries.{deadline_at, with_deadline, alarms_of, alarms, roomy_of, armed_of, clock_of}
 use Rattle.cfdp_timers.proofs.Orders.{id_total, timer_total, id_laws, same_id, same_timer, id_eq}
 use Rattle.cfdp_timers.proofs.Kept.{get-armed_of, by_id}

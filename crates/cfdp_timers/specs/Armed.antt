@@ -7,7 +7,8 @@ use Rattle.cfdp_header.specs.declared.value.TransactionId.{TransactionId}
 use Rattle.cfdp_header.specs.contracts.value.TransactionId as id
 use Rattle.cfdp_timers.specs.declared.kind.Kind.{Kind}
 use Rattle.cfdp_timers.specs.contracts.kind.Kind as kind
-use Rattle.cfdp_timers.specs.Order.{id_cmp, timer_cmp}
+use Rattle.cfdp_timers.specs.Order.{timer_cmp}
+use Rattle.cfdp_header.specs.Ids.{id_cmp}
 
 -- the deadlines of the timers that are armed
 abbrev pub Armed : Type 0

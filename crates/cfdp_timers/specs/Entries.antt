@@ -8,7 +8,8 @@ use Rattle.cfdp_timers.specs.declared.kind.Kind.{Kind}
 use Rattle.cfdp_timers.specs.declared.kind.Kind.TheVariants.{EofAck, Nak, FinishedAck, Inactivity}
 use Rattle.cfdp_timers.specs.declared.deadlines.Deadlines.{Deadlines}
 use Rattle.cfdp_timers.specs.declared.alarm.Alarm.{Alarm}
-use Rattle.cfdp_timers.specs.Order.{Timer, id_cmp}
+use Rattle.cfdp_timers.specs.Order.{Timer}
+use Rattle.cfdp_header.specs.Ids.{id_cmp}
 use Rattle.cfdp_timers.specs.Armed.{Clock, Armed}
 
 abbrev pub deadline_at : Deadlines → Kind → Option ℕ

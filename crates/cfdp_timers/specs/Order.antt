@@ -3,16 +3,13 @@ use Rattle.std.specs.Prelude.{ℕ}
 use Rattle.std.specs.declared.cmp.Ordering.{Ordering}
 use Rattle.std.specs.Ordering.{nat_cmp, on, then_cmp}
 use Rattle.cfdp_header.specs.declared.value.TransactionId.{TransactionId}
+use Rattle.cfdp_header.specs.Ids.{id_cmp}
 use Rattle.cfdp_timers.specs.declared.kind.Kind.{Kind}
 use Rattle.cfdp_timers.specs.declared.kind.Kind.TheVariants.{EofAck, Nak, FinishedAck, Inactivity}
 
 -- a timer is named by its transaction and its kind
 abbrev pub Timer : Type 0
 Timer = TransactionId × Kind
-
--- by source, and then by number
-abbrev pub id_cmp : TransactionId → TransactionId → Ordering
-id_cmp = then_cmp (on (λ i. i.source) nat_cmp) (on (λ i. i.number) nat_cmp)
 
 abbrev pub kind_place : Kind → ℕ
 kind_place EofAck = 0

@@ -35,7 +35,7 @@ impl Model for Timers {
     ghost use Rattle.std.specs.List.{IsDistinct};
     ghost use Rattle.std.specs.Map.{keys_of};
     ghost use Rattle.std.specs.Ordering.{eq_by_cmp};
-    ghost use Rattle.cfdp_timers.specs.Order.{id_cmp};
+    ghost use Rattle.cfdp_header.specs.Ids.{id_cmp};
     ghost use Rattle.cfdp_timers.specs.Armed.{Clock, clock_code};
     ghost use Rattle.cfdp_timers.specs.Entries.{clock_of};
 

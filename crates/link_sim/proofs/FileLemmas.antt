@@ -10,7 +10,8 @@ use Rattle.std.specs.Cmp.Lexicographic.{slice_cmp, nat_list_cmp_total}
 use Rattle.std.specs.BTreeMap.{insert_entry}
 use Rattle.std.specs.FinMap.{get, insert, find, put, from_entries, same_map, slice_cmp-IsAntisymmetric, nat_cmp-IsAntisymmetric, get-from_entries, get-insert}
 use Rattle.std.specs.FinMap.Entries.{by_order, find-put}
-use Rattle.link_sim.specs.Files.{FileMap, files_of}
+use Rattle.link_sim.specs.Files.{files_of}
+use Rattle.cfdp_header.specs.Files.{FileMap}
 
 abbrev R : List ℕ → List ℕ → Ordering
 R = slice_cmp nat_cmp

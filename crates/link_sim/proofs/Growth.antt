@@ -1,4 +1,4 @@
--- Laws of ids, indications and marked PDUs, as more come.
+-- Laws of indications and marked PDUs, as more come.
 use Rattle.std.proofs.Common.{◌≡◌, ℕ, zero, suc, ◌+◌, ◌<◌, ◌≤◌, ◌==◌, ◌&&◌, Bool, true, false, not, cond, List, [], ◌∷◌, ◌++◌, length, get_or, Option, Some, None, refl, sym, ap, ap₂, subst, ◌∙◌, arith, inl, inr, ◌⊎◌}
 use Rattle.std.specs.Prelude.{Contains, count_by, slice_get, if◌then◌else◌}
 use Rattle.std.proofs.lemmas.Bool.{eqb-true, eq-eqb, and_parts}
@@ -7,24 +7,16 @@ use Rattle.cfdp_directives.specs.declared.codes.Delivery.{Delivery}
 use Rattle.cfdp_directives.specs.declared.codes.FileStatus.{FileStatus}
 use Rattle.cfdp_directives.specs.declared.indication.Indication.{Indication}
 use Rattle.cfdp_directives.specs.declared.indication.Indication.TheVariants.{Finished}
-use Rattle.cfdp_directives.specs.Put.{Put, Files, overwritten, inbox_after}
-use Rattle.cfdp_directives.specs.Completions.{same_id, is_finished}
+use Rattle.cfdp_directives.specs.Put.{Put, overwritten, inbox_after}
+use Rattle.cfdp_header.specs.Files.{FileMap}
+use Rattle.cfdp_directives.specs.Completions.{is_finished}
+use Rattle.cfdp_header.specs.Ids.{same_id}
+use Rattle.cfdp_header.proofs.Ids.{same_id-is, same_id-itself}
 use Rattle.cfdp_directives.proofs.Puts.{count_by-append}
 use Rattle.link_sim.specs.declared.event.Mark.{Mark}
 use Rattle.link_sim.specs.declared.event.Mark.TheVariants.{Delivered, Struck}
 use Rattle.link_sim.specs.Sound.{finished_count}
 use Rattle.link_sim.specs.Theorem.{delivered}
-
--- ---- ids
-
-pub same_id-is : (a b : TransactionId) → same_id a b ≡ true → a ≡ b
-same_id-is a b e =
-    let parts = and_parts (a.source == b.source) (a.number == b.number) e in
-    let make : ℕ → ℕ → TransactionId = λ s n. record { source = s; number = n } in
-    ap₂ make (eqb-true a.source b.source parts.0) (eqb-true a.number b.number parts.1)
-
-pub same_id-itself : (id : TransactionId) → same_id id id ≡ true
-same_id-itself id = rw (eq-eqb id.source id.source refl, eq-eqb id.number id.number refl) refl
 
 -- ---- indications
 
@@ -74,7 +66,7 @@ delivered-send (x ∷ texts) (Struck ∷ marks) text low = delivered-send texts 
 -- ---- the inbox
 
 -- ids that name the same puts
-pub inbox_after-same : (p q : TransactionId → Option Put) (first : Files) (ids : List TransactionId) → ((id : TransactionId) → Contains ids id → p id ≡ q id) → inbox_after p first ids ≡ inbox_after q first ids
+pub inbox_after-same : (p q : TransactionId → Option Put) (first : FileMap) (ids : List TransactionId) → ((id : TransactionId) → Contains ids id → p id ≡ q id) → inbox_after p first ids ≡ inbox_after q first ids
 inbox_after-same p q first [] same = refl
 inbox_after-same p q first (id ∷ ids) same =
     ap (λ put. inbox_after p (overwritten first put) ids) (same id (0, omega arith, refl))

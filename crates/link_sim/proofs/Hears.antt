@@ -18,8 +18,10 @@ use Rattle.cfdp_directives.specs.Codes.{no_error, file_checksum_failure, file_si
 use Rattle.cfdp_directives.specs.Tlv.{Tlv}
 use Rattle.cfdp_directives.specs.Content.{Content, FileData, Metadata, Eof, Finished, Ack, Nak, Prompt, KeepAlive}
 use Rattle.cfdp_directives.specs.Grammar.{SpellsPdu}
-use Rattle.cfdp_directives.specs.Put.{Put, Files, inbox_after}
-use Rattle.cfdp_directives.specs.Completions.{same_id, is_complete, completions, FinishedOnce}
+use Rattle.cfdp_directives.specs.Put.{Put, inbox_after}
+use Rattle.cfdp_header.specs.Files.{FileMap}
+use Rattle.cfdp_directives.specs.Completions.{is_complete, completions, FinishedOnce}
+use Rattle.cfdp_header.specs.Ids.{same_id}
 use Rattle.cfdp_directives.proofs.Puts.{SomePdu-last, completions-append, completions-last, finished-append}
 use Rattle.link_sim.specs.declared.side.Side.{Side}
 use Rattle.link_sim.specs.declared.side.Side.TheVariants.{One, Two}
@@ -41,7 +43,8 @@ use Rattle.link_sim.specs.Receiver.{ReceiverAfter, receiver_hears, opened_receiv
 use Rattle.link_sim.specs.Station.{StationState, After, after_heard, no_change, from_sender, from_receiver, opens, heard_by, comes_to, HearsPdu, DropsPdu, id_of, IsWritable, IsWritableSender, IsWritableReceiver}
 use Rattle.link_sim.specs.Theorem.{SaysComplete}
 use Rattle.link_sim.specs.Sound.{finished_count, SendsPut, ReceivesPut, IsSoundTransaction, SaysDelivered}
-use Rattle.link_sim.proofs.Growth.{same_id-is, counted}
+use Rattle.link_sim.proofs.Growth.{counted}
+use Rattle.cfdp_header.proofs.Ids.{same_id-is}
 use Rattle.link_sim.proofs.ReceiverKeeps.{receiver-open}
 use Rattle.link_sim.proofs.ReceiverSound.{receiver-sound}
 use Rattle.link_sim.proofs.Takes.{sender-like}
@@ -90,13 +93,13 @@ either : (b : Bool) (x y : ReceiverAfter) → W x → W y → W (if b then x els
 either true x y a b = a
 either false x y a b = b
 
-writable-faulted : (c : ℕ) (r : Receiver) (files : Files) → IsCondition c → IsWritableReceiver r → W (faulted c r files)
+writable-faulted : (c : ℕ) (r : Receiver) (files : FileMap) → IsCondition c → IsWritableReceiver r → W (faulted c r files)
 writable-faulted c r files is w = record { id = w.id; condition = w.condition; outcome = λ o e. outcome-condition (discarded c) o is e }
 
-writable-published : (destination : List ℕ) (size : ℕ) (r : Receiver) (files : Files) → IsWritableReceiver r → W (published destination size r files)
+writable-published : (destination : List ℕ) (size : ℕ) (r : Receiver) (files : FileMap) → IsWritableReceiver r → W (published destination size r files)
 writable-published destination size r files w = record { id = w.id; condition = w.condition; outcome = λ o e. outcome-condition (record { condition = no_error; delivery = Complete; status = Retained }) o (omega arith, refl) e }
 
-writable-completed : (file : Option FileInfo) (ending : Option Ending) (r : Receiver) (files : Files) → IsWritableReceiver r → W (completed_by file ending r files)
+writable-completed : (file : Option FileInfo) (ending : Option Ending) (r : Receiver) (files : FileMap) → IsWritableReceiver r → W (completed_by file ending r files)
 writable-completed None ending r files w = w
 writable-completed (Some info) None r files w = w
 writable-completed (Some info) (Some ending) r files w =
@@ -104,7 +107,7 @@ writable-completed (Some info) (Some ending) r files w =
     (either (agrees info.checksum_kind ending.checksum (front r.held ending.size)) _ _ (writable-published info.destination ending.size r files w) (writable-faulted file_checksum_failure r files (omega arith, refl) w))
     w
 
-writable-hears : (h : Header) (v : Content) (text : List ℕ) (r : Receiver) (files : Files) → SpellsPdu h v text → IsWritableReceiver r → W (receiver_hears v r files)
+writable-hears : (h : Header) (v : Content) (text : List ℕ) (r : Receiver) (files : FileMap) → SpellsPdu h v text → IsWritableReceiver r → W (receiver_hears v r files)
 writable-hears h (Metadata kind size source destination options) text r files spelled w =
     let r1 : Receiver = record r { file = Some (record { checksum_kind = kind; destination = destination }) } in
     let w1 : IsWritableReceiver r1 = record { id = w.id; condition = w.condition; outcome = w.outcome } in
@@ -140,7 +143,7 @@ writable-hears h (KeepAlive progress) text r files spelled w = w
 -- ---- what is heard
 
 -- What hearing a PDU comes to: nothing changes, or what holds is kept. Where nothing was put, no transaction begins.
-pub record HearsSoundly (own : ℕ) (p : TransactionId → Option Put) (sources : Files) (heard : List (List ℕ)) (told : List Indication) (before : Files) (theirs : List TransactionId) (transaction : Option Transaction) (a : After) : Type 0 where
+pub record HearsSoundly (own : ℕ) (p : TransactionId → Option Put) (sources : FileMap) (heard : List (List ℕ)) (told : List Indication) (before : FileMap) (theirs : List TransactionId) (transaction : Option Transaction) (a : After) : Type 0 where
   pub comes : (a ≡ no_change transaction before) ⊎ Moves own p sources heard told before theirs a
   pub idle : ((id : TransactionId) → p id ≡ None) → transaction ≡ None → a.transaction ≡ None
 
@@ -177,7 +180,7 @@ opening-put own p id (Nak start end pairs) phase e t = absurd cc
 opening-put own p id (Prompt keep_alive) phase e t = absurd cc
 opening-put own p id (KeepAlive progress) phase e t = absurd cc
 
-module _ (own : ℕ) (p : TransactionId → Option Put) (sources : Files) (heard : List (List ℕ)) (told : List Indication) (before : Files) (their_own : ℕ) (their_told : List Indication) (text : List ℕ) (h : Header) where
+module _ (own : ℕ) (p : TransactionId → Option Put) (sources : FileMap) (heard : List (List ℕ)) (told : List Indication) (before : FileMap) (their_own : ℕ) (their_told : List Indication) (text : List ℕ) (h : Header) where
   -- a sender hears something else than the first Finished
   sender-quiet : (x y : Sender) → FinishedOnce told → ((id : TransactionId) → 0 < finished_count id told → x.id ≡ id) → y.id ≡ x.id → SendsPut own p sources (told ++ []) y → IsWritableSender y → Moves own p sources (heard ++ text ∷ []) told before (completions their_own their_told) (record { transaction = Some (Sends y); told = []; files = before })
   sender-quiet x y once only same a w = moves-quiet own p sources (heard ++ text ∷ []) told [] before (completions their_own their_told) (Sends y) (λ _. refl) refl once (λ id low. same ∙ only id low) a w

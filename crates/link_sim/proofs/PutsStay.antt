@@ -3,14 +3,15 @@ use Rattle.std.proofs.Common.{◌≡◌, ℕ, ◌==◌, Bool, true, false, List,
 use Rattle.std.specs.Prelude.{Contains, if◌then◌else◌}
 use Rattle.std.specs.FinMap.{get}
 use Rattle.cfdp_header.specs.declared.value.TransactionId.{TransactionId}
-use Rattle.cfdp_directives.specs.Put.{Put, Files}
-use Rattle.cfdp_directives.specs.Completions.{same_id}
+use Rattle.cfdp_directives.specs.Put.{Put}
+use Rattle.cfdp_header.specs.Files.{FileMap}
+use Rattle.cfdp_header.specs.Ids.{same_id}
 use Rattle.link_sim.specs.declared.side.Side.{Side}
 use Rattle.link_sim.specs.declared.side.Side.TheVariants.{One, Two}
 use Rattle.link_sim.specs.declared.event.AcceptedPut.{AcceptedPut}
 use Rattle.link_sim.specs.World.{WorldState, station_at}
 use Rattle.link_sim.specs.Theorem.{accepted_as, side_of, with_octets, put_by, put_of}
-use Rattle.link_sim.proofs.Growth.{same_id-is}
+use Rattle.cfdp_header.proofs.Ids.{same_id-is}
 
 -- What is found of an accepted put.
 pub record IsFound (kind : ℕ) (q : AcceptedPut) (put : Put) : Type 0 where
@@ -55,7 +56,7 @@ put_by-same : (old new : WorldState) (o : Option AcceptedPut) → new.config ≡
 put_by-same old new None config one two = refl
 put_by-same old new (Some q) config one two =
     ap (λ c. with_octets c.checksum_kind q (get (station_at (side_of q.id.source) new).sources q.source)) config
-    ∙ ap (λ (f : Files). with_octets old.config.checksum_kind q (get f q.source)) (source-same (side_of q.id.source) old new one two)
+    ∙ ap (λ (f : FileMap). with_octets old.config.checksum_kind q (get f q.source)) (source-same (side_of q.id.source) old new one two)
 
 -- nothing else changes it
 pub put_of-same : (old new : WorldState) (id : TransactionId) → new.puts ≡ old.puts → new.config ≡ old.config → new.one.sources ≡ old.one.sources → new.two.sources ≡ old.two.sources → put_of new id ≡ put_of old id

@@ -10,8 +10,10 @@ use Rattle.cfdp_directives.specs.declared.codes.Delivery.{Delivery}
 use Rattle.cfdp_directives.specs.declared.codes.FileStatus.{FileStatus}
 use Rattle.cfdp_directives.specs.declared.indication.Indication.{Indication}
 use Rattle.cfdp_directives.specs.declared.indication.Indication.TheVariants as indication
-use Rattle.cfdp_directives.specs.Put.{Put, Files, IsMetadataOf, IsEofOf, Brings, inbox_after}
-use Rattle.cfdp_directives.specs.Completions.{same_id, is_complete, completions}
+use Rattle.cfdp_directives.specs.Put.{Put, IsMetadataOf, IsEofOf, Brings, inbox_after}
+use Rattle.cfdp_header.specs.Files.{FileMap}
+use Rattle.cfdp_directives.specs.Completions.{is_complete, completions}
+use Rattle.cfdp_header.specs.Ids.{same_id}
 use Rattle.cfdp_directives.proofs.Puts.{SomePdu-append_left, completions-append, finished-append, Contains-append_left, Contains-append_right}
 use Rattle.link_sim.specs.declared.receiver.Receiver.{Receiver}
 use Rattle.link_sim.specs.declared.receiver.ReceiverPhase.{ReceiverPhase}
@@ -204,7 +206,7 @@ contains-one id other c =
     sym (ap (λ n. get_or (id ∷ []) n other) first) ∙ c.2
 
 -- what completes nothing leaves the files
-pub completes-none : (own : ℕ) (put_of : TransactionId → Option Put) (heard : List (List ℕ)) (more : List Indication) (files : Files) → completions own more ≡ [] → Completes own put_of heard more files files
+pub completes-none : (own : ℕ) (put_of : TransactionId → Option Put) (heard : List (List ℕ)) (more : List Indication) (files : FileMap) → completions own more ≡ [] → Completes own put_of heard more files files
 completes-none own put_of heard more files none = record {
   inbox = ap (inbox_after put_of files) (sym none);
   caused = λ id c. absurd (contains-none id (subst (λ (ids : List TransactionId). Contains ids id) none c));

@@ -15,7 +15,8 @@ use Rattle.cfdp_directives.specs.declared.indication.Indication.TheVariants as i
 use Rattle.cfdp_directives.specs.Codes.{no_error, file_checksum_failure, file_size_error, unsupported_checksum_type}
 use Rattle.cfdp_directives.specs.Content.{Content, FileData, Metadata, Eof, Finished, Ack, Nak, Prompt, KeepAlive}
 use Rattle.cfdp_directives.specs.Grammar.{SpellsPdu}
-use Rattle.cfdp_directives.specs.Put.{Put, Files, IsTruthful, SomePdu, IsMetadataOf, IsEofOf, Brings, HeardInFull, overwritten, inbox_after}
+use Rattle.cfdp_directives.specs.Put.{Put, IsTruthful, SomePdu, IsMetadataOf, IsEofOf, Brings, HeardInFull, overwritten, inbox_after}
+use Rattle.cfdp_header.specs.Files.{FileMap}
 use Rattle.cfdp_directives.specs.Completions.{completions}
 use Rattle.cfdp_directives.proofs.Puts.{SomePdu-last, completions-append, finished-append}
 use Rattle.link_sim.specs.declared.receiver.Receiver.{Receiver}
@@ -73,7 +74,7 @@ data-is file bytes offset n b truth low is =
 
 -- ---- what a step comes to
 module _ (own : ℕ) (put_of : TransactionId → Option Put) (heard : List (List ℕ)) where
-  steps-unchanged : (told : List Indication) (r : Receiver) (files : Files) → ReceivesPut own put_of heard told r → finished_count r.id told ≤ 1 →
+  steps-unchanged : (told : List Indication) (r : Receiver) (files : FileMap) → ReceivesPut own put_of heard told r → finished_count r.id told ≤ 1 →
       StepsSoundly own put_of heard told files r.id (unchanged r files)
   steps-unchanged told r files s once = record {
     receives = subst (λ (t : List Indication). ReceivesPut own put_of heard t r) (sym (append-nil told)) s;
@@ -83,7 +84,7 @@ module _ (own : ℕ) (put_of : TransactionId → Option Put) (heard : List (List
   }
 
   -- where an indication that completes and finishes nothing is told first
-  steps-telling : (told : List Indication) (i : Indication) (id : TransactionId) (before : Files) (a : ReceiverAfter) →
+  steps-telling : (told : List Indication) (i : Indication) (id : TransactionId) (before : FileMap) (a : ReceiverAfter) →
       completions own (i ∷ []) ≡ [] → ((other : TransactionId) → finished_count other (i ∷ []) ≡ 0) →
       StepsSoundly own put_of heard (told ++ i ∷ []) before id a → StepsSoundly own put_of heard told before id (telling i a)
   steps-telling told i id before a completes_none finishes_none t =
@@ -110,7 +111,7 @@ module _ (own : ℕ) (put_of : TransactionId → Option Put) (heard : List (List
         same_id = t.same_id;
       }
 
-  steps-faulted : (told : List Indication) (condition : ℕ) (r : Receiver) (files : Files) → ReceivesPut own put_of heard told r → r.phase ≡ Receiving →
+  steps-faulted : (told : List Indication) (condition : ℕ) (r : Receiver) (files : FileMap) → ReceivesPut own put_of heard told r → r.phase ≡ Receiving →
       StepsSoundly own put_of heard told files r.id (faulted condition r files)
   steps-faulted told condition r files s receiving = record {
     receives = receives-finishing own put_of heard told (fault_told condition r) (discarded condition) r (λ c. absurd (false≢true c)) s;
@@ -119,7 +120,7 @@ module _ (own : ℕ) (put_of : TransactionId → Option Put) (heard : List (List
     same_id = refl;
   }
 
-  steps-cancelled : (told : List Indication) (condition : ℕ) (r : Receiver) (files : Files) → ReceivesPut own put_of heard told r → r.phase ≡ Receiving →
+  steps-cancelled : (told : List Indication) (condition : ℕ) (r : Receiver) (files : FileMap) → ReceivesPut own put_of heard told r → r.phase ≡ Receiving →
       StepsSoundly own put_of heard told files r.id (hears_cancel condition r files)
   steps-cancelled told condition r files s receiving = record {
     receives = receives-cancelled own put_of heard told (cancel_told condition r) condition r s;
@@ -153,7 +154,7 @@ module _ (own : ℕ) (put_of : TransactionId → Option Put) (heard : List (List
             subst (λ (p : Put). SomePdu (Brings p n) heard) same k.was_heard;
       }
 
-  steps-published : (told : List Indication) (info : FileInfo) (ending : Ending) (r : Receiver) (files : Files) → ReceivesPut own put_of heard told r → r.phase ≡ Receiving →
+  steps-published : (told : List Indication) (info : FileInfo) (ending : Ending) (r : Receiver) (files : FileMap) → ReceivesPut own put_of heard told r → r.phase ≡ Receiving →
       KeepsMetadata put_of heard r.id info → KeepsEnding put_of heard r.id ending → holds_below r.held ending.size ≡ true →
       StepsSoundly own put_of heard told files r.id (published info.destination ending.size r files)
   steps-published told info ending r files s receiving m e covers =
@@ -182,7 +183,7 @@ module _ (own : ℕ) (put_of : TransactionId → Option Put) (heard : List (List
   once_before : (told : List Indication) (r : Receiver) → ReceivesPut own put_of heard told r → r.phase ≡ Receiving → finished_count r.id told ≤ 1
   once_before told r s receiving = let none = s.unfinished receiving in omega (arith, none)
 
-  steps-completed_by : (told : List Indication) (file : Option FileInfo) (ending : Option Ending) (r : Receiver) (files : Files) → ReceivesPut own put_of heard told r → r.phase ≡ Receiving →
+  steps-completed_by : (told : List Indication) (file : Option FileInfo) (ending : Option Ending) (r : Receiver) (files : FileMap) → ReceivesPut own put_of heard told r → r.phase ≡ Receiving →
       r.file ≡ file → r.ending ≡ ending → StepsSoundly own put_of heard told files r.id (completed_by file ending r files)
   steps-completed_by told None ending r files s receiving named ended = steps-unchanged told r files s (once_before told r s receiving)
   steps-completed_by told (Some info) None r files s receiving named ended = steps-unchanged told r files s (once_before told r s receiving)
@@ -197,7 +198,7 @@ module _ (own : ℕ) (put_of : TransactionId → Option Put) (heard : List (List
         | false ↦ λ _. steps-unchanged told r files s (once_before told r s receiving)
       ] refl
 
-  steps-completed : (told : List Indication) (r : Receiver) (files : Files) → ReceivesPut own put_of heard told r → r.phase ≡ Receiving →
+  steps-completed : (told : List Indication) (r : Receiver) (files : FileMap) → ReceivesPut own put_of heard told r → r.phase ≡ Receiving →
       StepsSoundly own put_of heard told files r.id (completed r files)
   steps-completed told r files s receiving = steps-completed_by told r.file r.ending r files s receiving refl refl
 
@@ -213,7 +214,7 @@ module _ (own : ℕ) (put_of : TransactionId → Option Put) (heard : List (List
     complete = s.complete;
   }
 
-  steps-metadata : (told : List Indication) (kind size : ℕ) (source destination : List ℕ) (r : Receiver) (files : Files) →
+  steps-metadata : (told : List Indication) (kind size : ℕ) (source destination : List ℕ) (r : Receiver) (files : FileMap) →
       KeepsMetadata put_of heard r.id (record { checksum_kind = kind; destination = destination }) → ReceivesPut own put_of heard told r → finished_count r.id told ≤ 1 →
       StepsSoundly own put_of heard told files r.id (hears_metadata kind size source destination r files)
   steps-metadata told kind size source destination r files k s once =
@@ -254,7 +255,7 @@ module _ (own : ℕ) (put_of : TransactionId → Option Put) (heard : List (List
     complete = s.complete;
   }
 
-  steps-data : (told : List Indication) (offset : ℕ) (bytes : List ℕ) (r : Receiver) (files : Files) →
+  steps-data : (told : List Indication) (offset : ℕ) (bytes : List ℕ) (r : Receiver) (files : FileMap) →
       ((n b : ℕ) → offset ≤ n → slice_get bytes (n - offset) ≡ Some b → KeepsOctet put_of heard r.id n b) → ReceivesPut own put_of heard told r → finished_count r.id told ≤ 1 →
       StepsSoundly own put_of heard told files r.id (hears_data offset bytes r files)
   steps-data told offset bytes r files k s once =
@@ -293,7 +294,7 @@ module _ (own : ℕ) (put_of : TransactionId → Option Put) (heard : List (List
     complete = s.complete;
   }
 
-  steps-ending : (told : List Indication) (checksum size : ℕ) (r : Receiver) (files : Files) → KeepsEnding put_of heard r.id (record { checksum = checksum; size = size }) →
+  steps-ending : (told : List Indication) (checksum size : ℕ) (r : Receiver) (files : FileMap) → KeepsEnding put_of heard r.id (record { checksum = checksum; size = size }) →
       ReceivesPut own put_of heard told r → r.phase ≡ Receiving → StepsSoundly own put_of heard told files r.id (hears_ending checksum size r files)
   steps-ending told checksum size r files k s receiving =
       let ending : Ending = record { checksum = checksum; size = size } in
@@ -307,7 +308,7 @@ module _ (own : ℕ) (put_of : TransactionId → Option Put) (heard : List (List
         | false ↦ steps-completed (told ++ i ∷ []) r1 files s1 receiving
       ])
 
-  steps-eof : (told : List Indication) (condition checksum size : ℕ) (r : Receiver) (files : Files) →
+  steps-eof : (told : List Indication) (condition checksum size : ℕ) (r : Receiver) (files : FileMap) →
       (condition ≡ no_error → KeepsEnding put_of heard r.id (record { checksum = checksum; size = size })) →
       ReceivesPut own put_of heard told r → finished_count r.id told ≤ 1 → StepsSoundly own put_of heard told files r.id (hears_eof condition checksum size r files)
   steps-eof told condition checksum size r files k s once =
@@ -339,7 +340,7 @@ module _ (own : ℕ) (put_of : TransactionId → Option Put) (heard : List (List
     complete = s.complete;
   }
 
-  steps-ack : (told : List Indication) (r : Receiver) (files : Files) → ReceivesPut own put_of heard told r → finished_count r.id told ≤ 1 →
+  steps-ack : (told : List Indication) (r : Receiver) (files : FileMap) → ReceivesPut own put_of heard told r → finished_count r.id told ≤ 1 →
       StepsSoundly own put_of heard told files r.id (unchanged (hears_ack_of_finished r) files)
   steps-ack told r files s once =
       elim (is_finishing r.phase && not r.finished_due) as (λ b. StepsSoundly own put_of heard told files r.id (unchanged (if b then record r { phase = Closed } else r) files)) [
@@ -348,7 +349,7 @@ module _ (own : ℕ) (put_of : TransactionId → Option Put) (heard : List (List
       ]
 
 -- ---- a content that was heard
-module _ (own : ℕ) (put_of : TransactionId → Option Put) (heard : List (List ℕ)) (told : List Indication) (files : Files) (text : List ℕ) (h : Header) (r : Receiver) where
+module _ (own : ℕ) (put_of : TransactionId → Option Put) (heard : List (List ℕ)) (told : List Indication) (files : FileMap) (text : List ℕ) (h : Header) (r : Receiver) where
   -- the receiver once this PDU is among those heard
   hears : (v : Content) → ((id : TransactionId) (put : Put) → put_of id ≡ Some put → put.id ≡ id) →
       SpellsPdu h v text → r.id ≡ h.id → TruthOf put_of h.id v →
@@ -394,7 +395,7 @@ module _ (own : ℕ) (put_of : TransactionId → Option Put) (heard : List (List
   hears (Ack acknowledged.Finished condition status) ids spells same truth s once = steps-ack own put_of (heard ++ text ∷ []) told r files s once
 
 -- A receiver that hears the truth keeps what is promised of it.
-pub receiver-sound : (own : ℕ) (put_of : TransactionId → Option Put) (heard : List (List ℕ)) (told : List Indication) (files : Files) (text : List ℕ) (h : Header) (v : Content) (r : Receiver) →
+pub receiver-sound : (own : ℕ) (put_of : TransactionId → Option Put) (heard : List (List ℕ)) (told : List Indication) (files : FileMap) (text : List ℕ) (h : Header) (v : Content) (r : Receiver) →
     ((id : TransactionId) (put : Put) → put_of id ≡ Some put → put.id ≡ id) →
     SpellsPdu h v text → r.id ≡ h.id → TruthOf put_of h.id v →
     ReceivesPut own put_of heard told r → ((id : TransactionId) → finished_count id told ≤ 1) →

@@ -9,7 +9,8 @@ use Rattle.cfdp_directives.specs.declared.codes.Acknowledged.TheVariants as ackn
 use Rattle.cfdp_directives.specs.declared.indication.Indication.{Indication}
 use Rattle.cfdp_directives.specs.declared.indication.Indication.TheVariants as indication
 use Rattle.cfdp_directives.specs.Content.{Content, FileData, Metadata, Eof, Finished, Ack}
-use Rattle.cfdp_directives.specs.Put.{Files, Put, IsTruthful, inbox_after}
+use Rattle.cfdp_directives.specs.Put.{Put, IsTruthful, inbox_after}
+use Rattle.cfdp_header.specs.Files.{FileMap}
 use Rattle.cfdp_directives.specs.Completions.{completions}
 use Rattle.cfdp_directives.specs.Checksum as checksums
 use Rattle.link_sim.specs.declared.receiver.Receiver.{Receiver}
@@ -47,7 +48,7 @@ silent = record {
   phase = Receiving;
 }
 
-abbrev files : Files
+abbrev files : FileMap
 files = empty
 
 abbrev after : Content → Receiver → Receiver
@@ -283,7 +284,7 @@ abbrev put : Put
 put = record { id = id; source = 97 ∷ []; destination = 98 ∷ []; octets = file; checksum_kind = 0 }
 
 -- its file is what a completion leaves in the inbox, under the destination name
-inbox : (first : Files) → inbox_after (λ of. Some put) first (id ∷ []) ≡ insert first (98 ∷ []) file
+inbox : (first : FileMap) → inbox_after (λ of. Some put) first (id ∷ []) ≡ insert first (98 ∷ []) file
 inbox first = refl
 
 truthful_data : IsTruthful put last_data

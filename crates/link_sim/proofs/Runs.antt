@@ -5,7 +5,8 @@ use Rattle.link_sim.specs.Work.{work}
 use Rattle.std.proofs.lemmas.List.{append-nil}
 use Rattle.std.proofs.lemmas.List.Elements.{All-append, All-push}
 use Rattle.cfdp_header.specs.declared.value.TransactionId.{TransactionId}
-use Rattle.cfdp_directives.specs.Put.{Put, Files, inbox_after}
+use Rattle.cfdp_directives.specs.Put.{Put, inbox_after}
+use Rattle.cfdp_header.specs.Files.{FileMap}
 use Rattle.link_sim.specs.declared.side.Side.{Side}
 use Rattle.link_sim.specs.declared.side.Side.TheVariants.{One, Two}
 use Rattle.link_sim.specs.Config.{is_valid_config}
@@ -105,7 +106,7 @@ module _ {E : Type 0} where
   sound-result e old new (Err x) _ same h = subst IsSound (sym same) h
 
 -- the inboxes of a run, as they stand
-pub inbox-run : (config : SimConfig) (outboxes inboxes : Files × Files) (events : List Event) (new : WorldState) → is_valid_config config ≡ true →
+pub inbox-run : (config : SimConfig) (outboxes inboxes : FileMap × FileMap) (events : List Event) (new : WorldState) → is_valid_config config ≡ true →
     Reaches events (first_world config outboxes inboxes) new → (t : Side) → (station_at t new).published ≡ inbox_after (put_of new) (files_of t inboxes) (completions_at t new)
 inbox-run config outboxes inboxes events new valid r One =
     let f = folds-reaches events (first_world config outboxes inboxes) new r (sound-first config outboxes inboxes valid) One in
@@ -114,6 +115,6 @@ inbox-run config outboxes inboxes events new valid r Two =
     let f = folds-reaches events (first_world config outboxes inboxes) new r (sound-first config outboxes inboxes valid) Two in
     f.inbox ∙ ap (inbox_after (put_of new) inboxes.1) (sym f.completions)
 
-pub holds-run : (config : SimConfig) (outboxes inboxes : Files × Files) (events : List Event) (new : WorldState) → is_valid_config config ≡ true →
+pub holds-run : (config : SimConfig) (outboxes inboxes : FileMap × FileMap) (events : List Event) (new : WorldState) → is_valid_config config ≡ true →
     Reaches events (first_world config outboxes inboxes) new → (t : Side) → HoldsAt t new
 holds-run config outboxes inboxes events new valid r t = ((sound-reaches events (first_world config outboxes inboxes) new r (sound-first config outboxes inboxes valid)).at t).holds

@@ -11,7 +11,8 @@ use Rattle.cfdp_directives.specs.declared.indication.Indication.TheVariants as i
 use Rattle.cfdp_directives.specs.Codes.{no_error}
 use Rattle.cfdp_directives.specs.Content.{Content, FileData, Metadata, Eof, Finished, Ack, Nak, Prompt, KeepAlive}
 use Rattle.cfdp_directives.specs.Grammar.{SpellsPdu}
-use Rattle.cfdp_directives.specs.Put.{Put, Files, SomePdu, IsTruthful, HeardInFull, inbox_after}
+use Rattle.cfdp_directives.specs.Put.{Put, SomePdu, IsTruthful, HeardInFull, inbox_after}
+use Rattle.cfdp_header.specs.Files.{FileMap}
 use Rattle.cfdp_directives.specs.Completions.{completions, FinishedOnce, IsToldComplete}
 use Rattle.cfdp_directives.proofs.Puts.{SomePdu-append_left, HeardInFull-append, completions-append, finished-append, Contains-append_left}
 use Rattle.link_sim.specs.declared.side.Side.{Side}
@@ -132,7 +133,7 @@ truth-puts own p q id (Nak start end pairs) stays t = t
 truth-puts own p q id (Prompt keep_alive) stays t = t
 truth-puts own p q id (KeepAlive progress) stays t = t
 
-transaction-puts : (own : ℕ) (p q : TransactionId → Option Put) (sources : Files) (heard : List (List ℕ)) (told : List Indication) (t : Option Transaction) → Stays p q → IsSoundTransaction own p sources heard told t → IsSoundTransaction own q sources heard told t
+transaction-puts : (own : ℕ) (p q : TransactionId → Option Put) (sources : FileMap) (heard : List (List ℕ)) (told : List Indication) (t : Option Transaction) → Stays p q → IsSoundTransaction own p sources heard told t → IsSoundTransaction own q sources heard told t
 transaction-puts own p q sources heard told None stays a = a
 transaction-puts own p q sources heard told (Some (Sends x)) stays a = record {
   put = a.put;
@@ -161,7 +162,7 @@ parts-puts s p q st sent heard theirs more stays grows a = record {
 
 -- ---- more heard, and more sent
 
-transaction-heard : (own : ℕ) (p : TransactionId → Option Put) (sources : Files) (heard more : List (List ℕ)) (told : List Indication) (t : Option Transaction) → IsSoundTransaction own p sources heard told t → IsSoundTransaction own p sources (heard ++ more) told t
+transaction-heard : (own : ℕ) (p : TransactionId → Option Put) (sources : FileMap) (heard more : List (List ℕ)) (told : List Indication) (t : Option Transaction) → IsSoundTransaction own p sources heard told t → IsSoundTransaction own p sources (heard ++ more) told t
 transaction-heard own p sources heard more told None a = a
 transaction-heard own p sources heard more told (Some (Sends x)) a = a
 transaction-heard own p sources heard more told (Some (Receives r)) a = receives-more own p heard more told r a
@@ -221,7 +222,7 @@ parts-send s p st sent heard theirs text says a = record {
 -- ---- what the station does
 
 -- What a step of a station comes to: its transaction, what it indicated, and the published files.
-pub record Moves (own : ℕ) (p : TransactionId → Option Put) (sources : Files) (heard : List (List ℕ)) (told : List Indication) (before : Files) (theirs : List TransactionId) (a : After) : Type 0 where
+pub record Moves (own : ℕ) (p : TransactionId → Option Put) (sources : FileMap) (heard : List (List ℕ)) (told : List Indication) (before : FileMap) (theirs : List TransactionId) (a : After) : Type 0 where
   pub once : FinishedOnce (told ++ a.told)
   pub only : (id : TransactionId) → 0 < finished_count id (told ++ a.told) → (t : Transaction) × ((a.transaction ≡ Some t) × (id_of t ≡ id))
   pub transaction : IsSoundTransaction own p sources heard (told ++ a.told) a.transaction
@@ -261,7 +262,7 @@ parts-moved s p st sent heard theirs a m b = record {
 }
 
 -- a step that indicates nothing finished, and leaves a transaction
-pub moves-quiet : (own : ℕ) (p : TransactionId → Option Put) (sources : Files) (heard : List (List ℕ)) (told more : List Indication) (before : Files) (theirs : List TransactionId) (t : Transaction) →
+pub moves-quiet : (own : ℕ) (p : TransactionId → Option Put) (sources : FileMap) (heard : List (List ℕ)) (told more : List Indication) (before : FileMap) (theirs : List TransactionId) (t : Transaction) →
     ((id : TransactionId) → finished_count id more ≡ 0) → completions own more ≡ [] → FinishedOnce told → ((id : TransactionId) → 0 < finished_count id told → id_of t ≡ id) →
     IsSoundTransaction own p sources heard (told ++ more) (Some t) → IsWritable (Some t) →
     Moves own p sources heard told before theirs (record { transaction = Some t; told = more; files = before })

@@ -11,7 +11,8 @@ use Rattle.cfdp_directives.specs.Codes.{modular, null}
 use Rattle.cfdp_directives.specs.Checksum.{checksum_of, modular_checksum}
 use Rattle.cfdp_directives.specs.Content.{Content}
 use Rattle.cfdp_directives.specs.Written.{CanWrite, FitsContent, content_len, pdu_octets}
-use Rattle.cfdp_directives.specs.Put.{Put, Files}
+use Rattle.cfdp_directives.specs.Put.{Put}
+use Rattle.cfdp_header.specs.Files.{FileMap}
 use Rattle.cfdp_directives.specs.Completions.{completions, FinishedOnce}
 use Rattle.cfdp_directives.proofs.Puts.{finished-append}
 use Rattle.cfdp_directives.proofs.Spelling.{one_form, spelled}
@@ -151,7 +152,7 @@ pub receiver_can_write : (s : Side) (r : Receiver) (d : ReceiverDue) → IsWrita
 receiver_can_write s r (receiving.AckOfEof c) w e = can-write r.id_width r.number_width r.id (entity_of s) _ w.id (entity-fits s) (omega arith) (w.condition c (receiver-ack r r.ack_due c e))
 receiver_can_write s r (receiving.Finished o) w e = can-write r.id_width r.number_width r.id (entity_of s) _ w.id (entity-fits s) (omega arith) (w.outcome o (receiver-finished r r.ack_due o e))
 
-takes_of-can_write : (config : SimConfig) (s : Side) (sources : Files) (transaction : Option Transaction) (t : Taken) → IsWritable transaction → is_valid_config config ≡ true → takes_of config s sources transaction ≡ Some t → CanWrite t.header t.content
+takes_of-can_write : (config : SimConfig) (s : Side) (sources : FileMap) (transaction : Option Transaction) (t : Taken) → IsWritable transaction → is_valid_config config ≡ true → takes_of config s sources transaction ≡ Some t → CanWrite t.header t.content
 takes_of-can_write config s sources None t w valid e = absurd cc
 takes_of-can_write config s sources (Some (Sends x)) t w valid e =
     let d = some-map (takes_from_sender config s (file_at sources x.source) x) (sender_due x) t e in
@@ -167,7 +168,7 @@ takes-can_write config s st t w valid e = takes_of-can_write config s st.sources
 -- ---- what is due keeps what holds
 
 -- What was taken keeps what holds at the station, and what it says is so.
-pub record TakesSoundly (own : ℕ) (p : TransactionId → Option Put) (sources : Files) (heard : List (List ℕ)) (told : List Indication) (before : Files) (theirs : List TransactionId) (t : Taken) : Type 0 where
+pub record TakesSoundly (own : ℕ) (p : TransactionId → Option Put) (sources : FileMap) (heard : List (List ℕ)) (told : List Indication) (before : FileMap) (theirs : List TransactionId) (t : Taken) : Type 0 where
   pub moves : Moves own p sources heard told before theirs (record { transaction = Some t.transaction; told = t.told; files = before })
   pub truth : TruthBy own p t.header.id t.content
   pub says : SaysDelivered own (told ++ t.told) t.header.id t.content
@@ -177,7 +178,7 @@ abbrev pub HasKind : ℕ → (TransactionId → Option Put) → Type 0
 HasKind kind p = (id : TransactionId) (put : Put) → p id ≡ Some put → put.checksum_kind ≡ kind
 
 -- a sender that is like another
-pub sender-like : (own : ℕ) (p : TransactionId → Option Put) (sources : Files) (told : List Indication) (x y : Sender) (more : List Indication) → SendsPut own p sources told x → y.id ≡ x.id → y.source ≡ x.source → y.destination ≡ x.destination → y.size ≡ x.size → (y.phase ≡ Sending → (x.phase ≡ Sending) × (finished_count x.id more ≡ 0)) → SendsPut own p sources (told ++ more) y
+pub sender-like : (own : ℕ) (p : TransactionId → Option Put) (sources : FileMap) (told : List Indication) (x y : Sender) (more : List Indication) → SendsPut own p sources told x → y.id ≡ x.id → y.source ≡ x.source → y.destination ≡ x.destination → y.size ≡ x.size → (y.phase ≡ Sending → (x.phase ≡ Sending) × (finished_count x.id more ≡ 0)) → SendsPut own p sources (told ++ more) y
 sender-like own p sources told x y more a id source destination size still = record {
   put = a.put;
   is_put = ap p id ∙ a.is_put;
@@ -192,7 +193,7 @@ sender-like own p sources told x y more a id source destination size still = rec
       ap (λ (i : TransactionId). finished_count i (told ++ more)) id ∙ omega (arith, finished-append x.id told more);
 }
 
-module _ (config : SimConfig) (s : Side) (p : TransactionId → Option Put) (sources : Files) (heard : List (List ℕ)) (told : List Indication) (before : Files) (theirs : List TransactionId) where
+module _ (config : SimConfig) (s : Side) (p : TransactionId → Option Put) (sources : FileMap) (heard : List (List ℕ)) (told : List Indication) (before : FileMap) (theirs : List TransactionId) where
   -- what a sender says of its put is so
   sender-truth : (x : Sender) (d : SenderDue) → HasKind config.checksum_kind p → SendsPut (entity_of s) p sources told x → TruthBy (entity_of s) p x.id (sender_says config (file_at sources x.source) x d)
   sender-truth x (sending.AckOfFinished c) kinds a = tt

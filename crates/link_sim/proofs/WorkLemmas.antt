@@ -8,13 +8,14 @@ use Rattle.std.proofs.lemmas.Option.{slice_get_within, get_or_from_slice_get}
 use Rattle.std.proofs.Math.Seq.{drop-cons}
 use Rattle.cfdp_directives.specs.Field.{field}
 use Rattle.cfdp_header.specs.declared.value.Header.{Header}
-use Rattle.cfdp_header.specs.Header.{flag, header_len, header_len_told, SpellsHeader}
+use Rattle.cfdp_header.specs.Header.{header_len, header_len_told, SpellsHeader}
+use Rattle.cfd_bits.specs.Field.{flag}
 use Rattle.cfdp_directives.specs.Content.{Content, FileData, Metadata, Eof, Finished, Ack, Nak, Prompt, KeepAlive}
 use Rattle.cfdp_directives.specs.declared.codes.Acknowledged.TheVariants as acknowledged
 use Rattle.cfdp_directives.specs.Grammar.{SpellsPdu}
 use Rattle.cfdp_directives.specs.Written.{CanWrite, pdu_octets}
-use Rattle.cfdp_directives.specs.Put.{Files}
-use Rattle.cfdp_directives.specs.Completions.{same_id}
+use Rattle.cfdp_header.specs.Files.{FileMap}
+use Rattle.cfdp_header.specs.Ids.{same_id}
 use Rattle.cfdp_directives.specs.Codes.{no_error, file_checksum_failure, file_size_error, unsupported_checksum_type}
 use Rattle.cfdp_directives.specs.declared.codes.Delivery.{Delivery}
 use Rattle.cfdp_directives.specs.declared.codes.FileStatus.{FileStatus}
@@ -204,7 +205,7 @@ receiving-is receiver_phase.Closed e = absurd (false≢true e)
 receiving-works : (r : Receiver) → r.phase ≡ Receiving → receiver_work r ≡ ack_work r.ack_due + 5
 receiving-works r is = ap (λ p. ack_work r.ack_due + receiving_work p r.finished_due) is
 
-completed_by-works : (info : Option FileInfo) (ending : Option Ending) (r : Receiver) (files : Files) → r.phase ≡ Receiving → LeavesWithin (ack_work r.ack_due + 5) (completed_by info ending r files)
+completed_by-works : (info : Option FileInfo) (ending : Option Ending) (r : Receiver) (files : FileMap) → r.phase ≡ Receiving → LeavesWithin (ack_work r.ack_due + 5) (completed_by info ending r files)
 completed_by-works (Some info) (Some ending) r files is =
     by_test (holds_below r.held ending.size) _ _ (LeavesWithin (ack_work r.ack_due + 5))
     (λ _. by_test (agrees info.checksum_kind ending.checksum (front r.held ending.size)) (published info.destination ending.size r files) (faulted file_checksum_failure r files) (LeavesWithin (ack_work r.ack_due + 5)) (λ _. omega arith) (λ _. omega arith))
@@ -212,7 +213,7 @@ completed_by-works (Some info) (Some ending) r files is =
 completed_by-works (Some info) None r files is = omega (arith, receiving-works r is)
 completed_by-works None ending r files is = omega (arith, receiving-works r is)
 
-hears_metadata-works : (kind size : ℕ) (source destination : List ℕ) (r : Receiver) (files : Files) → LeavesWithin (receiver_work r) (hears_metadata kind size source destination r files)
+hears_metadata-works : (kind size : ℕ) (source destination : List ℕ) (r : Receiver) (files : FileMap) → LeavesWithin (receiver_work r) (hears_metadata kind size source destination r files)
 hears_metadata-works kind size source destination r files =
     by_test (is_receiving r.phase && is_none r.file) _ _ (LeavesWithin (receiver_work r))
     (λ first.
@@ -224,7 +225,7 @@ hears_metadata-works kind size source destination r files =
     subst (λ n. LeavesWithin n (if is_supported kind then completed r1 files else faulted unsupported_checksum_type r1 files)) (sym (receiving-works r is)) h)
     (λ _. omega arith)
 
-hears_data-works : (offset : ℕ) (bytes : List ℕ) (r : Receiver) (files : Files) → LeavesWithin (receiver_work r) (hears_data offset bytes r files)
+hears_data-works : (offset : ℕ) (bytes : List ℕ) (r : Receiver) (files : FileMap) → LeavesWithin (receiver_work r) (hears_data offset bytes r files)
 hears_data-works offset bytes r files =
     by_test (is_receiving r.phase) _ _ (LeavesWithin (receiver_work r))
     (λ receiving.
@@ -237,7 +238,7 @@ hears_data-works offset bytes r files =
     subst (λ n. LeavesWithin n a) (sym (receiving-works r is)) h)
     (λ _. omega arith)
 
-hears_ending-works : (checksum size : ℕ) (r : Receiver) (files : Files) → r.phase ≡ Receiving → LeavesWithin (receiver_work r + 2) (hears_ending checksum size r files)
+hears_ending-works : (checksum size : ℕ) (r : Receiver) (files : FileMap) → r.phase ≡ Receiving → LeavesWithin (receiver_work r + 2) (hears_ending checksum size r files)
 hears_ending-works checksum size r files is =
     let r1 : Receiver = record r { ending = Some (record { checksum = checksum; size = size }); ack_due = Some no_error } in
     let h : LeavesWithin 7 (if holds_from r.held size then faulted file_size_error r1 files else completed r1 files) =
@@ -245,7 +246,7 @@ hears_ending-works checksum size r files is =
     (λ _. omega arith) (λ _. completed_by-works r1.file r1.ending r1 files is) in
     omega (arith, h, receiving-works r is)
 
-hears_eof-works : (condition checksum size : ℕ) (r : Receiver) (files : Files) → LeavesWithin (receiver_work r + 2) (hears_eof condition checksum size r files)
+hears_eof-works : (condition checksum size : ℕ) (r : Receiver) (files : FileMap) → LeavesWithin (receiver_work r + 2) (hears_eof condition checksum size r files)
 hears_eof-works condition checksum size r files =
     by_test (is_receiving r.phase) _ _ (LeavesWithin (receiver_work r + 2))
     (λ receiving. by_test (not (condition == no_error)) _ _ (LeavesWithin (receiver_work r + 2))
@@ -259,7 +260,7 @@ hears_ack_of_finished-works : (r : Receiver) → receiver_work (hears_ack_of_fin
 hears_ack_of_finished-works r =
     by_test (is_finishing r.phase && not r.finished_due) (record r { phase = receiver_phase.Closed }) r (λ r1. receiver_work r1 ≤ receiver_work r) (λ _. omega arith) (λ _. omega arith)
 
-pub receiver-hears-works : (v : Content) (r : Receiver) (files : Files) → receiver_work (receiver_hears v r files).receiver + 1 ≤ receiver_work r + content_work v
+pub receiver-hears-works : (v : Content) (r : Receiver) (files : FileMap) → receiver_work (receiver_hears v r files).receiver + 1 ≤ receiver_work r + content_work v
 receiver-hears-works (Metadata kind size source destination options) r files =
     let h : LeavesWithin (receiver_work r) (hears_metadata kind size source destination r files) = hears_metadata-works kind size source destination r files in
     omega (arith, h)
@@ -289,7 +290,7 @@ content-some (Prompt keep_alive) = omega arith
 content-some (KeepAlive progress) = omega arith
 
 -- a PDU that opens a receiver leaves no more than a station with none counts
-opens-works : (phase : Option ReceiverPhase) (h : Header) (v : Content) (files : Files) → transaction_work (opens phase h v files).transaction + 1 ≤ 5 + content_work v
+opens-works : (phase : Option ReceiverPhase) (h : Header) (v : Content) (files : FileMap) → transaction_work (opens phase h v files).transaction + 1 ≤ 5 + content_work v
 opens-works None h v files = let some : 1 ≤ content_work v = content-some v in omega (arith, some)
 opens-works (Some phase) h v files =
     let heard : receiver_work (receiver_hears v (opened_receiver phase h) files).receiver + 1 ≤ receiver_work (opened_receiver phase h) + content_work v = receiver-hears-works v (opened_receiver phase h) files in
@@ -305,17 +306,17 @@ opens-works (Some phase) h v files =
 abbrev Lowers : Option Transaction → Content → After → Type 0
 Lowers transaction v a = transaction_work a.transaction + 1 ≤ transaction_work transaction + content_work v
 
-unheard-works : (transaction : Option Transaction) (v : Content) (files : Files) → Lowers transaction v (no_change transaction files)
+unheard-works : (transaction : Option Transaction) (v : Content) (files : FileMap) → Lowers transaction v (no_change transaction files)
 unheard-works transaction v files = let some : 1 ≤ content_work v = content-some v in omega (arith, some)
 
-heard_by-works : (transaction : Option Transaction) (h : Header) (v : Content) (files : Files) → Lowers transaction v (heard_by transaction h v files)
+heard_by-works : (transaction : Option Transaction) (h : Header) (v : Content) (files : FileMap) → Lowers transaction v (heard_by transaction h v files)
 heard_by-works None h v files = opens-works (opening_phase v) h v files
 heard_by-works (Some (Sends x)) h v files =
     by_test (same_id x.id h.id) _ _ (Lowers (Some (Sends x)) v) (λ _. sender-hears-works v x) (λ _. unheard-works (Some (Sends x)) v files)
 heard_by-works (Some (Receives r)) h v files =
     by_test (same_id r.id h.id) _ _ (Lowers (Some (Receives r)) v) (λ _. receiver-hears-works v r files) (λ _. unheard-works (Some (Receives r)) v files)
 
-comes_to-works : (s : Side) (transaction : Option Transaction) (h : Header) (v : Content) (files : Files) → Lowers transaction v (comes_to s transaction h v files)
+comes_to-works : (s : Side) (transaction : Option Transaction) (h : Header) (v : Content) (files : FileMap) → Lowers transaction v (comes_to s transaction h v files)
 comes_to-works s transaction h v files =
     by_test (is_for s h v) _ _ (Lowers transaction v) (λ _. heard_by-works transaction h v files) (λ _. unheard-works transaction v files)
 
@@ -335,7 +336,7 @@ link-marks link mark text e =
 
 -- ---- the stations
 -- what a station takes leaves less, together with the PDU that then waits
-takes_of-works : (config : SimConfig) (s : Side) (sources : Files) (transaction : Option Transaction) (t : Taken) → 1 ≤ config.segment → takes_of config s sources transaction ≡ Some t → transaction_work (Some t.transaction) + content_work t.content < transaction_work transaction
+takes_of-works : (config : SimConfig) (s : Side) (sources : FileMap) (transaction : Option Transaction) (t : Taken) → 1 ≤ config.segment → takes_of config s sources transaction ≡ Some t → transaction_work (Some t.transaction) + content_work t.content < transaction_work transaction
 takes_of-works config s sources None t some e = cc
 takes_of-works config s sources (Some (Sends x)) t some e = from (sender_due x) refl e
   where

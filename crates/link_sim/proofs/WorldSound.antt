@@ -9,7 +9,8 @@ use Rattle.cfdp_header.specs.declared.value.TransactionId.{TransactionId}
 use Rattle.cfdp_directives.specs.declared.indication.Indication.{Indication}
 use Rattle.cfdp_directives.specs.declared.indication.Indication.TheVariants as indication
 use Rattle.cfdp_directives.specs.Written.{pdu_octets}
-use Rattle.cfdp_directives.specs.Put.{Put, Files, inbox_after}
+use Rattle.cfdp_directives.specs.Put.{Put, inbox_after}
+use Rattle.cfdp_header.specs.Files.{FileMap}
 use Rattle.cfdp_directives.specs.Completions.{completions}
 use Rattle.cfdp_directives.proofs.Puts.{completions-append, finished-append, inbox_after-append, Contains-append_left, Contains-append_right}
 use Rattle.link_sim.specs.declared.side.Side.{Side}
@@ -31,7 +32,8 @@ use Rattle.link_sim.specs.Station.{StationState, Taken, takes, takes_of, FitsWid
 use Rattle.link_sim.specs.World.{WorldState, Result, station_at, link_from, with_station, with_link, is_name, sends_file, accepts, refuses, put_file, put_step, poll_by, poll_step, strike_by, strike_step, Delivers, Steps, first_station, first_world}
 use Rattle.link_sim.specs.Theorem.{delivered, delivered_to, put_of, put_by, with_octets, accepted_as, completions_at, FoldsAt}
 use Rattle.link_sim.specs.Sound.{finished_count, SendsPut, IsSoundAt, IsSound}
-use Rattle.link_sim.proofs.Growth.{delivered-push, delivered-strike, delivered-send, inbox_after-same, same_id-itself}
+use Rattle.link_sim.proofs.Growth.{delivered-push, delivered-strike, delivered-send, inbox_after-same}
+use Rattle.cfdp_header.proofs.Ids.{same_id-itself}
 use Rattle.link_sim.proofs.StationSound.{Parts, Stays, parts-of, sound_at-of, parts-puts, parts-mark, parts-moved, moves-quiet}
 use Rattle.link_sim.proofs.Takes.{takes-soundly, parts-poll}
 use Rattle.link_sim.proofs.Hears.{heard-parts}
@@ -86,7 +88,7 @@ grows-by old new gained e id c = subst (λ (ids : List TransactionId). Contains 
 
 -- ---- the first world
 
-pub sound-first : (config : SimConfig) (outboxes inboxes : Files × Files) → is_valid_config config ≡ true → IsSound (first_world config outboxes inboxes)
+pub sound-first : (config : SimConfig) (outboxes inboxes : FileMap × FileMap) → is_valid_config config ≡ true → IsSound (first_world config outboxes inboxes)
 sound-first config outboxes inboxes valid =
     let w : WorldState = first_world config outboxes inboxes in
     sound-from w valid (first-parts One (put_of w) outboxes.0 inboxes.0 _) (first-parts Two (put_of w) outboxes.1 inboxes.1 _) (λ e. each (λ s. (station_at s w).transaction ≡ None) refl refl)
@@ -94,7 +96,7 @@ sound-first config outboxes inboxes valid =
     none_contained : {X : Type 0} (x : X) → Contains [] x → ⊥
     none_contained x c = let k = c.0 in let low : k < 0 = c.1 in omega arith
 
-    first-parts : (s : Side) (p : TransactionId → Option Put) (sources published : Files) (theirs : List TransactionId) → Parts s p (first_station sources published) (record { pdus = []; marks = [] }) [] theirs
+    first-parts : (s : Side) (p : TransactionId → Option Put) (sources published : FileMap) (theirs : List TransactionId) → Parts s p (first_station sources published) (record { pdus = []; marks = [] }) [] theirs
     first-parts s p sources published theirs = record {
       once = λ id. omega arith;
       caused = λ id c. absurd (none_contained id c);
@@ -432,5 +434,5 @@ folds-then t old mid new f g stay known =
     record {
       gained = f.gained ++ g.gained;
       completions = g.completions ∙ ap (λ (ids : List TransactionId). ids ++ g.gained) f.completions ∙ append_assoc (completions_at t old) f.gained g.gained;
-      inbox = g.inbox ∙ ap (λ (files : Files). inbox_after (put_of new) files g.gained) (f.inbox ∙ agree) ∙ sym (inbox_after-append (put_of new) (station_at t old).published f.gained g.gained);
+      inbox = g.inbox ∙ ap (λ (files : FileMap). inbox_after (put_of new) files g.gained) (f.inbox ∙ agree) ∙ sym (inbox_after-append (put_of new) (station_at t old).published f.gained g.gained);
     }

@@ -1,12 +1,7 @@
--- Files by their names.
+-- FileMap by their names.
 use Rattle.std.specs.Prelude.{ℕ, List, map, Vec}
-use Rattle.std.specs.Ordering.{nat_cmp}
-use Rattle.std.specs.Cmp.Lexicographic.{slice_cmp}
-use Rattle.std.specs.FinMap.{FinMap, from_entries}
-
--- the octets of files by their names, which are octets too
-abbrev pub FileMap : Type 0
-FileMap = FinMap (slice_cmp nat_cmp) (List ℕ)
+use Rattle.std.specs.FinMap.{from_entries}
+use Rattle.cfdp_header.specs.Files.{FileMap}
 
 module _ {Y Z : Type 0} where
   -- the files that these entries list, each a name and its octets

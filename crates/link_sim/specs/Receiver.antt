@@ -13,7 +13,7 @@ use Rattle.cfdp_directives.specs.declared.indication.Indication.TheVariants as i
 use Rattle.cfdp_directives.specs.Codes.{no_error, file_checksum_failure, file_size_error, unsupported_checksum_type, modular, null}
 use Rattle.cfdp_directives.specs.Content.{Content, FileData, Metadata, Eof, Finished, Ack, Nak, Prompt, KeepAlive}
 use Rattle.cfdp_directives.specs.Checksum.{modular_checksum}
-use Rattle.cfdp_directives.specs.Put.{Files}
+use Rattle.cfdp_header.specs.Files.{FileMap}
 use Rattle.link_sim.specs.declared.receiver.Receiver.{Receiver}
 use Rattle.link_sim.specs.declared.receiver.ReceiverPhase.{ReceiverPhase}
 use Rattle.link_sim.specs.declared.receiver.ReceiverPhase.TheVariants.{Receiving, Finishing, Closed}
@@ -92,9 +92,9 @@ receiver_taken r (due.Finished o) = record r { finished_due = false }
 pub record ReceiverAfter : Type 0 where
   pub receiver : Receiver
   pub told : List Indication
-  pub files : Files
+  pub files : FileMap
 
-abbrev pub unchanged : Receiver → Files → ReceiverAfter
+abbrev pub unchanged : Receiver → FileMap → ReceiverAfter
 unchanged r files = record { receiver = r; told = []; files = files }
 
 -- after this was indicated first
@@ -116,11 +116,11 @@ abbrev pub fault_told : ℕ → Receiver → List Indication
 fault_told condition r = indication.Fault r.id condition ∷ indication.Finished r.id condition Incomplete Discarded ∷ []
 
 -- a fault ends the transaction: nothing is published
-abbrev pub faulted : ℕ → Receiver → Files → ReceiverAfter
+abbrev pub faulted : ℕ → Receiver → FileMap → ReceiverAfter
 faulted condition r files = record { receiver = discarding condition r; told = fault_told condition r; files = files }
 
 -- the file is published and the transaction indicated complete, in one step
-abbrev pub published : List ℕ → ℕ → Receiver → Files → ReceiverAfter
+abbrev pub published : List ℕ → ℕ → Receiver → FileMap → ReceiverAfter
 published destination size r files = record {
   receiver = finishing (record { condition = no_error; delivery = Complete; status = Retained }) r;
   told = indication.Finished r.id no_error Complete Retained ∷ [];
@@ -132,7 +132,7 @@ abbrev pub agrees : ℕ → ℕ → List ℕ → Bool
 agrees kind checksum file = not (kind == modular) || (modular_checksum file == checksum)
 
 -- the completion test: Metadata and EOF were heard, and every offset below the EOF's size is held
-abbrev pub completed_by : Option FileInfo → Option Ending → Receiver → Files → ReceiverAfter
+abbrev pub completed_by : Option FileInfo → Option Ending → Receiver → FileMap → ReceiverAfter
 completed_by (Some info) (Some ending) r files =
     if holds_below r.held ending.size then
     (if agrees info.checksum_kind ending.checksum (front r.held ending.size)
@@ -142,7 +142,7 @@ completed_by (Some info) (Some ending) r files =
 completed_by (Some info) None r files = unchanged r files
 completed_by None ending r files = unchanged r files
 
-abbrev pub completed : Receiver → Files → ReceiverAfter
+abbrev pub completed : Receiver → FileMap → ReceiverAfter
 completed r files = completed_by r.file r.ending r files
 
 -- whether a checksum kind is one that can be made
@@ -150,7 +150,7 @@ abbrev pub is_supported : ℕ → Bool
 is_supported kind = (kind == modular) || (kind == null)
 
 -- the first Metadata of an open transaction
-abbrev pub hears_metadata : ℕ → ℕ → List ℕ → List ℕ → Receiver → Files → ReceiverAfter
+abbrev pub hears_metadata : ℕ → ℕ → List ℕ → List ℕ → Receiver → FileMap → ReceiverAfter
 hears_metadata kind size source destination r files =
     if is_receiving r.phase && is_none r.file then
     telling (indication.MetadataRecv r.id source destination size)
@@ -168,7 +168,7 @@ exceeds (Some ending) end = nat_lt ending.size end || nat_lt size_limit end
 exceeds None end = nat_lt size_limit end
 
 -- file data of an open transaction
-abbrev pub hears_data : ℕ → List ℕ → Receiver → Files → ReceiverAfter
+abbrev pub hears_data : ℕ → List ℕ → Receiver → FileMap → ReceiverAfter
 hears_data offset bytes r files =
     if is_receiving r.phase then
     (if exceeds r.ending (offset + length bytes) then faulted file_size_error r files
@@ -176,7 +176,7 @@ hears_data offset bytes r files =
     else unchanged r files
 
 -- the first EOF without an error of an open transaction
-abbrev pub hears_ending : ℕ → ℕ → Receiver → Files → ReceiverAfter
+abbrev pub hears_ending : ℕ → ℕ → Receiver → FileMap → ReceiverAfter
 hears_ending checksum size r files =
     telling (indication.EofRecv r.id)
     (let r1 : Receiver = record r { ending = Some (record { checksum = checksum; size = size }); ack_due = Some no_error } in
@@ -190,11 +190,11 @@ abbrev pub cancel_told : ℕ → Receiver → List Indication
 cancel_told condition r = indication.Finished r.id condition Incomplete Discarded ∷ []
 
 -- an EOF with an error closes an open transaction: nothing is published
-abbrev pub hears_cancel : ℕ → Receiver → Files → ReceiverAfter
+abbrev pub hears_cancel : ℕ → Receiver → FileMap → ReceiverAfter
 hears_cancel condition r files = record { receiver = cancelled condition r; told = cancel_told condition r; files = files }
 
 -- each EOF is acknowledged; what else it does depends on the phase, on its condition and on whether it is the first
-abbrev pub hears_eof : ℕ → ℕ → ℕ → Receiver → Files → ReceiverAfter
+abbrev pub hears_eof : ℕ → ℕ → ℕ → Receiver → FileMap → ReceiverAfter
 hears_eof condition checksum size r files =
     if is_receiving r.phase then
     (if not (condition == no_error) then hears_cancel condition r files
@@ -207,7 +207,7 @@ abbrev pub hears_ack_of_finished : Receiver → Receiver
 hears_ack_of_finished r = if is_finishing r.phase && not r.finished_due then record r { phase = Closed } else r
 
 -- what else is heard changes nothing
-abbrev pub receiver_hears : Content → Receiver → Files → ReceiverAfter
+abbrev pub receiver_hears : Content → Receiver → FileMap → ReceiverAfter
 receiver_hears (Metadata kind size source destination options) r files = hears_metadata kind size source destination r files
 receiver_hears (FileData offset bytes) r files = hears_data offset bytes r files
 receiver_hears (Eof condition checksum size tlvs) r files = hears_eof condition checksum size r files
@@ -219,13 +219,13 @@ receiver_hears (Prompt keep_alive) r files = unchanged r files
 receiver_hears (KeepAlive progress) r files = unchanged r files
 
 -- A step left this receiver, with what it indicated and the published files.
-pub record Does (a : ReceiverAfter) (new : Receiver) (told_before told_now : List Indication) (files_now : Files) : Type 0 where
+pub record Does (a : ReceiverAfter) (new : Receiver) (told_before told_now : List Indication) (files_now : FileMap) : Type 0 where
   pub receiver : new ≡ a.receiver
   pub tells : told_now ≡ told_before ++ a.told
   pub files : files_now ≡ a.files
 
 -- A step that found no memory left all as it was.
-pub record Keeps (old new : Receiver) (told_before told_now : List Indication) (files_before files_now : Files) : Type 0 where
+pub record Keeps (old new : Receiver) (told_before told_now : List Indication) (files_before files_now : FileMap) : Type 0 where
   pub receiver : new ≡ old
   pub tells : told_now ≡ told_before
   pub files : files_now ≡ files_before

@@ -8,7 +8,8 @@ use Rattle.cfdp_header.specs.declared.value.Header.{Header}
 use Rattle.cfdp_directives.specs.declared.indication.Indication.{Indication}
 use Rattle.cfdp_directives.specs.Content.{Content, FileData, Metadata, Eof, Finished, Ack, Nak, Prompt, KeepAlive}
 use Rattle.cfdp_directives.specs.Grammar.{SpellsPdu}
-use Rattle.cfdp_directives.specs.Put.{Put, Files, SomePdu, IsMetadataOf, IsEofOf, Brings, HeardInFull, inbox_after}
+use Rattle.cfdp_directives.specs.Put.{Put, SomePdu, IsMetadataOf, IsEofOf, Brings, HeardInFull, inbox_after}
+use Rattle.cfdp_header.specs.Files.{FileMap}
 use Rattle.cfdp_directives.specs.Completions.{is_complete, is_finished, completions}
 use Rattle.link_sim.specs.declared.side.Side.{Side}
 use Rattle.link_sim.specs.declared.sender.Sender.{Sender}
@@ -32,7 +33,7 @@ abbrev pub finished_count : TransactionId → List Indication → ℕ
 finished_count id told = count_by (is_finished id) told
 
 -- A sender keeps what its put says, and isn't finished while it is open.
-pub record SendsPut (own : ℕ) (put_of : TransactionId → Option Put) (sources : Files) (told : List Indication) (x : Sender) : Type 0 where
+pub record SendsPut (own : ℕ) (put_of : TransactionId → Option Put) (sources : FileMap) (told : List Indication) (x : Sender) : Type 0 where
   pub put : Put
   pub is_put : put_of x.id ≡ Some put
   pub is_own : x.id.source ≡ own
@@ -73,7 +74,7 @@ pub record ReceivesPut (own : ℕ) (put_of : TransactionId → Option Put) (hear
   pub complete : (o : Outcome) → r.outcome ≡ Some o → is_complete o.condition o.delivery o.status ≡ true → Contains (completions own told) r.id
 
 -- The files were overwritten by those of the puts that these indications complete, and each such put was heard in full.
-pub record Completes (own : ℕ) (put_of : TransactionId → Option Put) (heard : List (List ℕ)) (more : List Indication) (before files : Files) : Type 0 where
+pub record Completes (own : ℕ) (put_of : TransactionId → Option Put) (heard : List (List ℕ)) (more : List Indication) (before files : FileMap) : Type 0 where
   pub inbox : files ≡ inbox_after put_of before (completions own more)
   pub caused : (id : TransactionId) → Contains (completions own more) id → (put : Put) × ((put_of id ≡ Some put) × HeardInFull put heard)
 
@@ -83,13 +84,13 @@ pub record FinishesOnly (id : TransactionId) (told more : List Indication) : Typ
   pub once : finished_count id told + finished_count id more ≤ 1
 
 -- A receiver's step keeps all this.
-pub record StepsSoundly (own : ℕ) (put_of : TransactionId → Option Put) (heard : List (List ℕ)) (told : List Indication) (before : Files) (id : TransactionId) (a : ReceiverAfter) : Type 0 where
+pub record StepsSoundly (own : ℕ) (put_of : TransactionId → Option Put) (heard : List (List ℕ)) (told : List Indication) (before : FileMap) (id : TransactionId) (a : ReceiverAfter) : Type 0 where
   pub receives : ReceivesPut own put_of heard (told ++ a.told) a.receiver
   pub completes : Completes own put_of heard a.told before a.files
   pub finishes : FinishesOnly id told a.told
   pub same_id : a.receiver.id ≡ id
 
-abbrev pub IsSoundTransaction : ℕ → (TransactionId → Option Put) → Files → List (List ℕ) → List Indication → Option Transaction → Type 0
+abbrev pub IsSoundTransaction : ℕ → (TransactionId → Option Put) → FileMap → List (List ℕ) → List Indication → Option Transaction → Type 0
 IsSoundTransaction own put_of sources heard told None = Unit {0}
 IsSoundTransaction own put_of sources heard told (Some (Sends x)) = SendsPut own put_of sources told x
 IsSoundTransaction own put_of sources heard told (Some (Receives r)) = ReceivesPut own put_of heard told r

@@ -12,8 +12,8 @@ use Rattle.cfdp_directives.specs.Content.{Content}
 use Rattle.cfdp_directives.specs.Grammar.{SpellsPdu}
 use Rattle.cfdp_directives.specs.Faults.{pdu_fault}
 use Rattle.cfdp_directives.specs.Written.{pdu_octets}
-use Rattle.cfdp_directives.specs.Put.{Files}
-use Rattle.cfdp_directives.specs.Completions.{same_id}
+use Rattle.cfdp_header.specs.Files.{FileMap}
+use Rattle.cfdp_header.specs.Ids.{same_id}
 use Rattle.link_sim.specs.declared.side.Side.{Side}
 use Rattle.link_sim.specs.declared.config.SimConfig.{SimConfig}
 use Rattle.link_sim.specs.declared.sender.Sender.{Sender}
@@ -31,8 +31,8 @@ use Rattle.link_sim.specs.Receiver.{ReceiverAfter, receiver_due, receiver_says, 
 
 -- the files that can be sent, the files that were published, what was indicated, and the transaction, if there is one
 pub record StationState : Type 0 where
-  pub sources : Files
-  pub published : Files
+  pub sources : FileMap
+  pub published : FileMap
   pub told : List Indication
   pub transaction : Option Transaction
 
@@ -42,7 +42,7 @@ id_of (Sends x) = x.id
 id_of (Receives r) = r.id
 
 -- the octets of a file, none where there is no such file
-abbrev pub file_at : Files → List ℕ → List ℕ
+abbrev pub file_at : FileMap → List ℕ → List ℕ
 file_at files name = unwrap_or (get files name) []
 
 -- a PDU that is taken to be sent: the transaction then, and what that indicates
@@ -70,7 +70,7 @@ takes_from_receiver s r d = record {
   told = [];
 }
 
-abbrev pub takes_of : SimConfig → Side → Files → Option Transaction → Option Taken
+abbrev pub takes_of : SimConfig → Side → FileMap → Option Transaction → Option Taken
 takes_of config s sources None = None
 takes_of config s sources (Some (Sends x)) = option_map (takes_from_sender config s (file_at sources x.source) x) (sender_due x)
 takes_of config s sources (Some (Receives r)) = option_map (takes_from_receiver s r) (receiver_due r)
@@ -106,24 +106,24 @@ PollsStation (Some t) moved old new link_before link_now =
 pub record After : Type 0 where
   pub transaction : Option Transaction
   pub told : List Indication
-  pub files : Files
+  pub files : FileMap
 
-abbrev pub no_change : Option Transaction → Files → After
+abbrev pub no_change : Option Transaction → FileMap → After
 no_change transaction files = record { transaction = transaction; told = []; files = files }
 
-abbrev pub from_sender : Files → SenderAfter → After
+abbrev pub from_sender : FileMap → SenderAfter → After
 from_sender files a = record { transaction = Some (Sends a.sender); told = a.told; files = files }
 
 abbrev pub from_receiver : ReceiverAfter → After
 from_receiver a = record { transaction = Some (Receives a.receiver); told = a.told; files = a.files }
 
 -- a PDU of no transaction opens one, where it is one that may
-abbrev pub opens : Option ReceiverPhase → Header → Content → Files → After
+abbrev pub opens : Option ReceiverPhase → Header → Content → FileMap → After
 opens None h v files = no_change None files
 opens (Some phase) h v files = from_receiver (receiver_hears v (opened_receiver phase h) files)
 
 -- a PDU of another transaction than the one that is here changes nothing
-abbrev pub heard_by : Option Transaction → Header → Content → Files → After
+abbrev pub heard_by : Option Transaction → Header → Content → FileMap → After
 heard_by None h v files = opens (opening_phase v) h v files
 heard_by (Some (Sends x)) h v files =
     if same_id x.id h.id then from_sender files (sender_hears v x) else no_change (Some (Sends x)) files
@@ -131,20 +131,20 @@ heard_by (Some (Receives r)) h v files =
     if same_id r.id h.id then from_receiver (receiver_hears v r files) else no_change (Some (Receives r)) files
 
 -- what a PDU does that comes to the station of this side: one that isn't for it changes nothing
-abbrev pub comes_to : Side → Option Transaction → Header → Content → Files → After
+abbrev pub comes_to : Side → Option Transaction → Header → Content → FileMap → After
 comes_to s transaction h v files = if is_for s h v then heard_by transaction h v files else no_change transaction files
 
 abbrev pub after_heard : StationState → After → StationState
 after_heard st a = record st { published = a.files; told = st.told ++ a.told; transaction = a.transaction }
 
 -- Hearing a PDU left this transaction, with what it indicated and the published files.
-pub record Leaves (a : After) (new : Option Transaction) (told_before told_now : List Indication) (files_now : Files) : Type 0 where
+pub record Leaves (a : After) (new : Option Transaction) (told_before told_now : List Indication) (files_now : FileMap) : Type 0 where
   pub transaction : new ≡ a.transaction
   pub tells : told_now ≡ told_before ++ a.told
   pub files : files_now ≡ a.files
 
 -- It found no memory, and left all as it was.
-pub record KeepsAll (old new : Option Transaction) (told_before told_now : List Indication) (files_before files_now : Files) : Type 0 where
+pub record KeepsAll (old new : Option Transaction) (told_before told_now : List Indication) (files_before files_now : FileMap) : Type 0 where
   pub transaction : new ≡ old
   pub tells : told_now ≡ told_before
   pub files : files_now ≡ files_before

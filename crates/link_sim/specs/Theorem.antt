@@ -11,8 +11,10 @@ use Rattle.cfdp_directives.specs.Codes.{no_error}
 use Rattle.cfdp_directives.specs.Tlv.{Tlv}
 use Rattle.cfdp_directives.specs.Content.{Content, FileData, Metadata, Eof, Finished, Ack, Nak, Prompt, KeepAlive}
 use Rattle.cfdp_directives.specs.Grammar.{SpellsPdu}
-use Rattle.cfdp_directives.specs.Put.{Put, Files, IsTruthful, HeardInFull, SomePdu, inbox_after}
-use Rattle.cfdp_directives.specs.Completions.{same_id, completions, FinishedOnce, IsToldComplete}
+use Rattle.cfdp_directives.specs.Put.{Put, IsTruthful, HeardInFull, SomePdu, inbox_after}
+use Rattle.cfdp_header.specs.Files.{FileMap}
+use Rattle.cfdp_directives.specs.Completions.{completions, FinishedOnce, IsToldComplete}
+use Rattle.cfdp_header.specs.Ids.{same_id}
 use Rattle.link_sim.specs.declared.side.Side.{Side}
 use Rattle.link_sim.specs.declared.side.Side.TheVariants.{One, Two}
 use Rattle.link_sim.specs.declared.event.AcceptedPut.{AcceptedPut}

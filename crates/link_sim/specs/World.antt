@@ -4,7 +4,7 @@ use Rattle.std.specs.FinMap.{get}
 use Rattle.cfdp_header.specs.declared.value.TransactionId.{TransactionId}
 use Rattle.cfdp_directives.specs.declared.indication.Indication.TheVariants as indication
 use Rattle.cfdp_directives.specs.Written.{pdu_octets}
-use Rattle.cfdp_directives.specs.Put.{Files}
+use Rattle.cfdp_header.specs.Files.{FileMap}
 use Rattle.link_sim.specs.declared.side.Side.{Side}
 use Rattle.link_sim.specs.declared.side.Side.TheVariants.{One, Two}
 use Rattle.link_sim.specs.declared.config.SimConfig.{SimConfig}
@@ -184,15 +184,15 @@ pub record IsSettled (w : WorldState) : Type 0 where
   pub none_waits : (s : Side) → waiting (link_from s w) ≡ None
 
 -- a station's files, of those of both
-abbrev pub files_of : Side → Files × Files → Files
+abbrev pub files_of : Side → FileMap × FileMap → FileMap
 files_of One files = files.0
 files_of Two files = files.1
 
 -- two stations that have done nothing yet, and a link that is empty
-abbrev pub first_station : Files → Files → StationState
+abbrev pub first_station : FileMap → FileMap → StationState
 first_station sources published = record { sources = sources; published = published; told = []; transaction = None }
 
-abbrev pub first_world : SimConfig → Files × Files → Files × Files → WorldState
+abbrev pub first_world : SimConfig → FileMap × FileMap → FileMap × FileMap → WorldState
 first_world config outboxes inboxes = record {
   config = config;
   one = first_station outboxes.0 inboxes.0;

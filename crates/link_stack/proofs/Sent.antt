@@ -2,8 +2,8 @@
 use Rattle.std.proofs.Common.{◌≡◌, ℕ, ◌+◌, ◌-◌, ◌*◌, ◌%◌, ◌<◌, ◌≤◌, Bool, true, false, ◌||◌, ◌==◌, None, List, [], ◌∷◌, ◌++◌, ◌⊎◌, length, take, refl, sym, ap, subst, ◌∙◌, inl, inr, arith}
 use Rattle.std.proofs.lemmas.Bool.{cases_Bool, eq-eqb}
 use Rattle.std.proofs.lemmas.List.{append-nil, append_assoc, take_at, take_all}
-use Rattle.cfd_bits.specs.Field.{octets}
-use Rattle.space_packet.specs.Packet.{Parts, SpellsPacket, flag, idle, packet_octets}
+use Rattle.cfd_bits.specs.Field.{octets, flag}
+use Rattle.space_packet.specs.Packet.{Parts, SpellsPacket, idle, packet_octets}
 use Rattle.space_packet.proofs.Spelling.{written_packet_is_read, idle_is_writable}
 use Rattle.aos_frame.specs.Counts.{frame_counts}
 use Rattle.aos_frame.specs.Frame.{header_octets, frame_octets}

@@ -1,6 +1,6 @@
 -- How any zone is read, also one of no stream.
 use Rattle.std.specs.Prelude.{ℕ, zero, suc, ◌+◌, ◌-◌, Bool, true, false, not, ◌&&◌, ◌||◌, ◌==◌, nat_lt, if◌then◌else◌, List, [], ◌∷◌, ◌++◌, length, take, drop}
-use Rattle.space_packet.specs.Packet.{flag}
+use Rattle.cfd_bits.specs.Field.{flag}
 use Rattle.mpdu.specs.Stream.{header_len, header_ok, is_idle, keep}
 
 -- what was read: the begun packet, the whole ones that aren't idle, and whether a bad header ended it

@@ -1,10 +1,10 @@
 -- What the octets of a packet determine, and what is written.
 use Rattle.std.proofs.Common.{◌≡◌, ℕ, zero, suc, ◌+◌, ◌-◌, ◌*◌, ◌/◌, ◌%◌, ◌^◌, ◌<◌, ◌≤◌, Bool, true, false, nat_eq, List, [], ◌++◌, length, take, drop, refl, sym, ap, subst, ◌∙◌, arith, append_assoc, length-append, length-drop, lit<, replicate}
 use Rattle.std.proofs.lemmas.List.{take_at, drop_at, length-take-le, take-append-drop, drop-drop, length-replicate}
-use Rattle.cfd_bits.specs.Field.{field, octets}
+use Rattle.cfd_bits.specs.Field.{field, octets, flag}
 use Rattle.cfd_bits.proofs.Fields.{IsBytes, length-octets, field-append_left, octets-field}
 use Rattle.cfd_bits.proofs.BitFields.{field-below, field-split, field-take, field_of_octets}
-use Rattle.space_packet.specs.Packet.{Parts, SpellsPacket, IsWritable, flag, packet_octets, header_octets, idle}
+use Rattle.space_packet.specs.Packet.{Parts, SpellsPacket, IsWritable, packet_octets, header_octets, idle}
 
 pub same_flag : (a b : Bool) → flag a ≡ flag b → a ≡ b
 same_flag true true e = refl

@@ -1,6 +1,6 @@
 -- What a space packet is, and which octets spell it (CCSDS 133.0-B-2, 4.1).
 use Rattle.std.specs.Prelude.{◌≡◌, ℕ, ◌+◌, ◌-◌, ◌*◌, ◌<◌, ◌≤◌, Bool, true, false, List, ◌++◌, length, drop, replicate, Option, Some, None, nat_lt, ◌==◌, not, if◌then◌else◌}
-use Rattle.cfd_bits.specs.Field.{field, octets}
+use Rattle.cfd_bits.specs.Field.{field, octets, flag}
 use Rattle.space_packet.specs.declared.error.PacketError.{PacketError}
 use Rattle.space_packet.specs.declared.error.PacketError.TheVariants.{Short, Version}
 use Rattle.space_packet.specs.declared.packet.Packet.{Packet}
@@ -17,10 +17,6 @@ pub record Parts : Type 0 where
 -- the parts of a packet whose body is lent
 abbrev pub view : Packet → Parts
 view p = record { apid = p.apid; kind = p.kind; secondary = p.secondary; flags = p.flags; count = p.count; body = p.body.now }
-
-abbrev pub flag : Bool → ℕ
-flag true = 1
-flag false = 0
 
 -- octets of a packet: the primary header and the data field (4.1.2)
 abbrev pub packet_len : Parts → ℕ

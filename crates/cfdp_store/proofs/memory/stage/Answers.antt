@@ -1,5 +1,5 @@
 use Rattle.std.proofs.Common.{rules}
-use Rattle.cfdp_store.proofs.Ids.{other_id}
+use Rattle.cfdp_header.proofs.Ids.{other_id}
 use Rattle.cfdp_store.proofs.memory.stage.Goals as goal
 
 pub returns-in-Some-clause-others : goal.returns-in-Some-clause-others

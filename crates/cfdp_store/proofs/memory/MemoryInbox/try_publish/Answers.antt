@@ -1,4 +1,4 @@
-use Rattle.cfdp_store.proofs.Ids.{other_id}
+use Rattle.cfdp_header.proofs.Ids.{other_id}
 use Rattle.cfdp_store.proofs.memory.MemoryInbox.try_publish.Goals as goal
 
 pub returns-in_err-octets-clause-others : goal.returns-in_err-octets-clause-others

@@ -1,4 +1,4 @@
-use Rattle.cfdp_store.proofs.Ids.{other_id}
+use Rattle.cfdp_header.proofs.Ids.{other_id}
 use Rattle.cfdp_store.proofs.memory.MemoryInboxInbox.begin.Goals as goal
 
 pub returns-in-Ok-clause-others : goal.returns-in-Ok-clause-others

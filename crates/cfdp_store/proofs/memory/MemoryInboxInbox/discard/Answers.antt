@@ -1,4 +1,4 @@
-use Rattle.cfdp_store.proofs.Ids.{other_id}
+use Rattle.cfdp_header.proofs.Ids.{other_id}
 use Rattle.cfdp_store.proofs.memory.MemoryInboxInbox.discard.Goals as goal
 
 pub returns-clause-others : goal.returns-clause-others
