@@ -146,6 +146,9 @@ length-location entity width ts e =
     let whole : flat_map tlv (fault_location entity width ∷ []) ≡ 6 ∷ length (octets width entity) ∷ (octets width entity ++ []) = refl in
     ap (λ (us : List Tlv). length (flat_map tlv us)) e ∙ ap length whole ∙ omega (arith, length-octets width entity, length-append (octets width entity) [])
 
+pub location_len : (entity width : ℕ) → length (flat_map tlv (fault_location entity width ∷ [])) ≡ 2 + width
+location_len entity width = length-location entity width (fault_location entity width ∷ []) refl
+
 -- a field of whole octets behind others
 pub field_behind : (n w : ℕ) (o : List ℕ) → field (drop n o) 0 w ≡ field o (8 * n) w
 field_behind n w o = let place : 8 * n + 0 ≡ 8 * n = omega arith in field-drop n o 0 w ∙ ap (λ (at : ℕ). field o at w) place

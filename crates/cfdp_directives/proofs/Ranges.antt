@@ -2,10 +2,11 @@
 use Rattle.std.proofs.Common.{◌≡◌, ℕ, zero, suc, ◌*◌, ◌/◌, ◌%◌, ◌<◌, List, [], ◌∷◌, ◌++◌, length, take, drop, refl, sym, ap, ◌∙◌, arith, length-drop, append_assoc}
 use Rattle.std.proofs.lemmas.List.{take-append-drop, drop-drop, nil_from_length}
 use Rattle.std.proofs.lemmas.List.Concat.{flat_map-cons}
-use Rattle.std.specs.List.{flat_map}
+use Rattle.std.specs.List.{flat_map, AllByRecursion}
 use Rattle.cfd_bits.specs.Field.{field, octets}
+use Rattle.cfd_bits.proofs.BitFields.{field-below_octets}
 use Rattle.cfd_bits.proofs.Fields.{IsBytes, IsBytes-drop, octets-field}
-use Rattle.cfdp_directives.specs.Pair.{pair, pairs_of, ArePairs}
+use Rattle.cfdp_directives.specs.Pair.{pair, pairs_of, ArePairs, IsPair}
 
 pub pairs_spelled_at : (n : ℕ) (octets : List ℕ) → length octets ≡ 8 * n → ArePairs 4 (pairs_of 4 n octets) octets
 unfolding pairs_of
@@ -72,6 +73,15 @@ first_pair o whole h =
 pub no_pair : (o : List ℕ) → length o ≡ 0 → pairs_of 4 (length o / 8) o ≡ []
 unfolding pairs_of
 no_pair o h = let none : length o / 8 ≡ 0 = omega arith in rw none refl
+
+-- pairs that were read fit their fields
+pairs_fit_at : (n : ℕ) (o : List ℕ) → AllByRecursion (IsPair 4) (pairs_of 4 n o)
+unfolding pairs_of
+pairs_fit_at zero o = tt
+pairs_fit_at (suc n) o = ((field-below_octets o 0 4, field-below_octets o 32 4), pairs_fit_at n (drop 8 o))
+
+pub pairs_fit : (o : List ℕ) → AllByRecursion (IsPair 4) (pairs_of 4 (length o / 8) o)
+pairs_fit o = pairs_fit_at (length o / 8) o
 
 pub pairs_whole : (o : List ℕ) → length o % 8 ≡ 0 → length o ≡ 8 * length (pairs_of 4 (length o / 8) o)
 pairs_whole o whole = omega (arith, pairs_count o)

@@ -6,7 +6,7 @@ use Rattle.std.proofs.lemmas.List.Concat.{flat_map-cons}
 use Rattle.cfd_bits.specs.Field.{field, octets, flag}
 use Rattle.cfd_bits.proofs.Fields.{field_between, field_in_octet}
 use Rattle.cfdp_header.specs.declared.value.Header.{Header}
-use Rattle.cfdp_header.specs.Header.{header_len, header_octets}
+use Rattle.cfdp_header.specs.Header.{FitsHeader, header_len, header_octets}
 use Rattle.cfdp_header.proofs.Laws as header
 use Rattle.cfdp_directives.specs.declared.codes.Delivery.{Delivery}
 use Rattle.cfdp_directives.specs.declared.codes.Delivery.TheVariants.{Complete, Incomplete}
@@ -227,3 +227,7 @@ behind_data out middle front at len end stayed size room ends =
     let whole : length front ≡ at + len = size ∙ length-take-le (at + len) middle room in
     let cut : drop (at + len) middle ≡ drop (at + len) out = sym (drop-drop len at middle) ∙ ap (λ (t : List ℕ). drop len t) stayed ∙ drop-drop len at out in
     rw ends (drop_at front (drop (at + len) middle) (at + len) whole ∙ cut)
+
+-- the header of what was read fits its fields
+pub answered : (h : Header) (v : Content) (t : List ℕ) → SpellsPdu h v t → FitsHeader h
+answered h v t p = header.read_fits h t p.header

@@ -32,10 +32,4 @@ view (pdu.KeepAlive progress) = KeepAlive progress
 -- whether it is file data, and no directive
 abbrev pub is_file_data : Content → Bool
 is_file_data (FileData offset bytes) = true
-is_file_data (Metadata kind size source destination options) = false
-is_file_data (Eof condition checksum size tlvs) = false
-is_file_data (Finished condition delivery status tlvs) = false
-is_file_data (Ack of condition status) = false
-is_file_data (Nak start end pairs) = false
-is_file_data (Prompt keep_alive) = false
-is_file_data (KeepAlive progress) = false
+is_file_data _ = false

@@ -1,11 +1,11 @@
 -- What is wrong with octets that are no PDU: the first fault, in the order in which faults are told.
-use Rattle.std.specs.Prelude.{ℕ, ◌+◌, ◌-◌, ◌*◌, ◌%◌, Bool, false, List, [], ◌∷◌, length, drop, Option, Some, None, is_none, ◌==◌, nat_lt, nat_le, not, ◌&&◌, if◌then◌else◌}
+use Rattle.std.specs.Prelude.{ℕ, ◌+◌, ◌-◌, ◌*◌, ◌%◌, Bool, false, List, [], ◌∷◌, length, drop, Option, Some, None, is_none, ◌==◌, nat_lt, nat_le, not, ◌&&◌, if◌then◌else◌, codes}
 use Rattle.cfd_bits.specs.Field.{field}
 use Rattle.cfdp_header.specs.declared.error.HeaderError.{HeaderError}
-use Rattle.cfdp_header.specs.Header.{header_fault, header_len_told, refusal_number}
+use Rattle.cfdp_header.specs.Header.{header_fault, header_len_told, refusal_number, refusal_name}
 use Rattle.cfdp_directives.specs.declared.error.PduError.{PduError}
 use Rattle.cfdp_directives.specs.declared.error.PduError.TheVariants.{Header, Directive, Truncated, Trailing, Tlv, Condition}
-use Rattle.cfdp_directives.specs.Codes.{is_refused}
+use Rattle.cfdp_directives.specs.Codes.{file_size_octets, is_refused}
 use Rattle.cfdp_directives.specs.Tlv.{tlvs_of}
 use Rattle.cfdp_directives.specs.Grammar.{skipped}
 
@@ -88,9 +88,12 @@ abbrev pub after_header : Option HeaderError → Option PduError → Option PduE
 after_header None next = next
 after_header (Some e) next = Some (Header e)
 
--- file-size fields have four octets in every PDU that passes the header's tests
+-- what is wrong with octets that are no PDU: a header that is read tells of no large file
 abbrev pub pdu_fault : List ℕ → Option PduError
-pdu_fault text = after_header (header_fault text) (content_fault 4 (field text 3 1 == 1) (field text 28 1 == 1) (drop (header_len_told text) text))
+pdu_fault text =
+    after_header (header_fault text)
+    (content_fault file_size_octets (field text 3 1 == 1) (field text 28 1 == 1)
+    (drop (header_len_told text) text))
 
 -- the number of a refusal
 abbrev pub pdu_refusal_number : PduError → ℕ
@@ -100,3 +103,12 @@ pdu_refusal_number Truncated = 8
 pdu_refusal_number Trailing = 9
 pdu_refusal_number Tlv = 10
 pdu_refusal_number Condition = 11
+
+-- its name: of a header's refusal, that one's
+abbrev pub pdu_refusal_name : PduError → List ℕ
+pdu_refusal_name (Header e) = refusal_name e
+pdu_refusal_name Directive = codes "Directive"
+pdu_refusal_name Truncated = codes "Truncated"
+pdu_refusal_name Trailing = codes "Trailing"
+pdu_refusal_name Tlv = codes "Tlv"
+pdu_refusal_name Condition = codes "Condition"

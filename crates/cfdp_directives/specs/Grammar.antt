@@ -1,5 +1,5 @@
 -- Which octets are which PDU, by the bit fields of the standard's tables. Spare bits are in no line: they are read as anything.
-use Rattle.std.specs.Prelude.{◌≡◌, ℕ, ◌+◌, ◌*◌, ◌≤◌, Bool, true, false, List, ◌∷◌, ◌++◌, length, drop, if◌then◌else◌}
+use Rattle.std.specs.Prelude.{◌≡◌, ℕ, ◌+◌, ◌*◌, ◌≤◌, Bool, false, List, ◌∷◌, ◌++◌, length, drop, if◌then◌else◌}
 use Rattle.std.specs.List.{flat_map}
 use Rattle.cfd_bits.specs.Field.{field, flag}
 use Rattle.cfdp_header.specs.declared.value.Header.{Header}
@@ -8,14 +8,14 @@ use Rattle.cfdp_directives.specs.declared.codes.Delivery.{Delivery}
 use Rattle.cfdp_directives.specs.declared.codes.FileStatus.{FileStatus}
 use Rattle.cfdp_directives.specs.declared.codes.TransactionStatus.{TransactionStatus}
 use Rattle.cfdp_directives.specs.declared.codes.Acknowledged.{Acknowledged}
-use Rattle.cfdp_directives.specs.Codes.{is_refused, delivery_code, file_status_code, transaction_status_code, acknowledged_code}
+use Rattle.cfdp_directives.specs.Codes.{file_size_octets, is_refused, delivery_code, file_status_code, transaction_status_code, acknowledged_code}
 use Rattle.cfdp_directives.specs.Tlv.{Tlv, tlv}
 use Rattle.cfdp_directives.specs.Pair.{ArePairs}
-use Rattle.cfdp_directives.specs.Content.{Content, FileData, Metadata, Eof, Finished, Ack, Nak, Prompt, KeepAlive}
+use Rattle.cfdp_directives.specs.Content.{Content, FileData, Metadata, Eof, Finished, Ack, Nak, Prompt, KeepAlive, is_file_data}
 
--- octets of a file-size field, FSS (CCSDS 727.0-B-5, 5.1.10)
+-- octets of a file-size field, FSS, in a PDU with this header (CCSDS 727.0-B-5, 5.1.10): no header read here has the large file flag
 abbrev pub fss : Header → ℕ
-fss h = 4
+fss h = file_size_octets
 
 -- an octet of length, and that many octets: LV (CCSDS 727.0-B-5, 5.1.8)
 abbrev pub lv : List ℕ → List ℕ
@@ -32,7 +32,7 @@ pub record IsFileData (w : ℕ) (segment_metadata : Bool) (offset : ℕ) (bytes 
   pub after : drop (skipped segment_metadata d + w) d ≡ bytes
 
 -- Metadata (CCSDS 727.0-B-5, 5.2.5). Bits 8 to 11 are free: spare, closure requested, spare.
-pub record IsMetadata (w : ℕ) (checksum_kind size : ℕ) (source destination : List ℕ) (options : List Tlv) (d : List ℕ) : Type 0 where
+pub record IsMetadata (w checksum_kind size : ℕ) (source destination : List ℕ) (options : List Tlv) (d : List ℕ) : Type 0 where
   pub room : 2 + w ≤ length d
   pub code : field d 0 8 ≡ 7
   pub kind_field : field d 12 4 ≡ checksum_kind
@@ -88,16 +88,21 @@ pub record IsKeepAlive (w : ℕ) (progress : ℕ) (d : List ℕ) : Type 0 where
   pub code : field d 0 8 ≡ 12
   pub progress_field : field d 8 (8 * w) ≡ progress
 
+-- The octets d say this; file-size fields have w octets.
+abbrev pub IsContent : ℕ → Bool → Content → List ℕ → Type 0
+IsContent w segment_metadata (FileData offset bytes) d = IsFileData w segment_metadata offset bytes d
+IsContent w segment_metadata (Metadata kind size source destination options) d =
+    IsMetadata w kind size source destination options d
+IsContent w segment_metadata (Eof condition checksum size tlvs) d = IsEof w condition checksum size tlvs d
+IsContent w segment_metadata (Finished condition delivery status tlvs) d = IsFinished condition delivery status tlvs d
+IsContent w segment_metadata (Ack of condition status) d = IsAck of condition status d
+IsContent w segment_metadata (Nak start end pairs) d = IsNak w start end pairs d
+IsContent w segment_metadata (Prompt keep_alive) d = IsPrompt keep_alive d
+IsContent w segment_metadata (KeepAlive progress) d = IsKeepAlive w progress d
+
 -- The data field d of a PDU with this header says this.
 abbrev pub Says : Header → Content → List ℕ → Type 0
-Says h (FileData offset bytes) d = (h.file_data ≡ true) × IsFileData (fss h) h.segment_metadata offset bytes d
-Says h (Metadata kind size source destination options) d = (h.file_data ≡ false) × IsMetadata (fss h) kind size source destination options d
-Says h (Eof condition checksum size tlvs) d = (h.file_data ≡ false) × IsEof (fss h) condition checksum size tlvs d
-Says h (Finished condition delivery status tlvs) d = (h.file_data ≡ false) × IsFinished condition delivery status tlvs d
-Says h (Ack of condition status) d = (h.file_data ≡ false) × IsAck of condition status d
-Says h (Nak start end pairs) d = (h.file_data ≡ false) × IsNak (fss h) start end pairs d
-Says h (Prompt keep_alive) d = (h.file_data ≡ false) × IsPrompt keep_alive d
-Says h (KeepAlive progress) d = (h.file_data ≡ false) × IsKeepAlive (fss h) progress d
+Says h v d = (h.file_data ≡ is_file_data v) × IsContent (fss h) h.segment_metadata v d
 
 -- The octets, all of them, are this PDU.
 pub record SpellsPdu (h : Header) (v : Content) (text : List ℕ) : Type 0 where

@@ -1,11 +1,21 @@
-// The numbers of the standard that have names.
-ghost use Rattle.std.specs.Prelude.{◌≡◌, ℕ, ◌<◌, ◌↔◌, IsSome, IfSome};
-ghost use Rattle.cfdp_directives.specs.Codes.{IsCondition, delivery_code, file_status_code, transaction_status_code, acknowledged_code, acknowledged_subtype};
+// The numbers of the standard that have names, and the octets of a file-size field.
+ghost use Rattle.std.specs.Prelude.{◌≡◌, ℕ, ◌<◌, ◌^◌, ◌↔◌, IsSome, IsTrue, IfSome};
+ghost use Rattle.cfdp_directives.specs.Codes.{file_size_octets, IsCondition, delivery_code, file_status_code, transaction_status_code, acknowledged_code, acknowledged_subtype};
 
 use std::marker::Model;
 
-/// Octets of a file-size field (CCSDS 727.0-B-5, 5.1.10).
+/// Octets of a file-size field, as an offset, where the file is not large (CCSDS 727.0-B-5, 5.1.10): in every PDU of this stack.
 pub const FILE_SIZE_OCTETS: usize = 4;
+
+/// The largest number that a file-size field holds.
+const LARGEST_SIZE: u64 = u64::MAX >> (64 - 8 * FILE_SIZE_OCTETS);
+
+/// Whether a size or an offset fits a file-size field.
+pub fn is_file_size(value: u64) -> bool
+    ensures { IsTrue result ↔ (value < 256 ^ file_size_octets) }
+{
+    value <= LARGEST_SIZE
+}
 
 /// Why a transaction ended, or what went wrong in it: a condition code of 4 bits (CCSDS 727.0-B-5, table 5-5).
 /// Codes 12 and 13 are never one.
@@ -29,14 +39,28 @@ impl Condition {
     pub const NO_ERROR: Condition = Condition { code: 0 };
     /// What was sent stayed without an answer, however often it was sent: 1.
     pub const POSITIVE_ACK_LIMIT: Condition = Condition { code: 1 };
+    /// The receiver is further behind than the sender allows: 2.
+    pub const KEEP_ALIVE_LIMIT: Condition = Condition { code: 2 };
+    /// A PDU asks for a transmission mode that the entity doesn't have: 3.
+    pub const INVALID_TRANSMISSION_MODE: Condition = Condition { code: 3 };
     /// The filestore refused the file: 4.
     pub const FILESTORE_REJECTION: Condition = Condition { code: 4 };
     /// The file received has another checksum than its sender told: 5.
     pub const FILE_CHECKSUM_FAILURE: Condition = Condition { code: 5 };
     /// File data pass the end of the file that its sender told: 6.
     pub const FILE_SIZE_ERROR: Condition = Condition { code: 6 };
+    /// What is missing was asked for as often as is allowed, and did not come: 7.
+    pub const NAK_LIMIT: Condition = Condition { code: 7 };
+    /// Nothing was heard of the transaction for too long: 8.
+    pub const INACTIVITY: Condition = Condition { code: 8 };
+    /// The structure of the file is invalid: 9.
+    pub const INVALID_FILE_STRUCTURE: Condition = Condition { code: 9 };
+    /// The file was looked at as often as is allowed, and was not whole: 10.
+    pub const CHECK_LIMIT: Condition = Condition { code: 10 };
     /// The file's checksum is of a type that isn't known here: 11.
     pub const UNSUPPORTED_CHECKSUM_TYPE: Condition = Condition { code: 11 };
+    /// A user suspended the transaction: 14.
+    pub const SUSPEND_REQUEST: Condition = Condition { code: 14 };
     /// A user cancelled the transaction: 15.
     pub const CANCEL_REQUEST: Condition = Condition { code: 15 };
 
@@ -86,16 +110,22 @@ pub enum FileStatus {
 /// What an ACK says of the transaction at the entity that sends it (CCSDS 727.0-B-5, table 5-8).
 #[derive(Clone, Copy, Debug, PartialEq, Eq)]
 pub enum TransactionStatus {
+    /// The entity doesn't keep what became of its transactions.
     Undefined,
+    /// The transaction goes on.
     Active,
+    /// The transaction is over, and its entity knows of it.
     Terminated,
+    /// The entity doesn't know the transaction.
     Unrecognized,
 }
 
 /// The directive that an ACK acknowledges (CCSDS 727.0-B-5, table 5-8).
 #[derive(Clone, Copy, Debug, PartialEq, Eq)]
 pub enum Acknowledged {
+    /// The EOF, by the file's receiver.
     Eof,
+    /// The Finished, by the file's sender.
     Finished,
 }
 

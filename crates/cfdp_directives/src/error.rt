@@ -1,6 +1,6 @@
 ghost use Rattle.std.specs.Prelude.{◌≡◌};
 ghost use Rattle.cfdp_directives.specs.declared.error.PduError.TheVariants as errors;
-ghost use Rattle.cfdp_directives.specs.Faults.{pdu_refusal_number};
+ghost use Rattle.cfdp_directives.specs.Faults.{pdu_refusal_number, pdu_refusal_name};
 
 use cfdp_header::HeaderError;
 use thiserror::Error;
@@ -12,19 +12,19 @@ pub enum PduError {
     #[error("{0}")]
     Header(HeaderError),
     /// The directive code isn't known, or an ACK is neither of EOF nor of Finished.
-    #[error("Directive")]
+    #[error("the directive is not known")]
     Directive,
     /// A field of the data field passes its end, or the last requested range of a NAK does.
-    #[error("Truncated")]
+    #[error("a field passes the end of the data field")]
     Truncated,
     /// Octets are left over behind an ACK, a Prompt or a Keep Alive.
-    #[error("Trailing")]
+    #[error("octets are left over")]
     Trailing,
     /// The octets where options stand aren't whole options.
-    #[error("Tlv")]
+    #[error("the octets of options are not whole options")]
     Tlv,
     /// The condition is 12 or 13.
-    #[error("Condition")]
+    #[error("the condition is 12 or 13")]
     Condition,
 }
 
@@ -48,6 +48,20 @@ impl PduError {
             PduError::Trailing => 9,
             PduError::Tlv => 10,
             PduError::Condition => 11,
+        }
+    }
+
+    /// The name of this refusal in reports: the variant's, or that of the header's refusal.
+    pub fn name(self) -> &'static str
+        ensures { result.now ≡ pdu_refusal_name self }
+    {
+        match self {
+            PduError::Header(e) => e.name(),
+            PduError::Directive => "Directive",
+            PduError::Truncated => "Truncated",
+            PduError::Trailing => "Trailing",
+            PduError::Tlv => "Tlv",
+            PduError::Condition => "Condition",
         }
     }
 }

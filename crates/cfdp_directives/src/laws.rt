@@ -1,7 +1,7 @@
 // Laws of the definitions, each the contract of a function that does nothing: a caller's proof has them by a call.
 ghost use Rattle.std.specs.Prelude.{◌≡◌, ℕ, ◌+◌, ◌++◌, List, length};
 ghost use Rattle.cfdp_header.specs.declared.value.Header.{Header};
-ghost use Rattle.cfdp_header.specs.Header.{header_len};
+ghost use Rattle.cfdp_header.specs.Header.{FitsHeader, header_len};
 ghost use Rattle.cfdp_directives.specs.Content.{Content};
 ghost use Rattle.cfdp_directives.specs.Grammar.{SpellsPdu};
 ghost use Rattle.cfdp_directives.specs.Written.{CanWrite, pdu_octets};
@@ -15,6 +15,11 @@ pub fn no_pdu_begins_another()
 /// What is written of a PDU spells it.
 pub fn written_pdu_is_read()
     ensures { (h : Header) (v : Content) → CanWrite h v → SpellsPdu h v (pdu_octets h v) }
+{}
+
+/// The header of a PDU that was read can be written, and so can one of a reply, which has its ids, number and widths.
+pub fn a_pdu_read_can_be_answered()
+    ensures { (h : Header) (v : Content) (text : List ℕ) → SpellsPdu h v text → FitsHeader h }
 {}
 
 /// How many octets are written of a PDU.

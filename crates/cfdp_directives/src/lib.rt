@@ -1,5 +1,13 @@
 //! The PDUs of CFDP, class 2: file data, Metadata, EOF, Finished, ACK, NAK, Prompt and Keep Alive (CCSDS 727.0-B-5, 5.2 and 5.3),
 //! the checksum of a file, and what an entity tells its user.
+//!
+//! ```
+//! match cfdp_directives::decode(octets) {
+//!     Ok((header, Pdu::Nak { pairs, .. })) => println!(rt; "{} ranges of {:?}", pairs.len(), header.id)?,
+//!     Ok((header, _)) => println!(rt; "{} octets of content", header.length)?,
+//!     Err(refused) => println!(rt; "refused: {}", refused.name())?,
+//! }
+//! ```
 #![tactic(auto)]
 
 mod checksum;
@@ -7,24 +15,38 @@ mod codes;
 mod error;
 mod indication;
 mod laws;
+mod lengths;
 mod octets;
+mod pair_iter;
 mod pairs;
 mod pdu;
 mod reading;
 mod tlv;
+mod tlv_iter;
 mod writing;
 
 pub use checksum::{Checksum, cut_file_has_its_checksum, whole_file_has_its_checksum};
-pub use codes::{Acknowledged, ChecksumKind, Condition, Delivery, FileStatus, TransactionStatus};
+pub use codes::{
+    Acknowledged, ChecksumKind, Condition, Delivery, FILE_SIZE_OCTETS, FileStatus,
+    TransactionStatus, is_file_size,
+};
 pub use error::PduError;
 pub use indication::Indication;
-pub use laws::{no_pdu_begins_another, written_pdu_is_read, written_pdu_len};
+pub use laws::{
+    a_pdu_read_can_be_answered, no_pdu_begins_another, written_pdu_is_read, written_pdu_len,
+};
+pub use lengths::{
+    ack_len, eof_len, fault_location_len, file_data_len, finished_len, keep_alive_len,
+    metadata_len, nak_len, prompt_len,
+};
 pub use octets::Octets;
+pub use pair_iter::PairIter;
 pub use pairs::Pairs;
 pub use pdu::Pdu;
 pub use reading::decode;
 pub use tlv::Tlvs;
-pub use writing::encode;
+pub use tlv_iter::TlvIter;
+pub use writing::{can_write, encode};
 
 #[cfg(test)]
 mod tests;

@@ -1,8 +1,13 @@
-ghost use Rattle.std.specs.Prelude.{◌≡◌, ℕ, ◌+◌, ◌==◌, ◌*◌, ◌/◌, ◌%◌, ◌<◌, ◌≤◌, ◌++◌, [], ◌∷◌, length, take, is_some, IfSome, IfNone};
+ghost use Rattle.std.specs.Prelude.{◌≡◌, ℕ, ◌+◌, ◌==◌, ◌*◌, ◌/◌, ◌%◌, ◌<◌, ◌≤◌, ◌++◌, [], ◌∷◌, length, take, drop, is_some, IsTrue, ◌↔◌, nat_eq, IfSome, IfNone};
+ghost use Rattle.std.specs.Cmp.{partial_equiv_from_equiv};
+ghost use Rattle.std.specs.Cmp.Lexicographic.{on_texts_equal, pointwise};
+ghost use Rattle.std.specs.Ordering.{on};
 ghost use Rattle.std.specs.List.{flat_map, AllByRecursion};
-ghost use Rattle.cfdp_directives.specs.Pair.{pair, pairs_of, ArePairs, IsPair, pairs_in, IsWhole};
+ghost use Rattle.cfdp_directives.specs.Codes.{file_size_octets};
+ghost use Rattle.cfdp_directives.specs.Pair.{pair, pair_octets, pairs_of, ArePairs, IsPair, numbers, pairs_in, IsWhole};
 
-use crate::codes::FILE_SIZE_OCTETS;
+use crate::codes::{FILE_SIZE_OCTETS, is_file_size};
+use crate::pair_iter::PairIter;
 use cfd_bits::{get, put_bytes, put_uint};
 use std::marker::Model;
 
@@ -14,6 +19,7 @@ const PAIR_OCTETS: usize = 2 * FILE_SIZE_OCTETS;
 enum Form<'a> {
     /// In octets read, which they fill.
     Read(&'a [u8]),
+    /// As numbers.
     Given(&'a [(u64, u64)]),
 }
 
@@ -48,8 +54,8 @@ impl<'a> Pairs<'a> {
     /// The pairs that fill the octets, if some do.
     #[tactic(auto, using(crate::proofs::Ranges::pairs_spelled))]
     pub fn read(octets: &'a [u8]) -> Option<Self>
-        ensures found { IfSome result (λ ps. ArePairs 4 ps octets.now) }
-        ensures none { is_some result ≡ (length octets.now % 8 == 0) }
+        ensures found { IfSome result (λ ps. ArePairs file_size_octets ps octets.now) }
+        ensures none { is_some result ≡ (length octets.now % pair_octets == 0) }
     {
         if octets.len() % PAIR_OCTETS == 0 {
             Some(Pairs {
@@ -96,13 +102,33 @@ impl<'a> Pairs<'a> {
         }
     }
 
-    /// Writes the pairs from octet `at` on, and says where they end.
-    pub fn put(&self, out: &mut [u8], at: usize) -> usize
-        requires fits { AllByRecursion (IsPair 4) self.now }
-        requires room { at + 8 * length self.now ≤ length out.old }
-        ensures end { result ≡ at + 8 * length self.now }
-        ensures front { take result out.new ≡ take at out.old ++ flat_map (pair 4) self.now }
+    /// The pairs one by one.
+    pub fn iter(&self) -> PairIter<'a>
+        ensures { result ≡ self.now }
     {
+        PairIter::over(Pairs { form: self.form })
+    }
+
+    /// Whether they can be written: each number fits a file-size field, as those of a NAK that was read do.
+    #[tactic(auto, using(crate::proofs::Ranges::pairs_fit))]
+    pub fn fit(&self) -> bool
+        ensures { IsTrue result ↔ AllByRecursion (IsPair file_size_octets) self.now }
+    {
+        match self.form {
+            Form::Read(_) => true,
+            Form::Given(pairs) => are_file_sizes(pairs),
+        }
+    }
+
+    /// Writes the pairs from octet `at` on, and says where they end. The octets before and behind stay.
+    pub fn put(&self, out: &mut [u8], at: usize) -> usize
+        requires fits { AllByRecursion (IsPair file_size_octets) self.now }
+        requires room { at + pair_octets * length self.now ≤ length out.old }
+        ensures end { result ≡ at + pair_octets * length self.now }
+        ensures front { take result out.new ≡ take at out.old ++ flat_map (pair file_size_octets) self.now }
+        ensures behind { drop result out.new ≡ drop result out.old }
+    {
+        let out = &mut out[..at + PAIR_OCTETS * self.len()];
         match self.form {
             Form::Read(octets) => put_bytes(out, at, as_pairs(octets)),
             Form::Given(pairs) => put_pairs(out, at, pairs),
@@ -110,22 +136,75 @@ impl<'a> Pairs<'a> {
     }
 }
 
+impl PartialEq for Pairs<'_> {
+    ghost eq = { on numbers (pointwise nat_eq) };
+
+    ghost laws = { partial_equiv_from_equiv (on_texts_equal numbers) };
+
+    fn eq(&self, other: &Self) -> bool {
+        are_same(self.iter(), other.iter())
+    }
+}
+
+impl Eq for Pairs<'_> {
+    ghost laws = { on_texts_equal numbers };
+}
+
+impl<'a> IntoIterator for &Pairs<'a> {
+    type Item = (u64, u64);
+
+    type IntoIter = PairIter<'a>;
+
+    ghost into_iter_gives = { λ pairs iter. iter ≡ pairs.now };
+
+    fn into_iter(self) -> PairIter<'a> {
+        self.iter()
+    }
+}
+
+/// Whether the pairs that are left are the same.
+fn are_same(mut one: PairIter<'_>, mut other: PairIter<'_>) -> bool
+    ensures { result ≡ pointwise nat_eq (numbers one.entry) (numbers other.entry) }
+{
+    while let Some((start, end)) = one.next() {
+        let Some((other_start, other_end)) = other.next() else {
+            return false;
+        };
+        if start != other_start || end != other_end {
+            return false;
+        }
+    }
+    other.next().is_none()
+}
+
 /// The octets, of which it is known that pairs fill them.
 #[tactic(auto, using(crate::proofs::Ranges::pairs_whole))]
 fn as_pairs(octets: &[u8]) -> &[u8]
-    requires { length octets.now % 8 ≡ 0 }
-    ensures text { result.now ≡ flat_map (pair 4) (pairs_of 4 (length octets.now / 8) octets.now) }
-    ensures len { length result.now ≡ 8 * length (pairs_of 4 (length octets.now / 8) octets.now) }
+    requires { length octets.now % pair_octets ≡ 0 }
+    ensures text { result.now ≡ flat_map (pair file_size_octets) (pairs_of file_size_octets (length octets.now / pair_octets) octets.now) }
+    ensures len { length result.now ≡ pair_octets * length (pairs_of file_size_octets (length octets.now / pair_octets) octets.now) }
 {
     octets
 }
 
+/// Whether each number fits a file-size field.
+fn are_file_sizes(pairs: &[(u64, u64)]) -> bool
+    ensures { IsTrue result ↔ AllByRecursion (IsPair file_size_octets) pairs.now }
+{
+    for (start, end) in pairs {
+        if !is_file_size(*start) || !is_file_size(*end) {
+            return false;
+        }
+    }
+    true
+}
+
 /// Writes each pair.
 fn put_pairs(out: &mut [u8], at: usize, pairs: &[(u64, u64)]) -> usize
-    requires fits { AllByRecursion (IsPair 4) pairs.now }
-    requires room { at + 8 * length pairs.now ≤ length out.old }
-    ensures end { result ≡ at + 8 * length pairs.now }
-    ensures front { take result out.new ≡ take at out.old ++ flat_map (pair 4) pairs.now }
+    requires fits { AllByRecursion (IsPair file_size_octets) pairs.now }
+    requires room { at + pair_octets * length pairs.now ≤ length out.old }
+    ensures end { result ≡ at + pair_octets * length pairs.now }
+    ensures front { take result out.new ≡ take at out.old ++ flat_map (pair file_size_octets) pairs.now }
 {
     let mut place = at;
     for (start, end) in pairs {

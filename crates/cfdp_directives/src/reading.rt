@@ -5,7 +5,7 @@ ghost use Rattle.cfdp_header.specs.declared.value.Header.{Header};
 ghost use Rattle.cfdp_directives.specs.declared.error.PduError.TheVariants as errors;
 ghost use Rattle.cfdp_directives.specs.Codes.{is_refused};
 ghost use Rattle.cfdp_directives.specs.Content.{Content, view};
-ghost use Rattle.cfdp_directives.specs.Grammar.{Says, SpellsPdu, lv};
+ghost use Rattle.cfdp_directives.specs.Grammar.{Says, SpellsPdu, lv, fss};
 ghost use Rattle.cfdp_directives.specs.Faults.{has_lv, after_lv, file_data_fault, metadata_fault, eof_fault, finished_fault, ack_fault, nak_fault, length_fault, directive_fault, content_fault, pdu_fault};
 
 use crate::codes::{
@@ -52,7 +52,7 @@ fn split_lv(bytes: &[u8]) -> Option<(&[u8], &[u8])>
 fn file_data<'a>(header: &Header, body: &'a [u8]) -> Result<Pdu<'a>, PduError>
     requires { header.now.file_data ≡ true }
     ensures found { IfOk result (λ v. Says header.now (view v) body.now) }
-    ensures refused { result_err result ≡ file_data_fault 4 header.now.segment_metadata body.now }
+    ensures refused { result_err result ≡ file_data_fault (fss header.now) header.now.segment_metadata body.now }
 {
     let mut skipped = 0;
     if header.segment_metadata {
@@ -77,7 +77,7 @@ fn metadata<'a>(header: &Header, body: &'a [u8]) -> Result<Pdu<'a>, PduError>
     requires kind { header.now.file_data ≡ false }
     requires code { field body.now 0 8 ≡ 7 }
     ensures found { IfOk result (λ v. Says header.now (view v) body.now) }
-    ensures refused { result_err result ≡ metadata_fault 4 body.now }
+    ensures refused { result_err result ≡ metadata_fault (fss header.now) body.now }
 {
     if body.len() < 2 + FILE_SIZE_OCTETS {
         return Err(PduError::Truncated);
@@ -114,7 +114,7 @@ fn eof<'a>(header: &Header, body: &'a [u8]) -> Result<Pdu<'a>, PduError>
     requires kind { header.now.file_data ≡ false }
     requires code { field body.now 0 8 ≡ 4 }
     ensures found { IfOk result (λ v. Says header.now (view v) body.now) }
-    ensures refused { result_err result ≡ eof_fault 4 body.now }
+    ensures refused { result_err result ≡ eof_fault (fss header.now) body.now }
 {
     if body.len() < 6 + FILE_SIZE_OCTETS {
         return Err(PduError::Truncated);
@@ -200,7 +200,7 @@ fn nak<'a>(header: &Header, body: &'a [u8]) -> Result<Pdu<'a>, PduError>
     requires kind { header.now.file_data ≡ false }
     requires code { field body.now 0 8 ≡ 8 }
     ensures found { IfOk result (λ v. Says header.now (view v) body.now) }
-    ensures refused { result_err result ≡ nak_fault 4 body.now }
+    ensures refused { result_err result ≡ nak_fault (fss header.now) body.now }
 {
     if body.len() < 1 + 2 * FILE_SIZE_OCTETS {
         return Err(PduError::Truncated);
@@ -237,7 +237,7 @@ fn keep_alive<'a>(header: &Header, body: &'a [u8]) -> Result<Pdu<'a>, PduError>
     requires kind { header.now.file_data ≡ false }
     requires code { field body.now 0 8 ≡ 12 }
     ensures found { IfOk result (λ v. Says header.now (view v) body.now) }
-    ensures refused { result_err result ≡ length_fault 5 body.now }
+    ensures refused { result_err result ≡ length_fault (1 + fss header.now) body.now }
 {
     if body.len() < 1 + FILE_SIZE_OCTETS {
         return Err(PduError::Truncated);
@@ -253,7 +253,7 @@ fn keep_alive<'a>(header: &Header, body: &'a [u8]) -> Result<Pdu<'a>, PduError>
 fn directive<'a>(header: &Header, body: &'a [u8]) -> Result<Pdu<'a>, PduError>
     requires { header.now.file_data ≡ false }
     ensures found { IfOk result (λ v. Says header.now (view v) body.now) }
-    ensures refused { result_err result ≡ directive_fault 4 body.now }
+    ensures refused { result_err result ≡ directive_fault (fss header.now) body.now }
 {
     if body.is_empty() {
         return Err(PduError::Truncated);

@@ -1,12 +1,13 @@
 ghost use Rattle.std.specs.Prelude.{◌≡◌, ◌≤◌, length, ◌∷◌, [], false};
 ghost use Rattle.std.specs.List.{AllByRecursion};
 ghost use Rattle.cfdp_header.specs.Header.{FitsHeader};
+ghost use Rattle.cfdp_directives.specs.Codes.{file_size_octets};
 ghost use Rattle.cfdp_directives.specs.Pair.{IsPair};
 ghost use Rattle.cfdp_directives.specs.Content.{Metadata, view};
 ghost use Rattle.cfdp_directives.specs.Written.{FitsContent, content_len};
 
 use super::*;
-use cfdp_header::{Header, TransactionId};
+use cfdp_header::{Header, HeaderError, TransactionId};
 use std::alloc::Global;
 use std::process::Abort;
 use std::test::Fail;
@@ -65,121 +66,6 @@ const PDUS: [&str; 17] = [
 /// Octets of their headers.
 const HEADER_OCTETS: usize = 12;
 
-/// Whether they are the same pairs.
-fn are_same(pairs: &Pairs<'_>, others: &Pairs<'_>) -> bool {
-    let mut one = pairs.split_first();
-    let mut two = others.split_first();
-    for _ in 0..pairs.len() {
-        match (one, two) {
-            (Some((start, end, rest)), Some((other_start, other_end, other_rest))) => {
-                if start != other_start || end != other_end {
-                    return false;
-                }
-                one = rest.split_first();
-                two = other_rest.split_first();
-            }
-            _ => return false,
-        }
-    }
-    pairs.len() == others.len()
-}
-
-/// Whether two PDUs say the same.
-fn say_the_same(read: &Pdu<'_>, given: &Pdu<'_>) -> bool {
-    match (read, given) {
-        (
-            Pdu::FileData { offset, bytes },
-            Pdu::FileData {
-                offset: given_offset,
-                bytes: given_bytes,
-            },
-        ) => offset == given_offset && bytes == given_bytes,
-        (
-            Pdu::Metadata {
-                checksum_kind,
-                size,
-                source,
-                destination,
-                options,
-            },
-            Pdu::Metadata {
-                checksum_kind: given_kind,
-                size: given_size,
-                source: given_source,
-                destination: given_destination,
-                options: given_options,
-            },
-        ) => {
-            checksum_kind == given_kind
-                && size == given_size
-                && source == given_source
-                && destination == given_destination
-                && options.octets() == given_options.octets()
-        }
-        (
-            Pdu::Eof {
-                condition,
-                checksum,
-                size,
-                tlvs,
-            },
-            Pdu::Eof {
-                condition: given_condition,
-                checksum: given_checksum,
-                size: given_size,
-                tlvs: given_tlvs,
-            },
-        ) => {
-            condition == given_condition
-                && checksum == given_checksum
-                && size == given_size
-                && tlvs.octets() == given_tlvs.octets()
-        }
-        (
-            Pdu::Finished {
-                condition,
-                delivery,
-                status,
-                tlvs,
-            },
-            Pdu::Finished {
-                condition: given_condition,
-                delivery: given_delivery,
-                status: given_status,
-                tlvs: given_tlvs,
-            },
-        ) => {
-            condition == given_condition
-                && delivery == given_delivery
-                && status == given_status
-                && tlvs.octets() == given_tlvs.octets()
-        }
-        (
-            Pdu::Ack {
-                of,
-                condition,
-                status,
-            },
-            Pdu::Ack {
-                of: given_of,
-                condition: given_condition,
-                status: given_status,
-            },
-        ) => of == given_of && condition == given_condition && status == given_status,
-        (
-            Pdu::Nak { start, end, pairs },
-            Pdu::Nak {
-                start: given_start,
-                end: given_end,
-                pairs: given_pairs,
-            },
-        ) => start == given_start && end == given_end && are_same(pairs, given_pairs),
-        (Pdu::Prompt { keep_alive }, Pdu::Prompt { keep_alive: given }) => keep_alive == given,
-        (Pdu::KeepAlive { progress }, Pdu::KeepAlive { progress: given }) => progress == given,
-        _ => false,
-    }
-}
-
 /// The PDU is written as these octets behind a header like this one, and they are read as the PDU.
 fn goes_both_ways(
     rt: &impl Abort,
@@ -190,14 +76,15 @@ fn goes_both_ways(
 ) -> Result<(), Fail>
     requires header { FitsHeader header.now }
     requires plain { header.now.segment_metadata ≡ false }
-    requires fits { FitsContent 4 (view pdu.now) }
-    requires short { content_len 4 (view pdu.now) ≤ 270 }
+    requires fits { FitsContent file_size_octets (view pdu.now) }
+    requires short { content_len file_size_octets (view pdu.now) ≤ 270 }
 {
     let header = Header {
         file_data: matches!(pdu, Pdu::FileData { .. }),
         length: pdu.len() as u16,
         ..*header
     };
+    assert!(rt; can_write(&header, pdu), "{text}");
     let octets = hex::decode(alloc, text)?;
     let mut out = [0u8; 300];
     let len = encode(&header, pdu, &mut out);
@@ -205,7 +92,7 @@ fn goes_both_ways(
     match decode(&octets) {
         Ok((read_header, read)) => {
             assert_eq!(rt; read_header, header);
-            assert!(rt; say_the_same(&read, pdu));
+            assert_eq!(rt; read, *pdu);
         }
         Err(e) => assert_eq!(rt; e.number(), 0),
     }
@@ -376,8 +263,8 @@ fn nak_goes_both_ways(
     pairs: &[(u64, u64)],
     text: &str,
 ) -> Result<(), Fail>
-    requires scope { IsPair 4 scope }
-    requires fits { AllByRecursion (IsPair 4) pairs.now }
+    requires scope { IsPair file_size_octets scope }
+    requires fits { AllByRecursion (IsPair file_size_octets) pairs.now }
     requires short { length pairs.now ≤ 32 }
 {
     let nak = Pdu::Nak {
@@ -500,9 +387,57 @@ fn refusals_have_their_numbers(rt: HostRuntime) -> Result<(), Fail> {
     }
     assert_eq!(rt;
         format!(in alloc; "{}", PduError::Truncated)?.as_str(),
-        "Truncated"
+        "a field passes the end of the data field"
+    );
+    assert_eq!(rt; PduError::Truncated.name(), "Truncated");
+    assert_eq!(rt;
+        PduError::Header(HeaderError::LargeFile).name(),
+        "LargeFile"
     );
     Ok(())
+}
+
+#[test]
+fn lengths_are_known_before_their_pdus(rt: HostRuntime) {
+    assert_eq!(rt; file_data_len(5), 9);
+    assert_eq!(rt; metadata_len(5, 5, 0), 18);
+    assert_eq!(rt; eof_len(0), 10);
+    assert_eq!(rt; eof_len(fault_location_len(2)), 14);
+    assert_eq!(rt; finished_len(fault_location_len(2)), 6);
+    assert_eq!(rt; ack_len(), 3);
+    assert_eq!(rt; nak_len(2), 25);
+    assert_eq!(rt; prompt_len(), 2);
+    assert_eq!(rt; keep_alive_len(), 5);
+}
+
+#[test]
+fn what_fits_no_field_can_not_be_written(rt: HostRuntime) {
+    let keep_alive = Pdu::KeepAlive {
+        progress: 4_294_967_296,
+    };
+    let header = Header {
+        length: 5,
+        ..TOWARD_SENDER
+    };
+    assert!(rt; !can_write(&header, &keep_alive));
+    assert!(rt; can_write(&header, &Pdu::KeepAlive { progress: 100 }));
+    let longer = Header {
+        length: 6,
+        ..TOWARD_SENDER
+    };
+    assert!(rt; !can_write(&longer, &Pdu::KeepAlive { progress: 100 }));
+    assert!(rt; !Pairs::of(&[(0, 1), (1, 4_294_967_296)]).fit());
+}
+
+#[test]
+fn pairs_come_one_by_one(rt: HostRuntime) {
+    let pairs = Pairs::of(&[(0, 0), (0, 5), (9, 12)]);
+    assert_eq!(rt; pairs.iter().count(), 3);
+    let mut last = (0, 0);
+    for pair in &pairs {
+        last = pair;
+    }
+    assert_eq!(rt; last, (9, 12));
 }
 
 /// Whether this option stands alone.
@@ -526,7 +461,7 @@ fn segment_metadata_is_passed_over(rt: HostRuntime) -> Result<(), Fail> {
         bytes: b"hello",
     };
     match decode(&octets) {
-        Ok((_, read)) => assert!(rt; say_the_same(&read, &file_data)),
+        Ok((_, read)) => assert_eq!(rt; read, file_data),
         Err(e) => assert_eq!(rt; e.number(), 0),
     }
     Ok(())
@@ -550,7 +485,12 @@ fn options_are_walked(rt: HostRuntime) -> Result<(), Fail> {
 
 #[test]
 fn a_fault_location_is_found(rt: HostRuntime) {
-    assert_eq!(rt; Tlvs::fault_location_of(258, 8).fault_location(), Some(258));
+    let location = Tlvs::fault_location_of(258, 8);
+    assert_eq!(rt; location.fault_location(), Some(258));
+    for (kind, value) in &location {
+        assert_eq!(rt; kind, 6);
+        assert_eq!(rt; value.len(), 8);
+    }
     for (octets, location) in [
         ([6u8, 0, 6, 1, 9].as_slice(), Some(9u64)),
         ([2, 1, 7, 6, 2, 1, 2].as_slice(), Some(258)),
@@ -639,10 +579,17 @@ fn names_have_the_codes_of_the_standard(rt: HostRuntime) {
     for (condition, code) in [
         (Condition::NO_ERROR, 0u8),
         (Condition::POSITIVE_ACK_LIMIT, 1),
+        (Condition::KEEP_ALIVE_LIMIT, 2),
+        (Condition::INVALID_TRANSMISSION_MODE, 3),
         (Condition::FILESTORE_REJECTION, 4),
         (Condition::FILE_CHECKSUM_FAILURE, 5),
         (Condition::FILE_SIZE_ERROR, 6),
+        (Condition::NAK_LIMIT, 7),
+        (Condition::INACTIVITY, 8),
+        (Condition::INVALID_FILE_STRUCTURE, 9),
+        (Condition::CHECK_LIMIT, 10),
         (Condition::UNSUPPORTED_CHECKSUM_TYPE, 11),
+        (Condition::SUSPEND_REQUEST, 14),
         (Condition::CANCEL_REQUEST, 15),
     ] {
         assert_eq!(rt; condition.code(), code);
@@ -650,6 +597,7 @@ fn names_have_the_codes_of_the_standard(rt: HostRuntime) {
     assert_eq!(rt; Condition::from_code(12), None);
     assert_eq!(rt; Condition::from_code(15), Some(Condition::CANCEL_REQUEST));
     assert_eq!(rt; ChecksumKind::MODULAR.code(), 0);
+    assert_eq!(rt; ChecksumKind::NULL.code(), 15);
     assert_eq!(rt; ChecksumKind::from_code(15), Some(ChecksumKind::NULL));
     assert_eq!(rt; ChecksumKind::from_code(16), None);
 }

@@ -1,8 +1,12 @@
-ghost use Rattle.std.specs.Prelude.{◌≡◌, ◌+◌, ◌<◌, ◌^◌, ◌∷◌, [], length, Some, unwrap_or, is_some, IfSome, IfNone, true, false};
+ghost use Rattle.std.specs.Prelude.{◌≡◌, ◌+◌, ◌<◌, ◌^◌, ◌∷◌, [], length, Some, unwrap_or, is_some, IfSome, IfNone, true, false, nat_eq};
+ghost use Rattle.std.specs.Cmp.{partial_equiv_from_equiv};
+ghost use Rattle.std.specs.Cmp.Lexicographic.{on_texts_equal, pointwise};
 ghost use Rattle.std.specs.List.{flat_map};
+ghost use Rattle.std.specs.Ordering.{on};
 ghost use Rattle.cfdp_header.specs.Header.{IsWidth};
 ghost use Rattle.cfdp_directives.specs.Tlv.{tlv, tlvs_of, location_of, fault_location, octets_in, IsWhole};
 
+use crate::tlv_iter::TlvIter;
 use cfd_bits::{get, put_uint};
 use std::marker::Model;
 
@@ -103,6 +107,13 @@ impl<'a> Tlvs<'a> {
         ))
     }
 
+    /// The options one by one, each its type and its value.
+    pub fn iter(&self) -> TlvIter<'_>
+        ensures { result ≡ self.now }
+    {
+        TlvIter::over(octets_of(&self.form))
+    }
+
     /// The entity that the first fault location of 1 to 8 octets names.
     pub fn fault_location(&self) -> Option<u64>
         ensures { result ≡ location_of self.now }
@@ -115,6 +126,32 @@ impl<'a> Tlvs<'a> {
             rest = others;
         }
         None
+    }
+}
+
+impl PartialEq for Tlvs<'_> {
+    ghost eq = { on (λ ts. flat_map tlv ts) (pointwise nat_eq) };
+
+    ghost laws = { partial_equiv_from_equiv (on_texts_equal (λ ts. flat_map tlv ts)) };
+
+    fn eq(&self, other: &Self) -> bool {
+        self.octets() == other.octets()
+    }
+}
+
+impl Eq for Tlvs<'_> {
+    ghost laws = { on_texts_equal (λ ts. flat_map tlv ts) };
+}
+
+impl<'a> IntoIterator for &'a Tlvs<'_> {
+    type Item = (u8, &'a [u8]);
+
+    type IntoIter = TlvIter<'a>;
+
+    ghost into_iter_gives = { λ tlvs iter. iter ≡ tlvs.now };
+
+    fn into_iter(self) -> TlvIter<'a> {
+        self.iter()
     }
 }
 
@@ -132,7 +169,7 @@ fn octets_of<'a>(form: &'a Form<'_>) -> &'a [u8]
 
 /// The type and the value of the option at the front, and what is behind it.
 #[tactic(auto, using(crate::proofs::Options::first, crate::proofs::Options::nothing, crate::proofs::Options::one_more, crate::proofs::Options::one_left, crate::proofs::Options::too_long))]
-fn split_tlv(bytes: &[u8]) -> Option<(u8, &[u8], &[u8])>
+pub(crate) fn split_tlv(bytes: &[u8]) -> Option<(u8, &[u8], &[u8])>
     ensures whole { IfSome result (λ x. is_some (tlvs_of x.2.now) ≡ is_some (tlvs_of bytes.now)) }
     ensures first { IfSome result (λ x. is_some (tlvs_of bytes.now) ≡ true
         → unwrap_or (tlvs_of bytes.now) [] ≡ record { kind = x.0; value = x.1.now } ∷ unwrap_or (tlvs_of x.2.now) []) }

@@ -1,8 +1,9 @@
-ghost use Rattle.std.specs.Prelude.{◌≡◌, ℕ, ◌+◌, ◌*◌, ◌^◌, ◌<◌, ◌≤◌, ◌++◌, List, length, take, drop};
+ghost use Rattle.std.specs.Prelude.{◌≡◌, ℕ, ◌+◌, ◌*◌, ◌^◌, ◌<◌, ◌≤◌, ◌++◌, List, length, take, drop, IsTrue, ◌↔◌};
 ghost use Rattle.cfdp_header.specs.Header.{header_len};
+ghost use Rattle.cfdp_directives.specs.Codes.{file_size_octets};
 ghost use Rattle.cfdp_directives.specs.Content.{Content, FileData, Metadata, Eof, Finished, Ack, Nak, Prompt, KeepAlive, view};
 ghost use Rattle.cfdp_directives.specs.Grammar.{lv};
-ghost use Rattle.cfdp_directives.specs.Written.{content_octets, content_len, FitsContent, CanWrite, pdu_octets};
+ghost use Rattle.cfdp_directives.specs.Written.{content_octets, content_len, FitsContent, CanWrite, IsHeaderOf, pdu_octets};
 
 use crate::codes::{
     Acknowledged, ChecksumKind, Condition, Delivery, FILE_SIZE_OCTETS, FileStatus,
@@ -26,10 +27,10 @@ fn put_lv(out: &mut [u8], at: usize, value: &[u8]) -> usize
 }
 
 fn put_file_data(out: &mut [u8], at: usize, offset: u64, bytes: &[u8]) -> usize
-    requires fits { FitsContent 4 (FileData offset bytes.now) }
-    requires room { at + content_len 4 (FileData offset bytes.now) ≤ length out.old }
-    ensures end { result ≡ at + content_len 4 (FileData offset bytes.now) }
-    ensures front { take result out.new ≡ take at out.old ++ content_octets 4 (FileData offset bytes.now) }
+    requires fits { FitsContent file_size_octets (FileData offset bytes.now) }
+    requires room { at + content_len file_size_octets (FileData offset bytes.now) ≤ length out.old }
+    ensures end { result ≡ at + content_len file_size_octets (FileData offset bytes.now) }
+    ensures front { take result out.new ≡ take at out.old ++ content_octets file_size_octets (FileData offset bytes.now) }
 {
     let at = put_uint(out, at, FILE_SIZE_OCTETS, offset);
     put_bytes(out, at, bytes)
@@ -44,10 +45,10 @@ fn put_metadata(
     destination: &[u8],
     options: &Tlvs<'_>,
 ) -> usize
-    requires fits { FitsContent 4 (Metadata checksum_kind size source.now destination.now options.now) }
-    requires room { at + content_len 4 (Metadata checksum_kind size source.now destination.now options.now) ≤ length out.old }
-    ensures end { result ≡ at + content_len 4 (Metadata checksum_kind size source.now destination.now options.now) }
-    ensures front { take result out.new ≡ take at out.old ++ content_octets 4 (Metadata checksum_kind size source.now destination.now options.now) }
+    requires fits { FitsContent file_size_octets (Metadata checksum_kind size source.now destination.now options.now) }
+    requires room { at + content_len file_size_octets (Metadata checksum_kind size source.now destination.now options.now) ≤ length out.old }
+    ensures end { result ≡ at + content_len file_size_octets (Metadata checksum_kind size source.now destination.now options.now) }
+    ensures front { take result out.new ≡ take at out.old ++ content_octets file_size_octets (Metadata checksum_kind size source.now destination.now options.now) }
 {
     let at = put_uint(out, at, 1, 7);
     let at = put_uint(out, at, 1, u64::from(checksum_kind.code()));
@@ -65,10 +66,10 @@ fn put_eof(
     size: u64,
     tlvs: &Tlvs<'_>,
 ) -> usize
-    requires fits { FitsContent 4 (Eof condition checksum size tlvs.now) }
-    requires room { at + content_len 4 (Eof condition checksum size tlvs.now) ≤ length out.old }
-    ensures end { result ≡ at + content_len 4 (Eof condition checksum size tlvs.now) }
-    ensures front { take result out.new ≡ take at out.old ++ content_octets 4 (Eof condition checksum size tlvs.now) }
+    requires fits { FitsContent file_size_octets (Eof condition checksum size tlvs.now) }
+    requires room { at + content_len file_size_octets (Eof condition checksum size tlvs.now) ≤ length out.old }
+    ensures end { result ≡ at + content_len file_size_octets (Eof condition checksum size tlvs.now) }
+    ensures front { take result out.new ≡ take at out.old ++ content_octets file_size_octets (Eof condition checksum size tlvs.now) }
 {
     let at = put_uint(out, at, 1, 4);
     let at = put_uint(out, at, 1, 16 * u64::from(condition.code()));
@@ -86,9 +87,9 @@ fn put_finished(
     status: FileStatus,
     tlvs: &Tlvs<'_>,
 ) -> usize
-    requires room { at + content_len 4 (Finished condition delivery status tlvs.now) ≤ length out.old }
-    ensures end { result ≡ at + content_len 4 (Finished condition delivery status tlvs.now) }
-    ensures front { take result out.new ≡ take at out.old ++ content_octets 4 (Finished condition delivery status tlvs.now) }
+    requires room { at + content_len file_size_octets (Finished condition delivery status tlvs.now) ≤ length out.old }
+    ensures end { result ≡ at + content_len file_size_octets (Finished condition delivery status tlvs.now) }
+    ensures front { take result out.new ≡ take at out.old ++ content_octets file_size_octets (Finished condition delivery status tlvs.now) }
 {
     let second = 16 * u64::from(condition.code())
         + 4 * u64::from(delivery.code())
@@ -106,9 +107,9 @@ fn put_ack(
     condition: Condition,
     status: TransactionStatus,
 ) -> usize
-    requires room { at + content_len 4 (Ack of condition status) ≤ length out.old }
-    ensures end { result ≡ at + content_len 4 (Ack of condition status) }
-    ensures front { take result out.new ≡ take at out.old ++ content_octets 4 (Ack of condition status) }
+    requires room { at + content_len file_size_octets (Ack of condition status) ≤ length out.old }
+    ensures end { result ≡ at + content_len file_size_octets (Ack of condition status) }
+    ensures front { take result out.new ≡ take at out.old ++ content_octets file_size_octets (Ack of condition status) }
 {
     let second = 16 * u64::from(of.code()) + u64::from(of.subtype());
     let third = 16 * u64::from(condition.code()) + u64::from(status.code());
@@ -118,10 +119,10 @@ fn put_ack(
 }
 
 fn put_nak(out: &mut [u8], at: usize, start: u64, end: u64, pairs: &Pairs<'_>) -> usize
-    requires fits { FitsContent 4 (Nak start end pairs.now) }
-    requires room { at + content_len 4 (Nak start end pairs.now) ≤ length out.old }
-    ensures end { result ≡ at + content_len 4 (Nak start end pairs.now) }
-    ensures front { take result out.new ≡ take at out.old ++ content_octets 4 (Nak start end pairs.now) }
+    requires fits { FitsContent file_size_octets (Nak start end pairs.now) }
+    requires room { at + content_len file_size_octets (Nak start end pairs.now) ≤ length out.old }
+    ensures end { result ≡ at + content_len file_size_octets (Nak start end pairs.now) }
+    ensures front { take result out.new ≡ take at out.old ++ content_octets file_size_octets (Nak start end pairs.now) }
 {
     let at = put_uint(out, at, 1, 8);
     let at = put_uint(out, at, FILE_SIZE_OCTETS, start);
@@ -130,27 +131,42 @@ fn put_nak(out: &mut [u8], at: usize, start: u64, end: u64, pairs: &Pairs<'_>) -
 }
 
 fn put_prompt(out: &mut [u8], at: usize, keep_alive: bool) -> usize
-    requires room { at + content_len 4 (Prompt keep_alive) ≤ length out.old }
-    ensures end { result ≡ at + content_len 4 (Prompt keep_alive) }
-    ensures front { take result out.new ≡ take at out.old ++ content_octets 4 (Prompt keep_alive) }
+    requires room { at + content_len file_size_octets (Prompt keep_alive) ≤ length out.old }
+    ensures end { result ≡ at + content_len file_size_octets (Prompt keep_alive) }
+    ensures front { take result out.new ≡ take at out.old ++ content_octets file_size_octets (Prompt keep_alive) }
 {
     let at = put_uint(out, at, 1, 9);
     put_uint(out, at, 1, 128 * u64::from(keep_alive))
 }
 
 fn put_keep_alive(out: &mut [u8], at: usize, progress: u64) -> usize
-    requires fits { FitsContent 4 (KeepAlive progress) }
-    requires room { at + content_len 4 (KeepAlive progress) ≤ length out.old }
-    ensures end { result ≡ at + content_len 4 (KeepAlive progress) }
-    ensures front { take result out.new ≡ take at out.old ++ content_octets 4 (KeepAlive progress) }
+    requires fits { FitsContent file_size_octets (KeepAlive progress) }
+    requires room { at + content_len file_size_octets (KeepAlive progress) ≤ length out.old }
+    ensures end { result ≡ at + content_len file_size_octets (KeepAlive progress) }
+    ensures front { take result out.new ≡ take at out.old ++ content_octets file_size_octets (KeepAlive progress) }
 {
     let at = put_uint(out, at, 1, 12);
     put_uint(out, at, FILE_SIZE_OCTETS, progress)
 }
 
+/// Whether the PDU can be written behind this header: both fit their fields, and the header tells of this kind and length, and of no
+/// segment metadata.
+pub fn can_write(header: &Header, pdu: &Pdu<'_>) -> bool
+    ensures { IsTrue result ↔ CanWrite header.now (view pdu.now) }
+{
+    header.fits() && pdu.fits() && is_header_of(header, pdu)
+}
+
+/// Whether the header tells of this kind of content and of its length.
+fn is_header_of(header: &Header, pdu: &Pdu<'_>) -> bool
+    ensures { IsTrue result ↔ IsHeaderOf header.now (view pdu.now) }
+{
+    header.file_data == pdu.is_file_data() && !header.segment_metadata && pdu.has_len(header.length)
+}
+
 /// Writes the PDU into the first octets of `out`, spare bits as 0, and says how many they are. The octets behind stay.
 ///
-/// `header.length` has to be `pdu.len()`, and `header.file_data` has to say what kind of PDU it is.
+/// `header.length` has to be `pdu.len()`, and `header.file_data` has to say what kind of PDU it is: `can_write` tells.
 #[tactic(auto, using(crate::proofs::Spelling::behind_data))]
 pub fn encode(header: &Header, pdu: &Pdu<'_>, out: &mut [u8]) -> usize
     requires fits { CanWrite header.now (view pdu.now) }

@@ -1,4 +1,4 @@
--- What a header's octets determine.
+-- Exported: what a header's octets determine, for the codec of whole PDUs.
 use Rattle.std.proofs.Common.{◌≡◌, ℕ, ◌+◌, ◌-◌, ◌*◌, ◌%◌, ◌<◌, ◌≤◌, Bool, true, false, eqb, ltb, List, [], ◌∷◌, ◌++◌, length, take, drop, None, Result, Ok, Err, refl, sym, ap, subst, ◌∙◌, eq-eqb, arith, append_assoc, length-append}
 use Rattle.std.specs.Prelude.{IsOkAnd, IfOk}
 use Rattle.std.specs.Result.{result_err}
@@ -6,6 +6,7 @@ use Rattle.std.proofs.lemmas.Bool.{le-ltb}
 use Rattle.std.proofs.lemmas.List.{take_at}
 use Rattle.cfd_bits.specs.Field.{field, octets, flag}
 use Rattle.cfd_bits.proofs.Fields.{length-octets, field_between, field_in_octet, field-append_left, field-drop}
+use Rattle.cfd_bits.proofs.BitFields.{field-below, field-below_octets}
 use Rattle.cfdp_header.specs.declared.value.Header.{Header}
 use Rattle.cfdp_header.specs.Header.{SpellsHeader, header_fault, header_len_told, header_len, FitsHeader, fixed_octets, header_octets}
 
@@ -136,3 +137,17 @@ length-header_octets h =
     let ln = length-octets h.number_width h.id.number in
     let ld = length-octets h.id_width h.destination in
     omega (arith, length-append (fixed_octets h) s, length-append (fixed_octets h ++ s) n, length-append (fixed_octets h ++ s ++ n) d)
+
+-- a header that was read fits its widths
+pub read_fits : (h : Header) (t : List ℕ) → SpellsHeader h t → FitsHeader h
+read_fits h t p =
+    let i = p.id_width in
+    let n = p.number_width in
+    record {
+      id_width = (omega arith, omega (arith, field-below t 25 3));
+      number_width = (omega arith, omega (arith, field-below t 29 3));
+      length = rw (← p.length_field) (field-below t 8 16);
+      source = rw (← p.source) (field-below_octets t 32 h.id_width);
+      number = rw (← p.number) (field-below_octets t (32 + 8 * h.id_width) h.number_width);
+      destination = rw (← p.destination) (field-below_octets t (32 + 8 * h.id_width + 8 * h.number_width) h.id_width);
+    }

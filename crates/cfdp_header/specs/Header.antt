@@ -1,5 +1,5 @@
 -- The fixed header of a PDU: which octets are which header, and what is wrong with octets that begin with none.
-use Rattle.std.specs.Prelude.{◌≡◌, ℕ, ◌+◌, ◌-◌, ◌*◌, ◌^◌, ◌<◌, ◌≤◌, Bool, true, false, List, ◌++◌, length, Option, Some, None, nat_lt, ◌==◌, not, if◌then◌else◌}
+use Rattle.std.specs.Prelude.{◌≡◌, ℕ, ◌+◌, ◌-◌, ◌*◌, ◌^◌, ◌<◌, ◌≤◌, List, ◌++◌, length, Option, Some, None, nat_lt, ◌==◌, not, if◌then◌else◌, codes}
 use Rattle.cfd_bits.specs.Field.{field, octets, flag}
 use Rattle.cfdp_header.specs.declared.value.Header.{Header}
 use Rattle.cfdp_header.specs.declared.error.HeaderError.{HeaderError}
@@ -65,7 +65,11 @@ fixed_octets h =
 
 -- the written spelling of a header: spare bits are 0
 abbrev pub header_octets : Header → List ℕ
-header_octets h = fixed_octets h ++ octets h.id_width h.id.source ++ octets h.number_width h.id.number ++ octets h.id_width h.destination
+header_octets h =
+    fixed_octets h
+    ++ octets h.id_width h.id.source
+    ++ octets h.number_width h.id.number
+    ++ octets h.id_width h.destination
 
 -- the number of a refusal
 abbrev pub refusal_number : HeaderError → ℕ
@@ -75,3 +79,12 @@ refusal_number CrcPresent = 3
 refusal_number Length = 4
 refusal_number Unacknowledged = 5
 refusal_number LargeFile = 6
+
+-- its name
+abbrev pub refusal_name : HeaderError → List ℕ
+refusal_name Short = codes "Short"
+refusal_name Version = codes "Version"
+refusal_name CrcPresent = codes "CrcPresent"
+refusal_name Length = codes "Length"
+refusal_name Unacknowledged = codes "Unacknowledged"
+refusal_name LargeFile = codes "LargeFile"

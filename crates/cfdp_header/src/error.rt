@@ -1,5 +1,5 @@
 ghost use Rattle.std.specs.Prelude.{◌≡◌};
-ghost use Rattle.cfdp_header.specs.Header.{refusal_number};
+ghost use Rattle.cfdp_header.specs.Header.{refusal_number, refusal_name};
 
 use thiserror::Error;
 
@@ -7,22 +7,22 @@ use thiserror::Error;
 #[derive(Clone, Copy, Debug, PartialEq, Eq, Error)]
 pub enum HeaderError {
     /// Fewer than 4 octets, or fewer than the whole header that the fourth octet tells of.
-    #[error("Short")]
+    #[error("fewer octets than the header has")]
     Short,
     /// The version isn't `001`.
-    #[error("Version")]
+    #[error("the version is not 1")]
     Version,
     /// The CRC flag is 1.
-    #[error("CrcPresent")]
+    #[error("a CRC is present")]
     CrcPresent,
     /// The octets behind the header aren't as many as its length says. Told last.
-    #[error("Length")]
+    #[error("the data field has another length than the header says")]
     Length,
     /// The transmission mode is 1, unacknowledged.
-    #[error("Unacknowledged")]
+    #[error("the transmission mode is unacknowledged")]
     Unacknowledged,
     /// The large file flag is 1.
-    #[error("LargeFile")]
+    #[error("the file is large: its offsets have 64 bits")]
     LargeFile,
 }
 
@@ -38,6 +38,20 @@ impl HeaderError {
             HeaderError::Length => 4,
             HeaderError::Unacknowledged => 5,
             HeaderError::LargeFile => 6,
+        }
+    }
+
+    /// The name of this refusal in reports: the variant's.
+    pub fn name(self) -> &'static str
+        ensures { result.now ≡ refusal_name self }
+    {
+        match self {
+            HeaderError::Short => "Short",
+            HeaderError::Version => "Version",
+            HeaderError::CrcPresent => "CrcPresent",
+            HeaderError::Length => "Length",
+            HeaderError::Unacknowledged => "Unacknowledged",
+            HeaderError::LargeFile => "LargeFile",
         }
     }
 }

@@ -1,4 +1,11 @@
 //! The fixed header of a PDU (CCSDS 727.0-B-5, 5.1): read from octets and written into them.
+//!
+//! ```
+//! match cfdp_header::decode(octets) {
+//!     Ok((header, data_field)) => println!(rt; "{} octets for {}", data_field.len(), header.destination)?,
+//!     Err(refused) => println!(rt; "refused: {}", refused.name())?,
+//! }
+//! ```
 #![tactic(auto)]
 
 ghost use Rattle.std.specs.Prelude.{◌≡◌, ℕ, ◌+◌, ◌*◌, ◌^◌, ◌<◌, ◌≤◌, ◌++◌, List, length, take, drop, true, IfOk, IsOkAnd};
@@ -64,7 +71,7 @@ pub fn decode(bytes: &[u8]) -> Result<(Header, &[u8]), HeaderError>
     let length = get(bytes, 8, 16) as u16;
     let id_octets = id_width as usize;
     let number_octets = number_width as usize;
-    let len = 4 + id_octets + number_octets + id_octets;
+    let len = Header::len_in_widths(id_width, number_width);
     if bytes.len() < len {
         return Err(HeaderError::Short);
     }
@@ -123,6 +130,11 @@ pub fn no_header_begins_another()
 pub fn written_header_is_read()
     ensures { (h : Header) (rest : List ℕ) → FitsHeader h → length rest ≡ h.length
         → SpellsHeader h (header_octets h ++ rest) }
+{}
+
+/// A law: a header that was read can be written in the widths that it was read in, and so can a reply that has its ids, number and widths.
+pub fn a_header_read_can_be_written()
+    ensures { (h : Header) (text : List ℕ) → SpellsHeader h text → FitsHeader h }
 {}
 
 #[cfg(test)]

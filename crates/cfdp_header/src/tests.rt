@@ -38,6 +38,8 @@ fn goes_both_ways(rt: &impl Abort, alloc: Global, header: &Header, text: &str) -
     let octets = hex::decode(alloc, text)?;
     let mut out = [0u8; 28];
     let len = encode(header, &mut out);
+    assert_eq!(rt; len, header.len());
+    assert!(rt; header.fits());
     assert_eq!(rt; decode(&octets), Ok((*header, [6u8, 0x40, 1].as_slice())));
     assert!(rt; octets.starts_with(&out[..len]));
     Ok(())
@@ -70,27 +72,38 @@ fn headers_go_both_ways(rt: HostRuntime) -> Result<(), Fail> {
 #[test]
 fn refusals_have_their_numbers(rt: HostRuntime) -> Result<(), Fail> {
     let alloc = rt.alloc();
-    for (text, number) in [
-        ("280003", 1u8),
-        ("2800031300010000000100", 1),
-        ("000003130001000000010002064001", 2),
-        ("2A0003130001000000010002064001", 3),
-        ("280004130001000000010002064001", 4),
-        ("240003130001000000010002064001", 5),
-        ("290003130001000000010002064001", 6),
+    for (text, number, name) in [
+        ("280003", 1u8, "Short"),
+        ("2800031300010000000100", 1, "Short"),
+        ("000003130001000000010002064001", 2, "Version"),
+        ("2A0003130001000000010002064001", 3, "CrcPresent"),
+        ("280004130001000000010002064001", 4, "Length"),
+        ("240003130001000000010002064001", 5, "Unacknowledged"),
+        ("290003130001000000010002064001", 6, "LargeFile"),
     ] {
         let octets = hex::decode(alloc, text)?;
-        let told = match decode(&octets) {
-            Ok(_) => 0,
-            Err(e) => e.number(),
+        let (told, word) = match decode(&octets) {
+            Ok(_) => (0, ""),
+            Err(e) => (e.number(), e.name()),
         };
         assert_eq!(rt; told, number, "at {text}");
+        assert!(rt; word == name, "at {text}");
     }
     assert_eq!(rt;
         format!(in alloc; "{}", HeaderError::CrcPresent)?.as_str(),
-        "CrcPresent"
+        "a CRC is present"
     );
     Ok(())
+}
+
+#[test]
+fn only_numbers_of_their_widths_fit(rt: HostRuntime) {
+    assert_eq!(rt; Header::len_in_widths(2, 4), 12);
+    assert!(rt; of_ack(8, 8, u64::MAX).fits());
+    assert!(rt; of_ack(1, 1, 255).fits());
+    assert!(rt; !of_ack(1, 1, 256).fits());
+    assert!(rt; !of_ack(0, 4, 1).fits());
+    assert!(rt; !of_ack(2, 9, 1).fits());
 }
 
 #[test]

@@ -1,3 +1,6 @@
+ghost use Rattle.std.specs.Prelude.{◌≡◌, ◌^◌, ◌<◌, ◌↔◌, IsTrue};
+ghost use Rattle.cfdp_header.specs.Header.{header_len, FitsHeader, IsWidth};
+
 /// Names a transaction: the entity that sends the file, and the number that it gave the transaction
 /// (CCSDS 727.0-B-5). Two ids are the same where both numbers are, whatever width they are written in. They are ordered by source,
 /// then by number.
@@ -28,4 +31,38 @@ pub struct Header {
     pub id: TransactionId,
     /// The entity id of the file's receiver, in both directions.
     pub destination: u64,
+}
+
+impl Header {
+    /// How many octets the header has, without the data field behind it: 7 to 28.
+    pub fn len(&self) -> usize
+        ensures { result ≡ header_len self.now.id_width self.now.number_width }
+    {
+        Header::len_in_widths(self.id_width, self.number_width)
+    }
+
+    /// How many octets a header has, without the data field behind it, whose entity ids and sequence number have so many octets.
+    pub fn len_in_widths(id_width: u8, number_width: u8) -> usize
+        ensures { result ≡ header_len id_width number_width }
+    {
+        4 + usize::from(id_width) + usize::from(number_width) + usize::from(id_width)
+    }
+
+    /// Whether the header can be written: both widths are 1 to 8, and each number fits its width.
+    pub fn fits(&self) -> bool
+        ensures { IsTrue result ↔ FitsHeader self.now }
+    {
+        let _any_length_fits = self.length;
+        fits_width(self.id.source, self.id_width)
+            && fits_width(self.id.number, self.number_width)
+            && fits_width(self.destination, self.id_width)
+    }
+}
+
+/// Whether the value can be written as an entity id or a sequence number of so many octets.
+#[tactic(auto, using(crate::proofs::Fits::fits_below))]
+fn fits_width(value: u64, width: u8) -> bool
+    ensures { IsTrue result ↔ (IsWidth width × (value < 256 ^ width)) }
+{
+    1 <= width && (width == 8 || width < 8 && value >> (8 * u32::from(width)) == 0)
 }
