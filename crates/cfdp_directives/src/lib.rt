@@ -2,29 +2,45 @@
 //! the checksum of a file, and what an entity tells its user.
 #![tactic(auto)]
 
+mod addressing;
 mod checksum;
 mod codes;
+mod direction;
 mod error;
+mod file_name;
+mod handler;
 mod indication;
 mod laws;
+mod limits;
 mod octets;
 mod pairs;
 mod pdu;
+mod phase;
 mod reading;
 mod tlv;
 mod writing;
 
+pub use addressing::{
+    Addressing, addressed_pdu_can_be_written, addressed_pdu_goes_to_the_other_end, fits_octets,
+};
 pub use checksum::{Checksum, cut_file_has_its_checksum, whole_file_has_its_checksum};
 pub use codes::{Acknowledged, ChecksumKind, Condition, Delivery, FileStatus, TransactionStatus};
+pub use direction::{direction_fits, is_for};
 pub use error::PduError;
+pub use file_name::is_file_name;
+pub use handler::{Handler, Handlers};
 pub use indication::Indication;
 pub use laws::{no_pdu_begins_another, written_pdu_is_read, written_pdu_len};
+pub use limits::{Limits, Times};
 pub use octets::Octets;
 pub use pairs::Pairs;
 pub use pdu::Pdu;
+pub use phase::Phase;
 pub use reading::decode;
 pub use tlv::Tlvs;
 pub use writing::encode;
 
+#[cfg(test)]
+mod protocol_tests;
 #[cfg(test)]
 mod tests;
