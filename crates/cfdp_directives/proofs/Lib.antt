@@ -4,3 +4,4 @@ pub mod Only
 pub mod Spelling
 pub mod Sums
 pub mod Puts
+pub mod Addressed

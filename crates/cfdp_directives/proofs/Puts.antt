@@ -1,4 +1,4 @@
--- Laws of what was heard and told, as more is heard and told.
+-- Exported: laws of what was heard and told, as more is heard and told.
 use Rattle.std.proofs.Common.{◌≡◌, ℕ, ◌+◌, ◌<◌, Bool, cond, List, [], ◌∷◌, ◌++◌, length, Option, refl, ap, ◌∙◌, arith, length-append}
 use Rattle.std.specs.Prelude.{Any, Contains, count_by}
 use Rattle.std.proofs.lemmas.List.{append-nil, get_or_append_left, get_or-append-add}

@@ -1,33 +1,26 @@
--- What a list of indications says: which transactions were completed, and how often each was finished.
+-- What a list of indications says: which transactions were completed, how often each was finished.
 use Rattle.std.specs.Prelude.{◌≡◌, ◌==◌, ℕ, ◌≤◌, Bool, false, ◌&&◌, not, List, [], ◌∷◌, count_by, Contains, if◌then◌else◌}
 use Rattle.std.specs.List.{flat_map}
 use Rattle.cfdp_header.specs.declared.value.TransactionId.{TransactionId}
 use Rattle.cfdp_header.specs.Ids.{same_id}
 use Rattle.cfdp_directives.specs.declared.codes.Delivery.{Delivery}
-use Rattle.cfdp_directives.specs.declared.codes.Delivery.TheVariants.{Complete, Incomplete}
+use Rattle.cfdp_directives.specs.declared.codes.Delivery.TheVariants.{Complete}
 use Rattle.cfdp_directives.specs.declared.codes.FileStatus.{FileStatus}
-use Rattle.cfdp_directives.specs.declared.codes.FileStatus.TheVariants.{Discarded, Rejected, Retained, Unreported}
+use Rattle.cfdp_directives.specs.declared.codes.FileStatus.TheVariants.{Retained}
 use Rattle.cfdp_directives.specs.declared.indication.Indication.{Indication}
-use Rattle.cfdp_directives.specs.declared.indication.Indication.TheVariants.{Transaction, EofSent, MetadataRecv, EofRecv, Finished, Fault}
+use Rattle.cfdp_directives.specs.declared.indication.Indication.TheVariants.{Finished}
 use Rattle.cfdp_directives.specs.Codes.{no_error}
 
 -- whether a Finished says that the file was delivered: no error, complete, retained
 abbrev pub is_complete : ℕ → Delivery → FileStatus → Bool
 is_complete condition Complete Retained = condition == no_error
-is_complete condition Complete Discarded = false
-is_complete condition Complete Rejected = false
-is_complete condition Complete Unreported = false
-is_complete condition Incomplete status = false
+is_complete condition _ _ = false
 
 -- the transaction that an indication at the entity `own` completes, one that it receives
 abbrev pub completion : ℕ → Indication → List TransactionId
 completion own (Finished id condition delivery status) =
     if is_complete condition delivery status && not (id.source == own) then id ∷ [] else []
-completion own (Transaction id) = []
-completion own (EofSent id) = []
-completion own (MetadataRecv id source destination size) = []
-completion own (EofRecv id) = []
-completion own (Fault id condition) = []
+completion own _ = []
 
 -- the transactions that the entity `own` receives and indicated complete, in order
 abbrev pub completions : ℕ → List Indication → List TransactionId
@@ -36,11 +29,7 @@ completions own told = flat_map (completion own) told
 -- whether an indication says that the transaction is finished, with whatever condition
 abbrev pub is_finished : TransactionId → Indication → Bool
 is_finished id (Finished of condition delivery status) = same_id of id
-is_finished id (Transaction of) = false
-is_finished id (EofSent of) = false
-is_finished id (MetadataRecv of source destination size) = false
-is_finished id (EofRecv of) = false
-is_finished id (Fault of condition) = false
+is_finished id _ = false
 
 -- No transaction is indicated finished twice.
 abbrev pub FinishedOnce : List Indication → Type 0
@@ -48,4 +37,5 @@ FinishedOnce told = (id : TransactionId) → count_by (is_finished id) told ≤ 
 
 -- The entity `own`, which sends the transaction, was told that its file was delivered.
 abbrev pub IsToldComplete : ℕ → List Indication → TransactionId → Type 0
-IsToldComplete own told id = (id.source ≡ own) × Contains told (Finished id no_error Complete Retained)
+IsToldComplete own told id =
+    (id.source ≡ own) × Contains told (Finished id no_error Complete Retained)

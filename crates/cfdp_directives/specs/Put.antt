@@ -5,12 +5,12 @@ use Rattle.cfdp_header.specs.declared.value.Header.{Header}
 use Rattle.cfdp_header.specs.declared.value.TransactionId.{TransactionId}
 use Rattle.cfdp_header.specs.Files.{FileMap}
 use Rattle.cfdp_directives.specs.Codes.{no_error}
-use Rattle.cfdp_directives.specs.Content.{Content, FileData, Metadata, Eof, Finished, Ack, Nak, Prompt, KeepAlive}
+use Rattle.cfdp_directives.specs.Content.{Content, FileData, Metadata, Eof}
 use Rattle.cfdp_directives.specs.Grammar.{SpellsPdu}
 use Rattle.cfdp_directives.specs.Checksum.{checksum_of}
 
--- An accepted put: its id, the names, the octets that the outbox of its station has under the source name, and the
--- checksum type that its station is configured with.
+-- An accepted put: its id, the names, the octets that the outbox of its station has under the source
+-- name, and the checksum type that its station is configured with.
 pub record Put : Type 0 where
   pub id : TransactionId
   pub source : List ℕ
@@ -18,20 +18,17 @@ pub record Put : Type 0 where
   pub octets : List ℕ
   pub checksum_kind : ℕ
 
--- What is said of the put is so: Metadata has its names, size and checksum type, file data are the file's
--- at that offset, and an EOF without an error has the file's size and checksum (CCSDS 727.0-B-5, 4.6.1.1). Other PDUs
--- say nothing of the file.
+-- What is said of the put is so: Metadata has its names, size and checksum type, file data are the
+-- file's at that offset, and an EOF without an error has the file's size and checksum (CCSDS 727.0-B-5,
+-- 4.6.1.1). Other PDUs say nothing of the file.
 abbrev pub IsTruthful : Put → Content → Type 0
 IsTruthful put (Metadata kind size source destination options) =
-    (kind ≡ put.checksum_kind) × (size ≡ length put.octets) × (source ≡ put.source) × (destination ≡ put.destination)
+    (kind ≡ put.checksum_kind) × (size ≡ length put.octets)
+    × (source ≡ put.source) × (destination ≡ put.destination)
 IsTruthful put (FileData offset bytes) = bytes ≡ take (length bytes) (drop offset put.octets)
-IsTruthful put (Eof condition checksum size tlvs) =
-    condition ≡ no_error → (checksum ≡ checksum_of put.checksum_kind put.octets) × (size ≡ length put.octets)
-IsTruthful put (Finished condition delivery status tlvs) = Unit {0}
-IsTruthful put (Ack of condition status) = Unit {0}
-IsTruthful put (Nak start end pairs) = Unit {0}
-IsTruthful put (Prompt keep_alive) = Unit {0}
-IsTruthful put (KeepAlive progress) = Unit {0}
+IsTruthful put (Eof condition checksum size tlvs) = condition ≡ no_error →
+    (checksum ≡ checksum_of put.checksum_kind put.octets) × (size ≡ length put.octets)
+IsTruthful put _ = Unit {0}
 
 -- One of the PDUs, each a list of octets, is spelled by a header and a content of which P holds.
 abbrev pub SomePdu : (Header → Content → Type 0) → List (List ℕ) → Type 0
@@ -41,39 +38,23 @@ SomePdu P pdus = Any (λ text. (h : Header) × ((v : Content) × (SpellsPdu h v 
 abbrev pub IsMetadataOf : Put → Header → Content → Type 0
 IsMetadataOf put h (Metadata kind size source destination options) =
     (h.id ≡ put.id) × IsTruthful put (Metadata kind size source destination options)
-IsMetadataOf put h (FileData offset bytes) = ⊥
-IsMetadataOf put h (Eof condition checksum size tlvs) = ⊥
-IsMetadataOf put h (Finished condition delivery status tlvs) = ⊥
-IsMetadataOf put h (Ack of condition status) = ⊥
-IsMetadataOf put h (Nak start end pairs) = ⊥
-IsMetadataOf put h (Prompt keep_alive) = ⊥
-IsMetadataOf put h (KeepAlive progress) = ⊥
+IsMetadataOf put h _ = ⊥
 
 -- It is an EOF of the put without an error, and truthful.
 abbrev pub IsEofOf : Put → Header → Content → Type 0
 IsEofOf put h (Eof condition checksum size tlvs) =
     (h.id ≡ put.id) × (condition ≡ no_error) × IsTruthful put (Eof condition checksum size tlvs)
-IsEofOf put h (Metadata kind size source destination options) = ⊥
-IsEofOf put h (FileData offset bytes) = ⊥
-IsEofOf put h (Finished condition delivery status tlvs) = ⊥
-IsEofOf put h (Ack of condition status) = ⊥
-IsEofOf put h (Nak start end pairs) = ⊥
-IsEofOf put h (Prompt keep_alive) = ⊥
-IsEofOf put h (KeepAlive progress) = ⊥
+IsEofOf put h _ = ⊥
 
 -- It is file data of the put with the octet at offset n, and truthful.
 abbrev pub Brings : Put → ℕ → Header → Content → Type 0
-Brings put n h (FileData offset bytes) = (h.id ≡ put.id) × (offset ≤ n) × (n < offset + length bytes) × IsTruthful put (FileData offset bytes)
-Brings put n h (Metadata kind size source destination options) = ⊥
-Brings put n h (Eof condition checksum size tlvs) = ⊥
-Brings put n h (Finished condition delivery status tlvs) = ⊥
-Brings put n h (Ack of condition status) = ⊥
-Brings put n h (Nak start end pairs) = ⊥
-Brings put n h (Prompt keep_alive) = ⊥
-Brings put n h (KeepAlive progress) = ⊥
+Brings put n h (FileData offset bytes) =
+    (h.id ≡ put.id) × (offset ≤ n) × (n < offset + length bytes)
+    × IsTruthful put (FileData offset bytes)
+Brings put n h _ = ⊥
 
--- The put was heard in full: among the PDUs are its Metadata, its EOF without an error, and file data that cover every
--- offset of the file, all of them truthful.
+-- The put was heard in full: among the PDUs are its Metadata, its EOF without an error, and file data
+-- that cover every offset of the file, all of them truthful.
 pub record HeardInFull (put : Put) (pdus : List (List ℕ)) : Type 0 where
   pub metadata : SomePdu (IsMetadataOf put) pdus
   pub ending : SomePdu (IsEofOf put) pdus
@@ -84,7 +65,8 @@ abbrev pub overwritten : FileMap → Option Put → FileMap
 overwritten files None = files
 overwritten files (Some put) = insert files put.destination put.octets
 
--- the inbox after these completions: the first files, overwritten in turn by the files of the puts that the ids name
+-- the inbox after these completions: the first files, overwritten in turn by the files of the puts that
+-- the ids name
 abbrev pub inbox_after : (TransactionId → Option Put) → FileMap → List TransactionId → FileMap
 inbox_after put_of first [] = first
 inbox_after put_of first (id ∷ ids) = inbox_after put_of (overwritten first (put_of id)) ids

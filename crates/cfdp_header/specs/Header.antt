@@ -47,6 +47,10 @@ header_fault text =
     else if not (length text == header_len_told text + field text 8 16) then Some Length
     else None
 
+-- A number can be written as an entity id or a sequence number of so many octets.
+abbrev pub FitsWidth : ℕ → ℕ → Type 0
+FitsWidth value width = IsWidth width × (value < 256 ^ width)
+
 -- The header can be written: each number fits its field.
 pub record FitsHeader (h : Header) : Type 0 where
   pub id_width : IsWidth h.id_width

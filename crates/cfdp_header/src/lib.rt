@@ -19,7 +19,7 @@ mod value;
 
 use cfd_bits::{get, put_uint, read_uint};
 pub use error::HeaderError;
-pub use value::{Header, TransactionId};
+pub use value::{Header, TransactionId, fits_width};
 
 /// The number of `count` octets from octet `at` on.
 #[inline]

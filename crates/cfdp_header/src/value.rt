@@ -1,5 +1,5 @@
-ghost use Rattle.std.specs.Prelude.{◌≡◌, ◌^◌, ◌<◌, ◌↔◌, IsTrue};
-ghost use Rattle.cfdp_header.specs.Header.{header_len, FitsHeader, IsWidth};
+ghost use Rattle.std.specs.Prelude.{◌≡◌, ◌↔◌, IsTrue};
+ghost use Rattle.cfdp_header.specs.Header.{header_len, FitsHeader, FitsWidth};
 
 /// Names a transaction: the entity that sends the file, and the number that it gave the transaction
 /// (CCSDS 727.0-B-5). Two ids are the same where both numbers are, whatever width they are written in. They are ordered by source,
@@ -59,10 +59,10 @@ impl Header {
     }
 }
 
-/// Whether the value can be written as an entity id or a sequence number of so many octets.
+/// Whether the value can be written as an entity id or a sequence number of so many octets, which are 1 to 8.
 #[tactic(auto, using(crate::proofs::Fits::fits_below))]
-fn fits_width(value: u64, width: u8) -> bool
-    ensures { IsTrue result ↔ (IsWidth width × (value < 256 ^ width)) }
+pub fn fits_width(value: u64, width: u8) -> bool
+    ensures { IsTrue result ↔ FitsWidth value width }
 {
     1 <= width && (width == 8 || width < 8 && value >> (8 * u32::from(width)) == 0)
 }

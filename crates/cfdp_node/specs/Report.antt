@@ -1,7 +1,7 @@
 use Rattle.std.specs.Prelude.{ℕ, List, [], ◌∷◌, ◌++◌, codes, decimal}
 use Rattle.std.specs.List.{flat_map}
 use Rattle.cfdp_directives.specs.declared.indication.Indication.{Indication}
-use Rattle.cfdp_directives.specs.declared.indication.Indication.TheVariants.{Transaction, EofSent, MetadataRecv, EofRecv, Finished, Fault}
+use Rattle.cfdp_directives.specs.declared.indication.Indication.TheVariants.{Transaction, EofSent, MetadataRecv, EofRecv, Finished, Suspended, Resumed, Fault, Abandoned, Progress}
 use Rattle.cfdp_node.specs.Name.{printed_octet}
 use Rattle.cfdp_node.specs.Wording.{id_text, delivery_word, status_word}
 
@@ -14,7 +14,11 @@ told_text (MetadataRecv id source destination size) =
 told_text (EofRecv id) = codes "eof-recv " ++ id_text id
 told_text (Finished id condition delivery status) =
     codes "finished " ++ id_text id ++ codes " " ++ decimal condition ++ codes " " ++ delivery_word delivery ++ codes " " ++ status_word status
+told_text (Suspended id condition) = codes "suspended " ++ id_text id ++ codes " " ++ decimal condition
+told_text (Resumed id) = codes "resumed " ++ id_text id
 told_text (Fault id condition) = codes "fault " ++ id_text id ++ codes " " ++ decimal condition
+told_text (Abandoned id condition) = codes "abandoned " ++ id_text id ++ codes " " ++ decimal condition
+told_text (Progress id octets) = codes "progress " ++ id_text id ++ codes " " ++ decimal octets
 
 -- what station S tells its user
 abbrev pub indication_text : ℕ → Indication → List ℕ

@@ -113,7 +113,15 @@ impl fmt::Display for ToldWords<'_> {
                 );
                 write!(f, "finished {} {code} {delivery} {status}", Id(*id))
             }
+            Indication::Suspended(id, condition) => {
+                write!(f, "suspended {} {}", Id(*id), condition.code())
+            }
+            Indication::Resumed(id) => write!(f, "resumed {}", Id(*id)),
             Indication::Fault(id, condition) => write!(f, "fault {} {}", Id(*id), condition.code()),
+            Indication::Abandoned(id, condition) => {
+                write!(f, "abandoned {} {}", Id(*id), condition.code())
+            }
+            Indication::Progress(id, octets) => write!(f, "progress {} {octets}", Id(*id)),
         }
     }
 }

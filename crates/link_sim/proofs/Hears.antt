@@ -35,7 +35,9 @@ use Rattle.link_sim.specs.declared.receiver.FileInfo.{FileInfo}
 use Rattle.link_sim.specs.declared.receiver.Ending.{Ending}
 use Rattle.link_sim.specs.declared.transaction.Transaction.{Transaction}
 use Rattle.link_sim.specs.declared.transaction.Transaction.TheVariants.{Sends, Receives}
-use Rattle.link_sim.specs.Sides.{other, entity_of, goes_toward_sender, is_for}
+use Rattle.std.specs.Bool.{beq}
+use Rattle.cfdp_directives.specs.Direction.{goes_toward_sender, direction_fits, is_for}
+use Rattle.link_sim.specs.Sides.{other, entity_of, is_for_side}
 use Rattle.link_sim.specs.Link.{LinkState}
 use Rattle.link_sim.specs.Held.{holds_below, holds_from, front, with_data}
 use Rattle.link_sim.specs.Sender.{sender_hears, hears_finished, is_sending}
@@ -332,15 +334,21 @@ module _ (own : ℕ) (p : TransactionId → Option Put) (sources : FileMap) (hea
 -- ---- the station
 
 -- a PDU that goes toward the receiver comes from the other entity
-is_for-foreign : (s : Side) (h : Header) (v : Content) → is_for s h v ≡ true → goes_toward_sender v ≡ false → h.id.source ≡ entity_of s → ⊥
+is_for-foreign : (s : Side) (h : Header) (v : Content) → is_for_side s h v ≡ true → goes_toward_sender v ≡ false → h.id.source ≡ entity_of s → ⊥
 is_for-foreign s h v e goes own =
-    let toward : Bool = h.toward_sender && (h.id.source == entity_of s) && (h.destination == entity_of (other s)) in
-    let away : Bool = not h.toward_sender && (h.id.source == entity_of (other s)) && (h.destination == entity_of s) in
-    let is_away : away ≡ true = sym (ap (λ (b : Bool). if b then toward else away) goes) ∙ e in
-    let parts = and_parts (not h.toward_sender && (h.id.source == entity_of (other s))) (h.destination == entity_of s) is_away in
-    let from : h.id.source ≡ entity_of (other s) = eqb-true h.id.source (entity_of (other s)) (and_parts (not h.toward_sender) (h.id.source == entity_of (other s)) parts.0).1 in
+    let both = and_parts (direction_fits h v) (is_for (entity_of s) (entity_of (other s)) h) e in
+    let bit : h.toward_sender ≡ false = same-bit h.toward_sender (goes_toward_sender v) both.0 goes in
+    let toward : Bool = (h.id.source == entity_of s) && (h.destination == entity_of (other s)) in
+    let away : Bool = (h.id.source == entity_of (other s)) && (h.destination == entity_of s) in
+    let is_away : away ≡ true = sym (ap (λ (b : Bool). if b then toward else away) bit) ∙ both.1 in
+    let from : h.id.source ≡ entity_of (other s) = eqb-true h.id.source (entity_of (other s)) (and_parts (h.id.source == entity_of (other s)) (h.destination == entity_of s) is_away).0 in
     two-entities s (sym own ∙ from)
   where
+    same-bit : (bit goes : Bool) → beq bit goes ≡ true → goes ≡ false → bit ≡ false
+    same-bit false goes e n = refl
+    same-bit true true e n = absurd cc
+    same-bit true false e n = absurd cc
+
     two-entities : (s : Side) → entity_of s ≡ entity_of (other s) → ⊥
     two-entities One e = omega arith
     two-entities Two e = omega arith
@@ -389,7 +397,7 @@ module _ (s : Side) (p : TransactionId → Option Put) (sent : LinkState) (heard
   heard-parts new ids (inl came) a says =
       let h : Header = came.header in
       let v : Content = came.content in
-      let k = elim (is_for s h v) as (λ b. is_for s h v ≡ b → HearsSoundly (entity_of s) p old.sources (heard ++ text ∷ []) old.told old.published theirs old.transaction (if b then heard_by old.transaction h v old.published else no_change old.transaction old.published)) [
+      let k = elim (is_for_side s h v) as (λ b. is_for_side s h v ≡ b → HearsSoundly (entity_of s) p old.sources (heard ++ text ∷ []) old.told old.published theirs old.transaction (if b then heard_by old.transaction h v old.published else no_change old.transaction old.published)) [
         | true ↦ λ e. heard-soundly (entity_of s) p old.sources heard old.told old.published (entity_of (other s)) their_told text h v old.transaction ids came.spelled a.once a.only a.transaction a.writable
             (says h v came.spelled).0 (says h v came.spelled).1 (is_for-foreign s h v e)
         | false ↦ λ e. record { comes = inl refl; idle = λ none n. n }

@@ -37,11 +37,7 @@ abbrev pub TruthBy : ℕ → (TransactionId → Option Put) → TransactionId �
 TruthBy own p id (FileData offset bytes) = OfPut own p id (FileData offset bytes)
 TruthBy own p id (Metadata kind size source destination options) = OfPut own p id (Metadata kind size source destination options)
 TruthBy own p id (Eof condition checksum size tlvs) = OfPut own p id (Eof condition checksum size tlvs)
-TruthBy own p id (Finished condition delivery status tlvs) = Unit {0}
-TruthBy own p id (Ack of condition status) = Unit {0}
-TruthBy own p id (Nak start end pairs) = Unit {0}
-TruthBy own p id (Prompt keep_alive) = Unit {0}
-TruthBy own p id (KeepAlive progress) = Unit {0}
+TruthBy own p id _ = Unit {0}
 
 -- What holds at the station of a side: `p` finds the put of an id, `sent` is the link that the station sends on, `heard`
 -- is the PDUs that were delivered to it, and `theirs` is the transactions that the other station completed.

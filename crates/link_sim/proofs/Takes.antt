@@ -31,13 +31,15 @@ use Rattle.link_sim.specs.declared.receiver.Outcome.{Outcome}
 use Rattle.link_sim.specs.declared.transaction.Transaction.{Transaction}
 use Rattle.link_sim.specs.declared.transaction.Transaction.TheVariants.{Sends, Receives}
 use Rattle.link_sim.specs.Config.{is_valid_config}
-use Rattle.link_sim.specs.Sides.{other, entity_of, header_of}
+use Rattle.cfdp_directives.specs.declared.addressing.Addressing.{Addressing}
+use Rattle.cfdp_directives.specs.Addressing.{header_of, FitsWidths}
+use Rattle.link_sim.specs.Sides.{other, entity_of}
 use Rattle.link_sim.specs.Link.{LinkState, with_pdu}
 use Rattle.link_sim.specs.Sender.{sender_due, sender_says, sender_taken, sender_tells, file_due, open_due}
 use Rattle.link_sim.specs.Sender as sender
 use Rattle.link_sim.specs.Receiver.{receiver_due, receiver_says, receiver_taken, is_finishing, finished_due_by}
 use Rattle.link_sim.specs.Receiver as receiver
-use Rattle.link_sim.specs.Station.{StationState, Taken, takes, takes_of, takes_from_sender, takes_from_receiver, after_taken, file_at, id_of, FitsWidths, IsWritable, IsWritableSender, IsWritableReceiver}
+use Rattle.link_sim.specs.Station.{StationState, Taken, takes, takes_of, takes_from_sender, takes_from_receiver, after_taken, file_at, id_of, sender_addressing, receiver_addressing, IsWritable, IsWritableSender, IsWritableReceiver}
 use Rattle.link_sim.specs.Sound.{finished_count, SendsPut, ReceivesPut, IsSoundTransaction, SaysDelivered}
 use Rattle.link_sim.proofs.StationSound.{TruthBy, Parts, Moves, parts-send, parts-moved, moves-quiet}
 
@@ -90,15 +92,15 @@ entity-fits : (s : Side) → entity_of s < 256
 entity-fits One = omega arith
 entity-fits Two = omega arith
 
-can-write : (ids numbers : ℕ) (id : TransactionId) (destination : ℕ) (v : Content) → FitsWidths ids numbers id → destination < 256 → content_len 4 v < 2 ^ 16 → FitsContent 4 v → CanWrite (header_of ids numbers id destination v) v
-can-write ids numbers id destination v fits low short content = record {
+can-write : (a : Addressing) (v : Content) → FitsWidths a.id_width a.number_width a.id → a.destination < 256 → content_len 4 v < 2 ^ 16 → FitsContent 4 v → CanWrite (header_of a v) v
+can-write a v fits low short content = record {
   header = record {
     id_width = fits.id_width;
     number_width = fits.number_width;
     length = short;
     source = fits.source;
     number = fits.number;
-    destination = width-fits ids destination fits.id_width.0 low;
+    destination = width-fits a.id_width a.destination fits.id_width.0 low;
   };
   content = content;
   kind = refl;
@@ -136,21 +138,21 @@ taken-again (suc n) [] = refl
 taken-again (suc n) (x ∷ xs) = ap (λ (ys : List ℕ). x ∷ ys) (taken-again n xs)
 
 sender-can_write : (config : SimConfig) (s : Side) (file : List ℕ) (x : Sender) (d : SenderDue) → IsFineConfig config → IsWritableSender x → sender_due x ≡ Some d → CanWrite (takes_from_sender config s file x d).header (takes_from_sender config s file x d).content
-sender-can_write config s file x (sending.AckOfFinished c) f w e = can-write 2 4 x.id (entity_of (other s)) _ w.id (entity-fits (other s)) (omega arith) (w.condition c (sender-ack x x.phase x.ack_due c e))
+sender-can_write config s file x (sending.AckOfFinished c) f w e = can-write (sender_addressing s x.id) _ w.id (entity-fits (other s)) (omega arith) (w.condition c (sender-ack x x.phase x.ack_due c e))
 sender-can_write config s file x sending.Metadata f w e =
     let source = w.source in
     let destination = w.destination in
-    can-write 2 4 x.id (entity_of (other s)) _ w.id (entity-fits (other s)) (omega arith) (f.kind, w.size, w.source, w.destination)
+    can-write (sender_addressing s x.id) _ w.id (entity-fits (other s)) (omega arith) (f.kind, w.size, w.source, w.destination)
 sender-can_write config s file x sending.FileData f w e =
     let segment = f.segment in
     let sent = w.sent in
     let size = w.size in
-    can-write 2 4 x.id (entity_of (other s)) _ w.id (entity-fits (other s)) (omega (arith, taken-length config.segment (drop x.sent file))) (omega arith)
-sender-can_write config s file x sending.Eof f w e = can-write 2 4 x.id (entity_of (other s)) _ w.id (entity-fits (other s)) (omega arith) ((omega arith, refl), checksum-fits config.checksum_kind file, w.size)
+    can-write (sender_addressing s x.id) _ w.id (entity-fits (other s)) (omega (arith, taken-length config.segment (drop x.sent file))) (omega arith)
+sender-can_write config s file x sending.Eof f w e = can-write (sender_addressing s x.id) _ w.id (entity-fits (other s)) (omega arith) ((omega arith, refl), checksum-fits config.checksum_kind file, w.size)
 
 pub receiver_can_write : (s : Side) (r : Receiver) (d : ReceiverDue) → IsWritableReceiver r → receiver_due r ≡ Some d → CanWrite (takes_from_receiver s r d).header (takes_from_receiver s r d).content
-receiver_can_write s r (receiving.AckOfEof c) w e = can-write r.id_width r.number_width r.id (entity_of s) _ w.id (entity-fits s) (omega arith) (w.condition c (receiver-ack r r.ack_due c e))
-receiver_can_write s r (receiving.Finished o) w e = can-write r.id_width r.number_width r.id (entity_of s) _ w.id (entity-fits s) (omega arith) (w.outcome o (receiver-finished r r.ack_due o e))
+receiver_can_write s r (receiving.AckOfEof c) w e = can-write (receiver_addressing s r) _ w.id (entity-fits s) (omega arith) (w.condition c (receiver-ack r r.ack_due c e))
+receiver_can_write s r (receiving.Finished o) w e = can-write (receiver_addressing s r) _ w.id (entity-fits s) (omega arith) (w.outcome o (receiver-finished r r.ack_due o e))
 
 takes_of-can_write : (config : SimConfig) (s : Side) (sources : FileMap) (transaction : Option Transaction) (t : Taken) → IsWritable transaction → is_valid_config config ≡ true → takes_of config s sources transaction ≡ Some t → CanWrite t.header t.content
 takes_of-can_write config s sources None t w valid e = absurd cc

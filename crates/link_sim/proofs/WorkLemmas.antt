@@ -44,7 +44,7 @@ use Rattle.link_sim.specs.declared.event.Mark.TheVariants.{Delivered}
 use Rattle.link_sim.specs.declared.event.Applied.{Applied}
 use Rattle.link_sim.specs.declared.event.Applied.TheVariants as applied
 use Rattle.link_sim.specs.Config.{is_valid_config}
-use Rattle.link_sim.specs.Sides.{other, is_for}
+use Rattle.link_sim.specs.Sides.{other, is_for_side}
 use Rattle.link_sim.specs.Link.{LinkState, waiting, with_pdu, with_mark}
 use Rattle.link_sim.specs.Station.{StationState, Taken, After, takes, takes_of, takes_from_sender, takes_from_receiver, file_at, after_taken, no_change, opens, heard_by, comes_to, HearsPdu, DropsPdu}
 use Rattle.link_sim.specs.World.{WorldState, station_at, link_from, with_station, with_link, poll_by, poll_step, Becomes, Delivers, DeliversPdu}
@@ -318,7 +318,7 @@ heard_by-works (Some (Receives r)) h v files =
 
 comes_to-works : (s : Side) (transaction : Option Transaction) (h : Header) (v : Content) (files : FileMap) → Lowers transaction v (comes_to s transaction h v files)
 comes_to-works s transaction h v files =
-    by_test (is_for s h v) _ _ (Lowers transaction v) (λ _. heard_by-works transaction h v files) (λ _. unheard-works transaction v files)
+    by_test (is_for_side s h v) _ _ (Lowers transaction v) (λ _. heard_by-works transaction h v files) (λ _. unheard-works transaction v files)
 
 -- ---- the link
 -- a PDU that is put on the link waits

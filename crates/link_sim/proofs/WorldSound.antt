@@ -28,8 +28,10 @@ use Rattle.link_sim.specs.Config.{is_valid_config}
 use Rattle.link_sim.specs.Sides.{other, entity_of, id_octets, number_octets}
 use Rattle.link_sim.specs.Link.{LinkState, waiting, with_mark}
 use Rattle.link_sim.specs.Sender.{opened_sender}
-use Rattle.link_sim.specs.Station.{StationState, Taken, takes, takes_of, FitsWidths, HearsPdu, DropsPdu}
-use Rattle.link_sim.specs.World.{WorldState, Result, station_at, link_from, with_station, with_link, is_name, sends_file, accepts, refuses, put_file, put_step, poll_by, poll_step, strike_by, strike_step, Delivers, Steps, first_station, first_world}
+use Rattle.link_sim.specs.Station.{StationState, Taken, takes, takes_of, HearsPdu, DropsPdu}
+use Rattle.cfdp_directives.specs.Addressing.{FitsWidths}
+use Rattle.cfdp_directives.specs.FileName.{is_file_name}
+use Rattle.link_sim.specs.World.{WorldState, Result, station_at, link_from, with_station, with_link, sends_file, accepts, refuses, put_file, put_step, poll_by, poll_step, strike_by, strike_step, Delivers, Steps, first_station, first_world}
 use Rattle.link_sim.specs.Theorem.{delivered, delivered_to, put_of, put_by, with_octets, accepted_as, completions_at, FoldsAt}
 use Rattle.link_sim.specs.Sound.{finished_count, SendsPut, IsSoundAt, IsSound}
 use Rattle.link_sim.proofs.Growth.{delivered-push, delivered-strike, delivered-send, inbox_after-same}
@@ -349,9 +351,9 @@ accepted Two source destination w octets h a =
       stays = stays;
     }
 
-is_name-fits : (name : List ℕ) → not (is_name name) ≡ false → length name < 256
-is_name-fits name e =
-    let short : length name ≤ 255 = leb-true (length name) 255 (and_parts (nat_le 1 (length name)) (nat_le (length name) 255) (not-false (is_name name) e)).1 in
+file_name-fits : (name : List ℕ) → not (is_file_name name) ≡ false → length name < 256
+file_name-fits name e =
+    let short : length name ≤ 255 = leb-true (length name) 255 (and_parts (nat_le 1 (length name)) (nat_le (length name) 255) (not-false (is_file_name name) e)).1 in
     omega arith
 
 keeps-put : (s : Side) (source destination : List ℕ) (w : WorldState) → IsSound w → Keeps w (put_step s source destination w).world
@@ -360,7 +362,7 @@ keeps-put s source destination w h =
     let file : Result = put_file (get (station_at s w).sources source) s source destination w in
     let numbered : Result = if not (nat_lt w.config.first_number (256 ^ 4)) then refuses refusal.NumbersSpent w else file in
     let free : Result = if not (length w.puts == 0) then refuses refusal.TableFull w else numbered in
-    elim (not (is_name source) || not (is_name destination)) as (λ b. (not (is_name source) || not (is_name destination)) ≡ b → Keeps w (if b then refuses refusal.Name w else free).world) [
+    elim (not (is_file_name source) || not (is_file_name destination)) as (λ b. (not (is_file_name source) || not (is_file_name destination)) ≡ b → Keeps w (if b then refuses refusal.Name w else free).world) [
       | true ↦ λ e. same
       | false ↦ λ names. elim (not (length w.puts == 0)) as (λ b. not (length w.puts == 0) ≡ b → Keeps w (if b then refuses refusal.TableFull w else numbered).world) [
         | true ↦ λ e. same
@@ -372,8 +374,8 @@ keeps-put s source destination w h =
               | true ↦ λ short. accepted s source destination w octets h (record {
                 found = found;
                 short = ltb-true (length octets) (2 ^ 32) short;
-                source_fits = is_name-fits source (or_parts (not (is_name source)) (not (is_name destination)) names).0;
-                destination_fits = is_name-fits destination (or_parts (not (is_name source)) (not (is_name destination)) names).1;
+                source_fits = file_name-fits source (or_parts (not (is_file_name source)) (not (is_file_name destination)) names).0;
+                destination_fits = file_name-fits destination (or_parts (not (is_file_name source)) (not (is_file_name destination)) names).1;
                 none = nil_from_length w.puts (eqb-true (length w.puts) 0 (not-false (length w.puts == 0) none));
                 number = ltb-true w.config.first_number (256 ^ 4) (not-false (nat_lt w.config.first_number (256 ^ 4)) number);
               })

@@ -1,6 +1,6 @@
 -- What the parts of an event do to one station, its link and the puts makes the event's step of the world.
-use Rattle.std.proofs.Common.{◌≡◌, ℕ, ◌<◌, Bool, true, false, cond, not, List, [], ◌∷◌, ◌++◌, length, Option, Some, None, Result, Ok, Err, refl, sym, ap, subst, ◌∙◌, inl, inr, arith}
-use Rattle.std.specs.Prelude.{◌&&◌, ◌||◌, ◌==◌, ◌^◌, nat_lt, MatchBool, IfOk, OnOk, OnErr, if◌then◌else◌}
+use Rattle.std.proofs.Common.{◌≡◌, ℕ, ◌<◌, Bool, true, false, List, [], ◌∷◌, ◌++◌, length, Option, Some, None, Result, Ok, Err, refl, sym, ap, subst, ◌∙◌, inl, inr}
+use Rattle.std.specs.Prelude.{◌^◌, nat_lt, MatchBool, IfOk, OnErr, if◌then◌else◌}
 use Rattle.std.specs.FinMap.{get}
 use Rattle.cfdp_header.specs.declared.value.TransactionId.{TransactionId}
 use Rattle.link_sim.specs.declared.side.Side.{Side}
@@ -13,7 +13,8 @@ use Rattle.link_sim.specs.declared.event.AcceptedPut.{AcceptedPut}
 use Rattle.link_sim.specs.Sides.{other, entity_of}
 use Rattle.link_sim.specs.Link.{LinkState, waiting}
 use Rattle.link_sim.specs.Station.{StationState, Taken, takes, after_taken, PollsStation}
-use Rattle.link_sim.specs.World.{WorldState, Result as Stepped, sends_file, accepts, refuses, station_at, link_from, with_station, with_link, is_name, put_step, put_file, poll_step, poll_by, strike_step, strike_by, Becomes, Delivers, DeliversNothing, DeliversPdu, PutsAt, StrikesAt, DeliversAt}
+use Rattle.cfdp_directives.specs.FileName.{is_file_name}
+use Rattle.link_sim.specs.World.{WorldState, Result as Stepped, sends_file, accepts, refuses, station_at, link_from, with_station, with_link, put_step, put_file, poll_step, poll_by, strike_step, strike_by, Becomes, Delivers, PutsAt, StrikesAt, DeliversAt}
 use Rattle.link_sim.specs.Sound.{IsSound}
 use Rattle.link_sim.specs.Work.{work}
 use Rattle.link_sim.proofs.WorldSound.{sound-put, sound-poll, sound-strike, sound-deliver, takes-can_write}
@@ -125,7 +126,7 @@ puts-file (Some octets) s source destination w did st puts p = by_size (nat_lt (
         ap (λ x. with_station s x (record w { puts = puts })) p.1 ∙ ap (λ (ps : List AcceptedPut). with_station s (station_at s w) (record w { puts = ps })) p.2 ∙ same_puts s w
 
 -- a put whose names and number are good, and the first, goes by what the outbox has
-puts-good : (s : Side) (source destination : List ℕ) (w : WorldState) → is_name source ≡ true → is_name destination ≡ true → w.puts ≡ [] → w.config.first_number < 2 ^ 32 →
+puts-good : (s : Side) (source destination : List ℕ) (w : WorldState) → is_file_name source ≡ true → is_file_name destination ≡ true → w.puts ≡ [] → w.config.first_number < 2 ^ 32 →
     put_step s source destination w ≡ put_file (get (station_at s w).sources source) s source destination w
 puts-good s source destination w a b none low =
     let low_is : nat_lt w.config.first_number (256 ^ 4) ≡ true = lt-ltb w.config.first_number (2 ^ 32) low in
@@ -133,7 +134,7 @@ puts-good s source destination w a b none low =
 
 module _ {E : Type 0} where
   pub kept-put : (s : Side) (source destination : List ℕ) (w : WorldState) (id : TransactionId) (r : Result Applied E) (st : StationState) (puts : List AcceptedPut) →
-      is_name source ≡ true → is_name destination ≡ true → w.puts ≡ [] → w.config.first_number < 2 ^ 32 → id ≡ id_at s w →
+      is_file_name source ≡ true → is_file_name destination ≡ true → w.puts ≡ [] → w.config.first_number < 2 ^ 32 → id ≡ id_at s w →
       IfOk r (λ did. PutsAt (get (station_at s w).sources source) id source destination did (station_at s w) st w.puts puts) →
       OnErr r (st ≡ station_at s w) → OnErr r (puts ≡ w.puts) → IsSound w → IsSound (with_station s st (record w { puts = puts }))
   kept-put s source destination w id (Ok did) st puts a b none low is p _ _ h =

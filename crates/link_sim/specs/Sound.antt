@@ -6,7 +6,7 @@ use Rattle.std.specs.FinMap.{get}
 use Rattle.cfdp_header.specs.declared.value.TransactionId.{TransactionId}
 use Rattle.cfdp_header.specs.declared.value.Header.{Header}
 use Rattle.cfdp_directives.specs.declared.indication.Indication.{Indication}
-use Rattle.cfdp_directives.specs.Content.{Content, FileData, Metadata, Eof, Finished, Ack, Nak, Prompt, KeepAlive}
+use Rattle.cfdp_directives.specs.Content.{Content, Finished}
 use Rattle.cfdp_directives.specs.Grammar.{SpellsPdu}
 use Rattle.cfdp_directives.specs.Put.{Put, SomePdu, IsMetadataOf, IsEofOf, Brings, HeardInFull, inbox_after}
 use Rattle.cfdp_header.specs.Files.{FileMap}
@@ -97,14 +97,9 @@ IsSoundTransaction own put_of sources heard told (Some (Receives r)) = ReceivesP
 
 -- A Finished that says that the file was delivered is of a transaction that the station completed.
 abbrev pub SaysDelivered : ℕ → List Indication → TransactionId → Content → Type 0
-SaysDelivered own told id (Finished condition delivery status tlvs) = is_complete condition delivery status ≡ true → Contains (completions own told) id
-SaysDelivered own told id (FileData offset bytes) = Unit {0}
-SaysDelivered own told id (Metadata kind size source destination options) = Unit {0}
-SaysDelivered own told id (Eof condition checksum size tlvs) = Unit {0}
-SaysDelivered own told id (Ack of condition status) = Unit {0}
-SaysDelivered own told id (Nak start end pairs) = Unit {0}
-SaysDelivered own told id (Prompt keep_alive) = Unit {0}
-SaysDelivered own told id (KeepAlive progress) = Unit {0}
+SaysDelivered own told id (Finished condition delivery status tlvs) =
+    is_complete condition delivery status ≡ true → Contains (completions own told) id
+SaysDelivered own told id _ = Unit {0}
 
 -- What holds at one station.
 pub record IsSoundAt (s : Side) (w : WorldState) : Type 0 where

@@ -4,7 +4,6 @@ use Rattle.std.specs.Option.{option_map}
 use Rattle.std.specs.FinMap.{get}
 use Rattle.cfdp_header.specs.declared.value.TransactionId.{TransactionId}
 use Rattle.cfdp_header.specs.declared.value.Header.{Header}
-use Rattle.cfdp_header.specs.Header.{IsWidth}
 use Rattle.cfdp_directives.specs.Codes.{IsCondition}
 use Rattle.cfdp_directives.specs.declared.indication.Indication.{Indication}
 use Rattle.cfdp_directives.specs.declared.error.PduError.{PduError}
@@ -12,6 +11,8 @@ use Rattle.cfdp_directives.specs.Content.{Content}
 use Rattle.cfdp_directives.specs.Grammar.{SpellsPdu}
 use Rattle.cfdp_directives.specs.Faults.{pdu_fault}
 use Rattle.cfdp_directives.specs.Written.{pdu_octets}
+use Rattle.cfdp_directives.specs.declared.addressing.Addressing.{Addressing}
+use Rattle.cfdp_directives.specs.Addressing.{header_of, FitsWidths}
 use Rattle.cfdp_header.specs.Files.{FileMap}
 use Rattle.cfdp_header.specs.Ids.{same_id}
 use Rattle.link_sim.specs.declared.side.Side.{Side}
@@ -24,7 +25,7 @@ use Rattle.link_sim.specs.declared.receiver.ReceiverDue.{ReceiverDue}
 use Rattle.link_sim.specs.declared.receiver.ReceiverPhase.{ReceiverPhase}
 use Rattle.link_sim.specs.declared.transaction.Transaction.{Transaction}
 use Rattle.link_sim.specs.declared.transaction.Transaction.TheVariants.{Sends, Receives}
-use Rattle.link_sim.specs.Sides.{other, entity_of, id_octets, number_octets, header_of, is_for}
+use Rattle.link_sim.specs.Sides.{other, entity_of, id_octets, number_octets, is_for_side}
 use Rattle.link_sim.specs.Link.{LinkState, with_pdu}
 use Rattle.link_sim.specs.Sender.{SenderAfter, sender_due, sender_says, sender_taken, sender_tells, sender_hears}
 use Rattle.link_sim.specs.Receiver.{ReceiverAfter, receiver_due, receiver_says, receiver_taken, receiver_hears, opened_receiver, opening_phase}
@@ -52,19 +53,29 @@ pub record Taken : Type 0 where
   pub transaction : Transaction
   pub told : List Indication
 
--- the sender's PDU that is due is taken: it has this station's widths, and goes to the other entity
+-- what a station sends of a put: it has this stack's widths, and goes to the other entity
+abbrev pub sender_addressing : Side → TransactionId → Addressing
+sender_addressing s id =
+    record { id = id; destination = entity_of (other s); id_width = id_octets; number_width = number_octets }
+
+-- what it answers: it has the widths of the first PDU heard; its destination is the file's receiver
+abbrev pub receiver_addressing : Side → Receiver → Addressing
+receiver_addressing s r =
+    record { id = r.id; destination = entity_of s; id_width = r.id_width; number_width = r.number_width }
+
+-- the sender's PDU that is due is taken
 abbrev pub takes_from_sender : SimConfig → Side → List ℕ → Sender → SenderDue → Taken
 takes_from_sender config s file x d = record {
-  header = header_of id_octets number_octets x.id (entity_of (other s)) (sender_says config file x d);
+  header = header_of (sender_addressing s x.id) (sender_says config file x d);
   content = sender_says config file x d;
   transaction = Sends (sender_taken config x d);
   told = sender_tells x d;
 }
 
--- the receiver's PDU that is due is taken: it has the widths of the first PDU heard; its destination is the file's receiver
+-- the receiver's PDU that is due is taken
 abbrev pub takes_from_receiver : Side → Receiver → ReceiverDue → Taken
 takes_from_receiver s r d = record {
-  header = header_of r.id_width r.number_width r.id (entity_of s) (receiver_says r d);
+  header = header_of (receiver_addressing s r) (receiver_says r d);
   content = receiver_says r d;
   transaction = Receives (receiver_taken r d);
   told = [];
@@ -132,7 +143,7 @@ heard_by (Some (Receives r)) h v files =
 
 -- what a PDU does that comes to the station of this side: one that isn't for it changes nothing
 abbrev pub comes_to : Side → Option Transaction → Header → Content → FileMap → After
-comes_to s transaction h v files = if is_for s h v then heard_by transaction h v files else no_change transaction files
+comes_to s transaction h v files = if is_for_side s h v then heard_by transaction h v files else no_change transaction files
 
 abbrev pub after_heard : StationState → After → StationState
 after_heard st a = record st { published = a.files; told = st.told ++ a.told; transaction = a.transaction }
@@ -152,13 +163,6 @@ pub record KeepsAll (old new : Option Transaction) (told_before told_now : List 
 -- the station of this side once it heard a PDU
 abbrev pub hears : Side → Header → Content → StationState → StationState
 hears s h v st = after_heard st (comes_to s st.transaction h v st.published)
-
--- An id can be written in these widths.
-pub record FitsWidths (ids numbers : ℕ) (id : TransactionId) : Type 0 where
-  pub id_width : IsWidth ids
-  pub number_width : IsWidth numbers
-  pub source : id.source < 256 ^ ids
-  pub number : id.number < 256 ^ numbers
 
 -- All that a sender may have to say can be written.
 pub record IsWritableSender (x : Sender) : Type 0 where

@@ -1,7 +1,6 @@
 -- What is proved of every list of events, in the words of puts, PDUs delivered, indications and files. Of a world it reads
 -- the files, what was indicated, the PDUs with their marks, and the accepted puts: nothing of the machines.
-use Rattle.std.specs.Prelude.{◌≡◌, ℕ, ◌==◌, Bool, List, [], ◌∷◌, ◌++◌, Option, Some, None, Contains, if◌then◌else◌}
-use Rattle.std.specs.Option.{option_map}
+use Rattle.std.specs.Prelude.{◌≡◌, ℕ, ◌==◌, List, [], ◌∷◌, ◌++◌, Option, Some, None, Contains, if◌then◌else◌}
 use Rattle.std.specs.FinMap.{get}
 use Rattle.cfdp_header.specs.declared.value.Header.{Header}
 use Rattle.cfdp_header.specs.declared.value.TransactionId.{TransactionId}
@@ -9,10 +8,9 @@ use Rattle.cfdp_directives.specs.declared.codes.Delivery.TheVariants.{Complete}
 use Rattle.cfdp_directives.specs.declared.codes.FileStatus.TheVariants.{Retained}
 use Rattle.cfdp_directives.specs.Codes.{no_error}
 use Rattle.cfdp_directives.specs.Tlv.{Tlv}
-use Rattle.cfdp_directives.specs.Content.{Content, FileData, Metadata, Eof, Finished, Ack, Nak, Prompt, KeepAlive}
+use Rattle.cfdp_directives.specs.Content.{Content, FileData, Metadata, Eof, Finished}
 use Rattle.cfdp_directives.specs.Grammar.{SpellsPdu}
 use Rattle.cfdp_directives.specs.Put.{Put, IsTruthful, HeardInFull, SomePdu, inbox_after}
-use Rattle.cfdp_header.specs.Files.{FileMap}
 use Rattle.cfdp_directives.specs.Completions.{completions, FinishedOnce, IsToldComplete}
 use Rattle.cfdp_header.specs.Ids.{same_id}
 use Rattle.link_sim.specs.declared.side.Side.{Side}
@@ -91,13 +89,10 @@ IsOfPut s w id v = (put : Put) × ((id.source ≡ entity_of s) × (put_of w id �
 -- a content that speaks of a file speaks the truth; the other contents speak of none
 abbrev pub SaysTruth : Side → WorldState → TransactionId → Content → Type 0
 SaysTruth s w id (FileData offset bytes) = IsOfPut s w id (FileData offset bytes)
-SaysTruth s w id (Metadata kind size source destination options) = IsOfPut s w id (Metadata kind size source destination options)
+SaysTruth s w id (Metadata kind size source destination options) =
+    IsOfPut s w id (Metadata kind size source destination options)
 SaysTruth s w id (Eof condition checksum size tlvs) = IsOfPut s w id (Eof condition checksum size tlvs)
-SaysTruth s w id (Finished condition delivery status tlvs) = Unit {0}
-SaysTruth s w id (Ack of condition status) = Unit {0}
-SaysTruth s w id (Nak start end pairs) = Unit {0}
-SaysTruth s w id (Prompt keep_alive) = Unit {0}
-SaysTruth s w id (KeepAlive progress) = Unit {0}
+SaysTruth s w id _ = Unit {0}
 
 -- Each Metadata, file data and EOF that a station put on the link is truthful for a put that it made.
 abbrev pub TruthAt : Side → WorldState → Type 0

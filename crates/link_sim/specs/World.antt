@@ -1,21 +1,21 @@
 -- Two stations and the PDUs between them: what each event does.
-use Rattle.std.specs.Prelude.{◌≡◌, ◌⊎◌, ℕ, ◌+◌, ◌<◌, ◌≤◌, ◌^◌, ◌==◌, ◌&&◌, ◌||◌, not, Bool, nat_lt, nat_le, List, [], ◌∷◌, ◌++◌, length, slice_get, is_none, Option, Some, None, All, MatchBool, if◌then◌else◌}
+use Rattle.std.specs.Prelude.{◌≡◌, ◌⊎◌, ℕ, ◌^◌, ◌==◌, ◌||◌, not, nat_lt, List, [], ◌∷◌, ◌++◌, length, Option, Some, None, All, MatchBool, if◌then◌else◌}
 use Rattle.std.specs.FinMap.{get}
 use Rattle.cfdp_header.specs.declared.value.TransactionId.{TransactionId}
 use Rattle.cfdp_directives.specs.declared.indication.Indication.TheVariants as indication
 use Rattle.cfdp_directives.specs.Written.{pdu_octets}
+use Rattle.cfdp_directives.specs.FileName.{is_file_name}
 use Rattle.cfdp_header.specs.Files.{FileMap}
 use Rattle.link_sim.specs.declared.side.Side.{Side}
 use Rattle.link_sim.specs.declared.side.Side.TheVariants.{One, Two}
 use Rattle.link_sim.specs.declared.config.SimConfig.{SimConfig}
-use Rattle.link_sim.specs.declared.transaction.Transaction.TheVariants.{Sends, Receives}
+use Rattle.link_sim.specs.declared.transaction.Transaction.TheVariants.{Sends}
 use Rattle.link_sim.specs.declared.event.Event.{Event}
 use Rattle.link_sim.specs.declared.event.Event.TheVariants as event
 use Rattle.link_sim.specs.declared.event.Applied.{Applied}
 use Rattle.link_sim.specs.declared.event.Applied.TheVariants as applied
 use Rattle.link_sim.specs.declared.event.PutError.{PutError}
 use Rattle.link_sim.specs.declared.event.PutError.TheVariants as refusal
-use Rattle.link_sim.specs.declared.event.Mark.{Mark}
 use Rattle.link_sim.specs.declared.event.Mark.TheVariants.{Delivered, Struck}
 use Rattle.link_sim.specs.declared.event.AcceptedPut.{AcceptedPut}
 use Rattle.link_sim.specs.Sides.{other, entity_of}
@@ -53,9 +53,6 @@ pub record Result : Type 0 where
   pub world : WorldState
   pub applied : Applied
 
-abbrev pub is_name : List ℕ → Bool
-is_name name = nat_le 1 (length name) && nat_le (length name) 255
-
 -- a station that begins to send a file
 abbrev pub sends_file : TransactionId → List ℕ → List ℕ → ℕ → StationState → StationState
 sends_file id source destination size st = record st {
@@ -84,7 +81,7 @@ put_file (Some octets) s source destination w =
 -- a put: the first cause that holds refuses it, and nothing changes then
 abbrev pub put_step : Side → List ℕ → List ℕ → WorldState → Result
 put_step s source destination w =
-    if not (is_name source) || not (is_name destination) then refuses refusal.Name w
+    if not (is_file_name source) || not (is_file_name destination) then refuses refusal.Name w
     else if not (length w.puts == 0) then refuses refusal.TableFull w
     else if not (nat_lt w.config.first_number (256 ^ 4)) then refuses refusal.NumbersSpent w
     else put_file (get (station_at s w).sources source) s source destination w

@@ -1,5 +1,5 @@
 ghost use Rattle.std.specs.Prelude.{◌≡◌};
-ghost use Rattle.link_sim.specs.Refusals.{put_refusal_number};
+ghost use Rattle.link_sim.specs.Refusals.{put_refusal_number, put_refusal_name, settle_refusal_number, settle_refusal_name};
 
 use crate::side::Side;
 use cfdp_directives::Octets;
@@ -70,6 +70,19 @@ impl PutError {
             PutError::NumbersSpent => 5,
         }
     }
+
+    /// Its name in reports.
+    pub fn name(self) -> &'static str
+        ensures { result.now ≡ put_refusal_name self }
+    {
+        match self {
+            PutError::NoSuchFile => "NoSuchFile",
+            PutError::Name => "Name",
+            PutError::TooLarge => "TooLarge",
+            PutError::TableFull => "TableFull",
+            PutError::NumbersSpent => "NumbersSpent",
+        }
+    }
 }
 
 /// What became of a PDU that was sent and no longer waits.
@@ -100,10 +113,19 @@ pub enum SettleError {
 impl SettleError {
     /// The number that names this error in reports.
     pub fn number(self) -> u8
-        ensures { result ≡ 1 }
+        ensures { result ≡ settle_refusal_number self }
     {
         match self {
             SettleError::NoMemory => 1,
+        }
+    }
+
+    /// Its name in reports.
+    pub fn name(self) -> &'static str
+        ensures { result.now ≡ settle_refusal_name self }
+    {
+        match self {
+            SettleError::NoMemory => "NoMemory",
         }
     }
 }

@@ -4,7 +4,6 @@
 mod config;
 mod event;
 mod files;
-mod header;
 mod held;
 mod link;
 mod receiver;

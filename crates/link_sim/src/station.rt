@@ -1,17 +1,18 @@
 ghost use Rattle.std.specs.Prelude.{◌≡◌, ◌⊎◌, [], true, None, OnOk, OnErr, IfOk};
+ghost use Rattle.cfdp_directives.specs.Content.{view};
 ghost use Rattle.link_sim.specs.Config.{is_valid_config};
+ghost use Rattle.link_sim.specs.Sides as sides;
 ghost use Rattle.link_sim.specs.Station.{takes, IsWritable, PollsStation, HearsPdu, DropsPdu};
 ghost use Rattle.link_sim.specs.World.{first_station, sends_file};
 
 use crate::config::SimConfig;
 use crate::files::Files;
-use crate::header::is_for;
 use crate::link::Link;
 use crate::sender::Sender;
 use crate::side::Side;
 use crate::transaction::{Transaction, hear};
-use cfdp_directives::{Indication, Octets, decode};
-use cfdp_header::TransactionId;
+use cfdp_directives::{Indication, Octets, Pdu, decode, direction_fits, is_for};
+use cfdp_header::{Header, TransactionId};
 use std::alloc::{AllocError, Global};
 use std::marker::Model;
 
@@ -126,7 +127,7 @@ impl Station {
             Ok(found) => found,
             Err(_) => return Ok(()),
         };
-        if !is_for(side, &header, &pdu) {
+        if !is_for_side(side, &header, &pdu) {
             return Ok(());
         }
         self.told.reserve(3)?;
@@ -139,4 +140,11 @@ impl Station {
             &pdu,
         )
     }
+}
+
+/// Whether a PDU is one for the station of this side, from the other.
+fn is_for_side(side: Side, header: &Header, pdu: &Pdu<'_>) -> bool
+    ensures { result ≡ sides.is_for_side side header.now (view pdu.now) }
+{
+    direction_fits(header, pdu) && is_for(side.entity(), side.other().entity(), header)
 }

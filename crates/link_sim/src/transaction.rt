@@ -4,18 +4,19 @@ ghost use Rattle.link_sim.specs.Receiver.{receiver_due};
 ghost use Rattle.link_sim.specs.Receiver as receiving;
 ghost use Rattle.link_sim.specs.Station as stations;
 ghost use Rattle.cfdp_directives.specs.Content.{view};
+ghost use Rattle.cfdp_directives.specs.Written.{CanWrite, pdu_octets};
+ghost use Rattle.cfdp_directives.specs.Addressing.{header_of};
 ghost use Rattle.link_sim.specs.Config.{is_valid_config};
 ghost use Rattle.link_sim.specs.Station.{takes_of, takes_from_receiver, heard_by, PollsReceiver, IsWritableSender, IsWritableReceiver, IsWritable, Polls, Leaves, KeepsAll};
 ghost use Rattle.link_sim.specs.declared.transaction.Transaction.TheVariants.{Sends, Receives};
 
 use crate::config::SimConfig;
 use crate::files::Files;
-use crate::header::{header_of, written};
 use crate::link::Link;
 use crate::receiver::{Receiver, ReceiverPhase};
 use crate::sender::Sender;
 use crate::side::Side;
-use cfdp_directives::{Condition, Indication, Pdu};
+use cfdp_directives::{Addressing, Condition, Indication, Octets, Pdu};
 use cfdp_header::{Header, TransactionId};
 use std::alloc::{AllocError, Global};
 
@@ -31,6 +32,16 @@ const ID_OCTETS: u8 = 2;
 
 /// Octets of a sequence number that a sender writes.
 const NUMBER_OCTETS: u8 = 4;
+
+/// The octets of a PDU.
+fn written(alloc: Global, addressing: &Addressing, pdu: &Pdu<'_>) -> Result<Octets, AllocError>
+    requires { CanWrite (header_of addressing.now (view pdu.now)) (view pdu.now) }
+    ensures { IfOk result (λ text. text ≡ pdu_octets (header_of addressing.now (view pdu.now)) (view pdu.now)) }
+{
+    let mut octets = vec![in alloc; 0u8; addressing.written_len(pdu)]?;
+    addressing.write_pdu(pdu, octets.as_mut_slice());
+    Ok(Octets::from_vec(octets))
+}
 
 /// Puts the PDU that is due of a sender on the link, and says whether one was. An error leaves all as it was.
 fn poll_sender(
@@ -55,14 +66,13 @@ fn poll_sender(
     };
     let file = sources.octets(sender.source.as_slice());
     let pdu = sender.says(config, file, &due);
-    let header = header_of(
-        ID_OCTETS,
-        NUMBER_OCTETS,
-        sender.id,
-        side.other().entity(),
-        &pdu,
-    );
-    let text = written(alloc, &header, &pdu)?;
+    let addressing = Addressing {
+        id: sender.id,
+        destination: side.other().entity(),
+        id_width: ID_OCTETS,
+        number_width: NUMBER_OCTETS,
+    };
+    let text = written(alloc, &addressing, &pdu)?;
     link.push(text)?;
     sender.take(config, &due, told);
     Ok(true)
@@ -84,14 +94,13 @@ fn poll_receiver(
         return Ok(false);
     };
     let pdu = receiver.says(&due);
-    let header = header_of(
-        receiver.id_width,
-        receiver.number_width,
-        receiver.id,
-        side.entity(),
-        &pdu,
-    );
-    let text = written(alloc, &header, &pdu)?;
+    let addressing = Addressing {
+        id: receiver.id,
+        destination: side.entity(),
+        id_width: receiver.id_width,
+        number_width: receiver.number_width,
+    };
+    let text = written(alloc, &addressing, &pdu)?;
     link.push(text)?;
     receiver.take(&due);
     Ok(true)

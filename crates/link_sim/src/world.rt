@@ -4,7 +4,6 @@ ghost use Rattle.link_sim.specs.Config.{IsValidConfig};
 ghost use Rattle.link_sim.specs.Sides.{other};
 ghost use Rattle.link_sim.specs.Station.{takes};
 ghost use Rattle.link_sim.specs.World.{Steps, Becomes, Delivers, PutsAt, StrikesAt, DeliversAt, put_step, poll_step, strike_step, first_world, station_at, link_from, Reaches, SettlesTo, IsSettled, files_of};
-ghost use Rattle.link_sim.specs.World as worlds;
 ghost use Rattle.link_sim.specs.Work.{work};
 ghost use Rattle.link_sim.specs.Link.{waiting};
 ghost use Rattle.std.specs.FinMap as map;
@@ -17,7 +16,7 @@ use crate::files::Files;
 use crate::link::Link;
 use crate::side::Side;
 use crate::station::Station;
-use cfdp_directives::{Indication, Octets};
+use cfdp_directives::{Indication, Octets, is_file_name};
 use cfdp_header::TransactionId;
 use std::alloc::{AllocError, Global};
 use std::marker::Model;
@@ -153,7 +152,7 @@ impl World {
         ensures steps { IfOk result (λ did. Becomes (put_step side source.now destination.now self.old) did self.new) }
         ensures err { OnErr result (self.new ≡ self.old) }
     {
-        if !is_name(source.as_slice()) || !is_name(destination.as_slice()) {
+        if !is_file_name(source.as_slice()) || !is_file_name(destination.as_slice()) {
             return Ok(Applied::Refused(PutError::Name));
         }
         if !self.puts.is_empty() {
@@ -291,13 +290,6 @@ impl World {
         while self.settle_once()? {}
         Ok(())
     }
-}
-
-/// Whether a name has 1 to 255 octets.
-fn is_name(name: &[u8]) -> bool
-    ensures { result ≡ worlds.is_name name.now }
-{
-    !name.is_empty() && name.len() <= 255
 }
 
 /// A put at this station whose names and number are good. An error leaves all as it was.

@@ -1,0 +1,14 @@
+/// How far a transaction has come at one of its two entities.
+#[derive(Clone, Copy, Debug, PartialEq, Eq)]
+pub enum Phase {
+    /// At the sender: the file goes out, until its receiver says Finished.
+    Sending,
+    /// At the sender: the transaction was cancelled, and its receiver hasn't acknowledged that yet.
+    Cancelling,
+    /// At the receiver: the file comes in.
+    Receiving,
+    /// At the receiver: it is over, and the sender hasn't acknowledged the Finished yet.
+    Finishing,
+    /// At either: it is over, and nothing is waited for. The record stays, and what still comes is answered.
+    Closed,
+}
