@@ -18,7 +18,8 @@ use Rattle.cfdp_timers.specs.declared.deadlines.Deadlines.{Deadlines}
 use Rattle.cfdp_timers.specs.Order.{Timer, kind_place, timer_cmp}
 use Rattle.cfdp_header.specs.Ids.{id_cmp}
 use Rattle.cfdp_timers.specs.Entries.{deadline_at, with_deadline, alarms_of, alarms, roomy_of, armed_of, clock_of}
-use Rattle.cfdp_timers.proofs.Orders.{id_total, timer_total, id_laws, same_id, same_timer, id_eq}
+use Rattle.cfdp_header.proofs.Ids.{id_total, id_laws, id_cmp-IsAntisymmetric, id_eq}
+use Rattle.cfdp_timers.proofs.Orders.{timer_total, same_timer}
 use Rattle.cfdp_timers.proofs.Kept.{get-armed_of, by_id}
 
 -- keys that differ by `==` differ by the order
@@ -42,13 +43,13 @@ armed_of-push es i d none = ap (λ w. armed_of (es ++ (i, w) ∷ [])) none ∙ a
 
 pub roomy_of-push : (es : List (TransactionId × Deadlines)) (i : TransactionId) (d : Deadlines) → roomy_of (es ++ (i, d) ∷ []) ≡ set.insert (roomy_of es) i
 unfolding roomy_of
-roomy_of-push es i d = ap (λ l. set.from_list l) (keys-push es i d) ∙ set.from_list_push id_total same_id (keys_of es) i
+roomy_of-push es i d = ap (λ l. set.from_list l) (keys-push es i d) ∙ set.from_list_push id_total id_cmp-IsAntisymmetric (keys_of es) i
 
 -- one that has room is added to no avail
 pub insert-present : (s : set.FinSet id_cmp) (i : TransactionId) → set.contains s i ≡ true → set.insert s i ≡ s
-insert-present s i there = set.same_set id_total same_id _ _ (λ q. set.contains-insert id_total s i q
+insert-present s i there = set.same_set id_total id_cmp-IsAntisymmetric _ _ (λ q. set.contains-insert id_total s i q
     ∙ elim (eq_by_cmp id_cmp q i) as (λ b. eq_by_cmp id_cmp q i ≡ b → (b || set.contains s q) ≡ set.contains s q) [
-      | true ↦ λ tie. sym (ap (set.contains s) (same_id q i ((Equal-is (id_cmp q i)).0 tie)) ∙ there)
+      | true ↦ λ tie. sym (ap (set.contains s) (id_cmp-IsAntisymmetric q i ((Equal-is (id_cmp q i)).0 tie)) ∙ there)
       | false ↦ λ tie. refl
     ] refl)
 
@@ -92,7 +93,7 @@ module _ (es fs : List (TransactionId × Deadlines)) (id : TransactionId) (kind 
         | false ↦ ap at (by_id es t.0)
       ]
       ∙ split_tie (id_cmp t.0 id) (nat_cmp (kind_place t.1) (kind_place kind)) o (at (lookup (eq_by_cmp id_cmp t.0) es)) (deadline_at w t.1)
-      (λ tie. ap (cond (is_eq (nat_cmp (kind_place t.1) (kind_place kind))) o) (ap (λ i. at (lookup (eq_by_cmp id_cmp i) es)) (same_id t.0 id tie) ∙ sym found)
+      (λ tie. ap (cond (is_eq (nat_cmp (kind_place t.1) (kind_place kind))) o) (ap (λ i. at (lookup (eq_by_cmp id_cmp i) es)) (id_cmp-IsAntisymmetric t.0 id tie) ∙ sym found)
       ∙ sym (ap (λ v. deadline_at v t.1) is ∙ written d kind o t.1))
       ∙ ap (cond (eq_by_cmp timer_cmp t (id, kind)) o) (sym old)
 
