@@ -54,6 +54,9 @@ fn a_timer_is_armed_anew_and_cleared(rt: HostRuntime) -> Result<(), Fail> {
     timers.clear(second, Kind::Nak);
     timers.clear(first, Kind::FinishedAck);
     assert_eq!(rt; timers.deadline_of(first, Kind::FinishedAck), None);
+    arm_one(&mut timers, second)?;
+    arm_two(&mut timers, first, second)?;
+    assert_eq!(rt; timers.deadline_of(first, Kind::Nak), Some(7));
     Ok(())
 }
 

@@ -1,5 +1,5 @@
 -- Each transaction's timers that are due are counted, and all together are no more than four of each transaction.
-use Rattle.std.proofs.Common.{◌≡◌, arith, ap, ◌∙◌, length, max}
+use Rattle.std.proofs.Common.{arith, ap, ◌∙◌, length, max}
 use Rattle.std.specs.Map.Iter.{deref_pair}
 use Rattle.std.proofs.lemmas.Map.Iter.{rest_more, rest_all}
 use Rattle.cfdp_header.specs.declared.value.TransactionId.{TransactionId}
