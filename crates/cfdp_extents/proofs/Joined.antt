@@ -265,3 +265,25 @@ covers-by_none xs s e p h none behind some =
     let start : StartBehind s xs = start_at s 0 xs (λ d m. behind 0 d (omega arith) m) in
     same_from_decides _ _ (λ t. let lt : 0 < p = ltb-true 0 p t in absurd (omega arith), λ f. absurd f)
     (λ t. let lt : s < s = behind_start s xs s h start ((Decides-union_of xs s).0 ((Decides-is_subset s e (union_of xs)).0 t s (omega arith) some)) in omega arith, λ f. absurd f)
+
+absorbed : (a b : Bool) → (b ≡ true → a ≡ true) → (a || b) ≡ a
+absorbed true b h = refl
+absorbed false true h = sym (h refl)
+absorbed false false h = refl
+
+-- a range that is held adds nothing
+pub union-held : (held : Offsets) (s e : ℕ) → is_subset (range s e) held ≡ true → union held (range s e) ≡ held
+union-held held s e h = same_offsets _ _ (λ n. contains-union nat_cmp_total held (range s e) n
+    ∙ absorbed (contains held n) (contains (range s e) n) (λ t. is_subset-contains nat_cmp_total (range s e) held h n t))
+
+-- and is never one that no range touches
+pub placed-not_held : (xs : List (ℕ × ℕ)) (s e i j : ℕ) → Placed xs s e i j → i ≡ j → (held : Offsets) → union_of xs ≡ held → is_subset (range s e) held ≡ true → ⊥
+placed-not_held xs s e i j p same held view h =
+    let d : ℕ × ℕ = (0, 0) in
+    let some : s < e = p.some in
+    let within : i ≤ length xs = p.first_within in
+    let here : contains (union_of xs) s ≡ true = ap (λ t. contains t s) view ∙ (Decides-is_subset s e held).0 h s (omega arith) some in
+    not_in_ranges i xs s d p.apart within
+    (start_at s i xs (λ d m. let behind : e < (get_or xs i d).0 = p.past.1 i d (omega arith) m in omega arith))
+    (λ pos. let before : (get_or xs (i - 1) d).1 < s = p.first.0 (i - 1) d (omega arith) (omega arith) in omega arith)
+    ((Decides-union_of xs s).0 here)

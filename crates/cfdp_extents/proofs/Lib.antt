@@ -3,3 +3,5 @@ pub mod Members
 pub mod Joined
 pub mod Missing
 pub mod Taken
+pub mod RangesIn
+pub mod TermLemmas

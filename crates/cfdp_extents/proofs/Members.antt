@@ -38,6 +38,11 @@ pub contains-range : (s e n : ℕ) → contains (range s e) n ≡ is_within s e 
 unfolding range
 contains-range s e n = contains-offsets_from s (e - s) n ∙ within_length s e n
 
+-- and of ranges with one more
+pub contains-more : (r : ℕ × ℕ) (rs : List (ℕ × ℕ)) (n : ℕ) → contains (union_of (r ∷ rs)) n ≡ (is_within r.0 r.1 n || contains (union_of rs) n)
+unfolding union_of
+contains-more r rs n = contains-union nat_cmp_total (range r.0 r.1) (union_of rs) n ∙ ap (λ b. b || contains (union_of rs) n) (contains-range r.0 r.1 n)
+
 -- n lies in one of the ranges
 abbrev pub InRanges : List (ℕ × ℕ) → ℕ → Type 0
 InRanges [] n = ⊥

@@ -1,12 +1,13 @@
 -- What is held after the front of the first range was taken, and the last offset held.
 use Rattle.std.proofs.Common.{◌≡◌, ℕ, suc, ◌+◌, ◌-◌, ◌<◌, ◌≤◌, true, false, List, [], ◌∷◌, length, get_or, set, subst, take, drop, eqb, refl, ap, ◌∙◌, sym, arith, ◌⊎◌, inl, inr}
 use Rattle.std.specs.Cmp.{nat_cmp_total}
-use Rattle.std.specs.FinSet.{contains, empty, difference, contains-difference}
+use Rattle.std.specs.Ordering.{nat_cmp}
+use Rattle.std.specs.FinSet.{contains, contains-empty, empty, difference, contains-difference}
 use Rattle.std.specs.List.{slice_get}
 use Rattle.std.specs.declared.option.Option.TheVariants.{Some, None}
 use Rattle.std.proofs.lemmas.List.{take_all}
 use Rattle.std.proofs.lemmas.Option.{slice_get_within, get_or_from_slice_get, slice_get-get_or, none-some}
-use Rattle.std.proofs.lemmas.Bool.{cases_lt, false_from_ne_true, eqb-true}
+use Rattle.std.proofs.lemmas.Bool.{both_ways, cases_lt, false_from_ne_true, eqb-true}
 use Rattle.std.proofs.lemmas.Bool.Decides.{Decides-and, Decides-not, Decides-at, Decides-like, same_from_decides, nat_tests}
 use Rattle.cfdp_extents.specs.Offsets.{Offsets, range, union_of, AreApart}
 use Rattle.cfdp_extents.specs.Front.{IsFront}
@@ -113,6 +114,14 @@ no-len n e = eqb-true n 0 (sym e)
 
 pub no-offsets_by_test : (xs : List (ℕ × ℕ)) (held : Offsets) → union_of xs ≡ held → true ≡ eqb (length xs) 0 → held ≡ empty
 no-offsets_by_test xs held view e = sym view ∙ no-offsets xs (no-len (length xs) e)
+
+-- a set that is empty has no ranges
+pub no_ranges : (xs : List (ℕ × ℕ)) → AreApart xs → union_of xs ≡ empty → length xs ≡ 0
+no_ranges [] h e = refl
+no_ranges (x ∷ xs) h e =
+    let low : x.0 ≤ x.0 = omega arith in
+    let here : contains (union_of (x ∷ xs)) x.0 ≡ true = (Decides-union_of (x ∷ xs) x.0).1 (inl (low, h.0)) in
+    absurd (both_ways _ (contains-empty nat_cmp x.0) (ap (λ s. contains s x.0) (sym e) ∙ here))
 
 -- the first range `r` of a set's ranges, and the rest
 pub record First (xs : List (ℕ × ℕ)) (held : Offsets) (r : ℕ × ℕ) : Type 0 where

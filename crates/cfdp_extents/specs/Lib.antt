@@ -1,3 +1,4 @@
 pub mod Offsets
 pub mod Ranges
 pub mod Front
+pub mod Terms

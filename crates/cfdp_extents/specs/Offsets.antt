@@ -1,5 +1,5 @@
 -- Sets of offsets, and the ranges that a set is made of.
-use Rattle.std.specs.Prelude.{ℕ, zero, suc, ◌≡◌, ◌+◌, ◌-◌, ◌<◌, Bool, ◌&&◌, nat_le, nat_lt, List, [], ◌∷◌}
+use Rattle.std.specs.Prelude.{ℕ, zero, suc, ◌≡◌, ◌+◌, ◌-◌, ◌<◌, ◌≤◌, Bool, ◌&&◌, nat_le, nat_lt, List, [], ◌∷◌}
 use Rattle.std.specs.Ordering.{nat_cmp}
 use Rattle.std.specs.FinSet as set
 
@@ -29,6 +29,10 @@ union_of (r ∷ rs) = set.union (range r.0 r.1) (union_of rs)
 abbrev pub StartBehind : ℕ → List (ℕ × ℕ) → Type 0
 StartBehind n [] = Unit {0}
 StartBehind n (r ∷ rs) = n < r.0
+
+-- a range with an offset at least, that lies from `start` up to `end`
+abbrev pub LiesIn : ℕ → ℕ → ℕ × ℕ → Type 0
+LiesIn start end r = (start ≤ r.0) × (r.0 < r.1) × (r.1 ≤ end)
 
 -- ranges that ascend, each with an offset at least, no two of them touching
 abbrev pub AreApart : List (ℕ × ℕ) → Type 0

@@ -1,15 +1,17 @@
 // A set of offsets in a sorted vector of ranges.
-ghost use Rattle.std.specs.Prelude.{◌≡◌, ◌⊎◌, ℕ, ◌+◌, ◌-◌, ◌<◌, ◌≤◌, true, false, List, OnOk, OnErr, IsOk, IfNone, IfSome};
+ghost use Rattle.std.specs.Prelude.{◌≡◌, ◌↔◌, ◌⊎◌, ℕ, ◌+◌, ◌-◌, ◌<◌, ◌≤◌, true, false, IsTrue, List, OnOk, OnErr, IsOk, IfNone, IfSome};
 ghost use Rattle.std.specs.FinSet as set;
-ghost use Rattle.cfdp_extents.specs.Offsets.{range, missing_from, AreRangesOf};
+ghost use Rattle.std.specs.List.{All};
+ghost use Rattle.cfdp_extents.specs.Offsets.{range, missing_from, AreRangesOf, LiesIn};
 ghost use Rattle.cfdp_extents.specs.Front.{IsFront};
+ghost use Rattle.cfdp_extents.specs.Terms.{gaps_of, end_of, front_of};
 
 use crate::gaps::Gaps;
 use crate::search::{ending_before, starting_by};
 use std::alloc::{AllocError, Global};
 use std::marker::Model;
 
-/// A set of offsets of a file, as those that are held of it. Only `insert` takes memory.
+/// A set of offsets of a file, such as those that a receiver holds. Only `insert` takes memory.
 #[derive(Debug, Drop)]
 pub struct Extents {
     // Each range's start and end.
@@ -41,6 +43,20 @@ impl Extents {
         }
     }
 
+    /// Whether no offset is held.
+    pub fn is_empty(&self) -> bool
+        ensures { IsTrue result ↔ (self.now ≡ set.empty) }
+    {
+        self.ranges.is_empty()
+    }
+
+    /// Lets go of all offsets. The memory stays, for ranges to come.
+    pub fn clear(&mut self)
+        ensures { self.new ≡ set.empty }
+    {
+        self.ranges.clear();
+    }
+
     /// Adds the offsets from `start` up to, and without, `end`; an empty range adds none.
     ///
     /// # Errors
@@ -52,6 +68,7 @@ impl Extents {
         ensures err { OnErr result (self.new ≡ self.old) }
         // What adds no offset takes no memory.
         ensures empty { start ≡ end → IsOk result }
+        ensures held { set.is_subset (range start end) self.old ≡ true → IsOk result × (self.new ≡ self.old) }
     {
         if start == end {
             return Ok(());
@@ -86,6 +103,8 @@ impl Extents {
         ensures gaps { AreRangesOf (missing_from self.now 0 limit) result }
         // No other list is so.
         ensures only { (gaps : List (ℕ × ℕ)) → AreRangesOf (missing_from self.now 0 limit) gaps → gaps ≡ result }
+        ensures is { result ≡ gaps_of self.now 0 limit }
+        ensures inside { All (LiesIn 0 limit) result }
     {
         self.missing_in(0, limit)
     }
@@ -94,6 +113,9 @@ impl Extents {
     pub fn missing_in(&self, start: u64, limit: u64) -> Gaps<'_>
         ensures gaps { AreRangesOf (missing_from self.now start limit) result }
         ensures only { (gaps : List (ℕ × ℕ)) → AreRangesOf (missing_from self.now start limit) gaps → gaps ≡ result }
+        ensures is { result ≡ gaps_of self.now start limit }
+        // Each has an offset at least, and lies in the range asked for.
+        ensures inside { All (LiesIn start limit) result }
     {
         let (held, behind) = self.ranges.split_at(starting_by(&self.ranges, start));
         let from = match held.last() {
@@ -107,6 +129,7 @@ impl Extents {
     pub fn end(&self) -> u64
         ensures all_before { (n : ℕ) → set.contains self.now n ≡ true → n < result }
         ensures last { 0 < result → set.contains self.now (result - 1) ≡ true }
+        ensures is { result ≡ end_of self.now }
     {
         match self.ranges.last() {
             Some(range) => range.1,
@@ -114,9 +137,23 @@ impl Extents {
         }
     }
 
-    /// Takes away the front of the least gapless range, at most `max` offsets of it, and gives its start and
-    /// its end; `None` where no offset is held, or `max` is 0.
+    /// The start and the end of the front of the least gapless range, at most `max` offsets of it; `None` where
+    /// no offset is held, or `max` is 0.
+    pub fn front(&self, max: u64) -> Option<(u64, u64)>
+        ensures is { result ≡ front_of self.now max }
+        ensures spent { IfNone result ((max ≡ 0) ⊎ (self.now ≡ set.empty)) }
+        ensures front { IfSome result (λ r. IsFront self.now max r.0 r.1) }
+    {
+        if max == 0 || self.ranges.is_empty() {
+            return None;
+        }
+        let (start, end) = self.ranges[0];
+        Some((start, start + max.min(end - start)))
+    }
+
+    /// Takes away what `front` gives, and gives it.
     pub fn take_front(&mut self, max: u64) -> Option<(u64, u64)>
+        ensures is { result ≡ front_of self.old max }
         ensures none { IfNone result (self.new ≡ self.old) }
         ensures spent { IfNone result ((max ≡ 0) ⊎ (self.old ≡ set.empty)) }
         ensures front { IfSome result (λ r. IsFront self.old max r.0 r.1) }

@@ -1,11 +1,25 @@
 //! Sets of offsets of a file, kept as the ranges that they are made of, with the gaps between them.
+//!
+//! ```rust
+//! let mut held = Extents::new(alloc);
+//! held.insert(0, 4096)?;
+//! held.insert(8192, 12288)?;
+//! for (start, end) in held.missing(12288) {
+//!     // One gap: from 4096 up to, and without, 8192.
+//! }
+//! ```
 #![tactic(auto)]
 
 mod extents;
 mod gaps;
+mod laws;
 mod search;
 #[cfg(test)]
 mod tests;
 
 pub use extents::Extents;
 pub use gaps::Gaps;
+pub use laws::{
+    a_set_has_one_list_of_ranges, a_set_is_what_it_holds, the_end_is_one_past_the_last,
+    the_front_is_the_first_range, the_gaps_are_those_ranges,
+};

@@ -42,12 +42,20 @@ fn ranges_are_joined(rt: HostRuntime) -> Result<(), Fail> {
 fn the_front_is_taken(rt: HostRuntime) -> Result<(), Fail> {
     let alloc = rt.alloc();
     let mut held = Extents::new(alloc);
+    assert!(rt; held.is_empty());
     held.insert(100, 110)?;
     held.insert(3, 7)?;
+    assert_eq!(rt; held.front(3), Some((3, 6)));
+    assert_eq!(rt; held.front(10), Some((3, 7)));
     assert_eq!(rt; held.take_front(0), None);
     assert_eq!(rt; held.take_front(3), Some((3, 6)));
     assert_eq!(rt; held.take_front(3), Some((6, 7)));
     assert_eq!(rt; held.take_front(10), Some((100, 110)));
     assert_eq!(rt; held.take_front(10), None);
+    assert_eq!(rt; held.front(10), None);
+    held.insert(0, 9)?;
+    assert!(rt; !held.is_empty());
+    held.clear();
+    assert!(rt; held.is_empty());
     Ok(())
 }

@@ -1,9 +1,15 @@
--- Ids that are the same, and ids that are not.
-use Rattle.std.proofs.Common.{◌≡◌, ◌≢◌, ◌==◌, ℕ, true, false, refl, sym, ap, ap₂, inl, inr}
+-- Exported: ids that are the same and ids that are not, and the laws of their order and of their `==`, for the crates that keep maps by id.
+use Rattle.std.proofs.Common.{◌≡◌, ◌≢◌, ◌==◌, ℕ, true, false, true≢false, refl, sym, ap, ap₂, inl, inr}
+use Rattle.std.specs.declared.cmp.Ordering.{Ordering}
+use Rattle.std.specs.declared.cmp.Ordering.TheVariants.{Less, Equal, Greater}
+use Rattle.std.specs.Cmp.{IsTotalOrder, IsEquivalence, on_total, then_total, nat_cmp_total, eq_by_cmp_equiv, both_tied, unsigned_tied, unsigned_ties}
+use Rattle.std.specs.FinMap.{IsAntisymmetric, nat_cmp-IsAntisymmetric}
+use Rattle.std.specs.Ordering.{eq_by_cmp, is_eq, nat_cmp, ordering_then}
 use Rattle.std.proofs.lemmas.Bool.{eqb-true, eq-eqb, and_parts}
 use Rattle.std.proofs.lemmas.Bool.Decides.{eqb_tells}
+use Rattle.cfdp_header.specs.contracts.value.TransactionIdPartialEq.TheImpl.{eq-value}
 use Rattle.cfdp_header.specs.declared.value.TransactionId.{TransactionId}
-use Rattle.cfdp_header.specs.Ids.{same_id}
+use Rattle.cfdp_header.specs.Ids.{same_id, id_cmp}
 
 pub same_id-is : (a b : TransactionId) → same_id a b ≡ true → a ≡ b
 same_id-is a b e =
@@ -26,3 +32,31 @@ other_id id other ne = elim (eqb_tells id.source other.source) [
   ]
   | inr s ↦ rw s.0 refl
 ]
+
+-- ---- the order of ids
+pub id_total : IsTotalOrder id_cmp
+id_total = then_total (on_total (λ i. i.source) nat_cmp_total) (on_total (λ i. i.number) nat_cmp_total)
+
+-- where two orders one after another tie, each ties
+pub both_tie : (r s : Ordering) → ordering_then r s ≡ Equal → (r ≡ Equal) × (s ≡ Equal)
+both_tie Less s e = absurd (true≢false (sym (ap is_eq e)))
+both_tie Equal s e = (refl, e)
+both_tie Greater s e = absurd (true≢false (sym (ap is_eq e)))
+
+pub id_cmp-IsAntisymmetric : IsAntisymmetric id_cmp
+id_cmp-IsAntisymmetric x y e =
+    let ties = both_tie (nat_cmp x.source y.source) (nat_cmp x.number y.number) e in
+    let source : x.source ≡ y.source = nat_cmp-IsAntisymmetric _ _ ties.0 in
+    let number : x.number ≡ y.number = nat_cmp-IsAntisymmetric _ _ ties.1 in
+    λ i. record { source = source i; number = number i }
+
+pub id_laws : IsEquivalence (eq_by_cmp id_cmp)
+id_laws = eq_by_cmp_equiv id_total
+
+-- `==` of ids is what their order ties
+pub id_eq : (x y : TransactionId) → (eq-value).it x y ≡ eq_by_cmp id_cmp x y
+id_eq x y = both_tied _ _ (nat_cmp x.source y.source) (nat_cmp x.number y.number) (unsigned_ties x.source y.source) (unsigned_ties x.number y.number)
+
+-- and so is `same_id`
+pub same_id-cmp : (x y : TransactionId) → same_id x y ≡ eq_by_cmp id_cmp x y
+same_id-cmp x y = both_tied _ _ (nat_cmp x.source y.source) (nat_cmp x.number y.number) (sym (unsigned_tied x.source y.source)) (sym (unsigned_tied x.number y.number))

@@ -4,6 +4,7 @@ use Rattle.std.specs.List.{IsDistinct}
 use Rattle.std.specs.Map.{keys_of, lookup}
 use Rattle.std.specs.Ordering.{eq_by_cmp}
 use Rattle.std.proofs.lemmas.Bool.{leb-true, leb-false}
+use Rattle.std.proofs.lemmas.List.{append-nil}
 use Rattle.std.proofs.lemmas.List.Elements.{filter-append}
 use Rattle.std.proofs.lemmas.Map.{lookup-none}
 use Rattle.std.proofs.lemmas.Map.Entries.{none_past_head}
@@ -173,6 +174,18 @@ module _ (at : ℕ) (s t : List (TransactionId × Deadlines)) (e : TransactionId
 
   pub length-due-more : length (due at (alarms s)) ≡ length (due at (alarms_of e.0 e.1)) + length (due at (alarms t))
   length-due-more = ap length due-more ∙ length-append (due at (alarms_of e.0 e.1)) (due at (alarms t))
+
+-- and all of it
+pub all_collected : (at : ℕ) (found : List (Timer × ℕ)) (left first es : List (TransactionId × Deadlines)) → left ≡ [] → found ++ due at (alarms left) ≡ due at (alarms first) → first ≡ es
+    → found ≡ due at (alarms es)
+all_collected at found left first es none all is =
+    sym (append-nil found) ∙ ap (λ l. found ++ l) (sym (ap (λ l. due at (alarms l)) none ∙ due-nil at)) ∙ all ∙ ap (λ l. due at (alarms l)) is
+
+pub all_counted : (at count : ℕ) (left first : List (TransactionId × Deadlines)) → left ≡ [] → count + length (due at (alarms left)) ≡ length (due at (alarms first))
+    → count ≡ length (due at (alarms first))
+all_counted at count left first none all =
+    let rest : length (due at (alarms left)) ≡ 0 = ap (λ l. length (due at (alarms l))) none ∙ ap length (due-nil at) in
+    omega (arith, rest, all)
 
 pub earliest-more : (s t : List (TransactionId × Deadlines)) (e : TransactionId × Deadlines) → s ≡ e ∷ t → earliest (alarms s) ≡ earlier (earliest (alarms_of e.0 e.1)) (earliest (alarms t))
 earliest-more s t e is = ap (λ l. earliest (alarms l)) is ∙ earliest-cons e t

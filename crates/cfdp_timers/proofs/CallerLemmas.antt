@@ -1,5 +1,5 @@
--- What a caller cites of rooms, armed timers and those that fired.
-use Rattle.std.proofs.Common.{◌≡◌, ℕ, ◌≤◌, Bool, true, false, cond, ◌||◌, Option, Some, None, List, refl, sym, ap, ◌∙◌}
+-- Exported: what proofs of a crate above cite of rooms, armed timers and those that fired.
+use Rattle.std.proofs.Common.{◌≡◌, ℕ, ◌≤◌, Bool, not, true, false, cond, if◌then◌else◌, ◌||◌, Option, Some, None, List, refl, sym, ap, ◌∙◌}
 use Rattle.std.specs.Prelude.{nat_le}
 use Rattle.std.specs.Cmp.{Equal-is}
 use Rattle.std.specs.List.{Contains}
@@ -13,8 +13,9 @@ use Rattle.cfdp_header.specs.declared.value.TransactionId.{TransactionId}
 use Rattle.cfdp_timers.specs.Order.{Timer, timer_cmp}
 use Rattle.cfdp_header.specs.Ids.{id_cmp}
 use Rattle.cfdp_timers.specs.Armed.{Armed}
-use Rattle.cfdp_timers.specs.Due.{AreDue, AreLeft, is_due}
-use Rattle.cfdp_timers.proofs.Orders.{id_total, id_laws, timer_total, timer_laws, same_timer}
+use Rattle.cfdp_timers.specs.Due.{AreDue, is_due, still_armed}
+use Rattle.cfdp_header.proofs.Ids.{id_total, id_laws}
+use Rattle.cfdp_timers.proofs.Orders.{timer_total, timer_laws, same_timer}
 
 -- ---- `room`: the transaction has room, and those that had it keep it
 pub has_room-new : (s : set.FinSet id_cmp) (id : TransactionId) → set.contains (set.insert s id) id ≡ true
@@ -54,12 +55,22 @@ due_so : (at : ℕ) (o : Option ℕ) → option_map_or (λ d. nat_le d at) o fal
 due_so at None h = absurd (false≢true h)
 due_so at (Some d) h = (d, refl, leb-true d at h)
 
-module _ (old new : Armed) (at : ℕ) (fired : List Timer) (are : AreDue old at fired) (t : Timer) where
+pub deadline-left : (armed : Armed) (at : ℕ) (t : Timer) → map.get (still_armed at armed) t ≡ (if is_due armed at t then None else map.get armed t)
+unfolding still_armed
+deadline-left armed at t =
+    map.get-retain_keys armed (λ u. not (is_due armed at u)) t (λ u tie. ap (λ v. not (is_due armed at v)) (sym (same_timer t u tie)))
+    ∙ flip (is_due armed at t) (map.get armed t)
+  where
+    flip : (b : Bool) (o : Option ℕ) → cond (not b) o None ≡ cond b None o
+    flip true o = refl
+    flip false o = refl
+
+module _ (old : Armed) (at : ℕ) (fired : List Timer) (are : AreDue old at fired) (t : Timer) where
   pub due-fired : Contains fired t → is_due old at t ≡ true
   due-fired among = sym (are.all t) ∙ list_any-from_Contains timer_laws t fired among
 
   pub deadline-fired : Contains fired t → (d : ℕ) × (map.get old t ≡ Some d) × (d ≤ at)
   deadline-fired among = due_so at (map.get old t) (due-fired among)
 
-  pub cleared-fired : AreLeft old at new → Contains fired t → map.get new t ≡ None
-  cleared-fired left among = left.left t ∙ ap (λ b. cond b None (map.get old t)) (due-fired among)
+  pub cleared-fired : Contains fired t → map.get (still_armed at old) t ≡ None
+  cleared-fired among = deadline-left old at t ∙ ap (λ b. cond b None (map.get old t)) (due-fired among)

@@ -24,7 +24,8 @@ use Rattle.cfdp_timers.specs.Order.{Timer, kind_place, timer_cmp}
 use Rattle.cfdp_header.specs.Ids.{id_cmp}
 use Rattle.cfdp_timers.specs.Due.{is_due, due_count, IsLeast}
 use Rattle.cfdp_timers.specs.Entries.{deadline_at, alarm_if, alarms_of, alarms, armed_of, due, earliest}
-use Rattle.cfdp_timers.proofs.Orders.{id_total, timer_total, id_laws, timer_laws}
+use Rattle.cfdp_header.proofs.Ids.{id_total, id_laws}
+use Rattle.cfdp_timers.proofs.Orders.{timer_total, timer_laws}
 use Rattle.cfdp_timers.proofs.Alarms.{earliest-none, earliest-le, earliest-found}
 use Rattle.cfdp_timers.proofs.Kept.{find-lookup, found_one, found_in, step}
 

@@ -1,5 +1,5 @@
 -- The timers that are due, sorted, are what fires.
-use Rattle.std.proofs.Common.{◌≡◌, ℕ, ◌+◌, ◌<◌, List, [], ◌∷◌, map, length, get_or, refl, sym, ap, subst, ◌∙◌, Some, unwrap_or, arith, nat_le}
+use Rattle.std.proofs.Common.{◌≡◌, ℕ, ◌+◌, ◌<◌, List, [], ◌∷◌, map, length, get_or, refl, sym, ap, subst, ◌∙◌, cond, None, Some, unwrap_or, arith, nat_le}
 use Rattle.std.specs.List.{list_any, IsDistinct, AllByRecursion, All}
 use Rattle.std.specs.List.Sorted.{IsSorted, IsPermutation}
 use Rattle.std.specs.Map.{keys_of}
@@ -20,9 +20,10 @@ use Rattle.cfdp_timers.specs.declared.deadlines.Deadlines.{Deadlines}
 use Rattle.cfdp_timers.specs.Order.{Timer, kind_place, timer_cmp}
 use Rattle.cfdp_header.specs.Ids.{id_cmp}
 use Rattle.cfdp_timers.specs.Armed.{Armed}
-use Rattle.cfdp_timers.specs.Due.{AreDue, firing_cmp}
+use Rattle.cfdp_timers.specs.Due.{AreDue, firing_cmp, still_armed}
 use Rattle.cfdp_timers.specs.Entries.{alarms, armed_of, due, entry_of, timer_of}
-use Rattle.cfdp_timers.proofs.Orders.{timer_laws, firing_total, firing_ties, same_firing}
+use Rattle.cfdp_timers.proofs.Orders.{timer_laws, timer_total, same_timer, firing_total, firing_ties, same_firing}
+use Rattle.cfdp_timers.proofs.CallerLemmas.{deadline-left}
 use Rattle.cfdp_timers.proofs.SortedLists.{same_list, strictly}
 use Rattle.cfdp_timers.proofs.Distinct.{distinct_alarms, any-due-alarms, found-alarms}
 
@@ -103,3 +104,9 @@ module _ (es : List (TransactionId × Deadlines)) (at : ℕ) (apart : IsDistinct
     in_order = strictly (firing_total (armed_of es)) (map timer_of fs) (sorted_timers up)
         (subst (λ e. IsDistinct e (map timer_of fs)) (λ i x y. sym (firing_ties (armed_of es) x y) i) apart_timers);
   }
+
+-- what stands once the timers that fired were cleared
+pub left-is : (old new : Armed) (at : ℕ) (fired : List Timer) → AreDue old at fired
+    → ((t : Timer) → map.get new t ≡ cond (list_any (eq_by_cmp timer_cmp t) fired) None (map.get old t)) → new ≡ still_armed at old
+left-is old new at fired are cleared = map.same_map timer_total same_timer _ _
+    (λ t. cleared t ∙ ap (λ b. cond b None (map.get old t)) (are.all t) ∙ sym (deadline-left old at t))

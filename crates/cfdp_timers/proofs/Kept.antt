@@ -21,7 +21,8 @@ use Rattle.cfdp_timers.specs.declared.deadlines.Deadlines.{Deadlines}
 use Rattle.cfdp_timers.specs.Order.{Timer, kind_place, timer_cmp}
 use Rattle.cfdp_header.specs.Ids.{id_cmp}
 use Rattle.cfdp_timers.specs.Entries.{deadline_at, alarm_if, alarms_of, alarms, roomy_of, armed_of}
-use Rattle.cfdp_timers.proofs.Orders.{id_total, timer_total, id_laws, id_eq}
+use Rattle.cfdp_header.proofs.Ids.{id_total, id_laws, id_eq}
+use Rattle.cfdp_timers.proofs.Orders.{timer_total}
 
 -- the first entry with a key that ties, as a look-up
 pub find-lookup : {K X : Type 0} (R : K → K → Ordering) (q : K) (es : List (K × X)) → find R q es ≡ lookup (eq_by_cmp R q) es

@@ -1,5 +1,5 @@
 -- What an entry that is added or written does to the armed timers.
-use Rattle.std.proofs.Common.{◌≡◌, ℕ, List, [], ◌∷◌, ◌++◌, refl, sym, ap, subst, ◌∙◌, true, false, cond, ◌||◌, Option, Some, None, append_assoc}
+use Rattle.std.proofs.Common.{◌≡◌, ℕ, List, [], ◌∷◌, ◌++◌, refl, sym, ap, subst, ◌∙◌, true, false, cond, ◌||◌, true≢false, is_some, IsSome, Option, Some, None, append_assoc}
 use Rattle.std.specs.declared.cmp.Ordering.{Ordering}
 use Rattle.std.specs.declared.cmp.Ordering.TheVariants.{Less, Equal, Greater}
 use Rattle.std.specs.Cmp.{Equal-is}
@@ -15,11 +15,13 @@ use Rattle.cfdp_header.specs.contracts.value.TransactionIdPartialEq.TheImpl.{eq-
 use Rattle.cfdp_timers.specs.declared.kind.Kind.{Kind}
 use Rattle.cfdp_timers.specs.declared.kind.Kind.TheVariants.{EofAck, Nak, FinishedAck, Inactivity}
 use Rattle.cfdp_timers.specs.declared.deadlines.Deadlines.{Deadlines}
+use Rattle.cfdp_timers.specs.Armed.{Armed}
 use Rattle.cfdp_timers.specs.Order.{Timer, kind_place, timer_cmp}
 use Rattle.cfdp_header.specs.Ids.{id_cmp}
-use Rattle.cfdp_timers.specs.Entries.{deadline_at, with_deadline, alarms_of, alarms, roomy_of, armed_of, clock_of}
-use Rattle.cfdp_timers.proofs.Orders.{id_total, timer_total, id_laws, same_id, same_timer, id_eq}
-use Rattle.cfdp_timers.proofs.Kept.{get-armed_of, by_id}
+use Rattle.cfdp_timers.specs.Entries.{deadline_at, with_deadline, with_timer, alarms_of, alarms, roomy_of, armed_of, state_of}
+use Rattle.cfdp_header.proofs.Ids.{id_total, id_laws, id_cmp-IsAntisymmetric, id_eq}
+use Rattle.cfdp_timers.proofs.Orders.{timer_total, same_timer}
+use Rattle.cfdp_timers.proofs.Kept.{get-armed_of, by_id, has-room}
 
 -- keys that differ by `==` differ by the order
 pub distinct_ids : (ks : List TransactionId) → IsDistinct (eq-value).it ks → IsDistinct (eq_by_cmp id_cmp) ks
@@ -42,13 +44,13 @@ armed_of-push es i d none = ap (λ w. armed_of (es ++ (i, w) ∷ [])) none ∙ a
 
 pub roomy_of-push : (es : List (TransactionId × Deadlines)) (i : TransactionId) (d : Deadlines) → roomy_of (es ++ (i, d) ∷ []) ≡ set.insert (roomy_of es) i
 unfolding roomy_of
-roomy_of-push es i d = ap (λ l. set.from_list l) (keys-push es i d) ∙ set.from_list_push id_total same_id (keys_of es) i
+roomy_of-push es i d = ap (λ l. set.from_list l) (keys-push es i d) ∙ set.from_list_push id_total id_cmp-IsAntisymmetric (keys_of es) i
 
 -- one that has room is added to no avail
 pub insert-present : (s : set.FinSet id_cmp) (i : TransactionId) → set.contains s i ≡ true → set.insert s i ≡ s
-insert-present s i there = set.same_set id_total same_id _ _ (λ q. set.contains-insert id_total s i q
+insert-present s i there = set.same_set id_total id_cmp-IsAntisymmetric _ _ (λ q. set.contains-insert id_total s i q
     ∙ elim (eq_by_cmp id_cmp q i) as (λ b. eq_by_cmp id_cmp q i ≡ b → (b || set.contains s q) ≡ set.contains s q) [
-      | true ↦ λ tie. sym (ap (set.contains s) (same_id q i ((Equal-is (id_cmp q i)).0 tie)) ∙ there)
+      | true ↦ λ tie. sym (ap (set.contains s) (id_cmp-IsAntisymmetric q i ((Equal-is (id_cmp q i)).0 tie)) ∙ there)
       | false ↦ λ tie. refl
     ] refl)
 
@@ -76,6 +78,10 @@ split_tie Less s o x y h = refl
 split_tie Equal s o x y h = sym (h refl)
 split_tie Greater s o x y h = refl
 
+get-with_timer : (armed : Armed) (t : Timer) (o : Option ℕ) (u : Timer) → map.get (with_timer armed t o) u ≡ cond (eq_by_cmp timer_cmp u t) o (map.get armed u)
+get-with_timer armed t None u = map.get-remove timer_total armed t u
+get-with_timer armed t (Some at) u = map.get-insert timer_total armed t at u
+
 -- what two lists of entries answer, of which the second has d with one deadline changed at a transaction
 module _ (es fs : List (TransactionId × Deadlines)) (id : TransactionId) (kind : Kind) (d w : Deadlines) (o : Option ℕ)
     (apart : IsDistinct (eq_by_cmp id_cmp) (keys_of es)) (apart' : IsDistinct (eq_by_cmp id_cmp) (keys_of fs)) (had : lookup ((eq-value).it id) es ≡ Some d)
@@ -92,7 +98,7 @@ module _ (es fs : List (TransactionId × Deadlines)) (id : TransactionId) (kind 
         | false ↦ ap at (by_id es t.0)
       ]
       ∙ split_tie (id_cmp t.0 id) (nat_cmp (kind_place t.1) (kind_place kind)) o (at (lookup (eq_by_cmp id_cmp t.0) es)) (deadline_at w t.1)
-      (λ tie. ap (cond (is_eq (nat_cmp (kind_place t.1) (kind_place kind))) o) (ap (λ i. at (lookup (eq_by_cmp id_cmp i) es)) (same_id t.0 id tie) ∙ sym found)
+      (λ tie. ap (cond (is_eq (nat_cmp (kind_place t.1) (kind_place kind))) o) (ap (λ i. at (lookup (eq_by_cmp id_cmp i) es)) (id_cmp-IsAntisymmetric t.0 id tie) ∙ sym found)
       ∙ sym (ap (λ v. deadline_at v t.1) is ∙ written d kind o t.1))
       ∙ ap (cond (eq_by_cmp timer_cmp t (id, kind)) o) (sym old)
 
@@ -101,16 +107,10 @@ module _ (es fs : List (TransactionId × Deadlines)) (id : TransactionId) (kind 
     unfolding roomy_of
     roomy_stays = ap (λ l. set.from_list l) same
 
-    pub clock_of-armed : (at : ℕ) → o ≡ Some at → clock_of time fs ≡ record { time = time; roomy = roomy_of es; armed = map.insert (armed_of es) (id, kind) at }
-    clock_of-armed at some =
-        let armed : armed_of fs ≡ map.insert (armed_of es) (id, kind) at = map.same_map timer_total same_timer _ _ (λ t.
-        get-written t ∙ ap (λ v. cond (eq_by_cmp timer_cmp t (id, kind)) v (map.get (armed_of es) t)) some ∙ sym (map.get-insert timer_total (armed_of es) (id, kind) at t)) in
-        λ i. record { time = time; roomy = roomy_stays i; armed = armed i }
-
-    pub clock_of-cleared : o ≡ None → clock_of time fs ≡ record { time = time; roomy = roomy_of es; armed = map.remove (armed_of es) (id, kind) }
-    clock_of-cleared none =
-        let armed : armed_of fs ≡ map.remove (armed_of es) (id, kind) = map.same_map timer_total same_timer _ _ (λ t.
-        get-written t ∙ ap (λ v. cond (eq_by_cmp timer_cmp t (id, kind)) v (map.get (armed_of es) t)) none ∙ sym (map.get-remove timer_total (armed_of es) (id, kind) t)) in
+    pub state_of-written : state_of time fs ≡ record { time = time; roomy = roomy_of es; armed = with_timer (armed_of es) (id, kind) o }
+    state_of-written =
+        let armed : armed_of fs ≡ with_timer (armed_of es) (id, kind) o = map.same_map timer_total same_timer _ _ (λ t.
+        get-written t ∙ sym (get-with_timer (armed_of es) (id, kind) o t)) in
         λ i. record { time = time; roomy = roomy_stays i; armed = armed i }
 
 -- clearing a timer of a transaction that has no room changes nothing
@@ -123,11 +123,17 @@ remove-absent es id kind apart none = map.same_map timer_total same_timer _ _ (�
       | false ↦ λ tie. refl
     ] refl)
 
+-- nor can one be armed that has none
+pub with_timer-absent : (es : List (TransactionId × Deadlines)) (id : TransactionId) (kind : Kind) (o : Option ℕ) → IsDistinct (eq_by_cmp id_cmp) (keys_of es)
+    → lookup ((eq-value).it id) es ≡ None → (IsSome o → set.contains (roomy_of es) id ≡ true) → with_timer (armed_of es) (id, kind) o ≡ armed_of es
+with_timer-absent es id kind None apart none room = remove-absent es id kind apart none
+with_timer-absent es id kind (Some at) apart none room = absurd (true≢false (sym (room refl) ∙ sym (has-room es id) ∙ ap is_some none))
+
 -- the entry of a new transaction
-pub clock_of-pushed : (time : ℕ) (es fs : List (TransactionId × Deadlines)) (id : TransactionId) (d : Deadlines)
+pub state_of-pushed : (time : ℕ) (es fs : List (TransactionId × Deadlines)) (id : TransactionId) (d : Deadlines)
     → d ≡ record { eof_ack = None; nak = None; finished_ack = None; inactivity = None } → fs ≡ es ++ (id, d) ∷ []
-    → clock_of time fs ≡ record { time = time; roomy = set.insert (roomy_of es) id; armed = armed_of es }
-clock_of-pushed time es fs id d none is =
+    → state_of time fs ≡ record { time = time; roomy = set.insert (roomy_of es) id; armed = armed_of es }
+state_of-pushed time es fs id d none is =
     let roomy : roomy_of fs ≡ set.insert (roomy_of es) id = ap roomy_of is ∙ roomy_of-push es id d in
     let armed : armed_of fs ≡ armed_of es = ap armed_of is ∙ armed_of-push es id d none in
     λ i. record { time = time; roomy = roomy i; armed = armed i }

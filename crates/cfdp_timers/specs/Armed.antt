@@ -14,23 +14,25 @@ use Rattle.cfdp_header.specs.Ids.{id_cmp}
 abbrev pub Armed : Type 0
 Armed = map.FinMap timer_cmp ℕ
 
--- the latest time told, the transactions whose timers can be armed, and the armed timers
-pub record Clock : Type 0 where
+-- what `Timers` holds: the latest time told, the transactions whose timers can be armed, and the armed timers
+pub record TimersState : Type 0 where
   pub time : ℕ
   pub roomy : set.FinSet id_cmp
   pub armed : Armed
 
-abbrev roomy_code : Coded (set.FinSet id_cmp)
+-- their codes: a type whose model holds one of them lists it in its own
+abbrev pub roomy_code : Coded (set.FinSet id_cmp)
 roomy_code = set.code (id.the_row).coded
 
-abbrev armed_code : Coded Armed
+abbrev pub armed_code : Coded Armed
 armed_code = map.code (coded× (id.the_row).coded (kind.the_row).coded) coded_ℕ
 
-abbrev pub clock_code : Coded Clock
-clock_code =
-    code_by (ℕ × (set.FinSet id_cmp × Armed)) (coded× coded_ℕ (coded× roomy_code armed_code)) (λ c. (c.time, (c.roomy, c.armed)))
+abbrev pub timers_code : Coded TimersState
+timers_code =
+    code_by (ℕ × (set.FinSet id_cmp × Armed)) (coded× coded_ℕ (coded× roomy_code armed_code))
+    (λ s. (s.time, (s.roomy, s.armed)))
     (λ p. record { time = p.0; roomy = p.1.0; armed = p.1.1 }) (λ _. refl)
 
 -- the deadline of a timer, if it is armed
-abbrev pub deadline_of : Clock → TransactionId → Kind → Option ℕ
-deadline_of c id kind = map.get c.armed (id, kind)
+abbrev pub deadline_of : TimersState → TransactionId → Kind → Option ℕ
+deadline_of timers id kind = map.get timers.armed (id, kind)

@@ -1,5 +1,5 @@
 -- Timers that are due, and the order in which they fire.
-use Rattle.std.specs.Prelude.{ℕ, ◌≡◌, ◌≤◌, Bool, false, None, Some, List, nat_le, unwrap_or, count_by, if◌then◌else◌}
+use Rattle.std.specs.Prelude.{ℕ, ◌≡◌, ◌≤◌, Bool, not, false, Some, List, nat_le, unwrap_or, count_by}
 use Rattle.std.specs.List.{list_any}
 use Rattle.std.specs.List.Sorted.{IsStrictlySortedBy}
 use Rattle.std.specs.Option.{option_map_or}
@@ -27,8 +27,8 @@ abbrev pub due_count : Armed → ℕ → ℕ
 due_count armed at = count_by (λ e. nat_le e.1 at) (map.entries armed)
 
 -- what is left once those that are due have fired
-pub record AreLeft (old : Armed) (at : ℕ) (new : Armed) : Type 0 where
-  pub left : (t : Timer) → map.get new t ≡ (if is_due old at t then None else map.get old t)
+unfoldable pub still_armed : ℕ → Armed → Armed
+still_armed at armed = map.retain_keys armed (λ t. not (is_due armed at t))
 
 -- the least deadline of the armed timers
 pub record IsLeast (armed : Armed) (deadline : ℕ) : Type 0 where

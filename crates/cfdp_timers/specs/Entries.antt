@@ -1,6 +1,7 @@
--- How the armed timers are kept: for each transaction that has room, the deadlines of its four kinds.
+-- Proof-only: how the armed timers are kept, for each transaction that has room the deadlines of its four kinds.
 use Rattle.std.specs.Prelude.{ℕ, Option, None, Some, List, [], ◌∷◌, ◌++◌, filter, nat_le, min}
 use Rattle.std.specs.Map.{keys_of}
+use Rattle.std.specs.FinMap as map
 use Rattle.std.specs.FinMap.{from_entries}
 use Rattle.std.specs.FinSet.{FinSet, from_list}
 use Rattle.cfdp_header.specs.declared.value.TransactionId.{TransactionId}
@@ -10,7 +11,7 @@ use Rattle.cfdp_timers.specs.declared.deadlines.Deadlines.{Deadlines}
 use Rattle.cfdp_timers.specs.declared.alarm.Alarm.{Alarm}
 use Rattle.cfdp_timers.specs.Order.{Timer}
 use Rattle.cfdp_header.specs.Ids.{id_cmp}
-use Rattle.cfdp_timers.specs.Armed.{Clock, Armed}
+use Rattle.cfdp_timers.specs.Armed.{TimersState, Armed}
 
 abbrev pub deadline_at : Deadlines → Kind → Option ℕ
 deadline_at d EofAck = d.eof_ack
@@ -24,6 +25,11 @@ with_deadline d Nak at = record d { nak = at }
 with_deadline d FinishedAck at = record d { finished_ack = at }
 with_deadline d Inactivity at = record d { inactivity = at }
 
+-- a timer armed with a deadline, or cleared
+abbrev pub with_timer : Armed → Timer → Option ℕ → Armed
+with_timer armed t None = map.remove armed t
+with_timer armed t (Some at) = map.insert armed t at
+
 -- a timer with its deadline, if it is armed
 abbrev pub alarm_if : TransactionId → Kind → Option ℕ → List (Timer × ℕ)
 alarm_if id kind None = []
@@ -31,7 +37,9 @@ alarm_if id kind (Some at) = ((id, kind), at) ∷ []
 
 -- the armed timers of one transaction
 unfoldable pub alarms_of : TransactionId → Deadlines → List (Timer × ℕ)
-alarms_of id d = alarm_if id EofAck d.eof_ack ++ (alarm_if id Nak d.nak ++ (alarm_if id FinishedAck d.finished_ack ++ alarm_if id Inactivity d.inactivity))
+alarms_of id d =
+    alarm_if id EofAck d.eof_ack ++ (alarm_if id Nak d.nak
+    ++ (alarm_if id FinishedAck d.finished_ack ++ alarm_if id Inactivity d.inactivity))
 
 -- and those of all
 unfoldable pub alarms : List (TransactionId × Deadlines) → List (Timer × ℕ)
@@ -65,5 +73,5 @@ roomy_of es = from_list (keys_of es)
 unfoldable pub armed_of : List (TransactionId × Deadlines) → Armed
 armed_of es = from_entries (alarms es)
 
-abbrev pub clock_of : ℕ → List (TransactionId × Deadlines) → Clock
-clock_of time es = record { time = time; roomy = roomy_of es; armed = armed_of es }
+abbrev pub state_of : ℕ → List (TransactionId × Deadlines) → TimersState
+state_of time es = record { time = time; roomy = roomy_of es; armed = armed_of es }

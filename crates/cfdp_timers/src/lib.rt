@@ -1,12 +1,24 @@
 //! Deadlines of transactions, by transaction and kind, and which of them are due.
+//!
+//! ```rust
+//! let mut timers = Timers::new(alloc);
+//! timers.room(id)?;
+//! let deadline = timers.deadline_after(10);
+//! timers.arm(id, Kind::Nak, deadline);
+//! for (id, kind) in timers.fire(now)? {
+//!     // The NAK of that transaction is to be sent again.
+//! }
+//! ```
 #![tactic(auto)]
 
 mod alarm;
 mod deadlines;
 mod kind;
+mod laws;
 #[cfg(test)]
 mod tests;
 mod timers;
 
 pub use kind::Kind;
+pub use laws::what_fired_is_armed_no_more;
 pub use timers::Timers;

@@ -1,5 +1,6 @@
 use crate::{Kind, Timers};
 use cfdp_header::TransactionId;
+use std::alloc::AllocError;
 use std::test::Fail;
 
 fn id(source: u64, number: u64) -> TransactionId {
@@ -53,5 +54,26 @@ fn a_timer_is_armed_anew_and_cleared(rt: HostRuntime) -> Result<(), Fail> {
     timers.clear(second, Kind::Nak);
     timers.clear(first, Kind::FinishedAck);
     assert_eq!(rt; timers.deadline_of(first, Kind::FinishedAck), None);
+    arm_one(&mut timers, second)?;
+    arm_two(&mut timers, first, second)?;
+    assert_eq!(rt; timers.deadline_of(first, Kind::Nak), Some(7));
+    Ok(())
+}
+
+// A caller's proof of what `arm` asks for needs no lemma of its own.
+fn arm_one(timers: &mut Timers, id: TransactionId) -> Result<(), AllocError> {
+    timers.room(id)?;
+    timers.arm(id, Kind::Nak, 5);
+    Ok(())
+}
+
+fn arm_two(timers: &mut Timers, a: TransactionId, b: TransactionId) -> Result<(), AllocError> {
+    timers.room(a)?;
+    timers.room(b)?;
+    timers.arm(a, Kind::Nak, 5);
+    timers.clear(b, Kind::EofAck);
+    timers.arm(b, Kind::Inactivity, 6);
+    timers.fire(5)?;
+    timers.arm(a, Kind::Nak, 7);
     Ok(())
 }

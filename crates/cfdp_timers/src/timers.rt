@@ -1,13 +1,14 @@
 // Which timers are armed, and until when.
-ghost use Rattle.std.specs.Prelude.{◌≡◌, ◌≤◌, ◌^◌, ◌+◌, ◌-◌, min, max, true, OnOk, OnErr, IfOk, IfSome, IfNone, None, Some, IsOk, MatchOption, List, length, if◌then◌else◌, map as map_list};
+ghost use Rattle.std.specs.Prelude.{◌≡◌, ◌≤◌, ◌<◌, ◌^◌, ◌+◌, ◌-◌, min, max, true, OnOk, OnErr, IfOk, IsSome, IfSome, IfNone, None, Some, IsOk, MatchOption, List, length, if◌then◌else◌, map as map_list};
 ghost use Rattle.std.specs.List.{list_any};
 ghost use Rattle.std.specs.FinMap as map;
 ghost use Rattle.std.specs.FinSet as set;
 ghost use Rattle.std.specs.Ordering.{eq_by_cmp};
+ghost use Rattle.cfdp_header.specs.declared.value.TransactionId.{TransactionId};
 ghost use Rattle.cfdp_timers.specs.Order.{Timer, timer_cmp};
 ghost use Rattle.cfdp_timers.specs.Armed.{deadline_of};
-ghost use Rattle.cfdp_timers.specs.Due.{AreDue, AreLeft, IsLeast, due_count};
-ghost use Rattle.cfdp_timers.specs.Entries.{timer_of};
+ghost use Rattle.cfdp_timers.specs.Due.{AreDue, IsLeast, due_count, still_armed};
+ghost use Rattle.cfdp_timers.specs.Entries.{timer_of, with_timer};
 
 use crate::Kind;
 use crate::alarm::{Alarm, timers_of};
@@ -17,8 +18,8 @@ use indexmap::IndexMap;
 use std::alloc::{AllocError, Global};
 use std::marker::Model;
 
-// More than memory holds: an entry takes over 8 octets.
-const MOST_TRANSACTIONS: usize = 1 << 61;
+// More than memory holds: an entry takes over 16 octets.
+const MOST_TRANSACTIONS: usize = 1 << 59;
 
 /// When timers of transactions are due: of each transaction that has room, one timer of each kind.
 ///
@@ -36,16 +37,16 @@ impl Model for Timers {
     ghost use Rattle.std.specs.Map.{keys_of};
     ghost use Rattle.std.specs.Ordering.{eq_by_cmp};
     ghost use Rattle.cfdp_header.specs.Ids.{id_cmp};
-    ghost use Rattle.cfdp_timers.specs.Armed.{Clock, clock_code};
-    ghost use Rattle.cfdp_timers.specs.Entries.{clock_of};
+    ghost use Rattle.cfdp_timers.specs.Armed.{TimersState, timers_code};
+    ghost use Rattle.cfdp_timers.specs.Entries.{state_of};
 
-    ghost Value = { Clock };
+    ghost Value = { TimersState };
 
-    ghost coded = { clock_code };
+    ghost coded = { timers_code };
 
-    ghost view = { λ t. clock_of t.time t.entries.entries };
+    ghost view = { λ t. state_of t.time t.entries.entries };
 
-    ghost invariant = { λ t. IsDistinct (eq_by_cmp id_cmp) (keys_of t.entries.entries) × (length t.entries.entries ≤ 2 ^ 61) };
+    ghost invariant = { λ t. IsDistinct (eq_by_cmp id_cmp) (keys_of t.entries.entries) × (length t.entries.entries ≤ 2 ^ 59) };
 }
 
 impl Timers {
@@ -100,6 +101,9 @@ impl Timers {
         ensures err { OnErr result (self.new ≡ self.old) }
         // A transaction that has room takes no more memory.
         ensures again { set.contains self.old.roomy id ≡ true → IsOk result }
+        // What `arm` asks for: now it has room, and whoever had it keeps it.
+        ensures has_room { OnOk result (set.contains self.new.roomy id ≡ true) }
+        ensures keeps { (other : TransactionId) → set.contains self.old.roomy other ≡ true → set.contains self.new.roomy other ≡ true }
     {
         if self.entries.contains_key(&id) {
             return Ok(());
@@ -114,20 +118,18 @@ impl Timers {
     /// Arms a timer, or gives one that is armed another deadline, earlier or later.
     pub fn arm(&mut self, id: TransactionId, kind: Kind, deadline: u64)
         requires has_room { set.contains self.old.roomy id ≡ true }
-        ensures { self.new ≡ record self.old { armed = map.insert self.old.armed (id, kind) deadline } }
+        ensures armed { self.new ≡ record self.old { armed = map.insert self.old.armed (id, kind) deadline } }
+        ensures roomy { self.new.roomy ≡ self.old.roomy }
     {
-        if let Some(deadlines) = self.entries.get_mut(&id) {
-            deadlines.set(kind, Some(deadline));
-        }
+        self.set(id, kind, Some(deadline));
     }
 
     /// Clears a timer; one that isn't armed stays so.
     pub fn clear(&mut self, id: TransactionId, kind: Kind)
-        ensures { self.new ≡ record self.old { armed = map.remove self.old.armed (id, kind) } }
+        ensures cleared { self.new ≡ record self.old { armed = map.remove self.old.armed (id, kind) } }
+        ensures roomy { self.new.roomy ≡ self.old.roomy }
     {
-        if let Some(deadlines) = self.entries.get_mut(&id) {
-            deadlines.set(kind, None);
-        }
+        self.set(id, kind, None);
     }
 
     /// The earliest deadline of the armed timers; `None` where none is armed.
@@ -143,7 +145,9 @@ impl Timers {
 
     /// How many timers `fire` would give at that time.
     pub fn due_count(&self, now: u64) -> usize
-        ensures { result ≡ due_count self.now.armed (max self.now.time now) }
+        ensures count { result ≡ due_count self.now.armed (max self.now.time now) }
+        // Some multiple of it still fits a `usize`.
+        ensures few { result < 2 ^ 62 }
     {
         let now = self.time.max(now);
         let mut count = 0;
@@ -166,7 +170,7 @@ impl Timers {
         // No other list is so.
         ensures only { IfOk result (λ fired. (others : List Timer) → AreDue self.old.armed self.new.time others → others ≡ fired.items) }
         ensures count { IfOk result (λ fired. length fired.items ≡ due_count self.old.armed self.new.time) }
-        ensures left { OnOk result (AreLeft self.old.armed self.new.time self.new.armed) }
+        ensures left { OnOk result (self.new.armed ≡ still_armed self.new.time self.old.armed) }
         ensures err { OnErr result (self.new ≡ self.old) }
     {
         let now = self.time.max(now);
@@ -175,6 +179,16 @@ impl Timers {
         self.time = now;
         self.clear_all(&fired);
         Ok(fired)
+    }
+
+    // Arms a timer of a transaction that has room, or clears a timer.
+    fn set(&mut self, id: TransactionId, kind: Kind, deadline: Option<u64>)
+        requires { IsSome deadline → set.contains self.old.roomy id ≡ true }
+        ensures { self.new ≡ record self.old { armed = with_timer self.old.armed (id, kind) deadline } }
+    {
+        if let Some(deadlines) = self.entries.get_mut(&id) {
+            deadlines.set(kind, deadline);
+        }
     }
 
     // The timers that are due, as they fire.

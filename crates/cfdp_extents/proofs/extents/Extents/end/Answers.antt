@@ -1,6 +1,7 @@
-use Rattle.std.proofs.Common.{◌-◌, ◌∙◌, sym, ap}
+use Rattle.std.proofs.Common.{◌-◌, ◌∙◌, sym, ap, arith}
 use Rattle.std.specs.FinSet.{contains}
 use Rattle.cfdp_extents.proofs.Taken.{all-before_last, last-is_held, none-held, last-read, last-none}
+use Rattle.cfdp_extents.proofs.TermLemmas.{end-only}
 use Rattle.cfdp_extents.proofs.extents.Extents.end.Goals as goal
 
 pub returns-in-Some-clause-all_before : goal.returns-in-Some-clause-all_before
@@ -17,3 +18,9 @@ pub returns-in-None-clause-all_before : goal.returns-in-None-clause-all_before
 returns-in-None-clause-all_before c = λ n held.
     let none = last-none c.deref.result.now c.self.inside.ranges.items c.deref.ensures.value c.in-None.ensures.value in
     absurd (none-held c.self.inside.ranges.items none n (ap (λ s. contains s n) c.self.view_is ∙ held))
+
+pub returns-in-Some-clause-is : goal.returns-in-Some-clause-is
+returns-in-Some-clause-is c = end-only c.args.self.now c.in-Some.range.now.1 (returns-in-Some-clause-all_before c) (returns-in-Some-clause-last c)
+
+pub returns-in-None-clause-is : goal.returns-in-None-clause-is
+returns-in-None-clause-is c = end-only c.args.self.now 0 (returns-in-None-clause-all_before c) (λ pos. absurd (omega arith))

@@ -1,7 +1,7 @@
-use Rattle.std.proofs.Common.{◌∙◌, sym, ap, subst, arith, min}
+use Rattle.std.proofs.Common.{◌∙◌, refl, sym, ap, subst, arith, min}
 use Rattle.std.specs.FinSet.{union}
 use Rattle.cfdp_extents.specs.Offsets.{AreApart, union_of, range}
-use Rattle.cfdp_extents.proofs.Joined.{union-nothing, placed, placed-below, placed-apart, placed-union, placed-touched, joined_items, union-joined, apart-joined}
+use Rattle.cfdp_extents.proofs.Joined.{union-nothing, union-held, placed-not_held, placed, placed-below, placed-apart, placed-union, placed-touched, joined_items, union-joined, apart-joined}
 use Rattle.cfdp_extents.proofs.extents.Extents.insert.Goals as goal
 
 pub returns-then-start-end-clause-ok : goal.returns-then-start-end-clause-ok
@@ -48,3 +48,15 @@ returns-clause-ok c =
     let pair = ap (λ m. (m, c.max.result)) c.min.ensures ∙ ap (λ m. (min c.args.start c.index.result.now.0, m)) c.max.ensures in
     let items = joined_items c.self.inside.ranges.items c.drop-drain.new.self.0.items c.ending_before-first.result c.starting_by-past.result _ _ t.order t.within pair (c.drop-drain.ensures.items ∙ c.drain.ensures.kept) in
     ap union_of items ∙ union-joined _ _ _ _ _ _ _ t ∙ ap (λ held. union held (range c.args.start c.args.end)) c.self.view_is
+
+-- ---- a range that is held
+pub returns-in_err-insert-clause-held : goal.returns-in_err-insert-clause-held
+returns-in_err-insert-clause-held c = λ held.
+    let p = placed c.self.inside.ranges.items c.deref.result.now c.deref-2.result.now c.args.start c.args.end c.ending_before-first.result c.starting_by-past.result c.deref.ensures.value c.deref-2.ensures.value c.self.invariant c.requires c.if-start-end.false c.ending_before-first.ensures.within c.ending_before-first.ensures.parts c.starting_by-past.ensures.within c.starting_by-past.ensures.parts in
+    absurd (placed-not_held _ _ _ _ _ p c.if-first-past.true c.args.self.now c.self.view_is held)
+
+pub returns-then-first-past-clause-held : goal.returns-then-first-past-clause-held
+returns-then-first-past-clause-held c = λ held. (refl, returns-then-first-past-clause-ok c ∙ union-held c.args.self.now c.args.start c.args.end held)
+
+pub returns-clause-held : goal.returns-clause-held
+returns-clause-held c = λ held. (refl, returns-clause-ok c ∙ union-held c.args.self.now c.args.start c.args.end held)

@@ -1,7 +1,9 @@
 use Rattle.std.proofs.Common.{◌∙◌, sym, ap, subst, take, drop}
-use Rattle.cfdp_extents.specs.Offsets.{AreRangesOf, missing_from}
+use Rattle.std.specs.List.{All}
+use Rattle.cfdp_extents.specs.Offsets.{AreRangesOf, missing_from, LiesIn}
 use Rattle.cfdp_extents.specs.Ranges.{gaps_between}
 use Rattle.cfdp_extents.proofs.Missing.{only-ranges, gaps-missing, Behind, behind-last, behind-none}
+use Rattle.cfdp_extents.proofs.TermLemmas.{gaps-only, gaps-inside}
 use Rattle.cfdp_extents.proofs.extents.Extents.missing_in.Goals as goal
 use Rattle.cfdp_extents.proofs.extents.Extents.missing_in.Goals.{in-Some, in-None}
 
@@ -20,3 +22,9 @@ returns-clause-gaps c =
 
 pub returns-clause-only : goal.returns-clause-only
 returns-clause-only c = λ gaps h. only-ranges _ gaps _ h (returns-clause-gaps c)
+
+pub returns-clause-is : goal.returns-clause-is
+returns-clause-is c = gaps-only _ _ _ _ (returns-clause-gaps c)
+
+pub returns-clause-inside : goal.returns-clause-inside
+returns-clause-inside c = subst (All (LiesIn c.args.start c.args.limit)) (sym (returns-clause-is c)) (gaps-inside c.args.self.now c.args.start c.args.limit)

@@ -20,10 +20,10 @@ loop-id-preserved c =
     let first : Timer = (record { source = 0; number = 0 }, EofAck) in
     let next : Timer = get_or c.args.timers.now c.loop-id.id-index first in
     record {
-      time = ap (λ clock. clock.time) c.clear.ensures ∙ c.loop-id.invariant.time;
-      roomy = ap (λ clock. clock.roomy) c.clear.ensures ∙ c.loop-id.invariant.roomy;
+      time = ap (λ state. state.time) c.clear.ensures.cleared ∙ c.loop-id.invariant.time;
+      roomy = ap (λ state. state.roomy) c.clear.ensures.cleared ∙ c.loop-id.invariant.roomy;
       cleared = λ t.
-          ap (λ clock. map.get clock.armed t) c.clear.ensures
+          ap (λ state. map.get state.armed t) c.clear.ensures.cleared
           ∙ map.get-remove timer_total c.loop-id.self.armed next t
           ∙ ap (cond (eq_by_cmp timer_cmp t next) None) (c.loop-id.invariant.cleared t)
           ∙ twice (eq_by_cmp timer_cmp t next) (list_any (eq_by_cmp timer_cmp t) (take c.loop-id.id-index c.args.timers.now)) (map.get c.args.self.now.armed t)

@@ -11,11 +11,11 @@ returns-in_err-get c =
     c.from_residual.ensures ∙ ap (λ r. option_and_then (λ d. deadline_at d c.args.kind) (option_copied r)) (sym c.in_err-get.was)
     ∙ ap (option_and_then (λ d. deadline_at d c.args.kind)) c.get.ensures.value
     ∙ deadline-entries c.self.inside.entries.entries c.args.id c.args.kind c.self.invariant.0
-    ∙ ap (λ clock. deadline_of clock c.args.id c.args.kind) c.self.view_is
+    ∙ ap (λ state. deadline_of state c.args.id c.args.kind) c.self.view_is
 
 pub returns : goal.returns
 returns c =
     c.get-2.ensures ∙ ap (λ r. option_and_then (λ d. deadline_at d c.args.kind) (option_copied r)) (sym c.in_ok-get.was)
     ∙ ap (option_and_then (λ d. deadline_at d c.args.kind)) c.get.ensures.value
     ∙ deadline-entries c.self.inside.entries.entries c.args.id c.args.kind c.self.invariant.0
-    ∙ ap (λ clock. deadline_of clock c.args.id c.args.kind) c.self.view_is
+    ∙ ap (λ state. deadline_of state c.args.id c.args.kind) c.self.view_is

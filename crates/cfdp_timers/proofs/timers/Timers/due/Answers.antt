@@ -1,8 +1,8 @@
 -- The alarms that are due are collected and sorted.
-use Rattle.std.proofs.Common.{◌≡◌, ◌++◌, length, map, sym, ap, subst, ◌∙◌, append_assoc}
+use Rattle.std.proofs.Common.{◌++◌, length, map, sym, ap, subst, ◌∙◌, append_assoc}
 use Rattle.std.specs.List.Sorted.{IsSorted}
 use Rattle.std.specs.Map.Iter.{deref_pair}
-use Rattle.std.proofs.lemmas.List.{append-nil, length-map}
+use Rattle.std.proofs.lemmas.List.{length-map}
 use Rattle.std.proofs.lemmas.List.Sorted.{length_permutation}
 use Rattle.std.proofs.lemmas.Map.Iter.{rest_more, rest_all}
 use Rattle.cfdp_header.specs.declared.value.TransactionId.{TransactionId}
@@ -10,7 +10,7 @@ use Rattle.cfdp_timers.specs.contracts.alarm.AlarmOrd.TheImpl.{cmp-value}
 use Rattle.cfdp_timers.specs.declared.deadlines.Deadlines.{Deadlines}
 use Rattle.cfdp_timers.specs.Due.{AreDue, due_count}
 use Rattle.cfdp_timers.specs.Entries.{due, alarms, alarms_of, entry_of, timer_of}
-use Rattle.cfdp_timers.proofs.Alarms.{due-more, due-nil}
+use Rattle.cfdp_timers.proofs.Alarms.{due-more, all_collected}
 use Rattle.cfdp_timers.proofs.Distinct.{length-due-alarms}
 use Rattle.cfdp_timers.proofs.Firing.{are_due}
 use Rattle.cfdp_timers.proofs.timers.Timers.due.Goals as goal
@@ -28,19 +28,15 @@ pub returns-clause-fired : goal.returns-clause-fired
 returns-clause-fired c =
     let es = c.self.inside.entries.entries in
     let none = rest_all deref_pair c.loop-id.id-iterator c.next.new.self c.next.result c.in-None.is c.next.ensures.steps in
-    let collected : map entry_of c.loop-id.due.items ≡ due c.args.now (alarms es) =
-    sym (append-nil _) ∙ ap (λ l. map entry_of c.loop-id.due.items ++ l) (sym (ap (λ l. due c.args.now (alarms l)) none ∙ due-nil c.args.now)) ∙ c.loop-id.invariant
-    ∙ ap (λ l. due c.args.now (alarms l)) (c.into_iter-id-iterator.ensures.into_iter_gives ∙ c.iter-id-items.ensures.rest) in
+    let collected = all_collected c.args.now (map entry_of c.loop-id.due.items) _ _ es none c.loop-id.invariant (c.into_iter-id-iterator.ensures.into_iter_gives ∙ c.iter-id-items.ensures.rest) in
     let up : IsSorted (cmp-value).it c.sort_unstable.new.self.items = c.sort_unstable.ensures.sorted in
-    subst (λ clock. AreDue clock.armed c.args.now (map timer_of c.sort_unstable.new.self.items)) c.self.view_is
+    subst (λ state. AreDue state.armed c.args.now (map timer_of c.sort_unstable.new.self.items)) c.self.view_is
     (are_due es c.args.now c.self.invariant.0 c.loop-id.due.items c.sort_unstable.new.self.items collected c.sort_unstable.ensures.permutation up)
 
 pub returns-clause-count : goal.returns-clause-count
 returns-clause-count c =
     let es = c.self.inside.entries.entries in
     let none = rest_all deref_pair c.loop-id.id-iterator c.next.new.self c.next.result c.in-None.is c.next.ensures.steps in
-    let collected : map entry_of c.loop-id.due.items ≡ due c.args.now (alarms es) =
-    sym (append-nil _) ∙ ap (λ l. map entry_of c.loop-id.due.items ++ l) (sym (ap (λ l. due c.args.now (alarms l)) none ∙ due-nil c.args.now)) ∙ c.loop-id.invariant
-    ∙ ap (λ l. due c.args.now (alarms l)) (c.into_iter-id-iterator.ensures.into_iter_gives ∙ c.iter-id-items.ensures.rest) in
+    let collected = all_collected c.args.now (map entry_of c.loop-id.due.items) _ _ es none c.loop-id.invariant (c.into_iter-id-iterator.ensures.into_iter_gives ∙ c.iter-id-items.ensures.rest) in
     length_permutation c.loop-id.due.items c.sort_unstable.new.self.items c.sort_unstable.ensures.permutation ∙ sym (length-map c.loop-id.due.items entry_of) ∙ ap length collected
-    ∙ length-due-alarms es c.args.now c.self.invariant.0 ∙ ap (λ clock. due_count clock.armed c.args.now) c.self.view_is
+    ∙ length-due-alarms es c.args.now c.self.invariant.0 ∙ ap (λ state. due_count state.armed c.args.now) c.self.view_is

@@ -28,5 +28,5 @@ returns c =
     let is : earliest (alarms es) ≡ c.loop-id.earliest =
     ap (λ l. earliest (alarms l)) (sym (c.into_iter-id-iterator.ensures.into_iter_gives ∙ c.iter-id-items.ensures.rest)) ∙ sym c.loop-id.invariant
     ∙ ap (earlier c.loop-id.earliest) (ap (λ l. earliest (alarms l)) none ∙ earliest-nil) ∙ earlier_none c.loop-id.earliest in
-    subst (λ clock. MatchOption c.loop-id.earliest (clock.armed ≡ map.empty) (λ deadline. IsLeast clock.armed deadline)) c.self.view_is
+    subst (λ state. MatchOption c.loop-id.earliest (state.armed ≡ map.empty) (λ deadline. IsLeast state.armed deadline)) c.self.view_is
     (earliest-alarms es c.loop-id.earliest c.self.invariant.0 is)

@@ -1,0 +1,7 @@
+use Rattle.std.proofs.Common.{ap}
+use Rattle.cfdp_extents.specs.Offsets.{union_of}
+use Rattle.cfdp_extents.proofs.extents.Extents.clear.Goals as goal
+
+pub returns : goal.returns
+unfolding union_of
+returns c = ap union_of c.clear.ensures.items
