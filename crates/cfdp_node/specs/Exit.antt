@@ -7,4 +7,4 @@ abbrev pub exit_status : Exit → ℕ
 exit_status Complete = 0
 exit_status Incomplete = 1
 exit_status (BadScript _) = 2
-exit_status Device = 3
+exit_status (Device _) = 3

@@ -1,34 +1,42 @@
-ghost use Rattle.std.specs.Prelude.{◌≢◌, IfOk};
+ghost use Rattle.std.specs.Prelude.{◌≢◌, Bool, IfOk, IfSome};
 ghost use Rattle.cfdp_node.specs.Request.{HasZone};
 
 use crate::dump::DumpKind;
 use clap::error::ErrorKind;
-use clap::{Arg, ArgMatches, Command, Error, value_parser};
+use clap::{Arg, ArgAction, ArgMatches, Command, Error, value_parser};
 use std::alloc::{AllocError, Global};
 use std::{env, io};
 
 /// What the words behind the program's name ask for.
 #[derive(Clone, Copy, Debug, PartialEq, Eq)]
 pub enum Request {
-    /// To run a script.
-    Sim,
+    /// To run a script, and to say why a bad one is bad if `explain` is true.
+    Sim { explain: bool },
     /// To tell what lines spell. Frames have packet zones of so many octets: 16 to 2,040.
     Dump { kind: DumpKind, zone: u16 },
-    /// Nothing more: help or a mistake was printed. The process ends with this status.
+    /// Nothing more: help, the version or a mistake was printed. The process ends with this status.
     Answered(u8),
 }
+
+const VERSION: &str = "0.1.0";
 
 const MISTAKE: u8 = 2;
 
 const NO_MEMORY: u8 = 3;
 
 const SIM_HELP: &str = "\
-Script, one command a line; S is the station, 1 or 2. Empty lines and lines
-that begin with # are skipped. First, what the stations have:
-  set KEY N             segment (1 to 4096, default 1024), checksum (0 modular,
-                        15 null, default 0) or first_number (default 1)
+The script is read from standard input: at most 1,048,576 octets in lines of
+at most 4,096, ASCII, one command a line, words with one space between. Empty
+lines and lines that begin with # are skipped. S is the station, 1 or 2.
+First, what the stations have:
+  set KEY N             a setting of both stations:
+                          segment       1 to 4096 octets of a file in one PDU
+                                        (default 1024)
+                          checksum      0 modular (default) or 15 null
+                          first_number  of a station's first transaction, any
+                                        number below 2^64 (default 1)
   file S NAME TEXT      a file in the outbox of S; TEXT is the rest of the line
-  fill S NAME N HH      a file of N octets, each hexadecimal HH
+  fill S NAME N HH      a file of N octets, each hexadecimal HH; N to 1048576
 Then, what happens:
   put S SRC DST         S sends its file SRC to the other station, as DST
   poll S                S puts its next PDU on the link
@@ -40,16 +48,20 @@ Then, what happens:
 
 Report: a line for each command that could not do its work, what each station
 tells its user, the files received with their checksums, and how many of the
-puts were completed.
+puts were completed. A command that could not do its work is told as
+  line N Nothing        there was nothing to do
+  line N NoSuchFile     or Name, TooLarge, TableFull, NumbersSpent: a put refused
+  line N NoMemory       there was no memory
 
 Exit status: 0 all puts completed, 1 some not, 2 bad script or arguments,
-3 a failed read or write, or no memory.
+3 a failed read or write, or no memory (told on standard error).
 
 Example:
   printf 'file 1 a.txt hello\\nput 1 a.txt b.txt\\nsettle\\n' | cfdp_node sim";
 
 const DUMP_HELP: &str = "\
-Input: a PDU or a frame a line, as pairs of hexadecimal digits of either case.
+Input: a PDU or a frame a line, as pairs of hexadecimal digits of either case;
+at most 1,048,576 octets in all.
 Output: a line for each; ID is the source and the number of the transaction.
   data ID OFFSET LENGTH
   metadata ID CHECKSUM-TYPE SIZE SRC DST
@@ -60,10 +72,14 @@ Output: a line for each; ID is the source and the number of the transaction.
   prompt ID nak, prompt ID keep
   keepalive ID N
   frame SPACECRAFT CHANNEL COUNT POINTER
-  error N NAME                      why it is none; 0 Hex: no such digits
+  error N NAME                      why it is none
+Errors of any line: 0 Hex (no such digits).
+Errors of PDUs: 1 Short, 2 Version, 3 CrcPresent, 4 Length, 5 Unacknowledged,
+6 LargeFile, 7 Directive, 8 Truncated, 9 Trailing, 10 Tlv, 11 Condition.
+Errors of frames: 1 Length, 2 Version, 3 OtherProfile, 6 OnlyIdle.
 
 Exit status: 0 whatever the lines say, 2 bad arguments, 3 a failed read or
-write, or no memory.
+write, or no memory (told on standard error).
 
 Example, which prints 'eof 1:1 0 D7656C6C 5':
   echo 20000A1300010000000100020400D7656C6C00000005 | cfdp_node dump pdus";
@@ -80,26 +96,38 @@ pub fn read(rt: &HostRuntime) -> Request
         Err(error) => return Request::Answered(unread_status(rt, &error)),
     };
     match parse(rt.alloc(), words.as_slice()) {
-        Ok(request) => request,
+        Ok(Some(request)) => request,
+        Ok(None) => Request::Answered(version_status(rt)),
         Err(error) => Request::Answered(answered(rt, &error)),
     }
 }
 
-/// What these words ask for. The first is the program's name.
-fn parse<'a>(alloc: Global, words: &'a [String]) -> Result<Request, Error>
-    ensures { IfOk result HasZone }
+/// Prints the version.
+fn version_status(rt: &HostRuntime) -> u8 {
+    match println!(rt; "cfdp_node {VERSION}") {
+        Ok(()) => 0,
+        Err(_) => NO_MEMORY,
+    }
+}
+
+/// What these words ask for, `None` being the version. The first word is the program's name.
+fn parse<'a>(alloc: Global, words: &'a [String]) -> Result<Option<Request>, Error>
+    ensures { IfOk result (λ request. IfSome request HasZone) }
 {
     let matches = grammar(alloc)?.try_get_matches_from(words)?;
     match matches.subcommand() {
-        Some(("dump", arguments)) => Ok(dump_request(arguments)),
-        Some(_) => Ok(Request::Sim),
-        None => Ok(Request::Answered(MISTAKE)),
+        Some(("dump", arguments)) => Ok(Some(dump_request(arguments))),
+        Some((_, arguments)) => Ok(Some(Request::Sim {
+            explain: arguments.get_flag("explain"),
+        })),
+        None if matches.get_flag("version") => Ok(None),
+        None => Ok(Some(Request::Answered(MISTAKE))),
     }
 }
 
 /// What the words behind `dump` ask for. The parser has refused all others.
 fn dump_request(arguments: &ArgMatches<'_>) -> Request
-    ensures dumps { result ≢ Request.Sim }
+    ensures dumps { (explain : Bool) → result ≢ Request.Sim explain }
     ensures zone { HasZone result }
 {
     let kind = match arguments.get_str("kind") {
@@ -120,7 +148,8 @@ fn grammar<'a>(alloc: Global) -> Result<Command<'a>, AllocError> {
         .about(
             "Runs a script of two stations, read from standard input, and reports on standard output",
         )
-        .after_help(SIM_HELP);
+        .after_help(SIM_HELP)
+        .arg(explain_argument(alloc))?;
     let dump = Command::new(alloc, "dump")
         .about("Tells what lines spell, read from standard input, on standard output")
         .after_help(DUMP_HELP)
@@ -132,10 +161,24 @@ fn grammar<'a>(alloc: Global) -> Result<Command<'a>, AllocError> {
         .after_help(
             "'cfdp_node sim --help' shows the commands of a script, 'cfdp_node dump --help' the lines of a dump.",
         )
-        .subcommand_required(true)
+        .arg(version_argument(alloc))?
         .arg_required_else_help(true)
         .subcommand(sim)?
         .subcommand(dump)
+}
+
+fn version_argument<'a>(alloc: Global) -> Arg<'a> {
+    Arg::new(alloc, "version")
+        .long("version")
+        .help("Prints the version")
+        .action(ArgAction::SetTrue)
+}
+
+fn explain_argument<'a>(alloc: Global) -> Arg<'a> {
+    Arg::new(alloc, "explain")
+        .long("explain")
+        .help("Says why a bad line is bad, on a second line of standard error")
+        .action(ArgAction::SetTrue)
 }
 
 fn kind_argument<'a>(alloc: Global) -> Arg<'a> {

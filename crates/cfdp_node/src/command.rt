@@ -79,7 +79,7 @@ pub enum LineError {
     UnknownCommand,
     /// There is no such key to set.
     UnknownKey,
-    /// The station isn't 1 or 2.
+    /// The station isn't the number 1 or 2.
     UnknownStation,
     /// A number isn't decimal digits below 2^64.
     BadNumber,
@@ -91,13 +91,37 @@ pub enum LineError {
     TooLate,
     /// The last `set` leaves a configuration that isn't valid.
     BadConfiguration,
+    /// The line is bad, and ends with a carriage return.
+    CarriageReturn,
+}
+
+impl LineError {
+    /// The sentence that explains it.
+    pub fn reason(self) -> &'static str {
+        match self {
+            LineError::TooLong => "the line has more than 4,096 octets",
+            LineError::NotAscii => "the line has an octet that is not ASCII",
+            LineError::MissingWord => "a word is missing",
+            LineError::EmptyWord => "two spaces stand together, or a space begins or ends the line",
+            LineError::ExtraWord => "the line has more words than the command takes",
+            LineError::UnknownCommand => "there is no such command",
+            LineError::UnknownKey => "there is no such setting",
+            LineError::UnknownStation => "a station is 1 or 2",
+            LineError::BadNumber => "a number is decimal digits, below 2^64",
+            LineError::FileTooLong => "a file to fill has at most 1,048,576 octets",
+            LineError::BadOctet => "an octet is two hexadecimal digits",
+            LineError::TooLate => "set, file and fill stand before all other commands",
+            LineError::BadConfiguration => "after the last set a setting is out of its range",
+            LineError::CarriageReturn => "the line ends with a carriage return",
+        }
+    }
 }
 
 /// Reads a line that is to be read: it isn't empty and doesn't begin with `#`.
 ///
 /// # Errors
 ///
-/// `LineError`, all but its last two.
+/// `LineError`, all but its last three.
 pub fn parse_line(line: &[u8]) -> Result<Line<'_>, LineError> {
     if line.len() > MAX_LINE {
         return Err(LineError::TooLong);
@@ -175,9 +199,9 @@ fn parse_value(word: &[u8]) -> Result<u64, LineError> {
 }
 
 fn parse_station(word: &[u8]) -> Result<Side, LineError> {
-    match word {
-        b"1" => Ok(Side::One),
-        b"2" => Ok(Side::Two),
+    match parse_number(word) {
+        Some(1) => Ok(Side::One),
+        Some(2) => Ok(Side::Two),
         _ => Err(LineError::UnknownStation),
     }
 }

@@ -6,10 +6,11 @@ ghost use Rattle.cfd_bits.specs.Field.{field};
 ghost use Rattle.aos_frame.specs.Frame.{SpellsFrame, frame_fault};
 ghost use Rattle.cfdp_node.specs.Dump.{hex_octets, own_link, TellsOctets, TellsLine, WritesLine, WritesLines};
 ghost use Rattle.cfdp_node.specs.Dump as dumps;
+ghost use Rattle.cfdp_node.specs.declared.exit.Fault.{Fault};
 
 use crate::dump_line::{FrameLine, PduLine};
-use crate::exit::Exit;
-use crate::input::read_script;
+use crate::exit::{Exit, Fault};
+use crate::input::{read_fault, read_script, write_fault};
 use crate::refusal::Refusal;
 use crate::words::cut_at_first;
 use aos_frame::{FrameError, LinkConfig};
@@ -35,7 +36,7 @@ pub enum DumpKind {
 /// nothing.
 ///
 /// The answer is `Complete` whatever the lines say, and `Device` where they couldn't be read, as `read_script` says, where a line
-/// couldn't be written, or where there was no memory. Nothing is written unless all was read.
+/// couldn't be written, or where there was no memory. Nothing is written unless all was read, and nothing is written twice.
 pub fn run_dump<R: Read + Drop, W: Write + Drop>(
     alloc: Global,
     kind: DumpKind,
@@ -44,35 +45,44 @@ pub fn run_dump<R: Read + Drop, W: Write + Drop>(
     writer: W,
 ) -> Exit
     requires { (16 ≤ zone) × (zone ≤ 2040) }
-    ensures { (result ≡ Exit.Complete) ⊎ (result ≡ Exit.Device) }
+    ensures { (result ≡ Exit.Complete) ⊎ ((fault : Fault) × (result ≡ Exit.Device fault)) }
 {
     let Ok(mut out) = BufWriter::new(alloc, writer) else {
-        return Exit::Device;
+        return Exit::Device(Fault::NoMemoryAtStart);
     };
-    let written = dump_all(alloc, kind, zone, reader, &mut out);
-    if written.is_err() || out.flush().is_err() {
-        return Exit::Device;
-    }
-    Exit::Complete
+    let fault = match dump_all(alloc, kind, zone, reader, &mut out) {
+        Err(fault) => fault,
+        Ok(()) if out.flush().is_ok() => return Exit::Complete,
+        Ok(()) => Fault::Unwritable,
+    };
+    // What is still in the buffer is let go: a `BufWriter` would write it once more.
+    let _ = out.into_parts();
+    Exit::Device(fault)
 }
 
 /// Writes a line for each line that the reader gives.
 ///
 /// # Errors
 ///
-/// Those of `read_script`, after which nothing is written, and of `write_dump`.
+/// What of reading failed, after which nothing is written, or what of writing.
 fn dump_all<R: Read + Drop, W: Write>(
     alloc: Global,
     kind: DumpKind,
     zone: u16,
     reader: R,
     out: &mut W,
-) -> io::Result<()>
+) -> Result<(), Fault>
     ensures { OnOk result (IfSome (R.remaining reader)
         (λ text. WritesLines (TellsLine kind zone) (dumps.lines text) (W.contents out.old) (W.contents out.new))) }
 {
-    let text = read_script(alloc, reader)?;
-    write_dump(alloc, kind, zone, text.as_slice(), out)
+    let text = match read_script(alloc, reader) {
+        Ok(text) => text,
+        Err(error) => return Err(read_fault(&error)),
+    };
+    match write_dump(alloc, kind, zone, text.as_slice(), out) {
+        Ok(()) => Ok(()),
+        Err(error) => Err(write_fault(&error)),
+    }
 }
 
 /// Writes a line for each line of the text.

@@ -1,14 +1,31 @@
+use crate::script::BadLine;
+
 /// How a run of the program ended.
 #[derive(Clone, Copy, Debug, PartialEq, Eq)]
 pub enum Exit {
-    /// Every put was completed, or every line was told.
+    /// Every put was completed, or every line of a dump was written.
     Complete,
-    /// Some put wasn't completed.
+    /// Some put was not completed.
     Incomplete,
-    /// The script is bad, and this is its first bad line. The first line is 1.
-    BadScript(usize),
-    /// What was to be read couldn't be, what was to be written couldn't be, or there was no memory.
-    Device,
+    /// The script is bad: its first bad line, and why it is one.
+    BadScript(BadLine),
+    /// Reading, writing or memory failed.
+    Device(Fault),
+}
+
+/// What failed where a run could not be done.
+#[derive(Clone, Copy, Debug, PartialEq, Eq)]
+pub enum Fault {
+    /// The input can't be read.
+    Unreadable,
+    /// The input has more than 1,048,576 octets, or no end within 1,100,000 reads.
+    TooLong,
+    /// The output can't be written.
+    Unwritable,
+    /// There was no memory before the first command was done. Nothing is printed.
+    NoMemoryAtStart,
+    /// A command found no memory. The report says which one.
+    NoMemory,
 }
 
 impl Exit {
@@ -23,7 +40,20 @@ impl Exit {
             Exit::Complete => 0,
             Exit::Incomplete => 1,
             Exit::BadScript(_) => 2,
-            Exit::Device => 3,
+            Exit::Device(_) => 3,
+        }
+    }
+}
+
+impl Fault {
+    /// The line that tells it on standard error, if there is to be one.
+    pub fn message(self) -> Option<&'static str> {
+        match self {
+            Fault::Unreadable => Some("error: standard input can't be read"),
+            Fault::TooLong => Some("error: standard input is longer than 1,048,576 octets"),
+            Fault::Unwritable => Some("error: standard output can't be written"),
+            Fault::NoMemory => Some("error: there is not enough memory"),
+            Fault::NoMemoryAtStart => None,
         }
     }
 }

@@ -1,5 +1,6 @@
 ghost use Rattle.std.specs.Prelude.{◌≡◌, ◌≤◌, IfOk, IfSome, vec_len};
 
+use crate::exit::Fault;
 use std::alloc::Global;
 use std::io;
 use std::io::{ErrorKind, Read};
@@ -38,4 +39,21 @@ pub fn read_script<R: Read + Drop>(alloc: Global, mut reader: R) -> io::Result<V
         }
     }
     Err(io::Error::from(ErrorKind::FileTooLarge))
+}
+
+/// What failed where the input was not read to its end.
+pub fn read_fault(error: &io::Error) -> Fault {
+    match error.kind() {
+        ErrorKind::OutOfMemory => Fault::NoMemoryAtStart,
+        ErrorKind::FileTooLarge => Fault::TooLong,
+        _ => Fault::Unreadable,
+    }
+}
+
+/// What failed where the output was not written to its end.
+pub fn write_fault(error: &io::Error) -> Fault {
+    match error.kind() {
+        ErrorKind::OutOfMemory => Fault::NoMemory,
+        _ => Fault::Unwritable,
+    }
 }

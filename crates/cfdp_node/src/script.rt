@@ -70,6 +70,7 @@ impl<'a> Script<'a> {
                 self.settings.set(setting, value);
                 self.last_set = line;
             }
+            Err(_) if text.ends_with(b"\r") => self.note(line, LineError::CarriageReturn),
             Err(error) => self.note(line, error),
         }
         Ok(())

@@ -2,8 +2,8 @@ ghost use Rattle.link_sim.specs.Config.{IsValidConfig};
 
 use crate::answer::Answer;
 use crate::command::{Command, Contents, FileLine};
-use crate::exit::Exit;
-use crate::input::read_script;
+use crate::exit::{Exit, Fault};
+use crate::input::{read_fault, read_script};
 use crate::perform::perform;
 use crate::report::{Tally, completed_puts, write_report};
 use crate::script::{Script, Step};
@@ -15,17 +15,19 @@ use std::io::{BufWriter, Read, Write};
 /// Reads a script, runs it and writes its report.
 ///
 /// Nothing is written unless the whole script was read, is good, and there is memory for all that stands before its
-/// first command. From then on a want of memory is told in the report, and the answer is `Device` too.
+/// first command. From then on a want of memory is told in the report, and the answer is `Device` too. A report that
+/// can't be written to its end is not begun again.
 pub fn run_sim<R: Read + Drop, W: Write + Drop>(alloc: Global, reader: R, writer: W) -> Exit {
-    let Ok(text) = read_script(alloc, reader) else {
-        return Exit::Device;
+    let text = match read_script(alloc, reader) {
+        Ok(text) => text,
+        Err(error) => return Exit::Device(read_fault(&error)),
     };
     let Ok(script) = Script::parse(alloc, text.as_slice()) else {
-        return Exit::Device;
+        return Exit::Device(Fault::NoMemoryAtStart);
     };
     match script.config() {
         Ok(config) => run_script(alloc, config, &script, writer),
-        Err(bad) => Exit::BadScript(bad.line),
+        Err(bad) => Exit::BadScript(bad),
     }
 }
 
@@ -33,15 +35,15 @@ fn run_script<W: Write + Drop>(alloc: Global, config: SimConfig, script: &Script
     requires { IsValidConfig config }
 {
     let Ok(outboxes) = outboxes(alloc, script.files.as_slice()) else {
-        return Exit::Device;
+        return Exit::Device(Fault::NoMemoryAtStart);
     };
     // What the report takes is there before the first command.
     let steps = script.steps.as_slice();
     let Ok(mut answers) = vec![in alloc; None; steps.len()] else {
-        return Exit::Device;
+        return Exit::Device(Fault::NoMemoryAtStart);
     };
     let Ok(mut out) = BufWriter::new(alloc, writer) else {
-        return Exit::Device;
+        return Exit::Device(Fault::NoMemoryAtStart);
     };
     let inboxes = (Files::new(alloc), Files::new(alloc));
     let mut world = World::new(alloc, config, outboxes, inboxes);
@@ -54,8 +56,13 @@ fn run_script<W: Write + Drop>(alloc: Global, config: SimConfig, script: &Script
             .count(),
     };
     let written = write_report(&mut out, steps, answers.as_slice(), &world, tally);
-    if written.is_err() || out.flush().is_err() || answers.contains(&Some(Answer::NoMemory)) {
-        return Exit::Device;
+    if written.is_err() || out.flush().is_err() {
+        // What is still in the buffer is let go: a `BufWriter` would write it once more.
+        let _ = out.into_parts();
+        return Exit::Device(Fault::Unwritable);
+    }
+    if answers.contains(&Some(Answer::NoMemory)) {
+        return Exit::Device(Fault::NoMemory);
     }
     if tally.complete == tally.asked {
         Exit::Complete

@@ -1,8 +1,8 @@
 use crate::command::{LineError, MAX_FILL, parse_line};
 use crate::dump::{DumpKind, run_dump};
-use crate::exit::Exit;
+use crate::exit::{Exit, Fault};
 use crate::number::{parse_hex_octet, parse_number};
-use crate::script::Script;
+use crate::script::{BadLine, Script};
 use crate::sim::run_sim;
 use std::alloc::{AllocError, Global};
 use std::io;
@@ -268,7 +268,7 @@ fn names_the_first_bad_line(rt: HostRuntime) -> Result<(), Fail> {
         ("put 1 a\n", 1),
         ("put 1 a b c\n", 1),
         ("put 3 a b\n", 1),
-        ("put 01 a b\n", 1),
+        ("put 3 a b\n", 1),
         ("settle\r\n", 1),
         ("file 1 a \u{e9}\n", 1),
         ("file 1 a\n", 1),
@@ -301,9 +301,78 @@ fn names_the_first_bad_line(rt: HostRuntime) -> Result<(), Fail> {
         ("bad\nset segment 0\n", 1),
     ];
     for (script, line) in scripts {
-        check_run(&rt, alloc, script, Exit::BadScript(line), "")?;
+        let exit = run_sim(alloc, script.as_bytes(), Full { room: 0 });
+        assert_eq!(rt; bad_line(exit), line, "at {script}");
     }
     Ok(())
+}
+
+#[test]
+fn explains_a_bad_line(rt: HostRuntime) -> Result<(), Fail> {
+    let alloc = rt.alloc();
+    for (script, line, error) in [
+        ("poll 1\r\n", 1, LineError::CarriageReturn),
+        ("poll 1\nset segment 1\n", 2, LineError::TooLate),
+        ("set segment 0\n", 1, LineError::BadConfiguration),
+    ] {
+        let exit = run_sim(alloc, script.as_bytes(), Full { room: 0 });
+        assert_eq!(rt;
+            exit,
+            Exit::BadScript(BadLine { line, error }),
+            "at {script}"
+        );
+        assert!(rt; !error.reason().is_empty());
+    }
+    Ok(())
+}
+
+#[test]
+fn takes_a_station_as_a_number(rt: HostRuntime) -> Result<(), Fail> {
+    let report = "line 1 Nothing\ncomplete 0 of 0\n";
+    Ok(check_run(&rt, rt.alloc(), "poll 02\n", Exit::Complete, report)?)
+}
+
+/// Fails at the first write, and takes all later ones.
+#[derive(Drop)]
+struct FailsOnce {
+    failed: bool,
+    taken: usize,
+}
+
+impl Write for FailsOnce {
+    fn write(&mut self, buf: &[u8]) -> io::Result<usize> {
+        if !self.failed {
+            self.failed = true;
+            return Err(io::Error::from(ErrorKind::StorageFull));
+        }
+        let count = buf.len().min(1_000);
+        self.taken = count;
+        Ok(count)
+    }
+
+    fn flush(&mut self) -> io::Result<()> {
+        Ok(())
+    }
+}
+
+#[test]
+fn a_report_that_failed_is_not_written_again(rt: HostRuntime) -> Result<(), Fail> {
+    let mut writer = FailsOnce {
+        failed: false,
+        taken: 0,
+    };
+    let exit = run_sim(rt.alloc(), b"settle\n".as_slice(), &mut writer);
+    assert_eq!(rt; exit, Exit::Device(Fault::Unwritable));
+    assert_eq!(rt; writer.taken, 0);
+    Ok(())
+}
+
+/// The number of the bad line that ended a run, 0 where none did.
+fn bad_line(exit: Exit) -> usize {
+    match exit {
+        Exit::BadScript(bad) => bad.line,
+        _ => 0,
+    }
 }
 
 #[test]
@@ -423,8 +492,14 @@ impl Write for Full {
 #[test]
 fn ends_at_bad_readers(rt: HostRuntime) -> Result<(), Fail> {
     let alloc = rt.alloc();
-    assert_eq!(rt; run_sim(alloc, Endless, Full { room: 0 }), Exit::Device);
-    assert_eq!(rt; run_sim(alloc, Interrupted, Full { room: 0 }), Exit::Device);
+    assert_eq!(rt;
+        run_sim(alloc, Endless, Full { room: 0 }),
+        Exit::Device(Fault::TooLong)
+    );
+    assert_eq!(rt;
+        run_sim(alloc, Interrupted, Full { room: 0 }),
+        Exit::Device(Fault::TooLong)
+    );
     let rest = b"settle\n".as_slice();
     for fails in [false, true] {
         let reader = OneByOne {
@@ -433,7 +508,11 @@ fn ends_at_bad_readers(rt: HostRuntime) -> Result<(), Fail> {
             was_interrupted: false,
             fails,
         };
-        let exit = if fails { Exit::Device } else { Exit::Complete };
+        let exit = if fails {
+            Exit::Device(Fault::Unreadable)
+        } else {
+            Exit::Complete
+        };
         assert_eq!(rt; run_sim(alloc, reader, Full { room: 99 }), exit);
     }
     Ok(())
@@ -446,7 +525,7 @@ fn ends_at_bad_writers(rt: HostRuntime) -> Result<(), Fail> {
     for room in [0, 1, HELLO.len() - 1] {
         assert_eq!(rt;
             run_sim(alloc, script, Full { room }),
-            Exit::Device,
+            Exit::Device(Fault::Unwritable),
             "at {room}"
         );
     }
@@ -464,7 +543,7 @@ fn dumps_end_at_bad_readers_and_writers(rt: HostRuntime) -> Result<(), Fail> {
     let told = "eof 1:1 0 D7656C6C 5\n";
     for room in [0, 1, told.len() - 1, told.len()] {
         let exit = if room < told.len() {
-            Exit::Device
+            Exit::Device(Fault::Unwritable)
         } else {
             Exit::Complete
         };
@@ -478,12 +557,16 @@ fn dumps_end_at_bad_readers_and_writers(rt: HostRuntime) -> Result<(), Fail> {
             was_interrupted: false,
             fails,
         };
-        let exit = if fails { Exit::Device } else { Exit::Complete };
+        let exit = if fails {
+            Exit::Device(Fault::Unreadable)
+        } else {
+            Exit::Complete
+        };
         let ended = run_dump(alloc, DumpKind::Pdus, 256, reader, Full { room: 99 });
         assert_eq!(rt; ended, exit);
     }
     let ended = run_dump(alloc, DumpKind::Frames, 16, Endless, Full { room: 99 });
-    assert_eq!(rt; ended, Exit::Device);
+    assert_eq!(rt; ended, Exit::Device(Fault::TooLong));
     Ok(())
 }
 
@@ -505,14 +588,12 @@ fn reads_long_scripts(rt: HostRuntime) -> Result<(), Fail> {
     assert_eq!(rt; run_sim(alloc, reader, Full { room: 99 }), Exit::Complete);
     let at = text.len() - 1;
     text.as_mut_slice()[at] = b'x';
-    assert_eq!(rt;
-        run_sim(alloc, text.as_slice(), Full { room: 0 }),
-        Exit::BadScript(1_048_576)
-    );
+    let exit = run_sim(alloc, text.as_slice(), Full { room: 0 });
+    assert_eq!(rt; bad_line(exit), 1_048_576);
     text.push(b'\n')?;
     assert_eq!(rt;
         run_sim(alloc, text.as_slice(), Full { room: 0 }),
-        Exit::Device
+        Exit::Device(Fault::TooLong)
     );
     Ok(())
 }
