@@ -3,7 +3,6 @@
 
 mod config;
 mod event;
-mod files;
 mod header;
 mod held;
 mod link;
@@ -15,9 +14,9 @@ mod tell;
 mod transaction;
 mod world;
 
+pub use cfdp_store::Files;
 pub use config::SimConfig;
 pub use event::{AcceptedPut, Applied, Event, PutError, SettleError};
-pub use files::Files;
 pub use side::Side;
 pub use world::{World, run};
 

@@ -4,7 +4,6 @@ ghost use Rattle.link_sim.specs.Station.{takes, IsWritable, PollsStation, HearsP
 ghost use Rattle.link_sim.specs.World.{first_station, sends_file};
 
 use crate::config::SimConfig;
-use crate::files::Files;
 use crate::header::is_for;
 use crate::link::Link;
 use crate::sender::Sender;
@@ -12,6 +11,7 @@ use crate::side::Side;
 use crate::transaction::{Transaction, hear};
 use cfdp_directives::{Indication, Octets, decode};
 use cfdp_header::TransactionId;
+use cfdp_store::Files;
 use std::alloc::{AllocError, Global};
 use std::marker::Model;
 

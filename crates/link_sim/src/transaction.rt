@@ -9,7 +9,6 @@ ghost use Rattle.link_sim.specs.Station.{takes_of, takes_from_receiver, heard_by
 ghost use Rattle.link_sim.specs.declared.transaction.Transaction.TheVariants.{Sends, Receives};
 
 use crate::config::SimConfig;
-use crate::files::Files;
 use crate::header::{header_of, written};
 use crate::link::Link;
 use crate::receiver::{Receiver, ReceiverPhase};
@@ -17,6 +16,7 @@ use crate::sender::Sender;
 use crate::side::Side;
 use cfdp_directives::{Condition, Indication, Pdu};
 use cfdp_header::{Header, TransactionId};
+use cfdp_store::Files;
 use std::alloc::{AllocError, Global};
 
 /// A transaction at one station: it sends the file or receives it.
