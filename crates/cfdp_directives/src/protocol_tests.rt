@@ -1,5 +1,5 @@
 use super::*;
-use cfdp_header::TransactionId;
+use cfdp_header::{TransactionId, fits_width};
 use std::test::Fail;
 
 /// What PDUs of transaction 1:1 from entity 1 to entity 2 have in common.

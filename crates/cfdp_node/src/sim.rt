@@ -7,7 +7,6 @@ use crate::input::{read_fault, read_script};
 use crate::perform::perform;
 use crate::report::{Tally, completed_puts, write_report};
 use crate::script::{Script, Step};
-use cfdp_directives::Octets;
 use link_sim::{Files, Side, SimConfig, World};
 use std::alloc::{AllocError, Global};
 use std::io::{BufWriter, Read, Write};
@@ -76,7 +75,7 @@ fn outboxes(alloc: Global, files: &[FileLine]) -> Result<(Files, Files), AllocEr
     let mut one = Files::new(alloc);
     let mut two = Files::new(alloc);
     for file in files {
-        let name = Octets::copied(alloc, file.name)?;
+        let name = Vec::from_slice(alloc, file.name)?;
         let octets = contents_of(alloc, file.contents)?;
         match file.at {
             Side::One => one.insert(name, octets)?,
@@ -86,12 +85,10 @@ fn outboxes(alloc: Global, files: &[FileLine]) -> Result<(Files, Files), AllocEr
     Ok((one, two))
 }
 
-fn contents_of(alloc: Global, contents: Contents) -> Result<Octets, AllocError> {
+fn contents_of(alloc: Global, contents: Contents) -> Result<Vec<u8>, AllocError> {
     match contents {
-        Contents::Text(text) => Octets::copied(alloc, text),
-        Contents::Fill { count, octet } => {
-            Ok(Octets::from_vec(vec![in alloc; octet; count as usize]?))
-        }
+        Contents::Text(text) => Vec::from_slice(alloc, text),
+        Contents::Fill { count, octet } => vec![in alloc; octet; count as usize],
     }
 }
 

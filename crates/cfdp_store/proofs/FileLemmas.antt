@@ -10,7 +10,7 @@ use Rattle.std.specs.Cmp.Lexicographic.{slice_cmp, nat_list_cmp_total}
 use Rattle.std.specs.BTreeMap.{insert_entry}
 use Rattle.std.specs.FinMap.{get, insert, find, put, same_map, slice_cmp-IsAntisymmetric, nat_cmp-IsAntisymmetric, get-from_entries, get-insert}
 use Rattle.std.specs.FinMap.Entries.{by_order, find-put}
-use Rattle.cfdp_store.specs.Stores.{files_of}
+use Rattle.cfdp_store.specs.Files.{files_of}
 
 abbrev R : List ℕ → List ℕ → Ordering
 R = slice_cmp nat_cmp

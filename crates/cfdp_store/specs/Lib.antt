@@ -1,3 +1,4 @@
+pub mod Files
 pub mod Fuse
 pub mod Memory
 pub mod Pieces

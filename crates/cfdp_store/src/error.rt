@@ -1,5 +1,5 @@
 ghost use Rattle.std.specs.Prelude.{◌≡◌};
-ghost use Rattle.cfdp_store.specs.Stores.{refusal_number};
+ghost use Rattle.cfdp_store.specs.Stores.{refusal_number, refusal_name};
 ghost use Rattle.cfdp_store.specs.declared.error.StoreError.TheVariants.{NoMemory};
 
 use std::alloc::AllocError;
@@ -9,18 +9,18 @@ use thiserror::Error;
 #[derive(Clone, Copy, Debug, PartialEq, Eq, Error)]
 pub enum StoreError {
     /// The device that holds the files refused.
-    #[error("Device")]
+    #[error("the device that holds the files refused")]
     Device,
     /// The store takes no file of that name.
-    #[error("Name")]
+    #[error("the store takes no file of that name")]
     Name,
     /// There is no memory for it.
-    #[error("NoMemory")]
+    #[error("there is no memory for it")]
     NoMemory,
 }
 
 impl StoreError {
-    /// The number that names this error in reports.
+    /// The number of this error in reports, from 1 on.
     pub fn number(self) -> u8
         ensures { result ≡ refusal_number self }
     {
@@ -28,6 +28,17 @@ impl StoreError {
             StoreError::Device => 1,
             StoreError::Name => 2,
             StoreError::NoMemory => 3,
+        }
+    }
+
+    /// The name of this error in reports.
+    pub fn name(self) -> &'static str
+        ensures { result.now ≡ refusal_name self }
+    {
+        match self {
+            StoreError::Device => "Device",
+            StoreError::Name => "Name",
+            StoreError::NoMemory => "NoMemory",
         }
     }
 }

@@ -1,5 +1,4 @@
-// Files in memory.
-ghost use Rattle.cfdp_store.specs.Stores.{files_of};
+ghost use Rattle.cfdp_store.specs.Files.{files_of, octets_in};
 ghost use Rattle.std.specs.FinMap as map;
 ghost use Rattle.std.specs.Option.{option_map};
 ghost use Rattle.std.specs.Prelude.{◌≡◌, OnErr, OnOk};
@@ -8,7 +7,10 @@ use std::alloc::{AllocError, Global};
 use std::collections::BTreeMap;
 use std::marker::Model;
 
-/// Files by name. Names ascend octet by octet.
+/// Files in memory by their names.
+///
+/// A name is a run of octets, and so is what a file has in it: any octets are a name, and none are one, too. At most one
+/// file stands under a name. Names ascend octet by octet, a shorter one before those that it begins.
 #[derive(Debug, Drop)]
 pub struct Files {
     files: BTreeMap<Vec<u8>, Vec<u8>>,
@@ -20,7 +22,7 @@ impl Model for Files {
     ghost use Rattle.std.specs.Cmp.Lexicographic.{slice_cmp};
     ghost use Rattle.std.specs.Coded.{coded_ℕ, coded_list};
     ghost use Rattle.std.specs.FinMap as map;
-    ghost use Rattle.cfdp_store.specs.Stores.{files_of};
+    ghost use Rattle.cfdp_store.specs.Files.{files_of};
 
     ghost Value = { map.FinMap (slice_cmp nat_cmp) (List ℕ) };
 
@@ -46,7 +48,15 @@ impl Files {
         Files { files }
     }
 
-    /// The map that they are kept in.
+    /// The map that the files are kept in, from names to octets. Takes no memory.
+    pub fn into_map(self) -> BTreeMap<Vec<u8>, Vec<u8>>
+        ensures { files_of result.entries ≡ self }
+    {
+        self.files
+    }
+
+    /// The map that the files are kept in, from names to octets. Its `iter` goes over them in ascending order of their
+    /// names.
     pub fn entries(&self) -> &BTreeMap<Vec<u8>, Vec<u8>>
         ensures { files_of result.now.entries ≡ self.now }
     {
@@ -59,6 +69,16 @@ impl Files {
     {
         let octets = self.files.get(name)?;
         Some(octets.as_slice())
+    }
+
+    /// The octets of the file of that name, none where there is no such file.
+    pub fn octets(&self, name: &[u8]) -> &[u8]
+        ensures { result.now ≡ octets_in self.now name.now }
+    {
+        match self.get(name) {
+            Some(octets) => octets,
+            None => &[],
+        }
     }
 
     /// Puts a file under a name, in the place of one that is there.

@@ -14,6 +14,7 @@ mod pieces;
 mod tests;
 
 pub use error::StoreError;
+pub use files::Files;
 pub use fuse::{FuseInbox, FuseOutbox};
 pub use inbox::Inbox;
 pub use laws::{front_is_what_stands, written_octets_stand};

@@ -2,16 +2,16 @@ ghost use Rattle.std.specs.Prelude.{◌≡◌, ◌+◌, ◌≤◌, Some, None, f
 ghost use Rattle.std.specs.FinMap as map;
 ghost use Rattle.std.specs.Option.{option_map};
 ghost use Rattle.cfdp_header.specs.declared.value.TransactionId.{TransactionId};
-ghost use Rattle.cfdp_store.specs.Stores.{files_of, octets_in, failures_after};
+ghost use Rattle.cfdp_store.specs.Files.{octets_in};
+ghost use Rattle.cfdp_store.specs.Stores.{failures_after};
 ghost use Rattle.cfdp_store.specs.Staged.{Covers, OthersKeep, written, front, staged_for};
 ghost use Rattle.cfdp_store.specs.Memory.{octets_for};
 
-use crate::files::Files;
 use crate::pieces::Pieces;
-use crate::{Inbox, Outbox, StoreError};
+use crate::{Files, Inbox, Outbox, StoreError};
 use cfdp_header::TransactionId;
 use std::alloc::{AllocError, Global};
-use std::collections::{BTreeMap, HashMap};
+use std::collections::HashMap;
 use std::marker::Model;
 
 /// Files in memory, to be sent. Contracts see it as the map from their names to their octets.
@@ -44,13 +44,11 @@ impl MemoryOutbox {
         }
     }
 
-    /// The files of a map from names to octets. Takes no memory.
-    pub fn with_files(files: BTreeMap<Vec<u8>, Vec<u8>>) -> Self
-        ensures { result ≡ files_of files.entries }
+    /// An outbox with these files. Takes no memory.
+    pub fn with_files(files: Files) -> Self
+        ensures { result ≡ files }
     {
-        MemoryOutbox {
-            files: Files::from_map(files),
-        }
+        MemoryOutbox { files }
     }
 
     /// Puts a file under a name, in the place of one that is there.
@@ -121,23 +119,23 @@ impl MemoryInbox {
         }
     }
 
-    /// An inbox in which these files, by their names, are published already. Nothing is staged. Takes no memory.
-    pub fn with_files(alloc: Global, files: BTreeMap<Vec<u8>, Vec<u8>>) -> Self
-        ensures published { ⟦<MemoryInbox as Inbox>⟧.published result ≡ files_of files.entries }
+    /// An inbox in which these files are published already. Nothing is staged. Takes no memory.
+    pub fn with_files(alloc: Global, files: Files) -> Self
+        ensures published { ⟦<MemoryInbox as Inbox>⟧.published result ≡ files }
         ensures staged { (id : TransactionId) → ⟦<MemoryInbox as Inbox>⟧.staged result id ≡ None }
         ensures failures { ⟦<MemoryInbox as Inbox>⟧.failures result ≡ 0 }
     {
         MemoryInbox {
-            files: Files::from_map(files),
+            files,
             ..MemoryInbox::new(alloc)
         }
     }
 
-    /// The published files, names and octets, which it goes over in ascending order of the names.
-    pub fn entries(&self) -> &BTreeMap<Vec<u8>, Vec<u8>>
-        ensures { files_of result.now.entries ≡ ⟦<MemoryInbox as Inbox>⟧.published self.now }
+    /// The published files.
+    pub fn published(&self) -> &Files
+        ensures { result.now ≡ ⟦<MemoryInbox as Inbox>⟧.published self.now }
     {
-        self.files.entries()
+        &self.files
     }
 
     /// Counts a failure for want of memory, and names it.

@@ -1,7 +1,8 @@
 ghost use Rattle.std.specs.Prelude.{◌≡◌, ℕ, ◌+◌, ◌≤◌, length, take, drop, is_ok, IsSome, IfOk, OnOk};
 ghost use Rattle.std.specs.FinMap as map;
 ghost use Rattle.std.specs.Option.{option_map};
-ghost use Rattle.cfdp_store.specs.Stores.{octets_in, failures_after};
+ghost use Rattle.cfdp_store.specs.Files.{octets_in};
+ghost use Rattle.cfdp_store.specs.Stores.{failures_after};
 ghost use Rattle.cfdp_header.specs.Files.{FileMap};
 
 use crate::StoreError;

@@ -3,7 +3,6 @@ ghost use Rattle.std.specs.Prelude.{◌+◌, ◌<◌, ◌^◌, length};
 use super::*;
 use cfdp_header::TransactionId;
 use std::alloc::{AllocError, Global};
-use std::collections::BTreeMap;
 use std::test::Fail;
 
 const FIRST: TransactionId = TransactionId {
@@ -24,6 +23,16 @@ fn with_one(alloc: Global, name: &[u8], octets: &[u8]) -> Result<MemoryOutbox, A
         Vec::from_slice(alloc, octets)?,
     )?;
     Ok(outbox)
+}
+
+/// One file by its name.
+fn files_with(alloc: Global, name: &[u8], octets: &[u8]) -> Result<Files, AllocError> {
+    let mut files = Files::new(alloc);
+    files.insert(
+        Vec::from_slice(alloc, name)?,
+        Vec::from_slice(alloc, octets)?,
+    )?;
+    Ok(files)
 }
 
 /// A whole file, read in one call, if it is there.
@@ -60,7 +69,7 @@ fn publish_both<I: Inbox>(
 /// The published files, each its name and its octets, with a semicolon behind them.
 fn shown(alloc: Global, inbox: &MemoryInbox) -> Result<Vec<u8>, AllocError> {
     let mut text = Vec::new(alloc);
-    for (name, octets) in inbox.entries() {
+    for (name, octets) in inbox.published().entries() {
         add_file(&mut text, name, octets)?;
     }
     Ok(text)
@@ -96,8 +105,7 @@ fn an_outbox_tells_and_reads_its_files(rt: HostRuntime) -> Result<(), Fail> {
     let octets = read_whole(alloc, &mut outbox, b"a.txt")?.ok_or("no file")?;
     assert_eq!(rt; octets.as_slice(), b"hello".as_slice());
     assert_eq!(rt; outbox.failures(), 0);
-    let mut files = BTreeMap::new(alloc);
-    files.insert(Vec::from_slice(alloc, b"a")?, Vec::from_slice(alloc, b"b")?)?;
+    let files = files_with(alloc, b"a", b"b")?;
     assert_eq!(rt; MemoryOutbox::with_files(files).len(b"a")?, Some(1));
     Ok(())
 }
@@ -127,11 +135,7 @@ fn later_octets_replace_earlier_ones(rt: HostRuntime) -> Result<(), Fail> {
 #[test]
 fn an_inbox_begins_with_given_files(rt: HostRuntime) -> Result<(), Fail> {
     let alloc = rt.alloc();
-    let mut files = BTreeMap::new(alloc);
-    files.insert(
-        Vec::from_slice(alloc, b"old")?,
-        Vec::from_slice(alloc, b"1")?,
-    )?;
+    let files = files_with(alloc, b"old", b"1")?;
     let mut inbox = MemoryInbox::with_files(alloc, files);
     publish_both(&mut inbox, FIRST, b"new", b"2", b"3")?;
     assert_eq!(rt;
@@ -186,6 +190,22 @@ fn an_inbox_fails_from_the_call_on_that_its_fuse_names(rt: HostRuntime) -> Resul
 }
 
 #[test]
+fn a_file_takes_the_place_of_one_of_its_name(rt: HostRuntime) -> Result<(), Fail> {
+    let alloc = rt.alloc();
+    let mut files = files_with(alloc, b"b.txt", b"one")?;
+    files.insert(
+        Vec::from_slice(alloc, b"b.txt")?,
+        Vec::from_slice(alloc, b"two")?,
+    )?;
+    assert!(rt; files.get(b"b.txt") == Some(b"two".as_slice()));
+    assert!(rt; files.get(b"c.txt").is_none());
+    let files = Files::from_map(files.into_map());
+    assert!(rt; files.octets(b"b.txt") == b"two".as_slice());
+    assert!(rt; files.octets(b"c.txt").is_empty());
+    Ok(())
+}
+
+#[test]
 fn errors_have_names_and_numbers(rt: HostRuntime) -> Result<(), Fail> {
     for (error, number, name) in [
         (StoreError::Device, 1, "Device"),
@@ -193,8 +213,7 @@ fn errors_have_names_and_numbers(rt: HostRuntime) -> Result<(), Fail> {
         (StoreError::NoMemory, 3, "NoMemory"),
     ] {
         assert_eq!(rt; error.number(), number);
-        let text = format!(in rt.alloc(); "{error}")?;
-        assert!(rt; text.as_str() == name, "number {number}");
+        assert!(rt; error.name() == name, "number {number}");
     }
     Ok(())
 }

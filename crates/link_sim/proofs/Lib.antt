@@ -1,4 +1,3 @@
-pub mod FileLemmas
 pub mod HeldEntries
 pub mod HeldLemmas
 pub mod Growth

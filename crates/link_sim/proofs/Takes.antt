@@ -39,7 +39,12 @@ use Rattle.link_sim.specs.Sender.{sender_due, sender_says, sender_taken, sender_
 use Rattle.link_sim.specs.Sender as sender
 use Rattle.link_sim.specs.Receiver.{receiver_due, receiver_says, receiver_taken, is_finishing, finished_due_by}
 use Rattle.link_sim.specs.Receiver as receiver
+<<<<<<< HEAD
 use Rattle.link_sim.specs.Station.{StationState, Taken, takes, takes_of, takes_from_sender, takes_from_receiver, after_taken, file_at, id_of, sender_addressing, receiver_addressing, IsWritable, IsWritableSender, IsWritableReceiver}
+=======
+use Rattle.cfdp_store.specs.Files.{octets_in}
+use Rattle.link_sim.specs.Station.{StationState, Taken, takes, takes_of, takes_from_sender, takes_from_receiver, after_taken, id_of, FitsWidths, IsWritable, IsWritableSender, IsWritableReceiver}
+>>>>>>> 95a9bf6
 use Rattle.link_sim.specs.Sound.{finished_count, SendsPut, ReceivesPut, IsSoundTransaction, SaysDelivered}
 use Rattle.link_sim.proofs.StationSound.{TruthBy, Parts, Moves, parts-send, parts-moved, moves-quiet}
 
@@ -157,8 +162,8 @@ receiver_can_write s r (receiving.Finished o) w e = can-write (receiver_addressi
 takes_of-can_write : (config : SimConfig) (s : Side) (sources : FileMap) (transaction : Option Transaction) (t : Taken) → IsWritable transaction → is_valid_config config ≡ true → takes_of config s sources transaction ≡ Some t → CanWrite t.header t.content
 takes_of-can_write config s sources None t w valid e = absurd cc
 takes_of-can_write config s sources (Some (Sends x)) t w valid e =
-    let d = some-map (takes_from_sender config s (file_at sources x.source) x) (sender_due x) t e in
-    subst (λ (y : Taken). CanWrite y.header y.content) d.1.1 (sender-can_write config s (file_at sources x.source) x d.0 (fine config valid) w d.1.0)
+    let d = some-map (takes_from_sender config s (octets_in sources x.source) x) (sender_due x) t e in
+    subst (λ (y : Taken). CanWrite y.header y.content) d.1.1 (sender-can_write config s (octets_in sources x.source) x d.0 (fine config valid) w d.1.0)
 takes_of-can_write config s sources (Some (Receives r)) t w valid e =
     let d = some-map (takes_from_receiver s r) (receiver_due r) t e in
     subst (λ (y : Taken). CanWrite y.header y.content) d.1.1 (receiver_can_write s r d.0 w d.1.0)
@@ -197,17 +202,17 @@ sender-like own p sources told x y more a id source destination size still = rec
 
 module _ (config : SimConfig) (s : Side) (p : TransactionId → Option Put) (sources : FileMap) (heard : List (List ℕ)) (told : List Indication) (before : FileMap) (theirs : List TransactionId) where
   -- what a sender says of its put is so
-  sender-truth : (x : Sender) (d : SenderDue) → HasKind config.checksum_kind p → SendsPut (entity_of s) p sources told x → TruthBy (entity_of s) p x.id (sender_says config (file_at sources x.source) x d)
+  sender-truth : (x : Sender) (d : SenderDue) → HasKind config.checksum_kind p → SendsPut (entity_of s) p sources told x → TruthBy (entity_of s) p x.id (sender_says config (octets_in sources x.source) x d)
   sender-truth x (sending.AckOfFinished c) kinds a = tt
   sender-truth x sending.Metadata kinds a = (a.put, (a.is_own, a.is_put, (sym (kinds x.id a.put a.is_put), a.same_size, a.same_source, a.same_destination)))
   sender-truth x sending.FileData kinds a =
-      let file : file_at sources x.source ≡ a.put.octets = ap (λ o. unwrap_or o []) a.octets in
-      let octets : List ℕ = take config.segment (drop x.sent (file_at sources x.source)) in
-      (a.put, (a.is_own, a.is_put, taken-again config.segment (drop x.sent (file_at sources x.source)) ∙ ap (λ (f : List ℕ). take (length octets) (drop x.sent f)) file))
+      let file : octets_in sources x.source ≡ a.put.octets = ap (λ o. unwrap_or o []) a.octets in
+      let octets : List ℕ = take config.segment (drop x.sent (octets_in sources x.source)) in
+      (a.put, (a.is_own, a.is_put, taken-again config.segment (drop x.sent (octets_in sources x.source)) ∙ ap (λ (f : List ℕ). take (length octets) (drop x.sent f)) file))
   sender-truth x sending.Eof kinds a =
-      let file : file_at sources x.source ≡ a.put.octets = ap (λ o. unwrap_or o []) a.octets in
+      let file : octets_in sources x.source ≡ a.put.octets = ap (λ o. unwrap_or o []) a.octets in
       let kind : config.checksum_kind ≡ a.put.checksum_kind = sym (kinds x.id a.put a.is_put) in
-      (a.put, (a.is_own, a.is_put, λ _. (ap (λ k. checksum_of k (file_at sources x.source)) kind ∙ ap (checksum_of a.put.checksum_kind) file, a.same_size)))
+      (a.put, (a.is_own, a.is_put, λ _. (ap (λ k. checksum_of k (octets_in sources x.source)) kind ∙ ap (checksum_of a.put.checksum_kind) file, a.same_size)))
 
   sender-taken : (x : Sender) (d : SenderDue) → SendsPut (entity_of s) p sources told x → SendsPut (entity_of s) p sources (told ++ sender_tells x d) (sender_taken config x d)
   sender-taken x (sending.AckOfFinished c) a = sender-like (entity_of s) p sources told x _ _ a refl refl refl refl (λ o. (o, refl))
@@ -245,11 +250,11 @@ module _ (config : SimConfig) (s : Side) (p : TransactionId → Option Put) (sou
   taken-id x sending.FileData = refl
   taken-id x sending.Eof = refl
 
-  sender-takes : (x : Sender) (d : SenderDue) → HasKind config.checksum_kind p → FinishedOnce told → ((id : TransactionId) → 0 < finished_count id told → x.id ≡ id) → SendsPut (entity_of s) p sources told x → IsWritableSender x → TakesSoundly (entity_of s) p sources heard told before theirs (takes_from_sender config s (file_at sources x.source) x d)
+  sender-takes : (x : Sender) (d : SenderDue) → HasKind config.checksum_kind p → FinishedOnce told → ((id : TransactionId) → 0 < finished_count id told → x.id ≡ id) → SendsPut (entity_of s) p sources told x → IsWritableSender x → TakesSoundly (entity_of s) p sources heard told before theirs (takes_from_sender config s (octets_in sources x.source) x d)
   sender-takes x d kinds once only a w = record {
     moves = moves-quiet (entity_of s) p sources heard told (sender_tells x d) before theirs (Sends (sender_taken config x d)) (sender-quiet x d) (sender-completes_none (entity_of s) x d) once (λ id low. taken-id x d ∙ only id low) (sender-taken x d a) (sender-writable x d w);
     truth = sender-truth x d kinds a;
-    says = sender-says x d (entity_of s) (told ++ sender_tells x d) x.id (file_at sources x.source);
+    says = sender-says x d (entity_of s) (told ++ sender_tells x d) x.id (octets_in sources x.source);
   }
 
   receiver-keeps : (r : Receiver) (d : ReceiverDue) → ReceivesPut (entity_of s) p heard told r → ReceivesPut (entity_of s) p heard (told ++ []) (receiver_taken r d)
@@ -286,7 +291,7 @@ module _ (config : SimConfig) (s : Side) (p : TransactionId → Option Put) (sou
   pub takes-soundly : (transaction : Option Transaction) (t : Taken) → HasKind config.checksum_kind p → FinishedOnce told → ((id : TransactionId) → 0 < finished_count id told → (u : Transaction) × ((transaction ≡ Some u) × (id_of u ≡ id))) → IsSoundTransaction (entity_of s) p sources heard told transaction → IsWritable transaction → takes_of config s sources transaction ≡ Some t → TakesSoundly (entity_of s) p sources heard told before theirs t
   takes-soundly None t kinds once only a w e = absurd cc
   takes-soundly (Some (Sends x)) t kinds once only a w e =
-      let d = some-map (takes_from_sender config s (file_at sources x.source) x) (sender_due x) t e in
+      let d = some-map (takes_from_sender config s (octets_in sources x.source) x) (sender_due x) t e in
       let is : (id : TransactionId) → 0 < finished_count id told → x.id ≡ id = λ id low. (let u = only id low in let same : Some (Sends x) ≡ Some u.0 = u.1.0 in let here : Sends x ≡ u.0 = cc in ap id_of here ∙ u.1.1) in
       subst (λ (y : Taken). TakesSoundly (entity_of s) p sources heard told before theirs y) d.1.1 (sender-takes x d.0 kinds once is a w)
   takes-soundly (Some (Receives r)) t kinds once only a w e =

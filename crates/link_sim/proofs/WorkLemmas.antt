@@ -46,7 +46,8 @@ use Rattle.link_sim.specs.declared.event.Applied.TheVariants as applied
 use Rattle.link_sim.specs.Config.{is_valid_config}
 use Rattle.link_sim.specs.Sides.{other, is_for_side}
 use Rattle.link_sim.specs.Link.{LinkState, waiting, with_pdu, with_mark}
-use Rattle.link_sim.specs.Station.{StationState, Taken, After, takes, takes_of, takes_from_sender, takes_from_receiver, file_at, after_taken, no_change, opens, heard_by, comes_to, HearsPdu, DropsPdu}
+use Rattle.cfdp_store.specs.Files.{octets_in}
+use Rattle.link_sim.specs.Station.{StationState, Taken, After, takes, takes_of, takes_from_sender, takes_from_receiver, after_taken, no_change, opens, heard_by, comes_to, HearsPdu, DropsPdu}
 use Rattle.link_sim.specs.World.{WorldState, station_at, link_from, with_station, with_link, poll_by, poll_step, Becomes, Delivers, DeliversPdu}
 use Rattle.link_sim.specs.Sender.{file_due, open_due, sender_due, sender_says, sender_taken, sender_hears, hears_finished, hears_ack_of_eof, is_sending}
 use Rattle.link_sim.specs.Sender as sender
@@ -340,9 +341,9 @@ takes_of-works : (config : SimConfig) (s : Side) (sources : FileMap) (transactio
 takes_of-works config s sources None t some e = cc
 takes_of-works config s sources (Some (Sends x)) t some e = from (sender_due x) refl e
   where
-    from : (o : Option SenderDue) → sender_due x ≡ o → option_map (takes_from_sender config s (file_at sources x.source) x) o ≡ Some t → transaction_work (Some t.transaction) + content_work t.content < sender_work x
+    from : (o : Option SenderDue) → sender_due x ≡ o → option_map (takes_from_sender config s (octets_in sources x.source) x) o ≡ Some t → transaction_work (Some t.transaction) + content_work t.content < sender_work x
     from None is e = cc
-    from (Some d) is e = subst (λ (t : Taken). transaction_work (Some t.transaction) + content_work t.content < sender_work x) (sym (some_is (takes_from_sender config s (file_at sources x.source) x d) t e)) (sender-falls config (file_at sources x.source) x d some is)
+    from (Some d) is e = subst (λ (t : Taken). transaction_work (Some t.transaction) + content_work t.content < sender_work x) (sym (some_is (takes_from_sender config s (octets_in sources x.source) x d) t e)) (sender-falls config (octets_in sources x.source) x d some is)
 takes_of-works config s sources (Some (Receives r)) t some e = from (receiver_due r) refl e
   where
     from : (o : Option ReceiverDue) → receiver_due r ≡ o → option_map (takes_from_receiver s r) o ≡ Some t → transaction_work (Some t.transaction) + content_work t.content < receiver_work r

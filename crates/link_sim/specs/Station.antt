@@ -1,7 +1,6 @@
 -- One station: what a put, a poll and a PDU that arrives do to it.
-use Rattle.std.specs.Prelude.{◌≡◌, ℕ, ◌<◌, ◌≤◌, ◌^◌, Bool, true, false, List, [], ◌++◌, length, Option, Some, None, unwrap_or, if◌then◌else◌}
+use Rattle.std.specs.Prelude.{◌≡◌, ℕ, ◌<◌, ◌≤◌, ◌^◌, Bool, true, false, List, [], ◌++◌, length, Option, Some, None, if◌then◌else◌}
 use Rattle.std.specs.Option.{option_map}
-use Rattle.std.specs.FinMap.{get}
 use Rattle.cfdp_header.specs.declared.value.TransactionId.{TransactionId}
 use Rattle.cfdp_header.specs.declared.value.Header.{Header}
 use Rattle.cfdp_directives.specs.Codes.{IsCondition}
@@ -14,6 +13,7 @@ use Rattle.cfdp_directives.specs.Written.{pdu_octets}
 use Rattle.cfdp_directives.specs.declared.addressing.Addressing.{Addressing}
 use Rattle.cfdp_directives.specs.Addressing.{header_of, FitsWidths}
 use Rattle.cfdp_header.specs.Files.{FileMap}
+use Rattle.cfdp_store.specs.Files.{octets_in}
 use Rattle.cfdp_header.specs.Ids.{same_id}
 use Rattle.link_sim.specs.declared.side.Side.{Side}
 use Rattle.link_sim.specs.declared.config.SimConfig.{SimConfig}
@@ -41,10 +41,6 @@ pub record StationState : Type 0 where
 abbrev pub id_of : Transaction → TransactionId
 id_of (Sends x) = x.id
 id_of (Receives r) = r.id
-
--- the octets of a file, none where there is no such file
-abbrev pub file_at : FileMap → List ℕ → List ℕ
-file_at files name = unwrap_or (get files name) []
 
 -- a PDU that is taken to be sent: the transaction then, and what that indicates
 pub record Taken : Type 0 where
@@ -83,7 +79,7 @@ takes_from_receiver s r d = record {
 
 abbrev pub takes_of : SimConfig → Side → FileMap → Option Transaction → Option Taken
 takes_of config s sources None = None
-takes_of config s sources (Some (Sends x)) = option_map (takes_from_sender config s (file_at sources x.source) x) (sender_due x)
+takes_of config s sources (Some (Sends x)) = option_map (takes_from_sender config s (octets_in sources x.source) x) (sender_due x)
 takes_of config s sources (Some (Receives r)) = option_map (takes_from_receiver s r) (receiver_due r)
 
 -- what a poll takes at this side

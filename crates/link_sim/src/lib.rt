@@ -3,7 +3,11 @@
 
 mod config;
 mod event;
+<<<<<<< HEAD
 mod files;
+=======
+mod header;
+>>>>>>> 95a9bf6
 mod held;
 mod link;
 mod receiver;
@@ -14,9 +18,9 @@ mod tell;
 mod transaction;
 mod world;
 
+pub use cfdp_store::Files;
 pub use config::SimConfig;
 pub use event::{AcceptedPut, Applied, Event, PutError, SettleError};
-pub use files::Files;
 pub use side::Side;
 pub use world::{World, run};
 

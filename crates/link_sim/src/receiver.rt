@@ -4,7 +4,6 @@ ghost use Rattle.cfdp_directives.specs.Content.{view};
 ghost use Rattle.link_sim.specs.Receiver as receiving;
 ghost use Rattle.link_sim.specs.Receiver.{receiver_due, receiver_says, receiver_taken, opened_receiver, discarding, fault_told, completed, hears_metadata, hears_data, hears_ending, cancelled, cancel_told, hears_eof, hears_ack_of_finished, receiver_hears, finishing, Does, Keeps};
 
-use crate::files::Files;
 use crate::held::HeldOctets;
 use crate::tell::tell;
 use cfdp_directives::{
@@ -12,6 +11,7 @@ use cfdp_directives::{
     Tlvs, TransactionStatus,
 };
 use cfdp_header::{Header, TransactionId};
+use cfdp_store::Files;
 use std::alloc::{AllocError, Global};
 
 /// Where a receiving transaction stands (CCSDS 727.0-B-5, 4.6.1.2).
@@ -187,8 +187,8 @@ impl Receiver {
             self.fault(told, Condition::FILE_CHECKSUM_FAILURE);
             return Ok(());
         }
-        let name = Octets::copied(alloc, info.destination.as_slice())?;
-        files.insert(name, file)?;
+        let name = Vec::from_slice(alloc, info.destination.as_slice())?;
+        files.insert(name, file.into_vec())?;
         let (condition, delivery, status) = (
             Condition::NO_ERROR,
             Delivery::Complete,

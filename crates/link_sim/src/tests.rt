@@ -11,7 +11,10 @@ const CONFIG: SimConfig = SimConfig {
 
 fn files(alloc: Global, name: &[u8], octets: &[u8]) -> Result<Files, AllocError> {
     let mut files = Files::new(alloc);
-    files.insert(Octets::copied(alloc, name)?, Octets::copied(alloc, octets)?)?;
+    files.insert(
+        Vec::from_slice(alloc, name)?,
+        Vec::from_slice(alloc, octets)?,
+    )?;
     Ok(files)
 }
 
@@ -47,20 +50,5 @@ fn data_with_a_gap_is_held_and_then_whole(rt: HostRuntime) -> Result<(), AllocEr
     assert!(rt; file.as_slice() == [1, 2, 3, 4, 5, 6].as_slice());
     held.remove_all(new.as_slice());
     assert!(rt; !held.holds_below(1));
-    Ok(())
-}
-
-#[test]
-fn a_file_takes_the_place_of_one_of_its_name(rt: HostRuntime) -> Result<(), AllocError> {
-    let alloc = rt.alloc();
-    let mut files = files(alloc, b"b.txt", b"one")?;
-    files.insert(
-        Octets::copied(alloc, b"b.txt")?,
-        Octets::copied(alloc, b"two")?,
-    )?;
-    assert!(rt; files.get(b"b.txt") == Some(b"two".as_slice()));
-    assert!(rt; files.get(b"c.txt").is_none());
-    let files = Files::from_map(files.into_map());
-    assert!(rt; files.octets(b"b.txt") == b"two".as_slice());
     Ok(())
 }

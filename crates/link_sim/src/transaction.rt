@@ -11,13 +11,13 @@ ghost use Rattle.link_sim.specs.Station.{takes_of, takes_from_receiver, heard_by
 ghost use Rattle.link_sim.specs.declared.transaction.Transaction.TheVariants.{Sends, Receives};
 
 use crate::config::SimConfig;
-use crate::files::Files;
 use crate::link::Link;
 use crate::receiver::{Receiver, ReceiverPhase};
 use crate::sender::Sender;
 use crate::side::Side;
 use cfdp_directives::{Addressing, Condition, Indication, Octets, Pdu};
 use cfdp_header::{Header, TransactionId};
+use cfdp_store::Files;
 use std::alloc::{AllocError, Global};
 
 /// A transaction at one station: it sends the file or receives it.

@@ -12,12 +12,12 @@ ghost use Rattle.link_sim.specs.declared.side.Side.{Side};
 
 use crate::config::SimConfig;
 use crate::event::{AcceptedPut, Applied, Event, Mark, PutError, SettleError};
-use crate::files::Files;
 use crate::link::Link;
 use crate::side::Side;
 use crate::station::Station;
 use cfdp_directives::{Indication, Octets, is_file_name};
 use cfdp_header::TransactionId;
+use cfdp_store::Files;
 use std::alloc::{AllocError, Global};
 use std::marker::Model;
 

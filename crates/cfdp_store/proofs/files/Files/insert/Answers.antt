@@ -1,6 +1,6 @@
 use Rattle.std.proofs.Common.{ap, ◌∙◌}
 use Rattle.std.specs.FinMap.{insert}
-use Rattle.cfdp_store.specs.Stores.{files_of}
+use Rattle.cfdp_store.specs.Files.{files_of}
 use Rattle.cfdp_store.proofs.FileLemmas.{files_of-insert}
 use Rattle.cfdp_store.proofs.files.Files.insert.Goals as goal
 
