@@ -1,5 +1,5 @@
 // The length of a data field, known before its PDU is made: for a sender that asks whether the next PDU has room.
-ghost use Rattle.std.specs.Prelude.{◌≡◌, ◌^◌, ◌<◌, ◌∷◌, [], ℕ, Bool, List, length};
+ghost use Rattle.std.specs.Prelude.{◌≡◌, ◌+◌, ◌^◌, ◌<◌, ◌∷◌, [], ℕ, Bool, List, length};
 ghost use Rattle.std.specs.List.{flat_map};
 ghost use Rattle.cfdp_directives.specs.declared.codes.Acknowledged.{Acknowledged};
 ghost use Rattle.cfdp_directives.specs.declared.codes.Delivery.{Delivery};
@@ -27,7 +27,9 @@ pub fn metadata_len(source: usize, destination: usize, options: usize) -> usize
     requires destination { destination < 2 ^ 32 }
     requires options { options < 2 ^ 32 }
     ensures { (kind size : ℕ) (from to : List ℕ) (tlvs : List Tlv)
-        → length from ≡ source → length to ≡ destination → length (flat_map tlv tlvs) ≡ options
+        → length from ≡ source
+        → length to ≡ destination
+        → length (flat_map tlv tlvs) ≡ options
         → content_len file_size_octets (Metadata kind size from to tlvs) ≡ result }
 {
     4 + FILE_SIZE_OCTETS + source + destination + options
@@ -36,7 +38,8 @@ pub fn metadata_len(source: usize, destination: usize, options: usize) -> usize
 /// Octets of the data field of an EOF whose options have so many octets: 0, or those of a fault location.
 pub fn eof_len(options: usize) -> usize
     requires { options < 2 ^ 32 }
-    ensures { (condition checksum size : ℕ) (tlvs : List Tlv) → length (flat_map tlv tlvs) ≡ options
+    ensures { (condition checksum size : ℕ) (tlvs : List Tlv)
+        → length (flat_map tlv tlvs) ≡ options
         → content_len file_size_octets (Eof condition checksum size tlvs) ≡ result }
 {
     6 + FILE_SIZE_OCTETS + options
@@ -55,7 +58,9 @@ pub fn finished_len(options: usize) -> usize
 /// Octets of a fault location, as an option, that names its entity by an id of `width` octets.
 #[tactic(auto, using(crate::proofs::Options::location_len))]
 pub fn fault_location_len(width: u8) -> usize
-    ensures { (entity : ℕ) → length (flat_map tlv (fault_location entity width ∷ [])) ≡ result }
+    ensures len { result ≡ 2 + width }
+    ensures all { (entity : ℕ)
+        → length (flat_map tlv (fault_location entity width ∷ [])) ≡ result }
 {
     2 + usize::from(width)
 }

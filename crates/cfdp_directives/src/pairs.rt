@@ -125,7 +125,8 @@ impl<'a> Pairs<'a> {
         requires fits { AllByRecursion (IsPair file_size_octets) self.now }
         requires room { at + pair_octets * length self.now ≤ length out.old }
         ensures end { result ≡ at + pair_octets * length self.now }
-        ensures front { take result out.new ≡ take at out.old ++ flat_map (pair file_size_octets) self.now }
+        ensures front { take result out.new
+            ≡ take at out.old ++ flat_map (pair file_size_octets) self.now }
         ensures behind { drop result out.new ≡ drop result out.old }
     {
         let out = &mut out[..at + PAIR_OCTETS * self.len()];
@@ -181,8 +182,10 @@ fn are_same(mut one: PairIter<'_>, mut other: PairIter<'_>) -> bool
 #[tactic(auto, using(crate::proofs::Ranges::pairs_whole))]
 fn as_pairs(octets: &[u8]) -> &[u8]
     requires { length octets.now % pair_octets ≡ 0 }
-    ensures text { result.now ≡ flat_map (pair file_size_octets) (pairs_of file_size_octets (length octets.now / pair_octets) octets.now) }
-    ensures len { length result.now ≡ pair_octets * length (pairs_of file_size_octets (length octets.now / pair_octets) octets.now) }
+    ensures text { result.now ≡ flat_map (pair file_size_octets)
+        (pairs_of file_size_octets (length octets.now / pair_octets) octets.now) }
+    ensures len { length result.now ≡ pair_octets
+        * length (pairs_of file_size_octets (length octets.now / pair_octets) octets.now) }
 {
     octets
 }
@@ -204,7 +207,8 @@ fn put_pairs(out: &mut [u8], at: usize, pairs: &[(u64, u64)]) -> usize
     requires fits { AllByRecursion (IsPair file_size_octets) pairs.now }
     requires room { at + pair_octets * length pairs.now ≤ length out.old }
     ensures end { result ≡ at + pair_octets * length pairs.now }
-    ensures front { take result out.new ≡ take at out.old ++ flat_map (pair file_size_octets) pairs.now }
+    ensures front { take result out.new
+        ≡ take at out.old ++ flat_map (pair file_size_octets) pairs.now }
 {
     let mut place = at;
     for (start, end) in pairs {

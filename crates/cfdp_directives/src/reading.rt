@@ -52,7 +52,8 @@ fn split_lv(bytes: &[u8]) -> Option<(&[u8], &[u8])>
 fn file_data<'a>(header: &Header, body: &'a [u8]) -> Result<Pdu<'a>, PduError>
     requires { header.now.file_data ≡ true }
     ensures found { IfOk result (λ v. Says header.now (view v) body.now) }
-    ensures refused { result_err result ≡ file_data_fault (fss header.now) header.now.segment_metadata body.now }
+    ensures refused { result_err result
+        ≡ file_data_fault (fss header.now) header.now.segment_metadata body.now }
 {
     let mut skipped = 0;
     if header.segment_metadata {

@@ -427,6 +427,7 @@ fn what_fits_no_field_can_not_be_written(rt: HostRuntime) {
     };
     assert!(rt; !can_write(&longer, &Pdu::KeepAlive { progress: 100 }));
     assert!(rt; !Pairs::of(&[(0, 1), (1, 4_294_967_296)]).fit());
+    assert!(rt; is_file_size(4_294_967_295));
 }
 
 #[test]

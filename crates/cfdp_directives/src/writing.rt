@@ -30,7 +30,8 @@ fn put_file_data(out: &mut [u8], at: usize, offset: u64, bytes: &[u8]) -> usize
     requires fits { FitsContent file_size_octets (FileData offset bytes.now) }
     requires room { at + content_len file_size_octets (FileData offset bytes.now) ≤ length out.old }
     ensures end { result ≡ at + content_len file_size_octets (FileData offset bytes.now) }
-    ensures front { take result out.new ≡ take at out.old ++ content_octets file_size_octets (FileData offset bytes.now) }
+    ensures front { take result out.new
+        ≡ take at out.old ++ content_octets file_size_octets (FileData offset bytes.now) }
 {
     let at = put_uint(out, at, FILE_SIZE_OCTETS, offset);
     put_bytes(out, at, bytes)
@@ -45,10 +46,16 @@ fn put_metadata(
     destination: &[u8],
     options: &Tlvs<'_>,
 ) -> usize
-    requires fits { FitsContent file_size_octets (Metadata checksum_kind size source.now destination.now options.now) }
-    requires room { at + content_len file_size_octets (Metadata checksum_kind size source.now destination.now options.now) ≤ length out.old }
-    ensures end { result ≡ at + content_len file_size_octets (Metadata checksum_kind size source.now destination.now options.now) }
-    ensures front { take result out.new ≡ take at out.old ++ content_octets file_size_octets (Metadata checksum_kind size source.now destination.now options.now) }
+    requires fits { FitsContent file_size_octets
+        (Metadata checksum_kind size source.now destination.now options.now) }
+    requires room { at + content_len file_size_octets
+        (Metadata checksum_kind size source.now destination.now options.now)
+        ≤ length out.old }
+    ensures end { result
+        ≡ at + content_len file_size_octets (Metadata checksum_kind size source.now destination.now options.now) }
+    ensures front { take result out.new
+        ≡ take at out.old
+        ++ content_octets file_size_octets (Metadata checksum_kind size source.now destination.now options.now) }
 {
     let at = put_uint(out, at, 1, 7);
     let at = put_uint(out, at, 1, u64::from(checksum_kind.code()));
@@ -67,9 +74,13 @@ fn put_eof(
     tlvs: &Tlvs<'_>,
 ) -> usize
     requires fits { FitsContent file_size_octets (Eof condition checksum size tlvs.now) }
-    requires room { at + content_len file_size_octets (Eof condition checksum size tlvs.now) ≤ length out.old }
-    ensures end { result ≡ at + content_len file_size_octets (Eof condition checksum size tlvs.now) }
-    ensures front { take result out.new ≡ take at out.old ++ content_octets file_size_octets (Eof condition checksum size tlvs.now) }
+    requires room { at + content_len file_size_octets (Eof condition checksum size tlvs.now)
+        ≤ length out.old }
+    ensures end { result
+        ≡ at + content_len file_size_octets (Eof condition checksum size tlvs.now) }
+    ensures front { take result out.new
+        ≡ take at out.old
+        ++ content_octets file_size_octets (Eof condition checksum size tlvs.now) }
 {
     let at = put_uint(out, at, 1, 4);
     let at = put_uint(out, at, 1, 16 * u64::from(condition.code()));
@@ -87,9 +98,13 @@ fn put_finished(
     status: FileStatus,
     tlvs: &Tlvs<'_>,
 ) -> usize
-    requires room { at + content_len file_size_octets (Finished condition delivery status tlvs.now) ≤ length out.old }
-    ensures end { result ≡ at + content_len file_size_octets (Finished condition delivery status tlvs.now) }
-    ensures front { take result out.new ≡ take at out.old ++ content_octets file_size_octets (Finished condition delivery status tlvs.now) }
+    requires room { at + content_len file_size_octets (Finished condition delivery status tlvs.now)
+        ≤ length out.old }
+    ensures end { result
+        ≡ at + content_len file_size_octets (Finished condition delivery status tlvs.now) }
+    ensures front { take result out.new
+        ≡ take at out.old
+        ++ content_octets file_size_octets (Finished condition delivery status tlvs.now) }
 {
     let second = 16 * u64::from(condition.code())
         + 4 * u64::from(delivery.code())
@@ -109,7 +124,8 @@ fn put_ack(
 ) -> usize
     requires room { at + content_len file_size_octets (Ack of condition status) ≤ length out.old }
     ensures end { result ≡ at + content_len file_size_octets (Ack of condition status) }
-    ensures front { take result out.new ≡ take at out.old ++ content_octets file_size_octets (Ack of condition status) }
+    ensures front { take result out.new
+        ≡ take at out.old ++ content_octets file_size_octets (Ack of condition status) }
 {
     let second = 16 * u64::from(of.code()) + u64::from(of.subtype());
     let third = 16 * u64::from(condition.code()) + u64::from(status.code());
@@ -122,7 +138,8 @@ fn put_nak(out: &mut [u8], at: usize, start: u64, end: u64, pairs: &Pairs<'_>) -
     requires fits { FitsContent file_size_octets (Nak start end pairs.now) }
     requires room { at + content_len file_size_octets (Nak start end pairs.now) ≤ length out.old }
     ensures end { result ≡ at + content_len file_size_octets (Nak start end pairs.now) }
-    ensures front { take result out.new ≡ take at out.old ++ content_octets file_size_octets (Nak start end pairs.now) }
+    ensures front { take result out.new
+        ≡ take at out.old ++ content_octets file_size_octets (Nak start end pairs.now) }
 {
     let at = put_uint(out, at, 1, 8);
     let at = put_uint(out, at, FILE_SIZE_OCTETS, start);
@@ -133,7 +150,8 @@ fn put_nak(out: &mut [u8], at: usize, start: u64, end: u64, pairs: &Pairs<'_>) -
 fn put_prompt(out: &mut [u8], at: usize, keep_alive: bool) -> usize
     requires room { at + content_len file_size_octets (Prompt keep_alive) ≤ length out.old }
     ensures end { result ≡ at + content_len file_size_octets (Prompt keep_alive) }
-    ensures front { take result out.new ≡ take at out.old ++ content_octets file_size_octets (Prompt keep_alive) }
+    ensures front { take result out.new
+        ≡ take at out.old ++ content_octets file_size_octets (Prompt keep_alive) }
 {
     let at = put_uint(out, at, 1, 9);
     put_uint(out, at, 1, 128 * u64::from(keep_alive))
@@ -143,7 +161,8 @@ fn put_keep_alive(out: &mut [u8], at: usize, progress: u64) -> usize
     requires fits { FitsContent file_size_octets (KeepAlive progress) }
     requires room { at + content_len file_size_octets (KeepAlive progress) ≤ length out.old }
     ensures end { result ≡ at + content_len file_size_octets (KeepAlive progress) }
-    ensures front { take result out.new ≡ take at out.old ++ content_octets file_size_octets (KeepAlive progress) }
+    ensures front { take result out.new
+        ≡ take at out.old ++ content_octets file_size_octets (KeepAlive progress) }
 {
     let at = put_uint(out, at, 1, 12);
     put_uint(out, at, FILE_SIZE_OCTETS, progress)
@@ -170,8 +189,10 @@ fn is_header_of(header: &Header, pdu: &Pdu<'_>) -> bool
 #[tactic(auto, using(crate::proofs::Spelling::behind_data))]
 pub fn encode(header: &Header, pdu: &Pdu<'_>, out: &mut [u8]) -> usize
     requires fits { CanWrite header.now (view pdu.now) }
-    requires room { header_len header.now.id_width header.now.number_width + header.now.length ≤ length out.old }
-    ensures end { result ≡ header_len header.now.id_width header.now.number_width + header.now.length }
+    requires room { header_len header.now.id_width header.now.number_width + header.now.length
+        ≤ length out.old }
+    ensures end { result
+        ≡ header_len header.now.id_width header.now.number_width + header.now.length }
     ensures front { take result out.new ≡ pdu_octets header.now (view pdu.now) }
     ensures behind { drop result out.new ≡ drop result out.old }
 {
