@@ -1,6 +1,7 @@
 ghost use Rattle.std.specs.Prelude.{◌≡◌, ◌+◌, ◌^◌, ◌<◌, ◌≤◌, ◌↔◌, length, take, drop, true, false, IsTrue};
 ghost use Rattle.cfdp_directives.specs.declared.addressing.Addressing.{Addressing};
 ghost use Rattle.cfdp_directives.specs.Content.{Content, view};
+ghost use Rattle.cfdp_directives.specs.Content as content;
 ghost use Rattle.cfdp_directives.specs.Written.{content_len, FitsContent, CanWrite, pdu_octets};
 ghost use Rattle.cfdp_directives.specs.Direction as directions;
 ghost use Rattle.cfdp_directives.specs.Direction.{goes_toward_sender};
@@ -53,7 +54,7 @@ impl Addressing {
         ensures { result ≡ addressings.header_of self.now (view pdu.now) }
     {
         Header {
-            file_data: pdu.is_file_data(),
+            file_data: is_file_data(pdu),
             toward_sender: pdu.goes_toward_sender(),
             length: pdu.len() as u16,
             segment_metadata: false,
@@ -87,6 +88,16 @@ impl Addressing {
     {
         let header = self.header_of(pdu);
         encode(&header, pdu, out)
+    }
+}
+
+/// Whether a PDU is file data, and no directive.
+fn is_file_data(pdu: &Pdu<'_>) -> bool
+    ensures { result ≡ content.is_file_data (view pdu.now) }
+{
+    match pdu {
+        Pdu::FileData { .. } => true,
+        _ => false,
     }
 }
 

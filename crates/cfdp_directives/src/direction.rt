@@ -1,6 +1,5 @@
 // Which way a PDU goes, and for whom it is.
 ghost use Rattle.std.specs.Prelude.{◌≡◌, ◌↔◌, IsTrue};
-ghost use Rattle.cfdp_directives.specs.Content as content;
 ghost use Rattle.cfdp_directives.specs.Content.{view};
 ghost use Rattle.cfdp_directives.specs.Direction as directions;
 
@@ -9,16 +8,6 @@ use crate::pdu::Pdu;
 use cfdp_header::Header;
 
 impl Pdu<'_> {
-    /// Whether it is file data, and no directive.
-    pub fn is_file_data(&self) -> bool
-        ensures { result ≡ content.is_file_data (view self.now) }
-    {
-        match self {
-            Pdu::FileData { .. } => true,
-            _ => false,
-        }
-    }
-
     /// Whether it goes from the file's receiver to its sender: a Finished, a NAK, a Keep Alive and an ACK of EOF do. All others go
     /// from the sender to the receiver (CCSDS 727.0-B-5, table 5-1).
     pub fn goes_toward_sender(&self) -> bool
