@@ -31,6 +31,8 @@ fn events_are_run(rt: HostRuntime) -> Result<(), AllocError> {
     };
     let world = run(alloc, CONFIG, outboxes, inboxes, &[put])?;
     assert!(rt; world.puts().len() == 1);
+    assert!(rt; crate::PutError::TooLarge.name() == "TooLarge");
+    assert!(rt; crate::SettleError::NoMemory.name() == "NoMemory");
     Ok(())
 }
 
