@@ -4,4 +4,4 @@ pub mod Joined
 pub mod Missing
 pub mod Taken
 pub mod RangesIn
-pub mod TermLemmas
+pub mod CallerLemmas

@@ -1,4 +1,4 @@
--- Exported: of so many offsets, the ranges of those that pass a test: where they lie, what they hold, and when there is none.
+-- Of so many offsets, the ranges of those that pass a test: where they lie, what they hold, and when there is none.
 use Rattle.std.proofs.Common.{◌≡◌, ◌⊎◌, inl, inr, ℕ, zero, suc, ◌+◌, ◌-◌, ◌<◌, ◌≤◌, Bool, true, false, ◌==◌, ◌&&◌, ◌||◌, eqb, List, [], ◌∷◌, refl, sym, ap, subst, ◌∙◌, arith, if◌then◌else◌}
 use Rattle.std.specs.FinSet as set
 use Rattle.std.specs.Ordering.{nat_cmp}

@@ -68,7 +68,8 @@ impl Extents {
         ensures err { OnErr result (self.new ≡ self.old) }
         // What adds no offset takes no memory.
         ensures empty { start ≡ end → IsOk result }
-        ensures held { set.is_subset (range start end) self.old ≡ true → IsOk result × (self.new ≡ self.old) }
+        ensures held { set.is_subset (range start end) self.old ≡ true →
+            IsOk result × (self.new ≡ self.old) }
     {
         if start == end {
             return Ok(());
@@ -102,7 +103,8 @@ impl Extents {
         // Ascending, none empty, no two touching, and together what isn't held below the limit.
         ensures gaps { AreRangesOf (missing_from self.now 0 limit) result }
         // No other list is so.
-        ensures only { (gaps : List (ℕ × ℕ)) → AreRangesOf (missing_from self.now 0 limit) gaps → gaps ≡ result }
+        ensures only { (gaps : List (ℕ × ℕ)) →
+            AreRangesOf (missing_from self.now 0 limit) gaps → gaps ≡ result }
         ensures is { result ≡ gaps_of self.now 0 limit }
         ensures inside { All (LiesIn 0 limit) result }
     {
@@ -112,7 +114,8 @@ impl Extents {
     /// The gaps from `start` on and below `limit`, ascending.
     pub fn missing_in(&self, start: u64, limit: u64) -> Gaps<'_>
         ensures gaps { AreRangesOf (missing_from self.now start limit) result }
-        ensures only { (gaps : List (ℕ × ℕ)) → AreRangesOf (missing_from self.now start limit) gaps → gaps ≡ result }
+        ensures only { (gaps : List (ℕ × ℕ)) →
+            AreRangesOf (missing_from self.now start limit) gaps → gaps ≡ result }
         ensures is { result ≡ gaps_of self.now start limit }
         // Each has an offset at least, and lies in the range asked for.
         ensures inside { All (LiesIn start limit) result }
@@ -137,8 +140,8 @@ impl Extents {
         }
     }
 
-    /// The start and the end of the front of the least gapless range, at most `max` offsets of it; `None` where
-    /// no offset is held, or `max` is 0.
+    /// The front of the least gapless range, at most `max` offsets of it, as its start and its end; `None`
+    /// where no offset is held, or `max` is 0.
     pub fn front(&self, max: u64) -> Option<(u64, u64)>
         ensures is { result ≡ front_of self.now max }
         ensures spent { IfNone result ((max ≡ 0) ⊎ (self.now ≡ set.empty)) }

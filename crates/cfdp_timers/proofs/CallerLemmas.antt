@@ -15,7 +15,7 @@ use Rattle.cfdp_header.specs.Ids.{id_cmp}
 use Rattle.cfdp_timers.specs.Armed.{Armed}
 use Rattle.cfdp_timers.specs.Due.{AreDue, is_due, still_armed}
 use Rattle.cfdp_header.proofs.Ids.{id_total, id_laws}
-use Rattle.cfdp_timers.proofs.Orders.{timer_total, timer_laws, same_timer}
+pub use Rattle.cfdp_timers.proofs.Orders.{timer_total, timer_laws, same_timer}
 
 -- ---- `room`: the transaction has room, and those that had it keep it
 pub has_room-new : (s : set.FinSet id_cmp) (id : TransactionId) → set.contains (set.insert s id) id ≡ true

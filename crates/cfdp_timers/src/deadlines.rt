@@ -24,7 +24,8 @@ pub(crate) fn earlier(a: Option<u64>, b: Option<u64>) -> Option<u64>
 
 // How many timers of one are due.
 fn due_count(deadline: Option<u64>, now: u64) -> usize
-    ensures count { (id : TransactionId) (kind : Kind) → result ≡ length (kept.due now (alarm_if id kind deadline)) }
+    ensures count { (id : TransactionId) (kind : Kind) →
+        result ≡ length (kept.due now (alarm_if id kind deadline)) }
     ensures one { result ≤ 1 }
 {
     match deadline {
@@ -40,7 +41,8 @@ fn push_due(
     deadline: Option<u64>,
     now: u64,
 ) -> Result<(), AllocError>
-    ensures { OnOk result (map entry_of due.new.items ≡ map entry_of due.old.items ++ kept.due now (alarm_if id kind deadline)) }
+    ensures { OnOk result (map entry_of due.new.items
+        ≡ map entry_of due.old.items ++ kept.due now (alarm_if id kind deadline)) }
 {
     if let Some(deadline) = deadline
         && deadline <= now
@@ -116,7 +118,8 @@ impl Deadlines {
         now: u64,
         due: &mut Vec<Alarm>,
     ) -> Result<(), AllocError>
-        ensures { OnOk result (map entry_of due.new.items ≡ map entry_of due.old.items ++ kept.due now (alarms_of id self.now)) }
+        ensures { OnOk result (map entry_of due.new.items
+            ≡ map entry_of due.old.items ++ kept.due now (alarms_of id self.now)) }
     {
         push_due(due, id, Kind::EofAck, self.eof_ack, now)?;
         push_due(due, id, Kind::Nak, self.nak, now)?;

@@ -46,7 +46,8 @@ impl Model for Timers {
 
     ghost view = { λ t. state_of t.time t.entries.entries };
 
-    ghost invariant = { λ t. IsDistinct (eq_by_cmp id_cmp) (keys_of t.entries.entries) × (length t.entries.entries ≤ 2 ^ 59) };
+    ghost invariant = { λ t. IsDistinct (eq_by_cmp id_cmp) (keys_of t.entries.entries)
+        × (length t.entries.entries ≤ 2 ^ 59) };
 }
 
 impl Timers {
@@ -103,7 +104,8 @@ impl Timers {
         ensures again { set.contains self.old.roomy id ≡ true → IsOk result }
         // What `arm` asks for: now it has room, and whoever had it keeps it.
         ensures has_room { OnOk result (set.contains self.new.roomy id ≡ true) }
-        ensures keeps { (other : TransactionId) → set.contains self.old.roomy other ≡ true → set.contains self.new.roomy other ≡ true }
+        ensures keeps { (other : TransactionId) →
+            set.contains self.old.roomy other ≡ true → set.contains self.new.roomy other ≡ true }
     {
         if self.entries.contains_key(&id) {
             return Ok(());
@@ -146,7 +148,7 @@ impl Timers {
     /// How many timers `fire` would give at that time.
     pub fn due_count(&self, now: u64) -> usize
         ensures count { result ≡ due_count self.now.armed (max self.now.time now) }
-        // Some multiple of it still fits a `usize`.
+        // So a caller may count three things for each of them.
         ensures few { result < 2 ^ 62 }
     {
         let now = self.time.max(now);
@@ -168,7 +170,8 @@ impl Timers {
         ensures roomy { OnOk result (self.new.roomy ≡ self.old.roomy) }
         ensures fired { IfOk result (λ fired. AreDue self.old.armed self.new.time fired.items) }
         // No other list is so.
-        ensures only { IfOk result (λ fired. (others : List Timer) → AreDue self.old.armed self.new.time others → others ≡ fired.items) }
+        ensures only { IfOk result (λ fired. (others : List Timer) →
+            AreDue self.old.armed self.new.time others → others ≡ fired.items) }
         ensures count { IfOk result (λ fired. length fired.items ≡ due_count self.old.armed self.new.time) }
         ensures left { OnOk result (self.new.armed ≡ still_armed self.new.time self.old.armed) }
         ensures err { OnErr result (self.new ≡ self.old) }

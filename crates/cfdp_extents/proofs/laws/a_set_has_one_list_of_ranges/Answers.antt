@@ -1,4 +1,4 @@
-use Rattle.cfdp_extents.proofs.TermLemmas.{ranges-are, ranges-only, ranges_below-are}
+use Rattle.cfdp_extents.proofs.CallerLemmas.{ranges-are, ranges-only, ranges_below-are}
 use Rattle.cfdp_extents.proofs.laws.a_set_has_one_list_of_ranges.Goals as goal
 
 pub returns : goal.returns

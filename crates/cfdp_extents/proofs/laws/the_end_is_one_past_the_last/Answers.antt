@@ -1,4 +1,4 @@
-use Rattle.cfdp_extents.proofs.TermLemmas.{end-all_before, end-last, end-only}
+use Rattle.cfdp_extents.proofs.CallerLemmas.{end-all_before, end-last, end-only}
 use Rattle.cfdp_extents.proofs.laws.the_end_is_one_past_the_last.Goals as goal
 
 pub returns : goal.returns

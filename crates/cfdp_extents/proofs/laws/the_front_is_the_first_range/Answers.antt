@@ -1,4 +1,4 @@
-use Rattle.cfdp_extents.proofs.TermLemmas.{front-is, front-only, front-none}
+use Rattle.cfdp_extents.proofs.CallerLemmas.{front-is, front-only, front-none}
 use Rattle.cfdp_extents.proofs.laws.the_front_is_the_first_range.Goals as goal
 
 pub returns : goal.returns

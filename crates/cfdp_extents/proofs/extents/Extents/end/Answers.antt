@@ -1,7 +1,7 @@
 use Rattle.std.proofs.Common.{◌-◌, ◌∙◌, sym, ap, arith}
 use Rattle.std.specs.FinSet.{contains}
 use Rattle.cfdp_extents.proofs.Taken.{all-before_last, last-is_held, none-held, last-read, last-none}
-use Rattle.cfdp_extents.proofs.TermLemmas.{end-only}
+use Rattle.cfdp_extents.proofs.CallerLemmas.{end-only}
 use Rattle.cfdp_extents.proofs.extents.Extents.end.Goals as goal
 
 pub returns-in-Some-clause-all_before : goal.returns-in-Some-clause-all_before

@@ -1,6 +1,6 @@
 use Rattle.std.proofs.Common.{◌∙◌, sym, ap, eqb}
 use Rattle.cfdp_extents.proofs.Taken.{first, no-offsets_by_test}
-use Rattle.cfdp_extents.proofs.TermLemmas.{front-zero, front-empty, front-min, front-is, front-none}
+use Rattle.cfdp_extents.proofs.CallerLemmas.{front-zero, front-empty, front-min, front-is, front-none}
 use Rattle.cfdp_extents.proofs.extents.Extents.front.Goals as goal
 use Rattle.cfdp_extents.proofs.extents.Extents.front.Goals.{then-max-eq0-via-then-max-eq0, then-max-eq0-via-else-max-eq0+then-is_empty}
 

@@ -1,7 +1,7 @@
 use Rattle.std.proofs.Common.{◌∙◌, sym, ap, eqb, inl, inr}
 use Rattle.cfdp_extents.specs.Offsets.{union_of}
 use Rattle.cfdp_extents.proofs.Taken.{first, no-offsets_by_test, whole-front, whole-rest, part-front, part-rest}
-use Rattle.cfdp_extents.proofs.TermLemmas.{front-zero, front-empty, front-whole, front-part}
+use Rattle.cfdp_extents.proofs.CallerLemmas.{front-zero, front-empty, front-whole, front-part}
 use Rattle.cfdp_extents.proofs.extents.Extents.take_front.Goals as goal
 use Rattle.cfdp_extents.proofs.extents.Extents.take_front.Goals.{then-max-eq0-via-then-max-eq0, then-max-eq0-via-else-max-eq0+then-is_empty}
 

@@ -1,4 +1,4 @@
--- The ranges, gaps, end and front that specs/Terms says are those of the contracts' relations, and no others are.
+-- Exported: what proofs of a crate above cite of sets of offsets: what they hold, their ranges, gaps, end and front.
 use Rattle.std.proofs.Common.{◌≡◌, ◌⊎◌, inl, inr, ℕ, zero, suc, ◌+◌, ◌-◌, ◌<◌, ◌≤◌, min, max, Bool, true, false, not, ◌==◌, ◌&&◌, ◌||◌, List, [], ◌∷◌, length, drop, get_or, Option, None, Some, refl, sym, ap, subst, ◌∙◌, arith, if◌then◌else◌, true≢false, eqb}
 use Rattle.std.specs.FinSet as set
 use Rattle.std.specs.FinSet.{contains, items, contains-items}
@@ -11,9 +11,10 @@ use Rattle.std.proofs.lemmas.List.Elements.{All-from_recursion}
 use Rattle.cfdp_extents.specs.Offsets.{Offsets, is_within, range, union_of, missing_from, LiesIn, AreApart, AreRangesOf}
 use Rattle.cfdp_extents.specs.Front.{IsFront}
 use Rattle.cfdp_extents.specs.Terms.{ranges_in, gaps_of, end_of_items, end_of, ranges_of, front_in, front_of}
-use Rattle.cfdp_extents.proofs.Members.{contains-range, same_offsets}
+pub use Rattle.cfdp_extents.proofs.Members.{contains-range, contains-more, same_offsets}
+pub use Rattle.cfdp_extents.proofs.Joined.{Decides-is_subset}
 use Rattle.cfdp_extents.proofs.Missing.{only-ranges}
-use Rattle.cfdp_extents.proofs.RangesIn.{AllRangesIn, ranges-in, ranges-apart, ranges-members}
+pub use Rattle.cfdp_extents.proofs.RangesIn.{IsRangeIn, AllRangesIn, ranges-in, ranges-some, ranges-none, ranges-apart, ranges-members}
 use Rattle.cfdp_extents.proofs.Taken.{First, is-front, no-offsets}
 
 -- ---- gaps
