@@ -1,5 +1,5 @@
 -- Fuses: stores that fail from a chosen call on.
-use Rattle.std.specs.Prelude.{ℕ, ◌+◌, ◌-◌, ◌^◌, min, false}
+use Rattle.std.specs.Prelude.{◌≡◌, ℕ, ◌+◌, ◌-◌, ◌^◌, ◌<◌, min, false}
 use Rattle.cfdp_store.specs.declared.fuse.Fuse.{Fuse}
 use Rattle.cfdp_store.specs.Stores.{failures_after}
 
@@ -14,3 +14,11 @@ blown f = record { left = f.left; refused = failures_after f.refused false }
 -- the failures of a store, and the calls that its fuse refused. The count stays at the greatest u64
 abbrev pub all_failures : ℕ → Fuse → ℕ
 all_failures store fuse = min (store + fuse.refused) (2 ^ 64 - 1)
+
+module _ {Store Call : Type 0} (Steps : Store → Call → Store → Type 0) (Refuses : Call → Type 0) where
+  -- A call through a fuse that has calls left is one call of the store, with the same arguments and the same answer.
+  -- Behind a blown fuse the store isn't called
+  abbrev pub Passes : Store → Fuse → Call → Store → Fuse → Type 0
+  Passes store fuse call store_after fuse_after =
+      (0 < fuse.left → Steps store call store_after × (fuse_after ≡ burnt fuse))
+      × (fuse.left ≡ 0 → Refuses call × (store_after ≡ store) × (fuse_after ≡ blown fuse))

@@ -31,5 +31,5 @@ abbrev pub staged_for : (TransactionId → Option OctetMap) → TransactionId �
 staged_for staged id = unwrap_or (staged id) empty
 
 -- other transactions keep what is staged for them
-abbrev pub OthersKeep : TransactionId → (TransactionId → Option OctetMap) → (TransactionId → Option OctetMap) → Type 0
+abbrev pub OthersKeep : TransactionId → (old new : TransactionId → Option OctetMap) → Type 0
 OthersKeep id old new = (other : TransactionId) → other ≢ id → new other ≡ old other

@@ -1,10 +1,6 @@
-ghost use Rattle.std.specs.Prelude.{◌≡◌, ◌-◌, ◌+◌, ◌≤◌, ◌<◌, Some, None, length, take, drop, is_ok, IsOk, IsSome, IfOk, OnOk, OnErr};
-ghost use Rattle.std.specs.FinMap as map;
-ghost use Rattle.std.specs.Option.{option_map};
-ghost use Rattle.cfdp_store.specs.Files.{octets_in};
-ghost use Rattle.cfdp_store.specs.Stores.{failures_after};
-ghost use Rattle.cfdp_store.specs.Staged.{Covers, OthersKeep, written, front, staged_for};
-ghost use Rattle.cfdp_store.specs.Fuse.{all_failures, blown, burnt};
+ghost use Rattle.std.specs.Prelude.{◌≡◌, ◌-◌, ◌<◌, IsOk};
+ghost use Rattle.cfdp_store.specs.Calls.{OutboxRefuses, InboxRefuses};
+ghost use Rattle.cfdp_store.specs.Fuse.{Passes, all_failures, blown, burnt};
 
 use crate::{Inbox, Outbox, StoreError};
 use cfdp_header::TransactionId;
@@ -30,7 +26,8 @@ impl Fuse {
     /// Lets a call through, or refuses it.
     fn pass(&mut self) -> Result<(), StoreError>
         ensures through { 0 < self.old.left → IsOk result × (self.new ≡ burnt self.old) }
-        ensures refused { self.old.left ≡ 0 → (result ≡ Err StoreError.Device) × (self.new ≡ blown self.old) }
+        ensures refused { self.old.left ≡ 0
+            → (result ≡ Err StoreError.Device) × (self.new ≡ blown self.old) }
     {
         if self.left == 0 {
             self.refused = self.refused.saturating_add(1);
@@ -41,8 +38,10 @@ impl Fuse {
     }
 }
 
-/// An outbox that fails from a chosen call on: that call and all later ones answer `Device`, and the store behind it
-/// isn't called.
+/// An outbox that fails from a chosen call on, for tests of what comes after a failure.
+///
+/// A call before the chosen one is one call of the store behind it, with the same arguments, and gives the store's own
+/// answer. The chosen call and all later ones answer `Device`, and the store behind isn't called.
 #[derive(Debug, Drop)]
 pub struct FuseOutbox<O> {
     store: O,
@@ -81,32 +80,14 @@ impl<O: Outbox> Outbox for FuseOutbox<O> {
 
     ghost failures = { λ f. all_failures (O.failures f.store) f.fuse };
 
-    fn len(&mut self, name: &[u8]) -> Result<Option<u64>, StoreError>
-        ensures answer { IfOk result (λ len. len
-            ≡ option_map length (map.get (O.files self.old.store) name.now)) }
-        ensures files { O.files self.new.store ≡ O.files self.old.store }
-        ensures failures { all_failures (O.failures self.new.store) self.new.fuse
-            ≡ failures_after (all_failures (O.failures self.old.store) self.old.fuse) (is_ok result) }
-        ensures through { 0 < self.old.fuse.left → self.new.fuse ≡ burnt self.old.fuse }
-        ensures refused { self.old.fuse.left ≡ 0 → (result ≡ Err StoreError.Device)
-            × (self.new ≡ record { store = self.old.store; fuse = blown self.old.fuse }) }
-    {
+    ghost steps = { λ f call g. Passes O.steps OutboxRefuses f.store f.fuse call g.store g.fuse };
+
+    fn len(&mut self, name: &[u8]) -> Result<Option<u64>, StoreError> {
         self.fuse.pass()?;
         self.store.len(name)
     }
 
-    fn read(&mut self, name: &[u8], offset: u64, out: &mut [u8]) -> Result<(), StoreError>
-        requires there { IsSome (map.get (O.files self.old.store) name.now) }
-        requires within { offset + length out.old ≤ length (octets_in (O.files self.old.store) name.now) }
-        ensures octets { OnOk result (out.new
-            ≡ take (length out.old) (drop offset (octets_in (O.files self.old.store) name.now))) }
-        ensures files { O.files self.new.store ≡ O.files self.old.store }
-        ensures failures { all_failures (O.failures self.new.store) self.new.fuse
-            ≡ failures_after (all_failures (O.failures self.old.store) self.old.fuse) (is_ok result) }
-        ensures through { 0 < self.old.fuse.left → self.new.fuse ≡ burnt self.old.fuse }
-        ensures refused { self.old.fuse.left ≡ 0 → (result ≡ Err StoreError.Device)
-            × (self.new ≡ record { store = self.old.store; fuse = blown self.old.fuse }) }
-    {
+    fn read(&mut self, name: &[u8], offset: u64, out: &mut [u8]) -> Result<(), StoreError> {
         self.fuse.pass()?;
         self.store.read(name, offset, out)
     }
@@ -116,8 +97,10 @@ impl<O: Outbox> Outbox for FuseOutbox<O> {
     }
 }
 
-/// An inbox that fails from a chosen call on: that call and all later ones answer `Device`, and the store behind it
-/// isn't called.
+/// An inbox that fails from a chosen call on, for tests of what comes after a failure.
+///
+/// A call before the chosen one is one call of the store behind it, with the same arguments, and gives the store's own
+/// answer. The chosen call and all later ones answer `Device`, and the store behind isn't called.
 #[derive(Debug, Drop)]
 pub struct FuseInbox<I> {
     store: I,
@@ -158,65 +141,24 @@ impl<I: Inbox> Inbox for FuseInbox<I> {
 
     ghost failures = { λ f. all_failures (I.failures f.store) f.fuse };
 
-    fn begin(&mut self, id: TransactionId) -> Result<(), StoreError>
-        ensures staged { OnOk result (I.staged self.new.store id ≡ Some map.empty) }
-        ensures others { OthersKeep id (I.staged self.old.store) (I.staged self.new.store) }
-        ensures published { I.published self.new.store ≡ I.published self.old.store }
-        ensures failures { all_failures (I.failures self.new.store) self.new.fuse
-            ≡ failures_after (all_failures (I.failures self.old.store) self.old.fuse) (is_ok result) }
-        ensures through { 0 < self.old.fuse.left → self.new.fuse ≡ burnt self.old.fuse }
-        ensures refused { self.old.fuse.left ≡ 0 → (result ≡ Err StoreError.Device)
-            × (self.new ≡ record { store = self.old.store; fuse = blown self.old.fuse }) }
-    {
+    ghost steps = { λ f call g. Passes I.steps InboxRefuses f.store f.fuse call g.store g.fuse };
+
+    fn begin(&mut self, id: TransactionId) -> Result<(), StoreError> {
         self.fuse.pass()?;
         self.store.begin(id)
     }
 
-    fn write(&mut self, id: TransactionId, offset: u64, octets: &[u8]) -> Result<(), StoreError>
-        requires { IsSome (I.staged self.old.store id) }
-        ensures staged { OnOk result (I.staged self.new.store id
-            ≡ Some (written (staged_for (I.staged self.old.store) id) offset octets.now)) }
-        ensures others { OthersKeep id (I.staged self.old.store) (I.staged self.new.store) }
-        ensures published { I.published self.new.store ≡ I.published self.old.store }
-        ensures failures { all_failures (I.failures self.new.store) self.new.fuse
-            ≡ failures_after (all_failures (I.failures self.old.store) self.old.fuse) (is_ok result) }
-        ensures through { 0 < self.old.fuse.left → self.new.fuse ≡ burnt self.old.fuse }
-        ensures refused { self.old.fuse.left ≡ 0 → (result ≡ Err StoreError.Device)
-            × (self.new ≡ record { store = self.old.store; fuse = blown self.old.fuse }) }
-    {
+    fn write(&mut self, id: TransactionId, offset: u64, octets: &[u8]) -> Result<(), StoreError> {
         self.fuse.pass()?;
         self.store.write(id, offset, octets)
     }
 
-    fn publish(&mut self, id: TransactionId, name: &[u8], size: u64) -> Result<(), StoreError>
-        requires begun { IsSome (I.staged self.old.store id) }
-        requires whole { Covers size (staged_for (I.staged self.old.store) id) }
-        ensures ok { OnOk result (I.published self.new.store
-            ≡ map.insert (I.published self.old.store) name.now
-            (front (staged_for (I.staged self.old.store) id) size)) }
-        ensures err { OnErr result (I.published self.new.store ≡ I.published self.old.store) }
-        ensures staged { OnOk result (I.staged self.new.store id ≡ None) }
-        ensures others { OthersKeep id (I.staged self.old.store) (I.staged self.new.store) }
-        ensures failures { all_failures (I.failures self.new.store) self.new.fuse
-            ≡ failures_after (all_failures (I.failures self.old.store) self.old.fuse) (is_ok result) }
-        ensures through { 0 < self.old.fuse.left → self.new.fuse ≡ burnt self.old.fuse }
-        ensures refused { self.old.fuse.left ≡ 0 → (result ≡ Err StoreError.Device)
-            × (self.new ≡ record { store = self.old.store; fuse = blown self.old.fuse }) }
-    {
+    fn publish(&mut self, id: TransactionId, name: &[u8], size: u64) -> Result<(), StoreError> {
         self.fuse.pass()?;
         self.store.publish(id, name, size)
     }
 
-    fn discard(&mut self, id: TransactionId) -> Result<(), StoreError>
-        ensures staged { OnOk result (I.staged self.new.store id ≡ None) }
-        ensures others { OthersKeep id (I.staged self.old.store) (I.staged self.new.store) }
-        ensures published { I.published self.new.store ≡ I.published self.old.store }
-        ensures failures { all_failures (I.failures self.new.store) self.new.fuse
-            ≡ failures_after (all_failures (I.failures self.old.store) self.old.fuse) (is_ok result) }
-        ensures through { 0 < self.old.fuse.left → self.new.fuse ≡ burnt self.old.fuse }
-        ensures refused { self.old.fuse.left ≡ 0 → (result ≡ Err StoreError.Device)
-            × (self.new ≡ record { store = self.old.store; fuse = blown self.old.fuse }) }
-    {
+    fn discard(&mut self, id: TransactionId) -> Result<(), StoreError> {
         self.fuse.pass()?;
         self.store.discard(id)
     }

@@ -1,6 +1,7 @@
 ghost use Rattle.std.specs.Prelude.{◌≡◌, ℕ, Option, Some, None, is_ok, IsSome, OnOk, OnErr};
 ghost use Rattle.std.specs.FinMap as map;
 ghost use Rattle.cfdp_header.specs.declared.value.TransactionId.{TransactionId};
+ghost use Rattle.cfdp_store.specs.Calls.{InboxCall, Begin, Write, Publish, Discard};
 ghost use Rattle.cfdp_store.specs.Stores.{failures_after};
 ghost use Rattle.cfdp_header.specs.Files.{FileMap};
 ghost use Rattle.cfdp_store.specs.Staged.{OctetMap, Covers, OthersKeep, written, front, staged_for};
@@ -8,9 +9,11 @@ ghost use Rattle.cfdp_store.specs.Staged.{OctetMap, Covers, OthersKeep, written,
 use crate::StoreError;
 use cfdp_header::TransactionId;
 
-/// Where received files are staged, by transaction, and then published, each under a name.
+/// A place that takes received files.
 ///
-/// A name is a run of octets, and so is what a file has in it.
+/// The octets of a file come in any order, so they are staged first, for the transaction that brings them. Once all of
+/// them are there, the file is published under its name, and only then do others see it. A name is a run of octets, and
+/// so is what a file has in it.
 pub trait Inbox: Drop {
     /// The octets of each published file by its name. Only a `publish` that answers `Ok` changes them.
     ghost published: { Self → FileMap };
@@ -22,6 +25,11 @@ pub trait Inbox: Drop {
     /// How many calls failed.
     ghost failures: { Self → ℕ };
 
+    /// What a call may do: it leads from one state of the store, with its arguments and its answer, to another. A store
+    /// says by it what is true of this store alone, as that it fails only for memory, or nothing. One that wraps another
+    /// says by it that the answer is the other's own, after one call of it.
+    ghost steps: { Self → InboxCall → Self → Type 0 } = { λ _ _ _. Unit {0} };
+
     /// Begins a transaction, with nothing staged for it. What was staged for it is let go.
     ///
     /// # Errors
@@ -29,6 +37,7 @@ pub trait Inbox: Drop {
     /// Any `StoreError`, at the store's will. It is counted as a failure, and nothing is known of what is then staged
     /// for this transaction.
     fn begin(&mut self, id: TransactionId) -> Result<(), StoreError>
+        ensures steps { steps self.old (Begin id result) self.new }
         ensures staged { OnOk result (staged self.new id ≡ Some map.empty) }
         ensures others { OthersKeep id (staged self.old) (staged self.new) }
         ensures published { published self.new ≡ published self.old }
@@ -42,6 +51,7 @@ pub trait Inbox: Drop {
     /// As with `begin`.
     fn write(&mut self, id: TransactionId, offset: u64, octets: &[u8]) -> Result<(), StoreError>
         requires { IsSome (staged self.old id) }
+        ensures steps { steps self.old (Write id offset octets.now result) self.new }
         ensures staged { OnOk result (staged self.new id
             ≡ Some (written (staged_for (staged self.old) id) offset octets.now)) }
         ensures others { OthersKeep id (staged self.old) (staged self.new) }
@@ -57,6 +67,7 @@ pub trait Inbox: Drop {
     fn publish(&mut self, id: TransactionId, name: &[u8], size: u64) -> Result<(), StoreError>
         requires begun { IsSome (staged self.old id) }
         requires whole { Covers size (staged_for (staged self.old) id) }
+        ensures steps { steps self.old (Publish id name.now size result) self.new }
         ensures ok { OnOk result (published self.new
             ≡ map.insert (published self.old) name.now (front (staged_for (staged self.old) id) size)) }
         ensures err { OnErr result (published self.new ≡ published self.old) }
@@ -70,6 +81,7 @@ pub trait Inbox: Drop {
     ///
     /// As with `begin`.
     fn discard(&mut self, id: TransactionId) -> Result<(), StoreError>
+        ensures steps { steps self.old (Discard id result) self.new }
         ensures staged { OnOk result (staged self.new id ≡ None) }
         ensures others { OthersKeep id (staged self.old) (staged self.new) }
         ensures published { published self.new ≡ published self.old }

@@ -1,7 +1,20 @@
 //! Where the files to be sent lie, and where received files are staged and published: the two traits, stores in
 //! memory, and stores that fail from a chosen call on.
+//!
+//! A received file is staged as its octets come, in any order, and is there for others once it is published:
+//!
+//! ```text
+//! let mut inbox = MemoryInbox::new(alloc);
+//! inbox.begin(id)?;
+//! inbox.write(id, 3, b"lo")?;
+//! inbox.write(id, 0, b"hel")?;
+//! inbox.publish(id, b"greeting.txt", 5)?;
+//! assert_eq!(inbox.published().octets(b"greeting.txt"), b"hello");
+//! ```
 #![tactic(auto)]
 
+#[cfg(test)]
+mod counting;
 mod error;
 mod files;
 mod fuse;

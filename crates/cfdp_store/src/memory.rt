@@ -5,7 +5,7 @@ ghost use Rattle.cfdp_header.specs.declared.value.TransactionId.{TransactionId};
 ghost use Rattle.cfdp_store.specs.Files.{octets_in};
 ghost use Rattle.cfdp_store.specs.Stores.{failures_after};
 ghost use Rattle.cfdp_store.specs.Staged.{Covers, OthersKeep, written, front, staged_for};
-ghost use Rattle.cfdp_store.specs.Memory.{octets_for};
+ghost use Rattle.cfdp_store.specs.Memory.{octets_for, Succeeds, FailsForMemoryAlone};
 
 use crate::pieces::Pieces;
 use crate::{Files, Inbox, Outbox, StoreError};
@@ -14,7 +14,7 @@ use std::alloc::{AllocError, Global};
 use std::collections::HashMap;
 use std::marker::Model;
 
-/// Files in memory, to be sent. Contracts see it as the map from their names to their octets.
+/// Files in memory that can be sent. No call fails. Contracts see it as the map from their names to their octets.
 #[derive(Debug, Drop)]
 pub struct MemoryOutbox {
     files: Files,
@@ -69,20 +69,13 @@ impl Outbox for MemoryOutbox {
 
     ghost failures = { λ _. 0 };
 
-    fn len(&mut self, name: &[u8]) -> Result<Option<u64>, StoreError>
-        ensures answer { result ≡ Ok (option_map length (map.get self.old name.now)) }
-        ensures files { self.new ≡ self.old }
-    {
+    ghost steps = { λ _ call _. Succeeds call };
+
+    fn len(&mut self, name: &[u8]) -> Result<Option<u64>, StoreError> {
         Ok(self.files.get(name).map(|octets| octets.len() as u64))
     }
 
-    fn read(&mut self, name: &[u8], offset: u64, out: &mut [u8]) -> Result<(), StoreError>
-        requires there { IsSome (map.get self.old name.now) }
-        requires within { offset + length out.old ≤ length (octets_in self.old name.now) }
-        ensures ok { IsOk result }
-        ensures octets { out.new ≡ take (length out.old) (drop offset (octets_in self.old name.now)) }
-        ensures files { self.new ≡ self.old }
-    {
+    fn read(&mut self, name: &[u8], offset: u64, out: &mut [u8]) -> Result<(), StoreError> {
         if let Some(octets) = self.files.get(name) {
             let start = offset as usize;
             out.copy_from_slice(&octets[start..start + out.len()]);
@@ -95,7 +88,8 @@ impl Outbox for MemoryOutbox {
     }
 }
 
-/// Files in memory, as they were received. Every name is good, and a call fails only for want of memory.
+/// Files in memory, as they were received. Every name is good, and a call fails only for want of memory; `discard`
+/// never does.
 #[derive(Debug, Drop)]
 pub struct MemoryInbox {
     files: Files,
@@ -148,8 +142,8 @@ impl MemoryInbox {
     }
 
     fn try_publish(&mut self, id: TransactionId, name: &[u8], size: u64) -> Result<(), AllocError>
-        ensures ok { OnOk result (self.new.files
-            ≡ map.insert self.old.files name.now (front (staged_for (octets_for self.old.staged) id) size)) }
+        ensures ok { OnOk result (self.new.files ≡ map.insert self.old.files name.now
+            (front (staged_for (octets_for self.old.staged) id) size)) }
         ensures err { OnErr result (self.new.files ≡ self.old.files) }
         ensures staged { octets_for self.new.staged id ≡ None }
         ensures others { OthersKeep id (octets_for self.old.staged) (octets_for self.new.staged) }
@@ -190,58 +184,30 @@ impl Inbox for MemoryInbox {
 
     ghost failures = { λ i. i.failed };
 
-    fn begin(&mut self, id: TransactionId) -> Result<(), StoreError>
-        ensures staged { OnOk result (octets_for self.new.staged id ≡ Some map.empty) }
-        ensures others { OthersKeep id (octets_for self.old.staged) (octets_for self.new.staged) }
-        ensures published { self.new.files ≡ self.old.files }
-        ensures failures { self.new.failed ≡ failures_after self.old.failed (is_ok result) }
-        ensures only_memory { IsOkUnless result StoreError.NoMemory }
-    {
+    ghost steps = { λ _ call _. FailsForMemoryAlone call };
+
+    fn begin(&mut self, id: TransactionId) -> Result<(), StoreError> {
         match self.staged.insert(id, Pieces::new(self.alloc)) {
             Ok(_) => Ok(()),
             Err(_) => Err(self.no_memory()),
         }
     }
 
-    fn write(&mut self, id: TransactionId, offset: u64, octets: &[u8]) -> Result<(), StoreError>
-        requires { IsSome (octets_for self.old.staged id) }
-        ensures staged { OnOk result (octets_for self.new.staged id
-            ≡ Some (written (staged_for (octets_for self.old.staged) id) offset octets.now)) }
-        ensures others { OthersKeep id (octets_for self.old.staged) (octets_for self.new.staged) }
-        ensures published { self.new.files ≡ self.old.files }
-        ensures failures { self.new.failed ≡ failures_after self.old.failed (is_ok result) }
-        ensures only_memory { IsOkUnless result StoreError.NoMemory }
-    {
+    fn write(&mut self, id: TransactionId, offset: u64, octets: &[u8]) -> Result<(), StoreError> {
         match stage(&mut self.staged, id, offset, octets) {
             Ok(()) => Ok(()),
             Err(_) => Err(self.no_memory()),
         }
     }
 
-    fn publish(&mut self, id: TransactionId, name: &[u8], size: u64) -> Result<(), StoreError>
-        requires begun { IsSome (octets_for self.old.staged id) }
-        requires whole { Covers size (staged_for (octets_for self.old.staged) id) }
-        ensures ok { OnOk result (self.new.files
-            ≡ map.insert self.old.files name.now (front (staged_for (octets_for self.old.staged) id) size)) }
-        ensures err { OnErr result (self.new.files ≡ self.old.files) }
-        ensures staged { OnOk result (octets_for self.new.staged id ≡ None) }
-        ensures others { OthersKeep id (octets_for self.old.staged) (octets_for self.new.staged) }
-        ensures failures { self.new.failed ≡ failures_after self.old.failed (is_ok result) }
-        ensures only_memory { IsOkUnless result StoreError.NoMemory }
-    {
+    fn publish(&mut self, id: TransactionId, name: &[u8], size: u64) -> Result<(), StoreError> {
         match self.try_publish(id, name, size) {
             Ok(()) => Ok(()),
             Err(_) => Err(self.no_memory()),
         }
     }
 
-    fn discard(&mut self, id: TransactionId) -> Result<(), StoreError>
-        ensures ok { IsOk result }
-        ensures staged { octets_for self.new.staged id ≡ None }
-        ensures others { OthersKeep id (octets_for self.old.staged) (octets_for self.new.staged) }
-        ensures published { self.new.files ≡ self.old.files }
-        ensures failures { self.new.failed ≡ self.old.failed }
-    {
+    fn discard(&mut self, id: TransactionId) -> Result<(), StoreError> {
         let _ = self.staged.remove(&id);
         Ok(())
     }

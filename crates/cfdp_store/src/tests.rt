@@ -1,6 +1,7 @@
 ghost use Rattle.std.specs.Prelude.{◌+◌, ◌<◌, ◌^◌, length};
 
 use super::*;
+use crate::counting::{Called, CountingStore};
 use cfdp_header::TransactionId;
 use std::alloc::{AllocError, Global};
 use std::test::Fail;
@@ -186,6 +187,64 @@ fn an_inbox_fails_from_the_call_on_that_its_fuse_names(rt: HostRuntime) -> Resul
         assert_eq!(rt; shown(alloc, inbox.inner())?.as_slice(), text, "at {call}");
         assert_eq!(rt; inbox.into_inner().failures(), 0, "at {call}");
     }
+    Ok(())
+}
+
+#[test]
+fn an_inbox_behind_a_fuse_is_called_once_and_answers_itself(rt: HostRuntime) -> Result<(), Fail> {
+    let store = CountingStore::new(Files::new(rt.alloc()));
+    let mut inbox = FuseInbox::new(store, 5);
+    assert_eq!(rt; inbox.begin(FIRST), Err(StoreError::Name));
+    assert_eq!(rt; inbox.inner().calls, 1);
+    assert_eq!(rt; inbox.inner().last, Some(Called::Begin(FIRST)));
+    assert_eq!(rt; inbox.write(SECOND, 7, b"x"), Err(StoreError::Name));
+    assert_eq!(rt; inbox.inner().calls, 2);
+    assert_eq!(rt;
+        inbox.inner().last,
+        Some(Called::Write(SECOND, 7, Some(120)))
+    );
+    assert_eq!(rt; inbox.publish(FIRST, b"y", 0), Err(StoreError::Name));
+    assert_eq!(rt; inbox.inner().calls, 3);
+    assert_eq!(rt;
+        inbox.inner().last,
+        Some(Called::Publish(FIRST, Some(121), 0))
+    );
+    assert_eq!(rt; inbox.discard(SECOND), Err(StoreError::Name));
+    assert_eq!(rt; inbox.inner().calls, 4);
+    assert_eq!(rt; inbox.inner().last, Some(Called::Discard(SECOND)));
+    assert_eq!(rt; inbox.begin(SECOND), Err(StoreError::Device));
+    assert_eq!(rt; inbox.inner().calls, 4);
+    assert_eq!(rt; inbox.failures(), 5);
+    Ok(())
+}
+
+/// Asks for the file `a`, and then reads two octets of it from the second on, if it has as many.
+fn ask_and_read(
+    outbox: &mut FuseOutbox<CountingStore>,
+) -> (Result<Option<u64>, StoreError>, Result<(), StoreError>) {
+    let asked = outbox.len(b"a");
+    let whole = match outbox.inner().files.get(b"a") {
+        Some(octets) => octets.len() >= 3,
+        None => false,
+    };
+    if !whole {
+        return (asked, Ok(()));
+    }
+    (asked, outbox.read(b"a", 1, &mut [0; 2]))
+}
+
+#[test]
+fn an_outbox_behind_a_fuse_is_called_once_and_answers_itself(rt: HostRuntime) -> Result<(), Fail> {
+    let store = CountingStore::new(files_with(rt.alloc(), b"a", b"xyz")?);
+    let mut outbox = FuseOutbox::new(store, 3);
+    let (asked, read) = ask_and_read(&mut outbox);
+    assert_eq!(rt; asked, Err(StoreError::Name));
+    assert_eq!(rt; read, Err(StoreError::Name));
+    assert_eq!(rt; outbox.inner().calls, 2);
+    assert_eq!(rt; outbox.inner().last, Some(Called::Read(Some(97), 1, 2)));
+    assert_eq!(rt; outbox.len(b"a"), Err(StoreError::Device));
+    assert_eq!(rt; outbox.inner().calls, 2);
+    assert_eq!(rt; outbox.failures(), 3);
     Ok(())
 }
 
