@@ -1,4 +1,4 @@
--- What is written of a frame spells it.
+-- Exported: the written octets of a frame spell it; `written_frame_is_read` and `length-header_octets` for callers.
 use Rattle.std.proofs.Common.{◌≡◌, ℕ, ◌+◌, ◌-◌, ◌*◌, ◌/◌, ◌%◌, ◌^◌, ◌≤◌, List, [], ◌++◌, length, drop, refl, sym, ap, ◌∙◌, arith, append_assoc, length-append}
 use Rattle.std.proofs.lemmas.List.{drop_at}
 use Rattle.cfd_bits.specs.Field.{field, octets}

@@ -1,6 +1,6 @@
 -- An AOS transfer frame with a packet zone: which octets are which frame of a link, and what is wrong with octets that are none
 -- (CCSDS 732.0-B-4, 4.1).
-use Rattle.std.specs.Prelude.{◌≡◌, ℕ, ◌+◌, ◌*◌, ◌<◌, ◌≤◌, List, ◌++◌, length, Option, Some, None, ◌==◌, not, if◌then◌else◌}
+use Rattle.std.specs.Prelude.{◌≡◌, ℕ, ◌+◌, ◌*◌, ◌<◌, ◌≤◌, List, ◌++◌, codes, length, Option, Some, None, ◌==◌, not, if◌then◌else◌}
 use Rattle.cfd_bits.specs.Field.{field, octets}
 use Rattle.aos_frame.specs.Counts.{frame_counts}
 use Rattle.aos_frame.specs.declared.header.FrameHeader.{FrameHeader}
@@ -54,6 +54,10 @@ frame_fault text link =
     else if not (field text 10 6 == link.channel) then Some OtherChannel
     else None
 
+-- the link that the header of a frame names, its packet zones of so many octets
+abbrev pub own_link : List ℕ → ℕ → LinkConfig
+own_link text zone = record { spacecraft = field text 2 8; channel = field text 10 6; zone = zone; apid = 0 }
+
 -- the header can be written: each part fits its field, and its frame isn't for idle data only
 pub record FitsHeader (h : FrameHeader) : Type 0 where
   pub spacecraft : h.spacecraft < 256
@@ -68,7 +72,7 @@ header_octets h = octets 2 (16384 + 64 * h.spacecraft + h.channel) ++ octets 3 h
 abbrev pub frame_octets : FrameHeader → List ℕ → List ℕ
 frame_octets h rest = header_octets h ++ rest
 
--- the number of a refusal
+-- the number of a refusal, and its name
 abbrev pub refusal_number : FrameError → ℕ
 refusal_number Length = 1
 refusal_number Version = 2
@@ -76,3 +80,11 @@ refusal_number OtherProfile = 3
 refusal_number OtherSpacecraft = 4
 refusal_number OtherChannel = 5
 refusal_number OnlyIdle = 6
+
+abbrev pub refusal_name : FrameError → List ℕ
+refusal_name Length = codes "Length"
+refusal_name Version = codes "Version"
+refusal_name OtherProfile = codes "OtherProfile"
+refusal_name OtherSpacecraft = codes "OtherSpacecraft"
+refusal_name OtherChannel = codes "OtherChannel"
+refusal_name OnlyIdle = codes "OnlyIdle"

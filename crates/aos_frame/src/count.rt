@@ -1,6 +1,6 @@
 //! The frame counts of a virtual channel, and what is missing between two of them (CCSDS 732.0-B-4, 4.1.2.4).
-ghost use Rattle.std.specs.Prelude.{◌≡◌, ℕ, ◌+◌, ◌%◌, ◌<◌, Some, None, IfSome};
-ghost use Rattle.aos_frame.specs.Counts.{frame_counts, AreMissing, continuity};
+ghost use Rattle.std.specs.Prelude.{◌≡◌, ◌↔◌, ℕ, ◌+◌, ◌%◌, ◌<◌, IsTrue, Some, None, IfSome};
+ghost use Rattle.aos_frame.specs.Counts.{frame_counts, AreMissing, continuity, follows};
 ghost use Rattle.aos_frame.specs.declared.count.Continuity.TheVariants.{Follows};
 
 use std::marker::Model;
@@ -9,7 +9,7 @@ use std::marker::Model;
 pub const FRAME_COUNTS: u32 = 16_777_216;
 
 /// The counts of the frames of one virtual channel, in order: 0, 1, .. 16,777,215, 0, ..
-#[derive(Debug, Drop)]
+#[derive(Clone, Debug, Default, Drop)]
 pub struct VcCounter {
     next: u32,
 }
@@ -57,7 +57,7 @@ pub enum Continuity {
 /// Tells how many frames of one virtual channel are missing between those that come.
 ///
 /// Where a multiple of [`FRAME_COUNTS`] frames in a row is lost, the counts can't tell it.
-#[derive(Debug, Drop)]
+#[derive(Clone, Debug, Default, Drop)]
 pub struct VcMonitor {
     last: Option<u32>,
 }
@@ -88,6 +88,7 @@ impl VcMonitor {
         ensures first { self.old ≡ None → result ≡ Follows }
         // The number that is missing, and no other is, decides the answer.
         ensures told { IfSome self.old (λ last. (n : ℕ) → AreMissing last count n → result ≡ continuity n) }
+        ensures follows { (result ≡ Follows) ↔ IsTrue (follows self.old count) }
         ensures seen { self.new ≡ Some count }
     {
         let missing = match self.last {
@@ -99,6 +100,18 @@ impl VcMonitor {
             Continuity::Follows
         } else {
             Continuity::Gap(missing)
+        }
+    }
+
+    /// Whether a frame with this count follows the last one seen: whether `see` answers [`Continuity::Follows`]. The count is seen by it too.
+    pub fn follows(&mut self, count: u32) -> bool
+        requires { count < frame_counts }
+        ensures told { result ≡ follows self.old count }
+        ensures seen { self.new ≡ Some count }
+    {
+        match self.see(count) {
+            Continuity::Follows => true,
+            Continuity::Gap(_) => false,
         }
     }
 }

@@ -1,6 +1,6 @@
 //! Why octets are no frame of a link.
 ghost use Rattle.std.specs.Prelude.{◌≡◌};
-ghost use Rattle.aos_frame.specs.Frame.{refusal_number};
+ghost use Rattle.aos_frame.specs.Frame.{refusal_number, refusal_name};
 
 use thiserror::Error;
 
@@ -8,27 +8,27 @@ use thiserror::Error;
 #[derive(Clone, Copy, Debug, PartialEq, Eq, Error)]
 pub enum FrameError {
     /// The octets aren't as many as those of a frame of the link.
-    #[error("Length")]
+    #[error("the octets are not as many as those of a frame")]
     Length,
     /// The transfer frame version number isn't `01` (CCSDS 732.0-B-4, 4.1.2.2.2).
-    #[error("Version")]
+    #[error("the transfer frame version number is not 01")]
     Version,
     /// The replay flag is 1, or the two bits behind the usage flag of the count cycle aren't `00` (CCSDS 732.0-B-4, 4.1.2.5).
-    #[error("OtherProfile")]
+    #[error("the frame is replayed, or a reserved bit of its header is set")]
     OtherProfile,
     /// The frame is of another spacecraft.
-    #[error("OtherSpacecraft")]
+    #[error("the frame is of another spacecraft")]
     OtherSpacecraft,
     /// The frame is of virtual channel 63, and so holds only idle data (CCSDS 732.0-B-4, 4.1.2.3).
-    #[error("OnlyIdle")]
+    #[error("the frame holds only idle data")]
     OnlyIdle,
     /// The frame is of another virtual channel that carries data.
-    #[error("OtherChannel")]
+    #[error("the frame is of another virtual channel")]
     OtherChannel,
 }
 
 impl FrameError {
-    /// The number that names this refusal in reports.
+    /// The number that stands for this refusal in reports.
     pub fn number(self) -> u8
         ensures { result ≡ refusal_number self }
     {
@@ -39,6 +39,20 @@ impl FrameError {
             FrameError::OtherSpacecraft => 4,
             FrameError::OtherChannel => 5,
             FrameError::OnlyIdle => 6,
+        }
+    }
+
+    /// The name of this refusal in reports.
+    pub fn name(self) -> &'static str
+        ensures { result.now ≡ refusal_name self }
+    {
+        match self {
+            FrameError::Length => "Length",
+            FrameError::Version => "Version",
+            FrameError::OtherProfile => "OtherProfile",
+            FrameError::OtherSpacecraft => "OtherSpacecraft",
+            FrameError::OtherChannel => "OtherChannel",
+            FrameError::OnlyIdle => "OnlyIdle",
         }
     }
 }

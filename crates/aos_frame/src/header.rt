@@ -1,4 +1,17 @@
 //! The header of a frame.
+ghost use Rattle.std.specs.Prelude.{◌≡◌, ◌≢◌, ◌+◌, ◌↔◌, IsTrue, length, drop, Some, IfOk, IsOkAnd};
+ghost use Rattle.std.specs.Result.{result_err};
+ghost use Rattle.aos_frame.specs.declared.header.FrameHeader.{FrameHeader};
+ghost use Rattle.aos_frame.specs.declared.error.FrameError.TheVariants.{OtherSpacecraft, OtherChannel};
+ghost use Rattle.aos_frame.specs.Frame.{SpellsFrame, FitsHeader, frame_fault, own_link};
+
+use crate::config::LinkConfig;
+use crate::count::FRAME_COUNTS;
+use crate::error::FrameError;
+use cfd_bits::get;
+
+/// Octets of a frame's primary header (CCSDS 732.0-B-4, 4.1.2).
+pub const HEADER_LEN: usize = 6;
 
 /// The virtual channel whose frames hold only idle data (CCSDS 732.0-B-4, 4.1.2.3).
 pub const IDLE_CHANNEL: u8 = 63;
@@ -12,4 +25,44 @@ pub struct FrameHeader {
     pub channel: u8,
     /// The virtual channel frame count, below [`FRAME_COUNTS`](crate::FRAME_COUNTS).
     pub count: u32,
+}
+
+impl FrameHeader {
+    /// The header of a whole frame with a packet zone of `zone` octets, whatever its spacecraft and channel are, and the octets behind it: the
+    /// M_PDU header and the packet zone. It is what [`decode`](crate::decode) answers for the link that the frame itself names.
+    ///
+    /// # Errors
+    ///
+    /// The first of these that holds, in this order: `Length`, `Version`, `OtherProfile`, `OnlyIdle`.
+    pub fn read(frame: &[u8], zone: u16) -> Result<(FrameHeader, &[u8]), FrameError>
+        ensures found { IfOk result (λ x. SpellsFrame (own_link frame.now zone) x.0 frame.now) }
+        // The M_PDU header and the packet zone.
+        ensures rest { IfOk result (λ x. x.1.now ≡ drop 6 frame.now) }
+        ensures len { IfOk result (λ x. length x.1.now ≡ 2 + zone) }
+        // What was read can be written.
+        ensures fits { IfOk result (λ x. FitsHeader x.0) }
+        ensures only { (h : FrameHeader) → SpellsFrame (own_link frame.now zone) h frame.now → IsOkAnd result (λ x. x.0 ≡ h) }
+        ensures refused { result_err result ≡ frame_fault frame.now (own_link frame.now zone) }
+        // It is of the link that it names.
+        ensures own { (result_err result ≢ Some OtherSpacecraft) × (result_err result ≢ Some OtherChannel) }
+    {
+        if frame.len() < HEADER_LEN {
+            return Err(FrameError::Length);
+        }
+        let own = LinkConfig {
+            spacecraft: get(frame, 2, 8) as u8,
+            channel: get(frame, 10, 6) as u8,
+            zone,
+            apid: 0,
+        };
+        crate::decode(frame, &own)
+    }
+
+    /// Whether each part fits its field, and the channel carries packets, as `encode` asks: so it is of each header that was read.
+    pub fn is_writable(&self) -> bool
+        ensures { IsTrue result ↔ FitsHeader self.now }
+    {
+        let header = *self;
+        header.channel < IDLE_CHANNEL && header.count < FRAME_COUNTS
+    }
 }

@@ -1,6 +1,20 @@
 //! AOS transfer frames with packet zones (CCSDS 732.0-B-4): their headers, their counts, and the counts that are missing.
 //!
 //! None of these calls takes memory: what stands behind a frame's header is borrowed from the octets that it was read from.
+//!
+//! The two ends of a link agree on a [`LinkConfig`]. One end writes a header in front of each M_PDU, and the other reads it:
+//!
+//! ```
+//! let mut counter = VcCounter::new();
+//! let header = FrameHeader { spacecraft: link.spacecraft, channel: link.channel, count: counter.next() };
+//! encode(&header, &mut frame);
+//!
+//! let mut monitor = VcMonitor::new();
+//! let (header, mpdu) = decode(&frame, &link)?;
+//! if monitor.follows(header.count) {
+//!     // no frame was lost before this one
+//! }
+//! ```
 #![tactic(auto)]
 
 ghost use Rattle.std.specs.Prelude.{◌≡◌, ◌+◌, ◌≤◌, length, drop, IfOk, IsOkAnd};
@@ -20,11 +34,8 @@ use cfd_bits::{get, put_uint};
 pub use config::LinkConfig;
 pub use count::{Continuity, FRAME_COUNTS, VcCounter, VcMonitor};
 pub use error::FrameError;
-pub use header::{FrameHeader, IDLE_CHANNEL};
+pub use header::{FrameHeader, HEADER_LEN, IDLE_CHANNEL};
 pub use laws::{a_frame_has_one_header, one_number_is_missing, written_frame_is_read};
-
-/// Octets of a frame's primary header (CCSDS 732.0-B-4, 4.1.2).
-const HEADER_LEN: usize = 6;
 
 /// Octets of the M_PDU header, in front of the packet zone (CCSDS 732.0-B-4, 4.1.4.2).
 const MPDU_HEADER_LEN: usize = 2;
@@ -79,7 +90,7 @@ pub fn decode<'a>(bytes: &'a [u8], link: &LinkConfig) -> Result<(FrameHeader, &'
     Ok((header, &bytes[HEADER_LEN..]))
 }
 
-/// Writes the header into the first 6 octets: usage flag 0, count cycle 0. The octets behind stay.
+/// Writes the header, which [`FrameHeader::is_writable`] tests, into the first 6 octets: usage flag 0, count cycle 0. The octets behind stay.
 pub fn encode(header: &FrameHeader, out: &mut [u8])
     requires fits { FitsHeader header.now }
     requires room { 6 ≤ length out.old }

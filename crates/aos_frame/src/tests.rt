@@ -94,9 +94,40 @@ fn refusals_have_their_numbers(rt: HostRuntime) {
     );
     assert_eq!(rt; decode(&frame[1..], &LINK), Err(FrameError::Length));
     assert_eq!(rt; FrameError::Length.number(), 1);
+    assert_eq!(rt; FrameError::Length.name(), "Length");
+    assert_eq!(rt; FrameError::OtherChannel.name(), "OtherChannel");
     frame[5] = 0x4F;
     let (read, _) = decode(&frame, &LINK).expect(&rt, "a frame");
     assert_eq!(rt; read.count, 0);
+}
+
+#[test]
+fn reads_the_header_of_any_link(rt: HostRuntime) {
+    let header = FrameHeader {
+        spacecraft: 255,
+        channel: 62,
+        count: 16_777_215,
+    };
+    assert!(rt; header.is_writable());
+    let mut frame = [0u8; FRAME_LEN];
+    encode(&header, &mut frame);
+    frame[7] = 0x04;
+    assert_eq!(rt; FrameHeader::read(&frame, 32), Ok((header, &frame[6..])));
+    assert_eq!(rt; FrameHeader::read(&frame, 33), Err(FrameError::Length));
+    assert_eq!(rt; FrameHeader::read(&[], 32), Err(FrameError::Length));
+
+    let idle = FrameHeader {
+        channel: 63,
+        ..header
+    };
+    let late = FrameHeader {
+        count: 16_777_216,
+        ..header
+    };
+    assert!(rt; !idle.is_writable());
+    assert!(rt; !late.is_writable());
+    frame[1] = 0xFF;
+    assert_eq!(rt; FrameHeader::read(&frame, 32), Err(FrameError::OnlyIdle));
 }
 
 #[test]
@@ -131,5 +162,8 @@ fn counts_frames_and_those_that_are_missing(rt: HostRuntime) {
         (9, Continuity::Follows),
     ] {
         assert_eq!(rt; monitor.see(count), answer);
+    }
+    for (count, follows) in [(10, true), (12, false), (13, true)] {
+        assert_eq!(rt; monitor.follows(count), follows);
     }
 }

@@ -1,3 +1,4 @@
+-- Exported: the written octets of a packet, and of an idle one, spell it; `written_packet_is_read` and `idle_is_writable` for callers.
 -- What the octets of a packet determine, and what is written.
 use Rattle.std.proofs.Common.{◌≡◌, ℕ, zero, suc, ◌+◌, ◌-◌, ◌*◌, ◌/◌, ◌%◌, ◌^◌, ◌<◌, ◌≤◌, Bool, true, false, nat_eq, List, [], ◌++◌, length, take, drop, refl, sym, ap, subst, ◌∙◌, arith, append_assoc, length-append, length-drop, lit<, replicate}
 use Rattle.std.proofs.lemmas.List.{take_at, drop_at, length-take-le, take-append-drop, drop-drop, length-replicate}
@@ -146,18 +147,18 @@ a_packet_has_one_spelling p text small s =
     )
 
 -- what is read is spelled so
-pub spelled : (text : List ℕ) (n a k s f c : ℕ) (body : List ℕ) → field text 0 3 ≡ 0 → n ≡ 7 + field text 32 16 → n ≤ length text →
-    a ≡ field text 5 11 → k ≡ field text 3 1 → s ≡ field text 4 1 → f ≡ field text 16 2 → c ≡ field text 18 14 → body ≡ drop 6 (take n text) →
-    SpellsPacket (record { apid = a; kind = nat_eq k 1; secondary = nat_eq s 1; flags = f; count = c; body = body }) (take (6 + length body) text)
-spelled text n a k s f c body version size room ea ek es ef ec eb =
+pub spelled : (text : List ℕ) (n a f c : ℕ) (k s : Bool) (body : List ℕ) → field text 0 3 ≡ 0 → n ≡ 7 + field text 32 16 → n ≤ length text →
+    a ≡ field text 5 11 → k ≡ nat_eq (field text 3 1) 1 → s ≡ nat_eq (field text 4 1) 1 → f ≡ field text 16 2 → c ≡ field text 18 14 → body ≡ drop 6 (take n text) →
+    SpellsPacket (record { apid = a; kind = k; secondary = s; flags = f; count = c; body = body }) (take (6 + length body) text)
+spelled text n a f c k s body version size room ea ek es ef ec eb =
     let len : length (take n text) ≡ n = length-take-le n text room in
     let rest : length body ≡ n - 6 = ap length eb ∙ omega (arith, length-drop 6 (take n text)) in
     let whole : 6 + length body ≡ n = omega arith in
     let part : (at w : ℕ) → at + w ≤ 48 → field (take n text) at w ≡ field text at w = λ (at w : ℕ) (few : at + w ≤ 48). field-take n text at w (omega arith) in
     rw whole (record {
       version = part 0 3 (omega arith) ∙ version;
-      kind = part 3 1 (omega arith) ∙ sym ek ∙ flag_read k (omega (arith, field-below text 3 1));
-      secondary = part 4 1 (omega arith) ∙ sym es ∙ flag_read s (omega (arith, field-below text 4 1));
+      kind = part 3 1 (omega arith) ∙ flag_read (field text 3 1) (omega (arith, field-below text 3 1)) ∙ ap flag (sym ek);
+      secondary = part 4 1 (omega arith) ∙ flag_read (field text 4 1) (omega (arith, field-below text 4 1)) ∙ ap flag (sym es);
       apid = part 5 11 (omega arith) ∙ sym ea;
       flags = part 16 2 (omega arith) ∙ sym ef;
       count = part 18 14 (omega arith) ∙ sym ec;

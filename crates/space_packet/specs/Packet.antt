@@ -1,5 +1,5 @@
 -- What a space packet is, and which octets spell it (CCSDS 133.0-B-2, 4.1).
-use Rattle.std.specs.Prelude.{◌≡◌, ℕ, ◌+◌, ◌-◌, ◌*◌, ◌<◌, ◌≤◌, Bool, true, false, List, ◌++◌, length, drop, replicate, Option, Some, None, nat_lt, ◌==◌, not, if◌then◌else◌}
+use Rattle.std.specs.Prelude.{◌≡◌, ℕ, ◌+◌, ◌-◌, ◌*◌, ◌<◌, ◌≤◌, Bool, false, List, ◌++◌, codes, length, drop, replicate, Option, Some, None, nat_lt, ◌==◌, not, if◌then◌else◌}
 use Rattle.cfd_bits.specs.Field.{field, octets, flag}
 use Rattle.space_packet.specs.declared.error.PacketError.{PacketError}
 use Rattle.space_packet.specs.declared.error.PacketError.TheVariants.{Short, Version}
@@ -22,19 +22,41 @@ view p = record { apid = p.apid; kind = p.kind; secondary = p.secondary; flags =
 abbrev pub packet_len : Parts → ℕ
 packet_len p = 6 + length p.body
 
--- The octets are this packet, and no more. The data length field holds the octets of the data field less one, so that none is empty.
+-- The fields of the primary header in front of octets (4.1.3), by their first bit and their width.
+-- 4.1.3.2, the packet version number
+abbrev pub version_field : List ℕ → ℕ
+version_field text = field text 0 3
+
+-- 4.1.3.3, the packet identification: type, secondary header flag, application process identifier
+abbrev pub type_field : List ℕ → ℕ
+type_field text = field text 3 1
+
+abbrev pub secondary_field : List ℕ → ℕ
+secondary_field text = field text 4 1
+
+abbrev pub apid_field : List ℕ → ℕ
+apid_field text = field text 5 11
+
+-- 4.1.3.4, the packet sequence control: sequence flags, sequence count
+abbrev pub flags_field : List ℕ → ℕ
+flags_field text = field text 16 2
+
+abbrev pub count_field : List ℕ → ℕ
+count_field text = field text 18 14
+
+-- 4.1.3.5, the packet data length: the octets of the data field less one
+abbrev pub length_field : List ℕ → ℕ
+length_field text = field text 32 16
+
+-- The octets are this packet, and no more. Its data field has one octet more than the data length field says, so that none is empty.
 pub record SpellsPacket (p : Parts) (text : List ℕ) : Type 0 where
-  -- 4.1.3.2, the packet version number
-  pub version : field text 0 3 ≡ 0
-  -- 4.1.3.3, the packet identification: type, secondary header flag, application process identifier
-  pub kind : field text 3 1 ≡ flag p.kind
-  pub secondary : field text 4 1 ≡ flag p.secondary
-  pub apid : field text 5 11 ≡ p.apid
-  -- 4.1.3.4, the packet sequence control: sequence flags, sequence count
-  pub flags : field text 16 2 ≡ p.flags
-  pub count : field text 18 14 ≡ p.count
-  -- 4.1.3.5, the packet data length
-  pub data_length : field text 32 16 + 1 ≡ length p.body
+  pub version : version_field text ≡ 0
+  pub kind : type_field text ≡ flag p.kind
+  pub secondary : secondary_field text ≡ flag p.secondary
+  pub apid : apid_field text ≡ p.apid
+  pub flags : flags_field text ≡ p.flags
+  pub count : count_field text ≡ p.count
+  pub data_length : length_field text + 1 ≡ length p.body
   -- 4.1.4, the packet data field
   pub size : length text ≡ packet_len p
   pub body : drop 6 text ≡ p.body
@@ -56,6 +78,10 @@ header_octets p data_octets =
 abbrev pub packet_octets : Parts → List ℕ
 packet_octets p = header_octets p (length p.body) ++ p.body
 
+-- the octets that a packet can have: its header, and a data field of 1 to 65,536
+abbrev pub IsPacketLen : ℕ → Type 0
+IsPacketLen len = (7 ≤ len) × (len ≤ 65542)
+
 -- the idle packet of so many octets, unsegmented (4.1.3.3.4)
 abbrev pub idle : ℕ → Parts
 idle len = record { apid = 2047; kind = false; secondary = false; flags = 3; count = 0; body = replicate (len - 6) 0 }
@@ -64,6 +90,15 @@ idle len = record { apid = 2047; kind = false; secondary = false; flags = 3; cou
 abbrev pub fault : List ℕ → Option PacketError
 fault text =
     if nat_lt (length text) 6 then Some Short
-    else if not (field text 0 3 == 0) then Some Version
-    else if nat_lt (length text) (7 + field text 32 16) then Some Short
+    else if not (version_field text == 0) then Some Version
+    else if nat_lt (length text) (7 + length_field text) then Some Short
     else None
+
+-- the number of a refusal, and its name
+abbrev pub refusal_number : PacketError → ℕ
+refusal_number Short = 1
+refusal_number Version = 2
+
+abbrev pub refusal_name : PacketError → List ℕ
+refusal_name Short = codes "Short"
+refusal_name Version = codes "Version"

@@ -3,11 +3,11 @@ ghost use Rattle.std.specs.Prelude.{◌≡◌, ◌+◌, ◌%◌, ◌<◌, Some, 
 
 use std::marker::Model;
 
-/// The numbers that a 14 bit count can be.
-const COUNTS: u16 = 16_384;
+/// The numbers that a sequence count can be, 0 to 16,383. Behind the last comes 0.
+pub const SEQUENCE_COUNTS: u16 = 16_384;
 
 /// The sequence counts of the packets of one identifier, in order: 0, 1, .. 16,383, 0, ..
-#[derive(Debug, Drop)]
+#[derive(Clone, Debug, Default, Drop)]
 pub struct Counter {
     next: u16,
 }
@@ -37,13 +37,13 @@ impl Counter {
         ensures after { self.new ≡ (self.old + 1) % 16384 }
     {
         let count = self.next;
-        self.next = (count + 1) % COUNTS;
+        self.next = (count + 1) % SEQUENCE_COUNTS;
         count
     }
 }
 
 /// Tells how many packets are missing between those that come.
-#[derive(Debug, Drop)]
+#[derive(Clone, Debug, Default, Drop)]
 pub struct Watch {
     last: Option<u16>,
 }
@@ -67,7 +67,8 @@ impl Watch {
         Watch { last: None }
     }
 
-    /// How many packets are missing between the last one seen and one with this count, modulo 16,384; 0 at the first.
+    /// How many packets are missing between the last one seen and one with this count, modulo [`SEQUENCE_COUNTS`]; 0 at the first.
+    /// The count is below that, as `decode` answers it.
     pub fn see(&mut self, count: u16) -> u16
         requires { count < 16384 }
         ensures first { self.old ≡ None → result ≡ 0 }
@@ -77,7 +78,7 @@ impl Watch {
     {
         let missing = match self.last {
             None => 0,
-            Some(last) => (count + (COUNTS - 1 - last)) % COUNTS,
+            Some(last) => (count + (SEQUENCE_COUNTS - 1 - last)) % SEQUENCE_COUNTS,
         };
         self.last = Some(count);
         missing

@@ -1,4 +1,7 @@
 //! Why no packet stands in front.
+ghost use Rattle.std.specs.Prelude.{◌≡◌};
+ghost use Rattle.space_packet.specs.Packet.{refusal_number, refusal_name};
+
 use thiserror::Error;
 
 /// Why the octets begin with no packet.
@@ -10,4 +13,26 @@ pub enum PacketError {
     /// The version number is not 0 (CCSDS 133.0-B-2, 4.1.3.2).
     #[error("the packet version number is not 0")]
     Version,
+}
+
+impl PacketError {
+    /// The number that stands for this refusal in reports.
+    pub fn number(self) -> u8
+        ensures { result ≡ refusal_number self }
+    {
+        match self {
+            PacketError::Short => 1,
+            PacketError::Version => 2,
+        }
+    }
+
+    /// The name of this refusal in reports.
+    pub fn name(self) -> &'static str
+        ensures { result.now ≡ refusal_name self }
+    {
+        match self {
+            PacketError::Short => "Short",
+            PacketError::Version => "Version",
+        }
+    }
 }

@@ -1,6 +1,17 @@
 //! Space packets (CCSDS 133.0-B-2): their octets, their counts, and the counts that are missing.
 //!
 //! None of these calls takes memory: a packet's body is borrowed from the octets that it was read from, or that it is to be written from.
+//!
+//! A packet is written into octets of the caller's, and read from them; behind it may stand more:
+//!
+//! ```
+//! let packet = Packet { apid: 100, kind: false, secondary: false, flags: 3, count: 0, body: b"hello" };
+//! let mut octets = [0u8; 16];
+//! if packet.is_writable() {
+//!     let len = encode(&packet, &mut octets);   // 11
+//!     let (read, rest) = decode(&octets[..len])?;
+//! }
+//! ```
 #![tactic(auto)]
 
 ghost use Rattle.std.specs.Prelude.{◌≡◌, ℕ, ◌<◌, ◌≤◌, ◌++◌, List, length, take, drop, IfOk, IsOkAnd};
@@ -9,19 +20,18 @@ ghost use Rattle.space_packet.specs.Packet.{Parts, SpellsPacket, IsWritable, fau
 
 mod count;
 mod error;
+pub mod header;
 mod laws;
 mod packet;
 #[cfg(test)]
 mod tests;
 
-use cfd_bits::{get, put_bytes, put_uint};
-pub use count::{Counter, Watch};
+use cfd_bits::{put_bytes, put_uint};
+pub use count::{Counter, SEQUENCE_COUNTS, Watch};
 pub use error::PacketError;
+use header::HEADER_LEN;
 pub use laws::{a_packet_has_one_spelling, no_packet_begins_another, written_packet_is_read};
-pub use packet::{IDLE_APID, Packet};
-
-/// Octets of a packet's primary header (CCSDS 133.0-B-2, 4.1.3).
-const HEADER_LEN: usize = 6;
+pub use packet::{IDLE_APID, Packet, is_packet_len};
 
 /// The packet in front, and the octets behind it.
 ///
@@ -39,26 +49,27 @@ pub fn decode(bytes: &[u8]) -> Result<(Packet<'_>, &[u8]), PacketError>
     if bytes.len() < HEADER_LEN {
         return Err(PacketError::Short);
     }
-    if get(bytes, 0, 3) != 0 {
+    if header::version(bytes) != 0 {
         return Err(PacketError::Version);
     }
-    let len = HEADER_LEN + 1 + get(bytes, 32, 16) as usize;
+    let len = header::packet_len(bytes);
     if bytes.len() < len {
         return Err(PacketError::Short);
     }
     let (front, rest) = bytes.split_at(len);
     let packet = Packet {
-        apid: get(bytes, 5, 11) as u16,
-        kind: get(bytes, 3, 1) == 1,
-        secondary: get(bytes, 4, 1) == 1,
-        flags: get(bytes, 16, 2) as u8,
-        count: get(bytes, 18, 14) as u16,
+        apid: header::apid(bytes),
+        kind: header::is_telecommand(bytes),
+        secondary: header::has_secondary_header(bytes),
+        flags: header::sequence_flags(bytes),
+        count: header::sequence_count(bytes),
         body: &front[HEADER_LEN..],
     };
     Ok((packet, rest))
 }
 
-/// Writes the packet into the first octets, and says how many they are: 6 and those of its body.
+/// Writes the packet, which [`Packet::is_writable`] tests, into the first octets, and says how many they are: 6 and those of its body. The
+/// octets behind stay.
 pub fn encode(packet: &Packet<'_>, out: &mut [u8]) -> usize
     requires writable { IsWritable (view packet.now) }
     requires room { packet_len (view packet.now) ≤ length out.old }
@@ -73,7 +84,8 @@ pub fn encode(packet: &Packet<'_>, out: &mut [u8]) -> usize
     put_bytes(front, at, packet.body)
 }
 
-/// Writes an idle packet of `len` octets (7 to 65,542) into the first octets: sequence flags `11`, count 0, data octets 0.
+/// Writes an idle packet of `len` octets (7 to 65,542, which [`is_packet_len`] tests) into the first octets: sequence flags `11`, count 0,
+/// data octets 0. The octets behind stay.
 pub fn encode_idle(len: usize, out: &mut [u8])
     requires least { 7 ≤ len }
     requires most { len ≤ 65542 }

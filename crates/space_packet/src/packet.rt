@@ -1,5 +1,9 @@
 //! A packet, over octets that are lent.
 ghost use Rattle.std.specs.Prelude.{◌≡◌, ◌↔◌, IsTrue};
+ghost use Rattle.space_packet.specs.Packet.{IsWritable, IsPacketLen, view};
+
+use crate::count::SEQUENCE_COUNTS;
+use crate::header::HEADER_LEN;
 
 /// The application process identifier of idle packets, whose data mean nothing (CCSDS 133.0-B-2, 4.1.3.3.4).
 pub const IDLE_APID: u16 = 2047;
@@ -28,4 +32,21 @@ impl Packet<'_> {
     {
         self.apid == IDLE_APID
     }
+
+    /// Whether each part fits its field, as `encode` asks: so it is of each packet that `decode` answers.
+    pub fn is_writable(&self) -> bool
+        ensures { IsTrue result ↔ IsWritable (view self.now) }
+    {
+        self.apid <= IDLE_APID
+            && self.flags < 4
+            && self.count < SEQUENCE_COUNTS
+            && (1..=65_536).contains(&self.body.len())
+    }
+}
+
+/// Whether a packet can have so many octets, its header among them: 7 to 65,542.
+pub fn is_packet_len(len: usize) -> bool
+    ensures { IsTrue result ↔ IsPacketLen len }
+{
+    (HEADER_LEN + 1..=65_542).contains(&len)
 }

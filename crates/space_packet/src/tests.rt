@@ -30,6 +30,58 @@ fn refuses_what_begins_with_no_packet(rt: HostRuntime) {
     for (octets, error) in cases {
         assert_eq!(rt; decode(octets).err(), Some(error));
     }
+    for (error, number, name) in [
+        (PacketError::Short, 1, "Short"),
+        (PacketError::Version, 2, "Version"),
+    ] {
+        assert_eq!(rt; error.number(), number);
+        assert_eq!(rt; error.name(), name);
+    }
+}
+
+#[test]
+fn reads_a_header_without_its_packet(rt: HostRuntime) {
+    let octets = [0x38, 0x64, 0xBF, 0xFE, 0x01, 0x00];
+    assert_eq!(rt; header::version(&octets), 1);
+    assert!(rt; header::is_telecommand(&octets));
+    assert!(rt; header::has_secondary_header(&octets));
+    assert_eq!(rt; header::apid(&octets), 100);
+    assert_eq!(rt; header::sequence_flags(&octets), 2);
+    assert_eq!(rt; header::sequence_count(&octets), 16_382);
+    assert_eq!(rt; header::packet_len(&octets), 263);
+}
+
+#[test]
+fn tells_what_can_be_written(rt: HostRuntime) {
+    let packet = Packet {
+        apid: 2047,
+        kind: true,
+        secondary: true,
+        flags: 3,
+        count: 16_383,
+        body: b"A",
+    };
+    assert!(rt; packet.is_writable());
+    for other in [
+        Packet {
+            apid: 2048,
+            ..packet
+        },
+        Packet { flags: 4, ..packet },
+        Packet {
+            count: 16_384,
+            ..packet
+        },
+        Packet {
+            body: &[],
+            ..packet
+        },
+    ] {
+        assert!(rt; !other.is_writable());
+    }
+    for (len, can_be) in [(6, false), (7, true), (65_542, true), (65_543, false)] {
+        assert_eq!(rt; is_packet_len(len), can_be);
+    }
 }
 
 #[test]

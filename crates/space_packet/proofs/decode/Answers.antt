@@ -10,16 +10,16 @@ returns-then-bytes-lt-HEADER_LEN-clause-front c p n s =
     let cut : length (take n c.args.bytes.now) ≤ length c.args.bytes.now = omega (arith, length-take n c.args.bytes.now) in
     absurd (omega arith)
 
-pub returns-then-get-ne0-clause-only : goal.returns-then-get-ne0-clause-only
-returns-then-get-ne0-clause-only c p front behind s is =
+pub returns-then-version-ne0-clause-only : goal.returns-then-version-ne0-clause-only
+returns-then-version-ne0-clause-only c p front behind s is =
     let f : IsInFront c.args.bytes.now front behind = in_front p c.args.bytes.now front behind s is in
-    c.if-get-ne0.true (c.get.ensures.value ∙ f.same 0 3 (omega arith) ∙ s.version)
+    c.if-version-ne0.true (c.version.ensures.value ∙ f.same 0 3 (omega arith) ∙ s.version)
 
 pub returns-then-bytes-len-clause-only : goal.returns-then-bytes-len-clause-only
 returns-then-bytes-len-clause-only c p front behind s is =
     let f : IsInFront c.args.bytes.now front behind = in_front p c.args.bytes.now front behind s is in
     let room : 7 + field c.args.bytes.now 32 16 ≤ length c.args.bytes.now = f.room in
-    let told : c.get-2.result ≡ field c.args.bytes.now 32 16 = c.get-2.ensures.value in
+    let told : c.packet_len-len.result ≡ 7 + field c.args.bytes.now 32 16 = c.packet_len-len.ensures.value in
     omega arith
 
 -- the body that is lent
@@ -28,26 +28,26 @@ lent front text n e = take_rest front 6 ∙ ap (λ l. drop 6 l) e
 
 pub returns-clause-found : goal.returns-clause-found
 returns-clause-found c =
-    spelled c.args.bytes.now (7 + c.get-2.result) c.get-3.result c.get-4.result c.get-5.result c.get-6.result c.get-7.result _ (sym c.get.ensures.value ∙ c.if-get-ne0.false)
-    (ap (λ n. 7 + n) c.get-2.ensures.value) (omega arith)
-    c.get-3.ensures.value c.get-4.ensures.value c.get-5.ensures.value c.get-6.ensures.value c.get-7.ensures.value (lent c.split_at.result.0.now c.args.bytes.now (7 + c.get-2.result) c.split_at.ensures.front)
+    spelled c.args.bytes.now c.packet_len-len.result c.apid.result c.sequence_flags.result c.sequence_count.result c.is_telecommand.result c.has_secondary_header.result _
+    (sym c.version.ensures.value ∙ c.if-version-ne0.false) c.packet_len-len.ensures.value (omega arith) c.apid.ensures.value c.is_telecommand.ensures c.has_secondary_header.ensures
+    c.sequence_flags.ensures.value c.sequence_count.ensures.value (lent c.split_at.result.0.now c.args.bytes.now c.packet_len-len.result c.split_at.ensures.front)
 
 pub returns-clause-only : goal.returns-clause-only
 returns-clause-only c p front behind s is =
     let f : IsInFront c.args.bytes.now front behind = in_front p c.args.bytes.now front behind s is in
-    let long : 7 + c.get-2.result ≡ 7 + field c.args.bytes.now 32 16 = ap (λ n. 7 + n) c.get-2.ensures.value in (
+    let long : c.packet_len-len.result ≡ 7 + field c.args.bytes.now 32 16 = c.packet_len-len.ensures.value in (
       same_parts _ p
-          (c.get-3.ensures.value ∙ f.same 5 11 (omega arith) ∙ s.apid)
-          (flag_given c.get-4.result p.kind (c.get-4.ensures.value ∙ f.same 3 1 (omega arith) ∙ s.kind))
-          (flag_given c.get-5.result p.secondary (c.get-5.ensures.value ∙ f.same 4 1 (omega arith) ∙ s.secondary))
-          (c.get-6.ensures.value ∙ f.same 16 2 (omega arith) ∙ s.flags)
-          (c.get-7.ensures.value ∙ f.same 18 14 (omega arith) ∙ s.count)
-          (lent c.split_at.result.0.now c.args.bytes.now (7 + c.get-2.result) c.split_at.ensures.front ∙ ap (λ n. drop 6 (take n c.args.bytes.now)) long ∙ ap (drop 6) f.front_is ∙ s.body),
+          (c.apid.ensures.value ∙ f.same 5 11 (omega arith) ∙ s.apid)
+          (c.is_telecommand.ensures ∙ flag_given (field c.args.bytes.now 3 1) p.kind (f.same 3 1 (omega arith) ∙ s.kind))
+          (c.has_secondary_header.ensures ∙ flag_given (field c.args.bytes.now 4 1) p.secondary (f.same 4 1 (omega arith) ∙ s.secondary))
+          (c.sequence_flags.ensures.value ∙ f.same 16 2 (omega arith) ∙ s.flags)
+          (c.sequence_count.ensures.value ∙ f.same 18 14 (omega arith) ∙ s.count)
+          (lent c.split_at.result.0.now c.args.bytes.now c.packet_len-len.result c.split_at.ensures.front ∙ ap (λ n. drop 6 (take n c.args.bytes.now)) long ∙ ap (drop 6) f.front_is ∙ s.body),
       c.split_at.ensures.back ∙ ap (λ n. drop n c.args.bytes.now) long ∙ f.behind_is,
     )
 
-pub returns-then-get-ne0-clause-front : goal.returns-then-get-ne0-clause-front
-returns-then-get-ne0-clause-front c p n s = returns-then-get-ne0-clause-only c p (take n c.args.bytes.now) (drop n c.args.bytes.now) s (sym (take-append-drop n c.args.bytes.now))
+pub returns-then-version-ne0-clause-front : goal.returns-then-version-ne0-clause-front
+returns-then-version-ne0-clause-front c p n s = returns-then-version-ne0-clause-only c p (take n c.args.bytes.now) (drop n c.args.bytes.now) s (sym (take-append-drop n c.args.bytes.now))
 
 pub returns-then-bytes-len-clause-front : goal.returns-then-bytes-len-clause-front
 returns-then-bytes-len-clause-front c p n s = returns-then-bytes-len-clause-only c p (take n c.args.bytes.now) (drop n c.args.bytes.now) s (sym (take-append-drop n c.args.bytes.now))

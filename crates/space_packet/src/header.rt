@@ -1,0 +1,72 @@
+//! What the primary header in front of some octets says (CCSDS 133.0-B-2, 4.1.3), also where its packet isn't all there.
+//!
+//! The octets are 6 at least: the header's. What stands behind them, and how much of it, says nothing here.
+ghost use Rattle.std.specs.Prelude.{◌≡◌, ◌==◌, ◌+◌, ◌<◌, ◌≤◌, length};
+ghost use Rattle.space_packet.specs.Packet.{version_field, type_field, secondary_field, apid_field, flags_field, count_field, length_field};
+
+use cfd_bits::get;
+
+/// Octets of a packet's primary header.
+pub const HEADER_LEN: usize = 6;
+
+/// The packet version number, 0 to 7. Packets of this stack have 0.
+pub fn version(octets: &[u8]) -> u8
+    requires { 6 ≤ length octets.now }
+    ensures value { result ≡ version_field octets.now }
+    ensures below { result < 8 }
+{
+    get(octets, 0, 3) as u8
+}
+
+/// The packet type: true for telecommand, false for telemetry.
+pub fn is_telecommand(octets: &[u8]) -> bool
+    requires { 6 ≤ length octets.now }
+    ensures { result ≡ (type_field octets.now == 1) }
+{
+    get(octets, 3, 1) == 1
+}
+
+/// Whether the packet's data begin with a secondary header.
+pub fn has_secondary_header(octets: &[u8]) -> bool
+    requires { 6 ≤ length octets.now }
+    ensures { result ≡ (secondary_field octets.now == 1) }
+{
+    get(octets, 4, 1) == 1
+}
+
+/// The application process identifier, 0 to 2,047.
+pub fn apid(octets: &[u8]) -> u16
+    requires { 6 ≤ length octets.now }
+    ensures value { result ≡ apid_field octets.now }
+    ensures below { result < 2048 }
+{
+    get(octets, 5, 11) as u16
+}
+
+/// The sequence flags, 0 to 3: 0 a continuation, 1 the first and 2 the last segment, 3 unsegmented.
+pub fn sequence_flags(octets: &[u8]) -> u8
+    requires { 6 ≤ length octets.now }
+    ensures value { result ≡ flags_field octets.now }
+    ensures below { result < 4 }
+{
+    get(octets, 16, 2) as u8
+}
+
+/// The sequence count, 0 to 16,383.
+pub fn sequence_count(octets: &[u8]) -> u16
+    requires { 6 ≤ length octets.now }
+    ensures value { result ≡ count_field octets.now }
+    ensures below { result < 16384 }
+{
+    get(octets, 18, 14) as u16
+}
+
+/// The octets that the packet has in all, its header among them, 7 to 65,542: the length field holds 7 less.
+pub fn packet_len(octets: &[u8]) -> usize
+    requires { 6 ≤ length octets.now }
+    ensures value { result ≡ 7 + length_field octets.now }
+    ensures least { 7 ≤ result }
+    ensures most { result ≤ 65542 }
+{
+    get(octets, 32, 16) as usize + 7
+}
