@@ -39,12 +39,8 @@ use Rattle.link_sim.specs.Sender.{sender_due, sender_says, sender_taken, sender_
 use Rattle.link_sim.specs.Sender as sender
 use Rattle.link_sim.specs.Receiver.{receiver_due, receiver_says, receiver_taken, is_finishing, finished_due_by}
 use Rattle.link_sim.specs.Receiver as receiver
-<<<<<<< HEAD
-use Rattle.link_sim.specs.Station.{StationState, Taken, takes, takes_of, takes_from_sender, takes_from_receiver, after_taken, file_at, id_of, sender_addressing, receiver_addressing, IsWritable, IsWritableSender, IsWritableReceiver}
-=======
 use Rattle.cfdp_store.specs.Files.{octets_in}
-use Rattle.link_sim.specs.Station.{StationState, Taken, takes, takes_of, takes_from_sender, takes_from_receiver, after_taken, id_of, FitsWidths, IsWritable, IsWritableSender, IsWritableReceiver}
->>>>>>> 95a9bf6
+use Rattle.link_sim.specs.Station.{StationState, Taken, takes, takes_of, takes_from_sender, takes_from_receiver, after_taken, id_of, sender_addressing, receiver_addressing, IsWritable, IsWritableSender, IsWritableReceiver}
 use Rattle.link_sim.specs.Sound.{finished_count, SendsPut, ReceivesPut, IsSoundTransaction, SaysDelivered}
 use Rattle.link_sim.proofs.StationSound.{TruthBy, Parts, Moves, parts-send, parts-moved, moves-quiet}
 

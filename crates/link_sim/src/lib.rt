@@ -3,11 +3,6 @@
 
 mod config;
 mod event;
-<<<<<<< HEAD
-mod files;
-=======
-mod header;
->>>>>>> 95a9bf6
 mod held;
 mod link;
 mod receiver;

@@ -6,23 +6,13 @@ ghost use Rattle.link_sim.specs.Station.{takes, IsWritable, PollsStation, HearsP
 ghost use Rattle.link_sim.specs.World.{first_station, sends_file};
 
 use crate::config::SimConfig;
-<<<<<<< HEAD
-use crate::files::Files;
-=======
-use crate::header::is_for;
->>>>>>> 95a9bf6
 use crate::link::Link;
 use crate::sender::Sender;
 use crate::side::Side;
 use crate::transaction::{Transaction, hear};
-<<<<<<< HEAD
 use cfdp_directives::{Indication, Octets, Pdu, decode, direction_fits, is_for};
 use cfdp_header::{Header, TransactionId};
-=======
-use cfdp_directives::{Indication, Octets, decode};
-use cfdp_header::TransactionId;
 use cfdp_store::Files;
->>>>>>> 95a9bf6
 use std::alloc::{AllocError, Global};
 use std::marker::Model;
 
