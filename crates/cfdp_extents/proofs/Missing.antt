@@ -148,7 +148,7 @@ module _ (xs : List (ℕ × ℕ)) (start from p limit : ℕ) (b : Behind xs star
   from-start : start ≤ from
   from-start = elim b.from_is [ inl f ↦ omega (arith, f.1) | inr f ↦ omega (arith, f.3) ]
 
-  pub rest-behind : StartBehind from (drop p xs)
+  rest-behind : StartBehind from (drop p xs)
   rest-behind = start_at from p xs (λ d m. elim b.from_is [
     | inl f ↦ let at : start < (get_or xs p d).0 = b.behind p d (omega arith) m in omega (arith, f.1)
     | inr f ↦
@@ -249,13 +249,6 @@ only-ranges held xs ys h k = same-ranges xs ys h.apart k.apart
 -- a list is longer than its rest
 pub progress-first : (s : List (ℕ × ℕ)) (x : ℕ × ℕ) (t : List (ℕ × ℕ)) → s ≡ x ∷ t → MakesProgress (λ _. Unit {0}) (item_count {S = List (ℕ × ℕ)} {A = ℕ × ℕ} (λ rest. rest)) s (Some x) t
 progress-first s x t e = rw e (search rules)
-
--- what is left once the gap before a first range was given
-pub next_apart : (limit : ℕ) (xs : List (ℕ × ℕ)) (r : ℕ × ℕ) (rs : List (ℕ × ℕ)) → xs ≡ r ∷ rs → AreApart xs → AreApart rs × (r.1 < limit → StartBehind r.1 rs)
-next_apart limit xs r rs e h = let k : AreApart (r ∷ rs) = subst AreApart e h in (k.2, λ _. k.1)
-
-pub gap_some : (start limit : ℕ) (xs : List (ℕ × ℕ)) (r : ℕ × ℕ) (rs : List (ℕ × ℕ)) → xs ≡ r ∷ rs → (start < limit → StartBehind start xs) → start < limit → start < r.0
-gap_some start limit xs r rs e h lt = let k : StartBehind start (r ∷ rs) = subst (StartBehind start) e (h lt) in k
 
 -- a first range that starts at the limit or behind it
 pub behind_limit : (limit : ℕ) (xs : List (ℕ × ℕ)) (r : ℕ × ℕ) (rs : List (ℕ × ℕ)) → 0 < limit → xs ≡ r ∷ rs → limit ≤ r.0 → StartBehind (limit - 1) xs

@@ -11,15 +11,6 @@ fn gaps(
     held.missing_in(start, limit).collect(alloc)
 }
 
-// A caller's proof needs no lemma to take a gap's length.
-fn widest(held: &Extents, limit: u64) -> u64 {
-    let mut widest = 0;
-    for (start, end) in held.missing(limit) {
-        widest = widest.max(end - start);
-    }
-    widest
-}
-
 // Ranges that overlap, touch and lie apart, put in in no order.
 #[test]
 fn ranges_are_joined(rt: HostRuntime) -> Result<(), Fail> {
@@ -44,7 +35,6 @@ fn ranges_are_joined(rt: HostRuntime) -> Result<(), Fail> {
         [(12, 20), (50, 55)].as_slice()
     );
     assert!(rt; gaps(alloc, &held, 25, 45)?.is_empty());
-    assert_eq!(rt; widest(&held, 60), 12);
     Ok(())
 }
 

@@ -1,27 +1,11 @@
 use Rattle.std.proofs.Common.{◌∙◌, sym, ap, subst, take, drop}
 use Rattle.std.specs.List.{All}
-use Rattle.cfdp_extents.specs.Offsets.{AreApart, AreRangesOf, StartBehind, missing_from, LiesIn}
+use Rattle.cfdp_extents.specs.Offsets.{AreRangesOf, missing_from, LiesIn}
 use Rattle.cfdp_extents.specs.Ranges.{gaps_between}
-use Rattle.cfdp_extents.proofs.Apart.{apart_drop}
-use Rattle.cfdp_extents.proofs.Missing.{only-ranges, gaps-missing, rest-behind, Behind, behind-last, behind-none}
+use Rattle.cfdp_extents.proofs.Missing.{only-ranges, gaps-missing, Behind, behind-last, behind-none}
 use Rattle.cfdp_extents.proofs.CallerLemmas.{gaps-only, gaps-inside}
 use Rattle.cfdp_extents.proofs.extents.Extents.missing_in.Goals as goal
 use Rattle.cfdp_extents.proofs.extents.Extents.missing_in.Goals.{in-Some, in-None}
-
-pub new-requires-clause-apart : goal.new-requires-clause-apart
-new-requires-clause-apart c =
-    let back = c.split_at.ensures.back ∙ ap (drop c.starting_by.result) c.deref.ensures.value in
-    subst AreApart (sym back) (apart_drop c.starting_by.result c.self.inside.ranges.items c.self.invariant)
-
-pub new-requires-clause-behind : goal.new-requires-clause-behind
-new-requires-clause-behind c =
-    let front = c.split_at.ensures.front ∙ ap (take c.starting_by.result) c.deref.ensures.value in
-    let behind : Behind c.self.inside.ranges.items c.args.start c.match-last.from c.starting_by.result = elim c.match-last.branch [
-      | in-Some w ↦ behind-last c.self.inside.ranges.items c.deref-2.result.now c.split_at.result.0.now c.args.start c.match-last.from c.starting_by.result w.in-Some.range.now c.deref-2.ensures.value c.self.invariant c.starting_by.ensures.within c.starting_by.ensures.parts front w.in-Some.ensures.value (w.from-is ∙ w.max-from.ensures)
-      | in-None w ↦ behind-none c.self.inside.ranges.items c.deref-2.result.now c.split_at.result.0.now c.args.start c.match-last.from c.starting_by.result c.deref-2.ensures.value c.self.invariant c.starting_by.ensures.within c.starting_by.ensures.parts front w.in-None.ensures.value w.from-is
-    ] in
-    let back = c.split_at.ensures.back ∙ ap (drop c.starting_by.result) c.deref.ensures.value in
-    subst (StartBehind c.match-last.from) (sym back) (rest-behind _ _ _ _ c.args.limit behind)
 
 pub returns-clause-gaps : goal.returns-clause-gaps
 returns-clause-gaps c =

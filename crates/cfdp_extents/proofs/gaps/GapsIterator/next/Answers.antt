@@ -1,7 +1,7 @@
 use Rattle.std.proofs.Common.{◌≡◌, ◌-◌, ◌∙◌, sym, ap, arith, [], ◌∷◌}
 use Rattle.cfdp_extents.specs.Offsets.{StartBehind}
 use Rattle.cfdp_extents.specs.Ranges.{gaps_between}
-use Rattle.cfdp_extents.proofs.Missing.{gaps-past, gaps-last, gaps-more, progress-first, gap_some, behind_limit, behind_none}
+use Rattle.cfdp_extents.proofs.Missing.{gaps-past, gaps-last, gaps-more, progress-first, behind_limit, behind_none}
 use Rattle.cfdp_extents.proofs.gaps.GapsIterator.next.Goals as goal
 use Rattle.cfdp_extents.proofs.gaps.GapsIterator.next.Goals.{in_default-via-in-Some+else-range-self, in_default-via-in_default}
 
@@ -32,6 +32,3 @@ returns-in_default-clause-steps c =
 
 pub returns-in_default-clause-goes : goal.returns-in_default-clause-goes
 returns-in_default-clause-goes c = progress-first _ _ _ (returns-in_default-clause-steps c)
-
-pub returns-in-Some-clause-some : goal.returns-in-Some-clause-some
-returns-in-Some-clause-some c = gap_some c.self.inside.start c.self.inside.limit c.self.inside.ranges.now c.in-Some.range.now c.in-Some.others.now c.in-Some.ensures.cases.0 c.self.invariant.1 c.if-self-start.false
