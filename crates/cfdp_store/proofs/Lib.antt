@@ -1,3 +1,3 @@
 mod FileLemmas
-pub mod Octets
+mod Octets
 mod PieceLemmas

@@ -15,10 +15,10 @@ blown f = record { left = f.left; refused = failures_after f.refused false }
 abbrev pub all_failures : ℕ → Fuse → ℕ
 all_failures store fuse = min (store + fuse.refused) (2 ^ 64 - 1)
 
-module _ {Store Call : Type 0} (Steps : Store → Call → Store → Type 0) (Refuses : Call → Type 0) where
-  -- A call through a fuse that has calls left is one call of the store, with the same arguments and the same answer.
-  -- Behind a blown fuse the store isn't called
-  abbrev pub Passes : Store → Fuse → Call → Store → Fuse → Type 0
+module _ {S C : Type 0} (Steps : S → C → S → Type 0) (Refuses : C → Type 0) where
+  -- A call through a fuse that has calls left is one call of the store, with the same arguments
+  -- and the same answer. Behind a blown fuse the store isn't called
+  abbrev pub Passes : S → Fuse → C → S → Fuse → Type 0
   Passes store fuse call store_after fuse_after =
       (0 < fuse.left → Steps store call store_after × (fuse_after ≡ burnt fuse))
       × (fuse.left ≡ 0 → Refuses call × (store_after ≡ store) × (fuse_after ≡ blown fuse))

@@ -1,4 +1,4 @@
--- What both kinds of stores are about: their failures, and the numbers and names of these in reports.
+-- What both kinds of stores are about: failures, and their numbers and names in reports.
 use Rattle.std.specs.Prelude.{ℕ, Bool, List, ◌+◌, ◌-◌, ◌^◌, min, max, codes, if◌then◌else◌}
 use Rattle.cfdp_store.specs.declared.error.StoreError.{StoreError}
 use Rattle.cfdp_store.specs.declared.error.StoreError.TheVariants.{Device, Name, NoMemory}

@@ -38,7 +38,11 @@ impl CountingStore {
 
     fn refuse<T>(&mut self, call: Called) -> Result<T, StoreError>
         ensures answer { result ≡ Err StoreError.Name }
-        ensures counted { self.new ≡ record { files = self.old.files; calls = failures_after self.old.calls false; last = Some call } }
+        ensures counted { self.new ≡ record {
+          files = self.old.files;
+          calls = failures_after self.old.calls false;
+          last = Some call;
+        } }
     {
         self.calls = self.calls.saturating_add(1);
         self.last = Some(call);

@@ -1,8 +1,11 @@
-ghost use Rattle.std.specs.Prelude.{◌≡◌};
+ghost use Rattle.std.specs.Prelude.{◌≡◌, ◌≢◌};
+ghost use Rattle.std.specs.IoError.{error_kind};
+ghost use Rattle.std.specs.declared.io.ErrorKind.TheVariants.{OutOfMemory};
 ghost use Rattle.cfdp_store.specs.Stores.{refusal_number, refusal_name};
-ghost use Rattle.cfdp_store.specs.declared.error.StoreError.TheVariants.{NoMemory};
+ghost use Rattle.cfdp_store.specs.declared.error.StoreError.TheVariants.{Device, NoMemory};
 
 use std::alloc::AllocError;
+use std::io::{self, ErrorKind};
 use thiserror::Error;
 
 /// Why a call of a store failed.
@@ -48,5 +51,18 @@ impl From<AllocError> for StoreError {
 
     fn from(_error: AllocError) -> StoreError {
         StoreError::NoMemory
+    }
+}
+
+/// For stores on a device: what isn't want of memory is `Device`.
+impl From<io::Error> for StoreError {
+    ghost from_gives = { λ error e. (error_kind error ≡ OutOfMemory → e ≡ NoMemory)
+        × (error_kind error ≢ OutOfMemory → e ≡ Device) };
+
+    fn from(error: io::Error) -> StoreError {
+        match error.kind() {
+            ErrorKind::OutOfMemory => StoreError::NoMemory,
+            _ => StoreError::Device,
+        }
     }
 }

@@ -9,8 +9,9 @@ use std::marker::Model;
 
 /// Files in memory by their names.
 ///
-/// A name is a run of octets, and so is what a file has in it: any octets are a name, and none are one, too. At most one
-/// file stands under a name. Names ascend octet by octet, a shorter one before those that it begins.
+/// A name is a run of octets, and so is what a file has in it: any octets are a name, and none are
+/// one, too. At most one file stands under a name. Names ascend octet by octet, a shorter one
+/// before those that it begins.
 #[derive(Debug, Drop)]
 pub struct Files {
     files: BTreeMap<Vec<u8>, Vec<u8>>,
@@ -55,8 +56,8 @@ impl Files {
         self.files
     }
 
-    /// The map that the files are kept in, from names to octets. Its `iter` goes over them in ascending order of their
-    /// names.
+    /// The map that the files are kept in, from names to octets. Its `iter` goes over them in
+    /// ascending order of their names.
     pub fn entries(&self) -> &BTreeMap<Vec<u8>, Vec<u8>>
         ensures { files_of result.now.entries ≡ self.now }
     {

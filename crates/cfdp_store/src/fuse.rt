@@ -40,8 +40,9 @@ impl Fuse {
 
 /// An outbox that fails from a chosen call on, for tests of what comes after a failure.
 ///
-/// A call before the chosen one is one call of the store behind it, with the same arguments, and gives the store's own
-/// answer. The chosen call and all later ones answer `Device`, and the store behind isn't called.
+/// A call before the chosen one is one call of the store behind it, with the same arguments, and
+/// gives the store's own answer. The chosen call and all later ones answer `Device`, and the store
+/// behind isn't called.
 #[derive(Debug, Drop)]
 pub struct FuseOutbox<O> {
     store: O,
@@ -49,8 +50,8 @@ pub struct FuseOutbox<O> {
 }
 
 impl<O: Outbox> FuseOutbox<O> {
-    /// An outbox over `store` whose call number `call` fails, and all later ones, counting from 1. `failures` isn't
-    /// counted as a call. At 0 all calls fail, as at 1.
+    /// An outbox over `store` whose call number `call` fails, and all later ones, counting from 1.
+    /// `failures` isn't counted as a call. At 0 all calls fail, as at 1.
     pub fn new(store: O, call: u64) -> Self
         ensures { result ≡ record { store = store; fuse = record { left = call - 1; refused = 0 } } }
     {
@@ -99,8 +100,9 @@ impl<O: Outbox> Outbox for FuseOutbox<O> {
 
 /// An inbox that fails from a chosen call on, for tests of what comes after a failure.
 ///
-/// A call before the chosen one is one call of the store behind it, with the same arguments, and gives the store's own
-/// answer. The chosen call and all later ones answer `Device`, and the store behind isn't called.
+/// A call before the chosen one is one call of the store behind it, with the same arguments, and
+/// gives the store's own answer. The chosen call and all later ones answer `Device`, and the store
+/// behind isn't called.
 #[derive(Debug, Drop)]
 pub struct FuseInbox<I> {
     store: I,
@@ -108,8 +110,8 @@ pub struct FuseInbox<I> {
 }
 
 impl<I: Inbox> FuseInbox<I> {
-    /// An inbox over `store` whose call number `call` fails, and all later ones, counting from 1. `failures` isn't
-    /// counted as a call. At 0 all calls fail, as at 1.
+    /// An inbox over `store` whose call number `call` fails, and all later ones, counting from 1.
+    /// `failures` isn't counted as a call. At 0 all calls fail, as at 1.
     pub fn new(store: I, call: u64) -> Self
         ensures { result ≡ record { store = store; fuse = record { left = call - 1; refused = 0 } } }
     {

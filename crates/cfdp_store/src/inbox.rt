@@ -11,31 +11,34 @@ use cfdp_header::TransactionId;
 
 /// A place that takes received files.
 ///
-/// The octets of a file come in any order, so they are staged first, for the transaction that brings them. Once all of
-/// them are there, the file is published under its name, and only then do others see it. A name is a run of octets, and
-/// so is what a file has in it.
+/// The octets of a file come in any order, so they are staged first, for the transaction that
+/// brings them. Once all of them are there, the file is published under its name, and only then do
+/// others see it. A name is a run of octets, and so is what a file has in it.
 pub trait Inbox: Drop {
-    /// The octets of each published file by its name. Only a `publish` that answers `Ok` changes them.
+    /// The octets of each published file by its name. Only a `publish` that answers `Ok` changes
+    /// them.
     ghost published: { Self → FileMap };
 
-    /// The octets staged for a transaction, by their offsets in the file. `None` where nothing may be written for it:
-    /// it wasn't begun, was published or discarded since, or a call of it failed since.
+    /// The octets staged for a transaction, by their offsets in the file. `None` where nothing may
+    /// be written for it: it wasn't begun, was published or discarded since, or a call of it failed
+    /// since.
     ghost staged: { Self → TransactionId → Option OctetMap };
 
     /// How many calls failed.
     ghost failures: { Self → ℕ };
 
-    /// What a call may do: it leads from one state of the store, with its arguments and its answer, to another. A store
-    /// says by it what is true of this store alone, as that it fails only for memory, or nothing. One that wraps another
-    /// says by it that the answer is the other's own, after one call of it.
+    /// What a call may do: it leads from one state of the store, with its arguments and its answer,
+    /// to another. A store says by it what is true of this store alone, as that it fails only for
+    /// memory, or nothing. One that wraps another says by it that the answer is the other's own,
+    /// after one call of it.
     ghost steps: { Self → InboxCall → Self → Type 0 } = { λ _ _ _. Unit {0} };
 
     /// Begins a transaction, with nothing staged for it. What was staged for it is let go.
     ///
     /// # Errors
     ///
-    /// Any `StoreError`, at the store's will. It is counted as a failure, and nothing is known of what is then staged
-    /// for this transaction.
+    /// Any `StoreError`, at the store's will. It is counted as a failure, and nothing is known of
+    /// what is then staged for this transaction.
     fn begin(&mut self, id: TransactionId) -> Result<(), StoreError>
         ensures steps { steps self.old (Begin id result) self.new }
         ensures staged { OnOk result (staged self.new id ≡ Some map.empty) }
@@ -43,8 +46,9 @@ pub trait Inbox: Drop {
         ensures published { published self.new ≡ published self.old }
         ensures failures { failures self.new ≡ failures_after (failures self.old) (is_ok result) };
 
-    /// Stages octets of a transaction, the first of them at an offset of its file. They replace what was staged there.
-    /// The transaction is begun: its last `begin` answered `Ok`, and no call of it failed, published or discarded since.
+    /// Stages octets of a transaction, the first of them at an offset of its file. They replace
+    /// what was staged there. The transaction is begun: its last `begin` answered `Ok`, and no call
+    /// of it failed, published or discarded since.
     ///
     /// # Errors
     ///
@@ -58,8 +62,9 @@ pub trait Inbox: Drop {
         ensures published { published self.new ≡ published self.old }
         ensures failures { failures self.new ≡ failures_after (failures self.old) (is_ok result) };
 
-    /// Publishes the first `size` staged octets of a transaction under a name, in the place of a file that is there.
-    /// The transaction is begun, as with `write`, and all these octets were written. What is staged for it is let go.
+    /// Publishes the first `size` staged octets of a transaction under a name, in the place of a
+    /// file that is there. The transaction is begun, as with `write`, and all these octets were
+    /// written. What is staged for it is let go.
     ///
     /// # Errors
     ///

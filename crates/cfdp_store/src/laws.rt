@@ -1,4 +1,4 @@
-ghost use Rattle.std.specs.Prelude.{◌≡◌, ℕ, ◌+◌, ◌-◌, ◌<◌, ◌≤◌, List, Some, length, slice_get, slice_index};
+ghost use Rattle.std.specs.Prelude.{◌≡◌, ℕ, ◌+◌, ◌-◌, ◌<◌, ◌≤◌, List, Some, length, max, slice_get, slice_index};
 ghost use Rattle.std.specs.FinMap as map;
 ghost use Rattle.cfdp_store.specs.Staged.{OctetMap, Covers, written, front};
 
@@ -12,7 +12,15 @@ pub fn written_octets_stand()
         → map.get (written m at xs) n ≡ map.get m n }
 {}
 
-/// A law: the first `size` staged octets are as many, and each is the one that stands there, where all were written.
+/// A law: octets written from within what was written, or right behind it, take nothing away, and
+/// reach as far as they do.
+pub fn written_octets_cover()
+    ensures { (m : OctetMap) (size at : ℕ) (xs : List ℕ) → Covers size m → at ≤ size
+        → Covers (max size (at + length xs)) (written m at xs) }
+{}
+
+/// A law: the first `size` staged octets are as many, and each is the one that stands there, where
+/// all were written.
 pub fn front_is_what_stands()
     ensures len { (m : OctetMap) (size : ℕ) → length (front m size) ≡ size }
     ensures octets { (m : OctetMap) (size n : ℕ) → Covers size m → n < size

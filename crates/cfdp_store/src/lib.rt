@@ -1,7 +1,8 @@
-//! Where the files to be sent lie, and where received files are staged and published: the two traits, stores in
-//! memory, and stores that fail from a chosen call on.
+//! Where the files to be sent lie, and where received files are staged and published: the two
+//! traits, stores in memory, and stores that fail from a chosen call on.
 //!
-//! A received file is staged as its octets come, in any order, and is there for others once it is published:
+//! A received file is staged as its octets come, in any order, and is there for others once it is
+//! published:
 //!
 //! ```text
 //! let mut inbox = MemoryInbox::new(alloc);
@@ -30,6 +31,6 @@ pub use error::StoreError;
 pub use files::Files;
 pub use fuse::{FuseInbox, FuseOutbox};
 pub use inbox::Inbox;
-pub use laws::{front_is_what_stands, written_octets_stand};
+pub use laws::{front_is_what_stands, written_octets_cover, written_octets_stand};
 pub use memory::{MemoryInbox, MemoryOutbox};
 pub use outbox::Outbox;

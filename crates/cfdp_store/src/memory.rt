@@ -14,7 +14,8 @@ use std::alloc::{AllocError, Global};
 use std::collections::HashMap;
 use std::marker::Model;
 
-/// Files in memory that can be sent. No call fails. Contracts see it as the map from their names to their octets.
+/// Files in memory that can be sent. No call fails. Contracts see it as the map from their names to
+/// their octets.
 #[derive(Debug, Drop)]
 pub struct MemoryOutbox {
     files: Files,
@@ -88,8 +89,8 @@ impl Outbox for MemoryOutbox {
     }
 }
 
-/// Files in memory, as they were received. Every name is good, and a call fails only for want of memory; `discard`
-/// never does.
+/// Files in memory, as they were received. Every name is good, and a call fails only for want of
+/// memory; `discard` never does.
 #[derive(Debug, Drop)]
 pub struct MemoryInbox {
     files: Files,
@@ -99,7 +100,8 @@ pub struct MemoryInbox {
 }
 
 impl MemoryInbox {
-    /// An inbox with nothing published and nothing staged. Takes no memory; `alloc` serves what comes later.
+    /// An inbox with nothing published and nothing staged. Takes no memory; `alloc` serves what
+    /// comes later.
     pub fn new(alloc: Global) -> Self
         ensures published { ⟦<MemoryInbox as Inbox>⟧.published result ≡ map.empty }
         ensures staged { (id : TransactionId) → ⟦<MemoryInbox as Inbox>⟧.staged result id ≡ None }

@@ -13,8 +13,8 @@ pub struct Piece {
     octets: Vec<u8>,
 }
 
-/// Octets of a file by their offsets, kept as the pieces in which they were written, the oldest first. So octets at a
-/// high offset take no more memory than they are.
+/// Octets of a file by their offsets, kept as the pieces in which they were written, the oldest
+/// first. So octets at a high offset take no more memory than they are.
 #[derive(Debug, Drop)]
 pub struct Pieces {
     pieces: Vec<Piece>,

@@ -4,6 +4,7 @@ use super::*;
 use crate::counting::{Called, CountingStore};
 use cfdp_header::TransactionId;
 use std::alloc::{AllocError, Global};
+use std::io;
 use std::test::Fail;
 
 const FIRST: TransactionId = TransactionId {
@@ -190,29 +191,38 @@ fn an_inbox_fails_from_the_call_on_that_its_fuse_names(rt: HostRuntime) -> Resul
     Ok(())
 }
 
+/// Makes a call of an inbox.
+fn make(inbox: &mut FuseInbox<CountingStore>, call: Called) -> Result<(), StoreError> {
+    match call {
+        Called::Begin(id) => inbox.begin(id),
+        Called::Write(id, offset, _) => inbox.write(id, offset, b"x"),
+        Called::Publish(id, _, _) => inbox.publish(id, b"y", 0),
+        Called::Discard(id) => inbox.discard(id),
+        Called::Len(_) | Called::Read(_, _, _) => Ok(()),
+    }
+}
+
 #[test]
 fn an_inbox_behind_a_fuse_is_called_once_and_answers_itself(rt: HostRuntime) -> Result<(), Fail> {
-    let store = CountingStore::new(Files::new(rt.alloc()));
-    let mut inbox = FuseInbox::new(store, 5);
-    assert_eq!(rt; inbox.begin(FIRST), Err(StoreError::Name));
-    assert_eq!(rt; inbox.inner().calls, 1);
-    assert_eq!(rt; inbox.inner().last, Some(Called::Begin(FIRST)));
-    assert_eq!(rt; inbox.write(SECOND, 7, b"x"), Err(StoreError::Name));
-    assert_eq!(rt; inbox.inner().calls, 2);
+    let mut inbox = FuseInbox::new(CountingStore::new(Files::new(rt.alloc())), 5);
+    for (call, calls) in [
+        (Called::Begin(FIRST), 1),
+        (Called::Write(SECOND, 7, Some(b'x')), 2),
+        (Called::Publish(FIRST, Some(b'y'), 0), 3),
+        (Called::Discard(SECOND), 4),
+    ] {
+        assert_eq!(rt;
+            make(&mut inbox, call),
+            Err(StoreError::Name),
+            "call {calls}"
+        );
+        assert_eq!(rt; inbox.inner().calls, calls, "call {calls}");
+        assert_eq!(rt; inbox.inner().last, Some(call), "call {calls}");
+    }
     assert_eq!(rt;
-        inbox.inner().last,
-        Some(Called::Write(SECOND, 7, Some(120)))
+        make(&mut inbox, Called::Begin(SECOND)),
+        Err(StoreError::Device)
     );
-    assert_eq!(rt; inbox.publish(FIRST, b"y", 0), Err(StoreError::Name));
-    assert_eq!(rt; inbox.inner().calls, 3);
-    assert_eq!(rt;
-        inbox.inner().last,
-        Some(Called::Publish(FIRST, Some(121), 0))
-    );
-    assert_eq!(rt; inbox.discard(SECOND), Err(StoreError::Name));
-    assert_eq!(rt; inbox.inner().calls, 4);
-    assert_eq!(rt; inbox.inner().last, Some(Called::Discard(SECOND)));
-    assert_eq!(rt; inbox.begin(SECOND), Err(StoreError::Device));
     assert_eq!(rt; inbox.inner().calls, 4);
     assert_eq!(rt; inbox.failures(), 5);
     Ok(())
@@ -274,5 +284,8 @@ fn errors_have_names_and_numbers(rt: HostRuntime) -> Result<(), Fail> {
         assert_eq!(rt; error.number(), number);
         assert!(rt; error.name() == name, "number {number}");
     }
+    let from_kind = |kind| StoreError::from(io::Error::from(kind));
+    assert_eq!(rt; from_kind(io::ErrorKind::OutOfMemory), StoreError::NoMemory);
+    assert_eq!(rt; from_kind(io::ErrorKind::NotFound), StoreError::Device);
     Ok(())
 }
