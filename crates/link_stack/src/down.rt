@@ -154,8 +154,9 @@ impl Down {
         self.packer.flush();
     }
 
-    /// Writes the oldest whole zone as a frame, of [`frame_len`](Self::frame_len) octets and with the next count, and takes it off. False where no whole zone waits:
-    /// nothing changed then.
+    /// Writes the oldest whole zone as a frame with the next count, and takes it off. The buffer has [`frame_len`](Self::frame_len) octets.
+    ///
+    /// False where no whole zone waits: nothing changed then.
     pub fn next_frame(&mut self, out: &mut [u8]) -> bool
         requires { length out.old ≡ 8 + self.old.link.zone }
         ensures none { (result ≡ false) ↔ (length self.old.waiting < self.old.link.zone) }

@@ -1,7 +1,7 @@
 //! Packets out of zones.
 ghost use Rattle.std.specs.Prelude.{◌≡◌, ◌≢◌, ℕ, ◌+◌, ◌-◌, ◌≤◌, ◌&&◌, ◌++◌, List, Bool, [], false, not, length, take, drop, IfOk, OnOk, OnErr};
 ghost use Rattle.mpdu.specs.Stream.{keep, is_idle};
-ghost use Rattle.mpdu.specs.Reading.{scan, reading, to_read, goes_on, turns_bad, held_at, is_some, resync, bad_count};
+ghost use Rattle.mpdu.specs.Reading.{scan, step, reading, to_read, goes_on, turns_bad, held_at, is_some, resync, bad_count};
 ghost use Rattle.mpdu.specs.Feeding.{octets_of_each, IsNext, IsTaken, IsFrontTaken};
 
 use crate::header::{drop_front, has_good_version, has_idle_apid, packet_len};
@@ -127,6 +127,28 @@ fn join(held: &mut Vec<u8>, pointer: usize, zone: &[u8]) -> Result<Joined, Alloc
     Ok(joined)
 }
 
+/// Takes the whole packets off what is read of a zone behind what is held, and tells whether a bad header ended them.
+fn read_behind(
+    alloc: Global,
+    held: &mut Vec<u8>,
+    pointer: usize,
+    zone: &[u8],
+    out: &mut Vec<Vec<u8>>,
+) -> Result<(Joined, bool), AllocError>
+    requires { 6 ≤ length zone.now }
+    ensures goes_on { IfOk result (λ r. r.0.goes_on ≡ goes_on (length zone.now) held.old.items pointer zone.now) }
+    ensures turns_bad { IfOk result (λ r. r.0.bad ≡ turns_bad held.old.items zone.now) }
+    ensures held { OnOk result (held.new.items ≡ (step (length zone.now) held.old.items pointer zone.now).begun) }
+    ensures bad { IfOk result (λ r. r.1 ≡ (step (length zone.now) held.old.items pointer zone.now).bad) }
+    ensures ok { OnOk result (octets_of_each out.new.items ≡ octets_of_each out.old.items ++ (step (length zone.now) held.old.items pointer zone.now).out) }
+    ensures err { OnErr result ((n : ℕ) × (octets_of_each out.new.items ≡ octets_of_each out.old.items ++ take n (step (length zone.now) held.old.items pointer zone.now).out)) }
+{
+    let joined = join(held, pointer, zone)?;
+    let front = cut(alloc, held, out)?;
+    drop_front(held, front.end);
+    Ok((joined, front.bad))
+}
+
 /// Puts packets together from the zones of one virtual channel, given to it in the order sent.
 ///
 /// Its value is what it holds of the begun packet, the one that the last zone's end cut.
@@ -160,37 +182,8 @@ impl Reassembler {
         self.begun.clear();
     }
 
-    /// Reads one zone, and may leave anything of it held where memory is wanting.
-    fn read_zone(
-        &mut self,
-        pointer: u16,
-        zone: &[u8],
-        follows: bool,
-        out: &mut Vec<Vec<u8>>,
-    ) -> Result<Notes, AllocError>
-        requires { 6 ≤ length zone.now }
-        ensures held { OnOk result (self.new ≡ (reading self.old follows pointer zone.now).begun) }
-        ensures ok { OnOk result (octets_of_each out.new.items ≡ octets_of_each out.old.items ++ (reading self.old follows pointer zone.now).out) }
-        ensures resync { IfOk result (λ n. n.resync ≡ resync (length zone.now) self.old follows pointer zone.now) }
-        ensures bad { IfOk result (λ n. n.bad ≡ bad_count (length zone.now) (held_at follows self.old) pointer zone.now) }
-        ensures err { OnErr result ((n : ℕ) × (octets_of_each out.new.items ≡ octets_of_each out.old.items ++ take n (reading self.old follows pointer zone.now).out)) }
-    {
-        let had = !self.begun.is_empty();
-        if !follows {
-            self.begun.clear();
-        }
-        let usable = usize::from(pointer) < zone.len() || pointer == NO_START;
-        let joined = join(&mut self.begun, usize::from(pointer), zone)?;
-        let cut = cut(self.alloc, &self.begun, out)?;
-        drop_front(&mut self.begun, cut.end);
-        Ok(Notes {
-            resync: pointer != ONLY_IDLE && (!usable || (had && !joined.goes_on && !joined.bad)),
-            bad: u8::from(usable && joined.bad) + u8::from(cut.bad),
-        })
-    }
-
     /// Reads one zone; where memory is wanting nothing is held then.
-    fn read_or_let_go(
+    fn read_zone(
         &mut self,
         pointer: u16,
         zone: &[u8],
@@ -205,11 +198,22 @@ impl Reassembler {
         ensures err { OnErr result ((n : ℕ) × (octets_of_each out.new.items ≡ octets_of_each out.old.items ++ take n (reading self.old follows pointer zone.now).out)) }
         ensures err_held { OnErr result (self.new ≡ []) }
     {
-        let notes = self.read_zone(pointer, zone, follows, out);
-        if notes.is_err() {
+        let had = !self.begun.is_empty();
+        if !follows {
             self.begun.clear();
         }
-        notes
+        let usable = usize::from(pointer) < zone.len() || pointer == NO_START;
+        match read_behind(self.alloc, &mut self.begun, usize::from(pointer), zone, out) {
+            Ok((joined, bad)) => Ok(Notes {
+                resync: pointer != ONLY_IDLE
+                    && (!usable || (had && !joined.goes_on && !joined.bad)),
+                bad: u8::from(usable && joined.bad) + u8::from(bad),
+            }),
+            Err(error) => {
+                self.begun.clear();
+                Err(error)
+            }
+        }
     }
 
     /// Reads one zone (16 to 2,040 octets), appends the packets that it completes, and says what was out of order.
@@ -250,6 +254,6 @@ impl Reassembler {
         ensures resync { IfOk result (λ n. n.resync ≡ resync (length zone.now) self.old follows pointer zone.now) }
         ensures bad { IfOk result (λ n. n.bad ≡ bad_count (length zone.now) (held_at follows self.old) pointer zone.now) }
     {
-        self.read_or_let_go(pointer, zone, follows, out)
+        self.read_zone(pointer, zone, follows, out)
     }
 }
