@@ -1,4 +1,4 @@
--- Laws of fields.
+-- Exported: laws of fields, and of numbers in octets.
 use Rattle.std.proofs.Common.{◌≡◌, ℕ, zero, suc, ◌+◌, ◌-◌, ◌*◌, ◌/◌, ◌%◌, ◌^◌, ◌<◌, ◌≤◌, List, [], ◌∷◌, ◌++◌, length, get_or, take, drop, refl, sym, ◌∙◌, add-one, zero-add, arith, length-drop}
 use Rattle.std.proofs.lemmas.List.{get_or_append_left, get_or-append-add, length_push, get_or-drop, get_or_push, take_more}
 use Rattle.std.proofs.lemmas.Grind.{pow_more}
