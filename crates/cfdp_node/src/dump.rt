@@ -3,8 +3,8 @@ ghost use Rattle.std.specs.Prelude.{◌≡◌, ◌≢◌, ◌⊎◌, ◌<◌, �
 ghost use Rattle.std.specs.Result.{result_err};
 ghost use Rattle.std.specs.Option.{option_map};
 ghost use Rattle.cfd_bits.specs.Field.{field};
-ghost use Rattle.aos_frame.specs.Frame.{SpellsFrame, frame_fault};
-ghost use Rattle.cfdp_node.specs.Dump.{hex_octets, own_link, TellsOctets, TellsLine, WritesLine, WritesLines};
+ghost use Rattle.aos_frame.specs.Frame.{SpellsFrame, frame_fault, own_link};
+ghost use Rattle.cfdp_node.specs.Dump.{hex_octets, TellsOctets, TellsLine, WritesLine, WritesLines};
 ghost use Rattle.cfdp_node.specs.Dump as dumps;
 
 use crate::dump_line::{FrameLine, PduLine};
@@ -12,7 +12,7 @@ use crate::exit::Exit;
 use crate::input::read_script;
 use crate::refusal::Refusal;
 use crate::words::cut_at_first;
-use aos_frame::{FrameError, LinkConfig};
+use aos_frame::{FrameError, FrameHeader};
 use cfd_bits::get;
 use hex::FromHexError;
 use std::alloc::{AllocError, Global};
@@ -185,16 +185,7 @@ fn read_frame(octets: &[u8], zone: u16) -> Result<FrameLine, FrameError>
     ensures refused { result_err result ≡ frame_fault octets.now (own_link octets.now zone) }
     ensures own { (result_err result ≢ Some FrameError.OtherSpacecraft) × (result_err result ≢ Some FrameError.OtherChannel) }
 {
-    if octets.len() < 2 {
-        return Err(FrameError::Length);
-    }
-    let link = LinkConfig {
-        spacecraft: get(octets, 2, 8) as u8,
-        channel: get(octets, 10, 6) as u8,
-        zone,
-        apid: 0,
-    };
-    let (header, rest) = aos_frame::decode(octets, &link)?;
+    let (header, rest) = FrameHeader::read(octets, zone)?;
     Ok(FrameLine {
         header,
         pointer: get(rest, 5, 11),
