@@ -15,7 +15,8 @@ use Rattle.mpdu.proofs.Struck.{begun-struck, begun-none}
 use Rattle.mpdu.proofs.Packed.{stream-push, ArePackets-push}
 use Rattle.mpdu.proofs.Carried.{begun-push}
 use Rattle.link_stack.specs.Frames.{packet_drop, AreOfLink, carrying, packet_of, frame_of}
-use Rattle.link_stack.specs.Upward.{Ascent, IsUp}
+use Rattle.link_stack.specs.Upward.{Ascent, IsUp, pdus_in}
+use Rattle.mpdu.specs.Packets.{busy}
 use Rattle.link_stack.proofs.Sent.{ours, of_link-push}
 
 seen_missed : (last : Option ℕ) (marks : List Bool) (missed : ℕ) → IfSome last (λ l. (n : ℕ) × (l ≡ n % frame_counts) × (length marks ≡ n + 1 + missed)) →
@@ -33,11 +34,12 @@ struck_is_missed up ps marks missed some few is =
       seen = seen_missed up.last marks missed is.seen;
       unseen = is.unseen;
       as_left = ap (λ b. held_at b up.begun) (ne_eqb (missed + 1) 0 lost) ∙ sym (begun-struck up.link.zone marks 0 ps some);
+      counts = is.counts;
     }
 
-pub new_is : (link : LinkConfig) (ps : List (List ℕ)) (counts : List ℕ) → ArePackets ps → AreOfLink link ps → IsUp (record { link = link; last = None; begun = []; drops = counts }) ps [] 0
-new_is link ps counts whole all =
-    record { packets_whole = whole; of_link = all; few = omega arith; seen = tt; unseen = λ e. refl; as_left = sym (begun-none link.zone ps whole) }
+pub new_is : (link : LinkConfig) (ps : List (List ℕ)) (counts : List ℕ) → length counts ≡ 11 → ArePackets ps → AreOfLink link ps → IsUp (record { link = link; last = None; begun = []; drops = counts }) ps [] 0
+new_is link ps counts size whole all =
+    record { packets_whole = whole; of_link = all; few = omega arith; seen = tt; unseen = λ e. refl; as_left = sym (begun-none link.zone ps whole); counts = size }
 
 pointer-push : (z e a : ℕ) (ps : List (List ℕ)) (q : List ℕ) → e + z ≤ a + length (stream ps) → first_header_pointer z e a (ps ++ q ∷ []) ≡ first_header_pointer z e a ps
 pointer-push z e a [] q h =
@@ -61,7 +63,7 @@ frame-push link ps q n h =
 pub up-push : (up : Ascent) (ps : List (List ℕ)) (q : List ℕ) (marks : List Bool) (missed : ℕ) → IsPacket q → ((is_idle q ≡ true) ⊎ (packet_drop up.link q ≡ None)) → length marks * up.link.zone ≤ length (stream ps) →
     IsUp up ps marks missed → IsUp up (ps ++ q ∷ []) marks missed
 up-push up ps q marks missed packet carries_one room is =
-    record { packets_whole = ArePackets-push ps q is.packets_whole packet; of_link = of_link-push up.link ps q is.of_link carries_one; few = is.few; seen = is.seen; unseen = is.unseen; as_left = is.as_left ∙ sym (begun-push up.link.zone marks 0 ps q packet (omega (arith, room))) }
+    record { packets_whole = ArePackets-push ps q is.packets_whole packet; of_link = of_link-push up.link ps q is.of_link carries_one; few = is.few; seen = is.seen; unseen = is.unseen; as_left = is.as_left ∙ sym (begun-push up.link.zone marks 0 ps q packet (omega (arith, room))); counts = is.counts }
 
 pub carries : (link : LinkConfig) (count : ℕ) (pdu : List ℕ) → IsLink link → count < 16384 → 1 ≤ length pdu → length pdu ≤ 65536 → SpellsPacket (carrying link count pdu) (packet_of link count pdu)
 carries link count pdu valid low some fits =
@@ -74,3 +76,9 @@ carried link count pdu valid low some fits =
     let s : SpellsPacket (carrying link count pdu) (packet_of link count pdu) = carries link count pdu valid low some fits in
     let busy : field (packet_of link count pdu) 5 11 ≡ 2047 → ⊥ = λ (e : field (packet_of link count pdu) 5 11 ≡ 2047). omega (arith, e, s.apid, valid.apid) in
     (ours link (carrying link count pdu) (packet_of link count pdu) s refl refl refl, ne_eqb (field (packet_of link count pdu) 5 11) 2047 busy, s.body)
+
+-- so the PDU is what it carries
+pub its_pdu : (link : LinkConfig) (count : ℕ) (pdu : List ℕ) → IsLink link → count < 16384 → 1 ≤ length pdu → length pdu ≤ 65536 → pdus_in (busy (packet_of link count pdu ∷ [])) ≡ pdu ∷ []
+its_pdu link count pdu valid low some fits =
+    let c : (packet_drop link (packet_of link count pdu) ≡ None) × (is_idle (packet_of link count pdu) ≡ false) × (drop 6 (packet_of link count pdu) ≡ pdu) = carried link count pdu valid low some fits in
+    rw (c.1) (ap (λ x. x ∷ []) c.2)

@@ -11,6 +11,7 @@ use Rattle.aos_frame.specs.declared.config.LinkConfig.{LinkConfig}
 use Rattle.aos_frame.specs.declared.header.FrameHeader.{FrameHeader}
 use Rattle.aos_frame.proofs.Spelling.{length-header_octets}
 use Rattle.mpdu.specs.Stream.{is_idle, stream, zone, first_header_pointer}
+use Rattle.mpdu.specs.Packets.{busy}
 use Rattle.mpdu.specs.Packing.{Packing, IsAt, ZoneOf, flush_of, idle_packet, idle_len}
 use Rattle.mpdu.proofs.Packed.{idle_len-low, idle_len-high}
 use Rattle.link_stack.specs.Frames.{packet_drop, AreOfLink, mpdu_of, frame_of}
@@ -43,6 +44,18 @@ flushed_of_link link ps p lo hi all =
     let none : t ≡ true → G = λ (e : t ≡ true). rw (e, append-nil ps) all in
     let one : t ≡ false → G = λ (e : t ≡ false).
     rw e (of_link-push link ps (idle_packet (idle_len free)) all (inl (idle_is_idle (idle_len free) (idle_len-low free) (omega (arith, idle_len-high free (omega arith)))))) in
+    elim (cases_Bool t) [ inl e ↦ none e | inr e ↦ one e ]
+
+-- a flush adds one packet at most, and no PDU
+pub flush_is_idle : (p : Packing) → 16 ≤ p.size → p.size ≤ 2040 → (length (flush_of p) ≤ 1) × (busy (flush_of p) ≡ [])
+flush_is_idle p lo hi =
+    let t : Bool = p.flushed || (length p.waiting % p.size == 0) in
+    let free : ℕ = p.size - length p.waiting % p.size in
+    let G : Type 0 = (length (flush_of p) ≤ 1) × (busy (flush_of p) ≡ []) in
+    let none : t ≡ true → G = λ (e : t ≡ true). rw e (omega arith, refl) in
+    let one : t ≡ false → G = λ (e : t ≡ false).
+    let idle_one : is_idle (idle_packet (idle_len free)) ≡ true = idle_is_idle (idle_len free) (idle_len-low free) (omega (arith, idle_len-high free (omega arith))) in
+    rw (e, idle_one) (omega arith, refl) in
     elim (cases_Bool t) [ inl e ↦ none e | inr e ↦ one e ]
 
 -- the octets of a frame that is written

@@ -1,7 +1,7 @@
 -- The frames of a stream, taken in order.
-use Rattle.std.proofs.Common.{◌≡◌, ℕ, zero, suc, ◌+◌, ◌-◌, ◌*◌, ◌%◌, ◌<◌, ◌≤◌, ◌==◌, ◌&&◌, not, if◌then◌else◌, Bool, true, false, Option, Some, None, IfSome, List, [], ◌∷◌, ◌++◌, ◌⊎◌, length, take, drop, refl, sym, ap, subst, ◌∙◌, inl, inr, arith, length-append}
+use Rattle.std.proofs.Common.{◌≡◌, ◌≢◌, max, min, ◌^◌, slice_index_or, slice_set, ℕ, zero, suc, ◌+◌, ◌-◌, ◌*◌, ◌%◌, ◌<◌, ◌≤◌, ◌==◌, ◌&&◌, not, if◌then◌else◌, Bool, true, false, Option, Some, None, IfSome, List, [], ◌∷◌, ◌++◌, ◌⊎◌, length, take, drop, refl, sym, ap, subst, ◌∙◌, inl, inr, arith, length-append}
 use Rattle.std.proofs.lemmas.Bool.{cases_Bool}
-use Rattle.std.proofs.lemmas.List.{append_assoc, map-append}
+use Rattle.std.proofs.lemmas.List.{append_assoc, map-append, length-set, get_or-set_same, get_or-set_other}
 use Rattle.cfd_bits.specs.Field.{field}
 use Rattle.aos_frame.specs.Counts.{frame_counts}
 use Rattle.aos_frame.specs.Frame.{IsLink, frame_fault}
@@ -15,10 +15,34 @@ use Rattle.mpdu.proofs.Noted.{resync_is, bad_is}
 use Rattle.mpdu.proofs.Struck.{begun-struck}
 use Rattle.link_stack.specs.declared.drops.LinkDrop.TheVariants.{NoMemory}
 use Rattle.link_stack.specs.Frames.{packet_drop, AreOfLink}
-use Rattle.link_stack.specs.Drops.{counted, all_counted}
+use Rattle.link_stack.specs.Drops.{raised, counted, all_counted, count_of}
 use Rattle.link_stack.specs.Upward.{Ascent, FrameRead, pdus_of, drops_of, with_pdu, with_drop, zone_drops, follows, idle_read, packets_read, read_unless, frame_read, Takes, TakesFront, HasZone, IsUp, IsNextFrame, TakesNext, TakesPart, pdus_in}
 use Rattle.link_stack.proofs.Decoded.{IsDecoded, decoded}
 use Rattle.link_stack.proofs.Following.{held_follows}
+
+-- How the count of drops by 11 changes.
+resync_length : (counts : List ℕ) (b : Bool) → length (all_counted counts (zone_drops b 0)) ≡ length counts
+unfolding counted
+resync_length counts true = length-set counts 6 (raised (slice_index_or counts 6 0))
+resync_length counts false = refl
+
+resync_keeps : (counts : List ℕ) (b : Bool) → count_of (all_counted counts (zone_drops b 0)) 11 ≡ count_of counts 11
+unfolding counted
+resync_keeps counts true =
+    let other : 10 ≢ 6 = λ (e : 10 ≡ 6). omega (arith, e) in
+    get_or-set_other counts 6 10 (raised (slice_index_or counts 6 0)) 0 other
+resync_keeps counts false = refl
+
+no_memory_length : (counts : List ℕ) → length (counted counts NoMemory) ≡ length counts
+unfolding counted
+no_memory_length counts = length-set counts 10 (raised (slice_index_or counts 10 0))
+
+no_memory_told : (counts new : List ℕ) → length counts ≡ 11 → new ≡ counted counts NoMemory → 1 ≤ count_of new 11
+unfolding counted
+no_memory_told counts new size e =
+    let lt : 10 < length counts = omega arith in
+    let told : count_of new 11 ≡ raised (slice_index_or counts 10 0) = ap (λ l. count_of l 11) e ∙ get_or-set_same counts 10 (raised (slice_index_or counts 10 0)) 0 lt in
+    omega (arith, told)
 
 -- packets that all carry a PDU of the link
 abbrev pub AreOurs : LinkConfig → List (List ℕ) → Type 0
@@ -107,6 +131,9 @@ pub next_taken : (up new : Ascent) (ps : List (List ℕ)) (marks : List Bool) (m
 next_taken up new ps marks missed frame old out is r t =
     let packets = (frame_read up frame).packets in
     let known : new.last ≡ Some (length marks % frame_counts) = t.last ∙ r.last in
+    let b : Bool = not (missed == 0) && is_some up.begun in
+    let shown : new.drops ≡ all_counted up.drops (zone_drops b 0) =
+    t.drops ∙ ap (λ l. all_counted (all_counted up.drops (frame_read up frame).told) l) (drops-none up.link packets r.ours) ∙ ap (λ l. all_counted up.drops l) r.told in
     record {
       after = record {
         packets_whole = is.packets_whole;
@@ -114,12 +141,15 @@ next_taken up new ps marks missed frame old out is r t =
         few = omega arith;
         seen = seen_last new.last marks true known;
         unseen = λ (none : new.last ≡ None). absurd (let bad : Some (length marks % frame_counts) ≡ None = sym known ∙ none in cc);
+        counts = ap (λ l. length l) shown ∙ resync_length up.drops b ∙ is.counts;
         as_left = t.begun ∙ r.held ∙ ap (λ (l : LinkConfig). begun l.zone (marks ++ true ∷ []) 0 ps) (sym t.link);
       };
       added = packets;
       completed = r.given;
       pdus = t.pdus ∙ ap (λ l. old ++ l) (pdus-all up.link packets r.ours);
-      drops = t.drops ∙ ap (λ l. all_counted (all_counted up.drops (frame_read up frame).told) l) (drops-none up.link packets r.ours) ∙ ap (λ l. all_counted up.drops l) r.told;
+      drops = shown;
+      link = t.link;
+      memory = ap (λ l. count_of l 11) shown ∙ resync_keeps up.drops b;
     }
 
 pub part_taken : (up new : Ascent) (ps : List (List ℕ)) (marks : List Bool) (missed : ℕ) (frame : List ℕ) (old out : List (List ℕ)) → 0 < up.link.zone → IsUp up ps marks missed → IsRight up ps marks missed (frame_read up frame) →
@@ -129,6 +159,7 @@ part_taken up new ps marks missed frame old out some is r t =
     let n : ℕ = t.front.count in
     let known : new.last ≡ Some (length marks % frame_counts) = t.last ∙ r.last in
     let ours : AreOurs up.link (take n packets) = ours-take up.link n packets r.ours in
+    let lost : new.drops ≡ counted up.drops NoMemory = t.front.drops ∙ ap (λ l. all_counted (counted up.drops NoMemory) l) (drops-none up.link (take n packets) ours) in
     record {
       after = record {
         packets_whole = is.packets_whole;
@@ -136,13 +167,16 @@ part_taken up new ps marks missed frame old out some is r t =
         few = omega arith;
         seen = seen_last new.last marks false known;
         unseen = λ (none : new.last ≡ None). t.front.begun;
+        counts = ap (λ l. length l) lost ∙ no_memory_length up.drops ∙ is.counts;
         as_left = t.front.begun ∙ sym (begun-struck up.link.zone marks 0 ps some) ∙ ap (λ (l : LinkConfig). begun l.zone (marks ++ false ∷ []) 0 ps) (sym t.link);
       };
       added = packets;
       completed = r.given;
       count = n;
       pdus = t.front.pdus ∙ ap (λ l. old ++ l) (pdus-all up.link (take n packets) ours);
-      drops = t.front.drops ∙ ap (λ l. all_counted (counted up.drops NoMemory) l) (drops-none up.link (take n packets) ours);
+      drops = lost;
+      link = t.link;
+      memory = no_memory_told up.drops new.drops is.counts lost;
     }
 
 -- whichever it was

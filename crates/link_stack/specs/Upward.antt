@@ -11,7 +11,7 @@ use Rattle.mpdu.specs.Reading.{step, held_at, resync, bad_count, is_some}
 use Rattle.link_stack.specs.declared.drops.LinkDrop.{LinkDrop}
 use Rattle.link_stack.specs.declared.drops.LinkDrop.TheVariants.{Frame, Resync, BadPacket, NoMemory}
 use Rattle.link_stack.specs.Frames.{packet_drop, AreOfLink, frame_of}
-use Rattle.link_stack.specs.Drops.{counted, all_counted}
+use Rattle.link_stack.specs.Drops.{counted, all_counted, count_of}
 
 -- the link, the count of the last frame seen, what is held of a begun packet, and the counts of drops
 pub record Ascent : Type 0 where
@@ -122,6 +122,7 @@ pub record IsUp (up : Ascent) (ps : List (List ℕ)) (marks : List Bool) (missed
   pub seen : IfSome up.last (λ last. (n : ℕ) × (last ≡ n % frame_counts) × (length marks ≡ n + 1 + missed))
   pub unseen : up.last ≡ None → up.begun ≡ []
   pub as_left : held_at (missed == 0) up.begun ≡ begun up.link.zone marks 0 ps
+  pub counts : length up.drops ≡ 11
 
 -- The frame behind the marked ones of the packets' stream.
 pub record IsNextFrame (link : LinkConfig) (ps : List (List ℕ)) (marks : List Bool) (frame : List ℕ) : Type 0 where
@@ -139,6 +140,8 @@ pub record TakesNext (up new : Ascent) (ps : List (List ℕ)) (marks : List Bool
   pub completed : survivors up.link.zone (marks ++ true ∷ []) 0 ps ≡ survivors up.link.zone marks 0 ps ++ added
   pub pdus : out ≡ old ++ pdus_in added
   pub drops : new.drops ≡ all_counted up.drops (zone_drops (not (missed == 0) && is_some up.begun) 0)
+  pub link : new.link ≡ up.link
+  pub memory : count_of new.drops 11 ≡ count_of up.drops 11
 
 -- It found no memory: a front of those PDUs was appended, and the end is as if the frame had been struck.
 pub record TakesPart (up new : Ascent) (ps : List (List ℕ)) (marks : List Bool) (old out : List (List ℕ)) : Type 0 where
@@ -148,3 +151,5 @@ pub record TakesPart (up new : Ascent) (ps : List (List ℕ)) (marks : List Bool
   pub count : ℕ
   pub pdus : out ≡ old ++ pdus_in (take count added)
   pub drops : new.drops ≡ counted up.drops NoMemory
+  pub link : new.link ≡ up.link
+  pub memory : 1 ≤ count_of new.drops 11

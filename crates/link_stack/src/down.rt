@@ -1,8 +1,10 @@
 //! PDUs down to frames.
-ghost use Rattle.std.specs.Prelude.{◌≡◌, ℕ, ◌+◌, ◌*◌, ◌%◌, ◌<◌, ◌≤◌, ◌↔◌, ◌++◌, List, [], ◌∷◌, true, false, length, drop, IfOk, OnOk, OnErr, IsErr};
+ghost use Rattle.std.specs.Prelude.{◌≡◌, ℕ, ◌+◌, ◌*◌, ◌%◌, ◌<◌, ◌≤◌, ◌↔◌, ◌++◌, List, [], ◌∷◌, true, false, length, take, drop, IfOk, OnOk, OnErr, IsErr};
 ghost use Rattle.aos_frame.specs.Frame.{IsLink};
 ghost use Rattle.mpdu.specs.Stream.{stream};
 ghost use Rattle.mpdu.specs.Packing.{flush_of};
+ghost use Rattle.mpdu.specs.Packets.{busy};
+ghost use Rattle.link_stack.specs.Upward.{pdus_in};
 ghost use Rattle.link_stack.specs.Frames.{packet_of, frame_of};
 ghost use Rattle.link_stack.specs.Downward.{packing, IsDown};
 ghost use Rattle.link_stack.specs.Downward as downward;
@@ -84,6 +86,13 @@ impl Down {
         self.packer.waiting_len()
     }
 
+    /// No fewer than the whole frames that would wait after a PDU was sent, or a flush, now.
+    pub fn frames_ahead(&self) -> usize
+        ensures { self.now.capacity + 2047 < result * self.now.link.zone + self.now.link.zone }
+    {
+        (self.packet.len() + 2047) / usize::from(self.link.zone)
+    }
+
     /// Puts a PDU of at least one octet behind the others, in a packet of its own.
     ///
     /// `Full` where the PDU is longer than [`room`](Self::room); nothing changed then.
@@ -94,6 +103,7 @@ impl Down {
         // The stream is then longer by one packet: the PDU's, with the running count.
         ensures stream { (ps : List (List ℕ)) (made : ℕ) → IsDown self.old ps made →
             OnOk result (IsDown self.new (ps ++ packet_of self.old.link self.old.packet_count pdu.now ∷ []) made) }
+        ensures pdu { OnOk result (pdus_in (busy (packet_of self.old.link self.old.packet_count pdu.now ∷ [])) ≡ pdu.now ∷ []) }
         ensures waiting { OnOk result (self.new.waiting ≡ self.old.waiting ++ packet_of self.old.link self.old.packet_count pdu.now) }
         ensures packet_count { OnOk result (self.new.packet_count ≡ (self.old.packet_count + 1) % 16384) }
         ensures len { OnOk result (length self.new.waiting ≡ length self.old.waiting + 6 + length pdu.now) }
@@ -122,6 +132,7 @@ impl Down {
     pub fn flush(&mut self)
         // The stream is then longer by the idle packet, or as it was.
         ensures stream { (ps : List (List ℕ)) (made : ℕ) → IsDown self.old ps made → IsDown self.new (ps ++ flush_of (packing self.old)) made }
+        ensures idle { (length (flush_of (packing self.old)) ≤ 1) × (busy (flush_of (packing self.old)) ≡ []) }
         ensures once { flush_of (packing self.new) ≡ [] }
         ensures same { flush_of (packing self.old) ≡ [] → self.new ≡ self.old }
         ensures waiting { self.new.waiting ≡ self.old.waiting ++ stream (flush_of (packing self.old)) }
@@ -140,6 +151,7 @@ impl Down {
         // It is the stream's frame behind those made, and one more is made then.
         ensures stream { (ps : List (List ℕ)) (made : ℕ) → IsDown self.old ps made → result ≡ true →
             (out.new ≡ frame_of self.old.link ps made) × (made * self.old.link.zone + self.old.link.zone ≤ length (stream ps)) × IsDown self.new ps (made + 1) }
+        ensures zone { result ≡ true → drop 8 out.new ≡ take self.old.link.zone self.old.waiting }
         ensures rest { result ≡ true → self.new.waiting ≡ drop self.old.link.zone self.old.waiting }
         ensures fixed { (self.new.link ≡ self.old.link) × (self.new.capacity ≡ self.old.capacity) × (self.new.packet_count ≡ self.old.packet_count) }
     {

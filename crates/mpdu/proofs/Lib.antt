@@ -10,3 +10,6 @@ pub mod Carried
 pub mod Whole
 pub mod Noted
 pub mod Pointers
+pub mod Cuts
+pub mod Sublists
+pub mod Fewer

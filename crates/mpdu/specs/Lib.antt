@@ -4,3 +4,5 @@ pub mod Feeding
 pub mod Packing
 pub mod Carrying
 pub mod Places
+pub mod Packets
+pub mod Parts

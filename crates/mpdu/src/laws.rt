@@ -1,6 +1,8 @@
 //! Laws of streams over zones, each the contract of a function that does nothing.
-ghost use Rattle.std.specs.Prelude.{◌≡◌, ℕ, ◌<◌, ◌↔◌, ◌⊎◌, List, Bool, true, false, slice_index_or};
-ghost use Rattle.mpdu.specs.Stream.{arrived, first_header_pointer};
+ghost use Rattle.std.specs.Prelude.{◌≡◌, ℕ, ◌<◌, ◌↔◌, ◌⊎◌, ◌++◌, List, [], ◌∷◌, Bool, true, false, slice_index_or, Contains};
+ghost use Rattle.mpdu.specs.Stream.{ArePackets, stream, arrived, survivors, first_header_pointer};
+ghost use Rattle.mpdu.specs.Packets.{packets_of, begins_with_packet, busy};
+ghost use Rattle.mpdu.specs.Parts.{IsPartOf, AreAmong, CompletesMore};
 ghost use Rattle.mpdu.specs.Places.{IsInSpan, IsFirstStart, HasNoStart, starts};
 
 /// A packet, the octets from a up to b of a stream, arrived where each zone of its span was delivered, and only there.
@@ -13,4 +15,30 @@ pub fn a_packet_arrives_with_its_span()
 pub fn a_pointer_is_the_first_start()
     ensures { (z start : ℕ) (ps : List (List ℕ)) →
         IsFirstStart z start (starts 0 ps) (first_header_pointer z start 0 ps) ⊎ ((first_header_pointer z start 0 ps ≡ 2047) × HasNoStart z start (starts 0 ps)) }
+{}
+
+/// Octets are the packets that they spell, end to end, and behind these no packet begins.
+pub fn octets_are_their_packets()
+    ensures whole { (text : List ℕ) → ArePackets (packets_of text) }
+    ensures joined { (text : List ℕ) → (rest : List ℕ) × (text ≡ stream (packets_of text) ++ rest) × (begins_with_packet rest ≡ false) }
+{}
+
+/// Whatever stands behind them, where no packet begins there, octets spell the packets that they were made of.
+pub fn packets_are_read_again()
+    ensures { (ps : List (List ℕ)) (rest : List ℕ) → ArePackets ps → begins_with_packet rest ≡ false → packets_of (stream ps ++ rest) ≡ ps }
+{}
+
+/// Of a stream's packets those survive, in order, all of whose zones were delivered: where fewer were, a part of them does, and a zone more completes
+/// no more than it would else. A zone that is struck completes none.
+pub fn fewer_zones_give_a_part()
+    ensures sent { (z : ℕ) (marks : List Bool) (ps : List (List ℕ)) → IsPartOf (survivors z marks 0 ps) (busy ps) }
+    ensures part { (z : ℕ) (few marks : List Bool) (ps : List (List ℕ)) → AreAmong few marks → IsPartOf (survivors z few 0 ps) (survivors z marks 0 ps) }
+    ensures next { (z : ℕ) (few marks : List Bool) (ps added : List (List ℕ)) → ArePackets ps → AreAmong few marks →
+        survivors z (few ++ true ∷ []) 0 ps ≡ survivors z few 0 ps ++ added → CompletesMore z marks ps added }
+    ensures struck { (z : ℕ) (marks : List Bool) (ps : List (List ℕ)) → 0 < z → ArePackets ps → survivors z (marks ++ false ∷ []) 0 ps ≡ survivors z marks 0 ps }
+{}
+
+/// What is in a part is in the whole.
+pub fn a_part_has_no_more()
+    ensures { (whole part : List (List ℕ)) (x : List ℕ) → IsPartOf part whole → Contains part x → Contains whole x }
 {}

@@ -15,7 +15,10 @@ mod tests;
 
 pub use carrying::{are_few_in_a_row, carry};
 pub use header::{are_packets, is_packet};
-pub use laws::{a_packet_arrives_with_its_span, a_pointer_is_the_first_start};
+pub use laws::{
+    a_packet_arrives_with_its_span, a_part_has_no_more, a_pointer_is_the_first_start,
+    fewer_zones_give_a_part, octets_are_their_packets, packets_are_read_again,
+};
 pub use packer::{Full, Packer};
 pub use reassembler::{Notes, Reassembler};
 

@@ -5,6 +5,9 @@ use Rattle.mpdu.proofs.Taken.{on_ok}
 use Rattle.link_stack.specs.Frames.{packet_of, packet_drop}
 use Rattle.link_stack.specs.Downward.{Descent}
 use Rattle.link_stack.proofs.Sent.{ours, of_link-push, at_of, down_is}
+use Rattle.mpdu.specs.Packets.{busy}
+use Rattle.link_stack.specs.Upward.{pdus_in}
+use Rattle.link_stack.proofs.Grown.{its_pdu}
 use Rattle.link_stack.proofs.down.Down.send.Goals as goal
 
 pub returns-clause-stream : goal.returns-clause-stream
@@ -25,3 +28,12 @@ returns-clause-stream c ps made is =
     on_ok P _ c.push.result pushed (λ (is_at : P).
     down_is d link p c.push.new.self c.self.inside.packets c.self.inside.frames c.next.new.self c.self.inside.frames ps (ps ++ text ∷ []) made made (sym c.self.view_is) (c.push.ensures.fixed.0 ∙ c.self.invariant.1)
     (λ all. of_link-push link ps text all (inr (subst (λ (t : List ℕ). packet_drop link t ≡ None) same carries))) (λ e. e) is (subst (λ (t : List ℕ). IsAt c.push.new.self (ps ++ t ∷ []) made) same is_at))
+
+pub returns-clause-pdu : goal.returns-clause-pdu
+returns-clause-pdu c =
+    let link = c.self.inside.link in
+    let made : pdus_in (busy (packet_of link c.self.inside.packets c.args.pdu.now ∷ [])) ≡ c.args.pdu.now ∷ [] =
+    its_pdu link c.self.inside.packets c.args.pdu.now c.self.invariant.0 (omega (arith, c.next.ensures.count, c.next.ensures.below)) c.requires (omega (arith, c.self.invariant.2, ap (λ (x : Descent). x.capacity) c.self.view_is)) in
+    let all : pdus_in (busy (packet_of c.args.self.now.link c.args.self.now.packet_count c.args.pdu.now ∷ [])) ≡ c.args.pdu.now ∷ [] =
+    subst (λ (x : Descent). pdus_in (busy (packet_of x.link x.packet_count c.args.pdu.now ∷ [])) ≡ c.args.pdu.now ∷ []) c.self.view_is made in
+    on_ok _ _ c.push.result c.push.ensures.unflushed (λ h. all)
