@@ -4,23 +4,23 @@ use Rattle.std.proofs.lemmas.Bool.{eq-eqb, ne_eqb, lt-ltb, le-ltb, le-leb, lt-le
 use Rattle.std.proofs.lemmas.List.{drop_at}
 use Rattle.cfd_bits.specs.Field.{field, octets}
 use Rattle.cfd_bits.proofs.Fields.{length-octets}
-use Rattle.cfd_bits.proofs.BitFields.{field_of_octets}
 use Rattle.aos_frame.specs.Counts.{frame_counts}
 use Rattle.aos_frame.specs.Frame.{IsLink, SpellsFrame, frame_fault}
 use Rattle.aos_frame.specs.declared.config.LinkConfig.{LinkConfig}
 use Rattle.aos_frame.specs.declared.header.FrameHeader.{FrameHeader}
 use Rattle.aos_frame.proofs.Spelling.{written_frame_is_read}
 use Rattle.mpdu.specs.Stream.{stream, zone, first_header_pointer}
-use Rattle.mpdu.proofs.Noted.{usable}
-use Rattle.link_stack.specs.Frames.{mpdu_of, frame_of}
+use Rattle.mpdu.specs.MpduHeader.{pointer_of, pointer_octets}
+use Rattle.mpdu.proofs.NextZone.{pointer_fits, pointer_is_not_idle, written_pointer}
+use Rattle.link_stack.specs.Frames.{mpdu_in, mpdu_of, frame_of}
 
 pub record IsDecoded (link : LinkConfig) (ps : List (List ℕ)) (n : ℕ) (frame : List ℕ) : Type 0 where
   pub sound : frame_fault frame link ≡ None
   pub count : field frame 16 24 ≡ n % frame_counts
-  pub pointer : field (drop 6 frame) 5 11 ≡ first_header_pointer link.zone (n * link.zone) 0 ps
-  pub not_idle : (field (drop 6 frame) 5 11 == 2046) ≡ false
-  pub zone_is : drop 2 (drop 6 frame) ≡ zone link.zone (n * link.zone) (stream ps)
-  pub size : length (drop 2 (drop 6 frame)) ≡ link.zone
+  pub pointer : pointer_of (mpdu_in frame) ≡ first_header_pointer link.zone (n * link.zone) 0 ps
+  pub not_idle : (pointer_of (mpdu_in frame) == 2046) ≡ false
+  pub zone_is : drop 2 (mpdu_in frame) ≡ zone link.zone (n * link.zone) (stream ps)
+  pub size : length (drop 2 (mpdu_in frame)) ≡ link.zone
 
 -- what spells a frame has no fault
 pub no_fault : (link : LinkConfig) (h : FrameHeader) (text : List ℕ) → SpellsFrame link h text → frame_fault text link ≡ None
@@ -36,43 +36,26 @@ no_fault link h text s =
       eq-eqb (field text 10 6) link.channel (s.channel ∙ s.our_channel),
     ) refl
 
-pointer_below : (z e a : ℕ) (ps : List (List ℕ)) → z ≤ 2040 → first_header_pointer z e a ps < 2048
-pointer_below z e a [] hi = omega arith
-pointer_below z e a (p ∷ ps) hi =
-    let G : Type 0 = first_header_pointer z e a (p ∷ ps) < 2048 in
-    let near : e ≤ a → a < e + z → G = λ (c : e ≤ a) (d : a < e + z).
-    let t : nat_le e a ≡ true = le-leb e a c in
-    let u : nat_lt a (e + z) ≡ true = lt-ltb a (e + z) d in
-    rw (t, u) (omega arith) in
-    let far : e ≤ a → e + z ≤ a → G = λ (c : e ≤ a) (d : e + z ≤ a).
-    let t : nat_le e a ≡ true = le-leb e a c in
-    let u : nat_lt a (e + z) ≡ false = le-ltb a (e + z) d in
-    rw (t, u) (omega arith) in
-    let before : a < e → G = λ (c : a < e).
-    let t : nat_le e a ≡ false = lt-leb e a c in
-    rw t (pointer_below z e (a + length p) ps hi) in
-    elim (cases_lt a e) [ inl c ↦ before c | inr c ↦ elim (cases_lt a (e + z)) [ inl d ↦ near c d | inr d ↦ far c d ] ]
-
 pub decoded : (link : LinkConfig) (ps : List (List ℕ)) (n : ℕ) (frame : List ℕ) → IsLink link → link.spacecraft < 256 → n * link.zone + link.zone ≤ length (stream ps) → frame ≡ frame_of link ps n → IsDecoded link ps n frame
 decoded link ps n frame valid byte room is =
     let h : FrameHeader = record { spacecraft = link.spacecraft; channel = link.channel; count = n % frame_counts } in
     let p : ℕ = first_header_pointer link.zone (n * link.zone) 0 ps in
     let body : List ℕ = zone link.zone (n * link.zone) (stream ps) in
     let long : length body ≡ link.zone = omega (arith, length-take link.zone (drop (n * link.zone) (stream ps)), length-drop (n * link.zone) (stream ps)) in
-    let two : length (octets 2 p) ≡ 2 = length-octets 2 p in
-    let all : length (mpdu_of link ps n) ≡ 2 + link.zone = omega (arith, length-append (octets 2 p) body) in
+    let two : length (pointer_octets p) ≡ 2 = length-octets 2 p in
+    let all : length (mpdu_of link ps n) ≡ 2 + link.zone = omega (arith, length-append (pointer_octets p) body) in
     let read : SpellsFrame link h (frame_of link ps n) × (drop 6 (frame_of link ps n) ≡ mpdu_of link ps n) =
     written_frame_is_read link h (mpdu_of link ps n) (record { spacecraft = byte; channel = valid.channel; count = omega arith }) refl refl all in
     let s : SpellsFrame link h frame = subst (SpellsFrame link h) (sym is) read.0 in
-    let behind : drop 6 frame ≡ octets 2 p ++ body = ap (λ l. drop 6 l) is ∙ read.1 in
-    let below : p < 2048 = pointer_below link.zone (n * link.zone) 0 ps valid.most_zone in
-    let at : field (drop 6 frame) 5 11 ≡ p = ap (λ l. field l 5 11) behind ∙ field_of_octets [] body 2 p 5 5 11 (omega arith) refl (omega arith) ∙ omega (arith, below) in
-    let rest : drop 2 (drop 6 frame) ≡ body = ap (λ l. drop 2 l) behind ∙ drop_at (octets 2 p) body 2 two in
+    let behind : drop 6 frame ≡ pointer_octets p ++ body = ap (λ l. drop 6 l) is ∙ read.1 in
+    let again = written_pointer p body (pointer_fits link.zone (n * link.zone) 0 ps valid.most_zone) in
+    let at : pointer_of (mpdu_in frame) ≡ p = ap (λ l. pointer_of l) behind ∙ again.0 in
+    let rest : drop 2 (mpdu_in frame) ≡ body = ap (λ l. drop 2 l) behind ∙ again.1 in
     record {
       sound = no_fault link h frame s;
       count = s.count;
       pointer = at;
-      not_idle = ap (λ k. k == 2046) at ∙ (usable link.zone (n * link.zone) 0 ps valid.most_zone).1;
+      not_idle = ap (λ k. k == 2046) at ∙ pointer_is_not_idle link.zone (n * link.zone) 0 ps valid.most_zone;
       zone_is = rest;
       size = ap (λ l. length l) rest ∙ long;
     }

@@ -12,10 +12,9 @@ use Rattle.space_packet.proofs.Spelling.{written_packet_is_read}
 use Rattle.mpdu.specs.Stream.{IsPacket, ArePackets, stream, zone, first_header_pointer, begun, is_idle}
 use Rattle.mpdu.specs.Reading.{held_at}
 use Rattle.mpdu.proofs.Struck.{begun-struck, begun-none}
-use Rattle.mpdu.proofs.Packed.{stream-push, ArePackets-push}
-use Rattle.mpdu.proofs.Carried.{begun-push}
-use Rattle.link_stack.specs.Frames.{packet_drop, AreOfLink, carrying, packet_of, frame_of}
-use Rattle.link_stack.specs.Upward.{Ascent, IsUp, pdus_in}
+use Rattle.mpdu.proofs.Later.{stream-push, ArePackets-push, begun-push, zone-push, pointer-push}
+use Rattle.link_stack.specs.Frames.{packet_drop, AreOfLink, carrying, packet_of, frame_of, pdus_in}
+use Rattle.link_stack.specs.Upward.{LinkReceiverState, IsUp}
 use Rattle.mpdu.specs.Packets.{busy}
 use Rattle.link_stack.proofs.Sent.{ours, of_link-push}
 
@@ -24,7 +23,7 @@ seen_missed : (last : Option ℕ) (marks : List Bool) (missed : ℕ) → IfSome 
 seen_missed None marks missed h = tt
 seen_missed (Some l) marks missed (n, e, f) = (n, e, omega (arith, length-append marks (false ∷ [])))
 
-pub struck_is_missed : (up : Ascent) (ps : List (List ℕ)) (marks : List Bool) (missed : ℕ) → 0 < up.link.zone → missed + 1 < frame_counts → IsUp up ps marks missed → IsUp up ps (marks ++ false ∷ []) (missed + 1)
+pub struck_is_missed : (up : LinkReceiverState) (ps : List (List ℕ)) (marks : List Bool) (missed : ℕ) → 0 < up.link.zone → missed + 1 < frame_counts → IsUp up ps marks missed → IsUp up ps (marks ++ false ∷ []) (missed + 1)
 struck_is_missed up ps marks missed some few is =
     let lost : missed + 1 ≡ 0 → ⊥ = λ (e : missed + 1 ≡ 0). omega (arith, e) in
     record {
@@ -41,18 +40,6 @@ pub new_is : (link : LinkConfig) (ps : List (List ℕ)) (counts : List ℕ) → 
 new_is link ps counts size whole all =
     record { packets_whole = whole; of_link = all; few = omega arith; seen = tt; unseen = λ e. refl; as_left = sym (begun-none link.zone ps whole); counts = size }
 
-pointer-push : (z e a : ℕ) (ps : List (List ℕ)) (q : List ℕ) → e + z ≤ a + length (stream ps) → first_header_pointer z e a (ps ++ q ∷ []) ≡ first_header_pointer z e a ps
-pointer-push z e a [] q h =
-    let t : nat_le e a ≡ true = le-leb e a (omega arith) in
-    let u : nat_lt a (e + z) ≡ false = le-ltb a (e + z) (omega arith) in
-    rw (t, u) refl
-pointer-push z e a (p ∷ ps) q h =
-    rw (pointer-push z e (a + length p) ps q (omega (arith, length-append p (stream ps)))) refl
-
-zone-push : (z e : ℕ) (ps : List (List ℕ)) (q : List ℕ) → e + z ≤ length (stream ps) → zone z e (stream (ps ++ q ∷ [])) ≡ zone z e (stream ps)
-zone-push z e ps q h =
-    ap (λ l. zone z e l) (stream-push ps q) ∙ ap (λ l. take z l) (drop-append-le e (stream ps) q (omega arith)) ∙ take-append-le z (drop e (stream ps)) q (omega (arith, length-drop e (stream ps)))
-
 pub frame-push : (link : LinkConfig) (ps : List (List ℕ)) (q : List ℕ) (n : ℕ) → n * link.zone + link.zone ≤ length (stream ps) → frame_of link (ps ++ q ∷ []) n ≡ frame_of link ps n
 frame-push link ps q n h =
     let header : FrameHeader = record { spacecraft = link.spacecraft; channel = link.channel; count = n % frame_counts } in
@@ -60,7 +47,7 @@ frame-push link ps q n h =
     ap (λ p. frame_octets header (octets 2 p ++ zone link.zone e (stream (ps ++ q ∷ [])))) (pointer-push link.zone e 0 ps q (omega (arith, h)))
     ∙ ap (λ l. frame_octets header (octets 2 (first_header_pointer link.zone e 0 ps) ++ l)) (zone-push link.zone e ps q h)
 
-pub up-push : (up : Ascent) (ps : List (List ℕ)) (q : List ℕ) (marks : List Bool) (missed : ℕ) → IsPacket q → ((is_idle q ≡ true) ⊎ (packet_drop up.link q ≡ None)) → length marks * up.link.zone ≤ length (stream ps) →
+pub up-push : (up : LinkReceiverState) (ps : List (List ℕ)) (q : List ℕ) (marks : List Bool) (missed : ℕ) → IsPacket q → ((is_idle q ≡ true) ⊎ (packet_drop up.link q ≡ None)) → length marks * up.link.zone ≤ length (stream ps) →
     IsUp up ps marks missed → IsUp up (ps ++ q ∷ []) marks missed
 up-push up ps q marks missed packet carries_one room is =
     record { packets_whole = ArePackets-push ps q is.packets_whole packet; of_link = of_link-push up.link ps q is.of_link carries_one; few = is.few; seen = is.seen; unseen = is.unseen; as_left = is.as_left ∙ sym (begun-push up.link.zone marks 0 ps q packet (omega (arith, room))); counts = is.counts }

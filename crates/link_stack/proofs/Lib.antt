@@ -1,7 +1,6 @@
 pub mod Sent
 pub mod Unpacked
 pub mod Taking
-pub mod Following
 pub mod Decoded
 pub mod Streams
 pub mod Grown

@@ -3,22 +3,21 @@ use Rattle.std.proofs.Common.{◌≡◌, ◌≢◌, max, min, ◌^◌, slice_ind
 use Rattle.std.proofs.lemmas.Bool.{cases_Bool}
 use Rattle.std.proofs.lemmas.List.{append_assoc, map-append, length-set, get_or-set_same, get_or-set_other}
 use Rattle.cfd_bits.specs.Field.{field}
-use Rattle.aos_frame.specs.Counts.{frame_counts}
+use Rattle.aos_frame.specs.Counts.{frame_counts, follows}
 use Rattle.aos_frame.specs.Frame.{IsLink, frame_fault}
 use Rattle.aos_frame.specs.declared.config.LinkConfig.{LinkConfig}
 use Rattle.mpdu.specs.Stream.{ArePackets, stream, zone, first_header_pointer, begun, survivors, arrived, keep, is_idle}
 use Rattle.mpdu.specs.Reading.{step, held_at, resync, bad_count, is_some}
 use Rattle.mpdu.specs.Feeding.{IsNext}
-use Rattle.mpdu.proofs.Zone.{FedRight}
-use Rattle.mpdu.proofs.Taken.{next_right}
-use Rattle.mpdu.proofs.Noted.{resync_is, bad_is}
+use Rattle.mpdu.specs.MpduHeader.{pointer_of}
+use Rattle.mpdu.proofs.NextZone.{IsReadRight, next_is_read}
 use Rattle.mpdu.proofs.Struck.{begun-struck}
 use Rattle.link_stack.specs.declared.drops.LinkDrop.TheVariants.{NoMemory}
-use Rattle.link_stack.specs.Frames.{packet_drop, AreOfLink}
+use Rattle.link_stack.specs.Frames.{packet_drop, mpdu_in, AreOfLink, pdus_in}
 use Rattle.link_stack.specs.Drops.{raised, counted, all_counted, count_of}
-use Rattle.link_stack.specs.Upward.{Ascent, FrameRead, pdus_of, drops_of, with_pdu, with_drop, zone_drops, follows, idle_read, packets_read, read_unless, frame_read, Takes, TakesFront, HasZone, IsUp, IsNextFrame, TakesNext, TakesPart, pdus_in}
+use Rattle.link_stack.specs.Upward.{LinkReceiverState, FrameRead, pdus_of, drops_of, with_pdu, with_drop, zone_drops, idle_read, packets_read, read_unless, frame_read, Takes, TakesFront, HasZone, IsUp, IsNextFrame, TakesNext, TakesNextFront}
 use Rattle.link_stack.proofs.Decoded.{IsDecoded, decoded}
-use Rattle.link_stack.proofs.Following.{held_follows}
+use Rattle.mpdu.proofs.Following.{held_follows}
 
 -- How the count of drops by 11 changes.
 resync_length : (counts : List ℕ) (b : Bool) → length (all_counted counts (zone_drops b 0)) ≡ length counts
@@ -78,27 +77,27 @@ drops-none link [] all = refl
 drops-none link (p ∷ ps) all = ap (λ o. with_drop o (drops_of link ps)) all.0 ∙ drops-none link ps all.1
 
 -- a frame of the link with packets in its zone
-packets_are_read : (up : Ascent) (frame : List ℕ) → frame_fault frame up.link ≡ None → (field (drop 6 frame) 5 11 == 2046) ≡ false →
-    frame_read up frame ≡ packets_read up (field frame 16 24) (field (drop 6 frame) 5 11) (drop 2 (drop 6 frame))
+packets_are_read : (up : LinkReceiverState) (frame : List ℕ) → frame_fault frame up.link ≡ None → (pointer_of (mpdu_in frame) == 2046) ≡ false →
+    frame_read up frame ≡ packets_read (Some (field frame 16 24)) up.begun (follows up.last (field frame 16 24)) (pointer_of (mpdu_in frame)) (drop 2 (mpdu_in frame))
 packets_are_read up frame sound busy =
     let count : ℕ = field frame 16 24 in
-    ap (λ e. read_unless e up frame) sound ∙ ap (λ b. if b then idle_read count else packets_read up count (field (drop 6 frame) 5 11) (drop 2 (drop 6 frame))) busy
+    ap (λ e. read_unless e up frame) sound ∙ ap (λ b. if b then idle_read count else packets_read (Some count) up.begun (follows up.last count) (pointer_of (mpdu_in frame)) (drop 2 (mpdu_in frame))) busy
 
 -- what is read of it
-pub record IsRight (up : Ascent) (ps : List (List ℕ)) (marks : List Bool) (missed : ℕ) (read : FrameRead) : Type 0 where
+pub record IsRight (up : LinkReceiverState) (ps : List (List ℕ)) (marks : List Bool) (missed : ℕ) (read : FrameRead) : Type 0 where
   pub last : read.last ≡ Some (length marks % frame_counts)
   pub held : read.begun ≡ begun up.link.zone (marks ++ true ∷ []) 0 ps
   pub given : survivors up.link.zone (marks ++ true ∷ []) 0 ps ≡ survivors up.link.zone marks 0 ps ++ read.packets
   pub ours : AreOurs up.link read.packets
   pub told : read.told ≡ zone_drops (not (missed == 0) && is_some up.begun) 0
 
-pub right : (up : Ascent) (ps : List (List ℕ)) (marks : List Bool) (missed : ℕ) (frame : List ℕ) → IsLink up.link → IsUp up ps marks missed → ArePackets ps → length marks * up.link.zone + up.link.zone ≤ length (stream ps) →
+pub right : (up : LinkReceiverState) (ps : List (List ℕ)) (marks : List Bool) (missed : ℕ) (frame : List ℕ) → IsLink up.link → IsUp up ps marks missed → ArePackets ps → length marks * up.link.zone + up.link.zone ≤ length (stream ps) →
     IsDecoded up.link ps (length marks) frame → IsRight up ps marks missed (frame_read up frame)
 right up ps marks missed frame valid is whole room d =
     let z : ℕ = up.link.zone in
     let n : ℕ = length marks in
-    let at : ℕ = field (drop 6 frame) 5 11 in
-    let oct : List ℕ = drop 2 (drop 6 frame) in
+    let at : ℕ = pointer_of (mpdu_in frame) in
+    let oct : List ℕ = drop 2 (mpdu_in frame) in
     let f : Bool = follows up.last (field frame 16 24) in
     let held : List ℕ = held_at f up.begun in
     let told = held_follows up.last (field frame 16 24) n missed up.begun is.few is.seen is.unseen d.count in
@@ -108,16 +107,16 @@ right up ps marks missed frame valid is whole room d =
     let next : IsNext ps marks held at oct = record { packets_whole = whole; as_left = at_len.0; inside = at_len.1; pointed = at_len.2; cut_out = at_len.3 } in
     let lo : 6 ≤ length oct = omega (arith, d.size, valid.least_zone) in
     let hi : length oct ≤ 2040 = omega (arith, d.size, valid.most_zone) in
-    let fed : FedRight (length oct) marks 0 ps (step (length oct) held at oct) = next_right ps marks held at oct lo hi next in
+    let fed : IsReadRight ps marks up.begun f at oct = next_is_read ps marks up.begun f at oct lo hi next in
     let given : survivors z (marks ++ true ∷ []) 0 ps ≡ survivors z marks 0 ps ++ (step (length oct) held at oct).out =
     subst (λ (k : ℕ). survivors k (marks ++ true ∷ []) 0 ps ≡ survivors k marks 0 ps ++ (step (length oct) held at oct).out) d.size fed.given in
     let ours : AreOurs up.link (step (length oct) held at oct).out =
     ours-behind up.link (survivors z marks 0 ps) (step (length oct) held at oct).out (subst (λ (l : List (List ℕ)). AreOurs up.link l) given (ours_survive up.link z (marks ++ true ∷ []) 0 ps is.of_link)) in
     let tells : zone_drops (resync (length oct) up.begun f at oct) (bad_count (length oct) held at oct) ≡ zone_drops (not (missed == 0) && is_some up.begun) 0 =
-    ap (λ b. zone_drops b (bad_count (length oct) held at oct)) (resync_is ps marks up.begun f at oct lo hi next ∙ told.1)
-    ∙ ap (λ k. zone_drops (not (missed == 0) && is_some up.begun) k) (bad_is ps marks held at oct lo hi next) in
-    let zoned : IsRight up ps marks missed (packets_read up (field frame 16 24) at oct) =
-    record { last = ap (λ k. Some k) d.count; held = fed.held ∙ ap (λ k. begun k (marks ++ true ∷ []) 0 ps) d.size; given = given; ours = ours; told = tells } in
+    ap (λ b. zone_drops b (bad_count (length oct) held at oct)) (fed.resync ∙ told.1)
+    ∙ ap (λ k. zone_drops (not (missed == 0) && is_some up.begun) k) fed.bad in
+    let zoned : IsRight up ps marks missed (packets_read (Some (field frame 16 24)) up.begun f at oct) =
+    record { last = ap (λ k. Some k) d.count; held = fed.left ∙ ap (λ k. begun k (marks ++ true ∷ []) 0 ps) d.size; given = given; ours = ours; told = tells } in
     subst (λ (r : FrameRead). IsRight up ps marks missed r) (sym (packets_are_read up frame d.sound d.not_idle)) zoned
 
 seen_last : (last : Option ℕ) (marks : List Bool) (b : Bool) → last ≡ Some (length marks % frame_counts) → IfSome last (λ l. (n : ℕ) × (l ≡ n % frame_counts) × (length (marks ++ b ∷ []) ≡ n + 1 + 0))
@@ -126,7 +125,7 @@ seen_last (Some l) marks b e =
     let same : l ≡ length marks % frame_counts = cc in
     (length marks, same, omega (arith, length-append marks (b ∷ [])))
 
-pub next_taken : (up new : Ascent) (ps : List (List ℕ)) (marks : List Bool) (missed : ℕ) (frame : List ℕ) (old out : List (List ℕ)) → IsUp up ps marks missed → IsRight up ps marks missed (frame_read up frame) →
+pub next_taken : (up new : LinkReceiverState) (ps : List (List ℕ)) (marks : List Bool) (missed : ℕ) (frame : List ℕ) (old out : List (List ℕ)) → IsUp up ps marks missed → IsRight up ps marks missed (frame_read up frame) →
     Takes (frame_read up frame) up new old out → TakesNext up new ps marks missed old out
 next_taken up new ps marks missed frame old out is r t =
     let packets = (frame_read up frame).packets in
@@ -152,37 +151,37 @@ next_taken up new ps marks missed frame old out is r t =
       memory = ap (λ l. count_of l 11) shown ∙ resync_keeps up.drops b;
     }
 
-pub part_taken : (up new : Ascent) (ps : List (List ℕ)) (marks : List Bool) (missed : ℕ) (frame : List ℕ) (old out : List (List ℕ)) → 0 < up.link.zone → IsUp up ps marks missed → IsRight up ps marks missed (frame_read up frame) →
-    TakesFront (frame_read up frame) up new old out → TakesPart up new ps marks old out
+pub part_taken : (up new : LinkReceiverState) (ps : List (List ℕ)) (marks : List Bool) (missed : ℕ) (frame : List ℕ) (old out : List (List ℕ)) → 0 < up.link.zone → IsUp up ps marks missed → IsRight up ps marks missed (frame_read up frame) →
+    TakesFront (frame_read up frame) up new old out → TakesNextFront up new ps marks old out
 part_taken up new ps marks missed frame old out some is r t =
     let packets = (frame_read up frame).packets in
-    let n : ℕ = t.front.count in
+    let n : ℕ = t.count in
     let known : new.last ≡ Some (length marks % frame_counts) = t.last ∙ r.last in
     let ours : AreOurs up.link (take n packets) = ours-take up.link n packets r.ours in
-    let lost : new.drops ≡ counted up.drops NoMemory = t.front.drops ∙ ap (λ l. all_counted (counted up.drops NoMemory) l) (drops-none up.link (take n packets) ours) in
+    let lost : new.drops ≡ counted up.drops NoMemory = t.drops ∙ ap (λ l. all_counted (counted up.drops NoMemory) l) (drops-none up.link (take n packets) ours) in
     record {
       after = record {
         packets_whole = is.packets_whole;
         of_link = subst (λ (l : LinkConfig). AreOfLink l ps) (sym t.link) is.of_link;
         few = omega arith;
         seen = seen_last new.last marks false known;
-        unseen = λ (none : new.last ≡ None). t.front.begun;
+        unseen = λ (none : new.last ≡ None). t.begun;
         counts = ap (λ l. length l) lost ∙ no_memory_length up.drops ∙ is.counts;
-        as_left = t.front.begun ∙ sym (begun-struck up.link.zone marks 0 ps some) ∙ ap (λ (l : LinkConfig). begun l.zone (marks ++ false ∷ []) 0 ps) (sym t.link);
+        as_left = t.begun ∙ sym (begun-struck up.link.zone marks 0 ps some) ∙ ap (λ (l : LinkConfig). begun l.zone (marks ++ false ∷ []) 0 ps) (sym t.link);
       };
       added = packets;
       completed = r.given;
       count = n;
-      pdus = t.front.pdus ∙ ap (λ l. old ++ l) (pdus-all up.link (take n packets) ours);
+      pdus = t.pdus ∙ ap (λ l. old ++ l) (pdus-all up.link (take n packets) ours);
       drops = lost;
       link = t.link;
       memory = no_memory_told up.drops new.drops is.counts lost;
     }
 
 -- whichever it was
-pub taken_either : (whole : Bool) (up new : Ascent) (ps : List (List ℕ)) (marks : List Bool) (missed : ℕ) (frame : List ℕ) (old out : List (List ℕ)) → IsLink up.link → up.link.spacecraft < 256 → IsUp up ps marks missed → IsNextFrame up.link ps marks frame →
+pub taken_either : (whole : Bool) (up new : LinkReceiverState) (ps : List (List ℕ)) (marks : List Bool) (missed : ℕ) (frame : List ℕ) (old out : List (List ℕ)) → IsLink up.link → up.link.spacecraft < 256 → IsUp up ps marks missed → IsNextFrame up.link ps marks frame →
     (whole ≡ true → Takes (frame_read up frame) up new old out) → (whole ≡ false → HasZone up.link frame × TakesFront (frame_read up frame) up new old out) →
-    TakesNext up new ps marks missed old out ⊎ TakesPart up new ps marks old out
+    TakesNext up new ps marks missed old out ⊎ TakesNextFront up new ps marks old out
 taken_either whole up new ps marks missed frame old out valid byte is next all front =
     let d : IsDecoded up.link ps (length marks) frame = decoded up.link ps (length marks) frame valid byte next.inside next.octets in
     let r : IsRight up ps marks missed (frame_read up frame) = right up ps marks missed frame valid is is.packets_whole next.inside d in
@@ -191,14 +190,12 @@ taken_either whole up new ps marks missed frame old out valid byte is next all f
       | inr e ↦ inr (part_taken up new ps marks missed frame old out (omega (arith, valid.least_zone)) is r (front e).1)
     ]
 
--- all that was appended
-pub all_given : (up new : Ascent) (ps : List (List ℕ)) (marks : List Bool) (missed : ℕ) (first old out : List (List ℕ)) → old ≡ first ++ pdus_in (survivors up.link.zone marks 0 ps) →
-    TakesNext up new ps marks missed old out ⊎ TakesPart up new ps marks old out →
-    (out ≡ first ++ pdus_in (survivors up.link.zone (marks ++ true ∷ []) 0 ps)) ⊎ (new.drops ≡ counted up.drops NoMemory)
-all_given up new ps marks missed first old out so_far (inl t) =
+-- what an `out` has that was empty
+pub all_given : (up new : LinkReceiverState) (ps : List (List ℕ)) (marks : List Bool) (missed : ℕ) (old out : List (List ℕ)) → old ≡ [] →
+    TakesNext up new ps marks missed old out ⊎ TakesNextFront up new ps marks old out →
+    (pdus_in (survivors up.link.zone (marks ++ true ∷ []) 0 ps) ≡ pdus_in (survivors up.link.zone marks 0 ps) ++ out) ⊎ (new.drops ≡ counted up.drops NoMemory)
+all_given up new ps marks missed old out none (inl t) =
     let before : List (List ℕ) = survivors up.link.zone marks 0 ps in
-    inl (
-    t.pdus ∙ ap (λ l. l ++ pdus_in t.added) so_far ∙ append_assoc first (pdus_in before) (pdus_in t.added)
-    ∙ ap (λ l. first ++ l) (sym (map-append (λ p. drop 6 p) before t.added) ∙ ap pdus_in (sym t.completed))
-    )
-all_given up new ps marks missed first old out so_far (inr t) = inr t.drops
+    let all : out ≡ pdus_in t.added = t.pdus ∙ ap (λ l. l ++ pdus_in t.added) none in
+    inl (ap pdus_in t.completed ∙ map-append (λ p. drop 6 p) before t.added ∙ ap (λ l. pdus_in before ++ l) (sym all))
+all_given up new ps marks missed old out none (inr t) = inr t.drops

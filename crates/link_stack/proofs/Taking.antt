@@ -4,10 +4,13 @@ use Rattle.std.proofs.lemmas.Bool.{cases_Bool, ltb-false}
 use Rattle.std.proofs.lemmas.List.{take_at, drop_at}
 use Rattle.mpdu.specs.Stream.{keep, header_len, header_ok, is_idle}
 use Rattle.mpdu.specs.Reading.{scan}
-use Rattle.mpdu.proofs.Scan.{header_len-long}
 use Rattle.link_stack.specs.declared.drops.LinkDrop.TheVariants.{NoMemory}
 use Rattle.link_stack.specs.Drops.{counted, all_counted}
-use Rattle.link_stack.specs.Upward.{Ascent, AreLong, pdus_of, drops_of, ReadsFront}
+use Rattle.link_stack.specs.Upward.{LinkReceiverState, AreLong, pdus_of, drops_of, FrameRead, TakesFront}
+
+header_len-long : (xs : List ℕ) → 7 ≤ header_len xs
+unfolding header_len
+header_len-long xs = omega arith
 
 long-keep : (b : Bool) (p : List ℕ) (ps : List (List ℕ)) → 6 ≤ length p → AreLong ps → AreLong (keep b p ps)
 long-keep true p ps h all = (h, all)
@@ -48,17 +51,31 @@ fed_long (Ok x) first old new packets e all all_of front = subst AreLong (sym (a
 fed_long (Err x) first old new packets e all all_of front = subst AreLong (sym (ap (λ l. drop first l) front.1 ∙ drop_at old (take front.0 packets) first (sym e))) (long-take front.0 packets all)
 
 -- a zone that found no memory
-pub reads_front : {A E : Type 0} (fed : Result A E) (up new : Ascent) (first : ℕ) (old mid out packets : List (List ℕ)) (noted : List ℕ) → is_ok fed ≡ false → first ≡ length old →
-    OnErr fed ((n : ℕ) × (mid ≡ old ++ take n packets)) → OnErr fed (new.begun ≡ []) → OnErr fed (noted ≡ counted up.drops NoMemory) →
-    new.drops ≡ all_counted noted (drops_of up.link (drop first mid)) → out ≡ take first mid ++ pdus_of up.link (drop first mid) → ReadsFront up packets new old out
-reads_front (Ok x) up new first old mid out packets noted none e front begun told drops pdus = absurd cc
-reads_front (Err x) up new first old mid out packets noted none e front begun told drops pdus =
+pub takes_front : {A E : Type 0} (fed : Result A E) (up new : LinkReceiverState) (first : ℕ) (old mid out : List (List ℕ)) (read : FrameRead) (noted : List ℕ) → new.link ≡ up.link → new.last ≡ read.last → is_ok fed ≡ false → first ≡ length old →
+    OnErr fed ((n : ℕ) × (mid ≡ old ++ take n read.packets)) → OnErr fed (new.begun ≡ []) → OnErr fed (noted ≡ counted up.drops NoMemory) →
+    new.drops ≡ all_counted noted (drops_of up.link (drop first mid)) → out ≡ take first mid ++ pdus_of up.link (drop first mid) → TakesFront read up new old out
+takes_front (Ok x) up new first old mid out read noted link last none e front begun told drops pdus = absurd cc
+takes_front (Err x) up new first old mid out read noted link last none e front begun told drops pdus =
     let n : ℕ = front.0 in
-    let behind : drop first mid ≡ take n packets = ap (λ l. drop first l) front.1 ∙ drop_at old (take n packets) first (sym e) in
-    let before : take first mid ≡ old = ap (λ l. take first l) front.1 ∙ take_at old (take n packets) first (sym e) in
+    let behind : drop first mid ≡ take n read.packets = ap (λ l. drop first l) front.1 ∙ drop_at old (take n read.packets) first (sym e) in
+    let before : take first mid ≡ old = ap (λ l. take first l) front.1 ∙ take_at old (take n read.packets) first (sym e) in
     record {
+      link = link;
+      last = last;
       count = n;
       begun = begun;
       drops = drops ∙ ap (λ l. all_counted l (drops_of up.link (drop first mid))) told ∙ ap (λ l. all_counted (counted up.drops NoMemory) (drops_of up.link l)) behind;
       pdus = pdus ∙ ap (λ l. l ++ pdus_of up.link (drop first mid)) before ∙ ap (λ l. old ++ pdus_of up.link l) behind;
     }
+
+-- the same, of another end that has the same link and counts
+pub front_again : (read same : FrameRead) (up mid new : LinkReceiverState) (old out : List (List ℕ)) → read ≡ same → mid.link ≡ up.link → mid.drops ≡ up.drops → TakesFront read mid new old out → TakesFront same up new old out
+front_again read same up mid new old out e link drops t =
+    subst (λ (r : FrameRead). TakesFront r up new old out) e (record {
+      link = t.link ∙ link;
+      last = t.last;
+      begun = t.begun;
+      count = t.count;
+      drops = t.drops ∙ ap (λ l. all_counted (counted l NoMemory) (drops_of mid.link (take t.count read.packets))) drops ∙ ap (λ l. all_counted (counted up.drops NoMemory) (drops_of l (take t.count read.packets))) link;
+      pdus = t.pdus ∙ ap (λ l. old ++ pdus_of l (take t.count read.packets)) link;
+    })

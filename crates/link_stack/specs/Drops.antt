@@ -1,10 +1,10 @@
 -- What is dropped on the way up, and the counts of it.
-use Rattle.std.specs.Prelude.{ℕ, ◌+◌, ◌-◌, ◌^◌, min, max, List, [], ◌∷◌, ◌==◌, if◌then◌else◌, slice_index_or, slice_set}
-use Rattle.aos_frame.specs.Frame.{refusal_number}
+use Rattle.std.specs.Prelude.{ℕ, ◌+◌, ◌-◌, ◌^◌, min, max, List, [], ◌∷◌, ◌==◌, if◌then◌else◌, codes, slice_index_or, slice_set}
+use Rattle.aos_frame.specs.Frame.{refusal_number, refusal_name}
 use Rattle.link_stack.specs.declared.drops.LinkDrop.{LinkDrop}
 use Rattle.link_stack.specs.declared.drops.LinkDrop.TheVariants.{Frame, Resync, BadPacket, OtherApid, Segmented, NoMemory}
 
--- the number of a drop, 1 to 11
+-- the number of a drop, 1 to 11, and its name: those of a frame's refusal are its own
 abbrev pub drop_number : LinkDrop → ℕ
 drop_number (Frame error) = refusal_number error
 drop_number Resync = 7
@@ -12,6 +12,14 @@ drop_number BadPacket = 8
 drop_number OtherApid = 9
 drop_number Segmented = 10
 drop_number NoMemory = 11
+
+abbrev pub drop_name : LinkDrop → List ℕ
+drop_name (Frame error) = refusal_name error
+drop_name Resync = codes "Resync"
+drop_name BadPacket = codes "BadPacket"
+drop_name OtherApid = codes "OtherApid"
+drop_name Segmented = codes "Segmented"
+drop_name NoMemory = codes "NoMemory"
 
 -- one more, save at the greatest value
 abbrev pub raised : ℕ → ℕ

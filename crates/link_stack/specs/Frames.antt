@@ -1,10 +1,10 @@
 -- The packets of a link that carry PDUs, and the frames of their stream.
-use Rattle.std.specs.Prelude.{◌≡◌, ℕ, ◌+◌, ◌*◌, ◌%◌, true, false, ◌||◌, ◌==◌, not, if◌then◌else◌, Option, Some, None, List, [], ◌∷◌, ◌++◌, ◌⊎◌}
-use Rattle.cfd_bits.specs.Field.{field, octets}
-use Rattle.space_packet.specs.Packet.{Parts, packet_octets}
+use Rattle.std.specs.Prelude.{◌≡◌, ℕ, ◌+◌, ◌*◌, ◌%◌, true, false, ◌||◌, ◌==◌, not, if◌then◌else◌, Option, Some, None, List, [], ◌∷◌, ◌++◌, ◌⊎◌, drop, map}
+use Rattle.space_packet.specs.Packet.{Parts, packet_octets, apid_field, flags_field, secondary_field}
 use Rattle.aos_frame.specs.Counts.{frame_counts}
 use Rattle.aos_frame.specs.Frame.{frame_octets}
 use Rattle.aos_frame.specs.declared.config.LinkConfig.{LinkConfig}
+use Rattle.mpdu.specs.MpduHeader.{pointer_octets}
 use Rattle.mpdu.specs.Stream.{is_idle, stream, zone, first_header_pointer}
 use Rattle.link_stack.specs.declared.drops.LinkDrop.{LinkDrop}
 use Rattle.link_stack.specs.declared.drops.LinkDrop.TheVariants.{OtherApid, Segmented}
@@ -19,19 +19,27 @@ packet_of link count pdu = packet_octets (carrying link count pdu)
 -- why a whole packet that isn't idle carries no PDU of the link, or none
 unfoldable pub packet_drop : LinkConfig → List ℕ → Option LinkDrop
 packet_drop link packet =
-    if not (field packet 5 11 == link.apid) then Some OtherApid
-    else if not (field packet 16 2 == 3) || not (field packet 4 1 == 0) then Some Segmented
+    if not (apid_field packet == link.apid) then Some OtherApid
+    else if not (flags_field packet == 3) || secondary_field packet == 1 then Some Segmented
     else None
+
+-- the M_PDU of a frame: what stands behind the frame's header
+abbrev pub mpdu_in : List ℕ → List ℕ
+mpdu_in frame = drop 6 frame
+
+-- the PDUs that packets carry: what stands behind their headers
+abbrev pub pdus_in : List (List ℕ) → List (List ℕ)
+pdus_in ps = map (λ p. drop 6 p) ps
 
 -- each packet is idle, or carries a PDU of the link
 abbrev pub AreOfLink : LinkConfig → List (List ℕ) → Type 0
 AreOfLink link [] = Unit {0}
 AreOfLink link (p ∷ ps) = ((is_idle p ≡ true) ⊎ (packet_drop link p ≡ None)) × AreOfLink link ps
 
--- the octets behind the header of frame n of the packets' stream: the M_PDU header, its spare bits 0, and zone n (CCSDS 732.0-B-4, 4.1.4.2)
+-- the M_PDU of frame n of the packets' stream: its header and zone n (CCSDS 732.0-B-4, 4.1.4.2)
 abbrev pub mpdu_of : LinkConfig → List (List ℕ) → ℕ → List ℕ
 mpdu_of link ps n =
-    octets 2 (first_header_pointer link.zone (n * link.zone) 0 ps) ++ zone link.zone (n * link.zone) (stream ps)
+    pointer_octets (first_header_pointer link.zone (n * link.zone) 0 ps) ++ zone link.zone (n * link.zone) (stream ps)
 
 -- frame n of the packets' stream, counted modulo 2^24 (CCSDS 732.0-B-4, 4.1.2.4)
 abbrev pub frame_of : LinkConfig → List (List ℕ) → ℕ → List ℕ

@@ -1,20 +1,23 @@
--- The receiving end of a link: what one frame does to it, whatever it is, and what the frames of a stream leave.
+-- The receiving end of a link: what one frame does to it, whatever it is, and what the frames of a
+-- stream leave.
 use Rattle.std.specs.Prelude.{◌≡◌, ℕ, ◌+◌, ◌-◌, ◌*◌, ◌%◌, ◌<◌, ◌≤◌, Bool, true, false, ◌==◌, ◌&&◌, not, if◌then◌else◌, Option, Some, None, IfSome, List, [], ◌∷◌, ◌++◌, length, take, drop, map, replicate}
 use Rattle.cfd_bits.specs.Field.{field}
-use Rattle.aos_frame.specs.Counts.{frame_counts}
+use Rattle.aos_frame.specs.Counts.{frame_counts, follows}
 use Rattle.aos_frame.specs.Frame.{frame_fault}
 use Rattle.aos_frame.specs.declared.config.LinkConfig.{LinkConfig}
 use Rattle.aos_frame.specs.declared.error.FrameError.{FrameError}
 use Rattle.aos_frame.specs.declared.error.FrameError.TheVariants.{OnlyIdle}
+use Rattle.mpdu.specs.MpduHeader.{pointer_of}
 use Rattle.mpdu.specs.Stream.{ArePackets, stream, begun, survivors}
-use Rattle.mpdu.specs.Reading.{step, held_at, resync, bad_count, is_some}
+use Rattle.mpdu.specs.Reading.{reading, held_at, resync, bad_count, is_some}
 use Rattle.link_stack.specs.declared.drops.LinkDrop.{LinkDrop}
 use Rattle.link_stack.specs.declared.drops.LinkDrop.TheVariants.{Frame, Resync, BadPacket, NoMemory}
-use Rattle.link_stack.specs.Frames.{packet_drop, AreOfLink, frame_of}
+use Rattle.link_stack.specs.Frames.{packet_drop, mpdu_in, AreOfLink, frame_of, pdus_in}
 use Rattle.link_stack.specs.Drops.{counted, all_counted, count_of}
 
--- the link, the count of the last frame seen, what is held of a begun packet, and the counts of drops
-pub record Ascent : Type 0 where
+-- A receiving end: the link, the count of the last frame seen, what is held of a begun packet, and
+-- the counts of drops.
+pub record LinkReceiverState : Type 0 where
   pub link : LinkConfig
   pub last : Option ℕ
   pub begun : List ℕ
@@ -43,18 +46,13 @@ abbrev pub AreLong : List (List ℕ) → Type 0
 AreLong [] = Unit {0}
 AreLong (p ∷ ps) = (6 ≤ length p) × AreLong ps
 
--- whether a frame with this count follows the last one seen
-abbrev pub follows : Option ℕ → ℕ → Bool
-follows None count = true
-follows (Some last) count = (last + 1) % frame_counts == count
-
 -- what a zone tells: at most one Resync, and a BadPacket for each bad header
 abbrev pub zone_drops : Bool → ℕ → List LinkDrop
 zone_drops true bad = Resync ∷ replicate bad BadPacket
 zone_drops false bad = replicate bad BadPacket
 
--- What a frame is read as: the count seen last and what is held of a begun packet after it, the whole packets that aren't idle, and what is told of
--- the frame and its zone.
+-- What a frame is read as: the count seen last and what is held of a begun packet after it, the
+-- whole packets that aren't idle, and what is told of the frame and its zone.
 pub record FrameRead : Type 0 where
   pub last : Option ℕ
   pub begun : List ℕ
@@ -65,57 +63,57 @@ pub record FrameRead : Type 0 where
 abbrev pub idle_read : ℕ → FrameRead
 idle_read count = record { last = Some count; begun = []; packets = []; told = Frame OnlyIdle ∷ [] }
 
--- a frame with packets in its zone
-abbrev pub packets_read : Ascent → ℕ → ℕ → List ℕ → FrameRead
-packets_read up count at zone =
+-- a zone whose packets are read, in a frame that follows the last one seen or doesn't
+abbrev pub packets_read : Option ℕ → List ℕ → Bool → ℕ → List ℕ → FrameRead
+packets_read last begun follows at zone =
     record {
-      last = Some count;
-      begun = (step (length zone) (held_at (follows up.last count) up.begun) at zone).begun;
-      packets = (step (length zone) (held_at (follows up.last count) up.begun) at zone).out;
-      told = zone_drops (resync (length zone) up.begun (follows up.last count) at zone) (bad_count (length zone) (held_at (follows up.last count) up.begun) at zone);
+      last = last;
+      begun = (reading begun follows at zone).begun;
+      packets = (reading begun follows at zone).out;
+      told = zone_drops (resync (length zone) begun follows at zone) (bad_count (length zone) (held_at follows begun) at zone);
     }
 
--- a zone, behind the count and the first header pointer of its frame; the pointer 2046 tells of idle data only (CCSDS 732.0-B-4, 4.1.4.2.3)
-abbrev pub zone_read : Ascent → ℕ → ℕ → List ℕ → FrameRead
-zone_read up count at zone = if at == 2046 then idle_read count else packets_read up count at zone
+-- an M_PDU, behind the count of its frame; the pointer 2046 tells of idle data only (CCSDS
+-- 732.0-B-4, 4.1.4.2.3)
+abbrev pub mpdu_read : LinkReceiverState → ℕ → List ℕ → FrameRead
+mpdu_read up count mpdu =
+    if pointer_of mpdu == 2046 then idle_read count
+    else packets_read (Some count) up.begun (follows up.last count) (pointer_of mpdu) (drop 2 mpdu)
 
 -- A frame of another link, or none, changes nothing but the count of its cause.
-abbrev pub read_unless : Option FrameError → Ascent → List ℕ → FrameRead
+abbrev pub read_unless : Option FrameError → LinkReceiverState → List ℕ → FrameRead
 read_unless (Some error) up frame = record { last = up.last; begun = up.begun; packets = []; told = Frame error ∷ [] }
-read_unless None up frame = zone_read up (field frame 16 24) (field (drop 6 frame) 5 11) (drop 2 (drop 6 frame))
+read_unless None up frame = mpdu_read up (field frame 16 24) (mpdu_in frame)
 
-abbrev pub frame_read : Ascent → List ℕ → FrameRead
+abbrev pub frame_read : LinkReceiverState → List ℕ → FrameRead
 frame_read up frame = read_unless (frame_fault frame up.link) up frame
 
 -- The frame has a zone to read: it is one of the link, and its pointer doesn't tell of idle data.
 pub record HasZone (link : LinkConfig) (frame : List ℕ) : Type 0 where
   pub of_link : frame_fault frame link ≡ None
-  pub not_idle : (field (drop 6 frame) 5 11 == 2046) ≡ false
+  pub not_idle : (pointer_of (mpdu_in frame) == 2046) ≡ false
 
--- All of it was taken: its PDUs appended, and each drop counted.
-pub record Takes (read : FrameRead) (up new : Ascent) (old out : List (List ℕ)) : Type 0 where
+-- All of it was taken: its PDUs were appended, and each drop counted.
+pub record Takes (read : FrameRead) (up new : LinkReceiverState) (old out : List (List ℕ)) : Type 0 where
   pub link : new.link ≡ up.link
   pub last : new.last ≡ read.last
   pub begun : new.begun ≡ read.begun
   pub drops : new.drops ≡ all_counted (all_counted up.drops read.told) (drops_of up.link read.packets)
   pub pdus : out ≡ old ++ pdus_of up.link read.packets
 
--- Of these packets a front was read, and nothing more is held: its PDUs were appended, and NoMemory was counted in the place of what the zone tells.
-pub record ReadsFront (up : Ascent) (packets : List (List ℕ)) (new : Ascent) (old out : List (List ℕ)) : Type 0 where
-  pub count : ℕ
-  pub begun : new.begun ≡ []
-  pub drops : new.drops ≡ all_counted (counted up.drops NoMemory) (drops_of up.link (take count packets))
-  pub pdus : out ≡ old ++ pdus_of up.link (take count packets)
-
--- The zone of the frame found no memory.
-pub record TakesFront (read : FrameRead) (up new : Ascent) (old out : List (List ℕ)) : Type 0 where
+-- A front of it was taken, and nothing is held: there was no memory for the rest, and NoMemory was
+-- counted in the place of what the zone tells.
+pub record TakesFront (read : FrameRead) (up new : LinkReceiverState) (old out : List (List ℕ)) : Type 0 where
   pub link : new.link ≡ up.link
   pub last : new.last ≡ read.last
-  pub front : ReadsFront up read.packets new old out
+  pub begun : new.begun ≡ []
+  pub count : ℕ
+  pub drops : new.drops ≡ all_counted (counted up.drops NoMemory) (drops_of up.link (take count read.packets))
+  pub pdus : out ≡ old ++ pdus_of up.link (take count read.packets)
 
--- The end is as the frames of the packets' stream leave it that were taken. The marks say which those are; the last `missed` frames were struck,
--- fewer than there are counts.
-pub record IsUp (up : Ascent) (ps : List (List ℕ)) (marks : List Bool) (missed : ℕ) : Type 0 where
+-- The end is as the frames of the packets' stream leave it that were taken. The marks say which
+-- those are; the last `missed` frames were struck, fewer than there are counts.
+pub record IsUp (up : LinkReceiverState) (ps : List (List ℕ)) (marks : List Bool) (missed : ℕ) : Type 0 where
   pub packets_whole : ArePackets ps
   pub of_link : AreOfLink up.link ps
   pub few : missed < frame_counts
@@ -129,12 +127,9 @@ pub record IsNextFrame (link : LinkConfig) (ps : List (List ℕ)) (marks : List 
   pub inside : length marks * link.zone + link.zone ≤ length (stream ps)
   pub octets : frame ≡ frame_of link ps (length marks)
 
--- the PDUs that packets carry: what stands behind their headers
-abbrev pub pdus_in : List (List ℕ) → List (List ℕ)
-pdus_in ps = map (λ p. drop 6 p) ps
-
--- It was taken whole: appended are the PDUs of the survivors that it completes. Nothing is dropped but a begun packet, where a frame was missed.
-pub record TakesNext (up new : Ascent) (ps : List (List ℕ)) (marks : List Bool) (missed : ℕ) (old out : List (List ℕ)) : Type 0 where
+-- It was taken whole: appended are the PDUs of the survivors that it completes. Nothing is dropped
+-- but a begun packet, where a frame was missed.
+pub record TakesNext (up new : LinkReceiverState) (ps : List (List ℕ)) (marks : List Bool) (missed : ℕ) (old out : List (List ℕ)) : Type 0 where
   pub after : IsUp new ps (marks ++ true ∷ []) 0
   pub added : List (List ℕ)
   pub completed : survivors up.link.zone (marks ++ true ∷ []) 0 ps ≡ survivors up.link.zone marks 0 ps ++ added
@@ -143,8 +138,9 @@ pub record TakesNext (up new : Ascent) (ps : List (List ℕ)) (marks : List Bool
   pub link : new.link ≡ up.link
   pub memory : count_of new.drops 11 ≡ count_of up.drops 11
 
--- It found no memory: a front of those PDUs was appended, and the end is as if the frame had been struck.
-pub record TakesPart (up new : Ascent) (ps : List (List ℕ)) (marks : List Bool) (old out : List (List ℕ)) : Type 0 where
+-- A front of those PDUs was appended, since there was no memory for more, and the end is as if the
+-- frame had been struck.
+pub record TakesNextFront (up new : LinkReceiverState) (ps : List (List ℕ)) (marks : List Bool) (old out : List (List ℕ)) : Type 0 where
   pub after : IsUp new ps (marks ++ false ∷ []) 0
   pub added : List (List ℕ)
   pub completed : survivors up.link.zone (marks ++ true ∷ []) 0 ps ≡ survivors up.link.zone marks 0 ps ++ added

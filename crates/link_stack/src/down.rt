@@ -1,29 +1,38 @@
 //! PDUs down to frames.
 ghost use Rattle.std.specs.Prelude.{◌≡◌, ℕ, ◌+◌, ◌*◌, ◌%◌, ◌<◌, ◌≤◌, ◌↔◌, ◌++◌, List, [], ◌∷◌, true, false, length, take, drop, IfOk, OnOk, OnErr, IsErr};
-ghost use Rattle.aos_frame.specs.Frame.{IsLink};
+ghost use Rattle.aos_frame.specs.Frame.{IsLink, FitsHeader, frame_octets};
+ghost use Rattle.mpdu.specs.MpduHeader.{pointer_octets};
 ghost use Rattle.mpdu.specs.Stream.{stream};
 ghost use Rattle.mpdu.specs.Packing.{flush_of};
 ghost use Rattle.mpdu.specs.Packets.{busy};
-ghost use Rattle.link_stack.specs.Upward.{pdus_in};
-ghost use Rattle.link_stack.specs.Frames.{packet_of, frame_of};
+ghost use Rattle.link_stack.specs.Frames.{packet_of, frame_of, pdus_in};
 ghost use Rattle.link_stack.specs.Downward.{packing, IsDown};
 ghost use Rattle.link_stack.specs.Downward as downward;
 
-use crate::{MPDU_HEADER_LEN, PACKET_HEADER_LEN, UNSEGMENTED};
-use aos_frame::{FrameHeader, LinkConfig, VcCounter};
-use cfd_bits::put_uint;
-use mpdu::{Full, Packer};
+use crate::UNSEGMENTED;
+use aos_frame::{FrameHeader, HEADER_LEN as FRAME_HEADER_LEN, LinkConfig, VcCounter};
+use mpdu::{Full, MPDU_HEADER_LEN, Packer, put_pointer};
+use space_packet::header::HEADER_LEN as PACKET_HEADER_LEN;
 use space_packet::{Counter, Packet};
 use std::alloc::{AllocError, Global};
 use std::marker::Model;
 
-/// Octets of a frame's primary header (CCSDS 732.0-B-4, 4.1.2).
-const FRAME_HEADER_LEN: usize = 6;
+/// Writes the headers of a frame with a packet zone, in front of the zone.
+fn put_headers(frame: &FrameHeader, pointer: u16, out: &mut [u8])
+    requires fits { FitsHeader frame.now }
+    requires pointer { pointer < 2048 }
+    requires room { length out.old ≡ 8 }
+    ensures { out.new ≡ frame_octets frame.now (pointer_octets pointer) }
+{
+    let (header, behind) = out.split_at_mut(FRAME_HEADER_LEN);
+    aos_frame::encode(frame, header);
+    put_pointer(behind, pointer);
+}
 
 /// The sending end of one direction of a link: each PDU in a packet of its own, the packets end to end over frames.
 ///
 /// All that waits, and the packet that is written, lie in buffers that were made with it. So no call takes memory.
-#[derive(Drop)]
+#[derive(Debug, Drop)]
 pub struct Down {
     link: LinkConfig,
     packer: Packer,
@@ -34,15 +43,15 @@ pub struct Down {
 }
 
 impl Model for Down {
-    ghost use Rattle.std.specs.Prelude.{◌≡◌, ◌≤◌, length};
+    ghost use Rattle.std.specs.Prelude.{◌≡◌, ◌<◌, ◌≤◌, length};
     ghost use Rattle.aos_frame.specs.Frame.{IsLink};
-    ghost use Rattle.link_stack.specs.Downward.{Descent};
+    ghost use Rattle.link_stack.specs.Downward.{LinkSenderState};
 
-    ghost Value = { Descent };
+    ghost Value = { LinkSenderState };
 
     ghost view = { λ d. record { link = d.link; capacity = d.packer.capacity; waiting = d.packer.waiting; first = d.packer.first; flushed = d.packer.flushed; packet_count = d.packets; frame_count = d.frames } };
 
-    ghost invariant = { λ d. IsLink d.link × (d.packer.size ≡ d.link.zone) × (d.packer.capacity ≤ 65536) × (length d.packet.items ≡ d.packer.capacity) };
+    ghost invariant = { λ d. IsLink d.link × (d.packer.size ≡ d.link.zone) × (d.packer.capacity ≤ 65536) × (length d.packet.items ≡ d.packer.capacity) × (d.packets < 16384) };
 }
 
 impl Down {
@@ -86,9 +95,10 @@ impl Down {
         self.packer.waiting_len()
     }
 
-    /// No fewer than the whole frames that would wait after a PDU was sent, or a flush, now.
+    /// The most whole frames that can ever wait, whatever is sent and flushed: a caller that has room for so many can always take them all.
     pub fn frames_ahead(&self) -> usize
-        ensures { self.now.capacity + 2047 < result * self.now.link.zone + self.now.link.zone }
+        ensures enough { self.now.capacity + 2047 < result * self.now.link.zone + self.now.link.zone }
+        ensures no_more { result * self.now.link.zone ≤ self.now.capacity + 2047 }
     {
         (self.packet.len() + 2047) / usize::from(self.link.zone)
     }
@@ -106,6 +116,8 @@ impl Down {
         ensures pdu { OnOk result (pdus_in (busy (packet_of self.old.link self.old.packet_count pdu.now ∷ [])) ≡ pdu.now ∷ []) }
         ensures waiting { OnOk result (self.new.waiting ≡ self.old.waiting ++ packet_of self.old.link self.old.packet_count pdu.now) }
         ensures packet_count { OnOk result (self.new.packet_count ≡ (self.old.packet_count + 1) % 16384) }
+        ensures counts { (self.old.packet_count < 16384) × (self.new.packet_count < 16384) }
+        ensures unflushed { OnOk result (self.new.flushed ≡ false) }
         ensures len { OnOk result (length self.new.waiting ≡ length self.old.waiting + 6 + length pdu.now) }
         ensures most { OnOk result (length self.new.waiting ≤ self.old.capacity) }
         ensures fixed { (self.new.link ≡ self.old.link) × (self.new.capacity ≡ self.old.capacity) × (self.new.frame_count ≡ self.old.frame_count) }
@@ -153,7 +165,7 @@ impl Down {
             (out.new ≡ frame_of self.old.link ps made) × (made * self.old.link.zone + self.old.link.zone ≤ length (stream ps)) × IsDown self.new ps (made + 1) }
         ensures zone { result ≡ true → drop 8 out.new ≡ take self.old.link.zone self.old.waiting }
         ensures rest { result ≡ true → self.new.waiting ≡ drop self.old.link.zone self.old.waiting }
-        ensures fixed { (self.new.link ≡ self.old.link) × (self.new.capacity ≡ self.old.capacity) × (self.new.packet_count ≡ self.old.packet_count) }
+        ensures fixed { (self.new.link ≡ self.old.link) × (self.new.capacity ≡ self.old.capacity) × (self.new.packet_count ≡ self.old.packet_count) × (self.new.flushed ≡ self.old.flushed) }
     {
         let (header, zone) = out.split_at_mut(FRAME_HEADER_LEN + MPDU_HEADER_LEN);
         let Some(pointer) = self.packer.zone(zone) else {
@@ -164,13 +176,7 @@ impl Down {
             channel: self.link.channel,
             count: self.frames.next(),
         };
-        aos_frame::encode(&frame, header);
-        put_uint(
-            header,
-            FRAME_HEADER_LEN,
-            MPDU_HEADER_LEN,
-            u64::from(pointer),
-        );
+        put_headers(&frame, pointer, header);
         true
     }
 }

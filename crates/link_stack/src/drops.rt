@@ -1,6 +1,6 @@
 //! What is dropped on the way up, and why.
 ghost use Rattle.std.specs.Prelude.{◌≡◌};
-ghost use Rattle.link_stack.specs.Drops.{drop_number};
+ghost use Rattle.link_stack.specs.Drops.{drop_number, drop_name};
 
 use aos_frame::FrameError;
 use thiserror::Error;
@@ -12,24 +12,24 @@ pub enum LinkDrop {
     #[error("{0}")]
     Frame(FrameError),
     /// A begun packet was let go, since a frame was missing or the first header pointer did not fit it, or the pointer lies outside the zone.
-    #[error("Resync")]
+    #[error("a begun packet was let go")]
     Resync,
     /// A packet's version isn't `000` (CCSDS 133.0-B-2, 4.1.3.2).
-    #[error("BadPacket")]
+    #[error("the packet version number is not 0")]
     BadPacket,
     /// A packet is of another application process identifier than the link's, and isn't idle.
-    #[error("OtherApid")]
+    #[error("the packet is of another application process")]
     OtherApid,
     /// A packet of the link is a segment, or has a secondary header.
-    #[error("Segmented")]
+    #[error("the packet is a segment or has a secondary header")]
     Segmented,
     /// There was no memory for what a zone holds.
-    #[error("NoMemory")]
+    #[error("there was no memory for what the zone holds")]
     NoMemory,
 }
 
 impl LinkDrop {
-    /// The number that names this drop in reports, 1 to 11.
+    /// The number that stands for this drop in reports, 1 to 11; of a frame's refusal, its own.
     pub fn number(self) -> u8
         ensures { result ≡ drop_number self }
     {
@@ -40,6 +40,20 @@ impl LinkDrop {
             LinkDrop::OtherApid => 9,
             LinkDrop::Segmented => 10,
             LinkDrop::NoMemory => 11,
+        }
+    }
+
+    /// The name of this drop in reports; of a frame's refusal, its own.
+    pub fn name(self) -> &'static str
+        ensures { result.now ≡ drop_name self }
+    {
+        match self {
+            LinkDrop::Frame(error) => error.name(),
+            LinkDrop::Resync => "Resync",
+            LinkDrop::BadPacket => "BadPacket",
+            LinkDrop::OtherApid => "OtherApid",
+            LinkDrop::Segmented => "Segmented",
+            LinkDrop::NoMemory => "NoMemory",
         }
     }
 }

@@ -6,20 +6,20 @@ ghost use Rattle.aos_frame.specs.declared.config.LinkConfig.{LinkConfig};
 ghost use Rattle.space_packet.specs.Packet.{SpellsPacket};
 ghost use Rattle.mpdu.specs.Stream.{IsPacket, stream, survivors, is_idle};
 ghost use Rattle.link_stack.specs.Frames.{packet_drop, carrying, packet_of, frame_of};
-ghost use Rattle.link_stack.specs.Upward.{Ascent, IsUp};
+ghost use Rattle.link_stack.specs.Upward.{LinkReceiverState, IsUp};
 
 /// A frame that is struck changes nothing at the receiving end, completes no packet, and is one more missed. Fewer in a row are, than there are counts.
 pub fn a_struck_frame_is_missed()
-    ensures end { (up : Ascent) (ps : List (List ℕ)) (marks : List Bool) (missed : ℕ) → 0 < up.link.zone → missed + 1 < frame_counts →
+    ensures end { (up : LinkReceiverState) (ps : List (List ℕ)) (marks : List Bool) (missed : ℕ) → 0 < up.link.zone → missed + 1 < frame_counts →
         IsUp up ps marks missed → IsUp up ps (marks ++ false ∷ []) (missed + 1) }
-    ensures packets { (up : Ascent) (ps : List (List ℕ)) (marks : List Bool) (missed : ℕ) → 0 < up.link.zone →
+    ensures packets { (up : LinkReceiverState) (ps : List (List ℕ)) (marks : List Bool) (missed : ℕ) → 0 < up.link.zone →
         IsUp up ps marks missed → survivors up.link.zone (marks ++ false ∷ []) 0 ps ≡ survivors up.link.zone marks 0 ps }
 {}
 
 /// A packet that is sent later changes no frame that is made already, and nothing of what the frames before it leave.
 pub fn a_later_packet_changes_nothing()
     ensures frames { (link : LinkConfig) (ps : List (List ℕ)) (q : List ℕ) (n : ℕ) → n * link.zone + link.zone ≤ length (stream ps) → frame_of link (ps ++ q ∷ []) n ≡ frame_of link ps n }
-    ensures end { (up : Ascent) (ps : List (List ℕ)) (q : List ℕ) (marks : List Bool) (missed : ℕ) → IsPacket q → ((is_idle q ≡ true) ⊎ (packet_drop up.link q ≡ None)) →
+    ensures end { (up : LinkReceiverState) (ps : List (List ℕ)) (q : List ℕ) (marks : List Bool) (missed : ℕ) → IsPacket q → ((is_idle q ≡ true) ⊎ (packet_drop up.link q ≡ None)) →
         length marks * up.link.zone ≤ length (stream ps) → IsUp up ps marks missed → IsUp up (ps ++ q ∷ []) marks missed }
     ensures packets { (link : LinkConfig) (ps : List (List ℕ)) (q : List ℕ) (marks : List Bool) → IsPacket q →
         length marks * link.zone ≤ length (stream ps) → survivors link.zone marks 0 (ps ++ q ∷ []) ≡ survivors link.zone marks 0 ps }

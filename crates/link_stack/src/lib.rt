@@ -2,6 +2,19 @@
 //!
 //! One packet carries one whole PDU. A [`Down`] lays the packets of one direction over the frames of a virtual channel, and an [`Up`] gives
 //! back the PDUs all of whose frames came, in order. What can't be read is dropped, and each drop is counted under its number.
+//!
+//! ```
+//! let mut down = Down::new(alloc, link, 8192)?;
+//! down.send(&pdu)?;
+//! down.flush();
+//!
+//! let mut up = Up::new(alloc, link);
+//! let mut frame = vec![in alloc; 0u8; down.frame_len()]?;
+//! let mut pdus = Vec::new(alloc);
+//! while down.next_frame(&mut frame) {
+//!     up.take(&frame, &mut pdus);
+//! }
+//! ```
 #![tactic(auto)]
 
 mod down;
@@ -19,12 +32,6 @@ pub use laws::{
 };
 pub use mpdu::Full;
 pub use up::Up;
-
-/// Octets of the M_PDU header, in front of the packet zone (CCSDS 732.0-B-4, 4.1.4.2).
-const MPDU_HEADER_LEN: usize = 2;
-
-/// Octets of a packet's primary header (CCSDS 133.0-B-2, 4.1.3).
-const PACKET_HEADER_LEN: usize = 6;
 
 /// The sequence flags of an unsegmented packet (CCSDS 133.0-B-2, 4.1.3.4.2).
 const UNSEGMENTED: u8 = 3;

@@ -1,3 +1,11 @@
+ghost use Rattle.std.specs.Prelude.{◌≡◌, ℕ, ◌++◌, ◌⊎◌, List, Bool, [], ◌∷◌, true};
+ghost use Rattle.mpdu.specs.Feeding.{octets_of_each};
+ghost use Rattle.mpdu.specs.Stream.{survivors};
+ghost use Rattle.link_stack.specs.Frames.{pdus_in};
+ghost use Rattle.link_stack.specs.Drops.{counted};
+ghost use Rattle.link_stack.specs.Upward.{IsUp, IsNextFrame};
+ghost use Rattle.link_stack.specs.declared.drops.LinkDrop.TheVariants.{NoMemory};
+
 use super::*;
 use std::alloc::Global;
 use std::process::Abort;
@@ -18,6 +26,10 @@ const FILE_DATA: &str = "3000091300010000000100020000000068656C6C6F";
 const EOF: &str = "20000A1300010000000100020400D7656C6C00000005";
 
 const ACK: &str = "200003130001000000010002065102";
+
+const ACK_OF_EOF: &str = "280003130001000000010002064001";
+
+const FINISHED: &str = "2800021300010000000100020502";
 
 fn octets(alloc: Global, text: &str) -> Result<Vec<u8>, Fail> {
     Ok(hex::decode(alloc, text)?)
@@ -98,20 +110,39 @@ fn a_pdu_goes_down_in_frames(rt: HostRuntime) -> Result<(), Fail> {
 #[test]
 fn what_survives_comes_up(rt: HostRuntime) -> Result<(), Fail> {
     let alloc = rt.alloc();
-    let pdus = [METADATA, FILE_DATA, EOF, ACK];
     // the frames that the packets of 36, 27, 28 and 21 octets meet
     let spans = [0b0011u8, 0b0010, 0b0110, 0b1100];
-    let frames = frames_of(&rt, alloc, &pdus)?;
-    assert_eq!(rt; frames.len(), 4);
+    let pdus = [METADATA, FILE_DATA, EOF, ACK];
+    check_every_choice(&rt, alloc, &pdus, &spans, 4)?;
+    let (up, _) = taken(alloc, &frames_of(&rt, alloc, &pdus)?, 0b1111)?;
+    assert_eq!(rt; only_drop(&up), 0);
+    Ok(())
+}
+
+#[test]
+fn what_survives_of_the_replies_comes_up(rt: HostRuntime) -> Result<(), Fail> {
+    let alloc = rt.alloc();
+    // those of 21 and 20 octets
+    check_every_choice(&rt, alloc, &[ACK_OF_EOF, FINISHED], &[0b01, 0b11], 2)
+}
+
+/// Checks that there are so many frames, at most 4, and that whichever of them are struck, exactly the PDUs of the survivors come.
+fn check_every_choice(
+    rt: &impl Abort,
+    alloc: Global,
+    pdus: &[&str],
+    spans: &[u8],
+    count: usize,
+) -> Result<(), Fail> {
+    let frames = frames_of(rt, alloc, pdus)?;
+    assert_eq!(rt; frames.len(), count);
     for delivered in 0..16u8 {
         let (_, out) = taken(alloc, &frames, delivered)?;
         assert!(rt;
-            are_survivors(alloc, &pdus, &spans, delivered, &out)?,
+            are_survivors(alloc, pdus, spans, delivered, &out)?,
             "at {delivered}"
         );
     }
-    let (up, _) = taken(alloc, &frames, 0b1111)?;
-    assert_eq!(rt; only_drop(&up), 0);
     Ok(())
 }
 
@@ -151,6 +182,16 @@ fn a_missing_count_is_a_resync(rt: HostRuntime) -> Result<(), Fail> {
     Ok(())
 }
 
+/// A caller that needs no lemma: what is in a cleared `out` then are the PDUs that the frame completed.
+fn take_alone(up: &mut Up, frame: &[u8], out: &mut Vec<Vec<u8>>)
+    ensures { (ps : List (List ℕ)) (marks : List Bool) (missed : ℕ) → IsUp up.old ps marks missed → IsNextFrame up.old.link ps marks frame.now →
+        (pdus_in (survivors up.old.link.zone (marks ++ true ∷ []) 0 ps) ≡ pdus_in (survivors up.old.link.zone marks 0 ps) ++ octets_of_each out.new.items)
+        ⊎ (up.new.drops ≡ counted up.old.drops NoMemory) }
+{
+    out.clear();
+    up.take(frame, out);
+}
+
 /// Takes one frame of the link, with this M_PDU header and this front of its zone, all else zeros.
 fn taken_alone(rt: &impl Abort, alloc: Global, front: &str) -> Result<(u8, usize), Fail> {
     let front = octets(alloc, front)?;
@@ -162,7 +203,7 @@ fn taken_alone(rt: &impl Abort, alloc: Global, front: &str) -> Result<(u8, usize
     }
     let mut up = Up::new(alloc, LINK);
     let mut out = Vec::new(alloc);
-    up.take(&frame, &mut out);
+    take_alone(&mut up, &frame, &mut out);
     Ok((only_drop(&up), out.len()))
 }
 
@@ -200,13 +241,20 @@ fn room_is_that_of_the_longest_pdu(rt: HostRuntime) -> Result<(), Fail> {
     assert_eq!(rt; down.send(&longer[..8_186]), Ok(()));
     assert_eq!(rt; down.room(), 0);
     assert_eq!(rt; down.waiting_len(), 8_192);
+    assert_eq!(rt; down.frames_ahead(), 319);
+    Ok(())
+}
+
+#[test]
+fn drops_have_names(rt: HostRuntime) -> Result<(), Fail> {
+    let alloc = rt.alloc();
+    assert_eq!(rt; LinkDrop::Resync.name(), "Resync");
+    let only_idle = LinkDrop::Frame(aos_frame::FrameError::OnlyIdle);
+    assert_eq!(rt; only_idle.number(), 6);
+    assert_eq!(rt; only_idle.name(), "OnlyIdle");
     assert_eq!(rt;
-        format!(in alloc; "{}", LinkDrop::Resync)?.as_str(),
-        "Resync"
-    );
-    assert_eq!(rt;
-        LinkDrop::Frame(aos_frame::FrameError::OnlyIdle).number(),
-        6
+        format!(in alloc; "{only_idle}")?.as_str(),
+        "the frame holds only idle data"
     );
     Ok(())
 }

@@ -1,22 +1,20 @@
 //! Frames up to PDUs.
 ghost use Rattle.std.specs.Prelude.{◌≡◌, ℕ, ◌+◌, ◌-◌, ◌==◌, ◌<◌, ◌≤◌, ◌⊎◌, ◌++◌, List, Bool, [], ◌∷◌, true, false, length, take, drop, replicate, Some, None, IfOk, OnErr};
-ghost use Rattle.cfd_bits.specs.Field.{field};
 ghost use Rattle.aos_frame.specs.Frame.{IsLink};
 ghost use Rattle.mpdu.specs.Feeding.{octets_of_each};
-ghost use Rattle.mpdu.specs.Reading.{step, held_at, resync, bad_count};
+ghost use Rattle.mpdu.specs.MpduHeader.{pointer_of};
 ghost use Rattle.mpdu.specs.Stream.{ArePackets, survivors};
-ghost use Rattle.link_stack.specs.Frames.{packet_drop, AreOfLink};
+ghost use Rattle.link_stack.specs.Frames.{packet_drop, AreOfLink, pdus_in};
 ghost use Rattle.link_stack.specs.Drops.{raised, counted, all_counted, count_of};
 ghost use Rattle.aos_frame.specs.Counts.{frame_counts};
-ghost use Rattle.link_stack.specs.Upward as upward;
-ghost use Rattle.link_stack.specs.Upward.{AreLong, pdus_of, drops_of, zone_drops, ReadsFront, HasZone, zone_read, frame_read, Takes, TakesFront, IsUp, IsNextFrame, TakesNext, TakesPart, pdus_in};
+ghost use Rattle.link_stack.specs.Upward.{AreLong, pdus_of, drops_of, zone_drops, packets_read, mpdu_read, frame_read, HasZone, Takes, TakesFront, IsUp, IsNextFrame, TakesNext, TakesNextFront};
 ghost use Rattle.link_stack.specs.declared.drops.LinkDrop.TheVariants.{BadPacket, NoMemory};
 
+use crate::UNSEGMENTED;
 use crate::drops::LinkDrop;
-use crate::{MPDU_HEADER_LEN, PACKET_HEADER_LEN, UNSEGMENTED};
-use aos_frame::{Continuity, FrameError, LinkConfig, VcMonitor, decode};
-use cfd_bits::get;
-use mpdu::{Notes, ONLY_IDLE, Reassembler};
+use aos_frame::{FrameError, LinkConfig, VcMonitor, decode};
+use mpdu::{MPDU_HEADER_LEN, Notes, ONLY_IDLE, Reassembler, read_pointer};
+use space_packet::header;
 use std::alloc::{AllocError, Global};
 use std::marker::Model;
 
@@ -24,7 +22,7 @@ use std::marker::Model;
 const CAUSES: usize = 11;
 
 /// How often something was dropped, for each cause.
-#[derive(Drop)]
+#[derive(Debug, Drop)]
 struct Drops {
     // in the order of their numbers, from 1
     counts: [u64; CAUSES],
@@ -96,14 +94,15 @@ fn count_bad(bad: u8, drops: &mut Drops)
 }
 
 /// Why a whole packet that isn't idle carries no PDU of the link, if it doesn't.
+#[tactic(auto, unfolding(crate::specs::Frames::packet_drop))]
 fn packet_drop_of(link: &LinkConfig, packet: &[u8]) -> Option<LinkDrop>
     requires { 6 ≤ length packet.now }
     ensures { result ≡ packet_drop link.now packet.now }
 {
-    if get(packet, 5, 11) != u64::from(link.apid) {
+    if header::apid(packet) != link.apid {
         return Some(LinkDrop::OtherApid);
     }
-    if get(packet, 16, 2) != u64::from(UNSEGMENTED) || get(packet, 4, 1) != 0 {
+    if header::sequence_flags(packet) != UNSEGMENTED || header::has_secondary_header(packet) {
         return Some(LinkDrop::Segmented);
     }
     None
@@ -114,7 +113,7 @@ fn drop_header(packet: &mut Vec<u8>)
     requires { 6 ≤ length packet.old.items }
     ensures { packet.new.items ≡ drop 6 packet.old.items }
 {
-    packet.drain(..PACKET_HEADER_LEN);
+    packet.drain(..header::HEADER_LEN);
 }
 
 /// Makes the packet at a place its PDU, or takes it out and counts why it carries none. Answers the place of the next.
@@ -155,22 +154,10 @@ fn unpack(link: &LinkConfig, packets: &mut Vec<Vec<u8>>, first: usize, drops: &m
     }
 }
 
-/// Whether a frame with this count follows the last one seen.
-fn follows(monitor: &mut VcMonitor, count: u32) -> bool
-    requires { count < frame_counts }
-    ensures told { result ≡ upward.follows monitor.old count }
-    ensures seen { monitor.new ≡ Some count }
-{
-    match monitor.see(count) {
-        Continuity::Follows => true,
-        Continuity::Gap(_) => false,
-    }
-}
-
 /// The receiving end of one direction of a link: what it takes of frames are the PDUs all of whose frames came, in order.
 ///
 /// Whatever can't be read is dropped, and counted under one number.
-#[derive(Drop)]
+#[derive(Debug, Drop)]
 pub struct Up {
     link: LinkConfig,
     monitor: VcMonitor,
@@ -180,9 +167,9 @@ pub struct Up {
 
 impl Model for Up {
     ghost use Rattle.aos_frame.specs.Frame.{IsLink};
-    ghost use Rattle.link_stack.specs.Upward.{Ascent};
+    ghost use Rattle.link_stack.specs.Upward.{LinkReceiverState};
 
-    ghost Value = { Ascent };
+    ghost Value = { LinkReceiverState };
 
     ghost view = { λ u. record { link = u.link; last = u.monitor; begun = u.reassembler; drops = u.drops } };
 
@@ -223,13 +210,12 @@ impl Up {
     ) -> bool
         requires least { 16 ≤ length zone.now }
         requires most { length zone.now ≤ 2040 }
-        ensures kept { (self.new.link ≡ self.old.link) × (self.new.last ≡ self.old.last) }
-        ensures begun { result ≡ true → self.new.begun ≡ (step (length zone.now) (held_at follows self.old.begun) pointer zone.now).begun }
-        ensures drops { result ≡ true → self.new.drops ≡ all_counted
-            (all_counted self.old.drops (zone_drops (resync (length zone.now) self.old.begun follows pointer zone.now) (bad_count (length zone.now) (held_at follows self.old.begun) pointer zone.now)))
-            (drops_of self.old.link (step (length zone.now) (held_at follows self.old.begun) pointer zone.now).out) }
-        ensures pdus { result ≡ true → octets_of_each out.new.items ≡ octets_of_each out.old.items ++ pdus_of self.old.link (step (length zone.now) (held_at follows self.old.begun) pointer zone.now).out }
-        ensures no_memory { result ≡ false → ReadsFront self.old (step (length zone.now) (held_at follows self.old.begun) pointer zone.now).out self.new (octets_of_each out.old.items) (octets_of_each out.new.items) }
+        ensures all { result ≡ true →
+            Takes (packets_read self.old.last self.old.begun follows pointer zone.now) self.old self.new
+            (octets_of_each out.old.items) (octets_of_each out.new.items) }
+        ensures front { result ≡ false →
+            TakesFront (packets_read self.old.last self.old.begun follows pointer zone.now) self.old self.new
+            (octets_of_each out.old.items) (octets_of_each out.new.items) }
     {
         let first = out.len();
         let fed = self.reassembler.feed(pointer, zone, follows, out);
@@ -242,12 +228,12 @@ impl Up {
     fn read_mpdu(&mut self, count: u32, mpdu: &[u8], out: &mut Vec<Vec<u8>>) -> bool
         requires count { count < frame_counts }
         requires len { length mpdu.now ≡ 2 + self.old.link.zone }
-        ensures all { result ≡ true → Takes (zone_read self.old count (field mpdu.now 5 11) (drop 2 mpdu.now)) self.old self.new (octets_of_each out.old.items) (octets_of_each out.new.items) }
-        ensures front { result ≡ false → ((field mpdu.now 5 11 == 2046) ≡ false)
-            × TakesFront (zone_read self.old count (field mpdu.now 5 11) (drop 2 mpdu.now)) self.old self.new (octets_of_each out.old.items) (octets_of_each out.new.items) }
+        ensures all { result ≡ true → Takes (mpdu_read self.old count mpdu.now) self.old self.new (octets_of_each out.old.items) (octets_of_each out.new.items) }
+        ensures front { result ≡ false → ((pointer_of mpdu.now == 2046) ≡ false)
+            × TakesFront (mpdu_read self.old count mpdu.now) self.old self.new (octets_of_each out.old.items) (octets_of_each out.new.items) }
     {
-        let in_order = follows(&mut self.monitor, count);
-        let pointer = get(mpdu, 5, 11) as u16;
+        let in_order = self.monitor.follows(count);
+        let pointer = read_pointer(mpdu);
         if pointer == ONLY_IDLE {
             self.reassembler.let_go();
             self.drops.count(LinkDrop::Frame(FrameError::OnlyIdle));
@@ -286,11 +272,11 @@ impl Up {
         // What the next frame of a stream does, where the end is as those before it leave it.
         ensures stream { (ps : List (List ℕ)) (marks : List Bool) (missed : ℕ) → IsUp self.old ps marks missed → IsNextFrame self.old.link ps marks frame.now →
             TakesNext self.old self.new ps marks missed (octets_of_each out.old.items) (octets_of_each out.new.items)
-            ⊎ TakesPart self.old self.new ps marks (octets_of_each out.old.items) (octets_of_each out.new.items) }
-        // So where all that was appended are the PDUs of the survivors of the frames so far, that is so of this frame too, unless it found no memory.
-        ensures survivors { (ps : List (List ℕ)) (marks : List Bool) (missed : ℕ) (first : List (List ℕ)) → IsUp self.old ps marks missed → IsNextFrame self.old.link ps marks frame.now →
-            octets_of_each out.old.items ≡ first ++ pdus_in (survivors self.old.link.zone marks 0 ps) →
-            (octets_of_each out.new.items ≡ first ++ pdus_in (survivors self.old.link.zone (marks ++ true ∷ []) 0 ps)) ⊎ (self.new.drops ≡ counted self.old.drops NoMemory) }
+            ⊎ TakesNextFront self.old self.new ps marks (octets_of_each out.old.items) (octets_of_each out.new.items) }
+        // So where nothing was in `out`, it has the PDUs of the survivors that this frame completes, unless it found no memory.
+        ensures delivered { (ps : List (List ℕ)) (marks : List Bool) (missed : ℕ) → IsUp self.old ps marks missed → IsNextFrame self.old.link ps marks frame.now → out.old.items ≡ [] →
+            (pdus_in (survivors self.old.link.zone (marks ++ true ∷ []) 0 ps) ≡ pdus_in (survivors self.old.link.zone marks 0 ps) ++ octets_of_each out.new.items)
+            ⊎ (self.new.drops ≡ counted self.old.drops NoMemory) }
     {
         let _ = &self.link;
         let _whole = self.read_frame(frame, out);

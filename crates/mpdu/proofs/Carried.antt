@@ -4,17 +4,19 @@ use Rattle.std.proofs.lemmas.Nat.{mod-mul-add}
 use Rattle.std.proofs.Math.Nat.{mod-eq_of_lt}
 use Rattle.std.proofs.lemmas.Bool.{lt-leb, cases_Bool}
 use Rattle.mpdu.specs.Stream.{stream, keep, is_idle, IsPacket, ArePackets, arrived, survivors, begun, first_header_pointer, zone}
-use Rattle.mpdu.specs.Packing.{Packing, IsAt, ZoneOf, flush_of, idle_packet, idle_len}
+use Rattle.mpdu.specs.Packing.{PackerState, IsAt, ZoneOf, flush_of, idle_packet, idle_len}
 use Rattle.mpdu.specs.Feeding.{IsNext, IsTaken, octets_of_each}
 use Rattle.aos_frame.specs.Counts.{frame_counts}
 use Rattle.mpdu.specs.Reading.{held_at}
 use Rattle.mpdu.proofs.Counted.{counts_none, counts_struck, counts_read, never}
 use Rattle.std.proofs.Common.{Option, Some, None}
-use Rattle.mpdu.specs.Carrying.{marks_of, IsCarried, AreSurvivors, fill_of}
+use Rattle.mpdu.specs.Carrying.{marks_of, AreSurvivors, fill_of}
+use Rattle.mpdu.specs.Draining.{IsCarried}
 use Rattle.mpdu.proofs.Spans.{arrived-past, arrived-behind}
 use Rattle.mpdu.proofs.Scan.{packet_long, packet_size, header_len-short}
 use Rattle.mpdu.proofs.Zone.{keep_false}
 use Rattle.mpdu.proofs.Struck.{begun-struck, survivors-struck}
+use Rattle.mpdu.proofs.Later.{begun-push, survivors-push}
 use Rattle.mpdu.proofs.Packed.{idle_is, idle_len-low, idle_len-high}
 
 pub length-marks_of : (n : ℕ) (struck : List Bool) → length (marks_of n struck) ≡ n
@@ -28,27 +30,8 @@ marks_of_more zero (b ∷ struck) = refl
 marks_of_more (suc n) [] = ap (λ l. true ∷ l) (marks_of_more n [])
 marks_of_more (suc n) (b ∷ struck) = ap (λ l. not b ∷ l) (marks_of_more n struck)
 
--- a packet more behind the marks changes nothing of what was read
-pub begun-push : (z : ℕ) (marks : List Bool) (a : ℕ) (ps : List (List ℕ)) (q : List ℕ) → IsPacket q → length marks * z ≤ a + length (stream ps) →
-    begun z marks a (ps ++ q ∷ []) ≡ begun z marks a ps
-begun-push z marks a [] q hq h =
-    let e : ℕ = length marks * z in
-    let t : nat_le (a + length q) e ≡ false = lt-leb (a + length q) e (omega (arith, packet_long q hq)) in
-    let u : arrived z 0 marks a e ≡ true = arrived-behind z 0 marks a e (omega arith) (omega arith) in
-    let k : e - a ≡ 0 = omega arith in
-    rw (t, u, k) refl
-begun-push z marks a (p ∷ ps) q hq h =
-    rw (begun-push z marks (a + length p) ps q hq (omega (arith, length-append p (stream ps)))) refl
-
-pub survivors-push : (z : ℕ) (marks : List Bool) (a : ℕ) (ps : List (List ℕ)) (q : List ℕ) → IsPacket q → length marks * z ≤ a + length (stream ps) →
-    survivors z marks a (ps ++ q ∷ []) ≡ survivors z marks a ps
-survivors-push z marks a [] q hq h =
-    keep_false (arrived z 0 marks a (a + length q)) q [] (arrived-past z 0 marks a (a + length q) (omega (arith, packet_long q hq)))
-survivors-push z marks a (p ∷ ps) q hq h =
-    ap (λ l. keep (arrived z 0 marks a (a + length p) && not (is_idle p)) p l) (survivors-push z marks (a + length p) ps q hq (omega (arith, length-append p (stream ps))))
-
 -- a packet pushed
-pub carried_push : (ps : List (List ℕ)) (struck : List Bool) (size : ℕ) (p p' : Packing) (held : List ℕ) (next : ℕ) (last : Option ℕ) (sent : ℕ) (out : List (List ℕ)) (q : List ℕ) → IsPacket q →
+pub carried_push : (ps : List (List ℕ)) (struck : List Bool) (size : ℕ) (p p' : PackerState) (held : List ℕ) (next : ℕ) (last : Option ℕ) (sent : ℕ) (out : List (List ℕ)) (q : List ℕ) → IsPacket q →
     p'.size ≡ p.size → (h : IsCarried ps struck size p held next last sent out) → IsAt p' (ps ++ q ∷ []) h.taken →
     IsCarried (ps ++ q ∷ []) struck size p' held next last sent out
 carried_push ps struck size p p' held next last sent out q hq es h at =
@@ -67,7 +50,7 @@ carried_push ps struck size p p' held next last sent out q hq es h at =
     }
 
 -- the next zone, as feed takes it
-pub next_of : (ps : List (List ℕ)) (struck : List Bool) (z : ℕ) (p : Packing) (held : List ℕ) (next : ℕ) (last : Option ℕ) (sent : ℕ) (out : List (List ℕ)) (at : ℕ) (octets : List ℕ) (follows : Bool) → length octets ≡ z →
+pub next_of : (ps : List (List ℕ)) (struck : List Bool) (z : ℕ) (p : PackerState) (held : List ℕ) (next : ℕ) (last : Option ℕ) (sent : ℕ) (out : List (List ℕ)) (at : ℕ) (octets : List ℕ) (follows : Bool) → length octets ≡ z →
     (h : IsCarried ps struck z p held next last sent out) → ZoneOf ps h.taken p.size at octets → held_at follows held ≡ held_at (h.missed == 0) held → IsNext ps (marks_of h.taken struck) (held_at follows held) at octets
 next_of ps struck z p held next last sent out at octets follows e h zo told =
     let n : ℕ = h.taken in
@@ -88,7 +71,7 @@ marks_more n struck b e =
     ap (λ k. marks_of k struck) one ∙ marks_of_more n struck ∙ ap (λ x. marks_of n struck ++ not x ∷ []) e
 
 -- a zone read
-pub carried_read : (ps : List (List ℕ)) (struck : List Bool) (z : ℕ) (p p' : Packing) (held held' : List ℕ) (next next' : ℕ) (last : Option ℕ) (sent sent' : ℕ) (out new : List (List ℕ)) (octets : List ℕ) → length octets ≡ z →
+pub carried_read : (ps : List (List ℕ)) (struck : List Bool) (z : ℕ) (p p' : PackerState) (held held' : List ℕ) (next next' : ℕ) (last : Option ℕ) (sent sent' : ℕ) (out new : List (List ℕ)) (octets : List ℕ) → length octets ≡ z →
     (h : IsCarried ps struck z p held next last sent out) → next' ≡ (next + 1) % frame_counts → p'.size ≡ p.size → IsAt p' ps (h.taken + 1) → sent' ≡ min (h.taken + 1) (length struck) →
     get_or struck h.taken false ≡ false → IsTaken ps (marks_of h.taken struck) (length octets) held' out new →
     IsCarried ps struck z p' held' next' (Some next) sent' new
@@ -108,7 +91,7 @@ carried_read ps struck z p p' held held' next next' last sent sent' out new octe
     }
 
 -- a zone struck
-pub carried_struck : (ps : List (List ℕ)) (struck : List Bool) (z : ℕ) (p p' : Packing) (held : List ℕ) (next next' : ℕ) (last : Option ℕ) (sent sent' : ℕ) (out : List (List ℕ)) → 0 < z →
+pub carried_struck : (ps : List (List ℕ)) (struck : List Bool) (z : ℕ) (p p' : PackerState) (held : List ℕ) (next next' : ℕ) (last : Option ℕ) (sent sent' : ℕ) (out : List (List ℕ)) → 0 < z →
     (h : IsCarried ps struck z p held next last sent out) → next' ≡ (next + 1) % frame_counts → p'.size ≡ p.size → IsAt p' ps (h.taken + 1) → sent' ≡ min (h.taken + 1) (length struck) →
     get_or struck h.taken false ≡ true → IsCarried ps struck z p' held next' last sent' out
 carried_struck ps struck z p p' held next next' last sent sent' out pos h en es at nm lost =
@@ -127,7 +110,7 @@ carried_struck ps struck z p p' held next next' last sent sent' out pos h en es 
     }
 
 -- the end: no whole zone is left
-pub carried_all : (ps : List (List ℕ)) (struck : List Bool) (size : ℕ) (p : Packing) (held : List ℕ) (next : ℕ) (last : Option ℕ) (sent : ℕ) (out : List (List ℕ)) →
+pub carried_all : (ps : List (List ℕ)) (struck : List Bool) (size : ℕ) (p : PackerState) (held : List ℕ) (next : ℕ) (last : Option ℕ) (sent : ℕ) (out : List (List ℕ)) →
     IsCarried ps struck size p held next last sent out → length p.waiting < p.size → AreSurvivors ps struck size out
 carried_all ps struck size p held next last sent out h less =
     let same : h.taken * p.size ≡ h.taken * size = ap (λ k. h.taken * k) h.sized in
@@ -141,7 +124,7 @@ carried_all ps struck size p held next last sent out h less =
 min_zero : (n : ℕ) → min 0 n ≡ 0
 min_zero n = omega arith
 
-pub carried_none : (struck : List Bool) (size : ℕ) (p : Packing) → p.size ≡ size → p.waiting ≡ [] → p.first ≡ 0 → IsCarried [] struck size p [] 0 None 0 []
+pub carried_none : (struck : List Bool) (size : ℕ) (p : PackerState) → p.size ≡ size → p.waiting ≡ [] → p.first ≡ 0 → IsCarried [] struck size p [] 0 None 0 []
 carried_none struck size p es ew ef =
     let k0 : 0 * p.size ≡ 0 = omega arith in
     let k1 : 0 - 0 * p.size ≡ 0 = omega arith in
@@ -172,7 +155,7 @@ pub packets_more : (vs : List (Vec ℕ Global)) (i : ℕ) (v : Vec ℕ Global) �
 packets_more vs i v lt is = map_more (λ (x : Vec ℕ Global). x.items) vs i v lt ∙ ap (λ x. octets_of_each (take i vs) ++ x.items ∷ []) (sym is)
 
 -- what a flush adds, as the packets show it
-pub flush_is : (ps : List (List ℕ)) (p : Packing) (taken size : ℕ) → p.size ≡ size → p.flushed ≡ false → IsAt p ps taken → length p.waiting < p.size → flush_of p ≡ fill_of size ps
+pub flush_is : (ps : List (List ℕ)) (p : PackerState) (taken size : ℕ) → p.size ≡ size → p.flushed ≡ false → IsAt p ps taken → length p.waiting < p.size → flush_of p ≡ fill_of size ps
 flush_is ps p taken size es ef h less =
     let e : ℕ = taken * p.size in
     let w : ℕ = length p.waiting in
@@ -182,7 +165,7 @@ flush_is ps p taken size es ef h less =
     rw (ef, m2, m1, es) refl
 
 -- a flush
-pub carried_flush : (ps : List (List ℕ)) (struck : List Bool) (size : ℕ) (p p' : Packing) (held : List ℕ) (next : ℕ) (last : Option ℕ) (sent : ℕ) (out : List (List ℕ)) →
+pub carried_flush : (ps : List (List ℕ)) (struck : List Bool) (size : ℕ) (p p' : PackerState) (held : List ℕ) (next : ℕ) (last : Option ℕ) (sent : ℕ) (out : List (List ℕ)) →
     size ≤ 2040 → p'.size ≡ p.size → (h : IsCarried ps struck size p held next last sent out) → IsAt p' (ps ++ flush_of p) h.taken →
     IsCarried (ps ++ flush_of p) struck size p' held next last sent out
 carried_flush ps struck size p p' held next last sent out hi es h at =

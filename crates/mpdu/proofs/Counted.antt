@@ -2,9 +2,11 @@
 use Rattle.std.proofs.Common.{◌≡◌, ℕ, zero, suc, ◌+◌, ◌-◌, ◌%◌, ◌==◌, ◌<◌, ◌≤◌, Bool, true, false, List, [], ◌∷◌, length, get_or, Option, Some, None, refl, sym, ap, subst, ◌∙◌, inl, inr, arith}
 use Rattle.std.proofs.lemmas.Bool.{cases_lt, cases_Bool, eqb-true}
 use Rattle.std.specs.Option.{IfSome}
-use Rattle.aos_frame.specs.Counts.{frame_counts, AreMissing}
+use Rattle.aos_frame.specs.Counts.{frame_counts, follows}
+use Rattle.mpdu.proofs.Following.{held_follows}
 use Rattle.mpdu.specs.Reading.{held_at}
-use Rattle.mpdu.specs.Carrying.{AreFewInARow, IsCounted}
+use Rattle.mpdu.specs.Carrying.{AreFewInARow}
+use Rattle.mpdu.specs.Draining.{IsCounted}
 
 pub never : (n : ℕ) → (suc n == 0) ≡ false
 never n = elim (cases_Bool (suc n == 0)) [ inl e ↦ (let same : suc n ≡ 0 = eqb-true (suc n) 0 e in absurd (omega arith)) | inr e ↦ e ]
@@ -22,12 +24,6 @@ seen_more : (last : Option ℕ) (taken missed : ℕ) → IfSome last (λ l. (n :
     IfSome last (λ l. (n : ℕ) × (l ≡ n % frame_counts) × (taken + 1 ≡ n + 1 + suc missed))
 seen_more None taken missed h = tt
 seen_more (Some l) taken missed (n, e, f) = (n, e, omega arith)
-
-nothing_held : (a b : Bool) → held_at a [] ≡ held_at b []
-nothing_held true true = refl
-nothing_held true false = refl
-nothing_held false true = refl
-nothing_held false false = refl
 
 pub counts_struck : (struck : List Bool) (taken missed next next' : ℕ) (last : Option ℕ) (held : List ℕ) → IsCounted struck taken missed next last held →
     get_or struck taken false ≡ true → next' ≡ (next + 1) % frame_counts → IsCounted struck (taken + 1) (suc missed) next' last held
@@ -65,19 +61,11 @@ few struck taken missed next last held runs h =
     absurd (cc) in
     elim (cases_lt missed frame_counts) [ inl c ↦ c | inr c ↦ absurd (many c) ]
 
-missing_is : (n taken missed next l : ℕ) → missed < frame_counts → next ≡ taken % frame_counts → l ≡ n % frame_counts → taken ≡ n + 1 + missed → AreMissing l next missed
-missing_is n taken missed next l lt e1 e2 e3 = record { below = lt; reached = omega arith }
-
--- What the monitor tells is what is held at the next zone.
-pub told_right : (struck : List Bool) (taken missed next count : ℕ) (last : Option ℕ) (held : List ℕ) (follows : Bool) → AreFewInARow struck → IsCounted struck taken missed next last held →
-    count ≡ next → (last ≡ None → follows ≡ true) → IfSome last (λ l. (n : ℕ) → AreMissing l count n → follows ≡ (n == 0)) → held_at follows held ≡ held_at (missed == 0) held
-told_right struck taken missed next count None held follows runs h e first told =
-    let none : held ≡ [] = h.unseen refl in
-    ap (λ l. held_at follows l) none ∙ nothing_held follows (missed == 0) ∙ ap (λ l. held_at (missed == 0) l) (sym none)
-told_right struck taken missed next count (Some l) held follows runs h e first told =
-    let gap : missed < frame_counts = few struck taken missed next (Some l) held runs h in
-    let s : (n : ℕ) × (l ≡ n % frame_counts) × (taken ≡ n + 1 + missed) = h.seen in
-    ap (λ b. held_at b held) (told missed (subst (λ (m : ℕ). AreMissing l m missed) (sym e) (missing_is s.0 taken missed next l gap h.counted s.1 s.2)))
+-- What is held at the next zone, where its frame is the next count's.
+pub told_right : (struck : List Bool) (taken missed next count : ℕ) (last : Option ℕ) (held : List ℕ) → AreFewInARow struck → IsCounted struck taken missed next last held →
+    count ≡ next → held_at (follows last count) held ≡ held_at (missed == 0) held
+told_right struck taken missed next count last held runs h e =
+    (held_follows last count taken missed held (few struck taken missed next last held runs h) h.seen h.unseen (e ∙ h.counted)).0
 
 get_or-past : (bs : List Bool) (i : ℕ) (d : Bool) → length bs ≤ i → get_or bs i d ≡ d
 get_or-past [] i d h = refl

@@ -75,7 +75,7 @@ front_is_packet text e =
     let body : List ℕ = drop 6 (take n text) in
     let size : 6 + length body ≡ n = omega (arith, length-drop 6 (take n text), length-take-le n text room) in
     let parts : Parts = record { apid = field text 5 11; kind = field text 3 1 == 1; secondary = field text 4 1 == 1; flags = field text 16 2; count = field text 18 14; body = body } in
-    let s : SpellsPacket parts (take (6 + length body) text) = spelled text n (field text 5 11) (field text 3 1) (field text 4 1) (field text 16 2) (field text 18 14) body version refl room refl refl refl refl refl refl in
+    let s : SpellsPacket parts (take (6 + length body) text) = spelled text n (field text 5 11) (field text 16 2) (field text 18 14) (field text 3 1 == 1) (field text 4 1 == 1) body version refl room refl refl refl refl refl refl in
     record { parts = parts; spelled = subst (λ k. SpellsPacket parts (take k text)) size s }
 
 -- All of it is read: what is left begins with no packet.

@@ -2,6 +2,8 @@ pub mod Spans
 pub mod Scan
 pub mod Zone
 pub mod Struck
+pub mod Arrived
+pub mod Later
 pub mod Fronts
 pub mod Taken
 pub mod Packed
@@ -11,5 +13,7 @@ pub mod Whole
 pub mod Noted
 pub mod Pointers
 pub mod Cuts
-pub mod Sublists
+pub mod Parts
 pub mod Fewer
+pub mod NextZone
+pub mod Following

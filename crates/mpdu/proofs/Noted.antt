@@ -9,36 +9,12 @@ use Rattle.mpdu.specs.Reading.{step, goes_on, turns_bad, pointer_after, is_usabl
 use Rattle.mpdu.specs.Feeding.{IsNext}
 use Rattle.mpdu.proofs.Spans.{arrived-behind}
 use Rattle.mpdu.proofs.Scan.{packet_long, packet_version, packet_size, header_len-same, header_ok-same, drop-append-past}
-use Rattle.mpdu.proofs.Zone.{FedRight, goes_on_at, take-add, pointer_next}
+use Rattle.mpdu.proofs.Zone.{FedRight, goes_on_inside}
 use Rattle.mpdu.proofs.Taken.{next_right}
 
 -- At a zone nothing is begun, or the begun packet goes on.
 abbrev pub Joins : ℕ → List ℕ → ℕ → List ℕ → Type 0
 Joins z held at octets = (held ≡ []) ⊎ (goes_on z held at octets ≡ true)
-
-joins_inside : (z : ℕ) (marks : List Bool) (a : ℕ) (p : List ℕ) (ps : List (List ℕ)) → 6 ≤ z → ArePackets (p ∷ ps) → a < length marks * z → length marks * z < a + length p →
-    length marks * z + z ≤ a + length (stream (p ∷ ps)) → arrived z 0 marks a (length marks * z) ≡ true →
-    goes_on z (begun z marks a (p ∷ ps)) (first_header_pointer z (length marks * z) a (p ∷ ps)) (zone z (length marks * z - a) (stream (p ∷ ps))) ≡ true
-joins_inside z marks a p ps zl h before behind room ok =
-    let e : ℕ = length marks * z in
-    let c : ℕ = e - a in
-    let long : 7 ≤ length p = packet_long p h.0 in
-    let s : List ℕ = p ++ stream ps in
-    let all : length s ≡ length p + length (stream ps) = length-append p (stream ps) in
-    let t : nat_le (a + length p) e ≡ false = lt-leb (a + length p) e behind in
-    let held : begun z marks a (p ∷ ps) ≡ take c p = rw (t, ok) refl in
-    let u : nat_le e a ≡ false = lt-leb e a before in
-    let at : first_header_pointer z e a (p ∷ ps) ≡ pointer_after z (a + length p - e) = rw u (pointer_next z e (a + length p) ps (omega arith) (omega arith)) in
-    let zn : List ℕ = zone z (e - a) s in
-    let front : take c p ≡ take c s = sym (take-append-le c p (stream ps) (omega arith)) in
-    let joined : take c p ++ zn ≡ take (c + z) s = ap (λ l. l ++ zn) front ∙ take-add c z s in
-    let head : take 6 (take c p ++ zn) ≡ take 6 p = ap (λ l. take 6 l) joined ∙ take-take 6 (c + z) s (omega arith) ∙ take-append-le 6 p (stream ps) (omega arith) in
-    let good : header_ok (take c p ++ zn) ≡ true = header_ok-same (take c p ++ zn) p head ∙ packet_version p h.0 in
-    let size : header_len (take c p ++ zn) ≡ length p = header_len-same (take c p ++ zn) p head ∙ packet_size p h.0 in
-    let lc : length (take c p) ≡ c = length-take-le c p (omega arith) in
-    let m : a + length p - e ≡ header_len (take c p ++ zn) - length (take c p) = omega arith in
-    ap (λ b. goes_on z b (first_header_pointer z e a (p ∷ ps)) zn) held ∙ ap (λ n. goes_on z (take c p) n zn) at
-    ∙ goes_on_at z (take c p) (pointer_after z (a + length p - e)) zn (omega arith) good (ap (λ n. pointer_after z n) m)
 
 pub joins : (z : ℕ) (marks : List Bool) (a : ℕ) (ps : List (List ℕ)) → 6 ≤ z → ArePackets ps → a ≤ length marks * z → length marks * z + z ≤ a + length (stream ps) →
     Joins z (begun z marks a ps) (first_header_pointer z (length marks * z) a ps) (zone z (length marks * z - a) (stream ps))
@@ -65,7 +41,7 @@ joins z marks a (p ∷ ps) zl h le room =
     let held : begun z marks a (p ∷ ps) ≡ [] = rw (t, gone) refl in
     inl held in
     let inside : e < a + length p → a < e → T = λ (c : e < a + length p) (d : a < e).
-    elim (cases_Bool (arrived z 0 marks a e)) [ inl y ↦ inr (joins_inside z marks a p ps zl h d c room y) | inr n ↦ lost c n ] in
+    elim (cases_Bool (arrived z 0 marks a e)) [ inl y ↦ inr (goes_on_inside z marks a p ps zl h d c room y) | inr n ↦ lost c n ] in
     elim (cases_lt e (a + length p)) [ inl c ↦ elim (cases_lt a e) [ inl d ↦ inside c d | inr d ↦ begins c d ] | inr c ↦ done c ]
 
 other : (n m : ℕ) → n < m → (n == m) ≡ false

@@ -3,12 +3,15 @@ use Rattle.std.proofs.lemmas.Bool.{lt-ltb, le-ltb, le-leb, lt-leb, cases_lt, cas
 use Rattle.std.proofs.lemmas.List.{take-append-le, drop-append-le, append_assoc, append-nil, drop-drop}
 use Rattle.mpdu.specs.Stream.{stream, header_len, IsPacket, ArePackets, first_header_pointer}
 use Rattle.mpdu.specs.Reading.{pointer_after}
-use Rattle.mpdu.specs.Packing.{Packing, next_start, skip, IsAt, ZoneOf, idle_packet, idle_len, flush_of}
+use Rattle.mpdu.specs.Packing.{PackerState, next_start, skip, IsAt, ZoneOf, idle_packet, idle_len, flush_of}
 use Rattle.std.proofs.lemmas.List.{length-replicate}
 use Rattle.space_packet.specs.Packet.{SpellsPacket, packet_octets, idle}
 use Rattle.space_packet.proofs.Spelling.{written_packet_is_read, idle_is_writable}
 use Rattle.mpdu.proofs.Scan.{packet_long, packet_size, header_len-same, header_len-long, drop-append-past}
 use Rattle.mpdu.proofs.Zone.{pointer_next}
+use Rattle.mpdu.proofs.Later.{stream-push, ArePackets-push}
+use Rattle.mpdu.specs.Stream.{is_idle}
+use Rattle.mpdu.specs.Packets.{busy}
 
 -- turns enough change nothing
 pub skip_same : (n m z at : ℕ) (xs : List ℕ) → z ≤ at + n → z ≤ at + m → skip n z at xs ≡ skip m z at xs
@@ -115,16 +118,8 @@ next_start-push e a [] q h = let le : e ≤ a = omega arith in rw (le-leb e a le
 next_start-push e a (p ∷ ps) q h =
     rw (next_start-push e (a + length p) ps q (omega (arith, length-append p (stream ps)))) refl
 
-pub stream-push : (ps : List (List ℕ)) (q : List ℕ) → stream (ps ++ q ∷ []) ≡ stream ps ++ q
-stream-push [] q = append-nil q
-stream-push (p ∷ ps) q = ap (λ l. p ++ l) (stream-push ps q) ∙ sym (append_assoc p (stream ps) q)
-
-pub ArePackets-push : (ps : List (List ℕ)) (q : List ℕ) → ArePackets ps → IsPacket q → ArePackets (ps ++ q ∷ [])
-ArePackets-push [] q h hq = (hq, tt)
-ArePackets-push (p ∷ ps) q h hq = (h.0, ArePackets-push ps q h.1 hq)
-
 -- The packer after a packet more, and after a zone taken.
-pub pushed : (p : Packing) (ps : List (List ℕ)) (taken : ℕ) (q : List ℕ) → IsPacket q → IsAt p ps taken → (f : Bool) → IsAt (record p { waiting = p.waiting ++ q; flushed = f }) (ps ++ q ∷ []) taken
+pub pushed : (p : PackerState) (ps : List (List ℕ)) (taken : ℕ) (q : List ℕ) → IsPacket q → IsAt p ps taken → (f : Bool) → IsAt (record p { waiting = p.waiting ++ q; flushed = f }) (ps ++ q ∷ []) taken
 pushed p ps taken q hq h f =
     let e : ℕ = taken * p.size in
     let below : e ≤ length (stream ps) = h.below in
@@ -136,7 +131,7 @@ pushed p ps taken q hq h f =
       start = h.start ∙ sym (next_start-push e 0 ps q (omega arith));
     }
 
-pub zone_taken : (p : Packing) (ps : List (List ℕ)) (taken : ℕ) → p.size ≤ length p.waiting → IsAt p ps taken →
+pub zone_taken : (p : PackerState) (ps : List (List ℕ)) (taken : ℕ) → p.size ≤ length p.waiting → IsAt p ps taken →
     IsAt (record p { waiting = drop p.size p.waiting; first = skip p.size p.size p.first p.waiting - p.size }) ps (taken + 1)
 zone_taken p ps taken whole h =
     let e : ℕ = taken * p.size in
@@ -152,7 +147,7 @@ zone_taken p ps taken whole h =
       start = ap (λ i. skip z z i p.waiting - z) h.start ∙ ap (λ l. skip z z (next_start e 0 ps) l - z) (h.rest ∙ ap (λ i. drop i (stream ps)) (sym e0)) ∙ next ∙ ap (λ i. next_start i 0 ps) (sym one);
     }
 
-pub zone_is : (p : Packing) (ps : List (List ℕ)) (taken at : ℕ) (octets : List ℕ) → p.size ≤ length p.waiting → IsAt p ps taken →
+pub zone_is : (p : PackerState) (ps : List (List ℕ)) (taken at : ℕ) (octets : List ℕ) → p.size ≤ length p.waiting → IsAt p ps taken →
     at ≡ pointer_after p.size p.first → octets ≡ take p.size p.waiting → ZoneOf ps taken p.size at octets
 zone_is p ps taken at octets whole h ha ho =
     let e : ℕ = taken * p.size in
@@ -174,7 +169,7 @@ pub idle_len-high : (free : ℕ) → free ≤ 2040 → idle_len free ≤ 2046
 idle_len-high free h = elim (cases_lt free 7) [ inl c ↦ rw (lt-leb 7 free c) (omega arith) | inr c ↦ rw (le-leb 7 free c) (omega arith) ]
 
 -- a packer that was flushed
-pub flushed_at : (p q : Packing) (ps : List (List ℕ)) (taken : ℕ) → p.size ≤ 2040 → (flush_of p ≡ [] → q ≡ p) →
+pub flushed_at : (p q : PackerState) (ps : List (List ℕ)) (taken : ℕ) → p.size ≤ 2040 → (flush_of p ≡ [] → q ≡ p) →
     ((n : ℕ) → flush_of p ≡ idle_packet n ∷ [] → q ≡ record p { waiting = p.waiting ++ idle_packet n; flushed = true }) →
     IsAt p ps taken → IsAt q (ps ++ flush_of p) taken
 flushed_at p q ps taken hi same more h =
@@ -183,16 +178,16 @@ flushed_at p q ps taken hi same more h =
     let none : t ≡ true → IsAt q (ps ++ flush_of p) taken = λ (e : t ≡ true).
     let f : flush_of p ≡ [] = rw e refl in
     let l : ps ≡ ps ++ flush_of p = sym (append-nil ps) ∙ ap (λ x. ps ++ x) (sym f) in
-    subst (λ (x : List (List ℕ)). IsAt q x taken) l (subst (λ (x : Packing). IsAt x ps taken) (sym (same f)) h) in
+    subst (λ (x : List (List ℕ)). IsAt q x taken) l (subst (λ (x : PackerState). IsAt x ps taken) (sym (same f)) h) in
     let one : t ≡ false → IsAt q (ps ++ flush_of p) taken = λ (e : t ≡ false).
     let f : flush_of p ≡ idle_packet (idle_len free) ∷ [] = rw e refl in
     let l : ps ++ idle_packet (idle_len free) ∷ [] ≡ ps ++ flush_of p = ap (λ x. ps ++ x) (sym f) in
     let whole : IsPacket (idle_packet (idle_len free)) = idle_is (idle_len free) (idle_len-low free) (idle_len-high free (omega arith)) in
-    subst (λ (x : List (List ℕ)). IsAt q x taken) l (subst (λ (x : Packing). IsAt x (ps ++ idle_packet (idle_len free) ∷ []) taken) (sym (more (idle_len free) f)) (pushed p ps taken (idle_packet (idle_len free)) whole h true)) in
+    subst (λ (x : List (List ℕ)). IsAt q x taken) l (subst (λ (x : PackerState). IsAt x (ps ++ idle_packet (idle_len free) ∷ []) taken) (sym (more (idle_len free) f)) (pushed p ps taken (idle_packet (idle_len free)) whole h true)) in
     elim (cases_Bool t) [ inl e ↦ none e | inr e ↦ one e ]
 
 -- What was flushed isn't flushed again.
-pub flushed_once : (p q : Packing) → (flush_of p ≡ [] → q ≡ p) → ((n : ℕ) → flush_of p ≡ idle_packet n ∷ [] → q ≡ record p { waiting = p.waiting ++ idle_packet n; flushed = true }) →
+pub flushed_once : (p q : PackerState) → (flush_of p ≡ [] → q ≡ p) → ((n : ℕ) → flush_of p ≡ idle_packet n ∷ [] → q ≡ record p { waiting = p.waiting ++ idle_packet n; flushed = true }) →
     flush_of q ≡ []
 flushed_once p q same more =
     let t : Bool = p.flushed || (length p.waiting % p.size == 0) in
@@ -202,4 +197,22 @@ flushed_once p q same more =
     let one : t ≡ false → flush_of q ≡ [] = λ (e : t ≡ false).
     let f : flush_of p ≡ idle_packet (idle_len (p.size - length p.waiting % p.size)) ∷ [] = rw e refl in
     ap flush_of (more (idle_len (p.size - length p.waiting % p.size)) f) in
+    elim (cases_Bool t) [ inl e ↦ none e | inr e ↦ one e ]
+
+idle_is_idle : (n : ℕ) → 7 ≤ n → n ≤ 65542 → is_idle (idle_packet n) ≡ true
+unfolding idle_packet is_idle
+idle_is_idle n lo hi =
+    let s : SpellsPacket (idle n) (packet_octets (idle n)) = written_packet_is_read (idle n) (idle_is_writable n lo hi) in
+    rw (s.apid) refl
+
+-- A flush adds one packet at most, and an idle one.
+pub flush_is_idle : (p : PackerState) → p.size ≤ 2040 → (length (flush_of p) ≤ 1) × (busy (flush_of p) ≡ [])
+flush_is_idle p hi =
+    let t : Bool = p.flushed || (length p.waiting % p.size == 0) in
+    let free : ℕ = p.size - length p.waiting % p.size in
+    let G : Type 0 = (length (flush_of p) ≤ 1) × (busy (flush_of p) ≡ []) in
+    let none : t ≡ true → G = λ (e : t ≡ true). rw e (omega arith, refl) in
+    let one : t ≡ false → G = λ (e : t ≡ false).
+    let idle_one : is_idle (idle_packet (idle_len free)) ≡ true = idle_is_idle (idle_len free) (idle_len-low free) (omega (arith, idle_len-high free (omega arith))) in
+    rw (e, idle_one) (omega arith, refl) in
     elim (cases_Bool t) [ inl e ↦ none e | inr e ↦ one e ]

@@ -1,7 +1,7 @@
 use Rattle.std.proofs.Common.{◌≡◌, ℕ, ◌-◌, ◌*◌, ◌≤◌, Bool, List, ◌++◌, length, take, Result, Ok, Err, OnOk, OnErr, sym, ap, subst, ◌∙◌, arith}
 use Rattle.mpdu.specs.Stream.{stream, zone, first_header_pointer, begun}
 use Rattle.mpdu.specs.Reading.{Read, step}
-use Rattle.mpdu.specs.Feeding.{IsNext, IsTaken, IsCutShort}
+use Rattle.mpdu.specs.Feeding.{IsNext, IsTaken, IsFrontTaken}
 use Rattle.mpdu.proofs.Zone.{fed, FedRight}
 
 -- the step at the next zone of a stream
@@ -27,7 +27,7 @@ taken ps marks held at octets after old new lo hi is kept more =
 
 pub cut_short : (ps : List (List ℕ)) (marks : List Bool) (held : List ℕ) (at : ℕ) (octets : List ℕ) (old new : List (List ℕ)) → 6 ≤ length octets → length octets ≤ 2040 →
     IsNext ps marks held at octets → ((n : ℕ) × (new ≡ old ++ take n (step (length octets) held at octets).out)) →
-    IsCutShort ps marks (length octets) old new
+    IsFrontTaken ps marks (length octets) old new
 cut_short ps marks held at octets old new lo hi is more =
     let right : FedRight (length octets) marks 0 ps (step (length octets) held at octets) = next_right ps marks held at octets lo hi is in
     record { added = (step (length octets) held at octets).out; completed = right.given; count = more.0; appended = more.1 }
@@ -39,7 +39,3 @@ both_ok P Q R (Err e) p q f = tt
 pub on_err : {A E : Type 0} (P R : Type 0) (r : Result A E) → OnErr r P → (P → R) → OnErr r R
 on_err P R (Ok x) p f = tt
 on_err P R (Err e) p f = f p
-
-pub on_ok : {A E : Type 0} (P R : Type 0) (r : Result A E) → OnOk r P → (P → R) → OnOk r R
-on_ok P R (Ok x) p f = f p
-on_ok P R (Err e) p f = tt

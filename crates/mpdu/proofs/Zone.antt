@@ -165,11 +165,11 @@ fed_at_start z marks a p ps zl h start room =
       given = rest_survives z marks a (p ∷ ps) (omega arith) h (omega arith) (omega arith) ∙ sym (ap (λ l. l ++ (step z (begun z marks a (p ∷ ps)) (first_header_pointer z e a (p ∷ ps)) (zone z (e - a) s)).out) none ∙ ap (λ r. r.out) read);
     }
 
--- the zone begins inside of a packet, all of whose zones so far came
-fed_inside : (z : ℕ) (marks : List Bool) (a : ℕ) (p : List ℕ) (ps : List (List ℕ)) → 6 ≤ z → ArePackets (p ∷ ps) → a < length marks * z → length marks * z < a + length p →
+-- Inside of a packet, all of whose zones so far came, that packet goes on.
+pub goes_on_inside : (z : ℕ) (marks : List Bool) (a : ℕ) (p : List ℕ) (ps : List (List ℕ)) → 6 ≤ z → ArePackets (p ∷ ps) → a < length marks * z → length marks * z < a + length p →
     length marks * z + z ≤ a + length (stream (p ∷ ps)) → arrived z 0 marks a (length marks * z) ≡ true →
-    FedRight z marks a (p ∷ ps) (step z (begun z marks a (p ∷ ps)) (first_header_pointer z (length marks * z) a (p ∷ ps)) (zone z (length marks * z - a) (stream (p ∷ ps))))
-fed_inside z marks a p ps zl h before behind room ok =
+    goes_on z (begun z marks a (p ∷ ps)) (first_header_pointer z (length marks * z) a (p ∷ ps)) (zone z (length marks * z - a) (stream (p ∷ ps))) ≡ true
+goes_on_inside z marks a p ps zl h before behind room ok =
     let e : ℕ = length marks * z in
     let c : ℕ = e - a in
     let long : 7 ≤ length p = packet_long p h.0 in
@@ -187,7 +187,28 @@ fed_inside z marks a p ps zl h before behind room ok =
     let size : header_len (take c p ++ zn) ≡ length p = header_len-same (take c p ++ zn) p head ∙ packet_size p h.0 in
     let lc : length (take c p) ≡ c = length-take-le c p (omega arith) in
     let m : a + length p - e ≡ header_len (take c p ++ zn) - length (take c p) = omega arith in
-    let on : goes_on z (take c p) (pointer_after z (a + length p - e)) zn ≡ true = goes_on_at z (take c p) (pointer_after z (a + length p - e)) zn (omega arith) good (ap (λ n. pointer_after z n) m) in
+    ap (λ b. goes_on z b (first_header_pointer z e a (p ∷ ps)) zn) held ∙ ap (λ n. goes_on z (take c p) n zn) at
+    ∙ goes_on_at z (take c p) (pointer_after z (a + length p - e)) zn (omega arith) good (ap (λ n. pointer_after z n) m)
+
+-- the zone begins inside of a packet, all of whose zones so far came
+fed_inside : (z : ℕ) (marks : List Bool) (a : ℕ) (p : List ℕ) (ps : List (List ℕ)) → 6 ≤ z → ArePackets (p ∷ ps) → a < length marks * z → length marks * z < a + length p →
+    length marks * z + z ≤ a + length (stream (p ∷ ps)) → arrived z 0 marks a (length marks * z) ≡ true →
+    FedRight z marks a (p ∷ ps) (step z (begun z marks a (p ∷ ps)) (first_header_pointer z (length marks * z) a (p ∷ ps)) (zone z (length marks * z - a) (stream (p ∷ ps))))
+fed_inside z marks a p ps zl h before behind room ok =
+    let e : ℕ = length marks * z in
+    let c : ℕ = e - a in
+    let long : 7 ≤ length p = packet_long p h.0 in
+    let s : List ℕ = p ++ stream ps in
+    let all : length s ≡ length p + length (stream ps) = length-append p (stream ps) in
+    let t : nat_le (a + length p) e ≡ false = lt-leb (a + length p) e behind in
+    let held : begun z marks a (p ∷ ps) ≡ take c p = rw (t, ok) refl in
+    let u : nat_le e a ≡ false = lt-leb e a before in
+    let at : first_header_pointer z e a (p ∷ ps) ≡ pointer_after z (a + length p - e) = rw u (pointer_next z e (a + length p) ps (omega arith) (omega arith)) in
+    let zn : List ℕ = zone z (e - a) s in
+    let front : take c p ≡ take c s = sym (take-append-le c p (stream ps) (omega arith)) in
+    let joined : take c p ++ zn ≡ take (c + z) s = ap (λ l. l ++ zn) front ∙ take-add c z s in
+    let on : goes_on z (take c p) (pointer_after z (a + length p - e)) zn ≡ true =
+    sym (ap (λ b. goes_on z b (first_header_pointer z e a (p ∷ ps)) zn) held ∙ ap (λ n. goes_on z (take c p) n zn) at) ∙ goes_on_inside z marks a p ps zl h before behind room ok in
     let k : c + z ≡ e + z - a = omega arith in
     let read : step z (begun z marks a (p ∷ ps)) (first_header_pointer z e a (p ∷ ps)) zn ≡ record { begun = part (e + z - a) (p ∷ ps); out = whole (e + z - a) (p ∷ ps); bad = false } =
     ap (λ b. step z b (first_header_pointer z e a (p ∷ ps)) zn) held ∙ ap (λ n. step z (take c p) n zn) at

@@ -2,7 +2,7 @@ use Rattle.std.specs.Prelude.{◌≡◌, ℕ, zero, suc, ◌+◌, ◌*◌, ◌-�
 use Rattle.aos_frame.specs.Counts.{frame_counts}
 use Rattle.mpdu.specs.Stream.{stream, begun, survivors}
 use Rattle.mpdu.specs.Reading.{held_at}
-use Rattle.mpdu.specs.Packing.{Packing, IsAt, idle_packet, idle_len}
+use Rattle.mpdu.specs.Packing.{PackerState, IsAt, idle_packet, idle_len}
 
 -- the marks of the first n frames, delivered or not, where these say which were struck
 abbrev pub marks_of : ℕ → List Bool → List Bool
@@ -13,25 +13,6 @@ marks_of (suc n) (b ∷ struck) = not b ∷ marks_of n struck
 -- Fewer frames in a row are struck than there are counts: among so many frames one isn't.
 abbrev pub AreFewInARow : List Bool → Type 0
 AreFewInARow struck = (i : ℕ) → (k : ℕ) × (i ≤ k) × (k < i + frame_counts) × (slice_index_or struck k false ≡ false)
-
--- So many frames were counted, the last `missed` of them struck, the one before those seen last.
-pub record IsCounted (struck : List Bool) (taken missed next : ℕ) (last : Option ℕ) (held : List ℕ) : Type 0 where
-  pub counted : next ≡ taken % frame_counts
-  pub within : missed ≤ taken
-  pub run : (k : ℕ) → taken ≤ k + missed → k < taken → slice_index_or struck k false ≡ true
-  pub seen : IfSome last (λ l. (n : ℕ) × (l ≡ n % frame_counts) × (taken ≡ n + 1 + missed))
-  pub unseen : last ≡ None → held ≡ []
-
--- Of the stream of these packets all zones that were taken have been struck or read; `next` is the count of the next frame, `last` the count seen last.
-pub record IsCarried (ps : List (List ℕ)) (struck : List Bool) (size : ℕ) (packer : Packing) (held : List ℕ) (next : ℕ) (last : Option ℕ) (sent : ℕ) (out : List (List ℕ)) : Type 0 where
-  pub taken : ℕ
-  pub packed : IsAt packer ps taken
-  pub sized : packer.size ≡ size
-  pub next_mark : sent ≡ min taken (length struck)
-  pub missed : ℕ
-  pub counts : IsCounted struck taken missed next last held
-  pub as_left : held_at (missed == 0) held ≡ begun size (marks_of taken struck) 0 ps
-  pub given : out ≡ survivors size (marks_of taken struck) 0 ps
 
 -- The packets are the survivors of the stream's whole zones, the struck ones left out.
 pub record AreSurvivors (ps : List (List ℕ)) (struck : List Bool) (size : ℕ) (out : List (List ℕ)) : Type 0 where

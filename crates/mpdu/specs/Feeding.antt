@@ -7,7 +7,8 @@ use Rattle.mpdu.specs.Stream.{ArePackets, stream, zone, first_header_pointer, be
 abbrev pub octets_of_each : List (Vec ℕ Global) → List (List ℕ)
 octets_of_each vs = map (λ v. v.items) vs
 
--- This zone is the one after the marked ones of the stream, and the reassembler is as the delivered ones of those left it.
+-- This zone is the one after the marked ones of the stream, and the reassembler is as the delivered
+-- ones of those left it.
 pub record IsNext (ps : List (List ℕ)) (marks : List Bool) (held : List ℕ) (at : ℕ) (octets : List ℕ) : Type 0 where
   pub packets_whole : ArePackets ps
   pub as_left : held ≡ begun (length octets) marks 0 ps
@@ -23,7 +24,7 @@ pub record IsTaken (ps : List (List ℕ)) (marks : List Bool) (z : ℕ) (held : 
   pub appended : new ≡ old ++ added
 
 -- A front of the survivors that this zone completes was appended.
-pub record IsCutShort (ps : List (List ℕ)) (marks : List Bool) (z : ℕ) (old new : List (List ℕ)) : Type 0 where
+pub record IsFrontTaken (ps : List (List ℕ)) (marks : List Bool) (z : ℕ) (old new : List (List ℕ)) : Type 0 where
   pub added : List (List ℕ)
   pub completed : survivors z (marks ++ true ∷ []) 0 ps ≡ survivors z marks 0 ps ++ added
   pub count : ℕ

@@ -1,8 +1,10 @@
 pub mod Stream
 pub mod Reading
+pub mod MpduHeader
 pub mod Feeding
 pub mod Packing
 pub mod Carrying
+pub mod Draining
 pub mod Places
 pub mod Packets
 pub mod Parts

@@ -3,8 +3,9 @@ use Rattle.std.specs.Prelude.{◌≡◌, ℕ, zero, suc, ◌+◌, ◌-◌, ◌*�
 use Rattle.space_packet.specs.Packet.{packet_octets, idle}
 use Rattle.mpdu.specs.Stream.{header_len, ArePackets, stream, zone, first_header_pointer}
 
--- what a packer holds: the octets that wait, the place among them where the next packet starts, or will, and whether the last to come was a flush's idle packet
-pub record Packing : Type 0 where
+-- what a packer holds: the octets that wait, the place among them where the next packet starts, or
+-- will, and whether the last to come was a flush's idle packet
+pub record PackerState : Type 0 where
   pub size : ℕ
   pub capacity : ℕ
   pub waiting : List ℕ
@@ -22,7 +23,7 @@ skip zero z at xs = at
 skip (suc n) z at xs = if nat_lt at z && nat_le (at + 6) (length xs) then skip n z (at + header_len (drop at xs)) xs else at
 
 -- The packer's stream is these packets, and that many zones of it were taken.
-pub record IsAt (p : Packing) (ps : List (List ℕ)) (taken : ℕ) : Type 0 where
+pub record IsAt (p : PackerState) (ps : List (List ℕ)) (taken : ℕ) : Type 0 where
   pub packets_whole : ArePackets ps
   pub below : taken * p.size ≤ length (stream ps)
   pub rest : p.waiting ≡ drop (taken * p.size) (stream ps)
@@ -38,10 +39,12 @@ pub record ZoneOf (ps : List (List ℕ)) (taken size at : ℕ) (octets : List �
 unfoldable pub idle_packet : ℕ → List ℕ
 idle_packet n = packet_octets (idle n)
 
--- the octets of the idle packet that fills this much free, or, where that is too little for one, the least
+-- the octets of the idle packet that fills this much free, or, where that is too little for one,
+-- the least
 abbrev pub idle_len : ℕ → ℕ
 idle_len free = if nat_le 7 free then free else 7
 
--- what a flush adds: nothing where no zone is begun, or none but by the last flush's rest, else the idle packet
-abbrev pub flush_of : Packing → List (List ℕ)
+-- what a flush adds: nothing where no zone is begun, or none but by the last flush's rest, else the
+-- idle packet
+abbrev pub flush_of : PackerState → List (List ℕ)
 flush_of p = if p.flushed || (length p.waiting % p.size == 0) then [] else idle_packet (idle_len (p.size - length p.waiting % p.size)) ∷ []

@@ -1,4 +1,5 @@
--- Where packets lie in a stream: what the recursive definitions of specs/Stream say, by ranges and sets.
+-- Where packets lie in a stream: what the recursive definitions of specs/Stream say, by ranges and
+-- sets.
 use Rattle.std.specs.Prelude.{ℕ, ◌+◌, ◌*◌, ◌<◌, ◌≤◌, List, [], ◌∷◌, length, Contains}
 
 -- the octets at which the packets start, the first of them at octet a
@@ -10,7 +11,8 @@ starts a (p ∷ ps) = a ∷ starts (a + length p) ps
 abbrev pub IsInSpan : ℕ → ℕ → ℕ → ℕ → Type 0
 IsInSpan z a b f = (f * z < b) × (a < f * z + z)
 
--- of the starts the least that is not before octet `start` lies so many octets behind it, in the zone
+-- of the starts the least that is not before octet `start` lies so many octets behind it, in the
+-- zone
 pub record IsFirstStart (z start : ℕ) (places : List ℕ) (at : ℕ) : Type 0 where
   pub inside : at < z
   pub there : Contains places (start + at)

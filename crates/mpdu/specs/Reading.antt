@@ -3,7 +3,8 @@ use Rattle.std.specs.Prelude.{ℕ, zero, suc, ◌+◌, ◌-◌, Bool, true, fals
 use Rattle.cfd_bits.specs.Field.{flag}
 use Rattle.mpdu.specs.Stream.{header_len, header_ok, is_idle, keep}
 
--- what was read: the begun packet, the whole ones that aren't idle, and whether a bad header ended it
+-- what was read: the begun packet, the whole ones that aren't idle, and whether a bad header ended
+-- it
 pub record Read : Type 0 where
   pub begun : List ℕ
   pub out : List (List ℕ)
@@ -12,7 +13,8 @@ pub record Read : Type 0 where
 abbrev pub emit : List ℕ → Read → Read
 emit p r = record { begun = r.begun; out = keep (not (is_idle p)) p r.out; bad = r.bad }
 
--- Packets end to end from the front on, at most n of them. Behind a header of a wrong version nothing is read.
+-- Packets end to end from the front on, at most n of them. Behind a header of a wrong version
+-- nothing is read.
 abbrev pub scan : ℕ → List ℕ → Read
 scan zero xs = record { begun = []; out = []; bad = false }
 scan (suc n) xs =
@@ -36,7 +38,8 @@ abbrev pub turns_bad : List ℕ → List ℕ → Bool
 turns_bad [] octets = false
 turns_bad (b ∷ bs) octets = not (header_ok (b ∷ bs ++ octets))
 
--- what is read of a zone: all of it behind what is held, where that goes on, else what stands at the pointer
+-- what is read of a zone: all of it behind what is held, where that goes on, else what stands at
+-- the pointer
 abbrev pub to_read : ℕ → List ℕ → ℕ → List ℕ → List ℕ
 to_read z held at octets = if goes_on z held at octets then held ++ octets else drop at octets
 
@@ -56,11 +59,16 @@ abbrev pub is_some : List ℕ → Bool
 is_some [] = false
 is_some (x ∷ xs) = true
 
--- Whether a begun packet is let go for another cause than its header, or the pointer is not usable. The pointer 2046, of a zone of idle data, says neither.
+-- Whether a begun packet is let go for another cause than its header, or the pointer is not usable.
+-- The pointer 2046, of a zone of idle data, says neither.
 abbrev pub resync : ℕ → List ℕ → Bool → ℕ → List ℕ → Bool
 resync z held follows at octets =
     not (at == 2046)
     && (not (is_usable z at) || (is_some held && not (goes_on z (held_at follows held) at octets || turns_bad (held_at follows held) octets)))
+
+-- what is read of a zone that follows the last one read, or doesn't
+abbrev pub reading : List ℕ → Bool → ℕ → List ℕ → Read
+reading held follows at octets = step (length octets) (held_at follows held) at octets
 
 -- how many packets of a zone are bad: the begun one, and the one that ends the reading
 abbrev pub bad_count : ℕ → List ℕ → ℕ → List ℕ → ℕ

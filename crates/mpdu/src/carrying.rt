@@ -1,13 +1,13 @@
 //! Packets down to zones and up again, over a list of losses.
-ghost use Rattle.std.specs.Prelude.{◌≡◌, ℕ, ◌==◌, true, None, Some, IfSome, ◌+◌, ◌<◌, ◌≤◌, ◌++◌, List, IsTrue, ◌↔◌, false, length, min, slice_index_or as get_or, IfOk, OnOk};
+ghost use Rattle.std.specs.Prelude.{◌≡◌, ℕ, ◌+◌, ◌<◌, ◌≤◌, ◌++◌, List, IsTrue, ◌↔◌, false, length, min, slice_index_or as get_or, IfOk, OnOk};
 ghost use Rattle.mpdu.specs.Stream.{ArePackets};
 ghost use Rattle.mpdu.specs.Feeding.{octets_of_each};
-ghost use Rattle.aos_frame.specs.Counts.{frame_counts, AreMissing};
-ghost use Rattle.mpdu.specs.Carrying.{AreFewInARow, IsCarried, AreSurvivors, fill_of};
+ghost use Rattle.mpdu.specs.Carrying.{AreFewInARow, AreSurvivors, fill_of};
+ghost use Rattle.mpdu.specs.Draining.{IsCarried};
 
 use crate::packer::Packer;
 use crate::reassembler::Reassembler;
-use aos_frame::{Continuity, FRAME_COUNTS, VcCounter, VcMonitor};
+use aos_frame::{FRAME_COUNTS, VcCounter, VcMonitor};
 use std::alloc::{AllocError, Global};
 
 /// The capacity of the packer that [`carry`] uses: each packet fits, behind a zone that isn't whole.
@@ -32,16 +32,6 @@ fn next_mark(struck: &[bool], sent: usize) -> (bool, usize)
 struct Counts {
     counter: VcCounter,
     monitor: VcMonitor,
-}
-
-/// Whether a frame with this count follows the last one seen.
-fn follows(monitor: &mut VcMonitor, count: u32) -> bool
-    requires { count < frame_counts }
-    ensures first { monitor.old ≡ None → result ≡ true }
-    ensures told { IfSome monitor.old (λ last. (n : ℕ) → AreMissing last count n → result ≡ (n == 0)) }
-    ensures seen { monitor.new ≡ Some count }
-{
-    monitor.see(count) == Continuity::Follows
 }
 
 /// Whether fewer than 16,777,216 frames in a row are struck, so that the counts tell each gap.
@@ -91,7 +81,7 @@ fn drain(
         if lost {
             continue;
         }
-        let in_order = follows(&mut counts.monitor, count);
+        let in_order = counts.monitor.follows(count);
         reassembler.feed(pointer, buffer, in_order, out)?;
     }
     Ok(())

@@ -1,13 +1,9 @@
-//! What the primary header in front of some octets says (CCSDS 133.0-B-2, 4.1.3), also where its packet isn't all there.
+//! What a reassembler asks of the primary header in front of some octets (CCSDS 133.0-B-2, 4.1.3), also where its packet isn't all there.
 ghost use Rattle.std.specs.Prelude.{◌≡◌, ◌≤◌, ◌↔◌, IsTrue, length, drop, vec_capacity};
 ghost use Rattle.mpdu.specs.Stream.{IsPacket, ArePackets, header_len, header_ok, is_idle};
 ghost use Rattle.mpdu.specs.Feeding.{octets_of_each};
 
-use cfd_bits::get;
 use space_packet::{IDLE_APID, decode};
-
-/// Octets of a primary header.
-pub(crate) const HEADER_LEN: usize = 6;
 
 /// Whether the octets are one whole space packet and nothing else, idle or not.
 pub fn is_packet(bytes: &[u8]) -> bool
@@ -38,21 +34,21 @@ pub(crate) fn packet_len(bytes: &[u8]) -> usize
     ensures long { 7 ≤ result }
     ensures short { result ≤ 65542 }
 {
-    get(bytes, 32, 16) as usize + 7
+    space_packet::header::packet_len(bytes)
 }
 
 pub(crate) fn has_good_version(bytes: &[u8]) -> bool
     requires { 6 ≤ length bytes.now }
     ensures { result ≡ header_ok bytes.now }
 {
-    get(bytes, 0, 3) == 0
+    space_packet::header::version(bytes) == 0
 }
 
 pub(crate) fn has_idle_apid(bytes: &[u8]) -> bool
     requires { 6 ≤ length bytes.now }
     ensures { result ≡ is_idle bytes.now }
 {
-    get(bytes, 5, 11) as u16 == IDLE_APID
+    space_packet::header::apid(bytes) == IDLE_APID
 }
 
 /// Removes the first `count` octets, and keeps the room.

@@ -2,11 +2,13 @@
 ghost use Rattle.std.specs.Prelude.{◌≡◌, ℕ, ◌+◌, ◌-◌, ◌<◌, ◌≤◌, ◌↔◌, ◌⊎◌, ◌++◌, List, [], ◌∷◌, false, true, length, take, drop, IfOk, OnOk, OnErr, IsErr, IsNone, IfNone, IfSome, vec_capacity};
 ghost use Rattle.mpdu.specs.Stream.{IsPacket, stream};
 ghost use Rattle.mpdu.specs.Reading.{pointer_after};
-ghost use Rattle.mpdu.specs.Packing.{Packing, skip, IsAt, ZoneOf, idle_packet, flush_of};
+ghost use Rattle.mpdu.specs.Packets.{busy};
+ghost use Rattle.mpdu.specs.Packing.{PackerState, skip, IsAt, ZoneOf, idle_packet, flush_of};
 
-use crate::header::{HEADER_LEN, drop_front, packet_len};
+use crate::header::{drop_front, packet_len};
 use crate::{MAX_ZONE, NO_START};
 use space_packet::encode_idle;
+use space_packet::header::HEADER_LEN;
 use std::alloc::{AllocError, Global};
 use std::marker::Model;
 
@@ -64,7 +66,7 @@ fn make_room(octets: &mut Vec<u8>, taken: &mut usize, count: usize)
 /// Lays packets end to end over zones of one size, and lends each zone's first header pointer.
 ///
 /// All octets that wait lie in one buffer, made with it: beside the capacity 2,047 octets for what `flush` adds. So no call takes memory.
-#[derive(Drop)]
+#[derive(Debug, Drop)]
 pub struct Packer {
     size: usize,
     capacity: usize,
@@ -76,7 +78,7 @@ pub struct Packer {
 }
 
 impl Model for Packer {
-    ghost Value = { Packing };
+    ghost Value = { PackerState };
 
     ghost view = { λ s. record { size = s.size; capacity = s.capacity; waiting = drop s.taken s.waiting.items; first = s.first; flushed = s.flushed } };
 
@@ -162,6 +164,7 @@ impl Packer {
         // It is the stream's zone behind those taken, and one more is taken then.
         ensures stream { (ps : List (List ℕ)) (taken : ℕ) → IsAt self.old ps taken → IfSome result (λ at.
             ZoneOf ps taken self.old.size at out.new × IsAt self.new ps (taken + 1)) }
+        ensures below { IfSome result (λ at. at < 2048) }
         ensures octets { IfSome result (λ at. out.new ≡ take self.old.size self.old.waiting) }
         ensures rest { IfSome result (λ at. self.new.waiting ≡ drop self.old.size self.old.waiting) }
         ensures flag { self.new.flushed ≡ self.old.flushed }
@@ -178,6 +181,7 @@ impl Packer {
         requires room { length out.old ≡ self.old.size }
         requires whole { self.old.size ≤ length self.old.waiting }
         ensures pointer { result ≡ pointer_after self.old.size self.old.first }
+        ensures below { result < 2048 }
         ensures octets { out.new ≡ take self.old.size self.old.waiting }
         ensures rest { self.new ≡ record self.old { waiting = drop self.old.size self.old.waiting; first = skip self.old.size self.old.size self.old.first self.old.waiting - self.old.size } }
     {
@@ -205,6 +209,8 @@ impl Packer {
         ensures once { flush_of self.new ≡ [] }
         ensures same { flush_of self.old ≡ [] → self.new ≡ self.old }
         ensures waiting { self.new.waiting ≡ self.old.waiting ++ stream (flush_of self.old) }
+        // It is one packet at most, and carries nothing.
+        ensures idle { (length (flush_of self.old) ≤ 1) × (busy (flush_of self.old) ≡ []) }
         ensures most { length self.new.waiting ≤ self.new.capacity + 2047 }
         ensures flushed { (self.new ≡ self.old) ⊎ (self.new ≡ record self.old { waiting = self.old.waiting ++ stream (flush_of self.old); flushed = true }) }
     {

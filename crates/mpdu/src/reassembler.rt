@@ -1,11 +1,12 @@
 //! Packets out of zones.
 ghost use Rattle.std.specs.Prelude.{◌≡◌, ◌≢◌, ℕ, ◌+◌, ◌-◌, ◌≤◌, ◌&&◌, ◌++◌, List, Bool, [], false, not, length, take, drop, IfOk, OnOk, OnErr};
 ghost use Rattle.mpdu.specs.Stream.{keep, is_idle};
-ghost use Rattle.mpdu.specs.Reading.{scan, step, to_read, goes_on, turns_bad, held_at, is_some, resync, bad_count};
-ghost use Rattle.mpdu.specs.Feeding.{octets_of_each, IsNext, IsTaken, IsCutShort};
+ghost use Rattle.mpdu.specs.Reading.{scan, reading, to_read, goes_on, turns_bad, held_at, is_some, resync, bad_count};
+ghost use Rattle.mpdu.specs.Feeding.{octets_of_each, IsNext, IsTaken, IsFrontTaken};
 
-use crate::header::{HEADER_LEN, drop_front, has_good_version, has_idle_apid, packet_len};
+use crate::header::{drop_front, has_good_version, has_idle_apid, packet_len};
 use crate::{NO_START, ONLY_IDLE};
+use space_packet::header::HEADER_LEN;
 use std::alloc::{AllocError, Global};
 use std::marker::Model;
 
@@ -129,7 +130,7 @@ fn join(held: &mut Vec<u8>, pointer: usize, zone: &[u8]) -> Result<Joined, Alloc
 /// Puts packets together from the zones of one virtual channel, given to it in the order sent.
 ///
 /// Its value is what it holds of the begun packet, the one that the last zone's end cut.
-#[derive(Drop)]
+#[derive(Debug, Drop)]
 pub struct Reassembler {
     alloc: Global,
     begun: Vec<u8>,
@@ -168,11 +169,11 @@ impl Reassembler {
         out: &mut Vec<Vec<u8>>,
     ) -> Result<Notes, AllocError>
         requires { 6 ≤ length zone.now }
-        ensures held { OnOk result (self.new ≡ (step (length zone.now) (held_at follows self.old) pointer zone.now).begun) }
-        ensures ok { OnOk result (octets_of_each out.new.items ≡ octets_of_each out.old.items ++ (step (length zone.now) (held_at follows self.old) pointer zone.now).out) }
+        ensures held { OnOk result (self.new ≡ (reading self.old follows pointer zone.now).begun) }
+        ensures ok { OnOk result (octets_of_each out.new.items ≡ octets_of_each out.old.items ++ (reading self.old follows pointer zone.now).out) }
         ensures resync { IfOk result (λ n. n.resync ≡ resync (length zone.now) self.old follows pointer zone.now) }
         ensures bad { IfOk result (λ n. n.bad ≡ bad_count (length zone.now) (held_at follows self.old) pointer zone.now) }
-        ensures err { OnErr result ((n : ℕ) × (octets_of_each out.new.items ≡ octets_of_each out.old.items ++ take n (step (length zone.now) (held_at follows self.old) pointer zone.now).out)) }
+        ensures err { OnErr result ((n : ℕ) × (octets_of_each out.new.items ≡ octets_of_each out.old.items ++ take n (reading self.old follows pointer zone.now).out)) }
     {
         let had = !self.begun.is_empty();
         if !follows {
@@ -197,11 +198,11 @@ impl Reassembler {
         out: &mut Vec<Vec<u8>>,
     ) -> Result<Notes, AllocError>
         requires { 6 ≤ length zone.now }
-        ensures held { OnOk result (self.new ≡ (step (length zone.now) (held_at follows self.old) pointer zone.now).begun) }
-        ensures ok { OnOk result (octets_of_each out.new.items ≡ octets_of_each out.old.items ++ (step (length zone.now) (held_at follows self.old) pointer zone.now).out) }
+        ensures held { OnOk result (self.new ≡ (reading self.old follows pointer zone.now).begun) }
+        ensures ok { OnOk result (octets_of_each out.new.items ≡ octets_of_each out.old.items ++ (reading self.old follows pointer zone.now).out) }
         ensures resync { IfOk result (λ n. n.resync ≡ resync (length zone.now) self.old follows pointer zone.now) }
         ensures bad { IfOk result (λ n. n.bad ≡ bad_count (length zone.now) (held_at follows self.old) pointer zone.now) }
-        ensures err { OnErr result ((n : ℕ) × (octets_of_each out.new.items ≡ octets_of_each out.old.items ++ take n (step (length zone.now) (held_at follows self.old) pointer zone.now).out)) }
+        ensures err { OnErr result ((n : ℕ) × (octets_of_each out.new.items ≡ octets_of_each out.old.items ++ take n (reading self.old follows pointer zone.now).out)) }
         ensures err_held { OnErr result (self.new ≡ []) }
     {
         let notes = self.read_zone(pointer, zone, follows, out);
@@ -239,13 +240,13 @@ impl Reassembler {
 
         // Without memory a front of them was appended, and nothing is held.
         ensures cut_short { (ps : List (List ℕ)) (marks : List Bool) → IsNext ps marks (held_at follows self.old) pointer zone.now →
-            OnErr result (IsCutShort ps marks (length zone.now) (octets_of_each out.old.items) (octets_of_each out.new.items)) }
+            OnErr result (IsFrontTaken ps marks (length zone.now) (octets_of_each out.old.items) (octets_of_each out.new.items)) }
         ensures err { OnErr result (self.new ≡ []) }
 
         // What any zone gives, whatever it is.
-        ensures begun { OnOk result (self.new ≡ (step (length zone.now) (held_at follows self.old) pointer zone.now).begun) }
-        ensures appended { OnOk result (octets_of_each out.new.items ≡ octets_of_each out.old.items ++ (step (length zone.now) (held_at follows self.old) pointer zone.now).out) }
-        ensures front { OnErr result ((n : ℕ) × (octets_of_each out.new.items ≡ octets_of_each out.old.items ++ take n (step (length zone.now) (held_at follows self.old) pointer zone.now).out)) }
+        ensures begun { OnOk result (self.new ≡ (reading self.old follows pointer zone.now).begun) }
+        ensures appended { OnOk result (octets_of_each out.new.items ≡ octets_of_each out.old.items ++ (reading self.old follows pointer zone.now).out) }
+        ensures front { OnErr result ((n : ℕ) × (octets_of_each out.new.items ≡ octets_of_each out.old.items ++ take n (reading self.old follows pointer zone.now).out)) }
         ensures resync { IfOk result (λ n. n.resync ≡ resync (length zone.now) self.old follows pointer zone.now) }
         ensures bad { IfOk result (λ n. n.bad ≡ bad_count (length zone.now) (held_at follows self.old) pointer zone.now) }
     {

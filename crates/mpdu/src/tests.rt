@@ -138,6 +138,41 @@ fn notes_what_is_out_of_order(rt: HostRuntime) -> Result<(), Fail> {
 }
 
 #[test]
+fn each_pointer_tells_the_first_start(rt: HostRuntime) -> Result<(), Fail> {
+    let alloc = rt.alloc();
+    let short = packet(alloc, 12, 1)?;
+    let long = packet(alloc, 20, 2)?;
+    assert!(rt; is_packet(&short) && is_packet(&long));
+    let mut zone = [0; 16];
+    let mut packer = Packer::new(alloc, 16, 64)?;
+    assert_eq!(rt; packer.push(&long), Ok(()));
+    assert_eq!(rt; packer.push(&long), Ok(()));
+    packer.flush();
+    assert_eq!(rt; packer.zone(&mut zone), Some(0));
+    assert_eq!(rt; packer.zone(&mut zone), Some(4));
+    assert_eq!(rt; packer.zone(&mut zone), Some(8));
+    let idle = [0x07, 0xFF, 0xC0, 0x00, 0x00, 0x01, 0x00, 0x00];
+    assert_eq!(rt; &zone[8..], idle.as_slice());
+    assert_eq!(rt; packer.zone(&mut zone), None);
+    // the second of these packets fills two zones to the end, and none starts in the last
+    assert_eq!(rt; packer.push(&short), Ok(()));
+    assert_eq!(rt; packer.push(&long), Ok(()));
+    packer.flush();
+    assert_eq!(rt; packer.zone(&mut zone), Some(0));
+    assert_eq!(rt; packer.zone(&mut zone), Some(2047));
+    assert_eq!(rt; packer.zone(&mut zone), None);
+    Ok(())
+}
+
+#[test]
+fn a_pointer_lies_behind_five_spare_bits(rt: HostRuntime) {
+    let mut mpdu = [0xFF, 0xFF, 0x20];
+    put_pointer(&mut mpdu, 8);
+    assert_eq!(rt; mpdu.as_slice(), [0x00, 0x08, 0x20].as_slice());
+    assert_eq!(rt; read_pointer(&[0xFF, 0xFE]), ONLY_IDLE);
+}
+
+#[test]
 fn survivors_of_struck_frames_come_back(rt: HostRuntime) -> Result<(), Fail> {
     let alloc = rt.alloc();
     let mut packets = Vec::new(alloc);

@@ -1,5 +1,5 @@
 use Rattle.std.proofs.Common.{arith}
-use Rattle.mpdu.proofs.Carried.{survivors-push}
+use Rattle.mpdu.proofs.Later.{survivors-push}
 use Rattle.link_stack.proofs.Grown.{frame-push, up-push}
 use Rattle.link_stack.proofs.laws.a_later_packet_changes_nothing.Goals as goal
 

@@ -3,7 +3,8 @@ use Rattle.std.proofs.lemmas.List.{take_all}
 use Rattle.mpdu.specs.Stream.{IsPacket}
 use Rattle.mpdu.specs.Packing.{IsAt, flush_of}
 use Rattle.mpdu.specs.Feeding.{octets_of_each}
-use Rattle.mpdu.specs.Carrying.{IsCarried, AreSurvivors, fill_of}
+use Rattle.mpdu.specs.Carrying.{AreSurvivors, fill_of}
+use Rattle.mpdu.specs.Draining.{IsCarried}
 use Rattle.mpdu.proofs.Carried.{carried_push, carried_flush, carried_all, flush_is, ArePackets-at, packet_short, ok_unless, packets_more}
 use Rattle.mpdu.proofs.carrying.carry.Goals as goal
 

@@ -1,5 +1,5 @@
 use Rattle.std.proofs.Common.{◌≡◌, ◌≤◌, ◌<◌, false, length, take}
-use Rattle.mpdu.specs.Carrying.{IsCarried}
+use Rattle.mpdu.specs.Draining.{IsCarried}
 use Rattle.mpdu.specs.Feeding.{octets_of_each}
 use Rattle.mpdu.proofs.carrying.carry.Given as goal
 

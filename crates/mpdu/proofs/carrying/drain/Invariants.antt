@@ -1,5 +1,5 @@
 use Rattle.std.proofs.Common.{◌≡◌, ◌≤◌, ℕ, List, length}
-use Rattle.mpdu.specs.Carrying.{IsCarried}
+use Rattle.mpdu.specs.Draining.{IsCarried}
 use Rattle.mpdu.specs.Feeding.{octets_of_each}
 use Rattle.mpdu.proofs.carrying.drain.Given as goal
 

@@ -1,7 +1,7 @@
 use Rattle.std.proofs.Common.{ℕ, List, false, IsTrue, take, sym, subst, ◌∙◌, arith}
 use Rattle.mpdu.specs.Stream.{IsPacket, ArePackets}
 use Rattle.mpdu.specs.Feeding.{octets_of_each}
-use Rattle.mpdu.proofs.Packed.{ArePackets-push}
+use Rattle.mpdu.proofs.Later.{ArePackets-push}
 use Rattle.mpdu.proofs.Carried.{ArePackets-at, packets_more}
 use Rattle.mpdu.proofs.header.are_packets.Goals as goal
 

@@ -4,4 +4,4 @@ use Rattle.mpdu.proofs.header.has_good_version.Goals as goal
 
 pub returns : goal.returns
 unfolding header_ok
-returns c = ap (λ n. nat_eq n 0) c.get.ensures.value
+returns c = ap (λ n. nat_eq n 0) c.version.ensures.value

@@ -4,4 +4,4 @@ use Rattle.mpdu.proofs.header.has_idle_apid.Goals as goal
 
 pub returns : goal.returns
 unfolding is_idle
-returns c = ap (λ n. nat_eq n 2047) c.get.ensures.value
+returns c = ap (λ n. nat_eq n 2047) c.apid.ensures.value

@@ -4,4 +4,4 @@ use Rattle.mpdu.proofs.header.packet_len.Goals as goal
 
 pub returns-clause-told : goal.returns-clause-told
 unfolding header_len
-returns-clause-told c = omega (arith, c.get.ensures.value)
+returns-clause-told c = omega (arith, c.packet_len.ensures.value)

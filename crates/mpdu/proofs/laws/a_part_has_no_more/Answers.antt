@@ -1,4 +1,4 @@
-use Rattle.mpdu.proofs.Sublists.{part-contains}
+use Rattle.mpdu.proofs.Parts.{part-contains}
 use Rattle.mpdu.proofs.laws.a_part_has_no_more.Goals as goal
 
 pub returns : goal.returns

@@ -1,5 +1,4 @@
 use Rattle.mpdu.proofs.Fewer.{survivors-busy, survivors-part, next_completes}
-use Rattle.mpdu.proofs.Struck.{survivors-struck}
 use Rattle.mpdu.proofs.laws.fewer_zones_give_a_part.Goals as goal
 
 pub returns-clause-sent : goal.returns-clause-sent
@@ -10,6 +9,3 @@ returns-clause-part c z few marks ps among = survivors-part z few marks 0 ps amo
 
 pub returns-clause-next : goal.returns-clause-next
 returns-clause-next c = next_completes
-
-pub returns-clause-struck : goal.returns-clause-struck
-returns-clause-struck c z marks ps some whole = survivors-struck z marks 0 ps some whole

@@ -1,6 +1,6 @@
 use Rattle.std.proofs.Common.{ap, subst, arith}
 use Rattle.aos_frame.specs.Frame.{IsLink}
-use Rattle.link_stack.specs.Upward.{Ascent}
+use Rattle.link_stack.specs.Upward.{LinkReceiverState}
 use Rattle.mpdu.specs.Feeding.{octets_of_each}
 use Rattle.link_stack.proofs.Streams.{taken_either, all_given}
 use Rattle.link_stack.proofs.up.Up.take.Goals as goal
@@ -8,8 +8,8 @@ use Rattle.link_stack.proofs.up.Up.take.Goals as goal
 pub returns-clause-stream : goal.returns-clause-stream
 returns-clause-stream c ps marks missed is next =
     taken_either c.read_frame-whole.result c.args.self.now c.read_frame-whole.new.self ps marks missed c.args.frame.now (octets_of_each c.args.out.now.items) (octets_of_each c.read_frame-whole.new.out.items)
-    (subst (λ (u : Ascent). IsLink u.link) c.self.view_is c.self.invariant) (omega (arith, ap (λ (u : Ascent). u.link.spacecraft) c.self.view_is)) is next c.read_frame-whole.ensures.all c.read_frame-whole.ensures.front
+    (subst (λ (u : LinkReceiverState). IsLink u.link) c.self.view_is c.self.invariant) (omega (arith, ap (λ (u : LinkReceiverState). u.link.spacecraft) c.self.view_is)) is next c.read_frame-whole.ensures.all c.read_frame-whole.ensures.front
 
-pub returns-clause-survivors : goal.returns-clause-survivors
-returns-clause-survivors c ps marks missed first is next so_far =
-    all_given c.args.self.now c.read_frame-whole.new.self ps marks missed first (octets_of_each c.args.out.now.items) (octets_of_each c.read_frame-whole.new.out.items) so_far (returns-clause-stream c ps marks missed is next)
+pub returns-clause-delivered : goal.returns-clause-delivered
+returns-clause-delivered c ps marks missed is next none =
+    all_given c.args.self.now c.read_frame-whole.new.self ps marks missed (octets_of_each c.args.out.now.items) (octets_of_each c.read_frame-whole.new.out.items) (ap octets_of_each none) (returns-clause-stream c ps marks missed is next)

@@ -1,7 +1,7 @@
 use Rattle.std.proofs.Common.{◌≡◌, ◌++◌, ◌∷◌, [], false, sym, subst, arith}
-use Rattle.mpdu.specs.Packing.{Packing, IsAt}
+use Rattle.mpdu.specs.Packing.{PackerState, IsAt}
 use Rattle.mpdu.proofs.Scan.{packet_long}
-use Rattle.mpdu.proofs.Taken.{on_ok}
+use Rattle.std.proofs.lemmas.Result.{on_ok_weaker}
 use Rattle.mpdu.proofs.Packed.{pushed}
 use Rattle.mpdu.proofs.packer.Packer.push.Goals as goal
 
@@ -10,6 +10,7 @@ append-requires c = omega (arith, packet_long c.args.packet.now c.requires)
 
 pub returns-clause-stream : goal.returns-clause-stream
 returns-clause-stream c ps taken is =
-    on_ok _ _ c.append.result c.append.ensures.ok
+    on_ok_weaker c.append.result
     (λ (same : c.append.new.self ≡ record c.args.self.now { waiting = c.args.self.now.waiting ++ c.args.packet.now; flushed = false }).
-    subst (λ (p : Packing). IsAt p (ps ++ c.args.packet.now ∷ []) taken) (sym same) (pushed c.args.self.now ps taken c.args.packet.now c.requires is false))
+    subst (λ (p : PackerState). IsAt p (ps ++ c.args.packet.now ∷ []) taken) (sym same) (pushed c.args.self.now ps taken c.args.packet.now c.requires is false))
+    c.append.ensures.ok

@@ -1,23 +1,8 @@
--- What the monitor of frame counts tells.
+-- Exported: of the counts of frames in order a frame follows where none was missed.
 use Rattle.std.proofs.Common.{◌≡◌, ◌≢◌, ℕ, zero, suc, ◌+◌, ◌-◌, ◌%◌, ◌<◌, ◌==◌, ◌&&◌, not, Bool, true, false, List, [], Option, Some, None, IfSome, refl, sym, ap, ◌∙◌, arith}
 use Rattle.std.proofs.lemmas.Bool.{eq-eqb, ne_eqb}
-use Rattle.aos_frame.specs.Counts.{frame_counts, AreMissing, continuity}
-use Rattle.aos_frame.specs.declared.count.Continuity.TheVariants.{Follows}
+use Rattle.aos_frame.specs.Counts.{frame_counts, follows}
 use Rattle.mpdu.specs.Reading.{held_at, is_some}
-use Rattle.link_stack.specs.Upward.{follows}
-
-some_missing : (last count : ℕ) → count < frame_counts → (n : ℕ) × AreMissing last count n
-some_missing last count h = ((count + (frame_counts - (last + 1) % frame_counts)) % frame_counts, record { below = omega arith; reached = omega arith })
-
-follows_so : (last count n : ℕ) → AreMissing last count n → Follows ≡ continuity n → true ≡ ((last + 1) % frame_counts == count)
-follows_so last count zero is e =
-    let same : (last + 1) % frame_counts ≡ count = omega (arith, is.reached) in
-    sym (eq-eqb ((last + 1) % frame_counts) count same)
-follows_so last count (suc n) is e = absurd cc
-
-pub told_follows : (last : Option ℕ) (count : ℕ) → count < frame_counts → IfSome last (λ l. (n : ℕ) → AreMissing l count n → Follows ≡ continuity n) → true ≡ follows last count
-told_follows None count h told = refl
-told_follows (Some l) count h told = let n = some_missing l count h in follows_so l count n.0 n.1 (told n.0 n.1)
 
 nothing_held : (a b : Bool) → held_at a [] ≡ held_at b []
 nothing_held true true = refl
