@@ -33,15 +33,10 @@ pub fn run_sim<R: Read + Drop, W: Write + Drop>(alloc: Global, reader: R, writer
 fn run_script<W: Write + Drop>(alloc: Global, config: SimConfig, script: &Script, writer: W) -> Exit
     requires { IsValidConfig config }
 {
-    // What the report takes is there before the first command.
-    let Ok(mut run) = Run::new(alloc, config, script) else {
-        return Exit::Device;
-    };
-    let Ok(mut out) = BufWriter::new(alloc, writer) else {
-        return Exit::Device;
-    };
-    run.perform_all(alloc, script.steps.as_slice());
-    run.report(script.steps.as_slice(), &mut out)
+    match Run::new(alloc, config, script) {
+        Ok(mut run) => run.to_end(alloc, script.steps.as_slice(), writer),
+        Err(AllocError) => Exit::Device,
+    }
 }
 
 /// A script under way: its stations, and what each of its commands answered.
@@ -68,6 +63,15 @@ impl Run {
             simulation,
             answers,
         })
+    }
+
+    /// Does all commands, and writes the report, whose buffer is there before the first command.
+    fn to_end<W: Write + Drop>(&mut self, alloc: Global, steps: &[Step], writer: W) -> Exit {
+        let Ok(mut out) = BufWriter::new(alloc, writer) else {
+            return Exit::Device;
+        };
+        self.perform_all(alloc, steps);
+        self.report(steps, &mut out)
     }
 
     /// Does all commands in turn, and keeps what each answered in its place.
