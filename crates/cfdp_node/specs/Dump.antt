@@ -5,7 +5,6 @@ use Rattle.std.specs.Result.{result_ok}
 use Rattle.std.specs.Io.KnownBytes.{Appends}
 use Rattle.std.specs.Fmt.{digits}
 use Rattle.hex.specs.Hex.{decode_of}
-use Rattle.cfd_bits.specs.Field.{field}
 use Rattle.cfdp_header.specs.declared.value.Header.{Header}
 use Rattle.cfdp_header.specs.declared.value.TransactionId.{TransactionId}
 use Rattle.cfdp_directives.specs.declared.error.PduError.{PduError}
@@ -17,8 +16,8 @@ use Rattle.cfdp_directives.specs.Content.{view}
 use Rattle.cfdp_directives.specs.Grammar.{SpellsPdu}
 use Rattle.aos_frame.specs.declared.header.FrameHeader.{FrameHeader}
 use Rattle.aos_frame.specs.declared.error.FrameError.{FrameError}
-use Rattle.aos_frame.specs.declared.config.LinkConfig.{LinkConfig}
-use Rattle.aos_frame.specs.Frame.{SpellsFrame, frame_fault}
+use Rattle.aos_frame.specs.Frame.{SpellsFrame, frame_fault, own_link}
+use Rattle.mpdu.specs.MpduHeader.{pointer_of}
 use Rattle.cfdp_node.specs.declared.dump.DumpKind.{DumpKind}
 use Rattle.cfdp_node.specs.declared.dump.DumpKind.TheVariants.{Pdus, Frames}
 use Rattle.cfdp_node.specs.declared.refusal.Refusal.TheVariants.{Hex, Pdu, Frame}
@@ -93,16 +92,12 @@ pub record TellsPduFault (octets text : List ℕ) : Type 0 where
   pub fault : pdu_fault octets ≡ Some error
   pub words : text ≡ refusal_text (Pdu error)
 
--- the link that the header of a frame names
-abbrev pub own_link : List ℕ → ℕ → LinkConfig
-own_link octets zone = record { spacecraft = field octets 2 8; channel = field octets 10 6; zone = zone; apid = 0 }
-
 -- The octets are a frame with a packet zone of so many octets, and this text says which. Behind the header stand 5 spare bits and the
 -- 11 bits of the first header pointer (CCSDS 732.0-B-4, 4.1.4.2).
 pub record TellsFrame (zone : ℕ) (octets text : List ℕ) : Type 0 where
   pub header : FrameHeader
   pub spelled : SpellsFrame (own_link octets zone) header octets
-  pub words : text ≡ frame_text header (field (drop 6 octets) 5 11)
+  pub words : text ≡ frame_text header (pointer_of (drop 6 octets))
 
 -- The octets are no such frame, and this text says why.
 pub record TellsFrameFault (zone : ℕ) (octets text : List ℕ) : Type 0 where

@@ -5,8 +5,6 @@ use Rattle.cfdp_header.specs.declared.error.HeaderError.TheVariants as header_er
 use Rattle.cfdp_directives.specs.declared.error.PduError.{PduError}
 use Rattle.cfdp_directives.specs.declared.error.PduError.TheVariants as pdu_error
 use Rattle.cfdp_directives.specs.Faults.{pdu_refusal_number}
-use Rattle.aos_frame.specs.declared.error.FrameError.{FrameError}
-use Rattle.aos_frame.specs.declared.error.FrameError.TheVariants as frame_error
 use Rattle.aos_frame.specs.Frame as frames
 use Rattle.cfdp_node.specs.declared.refusal.Refusal.{Refusal}
 use Rattle.cfdp_node.specs.declared.refusal.Refusal.TheVariants.{Hex, Pdu, Frame}
@@ -29,15 +27,6 @@ pdu_error_name pdu_error.Trailing = codes "Trailing"
 pdu_error_name pdu_error.Tlv = codes "Tlv"
 pdu_error_name pdu_error.Condition = codes "Condition"
 
--- the name of a frame's refusal
-abbrev pub frame_error_name : FrameError → List ℕ
-frame_error_name frame_error.Length = codes "Length"
-frame_error_name frame_error.Version = codes "Version"
-frame_error_name frame_error.OtherProfile = codes "OtherProfile"
-frame_error_name frame_error.OtherSpacecraft = codes "OtherSpacecraft"
-frame_error_name frame_error.OtherChannel = codes "OtherChannel"
-frame_error_name frame_error.OnlyIdle = codes "OnlyIdle"
-
 -- the number of a refusal
 abbrev pub refusal_number : Refusal → ℕ
 refusal_number Hex = 0
@@ -48,7 +37,7 @@ refusal_number (Frame e) = frames.refusal_number e
 abbrev pub refusal_name : Refusal → List ℕ
 refusal_name Hex = codes "Hex"
 refusal_name (Pdu e) = pdu_error_name e
-refusal_name (Frame e) = frame_error_name e
+refusal_name (Frame e) = frames.refusal_name e
 
 -- the line that tells it
 abbrev pub refusal_text : Refusal → List ℕ

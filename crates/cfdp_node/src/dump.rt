@@ -2,9 +2,9 @@
 ghost use Rattle.std.specs.Prelude.{◌≡◌, ◌≢◌, ◌⊎◌, ◌<◌, ◌≤◌, ◌∷◌, drop, length, IfOk, IfSome, OnOk};
 ghost use Rattle.std.specs.Result.{result_err};
 ghost use Rattle.std.specs.Option.{option_map};
-ghost use Rattle.cfd_bits.specs.Field.{field};
-ghost use Rattle.aos_frame.specs.Frame.{SpellsFrame, frame_fault};
-ghost use Rattle.cfdp_node.specs.Dump.{hex_octets, own_link, TellsOctets, TellsLine, WritesLine, WritesLines};
+ghost use Rattle.aos_frame.specs.Frame.{SpellsFrame, frame_fault, own_link};
+ghost use Rattle.mpdu.specs.MpduHeader.{pointer_of};
+ghost use Rattle.cfdp_node.specs.Dump.{hex_octets, TellsOctets, TellsLine, WritesLine, WritesLines};
 ghost use Rattle.cfdp_node.specs.Dump as dumps;
 ghost use Rattle.cfdp_node.specs.declared.exit.Fault.{Fault};
 
@@ -13,9 +13,9 @@ use crate::exit::{Exit, Fault};
 use crate::input::{read_fault, read_script, write_fault};
 use crate::refusal::Refusal;
 use crate::words::cut_at_first;
-use aos_frame::{FrameError, LinkConfig};
-use cfd_bits::get;
+use aos_frame::{FrameError, FrameHeader};
 use hex::FromHexError;
+use mpdu::read_pointer;
 use std::alloc::{AllocError, Global};
 use std::io;
 use std::io::{BufWriter, Read, Write};
@@ -191,22 +191,13 @@ fn write_frame<W: Write>(octets: &[u8], zone: u16, out: &mut W) -> io::Result<()
 /// `Length`, `Version`, `OtherProfile` or `OnlyIdle`, the first that holds: the frame is never one of another link.
 fn read_frame(octets: &[u8], zone: u16) -> Result<FrameLine, FrameError>
     ensures found { IfOk result (λ frame. SpellsFrame (own_link octets.now zone) frame.header octets.now) }
-    ensures pointer { IfOk result (λ frame. frame.pointer ≡ field (drop 6 octets.now) 5 11) }
+    ensures pointer { IfOk result (λ frame. frame.pointer ≡ pointer_of (drop 6 octets.now)) }
     ensures refused { result_err result ≡ frame_fault octets.now (own_link octets.now zone) }
     ensures own { (result_err result ≢ Some FrameError.OtherSpacecraft) × (result_err result ≢ Some FrameError.OtherChannel) }
 {
-    if octets.len() < 2 {
-        return Err(FrameError::Length);
-    }
-    let link = LinkConfig {
-        spacecraft: get(octets, 2, 8) as u8,
-        channel: get(octets, 10, 6) as u8,
-        zone,
-        apid: 0,
-    };
-    let (header, rest) = aos_frame::decode(octets, &link)?;
+    let (header, mpdu) = FrameHeader::read(octets, zone)?;
     Ok(FrameLine {
         header,
-        pointer: get(rest, 5, 11),
+        pointer: read_pointer(mpdu),
     })
 }

@@ -132,7 +132,7 @@ impl fmt::Display for HexNumber {
 #[derive(Clone, Copy)]
 pub struct FrameLine {
     pub header: FrameHeader,
-    pub pointer: u64,
+    pub pointer: u16,
 }
 
 impl fmt::Display for FrameLine {

@@ -1,7 +1,8 @@
 use crate::answer::Answer;
 use crate::command::Command;
+use crate::simulation::Simulation;
 use cfdp_directives::Octets;
-use link_sim::{Applied, Event, SettleError, Side, World};
+use link_sim::{Applied, Event, SettleError, Side};
 use std::alloc::Global;
 
 /// More polls in a row than any station has PDUs due: a file has one for each octet at the most, and a few are added.
@@ -12,7 +13,11 @@ const MAX_POLLS: u32 = 16_777_216;
 /// # Errors
 ///
 /// The first answer that isn't the work done. It ends the command.
-pub fn perform(alloc: Global, world: &mut World, command: &Command) -> Result<(), Answer> {
+pub fn perform(
+    alloc: Global,
+    simulation: &mut Simulation,
+    command: &Command,
+) -> Result<(), Answer> {
     match *command {
         Command::Put {
             at,
@@ -26,60 +31,60 @@ pub fn perform(alloc: Global, world: &mut World, command: &Command) -> Result<()
                 source,
                 destination,
             };
-            once(world, &event)
+            once(simulation, &event)
         }
-        Command::Poll(side) => once(world, &Event::Poll(side)),
-        Command::Flush(side) => once(world, &Event::Flush(side)),
-        Command::Spread(side) => spread(world, side),
-        Command::Burst(side) => burst(world, side),
-        Command::Deliver(side, count) => repeat(world, &Event::Deliver(side), count),
-        Command::Strike(side, count) => repeat(world, &Event::Strike(side), count),
-        Command::Settle => world.settle().map_err(|error| match error {
+        Command::Poll(side) => once(simulation, &Event::Poll(side)),
+        Command::Flush(side) => once(simulation, &Event::Flush(side)),
+        Command::Spread(side) => spread(simulation, side),
+        Command::Burst(side) => burst(simulation, side),
+        Command::Deliver(side, count) => repeat(simulation, &Event::Deliver(side), count),
+        Command::Strike(side, count) => repeat(simulation, &Event::Strike(side), count),
+        Command::Settle => simulation.settle().map_err(|error| match error {
             SettleError::NoMemory => Answer::NoMemory,
         }),
     }
 }
 
 /// Applies an event. Answers whether there was something to do.
-fn happens(world: &mut World, event: &Event) -> Result<bool, Answer> {
-    match world.apply(event)? {
+fn happens(simulation: &mut Simulation, event: &Event) -> Result<bool, Answer> {
+    match simulation.apply(event)? {
         Applied::Applied => Ok(true),
         Applied::Nothing => Ok(false),
         Applied::Refused(error) => Err(Answer::Refused(error)),
     }
 }
 
-fn once(world: &mut World, event: &Event) -> Result<(), Answer> {
-    if happens(world, event)? {
+fn once(simulation: &mut Simulation, event: &Event) -> Result<(), Answer> {
+    if happens(simulation, event)? {
         Ok(())
     } else {
         Err(Answer::Nothing)
     }
 }
 
-fn repeat(world: &mut World, event: &Event, count: u64) -> Result<(), Answer> {
+fn repeat(simulation: &mut Simulation, event: &Event, count: u64) -> Result<(), Answer> {
     for _ in 0..count {
-        once(world, event)?;
+        once(simulation, event)?;
     }
     Ok(())
 }
 
-fn spread(world: &mut World, side: Side) -> Result<(), Answer> {
+fn spread(simulation: &mut Simulation, side: Side) -> Result<(), Answer> {
     for _ in 0..MAX_POLLS {
-        if !happens(world, &Event::Poll(side))? {
+        if !happens(simulation, &Event::Poll(side))? {
             break;
         }
-        happens(world, &Event::Flush(side))?;
+        happens(simulation, &Event::Flush(side))?;
     }
     Ok(())
 }
 
-fn burst(world: &mut World, side: Side) -> Result<(), Answer> {
+fn burst(simulation: &mut Simulation, side: Side) -> Result<(), Answer> {
     for _ in 0..MAX_POLLS {
-        if !happens(world, &Event::Poll(side))? {
+        if !happens(simulation, &Event::Poll(side))? {
             break;
         }
     }
-    happens(world, &Event::Flush(side))?;
+    happens(simulation, &Event::Flush(side))?;
     Ok(())
 }

@@ -43,7 +43,7 @@ impl Refusal {
         match self {
             Refusal::Hex => "Hex",
             Refusal::Pdu(error) => pdu_error_name(error),
-            Refusal::Frame(error) => frame_error_name(error),
+            Refusal::Frame(error) => error.name(),
         }
     }
 }
@@ -71,18 +71,5 @@ fn pdu_error_name(error: PduError) -> &'static str
         PduError::Trailing => "Trailing",
         PduError::Tlv => "Tlv",
         PduError::Condition => "Condition",
-    }
-}
-
-fn frame_error_name(error: FrameError) -> &'static str
-    ensures { result.now ≡ Rattle.cfdp_node.specs.Refusal.frame_error_name error }
-{
-    match error {
-        FrameError::Length => "Length",
-        FrameError::Version => "Version",
-        FrameError::OtherProfile => "OtherProfile",
-        FrameError::OtherSpacecraft => "OtherSpacecraft",
-        FrameError::OtherChannel => "OtherChannel",
-        FrameError::OnlyIdle => "OnlyIdle",
     }
 }

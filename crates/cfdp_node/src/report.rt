@@ -6,10 +6,11 @@ ghost use Rattle.cfdp_node.specs.Report.{indication_line, indication_text, told_
 use crate::answer::Answer;
 use crate::name::Name;
 use crate::script::Step;
+use crate::simulation::Simulation;
 use crate::wording::{Id, delivery_word, status_word};
 use cfdp_directives::{Checksum, Delivery, FileStatus, Indication};
 use cfdp_header::TransactionId;
-use link_sim::{Files, Side, World};
+use link_sim::{Files, Side};
 use std::io::Write;
 use std::{fmt, io};
 
@@ -32,7 +33,7 @@ pub fn write_report(
     out: &mut impl Write,
     steps: &[Step],
     answers: &[Option<Answer>],
-    world: &World,
+    simulation: &Simulation,
     tally: Tally,
 ) -> io::Result<()> {
     for (step, answer) in steps.iter().zip(answers) {
@@ -40,10 +41,10 @@ pub fn write_report(
             writeln!(out, "line {} {answer}", step.line)?;
         }
     }
-    write_indications(out, 1, world.indications(Side::One))?;
-    write_indications(out, 2, world.indications(Side::Two))?;
-    write_inbox(out, 1, world.inbox(Side::One))?;
-    write_inbox(out, 2, world.inbox(Side::Two))?;
+    write_indications(out, 1, simulation.indications(Side::One))?;
+    write_indications(out, 2, simulation.indications(Side::Two))?;
+    write_inbox(out, 1, simulation.inbox(Side::One))?;
+    write_inbox(out, 2, simulation.inbox(Side::Two))?;
     writeln!(out, "complete {} of {}", tally.complete, tally.asked)
 }
 
@@ -141,19 +142,19 @@ fn write_inbox(out: &mut impl Write, station: u8, inbox: &Files) -> io::Result<(
     Ok(())
 }
 
-/// How many of the puts that the world accepted were completed.
-pub fn completed_puts(world: &World) -> usize {
-    world
+/// How many of the accepted puts were completed.
+pub fn completed_puts(simulation: &Simulation) -> usize {
+    simulation
         .puts()
         .iter()
-        .filter(|put| is_completed(world, put.id))
+        .filter(|put| is_completed(simulation, put.id))
         .count()
 }
 
 /// Whether the sender of this transaction was told that it is over with no error, with the file complete and retained.
-fn is_completed(world: &World, id: TransactionId) -> bool {
+fn is_completed(simulation: &Simulation, id: TransactionId) -> bool {
     let sender = if id.source == 1 { Side::One } else { Side::Two };
-    world
+    simulation
         .indications(sender)
         .iter()
         .any(|indication| match indication {

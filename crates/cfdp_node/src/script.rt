@@ -48,17 +48,24 @@ impl<'a> Script<'a> {
             last_set: 0,
             first_bad: None,
         };
+        script.take_lines(text)?;
+        Ok(script)
+    }
+
+    fn take_lines(&mut self, text: &'a [u8]) -> Result<(), AllocError>
+        requires { length text.now ≤ MAX_SCRIPT }
+    {
         let mut line = 0;
         let mut rest = Some(text);
         while let Some(lines) = rest {
             line += 1;
             let (first, behind) = cut_at_first(lines, b'\n');
             if !first.is_empty() && first[0] != b'#' {
-                script.take_line(line, first)?;
+                self.take_line(line, first)?;
             }
             rest = behind;
         }
-        Ok(script)
+        Ok(())
     }
 
     fn take_line(&mut self, line: usize, text: &'a [u8]) -> Result<(), AllocError> {

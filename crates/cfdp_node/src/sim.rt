@@ -7,8 +7,10 @@ use crate::input::{read_fault, read_script};
 use crate::perform::perform;
 use crate::report::{Tally, completed_puts, write_report};
 use crate::script::{Script, Step};
-use link_sim::{Files, Side, SimConfig, World};
+use crate::simulation::Simulation;
+use link_sim::{Files, Side, SimConfig};
 use std::alloc::{AllocError, Global};
+use std::io;
 use std::io::{BufWriter, Read, Write};
 
 /// Reads a script, runs it and writes its report.
@@ -33,41 +35,88 @@ pub fn run_sim<R: Read + Drop, W: Write + Drop>(alloc: Global, reader: R, writer
 fn run_script<W: Write + Drop>(alloc: Global, config: SimConfig, script: &Script, writer: W) -> Exit
     requires { IsValidConfig config }
 {
-    let Ok(outboxes) = outboxes(alloc, script.files.as_slice()) else {
-        return Exit::Device(Fault::NoMemoryAtStart);
-    };
-    // What the report takes is there before the first command.
-    let steps = script.steps.as_slice();
-    let Ok(mut answers) = vec![in alloc; None; steps.len()] else {
-        return Exit::Device(Fault::NoMemoryAtStart);
-    };
-    let Ok(mut out) = BufWriter::new(alloc, writer) else {
-        return Exit::Device(Fault::NoMemoryAtStart);
-    };
-    let inboxes = (Files::new(alloc), Files::new(alloc));
-    let mut world = World::new(alloc, config, outboxes, inboxes);
-    perform_all(alloc, &mut world, steps, answers.as_mut_slice());
-    let tally = Tally {
-        complete: completed_puts(&world),
-        asked: steps
-            .iter()
-            .filter(|step| matches!(step.command, Command::Put { .. }))
-            .count(),
-    };
-    let written = write_report(&mut out, steps, answers.as_slice(), &world, tally);
-    if written.is_err() || out.flush().is_err() {
-        // What is still in the buffer is let go: a `BufWriter` would write it once more.
-        let _ = out.into_parts();
-        return Exit::Device(Fault::Unwritable);
+    match Run::new(alloc, config, script) {
+        Ok(mut run) => run.to_end(alloc, script.steps.as_slice(), writer),
+        Err(AllocError) => Exit::Device(Fault::NoMemoryAtStart),
     }
-    if answers.contains(&Some(Answer::NoMemory)) {
-        return Exit::Device(Fault::NoMemory);
+}
+
+/// A script under way: its stations, and what each of its commands answered.
+#[derive(Drop)]
+struct Run {
+    simulation: Simulation,
+    // a place for each command, in order
+    answers: Vec<Option<Answer>>,
+}
+
+impl Run {
+    /// The stations of the script, before its first command.
+    ///
+    /// # Errors
+    ///
+    /// `AllocError` where there is no memory for them, or for the answers.
+    fn new(alloc: Global, config: SimConfig, script: &Script) -> Result<Run, AllocError>
+        requires { IsValidConfig config }
+    {
+        let outboxes = outboxes(alloc, script.files.as_slice())?;
+        let answers = vec![in alloc; None; script.steps.len()]?;
+        let simulation = Simulation::new(alloc, config, outboxes);
+        Ok(Run {
+            simulation,
+            answers,
+        })
     }
-    if tally.complete == tally.asked {
-        Exit::Complete
-    } else {
-        Exit::Incomplete
+
+    /// Does all commands, and writes the report, whose buffer is there before the first command.
+    fn to_end<W: Write + Drop>(&mut self, alloc: Global, steps: &[Step], writer: W) -> Exit {
+        let Ok(mut out) = BufWriter::new(alloc, writer) else {
+            return Exit::Device(Fault::NoMemoryAtStart);
+        };
+        self.perform_all(alloc, steps);
+        let Ok(exit) = self.report(steps, &mut out) else {
+            // What is still in the buffer is let go: a `BufWriter` would write it once more.
+            let _ = out.into_parts();
+            return Exit::Device(Fault::Unwritable);
+        };
+        exit
     }
+
+    /// Does all commands in turn, and keeps what each answered in its place.
+    fn perform_all(&mut self, alloc: Global, steps: &[Step]) {
+        for (step, answer) in steps.iter().zip(self.answers.iter_mut()) {
+            *answer = perform(alloc, &mut self.simulation, &step.command).err();
+        }
+    }
+
+    /// Writes the report to its end, and tells how the run ended.
+    ///
+    /// # Errors
+    ///
+    /// That of the writer.
+    fn report<W: Write>(&self, steps: &[Step], out: &mut W) -> io::Result<Exit> {
+        let tally = Tally {
+            complete: completed_puts(&self.simulation),
+            asked: asked_puts(steps),
+        };
+        let answers = self.answers.as_slice();
+        write_report(out, steps, answers, &self.simulation, tally)?;
+        out.flush()?;
+        Ok(if answers.contains(&Some(Answer::NoMemory)) {
+            Exit::Device(Fault::NoMemory)
+        } else if tally.complete == tally.asked {
+            Exit::Complete
+        } else {
+            Exit::Incomplete
+        })
+    }
+}
+
+/// How many of the commands are puts.
+fn asked_puts(steps: &[Step]) -> usize {
+    steps
+        .iter()
+        .filter(|step| matches!(step.command, Command::Put { .. }))
+        .count()
 }
 
 /// The files of both stations. One that comes later takes the place of an earlier one of its name.
@@ -89,12 +138,5 @@ fn contents_of(alloc: Global, contents: Contents) -> Result<Vec<u8>, AllocError>
     match contents {
         Contents::Text(text) => Vec::from_slice(alloc, text),
         Contents::Fill { count, octet } => vec![in alloc; octet; count as usize],
-    }
-}
-
-/// Does all commands in turn, and keeps what each answered in its place.
-fn perform_all(alloc: Global, world: &mut World, steps: &[Step], answers: &mut [Option<Answer>]) {
-    for (step, answer) in steps.iter().zip(answers.iter_mut()) {
-        *answer = perform(alloc, world, &step.command).err();
     }
 }

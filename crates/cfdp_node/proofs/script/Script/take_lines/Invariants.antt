@@ -1,5 +1,5 @@
 use Rattle.std.proofs.Common.{ℕ, ◌+◌, ◌-◌, ◌≤◌, length, MatchOption}
-use Rattle.cfdp_node.proofs.script.Script.parse.Given as goal
+use Rattle.cfdp_node.proofs.script.Script.take_lines.Given as goal
 
 -- each line so far had an octet at least, its line feed
 abbrev pub invariant-loop-rest : goal.invariant-loop-rest
