@@ -28,7 +28,7 @@ impl fmt::Display for Answer {
     fn fmt<W: fmt::Write>(&self, f: &mut fmt::Formatter<W>) -> fmt::Result {
         match self {
             Answer::Nothing => write!(f, "Nothing"),
-            Answer::Refused(error) => write!(f, "{error}"),
+            Answer::Refused(error) => write!(f, "{}", error.name()),
             Answer::NoMemory => write!(f, "NoMemory"),
         }
     }

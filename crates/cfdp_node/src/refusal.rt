@@ -4,7 +4,6 @@ ghost use Rattle.cfdp_node.specs.Refusal.{refusal_text};
 
 use aos_frame::FrameError;
 use cfdp_directives::PduError;
-use cfdp_header::HeaderError;
 use std::fmt;
 
 /// Why a line spells nothing.
@@ -42,34 +41,8 @@ impl Refusal {
     {
         match self {
             Refusal::Hex => "Hex",
-            Refusal::Pdu(error) => pdu_error_name(error),
+            Refusal::Pdu(error) => error.name(),
             Refusal::Frame(error) => error.name(),
         }
-    }
-}
-
-fn header_error_name(error: HeaderError) -> &'static str
-    ensures { result.now ≡ Rattle.cfdp_node.specs.Refusal.header_error_name error }
-{
-    match error {
-        HeaderError::Short => "Short",
-        HeaderError::Version => "Version",
-        HeaderError::CrcPresent => "CrcPresent",
-        HeaderError::Length => "Length",
-        HeaderError::Unacknowledged => "Unacknowledged",
-        HeaderError::LargeFile => "LargeFile",
-    }
-}
-
-fn pdu_error_name(error: PduError) -> &'static str
-    ensures { result.now ≡ Rattle.cfdp_node.specs.Refusal.pdu_error_name error }
-{
-    match error {
-        PduError::Header(error) => header_error_name(error),
-        PduError::Directive => "Directive",
-        PduError::Truncated => "Truncated",
-        PduError::Trailing => "Trailing",
-        PduError::Tlv => "Tlv",
-        PduError::Condition => "Condition",
     }
 }
