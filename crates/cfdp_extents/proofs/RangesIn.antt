@@ -1,11 +1,10 @@
 -- Of so many offsets, the ranges of those that pass a test: where they lie, what they hold, and when there is none.
-use Rattle.std.proofs.Common.{◌≡◌, ◌⊎◌, inl, inr, ℕ, zero, suc, ◌+◌, ◌-◌, ◌<◌, ◌≤◌, Bool, true, false, ◌==◌, ◌&&◌, ◌||◌, eqb, List, [], ◌∷◌, refl, sym, ap, subst, ◌∙◌, arith, if◌then◌else◌}
+use Rattle.std.proofs.Common.{◌≡◌, inl, inr, ℕ, zero, suc, ◌+◌, ◌<◌, ◌≤◌, Bool, true, false, ◌==◌, ◌&&◌, ◌||◌, eqb, List, [], ◌∷◌, refl, sym, ap, ◌∙◌, arith, if◌then◌else◌}
 use Rattle.std.specs.FinSet as set
 use Rattle.std.specs.Ordering.{nat_cmp}
-use Rattle.std.specs.Cmp.{nat_cmp_total}
 use Rattle.std.proofs.lemmas.Bool.{both_ways, cond_both, cases_eq, eqb-true, eqb-false, eq-eqb, ne_eqb, and_left, and_right, and_from, or_left}
 use Rattle.std.proofs.lemmas.Bool.Decides.{nat_tests}
-use Rattle.cfdp_extents.specs.Offsets.{Offsets, is_within, range, union_of, AreApart}
+use Rattle.cfdp_extents.specs.Offsets.{is_within, union_of, AreApart}
 use Rattle.cfdp_extents.specs.Terms.{joined, ranges_in}
 use Rattle.cfdp_extents.proofs.Members.{contains-more}
 
