@@ -1,10 +1,8 @@
-ghost use Rattle.std.specs.Prelude.{◌≡◌, ◌+◌, ◌≤◌, Some, None, false, length, take, drop, is_ok, IsOk, IsOkUnless, IsSome, OnErr, OnOk};
+ghost use Rattle.std.specs.Prelude.{◌≡◌, Some, None, false, IsSome, OnErr, OnOk};
 ghost use Rattle.std.specs.FinMap as map;
-ghost use Rattle.std.specs.Option.{option_map};
 ghost use Rattle.cfdp_header.specs.declared.value.TransactionId.{TransactionId};
-ghost use Rattle.cfdp_store.specs.Files.{octets_in};
 ghost use Rattle.cfdp_store.specs.Stores.{failures_after};
-ghost use Rattle.cfdp_store.specs.Staged.{Covers, OthersKeep, written, front, staged_for};
+ghost use Rattle.cfdp_store.specs.Staged.{OthersKeep, written, front, staged_for};
 ghost use Rattle.cfdp_store.specs.Memory.{octets_for, Succeeds, FailsForMemoryAlone};
 
 use crate::pieces::Pieces;
