@@ -1,12 +1,10 @@
 -- What arrived, zone by zone.
-use Rattle.std.proofs.Common.{◌≡◌, ℕ, zero, suc, ◌+◌, ◌-◌, ◌*◌, ◌/◌, ◌<◌, ◌≤◌, ◌↔◌, Bool, true, false, not, ◌&&◌, cond, nat_le, List, [], ◌∷◌, ◌++◌, length, get_or, refl, sym, ap, ◌∙◌, inl, inr, arith}
-use Rattle.std.proofs.lemmas.Bool.{lt-ltb, le-leb, lt-leb, leb-true, cases_lt}
+use Rattle.std.proofs.Common.{◌≡◌, ℕ, zero, suc, ◌+◌, ◌-◌, ◌*◌, ◌/◌, ◌<◌, ◌≤◌, ◌↔◌, Bool, true, false, ◌&&◌, cond, List, [], ◌∷◌, get_or, refl, inl, inr, arith}
+use Rattle.std.proofs.lemmas.Bool.{lt-ltb, le-leb, leb-true, cases_lt}
 use Rattle.std.proofs.Math.Nat.{div-mul-le_self, lt-div-mul-add}
-use Rattle.mpdu.specs.Stream.{keep, is_idle, ArePackets, arrived, meets, survivors, begun}
+use Rattle.mpdu.specs.Stream.{arrived, meets}
 use Rattle.mpdu.specs.Places.{IsInSpan}
-use Rattle.mpdu.proofs.Spans.{arrived-before, arrived-past, arrived-behind, arrived-into, meets_no_behind, meets_no_before}
-use Rattle.mpdu.proofs.Scan.{packet_long}
-use Rattle.mpdu.proofs.Zone.{end_more}
+use Rattle.mpdu.proofs.Spans.{meets_no_behind, meets_no_before}
 
 and_first : (x y : Bool) → (x && y) ≡ true → x ≡ true
 and_first true y e = refl

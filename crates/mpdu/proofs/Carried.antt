@@ -1,9 +1,9 @@
-use Rattle.std.proofs.Common.{◌≡◌, ℕ, zero, suc, ◌+◌, ◌-◌, ◌*◌, ◌%◌, ◌==◌, ◌||◌, ◌<◌, ◌≤◌, Bool, true, false, not, ◌&&◌, min, nat_le, List, [], ◌∷◌, ◌++◌, length, get_or, take, drop, refl, sym, ap, subst, ◌∙◌, inl, inr, arith, length-append, length-drop, Vec, Global, Result, Ok, Err, OnOk, IsErr}
+use Rattle.std.proofs.Common.{◌≡◌, ℕ, zero, suc, ◌+◌, ◌-◌, ◌*◌, ◌%◌, ◌==◌, ◌||◌, ◌<◌, ◌≤◌, Bool, true, false, not, min, List, [], ◌∷◌, ◌++◌, length, get_or, take, drop, refl, sym, ap, subst, ◌∙◌, inl, inr, arith, length-drop, Vec, Global, Result, Ok, Err, OnOk, IsErr}
 use Rattle.std.proofs.lemmas.List.{map_more, append-nil}
 use Rattle.std.proofs.lemmas.Nat.{mod-mul-add}
 use Rattle.std.proofs.Math.Nat.{mod-eq_of_lt}
-use Rattle.std.proofs.lemmas.Bool.{lt-leb, cases_Bool}
-use Rattle.mpdu.specs.Stream.{stream, keep, is_idle, IsPacket, ArePackets, arrived, survivors, begun, first_header_pointer, zone}
+use Rattle.std.proofs.lemmas.Bool.{cases_Bool}
+use Rattle.mpdu.specs.Stream.{stream, IsPacket, ArePackets, survivors, begun, first_header_pointer, zone}
 use Rattle.mpdu.specs.Packing.{PackerState, IsAt, ZoneOf, flush_of, idle_packet, idle_len}
 use Rattle.mpdu.specs.Feeding.{IsNext, IsTaken, octets_of_each}
 use Rattle.aos_frame.specs.Counts.{frame_counts}
@@ -12,9 +12,7 @@ use Rattle.mpdu.proofs.Counted.{counts_none, counts_struck, counts_read, never}
 use Rattle.std.proofs.Common.{Option, Some, None}
 use Rattle.mpdu.specs.Carrying.{marks_of, AreSurvivors, fill_of}
 use Rattle.mpdu.specs.Draining.{IsCarried}
-use Rattle.mpdu.proofs.Spans.{arrived-past, arrived-behind}
-use Rattle.mpdu.proofs.Scan.{packet_long, packet_size, header_len-short}
-use Rattle.mpdu.proofs.Zone.{keep_false}
+use Rattle.mpdu.proofs.Scan.{packet_size, header_len-short}
 use Rattle.mpdu.proofs.Struck.{begun-struck, survivors-struck}
 use Rattle.mpdu.proofs.Later.{begun-push, survivors-push}
 use Rattle.mpdu.proofs.Packed.{idle_is, idle_len-low, idle_len-high}

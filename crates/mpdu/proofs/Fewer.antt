@@ -1,12 +1,12 @@
 -- Where fewer zones are delivered, fewer packets survive, and each zone completes no more.
-use Rattle.std.proofs.Common.{◌≡◌, ℕ, zero, suc, ◌+◌, ◌-◌, ◌*◌, ◌<◌, ◌≤◌, Bool, true, false, not, ◌&&◌, cond, List, [], ◌∷◌, ◌++◌, ◌⊎◌, length, refl, sym, ap, subst, ◌∙◌, inl, inr, arith}
+use Rattle.std.proofs.Common.{◌≡◌, ℕ, ◌+◌, ◌*◌, ◌<◌, ◌≤◌, Bool, true, false, not, ◌&&◌, cond, List, [], ◌∷◌, ◌++◌, length, refl, sym, ap, subst, ◌∙◌, inl, inr, arith}
 use Rattle.std.proofs.lemmas.Bool.{cases_lt}
 use Rattle.mpdu.specs.Stream.{keep, is_idle, ArePackets, arrived, meets, survivors}
 use Rattle.mpdu.proofs.Spans.{arrived-before, arrived-past}
 use Rattle.mpdu.proofs.Zone.{keep_false, survivors-behind}
 use Rattle.mpdu.specs.Parts.{IsPartOf, AreAmong, CompletesMore}
 use Rattle.mpdu.specs.Packets.{busy}
-use Rattle.mpdu.proofs.Parts.{part-none, part-behind, among-length, among-push}
+use Rattle.mpdu.proofs.Parts.{part-behind, among-length, among-push}
 
 step_more : (t b m x y : Bool) → (b ≡ true → m ≡ true) → (x ≡ true → y ≡ true) → cond t (b && x) x ≡ true → cond t (m && y) y ≡ true
 step_more false b m x y h k e = k e

@@ -1,14 +1,13 @@
 -- What is noted of the zones of a stream.
 use Rattle.std.proofs.Common.{◌≡◌, ℕ, ◌+◌, ◌-◌, ◌*◌, ◌<◌, ◌≤◌, ◌⊎◌, Bool, true, false, not, ◌&&◌, ◌||◌, ◌==◌, nat_lt, nat_le, List, [], ◌∷◌, ◌++◌, length, take, drop, Result, Ok, Err, refl, sym, ap, subst, ◌∙◌, inl, inr, arith, length-append}
 use Rattle.std.proofs.lemmas.Bool.{lt-ltb, le-ltb, le-leb, lt-leb, eqb-true, cases_lt, cases_Bool}
-use Rattle.std.proofs.lemmas.List.{take-append-le, length-take-le, take-take}
 use Rattle.std.specs.Result.{IfOk}
 use Rattle.mpdu.specs.declared.reassembler.Notes.{Notes}
 use Rattle.mpdu.specs.Stream.{stream, header_len, header_ok, ArePackets, arrived, begun, first_header_pointer, zone}
 use Rattle.mpdu.specs.Reading.{step, goes_on, turns_bad, pointer_after, is_usable, is_some, held_at, resync, bad_count}
 use Rattle.mpdu.specs.Feeding.{IsNext}
 use Rattle.mpdu.proofs.Spans.{arrived-behind}
-use Rattle.mpdu.proofs.Scan.{packet_long, packet_version, packet_size, header_len-same, header_ok-same, drop-append-past}
+use Rattle.mpdu.proofs.Scan.{packet_long, drop-append-past}
 use Rattle.mpdu.proofs.Zone.{FedRight, goes_on_inside}
 use Rattle.mpdu.proofs.Taken.{next_right}
 

@@ -1,10 +1,9 @@
 use Rattle.std.proofs.Common.{◌≡◌, ℕ, zero, suc, ◌+◌, ◌-◌, ◌*◌, ◌%◌, ◌<◌, ◌≤◌, Bool, true, false, ◌||◌, ◌==◌, nat_lt, nat_le, List, [], ◌∷◌, ◌++◌, length, take, drop, refl, sym, ap, subst, ◌∙◌, inl, inr, arith, length-append, length-drop}
 use Rattle.std.proofs.lemmas.Bool.{lt-ltb, le-ltb, le-leb, lt-leb, cases_lt, cases_Bool}
-use Rattle.std.proofs.lemmas.List.{take-append-le, drop-append-le, append_assoc, append-nil, drop-drop}
+use Rattle.std.proofs.lemmas.List.{take-append-le, drop-append-le, append-nil, drop-drop}
 use Rattle.mpdu.specs.Stream.{stream, header_len, IsPacket, ArePackets, first_header_pointer}
 use Rattle.mpdu.specs.Reading.{pointer_after}
 use Rattle.mpdu.specs.Packing.{PackerState, next_start, skip, IsAt, ZoneOf, idle_packet, idle_len, flush_of}
-use Rattle.std.proofs.lemmas.List.{length-replicate}
 use Rattle.space_packet.specs.Packet.{SpellsPacket, packet_octets, idle}
 use Rattle.space_packet.proofs.Spelling.{written_packet_is_read, idle_is_writable}
 use Rattle.mpdu.proofs.Scan.{packet_long, packet_size, header_len-same, header_len-long, drop-append-past}

@@ -1,8 +1,8 @@
 -- Exported: what a zone that was struck leaves.
-use Rattle.std.proofs.Common.{◌≡◌, ℕ, zero, suc, ◌+◌, ◌-◌, ◌*◌, ◌/◌, ◌<◌, ◌≤◌, ◌↔◌, Bool, true, false, not, ◌&&◌, cond, nat_le, List, [], ◌∷◌, ◌++◌, length, get_or, refl, sym, ap, ◌∙◌, inl, inr, arith}
-use Rattle.std.proofs.lemmas.Bool.{lt-ltb, le-leb, lt-leb, leb-true, cases_lt}
-use Rattle.mpdu.specs.Stream.{keep, is_idle, ArePackets, arrived, meets, survivors, begun}
-use Rattle.mpdu.proofs.Spans.{arrived-before, arrived-past, arrived-behind, arrived-into, meets_no_behind, meets_no_before}
+use Rattle.std.proofs.Common.{◌≡◌, ℕ, ◌+◌, ◌-◌, ◌*◌, ◌<◌, ◌≤◌, Bool, true, false, not, ◌&&◌, nat_le, List, [], ◌∷◌, ◌++◌, length, refl, sym, ap, ◌∙◌, inl, inr, arith}
+use Rattle.std.proofs.lemmas.Bool.{le-leb, lt-leb, cases_lt}
+use Rattle.mpdu.specs.Stream.{keep, is_idle, ArePackets, arrived, survivors, begun}
+use Rattle.mpdu.proofs.Spans.{arrived-before, arrived-past, arrived-behind, arrived-into}
 use Rattle.mpdu.proofs.Scan.{packet_long}
 use Rattle.mpdu.proofs.Zone.{end_more}
 

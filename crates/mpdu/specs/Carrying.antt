@@ -1,8 +1,7 @@
-use Rattle.std.specs.Prelude.{◌≡◌, ℕ, zero, suc, ◌+◌, ◌*◌, ◌-◌, ◌%◌, ◌==◌, ◌<◌, ◌≤◌, Bool, true, false, not, min, Option, None, IfSome, slice_index_or, if◌then◌else◌, List, [], ◌∷◌, length}
+use Rattle.std.specs.Prelude.{◌≡◌, ℕ, zero, suc, ◌+◌, ◌*◌, ◌-◌, ◌%◌, ◌==◌, ◌<◌, ◌≤◌, Bool, true, false, not, slice_index_or, if◌then◌else◌, List, [], ◌∷◌, length}
 use Rattle.aos_frame.specs.Counts.{frame_counts}
-use Rattle.mpdu.specs.Stream.{stream, begun, survivors}
-use Rattle.mpdu.specs.Reading.{held_at}
-use Rattle.mpdu.specs.Packing.{PackerState, IsAt, idle_packet, idle_len}
+use Rattle.mpdu.specs.Stream.{stream, survivors}
+use Rattle.mpdu.specs.Packing.{idle_packet, idle_len}
 
 -- the marks of the first n frames, delivered or not, where these say which were struck
 abbrev pub marks_of : ℕ → List Bool → List Bool

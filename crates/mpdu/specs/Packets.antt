@@ -1,5 +1,5 @@
 -- The packets that octets spell, read from their first octet on.
-use Rattle.std.specs.Prelude.{ℕ, zero, suc, Bool, ◌&&◌, not, nat_le, if◌then◌else◌, List, [], ◌∷◌, ◌++◌, length, take, drop}
+use Rattle.std.specs.Prelude.{ℕ, zero, suc, Bool, ◌&&◌, not, nat_le, if◌then◌else◌, List, [], ◌∷◌, length, take, drop}
 use Rattle.mpdu.specs.Stream.{header_len, header_ok, is_idle, keep}
 
 -- A whole packet stands in front: a header of version 000, and as many octets as it tells (CCSDS
