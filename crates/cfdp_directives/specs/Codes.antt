@@ -41,9 +41,6 @@ nak_limit = 7
 abbrev pub inactivity : ℕ
 inactivity = 8
 
-abbrev pub invalid_file_structure : ℕ
-invalid_file_structure = 9
-
 abbrev pub check_limit : ℕ
 check_limit = 10
 

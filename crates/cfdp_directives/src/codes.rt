@@ -53,8 +53,6 @@ impl Condition {
     pub const NAK_LIMIT: Condition = Condition { code: 7 };
     /// Nothing was heard of the transaction for too long: 8.
     pub const INACTIVITY: Condition = Condition { code: 8 };
-    /// The structure of the file is invalid: 9.
-    pub const INVALID_FILE_STRUCTURE: Condition = Condition { code: 9 };
     /// The file was looked at as often as is allowed, and was not whole: 10.
     pub const CHECK_LIMIT: Condition = Condition { code: 10 };
     /// The file's checksum is of a type that isn't known here: 11.

@@ -587,7 +587,6 @@ fn names_have_the_codes_of_the_standard(rt: HostRuntime) {
         (Condition::FILE_SIZE_ERROR, 6),
         (Condition::NAK_LIMIT, 7),
         (Condition::INACTIVITY, 8),
-        (Condition::INVALID_FILE_STRUCTURE, 9),
         (Condition::CHECK_LIMIT, 10),
         (Condition::UNSUPPORTED_CHECKSUM_TYPE, 11),
         (Condition::SUSPEND_REQUEST, 14),
