@@ -1,7 +1,6 @@
 -- Laws of indications and marked PDUs, as more come.
-use Rattle.std.proofs.Common.{◌≡◌, ℕ, zero, suc, ◌+◌, ◌<◌, ◌≤◌, ◌==◌, ◌&&◌, Bool, true, false, not, cond, List, [], ◌∷◌, ◌++◌, length, get_or, Option, Some, None, refl, sym, ap, ap₂, subst, ◌∙◌, arith, inl, inr, ◌⊎◌}
-use Rattle.std.specs.Prelude.{Contains, count_by, slice_get, if◌then◌else◌}
-use Rattle.std.proofs.lemmas.Bool.{eqb-true, eq-eqb, and_parts}
+use Rattle.std.proofs.Common.{◌≡◌, ℕ, zero, suc, ◌+◌, ◌<◌, ◌≤◌, Bool, true, cond, List, [], ◌∷◌, ◌++◌, length, get_or, Option, Some, refl, ap, ap₂, ◌∙◌, arith}
+use Rattle.std.specs.Prelude.{Contains, count_by, slice_get}
 use Rattle.cfdp_header.specs.declared.value.TransactionId.{TransactionId}
 use Rattle.cfdp_directives.specs.declared.codes.Delivery.{Delivery}
 use Rattle.cfdp_directives.specs.declared.codes.FileStatus.{FileStatus}
@@ -10,8 +9,7 @@ use Rattle.cfdp_directives.specs.declared.indication.Indication.TheVariants.{Fin
 use Rattle.cfdp_directives.specs.Put.{Put, overwritten, inbox_after}
 use Rattle.cfdp_header.specs.Files.{FileMap}
 use Rattle.cfdp_directives.specs.Completions.{is_finished}
-use Rattle.cfdp_header.specs.Ids.{same_id}
-use Rattle.cfdp_header.proofs.Ids.{same_id-is, same_id-itself}
+use Rattle.cfdp_header.proofs.Ids.{same_id-itself}
 use Rattle.cfdp_directives.proofs.Puts.{count_by-append}
 use Rattle.link_sim.specs.declared.event.Mark.{Mark}
 use Rattle.link_sim.specs.declared.event.Mark.TheVariants.{Delivered, Struck}

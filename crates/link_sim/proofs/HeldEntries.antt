@@ -1,21 +1,19 @@
 -- What a map of octets by their offsets does, seen as `Held`.
-use Rattle.std.proofs.Common.{◌≡◌, ℕ, suc, ◌+◌, ◌<◌, ◌≤◌, Bool, true, false, cond, List, [], ◌∷◌, length, Some, None, is_some, refl, sym, ap, subst, ◌∙◌, arith, ◌&&◌, T, ⊎_elim}
-use Rattle.std.specs.Prelude.{◌||◌, nat_le, map}
+use Rattle.std.proofs.Common.{◌≡◌, ℕ, ◌<◌, ◌≤◌, Bool, true, false, cond, List, [], ◌∷◌, length, Some, None, is_some, refl, sym, ap, subst, ◌∙◌, arith, ◌&&◌, T, ⊎_elim}
+use Rattle.std.specs.Prelude.{nat_le}
 use Rattle.std.specs.List.{list_any, AllByRecursion}
 use Rattle.std.specs.List.Sorted.{IsStrictlySortedBy}
 use Rattle.std.specs.Map.{lookup, keys_of}
 use Rattle.std.specs.Ordering.{nat_cmp, is_lt, eq_by_cmp}
-use Rattle.std.specs.declared.cmp.Ordering.{Ordering}
 use Rattle.std.specs.declared.cmp.Ordering.TheVariants.{Less}
 use Rattle.std.specs.Cmp.{nat_cmp_total, eq_by_cmp_equiv, unsigned_tied}
 use Rattle.std.specs.BTreeMap as tree
 use Rattle.std.specs.BTreeMap.{BTreeMap, is_at, Updates, IsUpperBound, IsOrdered, btree_map_len}
 use Rattle.std.specs.FinMap.Entries.{below_all}
-use Rattle.std.specs.FinMap.{get, contains_key, insert, remove, keys, len, empty, entries, find, from_entries, from_sorted, is_sorted, same_map, same_entries_map, nat_cmp-IsAntisymmetric, get-from_entries, get-from_sorted, entries-from_sorted, get-insert, get-remove, get-empty, contains_key-keys, len-entries}
-use Rattle.std.proofs.lemmas.Bool.{leb-true, leb-false, le-leb, lt-leb, false≢true, false_from_ne_true, or_cases, or_left, or_right, or_from, cases_Bool, eqb-true, eq-eqb}
-use Rattle.std.proofs.lemmas.Bool.Decides.{eqb_tells}
+use Rattle.std.specs.FinMap.{get, contains_key, insert, remove, keys, len, empty, entries, find, from_entries, from_sorted, is_sorted, same_map, nat_cmp-IsAntisymmetric, get-from_entries, get-from_sorted, entries-from_sorted, get-insert, get-remove, get-empty, contains_key-keys, len-entries}
+use Rattle.std.proofs.lemmas.Bool.{leb-true, leb-false, le-leb, lt-leb, false≢true, or_cases, or_left, or_right, or_from, cases_Bool, eqb-true, eq-eqb}
 use Rattle.std.proofs.lemmas.Map.Keys.{ge_from_not_lt}
-use Rattle.link_sim.specs.Held.{Held, holds_from, holds_below, IsLastOffset}
+use Rattle.link_sim.specs.Held.{Held, holds_from, IsLastOffset}
 
 -- the octets that a map lists
 abbrev pub held_in : BTreeMap ℕ ℕ → Held

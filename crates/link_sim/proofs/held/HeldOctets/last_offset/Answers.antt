@@ -1,5 +1,4 @@
-use Rattle.std.proofs.Common.{subst, sym, ap, ◌∙◌}
-use Rattle.link_sim.proofs.HeldLemmas.{holds_below-at}
+use Rattle.std.proofs.Common.{subst}
 use Rattle.link_sim.specs.Held.{IsLastOffset}
 use Rattle.link_sim.proofs.HeldEntries.{IsLastOffset-held_in}
 use Rattle.link_sim.proofs.held.HeldOctets.last_offset.Goals as goal

@@ -1,4 +1,4 @@
-use Rattle.std.proofs.Common.{◌+◌, [], ◌∷◌, ◌++◌, length, drop, get_or, sym, ap, ◌∙◌, arith, append_assoc, append-nil}
+use Rattle.std.proofs.Common.{◌+◌, [], ◌∷◌, ◌++◌, drop, get_or, sym, ap, ◌∙◌, arith, append_assoc, append-nil}
 use Rattle.link_sim.specs.Held.{missing}
 use Rattle.link_sim.proofs.HeldLemmas.{missing-held, missing-new, missing-none}
 use Rattle.link_sim.proofs.held.HeldOctets.missing.Goals as goal

@@ -1,7 +1,7 @@
 use Rattle.std.proofs.Common.{◌≡◌, refl, rules}
 use Rattle.link_sim.specs.declared.event.Event.TheVariants as event
 use Rattle.link_sim.specs.declared.event.Applied.TheVariants as applied
-use Rattle.link_sim.proofs.Runs.{settles-none, settles-then, settles-step, settles-more, falls-more}
+use Rattle.link_sim.proofs.Runs.{settles-none, settles-then, settles-step, falls-more}
 use Rattle.link_sim.proofs.world.World.deliver_all.Goals as goal
 
 pub loop-moved-init : goal.loop-moved-init

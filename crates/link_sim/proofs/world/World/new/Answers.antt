@@ -1,5 +1,5 @@
-use Rattle.std.proofs.Common.{◌≡◌, [], subst, sym}
-use Rattle.link_sim.specs.World.{WorldState, first_world}
+use Rattle.std.proofs.Common.{◌≡◌, [], subst}
+use Rattle.link_sim.specs.World.{first_world}
 use Rattle.link_sim.specs.Sound.{IsSound}
 use Rattle.link_sim.proofs.WorldSound.{sound-first}
 use Rattle.link_sim.proofs.Runs.{inbox-run, holds-run}

@@ -1,6 +1,6 @@
 use Rattle.std.proofs.Common.{◌≡◌, ◌<◌}
 use Rattle.std.specs.Prelude.{MatchBool}
-use Rattle.link_sim.specs.World.{WorldState, SettlesTo}
+use Rattle.link_sim.specs.World.{SettlesTo}
 use Rattle.link_sim.specs.Work.{work}
 use Rattle.link_sim.proofs.world.World.poll_all.Given as goal
 
