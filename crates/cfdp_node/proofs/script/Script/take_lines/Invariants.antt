@@ -1,4 +1,4 @@
-use Rattle.std.proofs.Common.{ℕ, ◌+◌, ◌-◌, ◌≤◌, length, MatchOption}
+use Rattle.std.proofs.Common.{◌+◌, ◌-◌, ◌≤◌, length, MatchOption}
 use Rattle.cfdp_node.proofs.script.Script.take_lines.Given as goal
 
 -- each line so far had an octet at least, its line feed
