@@ -1,8 +1,7 @@
 -- A frame of a stream, read again.
-use Rattle.std.proofs.Common.{◌≡◌, ℕ, ◌+◌, ◌-◌, ◌*◌, ◌/◌, ◌%◌, ◌^◌, ◌<◌, ◌≤◌, ◌==◌, nat_le, nat_lt, inl, inr, true, false, None, List, [], ◌∷◌, ◌++◌, length, drop, refl, sym, ap, subst, ◌∙◌, arith, length-take, length-drop, length-append}
-use Rattle.std.proofs.lemmas.Bool.{eq-eqb, ne_eqb, lt-ltb, le-ltb, le-leb, lt-leb, cases_lt}
-use Rattle.std.proofs.lemmas.List.{drop_at}
-use Rattle.cfd_bits.specs.Field.{field, octets}
+use Rattle.std.proofs.Common.{◌≡◌, ℕ, ◌+◌, ◌*◌, ◌%◌, ◌<◌, ◌≤◌, ◌==◌, false, None, List, ◌++◌, length, drop, refl, sym, ap, subst, ◌∙◌, arith, length-take, length-drop, length-append}
+use Rattle.std.proofs.lemmas.Bool.{eq-eqb, ne_eqb}
+use Rattle.cfd_bits.specs.Field.{field}
 use Rattle.cfd_bits.proofs.Fields.{length-octets}
 use Rattle.aos_frame.specs.Counts.{frame_counts}
 use Rattle.aos_frame.specs.Frame.{IsLink, SpellsFrame, frame_fault}

@@ -1,7 +1,6 @@
 -- Laws of a link's stream.
-use Rattle.std.proofs.Common.{◌≡◌, ℕ, ◌+◌, ◌-◌, ◌*◌, ◌%◌, ◌<◌, ◌≤◌, ◌==◌, nat_le, nat_lt, Bool, true, false, Option, Some, None, IfSome, List, [], ◌∷◌, ◌++◌, ◌⊎◌, length, take, drop, refl, sym, ap, ◌∙◌, arith, length-append, length-drop}
-use Rattle.std.proofs.lemmas.Bool.{le-ltb, le-leb, ne_eqb}
-use Rattle.std.proofs.lemmas.List.{take-append-le, drop-append-le}
+use Rattle.std.proofs.Common.{◌≡◌, ℕ, ◌+◌, ◌*◌, ◌%◌, ◌<◌, ◌≤◌, Bool, true, false, Option, Some, None, IfSome, List, [], ◌∷◌, ◌++◌, ◌⊎◌, length, drop, refl, sym, ap, ◌∙◌, arith, length-append}
+use Rattle.std.proofs.lemmas.Bool.{ne_eqb}
 use Rattle.cfd_bits.specs.Field.{field, octets}
 use Rattle.aos_frame.specs.Counts.{frame_counts}
 use Rattle.aos_frame.specs.Frame.{IsLink, frame_octets}
@@ -9,10 +8,10 @@ use Rattle.aos_frame.specs.declared.config.LinkConfig.{LinkConfig}
 use Rattle.aos_frame.specs.declared.header.FrameHeader.{FrameHeader}
 use Rattle.space_packet.specs.Packet.{SpellsPacket}
 use Rattle.space_packet.proofs.Spelling.{written_packet_is_read}
-use Rattle.mpdu.specs.Stream.{IsPacket, ArePackets, stream, zone, first_header_pointer, begun, is_idle}
+use Rattle.mpdu.specs.Stream.{IsPacket, ArePackets, stream, zone, first_header_pointer, is_idle}
 use Rattle.mpdu.specs.Reading.{held_at}
 use Rattle.mpdu.proofs.Struck.{begun-struck, begun-none}
-use Rattle.mpdu.proofs.Later.{stream-push, ArePackets-push, begun-push, zone-push, pointer-push}
+use Rattle.mpdu.proofs.Later.{ArePackets-push, begun-push, zone-push, pointer-push}
 use Rattle.link_stack.specs.Frames.{packet_drop, AreOfLink, carrying, packet_of, frame_of, pdus_in}
 use Rattle.link_stack.specs.Upward.{LinkReceiverState, IsUp}
 use Rattle.mpdu.specs.Packets.{busy}

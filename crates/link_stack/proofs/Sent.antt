@@ -1,17 +1,16 @@
 -- What the sending end of a link adds to its stream.
-use Rattle.std.proofs.Common.{◌≡◌, ℕ, ◌+◌, ◌-◌, ◌*◌, ◌%◌, ◌<◌, ◌≤◌, Bool, true, false, ◌||◌, ◌==◌, None, List, [], ◌∷◌, ◌++◌, ◌⊎◌, length, take, refl, sym, ap, subst, ◌∙◌, inl, inr, arith, length-append}
+use Rattle.std.proofs.Common.{◌≡◌, ℕ, ◌+◌, ◌*◌, ◌%◌, true, false, None, List, [], ◌∷◌, ◌++◌, ◌⊎◌, refl, sym, ap, subst, ◌∙◌, inl, inr, arith}
 use Rattle.std.proofs.lemmas.Bool.{cases_Bool, eq-eqb}
-use Rattle.std.proofs.lemmas.List.{append-nil, append_assoc, take_at, take_all}
+use Rattle.std.proofs.lemmas.List.{append_assoc}
 use Rattle.cfd_bits.specs.Field.{flag}
 use Rattle.mpdu.specs.MpduHeader.{pointer_octets}
-use Rattle.space_packet.specs.Packet.{Parts, SpellsPacket, idle, packet_octets}
+use Rattle.space_packet.specs.Packet.{Parts, SpellsPacket}
 use Rattle.aos_frame.specs.Counts.{frame_counts}
 use Rattle.aos_frame.specs.Frame.{header_octets, frame_octets}
 use Rattle.aos_frame.specs.declared.config.LinkConfig.{LinkConfig}
-use Rattle.aos_frame.specs.declared.header.FrameHeader.{FrameHeader}
-use Rattle.mpdu.specs.Stream.{is_idle, stream, zone, first_header_pointer}
+use Rattle.mpdu.specs.Stream.{is_idle, first_header_pointer}
 use Rattle.mpdu.specs.Packets.{busy}
-use Rattle.mpdu.specs.Packing.{PackerState, IsAt, ZoneOf, flush_of, idle_packet, idle_len}
+use Rattle.mpdu.specs.Packing.{PackerState, IsAt, ZoneOf}
 use Rattle.link_stack.specs.Frames.{packet_drop, AreOfLink, mpdu_of, frame_of}
 use Rattle.link_stack.specs.Downward.{LinkSenderState, packing, IsDown}
 

@@ -1,6 +1,6 @@
 -- The receiving end of a link: what one frame does to it, whatever it is, and what the frames of a
 -- stream leave.
-use Rattle.std.specs.Prelude.{◌≡◌, ℕ, ◌+◌, ◌-◌, ◌*◌, ◌%◌, ◌<◌, ◌≤◌, Bool, true, false, ◌==◌, ◌&&◌, not, if◌then◌else◌, Option, Some, None, IfSome, List, [], ◌∷◌, ◌++◌, length, take, drop, map, replicate}
+use Rattle.std.specs.Prelude.{◌≡◌, ℕ, ◌+◌, ◌*◌, ◌%◌, ◌<◌, ◌≤◌, Bool, true, false, ◌==◌, ◌&&◌, not, if◌then◌else◌, Option, Some, None, IfSome, List, [], ◌∷◌, ◌++◌, length, take, drop, replicate}
 use Rattle.cfd_bits.specs.Field.{field}
 use Rattle.aos_frame.specs.Counts.{frame_counts, follows}
 use Rattle.aos_frame.specs.Frame.{frame_fault}

@@ -1,4 +1,4 @@
-use Rattle.std.proofs.Common.{◌≡◌, ℕ, ◌∷◌, [], ◌≤◌, List, drop, suc, slice_index_or, refl, arith}
+use Rattle.std.proofs.Common.{◌≡◌, ℕ, ◌∷◌, [], List, drop, suc, slice_index_or, refl, arith}
 use Rattle.std.proofs.lemmas.List.{length-map}
 use Rattle.mpdu.specs.Feeding.{octets_of_each}
 use Rattle.link_stack.proofs.Unpacked.{at_place, unpacked_one}

@@ -1,4 +1,4 @@
-use Rattle.std.proofs.Common.{◌≡◌, ◌-◌, ◌≤◌, ◌++◌, length}
+use Rattle.std.proofs.Common.{◌-◌, length}
 use Rattle.mpdu.specs.Feeding.{octets_of_each}
 use Rattle.link_stack.proofs.Unpacked.{IsUnpacked}
 use Rattle.link_stack.proofs.up.unpack.Given as goal

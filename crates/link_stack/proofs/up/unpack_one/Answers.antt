@@ -1,4 +1,4 @@
-use Rattle.std.proofs.Common.{◌≡◌, ◌∙◌, ◌≤◌, length, drop, sym, ap, arith}
+use Rattle.std.proofs.Common.{◌∙◌, length, drop, sym, ap, arith}
 use Rattle.link_stack.proofs.Unpacked.{long_there, head_is, taken_out, made_pdu}
 use Rattle.link_stack.proofs.up.unpack_one.Goals as goal
 

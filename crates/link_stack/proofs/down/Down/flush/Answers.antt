@@ -1,4 +1,4 @@
-use Rattle.std.proofs.Common.{◌≡◌, ◌≤◌, [], length, ◌++◌, sym, ap, subst, ◌∙◌, arith}
+use Rattle.std.proofs.Common.{◌≡◌, ◌≤◌, [], length, ◌++◌, sym, subst, ◌∙◌}
 use Rattle.mpdu.specs.Packets.{busy}
 use Rattle.mpdu.specs.Packing.{PackerState, IsAt, flush_of}
 use Rattle.link_stack.specs.Downward.{packing}

@@ -1,7 +1,5 @@
-use Rattle.std.proofs.Common.{◌≡◌, ℕ, ◌+◌, ◌*◌, ◌≤◌, ◌%◌, ◌++◌, length, drop, take, ap, sym, subst, ◌∙◌, arith}
-use Rattle.cfd_bits.specs.Field.{octets}
+use Rattle.std.proofs.Common.{◌≡◌, ℕ, ◌+◌, ◌*◌, ◌≤◌, ◌%◌, ◌++◌, length, take, ap, sym, subst, ◌∙◌, arith}
 use Rattle.aos_frame.specs.Counts.{frame_counts}
-use Rattle.aos_frame.specs.Frame.{frame_octets}
 use Rattle.aos_frame.specs.declared.config.LinkConfig.{LinkConfig}
 use Rattle.mpdu.specs.Stream.{stream}
 use Rattle.mpdu.specs.Packing.{IsAt, ZoneOf}

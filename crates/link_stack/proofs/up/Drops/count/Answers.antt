@@ -1,4 +1,4 @@
-use Rattle.std.proofs.Common.{ℕ, ◌≡◌, ◌-◌, List, slice_set, slice_index_or, ap, ◌∙◌}
+use Rattle.std.proofs.Common.{ℕ, ◌-◌, List, slice_set, slice_index_or, ap, ◌∙◌}
 use Rattle.link_stack.specs.Drops.{counted, drop_number, raised}
 use Rattle.link_stack.proofs.up.Drops.count.Goals as goal
 

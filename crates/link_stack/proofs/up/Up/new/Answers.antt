@@ -1,4 +1,4 @@
-use Rattle.std.proofs.Common.{◌≡◌, List, ℕ, [], Option, None, sym, subst, ap, length}
+use Rattle.std.proofs.Common.{List, ℕ, [], Option, None, sym, subst, ap, length}
 use Rattle.link_stack.specs.Upward.{IsUp}
 use Rattle.link_stack.proofs.Grown.{new_is}
 use Rattle.link_stack.proofs.up.Up.new.Goals as goal

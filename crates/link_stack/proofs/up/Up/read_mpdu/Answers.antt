@@ -1,10 +1,10 @@
-use Rattle.std.proofs.Common.{◌≡◌, ◌==◌, ◌-◌, ◌≤◌, ℕ, List, length, take, length-drop, arith, Bool, Option, Some, true, false, if◌then◌else◌, drop, refl, sym, ap, subst, ◌∙◌}
+use Rattle.std.proofs.Common.{◌≡◌, ◌==◌, ◌-◌, ℕ, List, length, take, length-drop, arith, Bool, Option, Some, false, if◌then◌else◌, drop, refl, sym, ap, subst, ◌∙◌}
 use Rattle.std.proofs.lemmas.Bool.{ne_eqb}
 use Rattle.aos_frame.specs.Counts.{follows}
 use Rattle.std.proofs.lemmas.List.{take_all}
 use Rattle.mpdu.specs.MpduHeader.{pointer_of}
 use Rattle.mpdu.specs.Feeding.{octets_of_each}
-use Rattle.link_stack.specs.Upward.{LinkReceiverState, FrameRead, idle_read, packets_read, mpdu_read, TakesFront}
+use Rattle.link_stack.specs.Upward.{LinkReceiverState, idle_read, packets_read, mpdu_read, TakesFront}
 use Rattle.link_stack.proofs.Taking.{front_again}
 use Rattle.link_stack.proofs.up.Up.read_mpdu.Goals as goal
 

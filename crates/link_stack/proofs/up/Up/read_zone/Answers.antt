@@ -1,4 +1,4 @@
-use Rattle.std.proofs.Common.{◌≡◌, ◌≤◌, length, sym, subst, ◌∙◌, refl}
+use Rattle.std.proofs.Common.{length, sym, subst, ◌∙◌, refl}
 use Rattle.std.proofs.lemmas.List.{length-map}
 use Rattle.mpdu.specs.Feeding.{octets_of_each}
 use Rattle.mpdu.specs.Reading.{reading, to_read, held_at}
