@@ -104,6 +104,13 @@ fn a_pdu_goes_down_in_frames(rt: HostRuntime) -> Result<(), Fail> {
     )?;
     assert!(rt; frames[0] == first);
     assert!(rt; frames[1] == second);
+    let (up, out) = taken(alloc, &frames, 0b11)?;
+    assert!(rt; out.len() == 1 && out[0] == octets(alloc, METADATA)?);
+    assert_eq!(rt; only_drop(&up), 0);
+    // Without the first frame nothing comes up, and nothing is known to be missing.
+    let (up, out) = taken(alloc, &frames, 0b10)?;
+    assert!(rt; out.is_empty());
+    assert_eq!(rt; only_drop(&up), 0);
     Ok(())
 }
 
