@@ -17,7 +17,8 @@ abbrev pub continuity : ℕ → Continuity
 continuity zero = Follows
 continuity (suc n) = Gap (suc n)
 
--- whether a frame with this count follows the last one seen: none is missing between them, or none was seen
+-- whether a frame with this count follows the last one seen: none is missing between them, or none
+-- was seen
 abbrev pub follows : Option ℕ → ℕ → Bool
 follows None count = true
 follows (Some last) count = (last + 1) % frame_counts == count

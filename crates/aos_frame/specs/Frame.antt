@@ -1,5 +1,5 @@
--- An AOS transfer frame with a packet zone: which octets are which frame of a link, and what is wrong with octets that are none
--- (CCSDS 732.0-B-4, 4.1).
+-- An AOS transfer frame with a packet zone: which octets are which frame of a link, and what is
+-- wrong with octets that are none (CCSDS 732.0-B-4, 4.1).
 use Rattle.std.specs.Prelude.{◌≡◌, ℕ, ◌+◌, ◌*◌, ◌<◌, ◌≤◌, List, ◌++◌, codes, length, Option, Some, None, ◌==◌, not, if◌then◌else◌}
 use Rattle.cfd_bits.specs.Field.{field, octets}
 use Rattle.aos_frame.specs.Counts.{frame_counts}
@@ -23,8 +23,8 @@ pub record IsLink (link : LinkConfig) : Type 0 where
   pub most_zone : link.zone ≤ 2040
   pub apid : link.apid ≤ 2046
 
--- The octets are a frame of the link with this header. Bit 41, the usage flag of the count cycle, and bits 44 to 47, the count cycle, are
--- in no line: they are read as anything.
+-- The octets are a frame of the link with this header. Bit 41, the usage flag of the count cycle,
+-- and bits 44 to 47, the count cycle, are in no line: they are read as anything.
 pub record SpellsFrame (link : LinkConfig) (h : FrameHeader) (text : List ℕ) : Type 0 where
   pub size : length text ≡ frame_len link
   -- 4.1.2.2, the transfer frame version number and the spacecraft identifier

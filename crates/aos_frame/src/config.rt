@@ -13,7 +13,8 @@ pub struct LinkConfig {
     pub channel: u8,
     /// Octets of the packet zone, 16 to 2,040. A frame has 8 octets more.
     pub zone: u16,
-    /// The application process identifier of the packets, 0 to 2,046; 2,047 is that of idle packets.
+    /// The application process identifier of the packets, 0 to 2,046; 2,047 is that of idle
+    /// packets.
     pub apid: u16,
 }
 

@@ -1,4 +1,5 @@
-//! The frame counts of a virtual channel, and what is missing between two of them (CCSDS 732.0-B-4, 4.1.2.4).
+//! The frame counts of a virtual channel, and what is missing between two of them (CCSDS 732.0-B-4,
+//! 4.1.2.4).
 ghost use Rattle.std.specs.Prelude.{◌≡◌, ◌↔◌, ℕ, ◌+◌, ◌%◌, ◌<◌, IsTrue, Some, None, IfSome};
 ghost use Rattle.aos_frame.specs.Counts.{frame_counts, AreMissing, continuity, follows};
 ghost use Rattle.aos_frame.specs.declared.count.Continuity.TheVariants.{Follows};
@@ -82,12 +83,14 @@ impl VcMonitor {
         VcMonitor { last: None }
     }
 
-    /// How a frame with this count goes on from the last one seen. The count is below [`FRAME_COUNTS`], as `decode` answers it.
+    /// How a frame with this count goes on from the last one seen. The count is below
+    /// [`FRAME_COUNTS`], as `decode` answers it.
     pub fn see(&mut self, count: u32) -> Continuity
         requires { count < frame_counts }
         ensures first { self.old ≡ None → result ≡ Follows }
         // The number that is missing, and no other is, decides the answer.
-        ensures told { IfSome self.old (λ last. (n : ℕ) → AreMissing last count n → result ≡ continuity n) }
+        ensures told { IfSome self.old (λ last. (n : ℕ) → AreMissing last count n → result
+            ≡ continuity n) }
         ensures follows { (result ≡ Follows) ↔ IsTrue (follows self.old count) }
         ensures seen { self.new ≡ Some count }
     {
@@ -103,7 +106,8 @@ impl VcMonitor {
         }
     }
 
-    /// Whether a frame with this count follows the last one seen: whether `see` answers [`Continuity::Follows`]. The count is seen by it too.
+    /// Whether a frame with this count follows the last one seen: whether `see` answers
+    /// [`Continuity::Follows`]. The count is seen by it too.
     pub fn follows(&mut self, count: u32) -> bool
         requires { count < frame_counts }
         ensures told { result ≡ follows self.old count }

@@ -4,7 +4,8 @@ ghost use Rattle.aos_frame.specs.Frame.{refusal_number, refusal_name};
 
 use thiserror::Error;
 
-/// Why octets are no frame of a link: the first cause that holds, in the order in which they stand here.
+/// Why octets are no frame of a link: the first cause that holds, in the order in which they stand
+/// here.
 #[derive(Clone, Copy, Debug, PartialEq, Eq, Error)]
 pub enum FrameError {
     /// The octets aren't as many as those of a frame of the link.
@@ -13,7 +14,8 @@ pub enum FrameError {
     /// The transfer frame version number isn't `01` (CCSDS 732.0-B-4, 4.1.2.2.2).
     #[error("the transfer frame version number is not 01")]
     Version,
-    /// The replay flag is 1, or the two bits behind the usage flag of the count cycle aren't `00` (CCSDS 732.0-B-4, 4.1.2.5).
+    /// The replay flag is 1, or the two bits behind the usage flag of the count cycle aren't `00`
+    /// (CCSDS 732.0-B-4, 4.1.2.5).
     #[error("the frame is replayed, or a reserved bit of its header is set")]
     OtherProfile,
     /// The frame is of another spacecraft.

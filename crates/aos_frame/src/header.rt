@@ -16,24 +16,28 @@ pub const HEADER_LEN: usize = 6;
 /// The virtual channel whose frames hold only idle data (CCSDS 732.0-B-4, 4.1.2.3).
 pub const IDLE_CHANNEL: u8 = 63;
 
-/// The primary header of an AOS transfer frame, as far as it differs between frames (CCSDS 732.0-B-4, 4.1.2).
+/// The primary header of an AOS transfer frame, as far as it differs between frames (CCSDS
+/// 732.0-B-4, 4.1.2).
 #[derive(Clone, Copy, Debug, PartialEq, Eq)]
 pub struct FrameHeader {
     /// The spacecraft identifier, 0 to 255.
     pub spacecraft: u8,
-    /// The virtual channel identifier, 0 to 62. Frames of [`IDLE_CHANNEL`] are neither written nor read.
+    /// The virtual channel identifier, 0 to 62. Frames of [`IDLE_CHANNEL`] are neither written nor
+    /// read.
     pub channel: u8,
     /// The virtual channel frame count, below [`FRAME_COUNTS`](crate::FRAME_COUNTS).
     pub count: u32,
 }
 
 impl FrameHeader {
-    /// The header of a whole frame with a packet zone of `zone` octets, whatever its spacecraft and channel are, and the octets behind it: the
-    /// M_PDU header and the packet zone. It is what [`decode`](crate::decode) answers for the link that the frame itself names.
+    /// The header of a whole frame with a packet zone of `zone` octets, whatever its spacecraft and
+    /// channel are, and the octets behind it: the M_PDU header and the packet zone. It is what
+    /// [`decode`](crate::decode) answers for the link that the frame itself names.
     ///
     /// # Errors
     ///
-    /// The first of these that holds, in this order: `Length`, `Version`, `OtherProfile`, `OnlyIdle`.
+    /// The first of these that holds, in this order: `Length`, `Version`, `OtherProfile`,
+    /// `OnlyIdle`.
     pub fn read(frame: &[u8], zone: u16) -> Result<(FrameHeader, &[u8]), FrameError>
         ensures found { IfOk result (λ x. SpellsFrame (own_link frame.now zone) x.0 frame.now) }
         // The M_PDU header and the packet zone.
@@ -41,10 +45,12 @@ impl FrameHeader {
         ensures len { IfOk result (λ x. length x.1.now ≡ 2 + zone) }
         // What was read can be written.
         ensures fits { IfOk result (λ x. FitsHeader x.0) }
-        ensures only { (h : FrameHeader) → SpellsFrame (own_link frame.now zone) h frame.now → IsOkAnd result (λ x. x.0 ≡ h) }
+        ensures only { (h : FrameHeader) → SpellsFrame (own_link frame.now zone) h frame.now →
+            IsOkAnd result (λ x. x.0 ≡ h) }
         ensures refused { result_err result ≡ frame_fault frame.now (own_link frame.now zone) }
         // It is of the link that it names.
-        ensures own { (result_err result ≢ Some OtherSpacecraft) × (result_err result ≢ Some OtherChannel) }
+        ensures own { (result_err result ≢ Some OtherSpacecraft)
+            × (result_err result ≢ Some OtherChannel) }
     {
         if frame.len() < HEADER_LEN {
             return Err(FrameError::Length);
@@ -58,7 +64,8 @@ impl FrameHeader {
         crate::decode(frame, &own)
     }
 
-    /// Whether each part fits its field, and the channel carries packets, as `encode` asks: so it is of each header that was read.
+    /// Whether each part fits its field, and the channel carries packets, as `encode` asks: so it
+    /// is of each header that was read.
     pub fn is_writable(&self) -> bool
         ensures { IsTrue result ↔ FitsHeader self.now }
     {

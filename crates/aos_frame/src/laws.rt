@@ -5,22 +5,26 @@ ghost use Rattle.aos_frame.specs.declared.config.LinkConfig.{LinkConfig};
 ghost use Rattle.aos_frame.specs.Counts.{frame_counts, AreMissing};
 ghost use Rattle.aos_frame.specs.Frame.{SpellsFrame, FitsHeader, frame_octets};
 
-/// What is written of a header of the link, with the M_PDU header and the packet zone behind it, spells that header, so `decode` answers
-/// it and what stands behind it.
+/// What is written of a header of the link, with the M_PDU header and the packet zone behind it,
+/// spells that header, so `decode` answers it and what stands behind it.
 pub fn written_frame_is_read()
-    ensures { (link : LinkConfig) (h : FrameHeader) (rest : List ℕ) → FitsHeader h → h.spacecraft ≡ link.spacecraft → h.channel ≡ link.channel
+    ensures { (link : LinkConfig) (h : FrameHeader) (rest : List ℕ) → FitsHeader h → h.spacecraft
+        ≡ link.spacecraft → h.channel ≡ link.channel
         → length rest ≡ 2 + link.zone → SpellsFrame link h (frame_octets h rest) × (drop 6 (frame_octets h rest) ≡ rest) }
 {}
 
 /// Octets are a frame of the link with one header at most.
 pub fn a_frame_has_one_header()
-    ensures { (link : LinkConfig) (h k : FrameHeader) (text : List ℕ) → SpellsFrame link h text → SpellsFrame link k text → h ≡ k }
+    ensures { (link : LinkConfig) (h k : FrameHeader) (text : List ℕ) → SpellsFrame link h text →
+        SpellsFrame link k text → h ≡ k }
 {}
 
-/// Between two counts one number of counts is missing, and no other is. Where some frames of a channel in a row are lost, fewer than there
-/// are counts, it is how many they are.
+/// Between two counts one number of counts is missing, and no other is. Where some frames of a
+/// channel in a row are lost, fewer than there are counts, it is how many they are.
 pub fn one_number_is_missing()
-    ensures lost { (n lost : ℕ) → lost < frame_counts → AreMissing (n % frame_counts) ((n + 1 + lost) % frame_counts) lost }
-    ensures some { (last count : ℕ) → last < frame_counts → count < frame_counts → (n : ℕ) × AreMissing last count n }
+    ensures lost { (n lost : ℕ) → lost < frame_counts →
+        AreMissing (n % frame_counts) ((n + 1 + lost) % frame_counts) lost }
+    ensures some { (last count : ℕ) → last < frame_counts → count < frame_counts → (n : ℕ)
+        × AreMissing last count n }
     ensures one { (last count n m : ℕ) → AreMissing last count n → AreMissing last count m → n ≡ m }
 {}

@@ -1,8 +1,11 @@
-//! AOS transfer frames with packet zones (CCSDS 732.0-B-4): their headers, their counts, and the counts that are missing.
+//! AOS transfer frames with packet zones (CCSDS 732.0-B-4): their headers, their counts, and the
+//! counts that are missing.
 //!
-//! None of these calls takes memory: what stands behind a frame's header is borrowed from the octets that it was read from.
+//! None of these calls takes memory: what stands behind a frame's header is borrowed from the
+//! octets that it was read from.
 //!
-//! The two ends of a link agree on a [`LinkConfig`]. One end writes a header in front of each M_PDU, and the other reads it:
+//! The two ends of a link agree on a [`LinkConfig`]. One end writes a header in front of each
+//! M_PDU, and the other reads it:
 //!
 //! ```
 //! let mut counter = VcCounter::new();
@@ -40,15 +43,16 @@ pub use laws::{a_frame_has_one_header, one_number_is_missing, written_frame_is_r
 /// Octets of the M_PDU header, in front of the packet zone (CCSDS 732.0-B-4, 4.1.4.2).
 const MPDU_HEADER_LEN: usize = 2;
 
-/// The header of a whole frame of the link, and the octets behind it: the M_PDU header and the packet zone.
+/// The header of a whole frame of the link, and the octets behind it: the M_PDU header and the
+/// packet zone.
 ///
-/// Of the 2 octets of the M_PDU header the last 11 bits are the first header pointer. The usage flag of the count cycle, and the count
-/// cycle, are read as anything.
+/// Of the 2 octets of the M_PDU header the last 11 bits are the first header pointer. The usage
+/// flag of the count cycle, and the count cycle, are read as anything.
 ///
 /// # Errors
 ///
-/// The first of these that holds, in this order: `Length`, `Version`, `OtherProfile`, `OtherSpacecraft`, `OnlyIdle`, `OtherChannel`.
-/// `FrameError` says what each means.
+/// The first of these that holds, in this order: `Length`, `Version`, `OtherProfile`,
+/// `OtherSpacecraft`, `OnlyIdle`, `OtherChannel`. `FrameError` says what each means.
 pub fn decode<'a>(bytes: &'a [u8], link: &LinkConfig) -> Result<(FrameHeader, &'a [u8]), FrameError>
     // What is answered is spelled so.
     ensures found { IfOk result (λ x. SpellsFrame link.now x.0 bytes.now) }
@@ -58,7 +62,8 @@ pub fn decode<'a>(bytes: &'a [u8], link: &LinkConfig) -> Result<(FrameHeader, &'
     // What was read can be written.
     ensures fits { IfOk result (λ x. FitsHeader x.0) }
     // What is spelled so is answered.
-    ensures only { (h : FrameHeader) → SpellsFrame link.now h bytes.now → IsOkAnd result (λ x. x.0 ≡ h) }
+    ensures only { (h : FrameHeader) → SpellsFrame link.now h bytes.now →
+        IsOkAnd result (λ x. x.0 ≡ h) }
     // Which refusal it is.
     ensures refused { result_err result ≡ frame_fault bytes.now link.now }
 {
@@ -90,7 +95,8 @@ pub fn decode<'a>(bytes: &'a [u8], link: &LinkConfig) -> Result<(FrameHeader, &'
     Ok((header, &bytes[HEADER_LEN..]))
 }
 
-/// Writes the header, which [`FrameHeader::is_writable`] tests, into the first 6 octets: usage flag 0, count cycle 0. The octets behind stay.
+/// Writes the header, which [`FrameHeader::is_writable`] tests, into the first 6 octets: usage flag
+/// 0, count cycle 0. The octets behind stay.
 pub fn encode(header: &FrameHeader, out: &mut [u8])
     requires fits { FitsHeader header.now }
     requires room { 6 ≤ length out.old }

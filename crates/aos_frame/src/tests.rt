@@ -14,7 +14,8 @@ const LINK: LinkConfig = LinkConfig {
 /// The octets of a frame of the link.
 const FRAME_LEN: usize = 40;
 
-/// A caller that needs no lemma, but only the law of written frames: the header that it writes it reads.
+/// A caller that needs no lemma, but only the law of written frames: the header that it writes it
+/// reads.
 fn written_and_read(header: &FrameHeader, frame: &mut [u8], link: &LinkConfig) -> u32
     requires fits { FitsHeader header.now }
     requires spacecraft { header.now.spacecraft ≡ link.now.spacecraft }

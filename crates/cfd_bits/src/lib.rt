@@ -1,8 +1,9 @@
 //! Bit fields of octets, and whole numbers in octets, the most significant bit and octet first.
 //!
-//! Every codec of the stack reads and writes by these calls. Bits are numbered as the CCSDS books number them: bit 0 is the most significant
-//! bit of the first octet, and the first bit of a field is its most significant (CCSDS 133.0-B-2, 1.6.3). None of the calls takes memory or
-//! can fail: that a range lies in the octets, and that a value fits its field, are conditions of the caller.
+//! Every codec of the stack reads and writes by these calls. Bits are numbered as the CCSDS books
+//! number them: bit 0 is the most significant bit of the first octet, and the first bit of a field
+//! is its most significant (CCSDS 133.0-B-2, 1.6.3). None of the calls takes memory or can fail:
+//! that a range lies in the octets, and that a value fits its field, are conditions of the caller.
 #![tactic(auto)]
 
 ghost use Rattle.std.specs.Prelude.{◌≡◌, ℕ, ◌+◌, ◌-◌, ◌*◌, ◌/◌, ◌%◌, ◌^◌, ◌<◌, ◌≤◌, ◌++◌, length, take, drop};
@@ -14,7 +15,8 @@ mod tests;
 
 pub use laws::{a_field_is_its_bits, octets_read_are_written, what_is_written_is_read};
 
-/// The number that `width` bits (0 to 64) from bit `at_bit` on spell, the first of them the most significant.
+/// The number that `width` bits (0 to 64) from bit `at_bit` on spell, the first of them the most
+/// significant.
 #[inline]
 #[tactic(auto, using(crate::proofs::Steps::field_none))]
 pub fn get(bytes: &[u8], at_bit: usize, width: usize) -> u64
@@ -101,7 +103,8 @@ fn with_bits(octet: u8, from: usize, width: usize, value: u8) -> u8
     ((((front << width) + u32::from(value)) << behind) + back) as u8
 }
 
-/// Writes the number into the first `count` octets (0 to 8), the most significant first. The octets behind stay.
+/// Writes the number into the first `count` octets (0 to 8), the most significant first. The octets
+/// behind stay.
 #[tactic(auto, using(crate::proofs::Steps::octets_more, crate::proofs::Steps::octets_none))]
 pub fn write_uint(out: &mut [u8], count: usize, value: u64)
     requires room { count ≤ length out.old }
@@ -116,8 +119,9 @@ pub fn write_uint(out: &mut [u8], count: usize, value: u64)
     }
 }
 
-/// Writes the number into `count` octets (0 to 8) from octet `at` on, the most significant first, and says where they end: so a codec
-/// writes one part behind another. The octets before and behind stay.
+/// Writes the number into `count` octets (0 to 8) from octet `at` on, the most significant first,
+/// and says where they end: so a codec writes one part behind another. The octets before and behind
+/// stay.
 pub fn put_uint(out: &mut [u8], at: usize, count: usize, value: u64) -> usize
     requires room { at + count ≤ length out.old }
     requires narrow { count ≤ 8 }
@@ -131,7 +135,8 @@ pub fn put_uint(out: &mut [u8], at: usize, count: usize, value: u64) -> usize
     end
 }
 
-/// Writes the octets from octet `at` on, and says where they end. The octets before and behind stay.
+/// Writes the octets from octet `at` on, and says where they end. The octets before and behind
+/// stay.
 pub fn put_bytes(out: &mut [u8], at: usize, bytes: &[u8]) -> usize
     requires room { at + length bytes.now ≤ length out.old }
     ensures end { result ≡ at + length bytes.now }

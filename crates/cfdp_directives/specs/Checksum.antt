@@ -1,5 +1,5 @@
--- The modular checksum (CCSDS 727.0-B-5, 4.2.2): the file as words of four octets, the last filled with zeros, summed
--- modulo 2^32. An octet at offset n counts 256^(3 - n mod 4) in its word.
+-- The modular checksum (CCSDS 727.0-B-5, 4.2.2): the file as words of four octets, the last filled
+-- with zeros, summed modulo 2^32. An octet at offset n counts 256^(3 - n mod 4) in its word.
 use Rattle.std.specs.Prelude.{◌≡◌, ℕ, ◌+◌, ◌-◌, ◌*◌, ◌%◌, ◌^◌, ◌<◌, ◌≤◌, Bool, List, [], ◌∷◌, length, take, drop, fold, count_by, nat_le, nat_lt, ◌&&◌, ◌==◌, if◌then◌else◌}
 use Rattle.std.specs.List.{AllByRecursion}
 use Rattle.cfdp_directives.specs.Codes.{modular}

@@ -18,8 +18,9 @@ goes_toward_sender _ = false
 abbrev pub direction_fits : Header → Content → Bool
 direction_fits h v = beq h.toward_sender (goes_toward_sender v)
 
--- whether a PDU with this header is for the entity `own`, from the entity `peer`: toward the sender it
--- goes from the destination to the source, toward the receiver from the source to the destination
+-- whether a PDU with this header is for the entity `own`, from the entity `peer`: toward the sender
+-- it goes from the destination to the source, toward the receiver from the source to the
+-- destination
 abbrev pub is_for : ℕ → ℕ → Header → Bool
 is_for own peer h =
     if h.toward_sender

@@ -1,4 +1,5 @@
--- What is wrong with octets that are no PDU: the first fault, in the order in which faults are told.
+-- What is wrong with octets that are no PDU: the first fault, in the order in which faults are
+-- told.
 use Rattle.std.specs.Prelude.{ℕ, ◌+◌, ◌-◌, ◌*◌, ◌%◌, Bool, false, List, [], ◌∷◌, length, drop, Option, Some, None, is_none, ◌==◌, nat_lt, nat_le, not, ◌&&◌, if◌then◌else◌, codes}
 use Rattle.cfd_bits.specs.Field.{field}
 use Rattle.cfdp_header.specs.declared.error.HeaderError.{HeaderError}

@@ -1,5 +1,5 @@
--- Which octets are which PDU, by the bit fields of the standard's tables. Spare bits are in no line: they are read as
--- anything.
+-- Which octets are which PDU, by the bit fields of the standard's tables. Spare bits are in no
+-- line: they are read as anything.
 use Rattle.std.specs.Prelude.{◌≡◌, ℕ, ◌+◌, ◌*◌, ◌≤◌, Bool, false, List, ◌∷◌, ◌++◌, length, drop, if◌then◌else◌}
 use Rattle.std.specs.List.{flat_map}
 use Rattle.cfd_bits.specs.Field.{field, flag}
@@ -14,8 +14,8 @@ use Rattle.cfdp_directives.specs.Tlv.{Tlv, tlv}
 use Rattle.cfdp_directives.specs.Pair.{ArePairs}
 use Rattle.cfdp_directives.specs.Content.{Content, FileData, Metadata, Eof, Finished, Ack, Nak, Prompt, KeepAlive, is_file_data}
 
--- octets of a file-size field, FSS, in a PDU with this header (CCSDS 727.0-B-5, 5.1.10): a header with the large file
--- flag is never read
+-- octets of a file-size field, FSS, in a PDU with this header (CCSDS 727.0-B-5, 5.1.10): a header
+-- with the large file flag is never read
 abbrev pub fss : Header → ℕ
 fss h = file_size_octets
 

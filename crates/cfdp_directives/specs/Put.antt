@@ -9,8 +9,8 @@ use Rattle.cfdp_directives.specs.Content.{Content, FileData, Metadata, Eof}
 use Rattle.cfdp_directives.specs.Grammar.{SpellsPdu}
 use Rattle.cfdp_directives.specs.Checksum.{checksum_of}
 
--- An accepted put: its id, the names, the octets that the outbox of its station has under the source
--- name, and the checksum type that its station is configured with.
+-- An accepted put: its id, the names, the octets that the outbox of its station has under the
+-- source name, and the checksum type that its station is configured with.
 pub record Put : Type 0 where
   pub id : TransactionId
   pub source : List ℕ
@@ -19,8 +19,8 @@ pub record Put : Type 0 where
   pub checksum_kind : ℕ
 
 -- What is said of the put is so: Metadata has its names, size and checksum type, file data are the
--- file's at that offset, and an EOF without an error has the file's size and checksum (CCSDS 727.0-B-5,
--- 4.6.1.1). Other PDUs say nothing of the file.
+-- file's at that offset, and an EOF without an error has the file's size and checksum (CCSDS
+-- 727.0-B-5, 4.6.1.1). Other PDUs say nothing of the file.
 abbrev pub IsTruthful : Put → Content → Type 0
 IsTruthful put (Metadata kind size source destination options) =
     (kind ≡ put.checksum_kind) × (size ≡ length put.octets)
@@ -53,8 +53,8 @@ Brings put n h (FileData offset bytes) =
     × IsTruthful put (FileData offset bytes)
 Brings put n h _ = ⊥
 
--- The put was heard in full: among the PDUs are its Metadata, its EOF without an error, and file data
--- that cover every offset of the file, all of them truthful.
+-- The put was heard in full: among the PDUs are its Metadata, its EOF without an error, and file
+-- data that cover every offset of the file, all of them truthful.
 pub record HeardInFull (put : Put) (pdus : List (List ℕ)) : Type 0 where
   pub metadata : SomePdu (IsMetadataOf put) pdus
   pub ending : SomePdu (IsEofOf put) pdus
@@ -65,8 +65,8 @@ abbrev pub overwritten : FileMap → Option Put → FileMap
 overwritten files None = files
 overwritten files (Some put) = insert files put.destination put.octets
 
--- the inbox after these completions: the first files, overwritten in turn by the files of the puts that
--- the ids name
+-- the inbox after these completions: the first files, overwritten in turn by the files of the puts
+-- that the ids name
 abbrev pub inbox_after : (TransactionId → Option Put) → FileMap → List TransactionId → FileMap
 inbox_after put_of first [] = first
 inbox_after put_of first (id ∷ ids) = inbox_after put_of (overwritten first (put_of id)) ids

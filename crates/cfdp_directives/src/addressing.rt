@@ -12,8 +12,9 @@ use crate::pdu::Pdu;
 use crate::writing::encode;
 use cfdp_header::{Header, TransactionId, fits_width};
 
-/// What the headers of a transaction's PDUs have in common: the two entities, the transaction's number, and how wide
-/// they are written (CCSDS 727.0-B-5, table 5-1). It makes the header of each PDU, and writes PDUs.
+/// What the headers of a transaction's PDUs have in common: the two entities, the transaction's
+/// number, and how wide they are written (CCSDS 727.0-B-5, table 5-1). It makes the header of each
+/// PDU, and writes PDUs.
 #[derive(Clone, Copy, Debug, PartialEq, Eq)]
 pub struct Addressing {
     /// The transaction. Its source is the file's sender.
@@ -39,7 +40,8 @@ impl Addressing {
         }
     }
 
-    /// Whether PDUs can be written with it: both widths are 1 to 8 octets, and the ids and the number fit them.
+    /// Whether PDUs can be written with it: both widths are 1 to 8 octets, and the ids and the
+    /// number fit them.
     pub fn is_writable(&self) -> bool
         ensures { IsTrue result ↔ FitsAddressing self.now }
     {
@@ -73,8 +75,8 @@ impl Addressing {
         Header::len_in_widths(self.id_width, self.number_width) + pdu.len()
     }
 
-    /// Writes a PDU with its header into the first octets of `out`, and says how many they are. The octets behind stay. Takes no
-    /// memory.
+    /// Writes a PDU with its header into the first octets of `out`, and says how many they are. The
+    /// octets behind stay. Takes no memory.
     #[tactic(auto, using(crate::proofs::Addressed::can_write))]
     pub fn write_pdu(&self, pdu: &Pdu<'_>, out: &mut [u8]) -> usize
         requires addressing { FitsAddressing self.now }
@@ -82,7 +84,8 @@ impl Addressing {
         requires short { content_len file_size_octets (view pdu.now) < 2 ^ 16 }
         requires room { addressings.written_len self.now (view pdu.now) ≤ length out.old }
         ensures end { result ≡ addressings.written_len self.now (view pdu.now) }
-        ensures front { let v = view pdu.now in take result out.new ≡ pdu_octets (addressings.header_of self.now v) v }
+        ensures front { let v = view pdu.now in take result out.new
+            ≡ pdu_octets (addressings.header_of self.now v) v }
         ensures behind { drop result out.new ≡ drop result out.old }
     {
         let header = self.header_of(pdu);
@@ -90,16 +93,20 @@ impl Addressing {
     }
 }
 
-/// A law: a PDU whose ids, number and fields fit can be written behind the header that `header_of` makes.
+/// A law: a PDU whose ids, number and fields fit can be written behind the header that `header_of`
+/// makes.
 #[tactic(auto, using(crate::proofs::Addressed::can_write))]
 pub fn addressed_pdu_can_be_written()
-    ensures { (a : Addressing) (v : Content) → FitsAddressing a → FitsContent file_size_octets v → content_len file_size_octets v < 2 ^ 16
+    ensures { (a : Addressing) (v : Content) → FitsAddressing a → FitsContent file_size_octets v →
+        content_len file_size_octets v < 2 ^ 16
         → CanWrite (addressings.header_of a v) v }
 {}
 
-/// A law: the header that `header_of` makes has the direction bit of its PDU, and the PDU is for the entity that it goes to.
+/// A law: the header that `header_of` makes has the direction bit of its PDU, and the PDU is for
+/// the entity that it goes to.
 pub fn addressed_pdu_goes_to_the_other_end()
-    ensures fits { (a : Addressing) (v : Content) → directions.direction_fits (addressings.header_of a v) v ≡ true }
+    ensures fits { (a : Addressing) (v : Content) →
+        directions.direction_fits (addressings.header_of a v) v ≡ true }
     ensures toward_sender { (a : Addressing) (v : Content) → goes_toward_sender v ≡ true
         → directions.is_for a.id.source a.destination (addressings.header_of a v) ≡ true }
     ensures toward_receiver { (a : Addressing) (v : Content) → goes_toward_sender v ≡ false

@@ -3,8 +3,8 @@ ghost use Rattle.cfdp_directives.specs.Checksum.{sum_at, modular_checksum, Piece
 
 use std::marker::Model;
 
-/// The modular checksum of what was added so far (CCSDS 727.0-B-5, 4.2.2). Pieces of a file may come in any order,
-/// each octet once. Contracts see it as its number.
+/// The modular checksum of what was added so far (CCSDS 727.0-B-5, 4.2.2). Pieces of a file may
+/// come in any order, each octet once. Contracts see it as its number.
 #[derive(Clone, Copy, Debug, PartialEq, Eq)]
 pub struct Checksum {
     sum: u32,
@@ -54,12 +54,15 @@ fn sum_with(old: u32, offset: u64, bytes: &[u8]) -> u32
     sum
 }
 
-/// A law: however a file is cut, and in whatever order its pieces are added, their sum is its modular checksum.
+/// A law: however a file is cut, and in whatever order its pieces are added, their sum is its
+/// modular checksum.
 pub fn cut_file_has_its_checksum()
-    ensures { (file : List ℕ) (pieces : List Piece) → Cuts file pieces → sum_of pieces ≡ modular_checksum file }
+    ensures { (file : List ℕ) (pieces : List Piece) → Cuts file pieces → sum_of pieces
+        ≡ modular_checksum file }
 {}
 
 /// A law: a whole file, added at once at offset 0, gives its modular checksum.
 pub fn whole_file_has_its_checksum()
-    ensures { (file : List ℕ) → added 0 (record { offset = 0; bytes = file }) ≡ modular_checksum file }
+    ensures { (file : List ℕ) → added 0 (record { offset = 0; bytes = file })
+        ≡ modular_checksum file }
 {}

@@ -4,7 +4,8 @@ ghost use Rattle.cfdp_directives.specs.Codes.{file_size_octets, IsCondition, del
 
 use std::marker::Model;
 
-/// Octets of a file-size field, as an offset, where the file is not large (CCSDS 727.0-B-5, 5.1.10): in every PDU of this stack.
+/// Octets of a file-size field, as an offset, where the file is not large (CCSDS 727.0-B-5,
+/// 5.1.10): in every PDU of this stack.
 pub const FILE_SIZE_OCTETS: usize = 4;
 
 /// The largest number that a file-size field holds.
@@ -17,8 +18,8 @@ pub fn is_file_size(value: u64) -> bool
     value <= LARGEST_SIZE
 }
 
-/// Why a transaction ended, or what went wrong in it: a condition code of 4 bits (CCSDS 727.0-B-5, table 5-5).
-/// Codes 12 and 13 are never one.
+/// Why a transaction ended, or what went wrong in it: a condition code of 4 bits (CCSDS 727.0-B-5,
+/// table 5-5). Codes 12 and 13 are never one.
 #[derive(Clone, Copy, Debug, PartialEq, Eq)]
 pub struct Condition {
     code: u8,

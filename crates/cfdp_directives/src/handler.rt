@@ -20,7 +20,8 @@ impl Handler {
     pub fn from_number(number: u8) -> Option<Handler>
         ensures some { IsSome result ↔ (number < 4) }
         ensures found { IfSome result (λ handler. handler_number handler ≡ number) }
-        ensures only { (handler : Handler) → handler_number handler ≡ number → result ≡ Some handler }
+        ensures only { (handler : Handler) → handler_number handler ≡ number → result
+            ≡ Some handler }
     {
         match number {
             0 => Some(Handler::Cancel),
@@ -31,8 +32,8 @@ impl Handler {
         }
     }
 
-    /// The number by which a configuration names it: 0 to 3. It isn't the code in a fault handler override
-    /// (CCSDS 727.0-B-5, 5.4.4), an option that this stack neither sends nor carries out.
+    /// The number by which a configuration names it: 0 to 3. It isn't the code in a fault handler
+    /// override (CCSDS 727.0-B-5, 5.4.4), an option that this stack neither sends nor carries out.
     pub fn number(self) -> u8
         ensures value { result ≡ handler_number self }
         ensures range { result < 4 }
@@ -49,7 +50,8 @@ impl Handler {
 /// What is done about each fault for which an entity has a choice. About any other it cancels.
 #[derive(Clone, Copy, Debug, PartialEq, Eq)]
 pub struct Handlers {
-    /// An EOF or a Finished was sent as often as its limit allows, and not acknowledged: condition 1.
+    /// An EOF or a Finished was sent as often as its limit allows, and not acknowledged: condition
+    /// 1.
     pub ack: Handler,
     /// NAKs were sent as often as their limit allows, and nothing new came: condition 7.
     pub nak: Handler,

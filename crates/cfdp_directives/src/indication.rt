@@ -28,14 +28,15 @@ pub enum Indication {
         delivery: Delivery,
         status: FileStatus,
     },
-    /// The transaction is suspended: until it is resumed nothing of it is sent, and no time runs for it. The condition says why:
-    /// 14 where the user asked for it, otherwise that of the fault.
+    /// The transaction is suspended: until it is resumed nothing of it is sent, and no time runs
+    /// for it. The condition says why: 14 where the user asked for it, otherwise that of the fault.
     Suspended(TransactionId, Condition),
     /// The transaction goes on after it was suspended.
     Resumed(TransactionId),
     /// Something went wrong.
     Fault(TransactionId, Condition),
-    /// The transaction was given up because of this condition: it is closed here, and the other entity isn't told.
+    /// The transaction was given up because of this condition: it is closed here, and the other
+    /// entity isn't told.
     Abandoned(TransactionId, Condition),
     /// The receiver says up to which offset it holds the file.
     Progress(TransactionId, u64),

@@ -1,4 +1,5 @@
-// The length of a data field, known before its PDU is made: for a sender that asks whether the next PDU has room.
+// The length of a data field, known before its PDU is made: for a sender that asks whether the next
+// PDU has room.
 ghost use Rattle.std.specs.Prelude.{◌≡◌, ◌+◌, ◌^◌, ◌<◌, ◌∷◌, [], ℕ, Bool, List, length};
 ghost use Rattle.std.specs.List.{flat_map};
 ghost use Rattle.cfdp_directives.specs.declared.codes.Acknowledged.{Acknowledged};
@@ -35,7 +36,8 @@ pub fn metadata_len(source: usize, destination: usize, options: usize) -> usize
     4 + FILE_SIZE_OCTETS + source + destination + options
 }
 
-/// Octets of the data field of an EOF whose options have so many octets: 0, or those of a fault location.
+/// Octets of the data field of an EOF whose options have so many octets: 0, or those of a fault
+/// location.
 pub fn eof_len(options: usize) -> usize
     requires { options < 2 ^ 32 }
     ensures { (condition checksum size : ℕ) (tlvs : List Tlv)
@@ -45,7 +47,8 @@ pub fn eof_len(options: usize) -> usize
     6 + FILE_SIZE_OCTETS + options
 }
 
-/// Octets of the data field of a Finished whose options have so many octets: 0, or those of a fault location.
+/// Octets of the data field of a Finished whose options have so many octets: 0, or those of a fault
+/// location.
 pub fn finished_len(options: usize) -> usize
     requires { options < 2 ^ 32 }
     ensures { (condition : ℕ) (delivery : Delivery) (status : FileStatus) (tlvs : List Tlv)

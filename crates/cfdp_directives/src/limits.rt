@@ -1,7 +1,8 @@
 ghost use Rattle.std.specs.Prelude.{◌↔◌, IsTrue};
 ghost use Rattle.cfdp_directives.specs.Limits.{IsValidTimes};
 
-/// How often an entity sends something again before that is a fault: 0 to 255 times each (CCSDS 727.0-B-5, 4.6.4 and 4.7).
+/// How often an entity sends something again before that is a fault: 0 to 255 times each (CCSDS
+/// 727.0-B-5, 4.6.4 and 4.7).
 #[derive(Clone, Copy, Debug, PartialEq, Eq)]
 pub struct Limits {
     /// An EOF that isn't acknowledged.

@@ -5,8 +5,8 @@ ghost use Rattle.std.specs.Iterator.SizeHint.{IsWithinCount};
 use crate::pairs::Pairs;
 use std::marker::Model;
 
-/// The requested ranges of a NAK one by one, each the offset where it starts and the one where it ends. Contracts see it as the
-/// list of those that are left.
+/// The requested ranges of a NAK one by one, each the offset where it starts and the one where it
+/// ends. Contracts see it as the list of those that are left.
 #[derive(Debug, Drop)]
 pub struct PairIter<'a> {
     rest: Pairs<'a>,

@@ -23,8 +23,8 @@ enum Form<'a> {
     Given(&'a [(u64, u64)]),
 }
 
-/// The requested ranges of a NAK (CCSDS 727.0-B-5, 5.2.6): pairs of offsets, each the start of a range and its end. Those of a
-/// NAK that was read lie in its octets. Contracts see them as a list.
+/// The requested ranges of a NAK (CCSDS 727.0-B-5, 5.2.6): pairs of offsets, each the start of a
+/// range and its end. Those of a NAK that was read lie in its octets. Contracts see them as a list.
 #[derive(Debug, Drop)]
 pub struct Pairs<'a> {
     form: Form<'a>,
@@ -109,7 +109,8 @@ impl<'a> Pairs<'a> {
         PairIter::over(Pairs { form: self.form })
     }
 
-    /// Whether they can be written: each number fits a file-size field, as those of a NAK that was read do.
+    /// Whether they can be written: each number fits a file-size field, as those of a NAK that was
+    /// read do.
     #[tactic(auto, using(crate::proofs::Ranges::pairs_fit))]
     pub fn fit(&self) -> bool
         ensures { IsTrue result ↔ AllByRecursion (IsPair file_size_octets) self.now }
@@ -120,7 +121,8 @@ impl<'a> Pairs<'a> {
         }
     }
 
-    /// Writes the pairs from octet `at` on, and says where they end. The octets before and behind stay.
+    /// Writes the pairs from octet `at` on, and says where they end. The octets before and behind
+    /// stay.
     pub fn put(&self, out: &mut [u8], at: usize) -> usize
         requires fits { AllByRecursion (IsPair file_size_octets) self.now }
         requires room { at + pair_octets * length self.now ≤ length out.old }

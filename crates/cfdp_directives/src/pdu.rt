@@ -10,7 +10,8 @@ use crate::codes::{
 use crate::pairs::Pairs;
 use crate::tlv::Tlvs;
 
-/// What a PDU says (CCSDS 727.0-B-5, 5.2 and 5.3). Texts, data, pairs and options of a PDU that was read lie in its octets.
+/// What a PDU says (CCSDS 727.0-B-5, 5.2 and 5.3). Texts, data, pairs and options of a PDU that was
+/// read lie in its octets.
 #[derive(Debug, Drop, PartialEq, Eq)]
 pub enum Pdu<'a> {
     /// Octets of the file.
@@ -109,7 +110,8 @@ impl Pdu<'_> {
         matches!(self, Pdu::FileData { .. })
     }
 
-    /// Whether its content can be written: sizes and offsets fit a file-size field, and names have at most 255 octets.
+    /// Whether its content can be written: sizes and offsets fit a file-size field, and names have
+    /// at most 255 octets.
     pub fn fits(&self) -> bool
         ensures { IsTrue result ↔ FitsContent file_size_octets (view self.now) }
     {

@@ -23,7 +23,8 @@ use cfdp_header::Header;
 fn condition(code: u64) -> Result<Condition, PduError>
     requires { code < 16 }
     ensures found { IfOk result (λ c. c ≡ code) }
-    ensures refused { result_err result ≡ (if is_refused code then Some errors.Condition else None) }
+    ensures refused { result_err result
+        ≡ (if is_refused code then Some errors.Condition else None) }
 {
     match Condition::from_code(code as u8) {
         Some(condition) => Ok(condition),
@@ -294,9 +295,10 @@ fn pdu(bytes: &[u8]) -> Result<(Header, Pdu<'_>), PduError>
 /// # Errors
 ///
 /// The first of these that holds. `Header` with the header's refusal. Then, of the data field:
-/// `Truncated` where a field or the last range of a NAK passes its end, `Directive` where the directive or what an ACK
-/// acknowledges isn't known, `Condition` where the condition is 12 or 13, `Tlv` where the octets of options aren't whole
-/// options, and `Trailing` where octets are left over. A directive that isn't known is `Directive` whatever follows.
+/// `Truncated` where a field or the last range of a NAK passes its end, `Directive` where the
+/// directive or what an ACK acknowledges isn't known, `Condition` where the condition is 12 or 13,
+/// `Tlv` where the octets of options aren't whole options, and `Trailing` where octets are left
+/// over. A directive that isn't known is `Directive` whatever follows.
 pub fn decode(bytes: &[u8]) -> Result<(Header, Pdu<'_>), PduError>
     // What is answered is spelled so.
     ensures found { IfOk result (λ x. SpellsPdu x.0 (view x.1) bytes.now) }

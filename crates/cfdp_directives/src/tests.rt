@@ -12,7 +12,8 @@ use std::alloc::Global;
 use std::process::Abort;
 use std::test::Fail;
 
-/// The header of a PDU of transaction 1:1 toward the file's sender, before its kind and length are known.
+/// The header of a PDU of transaction 1:1 toward the file's sender, before its kind and length are
+/// known.
 const TOWARD_SENDER: Header = Header {
     file_data: false,
     toward_sender: true,
@@ -524,7 +525,8 @@ fn prefixes_are_refused(rt: HostRuntime) -> Result<(), Fail> {
 #[test]
 fn data_fields_cut_short_are_truncated(rt: HostRuntime) -> Result<(), Fail> {
     let alloc = rt.alloc();
-    // Of each PDU without options or ranges, all data fields that are shorter by at least one octet.
+    // Of each PDU without options or ranges, all data fields that are shorter by at least one
+    // octet.
     for (text, len) in [
         (PDUS[0], 18u8),
         (PDUS[2], 10),

@@ -22,8 +22,8 @@ enum Form<'a> {
     Made { octets: [u8; 10], len: usize },
 }
 
-/// Options of a PDU (TLV, CCSDS 727.0-B-5, 5.1.9): each has a type and up to 255 octets of value. Those of a PDU that was
-/// read lie in its octets. Contracts see them as a list.
+/// Options of a PDU (TLV, CCSDS 727.0-B-5, 5.1.9): each has a type and up to 255 octets of value.
+/// Those of a PDU that was read lie in its octets. Contracts see them as a list.
 #[derive(Debug, Drop)]
 pub struct Tlvs<'a> {
     form: Form<'a>,
@@ -94,7 +94,8 @@ impl<'a> Tlvs<'a> {
 
     /// The first option's type and value, and the options behind it.
     pub fn split_first(&self) -> Option<(u8, &[u8], Tlvs<'_>)>
-        ensures some { IfSome result (λ x. self.now ≡ record { kind = x.0; value = x.1.now } ∷ x.2) }
+        ensures some { IfSome result (λ x. self.now
+            ≡ record { kind = x.0; value = x.1.now } ∷ x.2) }
         ensures none { IfNone result (self.now ≡ []) }
     {
         let (kind, value, rest) = split_tlv(octets_of(&self.form))?;

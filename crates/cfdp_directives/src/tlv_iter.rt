@@ -5,7 +5,8 @@ ghost use Rattle.cfdp_directives.specs.Tlv.{tlvs_of};
 use crate::tlv::split_tlv;
 use std::marker::Model;
 
-/// The options of a PDU one by one, each its type and its value. Contracts see it as the list of those that are left.
+/// The options of a PDU one by one, each its type and its value. Contracts see it as the list of
+/// those that are left.
 #[derive(Debug, Drop)]
 pub struct TlvIter<'a> {
     rest: &'a [u8],

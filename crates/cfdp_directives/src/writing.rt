@@ -168,8 +168,8 @@ fn put_keep_alive(out: &mut [u8], at: usize, progress: u64) -> usize
     put_uint(out, at, FILE_SIZE_OCTETS, progress)
 }
 
-/// Whether the PDU can be written behind this header: both fit their fields, and the header tells of this kind and length, and of no
-/// segment metadata.
+/// Whether the PDU can be written behind this header: both fit their fields, and the header tells
+/// of this kind and length, and of no segment metadata.
 pub fn can_write(header: &Header, pdu: &Pdu<'_>) -> bool
     ensures { IsTrue result ↔ CanWrite header.now (view pdu.now) }
 {
@@ -183,9 +183,11 @@ fn is_header_of(header: &Header, pdu: &Pdu<'_>) -> bool
     header.file_data == pdu.is_file_data() && !header.segment_metadata && pdu.has_len(header.length)
 }
 
-/// Writes the PDU into the first octets of `out`, spare bits as 0, and says how many they are. The octets behind stay.
+/// Writes the PDU into the first octets of `out`, spare bits as 0, and says how many they are. The
+/// octets behind stay.
 ///
-/// `header.length` has to be `pdu.len()`, and `header.file_data` has to say what kind of PDU it is: `can_write` tells.
+/// `header.length` has to be `pdu.len()`, and `header.file_data` has to say what kind of PDU it is:
+/// `can_write` tells.
 #[tactic(auto, using(crate::proofs::Spelling::behind_data))]
 pub fn encode(header: &Header, pdu: &Pdu<'_>, out: &mut [u8]) -> usize
     requires fits { CanWrite header.now (view pdu.now) }

@@ -89,7 +89,8 @@ impl Extents {
         Ok(())
     }
 
-    /// Whether each offset from `start` up to, and without, `end` is held; so it is of an empty range.
+    /// Whether each offset from `start` up to, and without, `end` is held; so it is of an empty
+    /// range.
     pub fn covers(&self, start: u64, end: u64) -> bool
         requires { start ≤ end }
         ensures { result ≡ set.is_subset (range start end) self.now }
@@ -140,8 +141,8 @@ impl Extents {
         }
     }
 
-    /// The front of the least gapless range, at most `max` offsets of it, as its start and its end; `None`
-    /// where no offset is held, or `max` is 0.
+    /// The front of the least gapless range, at most `max` offsets of it, as its start and its end;
+    /// `None` where no offset is held, or `max` is 0.
     pub fn front(&self, max: u64) -> Option<(u64, u64)>
         ensures is { result ≡ front_of self.now max }
         ensures spent { IfNone result ((max ≡ 0) ⊎ (self.now ≡ set.empty)) }

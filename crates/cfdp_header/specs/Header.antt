@@ -1,11 +1,13 @@
--- The fixed header of a PDU: which octets are which header, and what is wrong with octets that begin with none.
+-- The fixed header of a PDU: which octets are which header, and what is wrong with octets that
+-- begin with none.
 use Rattle.std.specs.Prelude.{◌≡◌, ℕ, ◌+◌, ◌-◌, ◌*◌, ◌^◌, ◌<◌, ◌≤◌, List, ◌++◌, length, Option, Some, None, nat_lt, ◌==◌, not, if◌then◌else◌, codes}
 use Rattle.cfd_bits.specs.Field.{field, octets, flag}
 use Rattle.cfdp_header.specs.declared.value.Header.{Header}
 use Rattle.cfdp_header.specs.declared.error.HeaderError.{HeaderError}
 use Rattle.cfdp_header.specs.declared.error.HeaderError.TheVariants.{Short, Version, CrcPresent, Length, Unacknowledged, LargeFile}
 
--- octets of a header with these widths: four, the source id, the sequence number, the destination id
+-- octets of a header with these widths: four, the source id, the sequence number, the destination
+-- id
 abbrev pub header_len : ℕ → ℕ → ℕ
 header_len id_width number_width = 4 + id_width + number_width + id_width
 
@@ -13,8 +15,8 @@ header_len id_width number_width = 4 + id_width + number_width + id_width
 abbrev pub IsWidth : ℕ → Type 0
 IsWidth width = (1 ≤ width) × (width ≤ 8)
 
--- The octets are this header, and behind it as many octets as its length says (CCSDS 727.0-B-5, 5.1, table 5-1).
--- Bit 24, segmentation control, is in no line: it is read as anything.
+-- The octets are this header, and behind it as many octets as its length says (CCSDS 727.0-B-5,
+-- 5.1, table 5-1). Bit 24, segmentation control, is in no line: it is read as anything.
 pub record SpellsHeader (h : Header) (text : List ℕ) : Type 0 where
   pub size : length text ≡ header_len h.id_width h.number_width + h.length
   pub version : field text 0 3 ≡ 1
@@ -35,7 +37,8 @@ pub record SpellsHeader (h : Header) (text : List ℕ) : Type 0 where
 abbrev pub header_len_told : List ℕ → ℕ
 header_len_told text = header_len (field text 25 3 + 1) (field text 29 3 + 1)
 
--- what is wrong with octets that are no header and its data field: the first cause in this order, or none
+-- what is wrong with octets that are no header and its data field: the first cause in this order,
+-- or none
 abbrev pub header_fault : List ℕ → Option HeaderError
 header_fault text =
     if nat_lt (length text) 4 then Some Short

@@ -3,7 +3,8 @@ ghost use Rattle.cfdp_header.specs.Header.{refusal_number, refusal_name};
 
 use thiserror::Error;
 
-/// Why octets are no header with its data field: the first cause that holds, in the order in which they are told.
+/// Why octets are no header with its data field: the first cause that holds, in the order in which
+/// they are told.
 #[derive(Clone, Copy, Debug, PartialEq, Eq, Error)]
 pub enum HeaderError {
     /// Fewer than 4 octets, or fewer than the whole header that the fourth octet tells of.

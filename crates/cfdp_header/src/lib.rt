@@ -39,13 +39,15 @@ fn number_at(bytes: &[u8], at: usize, count: usize) -> u64
 ///
 /// # Errors
 ///
-/// The first of these that holds, in this order: `Short`, `Version`, `CrcPresent`, `Unacknowledged`,
-/// `LargeFile`, `Short` again for a header that isn't whole, `Length`. `HeaderError` says what each means.
+/// The first of these that holds, in this order: `Short`, `Version`, `CrcPresent`,
+/// `Unacknowledged`, `LargeFile`, `Short` again for a header that isn't whole, `Length`.
+/// `HeaderError` says what each means.
 pub fn decode(bytes: &[u8]) -> Result<(Header, &[u8]), HeaderError>
     // What is answered is spelled so.
     ensures found { IfOk result (λ x. SpellsHeader x.0 bytes.now) }
     // The data field.
-    ensures rest { IfOk result (λ x. x.1.now ≡ drop (header_len x.0.id_width x.0.number_width) bytes.now) }
+    ensures rest { IfOk result (λ x. x.1.now
+        ≡ drop (header_len x.0.id_width x.0.number_width) bytes.now) }
     // What is spelled so is answered.
     ensures only { (h : Header) → SpellsHeader h bytes.now → IsOkAnd result (λ x. x.0 ≡ h) }
     // Which refusal it is.
@@ -94,7 +96,8 @@ pub fn decode(bytes: &[u8]) -> Result<(Header, &[u8]), HeaderError>
     Ok((header, &bytes[len..]))
 }
 
-/// Writes the header into the first octets of `out`, spare bits as 0, and says how many they are. The octets behind stay.
+/// Writes the header into the first octets of `out`, spare bits as 0, and says how many they are.
+/// The octets behind stay.
 ///
 /// The data field, of `header.length` octets, is the caller's to write behind it.
 #[tactic(auto, using(crate::proofs::Laws::flag_below))]
@@ -120,19 +123,23 @@ pub fn encode(header: &Header, out: &mut [u8]) -> usize
     put_uint(out, at, id_octets, header.destination)
 }
 
-/// A law: no spelling of a header with its data field begins another, and one spelling has one header.
+/// A law: no spelling of a header with its data field begins another, and one spelling has one
+/// header.
 pub fn no_header_begins_another()
-    ensures { (a b x y : List ℕ) (h k : Header) → SpellsHeader h a → SpellsHeader k b → a ++ x ≡ b ++ y
+    ensures { (a b x y : List ℕ) (h k : Header) → SpellsHeader h a → SpellsHeader k b → a ++ x ≡ b
+        ++ y
         → (a ≡ b) × (h ≡ k) }
 {}
 
-/// A law: what is written of a header, with a data field of its length behind it, spells that header.
+/// A law: what is written of a header, with a data field of its length behind it, spells that
+/// header.
 pub fn written_header_is_read()
     ensures { (h : Header) (rest : List ℕ) → FitsHeader h → length rest ≡ h.length
         → SpellsHeader h (header_octets h ++ rest) }
 {}
 
-/// A law: a header that was read can be written in the widths that it was read in, and so can a reply that has its ids, number and widths.
+/// A law: a header that was read can be written in the widths that it was read in, and so can a
+/// reply that has its ids, number and widths.
 pub fn a_header_read_can_be_written()
     ensures { (h : Header) (text : List ℕ) → SpellsHeader h text → FitsHeader h }
 {}

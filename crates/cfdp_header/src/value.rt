@@ -2,8 +2,8 @@ ghost use Rattle.std.specs.Prelude.{◌≡◌, ◌↔◌, IsTrue};
 ghost use Rattle.cfdp_header.specs.Header.{header_len, FitsHeader, FitsWidth};
 
 /// Names a transaction: the entity that sends the file, and the number that it gave the transaction
-/// (CCSDS 727.0-B-5). Two ids are the same where both numbers are, whatever width they are written in. They are ordered by source,
-/// then by number.
+/// (CCSDS 727.0-B-5). Two ids are the same where both numbers are, whatever width they are written
+/// in. They are ordered by source, then by number.
 #[derive(Clone, Copy, Debug, PartialEq, Eq, PartialOrd, Ord, Hash)]
 pub struct TransactionId {
     /// The entity id of the file's sender.
@@ -21,7 +21,8 @@ pub struct Header {
     pub toward_sender: bool,
     /// Octets of the data field, behind the header: 0 to 65,535.
     pub length: u16,
-    /// Whether segment metadata stands before each offset of file data. This stack's senders never set it.
+    /// Whether segment metadata stands before each offset of file data. This stack's senders never
+    /// set it.
     pub segment_metadata: bool,
     /// Octets of an entity id: 1 to 8.
     pub id_width: u8,
@@ -41,7 +42,8 @@ impl Header {
         Header::len_in_widths(self.id_width, self.number_width)
     }
 
-    /// How many octets a header has, without the data field behind it, whose entity ids and sequence number have so many octets.
+    /// How many octets a header has, without the data field behind it, whose entity ids and
+    /// sequence number have so many octets.
     pub fn len_in_widths(id_width: u8, number_width: u8) -> usize
         ensures { result ≡ header_len id_width number_width }
     {
@@ -59,7 +61,8 @@ impl Header {
     }
 }
 
-/// Whether the value can be written as an entity id or a sequence number of so many octets, which are 1 to 8.
+/// Whether the value can be written as an entity id or a sequence number of so many octets, which
+/// are 1 to 8.
 #[tactic(auto, using(crate::proofs::Fits::fits_below))]
 pub fn fits_width(value: u64, width: u8) -> bool
     ensures { IsTrue result ↔ FitsWidth value width }

@@ -47,7 +47,8 @@ pdu_word (pdu.KeepAlive progress) = codes "keepalive"
 abbrev pub range_text : ℕ × ℕ → List ℕ
 range_text range = codes " " ++ (decimal range.0 ++ (codes "-" ++ decimal range.1))
 
--- what a PDU says, but for its options: numbers in decimal digits, the checksum in hexadecimal ones, names as in the report
+-- what a PDU says, but for its options: numbers in decimal digits, the checksum in hexadecimal
+-- ones, names as in the report
 abbrev pub fields_text : pdus.Pdu → List ℕ
 fields_text (pdu.FileData offset bytes) = decimal offset ++ codes " " ++ decimal (length bytes.now)
 fields_text (pdu.Metadata kind size source destination options) =
@@ -92,8 +93,8 @@ pub record TellsPduFault (octets text : List ℕ) : Type 0 where
   pub fault : pdu_fault octets ≡ Some error
   pub words : text ≡ refusal_text (Pdu error)
 
--- The octets are a frame with a packet zone of so many octets, and this text says which. Behind the header stand 5 spare bits and the
--- 11 bits of the first header pointer (CCSDS 732.0-B-4, 4.1.4.2).
+-- The octets are a frame with a packet zone of so many octets, and this text says which. Behind the
+-- header stand 5 spare bits and the 11 bits of the first header pointer (CCSDS 732.0-B-4, 4.1.4.2).
 pub record TellsFrame (zone : ℕ) (octets text : List ℕ) : Type 0 where
   pub header : FrameHeader
   pub spelled : SpellsFrame (own_link octets zone) header octets

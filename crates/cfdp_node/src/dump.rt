@@ -29,14 +29,15 @@ pub enum DumpKind {
     Frames,
 }
 
-/// Reads lines of hexadecimal digits to their end, and writes for each a line that says what it spells. Lines end with a line
-/// feed, which the last needs not; an empty line is no octets.
+/// Reads lines of hexadecimal digits to their end, and writes for each a line that says what it
+/// spells. Lines end with a line feed, which the last needs not; an empty line is no octets.
 ///
-/// Frames have packet zones of `zone` octets, 16 to 2,040, and are told whatever their spacecraft and channel. Of PDUs `zone` says
-/// nothing.
+/// Frames have packet zones of `zone` octets, 16 to 2,040, and are told whatever their spacecraft
+/// and channel. Of PDUs `zone` says nothing.
 ///
-/// The answer is `Complete` whatever the lines say, and `Device` where they couldn't be read, as `read_script` says, where a line
-/// couldn't be written, or where there was no memory. Nothing is written unless all was read, and nothing is written twice.
+/// The answer is `Complete` whatever the lines say, and `Device` where they couldn't be read, as
+/// `read_script` says, where a line couldn't be written, or where there was no memory. Nothing is
+/// written unless all was read, and nothing is written twice.
 pub fn run_dump<R: Read + Drop, W: Write + Drop>(
     alloc: Global,
     kind: DumpKind,
@@ -144,7 +145,8 @@ fn write_line<W: Write>(
     }
 }
 
-/// The octets that the line's pairs of hexadecimal digits spell, in either case. `None` where it has anything else.
+/// The octets that the line's pairs of hexadecimal digits spell, in either case. `None` where it
+/// has anything else.
 fn parse_hex_line(alloc: Global, line: &[u8]) -> Result<Option<Vec<u8>>, AllocError>
     ensures { IfOk result (λ octets. option_map (λ v. v.items) octets ≡ hex_octets line.now) }
 {
@@ -188,12 +190,14 @@ fn write_frame<W: Write>(octets: &[u8], zone: u16, out: &mut W) -> io::Result<()
 ///
 /// # Errors
 ///
-/// `Length`, `Version`, `OtherProfile` or `OnlyIdle`, the first that holds: the frame is never one of another link.
+/// `Length`, `Version`, `OtherProfile` or `OnlyIdle`, the first that holds: the frame is never one
+/// of another link.
 fn read_frame(octets: &[u8], zone: u16) -> Result<FrameLine, FrameError>
     ensures found { IfOk result (λ frame. SpellsFrame (own_link octets.now zone) frame.header octets.now) }
     ensures pointer { IfOk result (λ frame. frame.pointer ≡ pointer_of (drop 6 octets.now)) }
     ensures refused { result_err result ≡ frame_fault octets.now (own_link octets.now zone) }
-    ensures own { (result_err result ≢ Some FrameError.OtherSpacecraft) × (result_err result ≢ Some FrameError.OtherChannel) }
+    ensures own { (result_err result ≢ Some FrameError.OtherSpacecraft)
+        × (result_err result ≢ Some FrameError.OtherChannel) }
 {
     let (header, mpdu) = FrameHeader::read(octets, zone)?;
     Ok(FrameLine {

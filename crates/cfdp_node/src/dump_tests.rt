@@ -29,7 +29,8 @@ fn check_dump(
 #[test]
 fn tells_each_kind_of_pdu(rt: HostRuntime) -> Result<(), Fail> {
     let alloc = rt.alloc();
-    // Those of transaction 1:1, with ids of 2 octets and numbers of 4: what stands before the header's end and behind it.
+    // Those of transaction 1:1, with ids of 2 octets and numbers of 4: what stands before the
+    // header's end and behind it.
     let rows = [
         (
             "200012",
@@ -115,7 +116,8 @@ fn tells_each_kind_of_pdu(rt: HostRuntime) -> Result<(), Fail> {
 #[test]
 fn tells_lines_one_by_one(rt: HostRuntime) -> Result<(), Fail> {
     let alloc = rt.alloc();
-    // Other widths, other transactions, and lines that are no PDU, with a last one that has no line feed.
+    // Other widths, other transactions, and lines that are no PDU, with a last one that has no line
+    // feed.
     let text = "\
 200012000101020700000000050561 2E747874
 2000120001010207000000000505612E74787405622e747874

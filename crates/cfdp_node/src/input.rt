@@ -14,11 +14,13 @@ const MAX_READS: u32 = 1_100_000;
 ///
 /// # Errors
 ///
-/// That of the reader, but for `Interrupted`, after which it is asked again; `OutOfMemory` where there is no memory;
-/// `FileTooLarge` where it gives more than `MAX_SCRIPT` octets, or has no end within 1,100,000 reads.
+/// That of the reader, but for `Interrupted`, after which it is asked again; `OutOfMemory` where
+/// there is no memory; `FileTooLarge` where it gives more than `MAX_SCRIPT` octets, or has no end
+/// within 1,100,000 reads.
 pub fn read_script<R: Read + Drop>(alloc: Global, mut reader: R) -> io::Result<Vec<u8>>
     ensures short { IfOk result (λ script. vec_len script ≤ MAX_SCRIPT) }
-    ensures whole { IfOk result (λ script. IfSome (R.remaining reader) (λ all. script.items ≡ all)) }
+    ensures whole { IfOk result (λ script. IfSome (R.remaining reader) (λ all. script.items
+        ≡ all)) }
 {
     let mut script = Vec::new(alloc);
     let mut part = [0; 4096];

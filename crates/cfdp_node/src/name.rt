@@ -4,8 +4,8 @@ ghost use Rattle.cfdp_node.specs.Name.{printed_octet};
 
 use std::fmt;
 
-/// A file name, as the report prints it: `%` and what isn't a visible ASCII character as `%` and two upper-case
-/// hexadecimal digits.
+/// A file name, as the report prints it: `%` and what isn't a visible ASCII character as `%` and
+/// two upper-case hexadecimal digits.
 #[derive(Clone, Copy)]
 pub struct Name<'a>(pub &'a [u8]);
 

@@ -5,7 +5,8 @@ use cfdp_directives::Octets;
 use link_sim::{Applied, Event, SettleError, Side};
 use std::alloc::Global;
 
-/// More polls in a row than any station has PDUs due: a file has one for each octet at the most, and a few are added.
+/// More polls in a row than any station has PDUs due: a file has one for each octet at the most,
+/// and a few are added.
 const MAX_POLLS: u32 = 16_777_216;
 
 /// Does what a command says.

@@ -23,8 +23,8 @@ pub struct Tally {
     pub asked: usize,
 }
 
-/// Writes the report of a run: what each command answered, what each station indicated, the files that it received, and
-/// how many puts were completed. Takes no memory.
+/// Writes the report of a run: what each command answered, what each station indicated, the files
+/// that it received, and how many puts were completed. Takes no memory.
 ///
 /// # Errors
 ///
@@ -151,7 +151,8 @@ pub fn completed_puts(simulation: &Simulation) -> usize {
         .count()
 }
 
-/// Whether the sender of this transaction was told that it is over with no error, with the file complete and retained.
+/// Whether the sender of this transaction was told that it is over with no error, with the file
+/// complete and retained.
 fn is_completed(simulation: &Simulation, id: TransactionId) -> bool {
     let sender = if id.source == 1 { Side::One } else { Side::Two };
     simulation

@@ -15,9 +15,9 @@ use std::io::{BufWriter, Read, Write};
 
 /// Reads a script, runs it and writes its report.
 ///
-/// Nothing is written unless the whole script was read, is good, and there is memory for all that stands before its
-/// first command. From then on a want of memory is told in the report, and the answer is `Device` too. A report that
-/// can't be written to its end is not begun again.
+/// Nothing is written unless the whole script was read, is good, and there is memory for all that
+/// stands before its first command. From then on a want of memory is told in the report, and the
+/// answer is `Device` too. A report that can't be written to its end is not begun again.
 pub fn run_sim<R: Read + Drop, W: Write + Drop>(alloc: Global, reader: R, writer: W) -> Exit {
     let text = match read_script(alloc, reader) {
         Ok(text) => text,

@@ -1,7 +1,7 @@
 //! The two stations of a script, behind calls whose contracts say no more than the program needs.
 //!
-//! What `link_sim` proves of its world, the delivery theorem first, holds for whatever a script does. The program rests on none of it, so
-//! none of it stands in the goals of the callers here.
+//! What `link_sim` proves of its world, the delivery theorem first, holds for whatever a script
+//! does. The program rests on none of it, so none of it stands in the goals of the callers here.
 ghost use Rattle.link_sim.specs.Config.{IsValidConfig};
 
 use cfdp_directives::Indication;

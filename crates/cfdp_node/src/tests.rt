@@ -98,7 +98,8 @@ complete 1 of 1
     Ok(())
 }
 
-/// Which PDUs of a put arrive: those of the file, the two answers to it, and the last acknowledgement.
+/// Which PDUs of a put arrive: those of the file, the two answers to it, and the last
+/// acknowledgement.
 #[derive(Clone, Copy, Debug)]
 struct Arrivals {
     metadata: bool,
@@ -138,7 +139,8 @@ fn pass(script: &mut String, station: char, arrives: bool) -> Result<(), AllocEr
     write!(script, "poll {station}\n{verb} {station}\n")
 }
 
-/// A put of three PDUs, of which these arrive. The receiver answers an EOF, and then what it heard in full.
+/// A put of three PDUs, of which these arrive. The receiver answers an EOF, and then what it heard
+/// in full.
 fn script_of(
     alloc: Global,
     from: char,
@@ -190,7 +192,8 @@ fn receiver_lines(
     Ok(lines)
 }
 
-// What is heard in full is published and indicated once, and the sender is told exactly where that Finished comes back.
+// What is heard in full is published and indicated once, and the sender is told exactly where that
+// Finished comes back.
 #[test]
 fn every_choice_of_losses_does_what_the_definitions_say(rt: HostRuntime) -> Result<(), Fail> {
     let alloc = rt.alloc();
@@ -440,7 +443,8 @@ impl Read for Interrupted {
     }
 }
 
-/// Gives octets one by one, each after an interruption where `interrupts`, and fails after the last one where `fails`.
+/// Gives octets one by one, each after an interruption where `interrupts`, and fails after the last
+/// one where `fails`.
 #[derive(Drop)]
 struct OneByOne<'a> {
     rest: &'a [u8],

@@ -3,7 +3,8 @@ ghost use Rattle.std.specs.Prelude.{◌≡◌, ◌≢◌, ◌∷◌, ◌++◌, A
 
 use crate::command::LineError;
 
-/// What stands before the first `separator`, and what stands behind it. All, and `None`, where there is none.
+/// What stands before the first `separator`, and what stands behind it. All, and `None`, where
+/// there is none.
 pub fn cut_at_first(text: &[u8], separator: u8) -> (&[u8], Option<&[u8]>)
     ensures parts { MatchOption result.1 (result.0.now ≡ text.now)
         (λ behind. text.now ≡ result.0.now ++ separator ∷ behind.now) }
@@ -37,8 +38,8 @@ impl<'a> Words<'a> {
     ///
     /// # Errors
     ///
-    /// `MissingWord` behind the last one, `EmptyWord` where it has no octet: two spaces stand together, or one begins
-    /// or ends the line.
+    /// `MissingWord` behind the last one, `EmptyWord` where it has no octet: two spaces stand
+    /// together, or one begins or ends the line.
     pub fn take_word(&mut self) -> Result<&'a [u8], LineError> {
         let Some(rest) = self.rest else {
             return Err(LineError::MissingWord);

@@ -134,7 +134,8 @@ impl MemoryInbox {
 
     /// Counts a failure for want of memory, and names it.
     fn no_memory(&mut self) -> StoreError
-        ensures counted { self.new ≡ record self.old { failed = failures_after self.old.failed false } }
+        ensures counted { self.new
+            ≡ record self.old { failed = failures_after self.old.failed false } }
         ensures error { result ≡ StoreError.NoMemory }
     {
         self.failed = self.failed.saturating_add(1);

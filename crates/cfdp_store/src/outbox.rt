@@ -32,7 +32,8 @@ pub trait Outbox: Drop {
     /// Any `StoreError`, at the store's will. It is counted as a failure, and nothing else changes.
     fn len(&mut self, name: &[u8]) -> Result<Option<u64>, StoreError>
         ensures steps { steps self.old (Len name.now result) self.new }
-        ensures answer { IfOk result (λ len. len ≡ option_map length (map.get (files self.old) name.now)) }
+        ensures answer { IfOk result (λ len. len
+            ≡ option_map length (map.get (files self.old) name.now)) }
         ensures files { files self.new ≡ files self.old }
         ensures failures { failures self.new ≡ failures_after (failures self.old) (is_ok result) };
 

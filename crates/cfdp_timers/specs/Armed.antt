@@ -14,7 +14,8 @@ use Rattle.cfdp_header.specs.Ids.{id_cmp}
 abbrev pub Armed : Type 0
 Armed = map.FinMap timer_cmp ℕ
 
--- what `Timers` holds: the latest time told, the transactions whose timers can be armed, and the armed timers
+-- what `Timers` holds: the latest time told, the transactions whose timers can be armed, and the
+-- armed timers
 pub record TimersState : Type 0 where
   pub time : ℕ
   pub roomy : set.FinSet id_cmp

@@ -1,4 +1,5 @@
--- Proof-only: how the armed timers are kept. Each transaction that has room has four deadlines, by kind.
+-- Proof-only: how the armed timers are kept. Each transaction that has room has four deadlines, by
+-- kind.
 use Rattle.std.specs.Prelude.{ℕ, Option, None, Some, List, [], ◌∷◌, ◌++◌, filter, nat_le, min}
 use Rattle.std.specs.Map.{keys_of}
 use Rattle.std.specs.FinMap as map

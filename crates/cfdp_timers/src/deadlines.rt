@@ -102,7 +102,8 @@ impl Deadlines {
 
     // How many timers are due.
     pub(crate) fn due_count(&self, now: u64) -> usize
-        ensures count { (id : TransactionId) → result ≡ length (kept.due now (alarms_of id self.now)) }
+        ensures count { (id : TransactionId) → result
+            ≡ length (kept.due now (alarms_of id self.now)) }
         ensures four { result ≤ 4 }
     {
         due_count(self.eof_ack, now)

@@ -98,7 +98,8 @@ impl Timers {
     ///
     /// Where there is no memory for one more transaction. All is then unchanged.
     pub fn room(&mut self, id: TransactionId) -> Result<(), AllocError>
-        ensures ok { OnOk result (self.new ≡ record self.old { roomy = set.insert self.old.roomy id }) }
+        ensures ok { OnOk result (self.new
+            ≡ record self.old { roomy = set.insert self.old.roomy id }) }
         ensures err { OnErr result (self.new ≡ self.old) }
         // A transaction that has room takes no more memory.
         ensures again { set.contains self.old.roomy id ≡ true → IsOk result }
@@ -120,7 +121,8 @@ impl Timers {
     /// Arms a timer, or gives one that is armed another deadline, earlier or later.
     pub fn arm(&mut self, id: TransactionId, kind: Kind, deadline: u64)
         requires has_room { set.contains self.old.roomy id ≡ true }
-        ensures armed { self.new ≡ record self.old { armed = map.insert self.old.armed (id, kind) deadline } }
+        ensures armed { self.new
+            ≡ record self.old { armed = map.insert self.old.armed (id, kind) deadline } }
         ensures roomy { self.new.roomy ≡ self.old.roomy }
     {
         self.set(id, kind, Some(deadline));
@@ -128,7 +130,8 @@ impl Timers {
 
     /// Clears a timer; one that isn't armed stays so.
     pub fn clear(&mut self, id: TransactionId, kind: Kind)
-        ensures cleared { self.new ≡ record self.old { armed = map.remove self.old.armed (id, kind) } }
+        ensures cleared { self.new
+            ≡ record self.old { armed = map.remove self.old.armed (id, kind) } }
         ensures roomy { self.new.roomy ≡ self.old.roomy }
     {
         self.set(id, kind, None);
@@ -136,7 +139,8 @@ impl Timers {
 
     /// The earliest deadline of the armed timers; `None` where none is armed.
     pub fn next(&self) -> Option<u64>
-        ensures { MatchOption result (self.now.armed ≡ map.empty) (λ deadline. IsLeast self.now.armed deadline) }
+        ensures { MatchOption result (self.now.armed
+            ≡ map.empty) (λ deadline. IsLeast self.now.armed deadline) }
     {
         let mut earliest = None;
         for (_id, deadlines) in self.entries.iter() {
@@ -159,8 +163,9 @@ impl Timers {
         count
     }
 
-    /// Tells the time, and gives and clears the timers whose deadline is then or before: by deadline, then by
-    /// transaction, then by kind. A time before the latest that was told counts as the latest.
+    /// Tells the time, and gives and clears the timers whose deadline is then or before: by
+    /// deadline, then by transaction, then by kind. A time before the latest that was told counts
+    /// as the latest.
     ///
     /// # Errors
     ///
@@ -172,7 +177,8 @@ impl Timers {
         // No other list is so.
         ensures only { IfOk result (λ fired. (others : List Timer) →
             AreDue self.old.armed self.new.time others → others ≡ fired.items) }
-        ensures count { IfOk result (λ fired. length fired.items ≡ due_count self.old.armed self.new.time) }
+        ensures count { IfOk result (λ fired. length fired.items
+            ≡ due_count self.old.armed self.new.time) }
         ensures left { OnOk result (self.new.armed ≡ still_armed self.new.time self.old.armed) }
         ensures err { OnErr result (self.new ≡ self.old) }
     {

@@ -29,9 +29,11 @@ fn put_headers(frame: &FrameHeader, pointer: u16, out: &mut [u8])
     put_pointer(behind, pointer);
 }
 
-/// The sending end of one direction of a link: each PDU in a packet of its own, the packets end to end over frames.
+/// The sending end of one direction of a link: each PDU in a packet of its own, the packets end to
+/// end over frames.
 ///
-/// All that waits, and the packet that is written, lie in buffers that were made with it. So no call takes memory.
+/// All that waits, and the packet that is written, lie in buffers that were made with it. So no
+/// call takes memory.
 #[derive(Debug, Drop)]
 pub struct Down {
     link: LinkConfig,
@@ -55,13 +57,15 @@ impl Model for Down {
 }
 
 impl Down {
-    /// The end of a valid link, with no PDU sent: at most `capacity` octets of packets (up to 65,536) may wait in it.
+    /// The end of a valid link, with no PDU sent: at most `capacity` octets of packets (up to
+    /// 65,536) may wait in it.
     ///
     /// `AllocError` comes only where one of its buffers was refused.
     pub fn new(alloc: Global, link: LinkConfig, capacity: usize) -> Result<Self, AllocError>
         requires link { IsLink link }
         requires most { capacity ≤ 65536 }
-        ensures new { IfOk result (λ d. d ≡ record { link = link; capacity = capacity; waiting = []; first = 0; flushed = false; packet_count = 0; frame_count = 0 }) }
+        ensures new { IfOk result (λ d. d
+            ≡ record { link = link; capacity = capacity; waiting = []; first = 0; flushed = false; packet_count = 0; frame_count = 0 }) }
         ensures stream { IfOk result (λ d. IsDown d [] 0) }
     {
         Ok(Down {
@@ -95,9 +99,11 @@ impl Down {
         self.packer.waiting_len()
     }
 
-    /// The most whole frames that can ever wait, whatever is sent and flushed: a caller that has room for so many can always take them all.
+    /// The most whole frames that can ever wait, whatever is sent and flushed: a caller that has
+    /// room for so many can always take them all.
     pub fn frames_ahead(&self) -> usize
-        ensures enough { self.now.capacity + 2047 < result * self.now.link.zone + self.now.link.zone }
+        ensures enough { self.now.capacity + 2047
+            < result * self.now.link.zone + self.now.link.zone }
         ensures no_more { result * self.now.link.zone ≤ self.now.capacity + 2047 }
     {
         (self.packet.len() + 2047) / usize::from(self.link.zone)
@@ -114,13 +120,17 @@ impl Down {
         ensures stream { (ps : List (List ℕ)) (made : ℕ) → IsDown self.old ps made →
             OnOk result (IsDown self.new (ps ++ packet_of self.old.link self.old.packet_count pdu.now ∷ []) made) }
         ensures pdu { OnOk result (pdus_in (busy (packet_of self.old.link self.old.packet_count pdu.now ∷ [])) ≡ pdu.now ∷ []) }
-        ensures waiting { OnOk result (self.new.waiting ≡ self.old.waiting ++ packet_of self.old.link self.old.packet_count pdu.now) }
-        ensures packet_count { OnOk result (self.new.packet_count ≡ (self.old.packet_count + 1) % 16384) }
+        ensures waiting { OnOk result (self.new.waiting ≡ self.old.waiting
+            ++ packet_of self.old.link self.old.packet_count pdu.now) }
+        ensures packet_count { OnOk result (self.new.packet_count
+            ≡ (self.old.packet_count + 1) % 16384) }
         ensures counts { (self.old.packet_count < 16384) × (self.new.packet_count < 16384) }
         ensures unflushed { OnOk result (self.new.flushed ≡ false) }
-        ensures len { OnOk result (length self.new.waiting ≡ length self.old.waiting + 6 + length pdu.now) }
+        ensures len { OnOk result (length self.new.waiting
+            ≡ length self.old.waiting + 6 + length pdu.now) }
         ensures most { OnOk result (length self.new.waiting ≤ self.old.capacity) }
-        ensures fixed { (self.new.link ≡ self.old.link) × (self.new.capacity ≡ self.old.capacity) × (self.new.frame_count ≡ self.old.frame_count) }
+        ensures fixed { (self.new.link ≡ self.old.link) × (self.new.capacity ≡ self.old.capacity)
+            × (self.new.frame_count ≡ self.old.frame_count) }
     {
         if pdu.len() > self.room() {
             return Err(Full);
@@ -137,24 +147,31 @@ impl Down {
         self.packer.push(&self.packet[..len])
     }
 
-    /// Fills the begun zone by an idle packet, where one is begun, so that all PDUs sent can leave in whole frames.
+    /// Fills the begun zone by an idle packet, where one is begun, so that all PDUs sent can leave
+    /// in whole frames.
     ///
-    /// Where less is free than an idle packet needs, its rest opens the next zone, and waits there. A zone that holds nothing, or only such a
-    /// rest, isn't begun: a second flush adds nothing.
+    /// Where less is free than an idle packet needs, its rest opens the next zone, and waits there.
+    /// A zone that holds nothing, or only such a rest, isn't begun: a second flush adds nothing.
     pub fn flush(&mut self)
         // The stream is then longer by the idle packet, or as it was.
-        ensures stream { (ps : List (List ℕ)) (made : ℕ) → IsDown self.old ps made → IsDown self.new (ps ++ flush_of (packing self.old)) made }
-        ensures idle { (length (flush_of (packing self.old)) ≤ 1) × (busy (flush_of (packing self.old)) ≡ []) }
+        ensures stream { (ps : List (List ℕ)) (made : ℕ) → IsDown self.old ps made →
+            IsDown self.new (ps ++ flush_of (packing self.old)) made }
+        ensures idle { (length (flush_of (packing self.old)) ≤ 1)
+            × (busy (flush_of (packing self.old)) ≡ []) }
         ensures once { flush_of (packing self.new) ≡ [] }
         ensures same { flush_of (packing self.old) ≡ [] → self.new ≡ self.old }
-        ensures waiting { self.new.waiting ≡ self.old.waiting ++ stream (flush_of (packing self.old)) }
+        ensures waiting { self.new.waiting ≡ self.old.waiting
+            ++ stream (flush_of (packing self.old)) }
         ensures most { length self.new.waiting ≤ self.old.capacity + 2047 }
-        ensures fixed { (self.new.link ≡ self.old.link) × (self.new.capacity ≡ self.old.capacity) × (self.new.packet_count ≡ self.old.packet_count) × (self.new.frame_count ≡ self.old.frame_count) }
+        ensures fixed { (self.new.link ≡ self.old.link) × (self.new.capacity ≡ self.old.capacity)
+            × (self.new.packet_count ≡ self.old.packet_count)
+            × (self.new.frame_count ≡ self.old.frame_count) }
     {
         self.packer.flush();
     }
 
-    /// Writes the oldest whole zone as a frame with the next count, and takes it off. The buffer has [`frame_len`](Self::frame_len) octets.
+    /// Writes the oldest whole zone as a frame with the next count, and takes it off. The buffer
+    /// has [`frame_len`](Self::frame_len) octets.
     ///
     /// False where no whole zone waits: nothing changed then.
     pub fn next_frame(&mut self, out: &mut [u8]) -> bool
@@ -166,7 +183,9 @@ impl Down {
             (out.new ≡ frame_of self.old.link ps made) × (made * self.old.link.zone + self.old.link.zone ≤ length (stream ps)) × IsDown self.new ps (made + 1) }
         ensures zone { result ≡ true → drop 8 out.new ≡ take self.old.link.zone self.old.waiting }
         ensures rest { result ≡ true → self.new.waiting ≡ drop self.old.link.zone self.old.waiting }
-        ensures fixed { (self.new.link ≡ self.old.link) × (self.new.capacity ≡ self.old.capacity) × (self.new.packet_count ≡ self.old.packet_count) × (self.new.flushed ≡ self.old.flushed) }
+        ensures fixed { (self.new.link ≡ self.old.link) × (self.new.capacity ≡ self.old.capacity)
+            × (self.new.packet_count ≡ self.old.packet_count)
+            × (self.new.flushed ≡ self.old.flushed) }
     {
         let (header, zone) = out.split_at_mut(FRAME_HEADER_LEN + MPDU_HEADER_LEN);
         let Some(pointer) = self.packer.zone(zone) else {

@@ -8,10 +8,12 @@ use thiserror::Error;
 /// Why a frame, a part of its zone or a packet gave no PDU.
 #[derive(Clone, Copy, Debug, PartialEq, Eq, Error)]
 pub enum LinkDrop {
-    /// The octets are no frame of the link, or the frame holds only idle data, which the first header pointer 2046 tells too.
+    /// The octets are no frame of the link, or the frame holds only idle data, which the first
+    /// header pointer 2046 tells too.
     #[error("{0}")]
     Frame(FrameError),
-    /// A begun packet was let go, since a frame was missing or the first header pointer did not fit it, or the pointer lies outside the zone.
+    /// A begun packet was let go, since a frame was missing or the first header pointer did not fit
+    /// it, or the pointer lies outside the zone.
     #[error("a begun packet was let go")]
     Resync,
     /// A packet's version isn't `000` (CCSDS 133.0-B-2, 4.1.3.2).

@@ -1,7 +1,9 @@
-//! PDUs down to AOS transfer frames (CCSDS 732.0-B-4), a space packet (CCSDS 133.0-B-2) each, and up again.
+//! PDUs down to AOS transfer frames (CCSDS 732.0-B-4), a space packet (CCSDS 133.0-B-2) each, and
+//! up again.
 //!
-//! One packet carries one whole PDU. A [`Down`] lays the packets of one direction over the frames of a virtual channel, and an [`Up`] gives
-//! back the PDUs all of whose frames came, in order. What can't be read is dropped, and each drop is counted under its number.
+//! One packet carries one whole PDU. A [`Down`] lays the packets of one direction over the frames
+//! of a virtual channel, and an [`Up`] gives back the PDUs all of whose frames came, in order. What
+//! can't be read is dropped, and each drop is counted under its number.
 //!
 //! ```
 //! let mut down = Down::new(alloc, link, 8192)?;

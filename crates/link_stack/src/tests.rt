@@ -59,7 +59,8 @@ fn whole_frames(alloc: Global, down: &mut Down) -> Result<Vec<Vec<u8>>, Fail> {
     Ok(frames)
 }
 
-/// What a new end takes of those frames of which the bit in `delivered` is 1, the first frame's the lowest.
+/// What a new end takes of those frames of which the bit in `delivered` is 1, the first frame's the
+/// lowest.
 fn taken(alloc: Global, frames: &[Vec<u8>], delivered: u8) -> Result<(Up, Vec<Vec<u8>>), Fail> {
     let mut up = Up::new(alloc, LINK);
     let mut out = Vec::new(alloc);
@@ -133,7 +134,8 @@ fn what_survives_of_the_replies_comes_up(rt: HostRuntime) -> Result<(), Fail> {
     check_every_choice(&rt, alloc, &[ACK_OF_EOF, FINISHED], &[0b01, 0b11], 2)
 }
 
-/// Checks that there are so many frames, at most 4, and that whichever of them are struck, exactly the PDUs of the survivors come.
+/// Checks that there are so many frames, at most 4, and that whichever of them are struck, exactly
+/// the PDUs of the survivors come.
 fn check_every_choice(
     rt: &impl Abort,
     alloc: Global,
@@ -189,9 +191,11 @@ fn a_missing_count_is_a_resync(rt: HostRuntime) -> Result<(), Fail> {
     Ok(())
 }
 
-/// A caller that needs no lemma: what is in a cleared `out` then are the PDUs that the frame completed.
+/// A caller that needs no lemma: what is in a cleared `out` then are the PDUs that the frame
+/// completed.
 fn take_alone(up: &mut Up, frame: &[u8], out: &mut Vec<Vec<u8>>)
-    ensures { (ps : List (List ℕ)) (marks : List Bool) (missed : ℕ) → IsUp up.old ps marks missed → IsNextFrame up.old.link ps marks frame.now →
+    ensures { (ps : List (List ℕ)) (marks : List Bool) (missed : ℕ) → IsUp up.old ps marks missed →
+        IsNextFrame up.old.link ps marks frame.now →
         (pdus_in (survivors up.old.link.zone (marks ++ true ∷ []) 0 ps) ≡ pdus_in (survivors up.old.link.zone marks 0 ps) ++ octets_of_each out.new.items)
         ⊎ (up.new.drops ≡ counted up.old.drops NoMemory) }
 {

@@ -71,7 +71,8 @@ impl Drops {
 
 /// Counts what a zone tells, or that it found no memory.
 fn note(fed: &Result<Notes, AllocError>, drops: &mut Drops)
-    ensures read { IfOk fed.now (λ n. drops.new ≡ all_counted drops.old (zone_drops n.resync n.bad)) }
+    ensures read { IfOk fed.now (λ n. drops.new
+        ≡ all_counted drops.old (zone_drops n.resync n.bad)) }
     ensures no_memory { OnErr fed.now (drops.new ≡ counted drops.old NoMemory) }
 {
     let Ok(notes) = fed else {
@@ -116,7 +117,8 @@ fn drop_header(packet: &mut Vec<u8>)
     packet.drain(..header::HEADER_LEN);
 }
 
-/// Makes the packet at a place its PDU, or takes it out and counts why it carries none. Answers the place of the next.
+/// Makes the packet at a place its PDU, or takes it out and counts why it carries none. Answers the
+/// place of the next.
 fn unpack_one(
     link: &LinkConfig,
     packets: &mut Vec<Vec<u8>>,
@@ -127,7 +129,8 @@ fn unpack_one(
     requires long { AreLong (drop place (octets_of_each packets.old.items)) }
     ensures nearer { length packets.new.items + place < length packets.old.items + result }
     ensures within { result ≤ length packets.new.items }
-    ensures one { (q : List ℕ) (left : List (List ℕ)) → drop place (octets_of_each packets.old.items) ≡ q ∷ left →
+    ensures one { (q : List ℕ) (left : List (List ℕ)) →
+        drop place (octets_of_each packets.old.items) ≡ q ∷ left →
         (drop result (octets_of_each packets.new.items) ≡ left)
         × (take result (octets_of_each packets.new.items) ≡ take place (octets_of_each packets.old.items) ++ pdus_of link.now (q ∷ []))
         × (drops.new ≡ all_counted drops.old (drops_of link.now (q ∷ []))) }
@@ -145,8 +148,10 @@ fn unpack_one(
 fn unpack(link: &LinkConfig, packets: &mut Vec<Vec<u8>>, first: usize, drops: &mut Drops)
     requires there { first ≤ length packets.old.items }
     requires long { AreLong (drop first (octets_of_each packets.old.items)) }
-    ensures pdus { octets_of_each packets.new.items ≡ take first (octets_of_each packets.old.items) ++ pdus_of link.now (drop first (octets_of_each packets.old.items)) }
-    ensures drops { drops.new ≡ all_counted drops.old (drops_of link.now (drop first (octets_of_each packets.old.items))) }
+    ensures pdus { octets_of_each packets.new.items ≡ take first (octets_of_each packets.old.items)
+        ++ pdus_of link.now (drop first (octets_of_each packets.old.items)) }
+    ensures drops { drops.new
+        ≡ all_counted drops.old (drops_of link.now (drop first (octets_of_each packets.old.items))) }
 {
     let mut place = first;
     while place < packets.len() {
@@ -154,7 +159,8 @@ fn unpack(link: &LinkConfig, packets: &mut Vec<Vec<u8>>, first: usize, drops: &m
     }
 }
 
-/// The receiving end of one direction of a link: what it takes of frames are the PDUs all of whose frames came, in order.
+/// The receiving end of one direction of a link: what it takes of frames are the PDUs all of whose
+/// frames came, in order.
 ///
 /// Whatever can't be read is dropped, and counted under one number.
 #[derive(Debug, Drop)]
@@ -182,7 +188,8 @@ impl Up {
         requires { IsLink link }
         ensures new { result ≡ record { link = link; last = None; begun = []; drops = replicate 11 0 } }
         // It is as no frame of a stream of the link leaves it.
-        ensures stream { (ps : List (List ℕ)) → ArePackets ps → AreOfLink link ps → IsUp result ps [] 0 }
+        ensures stream { (ps : List (List ℕ)) → ArePackets ps → AreOfLink link ps →
+            IsUp result ps [] 0 }
     {
         Up {
             link,
@@ -192,15 +199,16 @@ impl Up {
         }
     }
 
-    /// How often something was dropped under a number: 1 to 6 are [`FrameError`]'s, 7 to 11 those of
-    /// [`LinkDrop`]. It stays at the greatest `u64`; of any other number it is 0.
+    /// How often something was dropped under a number: 1 to 6 are [`FrameError`]'s, 7 to 11 those
+    /// of [`LinkDrop`]. It stays at the greatest `u64`; of any other number it is 0.
     pub fn drops(&self, number: u8) -> u64
         ensures { result ≡ count_of self.now.drops number }
     {
         self.drops.of(number)
     }
 
-    /// Reads a zone whose first header pointer may be any but that of idle data. False where it found no memory.
+    /// Reads a zone whose first header pointer may be any but that of idle data. False where it
+    /// found no memory.
     fn read_zone(
         &mut self,
         pointer: u16,
@@ -224,11 +232,13 @@ impl Up {
         fed.is_ok()
     }
 
-    /// Reads the M_PDU of a frame of the link with this count. False where its zone found no memory.
+    /// Reads the M_PDU of a frame of the link with this count. False where its zone found no
+    /// memory.
     fn read_mpdu(&mut self, count: u32, mpdu: &[u8], out: &mut Vec<Vec<u8>>) -> bool
         requires count { count < frame_counts }
         requires len { length mpdu.now ≡ 2 + self.old.link.zone }
-        ensures all { result ≡ true → Takes (mpdu_read self.old count mpdu.now) self.old self.new (octets_of_each out.old.items) (octets_of_each out.new.items) }
+        ensures all { result ≡ true →
+            Takes (mpdu_read self.old count mpdu.now) self.old self.new (octets_of_each out.old.items) (octets_of_each out.new.items) }
         ensures front { result ≡ false → ((pointer_of mpdu.now == 2046) ≡ false)
             × TakesFront (mpdu_read self.old count mpdu.now) self.old self.new (octets_of_each out.old.items) (octets_of_each out.new.items) }
     {
@@ -244,7 +254,8 @@ impl Up {
 
     /// Reads a frame. False where its zone found no memory.
     fn read_frame(&mut self, frame: &[u8], out: &mut Vec<Vec<u8>>) -> bool
-        ensures all { result ≡ true → Takes (frame_read self.old frame.now) self.old self.new (octets_of_each out.old.items) (octets_of_each out.new.items) }
+        ensures all { result ≡ true →
+            Takes (frame_read self.old frame.now) self.old self.new (octets_of_each out.old.items) (octets_of_each out.new.items) }
         ensures front { result ≡ false → HasZone self.old.link frame.now
             × TakesFront (frame_read self.old frame.now) self.old self.new (octets_of_each out.old.items) (octets_of_each out.new.items) }
     {
@@ -257,24 +268,32 @@ impl Up {
         }
     }
 
-    /// Takes a frame, whatever its octets are, appends the PDUs that it completes, and counts what is dropped of it.
+    /// Takes a frame, whatever its octets are, appends the PDUs that it completes, and counts what
+    /// is dropped of it.
     ///
-    /// A frame that `decode` of `aos_frame` refuses counts as its refusal, 1 to 6, and changes nothing else. A first header pointer of 2046 counts
-    /// as 6 alone, and lets a begun packet go. Else a zone counts at most one `Resync`, a `BadPacket` for each header of another version than
-    /// `000`, and an `OtherApid` or else a `Segmented` for each whole packet that isn't idle and carries no PDU of the link.
+    /// A frame that `decode` of `aos_frame` refuses counts as its refusal, 1 to 6, and changes
+    /// nothing else. A first header pointer of 2046 counts as 6 alone, and lets a begun packet go.
+    /// Else a zone counts at most one `Resync`, a `BadPacket` for each header of another version
+    /// than `000`, and an `OtherApid` or else a `Segmented` for each whole packet that isn't idle
+    /// and carries no PDU of the link.
     ///
-    /// Where a growth was refused, `NoMemory` is counted in the place of what the zone tells: a front of its PDUs was appended, the begun packet
-    /// and the rest of the zone are let go, and the next zone is read from its pointer, as if this frame had been lost.
+    /// Where a growth was refused, `NoMemory` is counted in the place of what the zone tells: a
+    /// front of its PDUs was appended, the begun packet and the rest of the zone are let go, and
+    /// the next zone is read from its pointer, as if this frame had been lost.
     pub fn take(&mut self, frame: &[u8], out: &mut Vec<Vec<u8>>)
         // What any frame does.
         ensures takes { Takes (frame_read self.old frame.now) self.old self.new (octets_of_each out.old.items) (octets_of_each out.new.items)
             ⊎ (HasZone self.old.link frame.now × TakesFront (frame_read self.old frame.now) self.old self.new (octets_of_each out.old.items) (octets_of_each out.new.items)) }
         // What the next frame of a stream does, where the end is as those before it leave it.
-        ensures stream { (ps : List (List ℕ)) (marks : List Bool) (missed : ℕ) → IsUp self.old ps marks missed → IsNextFrame self.old.link ps marks frame.now →
+        ensures stream { (ps : List (List ℕ)) (marks : List Bool) (missed : ℕ) →
+            IsUp self.old ps marks missed → IsNextFrame self.old.link ps marks frame.now →
             TakesNext self.old self.new ps marks missed (octets_of_each out.old.items) (octets_of_each out.new.items)
             ⊎ TakesNextFront self.old self.new ps marks (octets_of_each out.old.items) (octets_of_each out.new.items) }
-        // So where nothing was in `out`, it has the PDUs of the survivors that this frame completes, unless it found no memory.
-        ensures delivered { (ps : List (List ℕ)) (marks : List Bool) (missed : ℕ) → IsUp self.old ps marks missed → IsNextFrame self.old.link ps marks frame.now → out.old.items ≡ [] →
+        // So where nothing was in `out`, it has the PDUs of the survivors that this frame
+        // completes, unless it found no memory.
+        ensures delivered { (ps : List (List ℕ)) (marks : List Bool) (missed : ℕ) →
+            IsUp self.old ps marks missed → IsNextFrame self.old.link ps marks frame.now →
+            out.old.items ≡ [] →
             (pdus_in (survivors self.old.link.zone (marks ++ true ∷ []) 0 ps) ≡ pdus_in (survivors self.old.link.zone marks 0 ps) ++ octets_of_each out.new.items)
             ⊎ (self.new.drops ≡ counted self.old.drops NoMemory) }
     {

@@ -10,14 +10,18 @@ use crate::reassembler::Reassembler;
 use aos_frame::{FRAME_COUNTS, VcCounter, VcMonitor};
 use std::alloc::{AllocError, Global};
 
-/// The capacity of the packer that [`carry`] uses: each packet fits, behind a zone that isn't whole.
+/// The capacity of the packer that [`carry`] uses: each packet fits, behind a zone that isn't
+/// whole.
 const CARRY_CAPACITY: usize = 131_072;
 
-/// Whether the next frame is struck, and the place of the mark behind its own. A frame past the list's end isn't.
+/// Whether the next frame is struck, and the place of the mark behind its own. A frame past the
+/// list's end isn't.
 fn next_mark(struck: &[bool], sent: usize) -> (bool, usize)
     requires { sent ≤ length struck.now }
-    ensures lost { (n : ℕ) → sent ≡ min n (length struck.now) → get_or struck.now n false ≡ result.0 }
-    ensures sent { (n : ℕ) → sent ≡ min n (length struck.now) → result.1 ≡ min (n + 1) (length struck.now) }
+    ensures lost { (n : ℕ) → sent ≡ min n (length struck.now) → get_or struck.now n false
+        ≡ result.0 }
+    ensures sent { (n : ℕ) → sent ≡ min n (length struck.now) → result.1
+        ≡ min (n + 1) (length struck.now) }
     ensures place { result.1 ≤ length struck.now }
 {
     if sent < struck.len() {
@@ -67,11 +71,13 @@ fn drain(
     requires most { length buffer.old ≤ 2040 }
     requires place { sent.old ≤ length struck.now }
     requires few { AreFewInARow struck.now }
-    ensures stream { (ps : List (List ℕ)) → IsCarried ps struck.now (length buffer.old) packer.old reassembler.old counts.old.counter counts.old.monitor sent.old (octets_of_each out.old.items) →
+    ensures stream { (ps : List (List ℕ)) →
+        IsCarried ps struck.now (length buffer.old) packer.old reassembler.old counts.old.counter counts.old.monitor sent.old (octets_of_each out.old.items) →
         OnOk result (IsCarried ps struck.now (length buffer.old) packer.new reassembler.new counts.new.counter counts.new.monitor sent.new (octets_of_each out.new.items)) }
     ensures flag { packer.new.flushed ≡ packer.old.flushed }
     ensures emptied { OnOk result (length packer.new.waiting < packer.new.size) }
-    ensures fixed { (packer.new.size ≡ packer.old.size) × (packer.new.capacity ≡ packer.old.capacity) }
+    ensures fixed { (packer.new.size ≡ packer.old.size)
+        × (packer.new.capacity ≡ packer.old.capacity) }
     ensures place { sent.new ≤ length struck.now }
 {
     while let Some(pointer) = packer.zone(buffer) {
@@ -87,12 +93,14 @@ fn drain(
     Ok(())
 }
 
-/// Packs the packets into zones of `zone` octets (16 to 2,040), flushes, strikes frame n where `struck[n]` is true, and puts packets together
-/// again from the zones of the others, whose 24 bit frame counts tell where some are missing. A frame past the list's end is not struck.
+/// Packs the packets into zones of `zone` octets (16 to 2,040), flushes, strikes frame n where
+/// `struck[n]` is true, and puts packets together again from the zones of the others, whose 24 bit
+/// frame counts tell where some are missing. A frame past the list's end is not struck.
 ///
-/// What comes back are exactly the packets that aren't idle and of which no frame was struck, in order. Each item of `packets` is one whole
-/// packet, which [`are_packets`](crate::are_packets) tests, and fewer than 16,777,216 frames in a row are struck, which [`are_few_in_a_row`]
-/// tests. `AllocError` comes only where a growth was refused.
+/// What comes back are exactly the packets that aren't idle and of which no frame was struck, in
+/// order. Each item of `packets` is one whole packet, which [`are_packets`](crate::are_packets)
+/// tests, and fewer than 16,777,216 frames in a row are struck, which [`are_few_in_a_row`] tests.
+/// `AllocError` comes only where a growth was refused.
 pub fn carry(
     alloc: Global,
     packets: &[Vec<u8>],
@@ -103,7 +111,8 @@ pub fn carry(
     requires few { AreFewInARow struck.now }
     requires least { 16 ≤ zone }
     requires most { zone ≤ 2040 }
-    ensures { IfOk result (λ v. AreSurvivors (octets_of_each packets.now ++ fill_of zone (octets_of_each packets.now)) struck.now zone (octets_of_each v.items)) }
+    ensures { IfOk result (λ v. AreSurvivors (octets_of_each packets.now
+        ++ fill_of zone (octets_of_each packets.now)) struck.now zone (octets_of_each v.items)) }
 {
     let mut packer = Packer::new(alloc, zone, CARRY_CAPACITY)?;
     let mut reassembler = Reassembler::new(alloc);

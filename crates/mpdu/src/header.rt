@@ -1,4 +1,5 @@
-//! What a reassembler asks of the primary header in front of some octets (CCSDS 133.0-B-2, 4.1.3), also where its packet isn't all there.
+//! What a reassembler asks of the primary header in front of some octets (CCSDS 133.0-B-2, 4.1.3),
+//! also where its packet isn't all there.
 ghost use Rattle.std.specs.Prelude.{◌≡◌, ◌≤◌, ◌↔◌, IsTrue, length, drop, vec_capacity};
 ghost use Rattle.mpdu.specs.Stream.{IsPacket, ArePackets, header_len, header_ok, is_idle};
 ghost use Rattle.mpdu.specs.Feeding.{octets_of_each};

@@ -6,20 +6,23 @@ ghost use Rattle.mpdu.specs.Packets.{packets_of, begins_with_packet, busy};
 ghost use Rattle.mpdu.specs.Parts.{IsPartOf, AreAmong, CompletesMore};
 ghost use Rattle.mpdu.specs.Places.{IsInSpan, IsFirstStart, HasNoStart, starts};
 
-/// A packet, the octets from a up to b of a stream, arrived where each zone of its span was delivered, and only there.
+/// A packet, the octets from a up to b of a stream, arrived where each zone of its span was
+/// delivered, and only there.
 pub fn a_packet_arrives_with_its_span()
     ensures { (z a b : ℕ) (marks : List Bool) → 0 < z → a < b →
         (arrived z 0 marks a b ≡ true) ↔ ((f : ℕ) → IsInSpan z a b f → slice_index_or marks f false ≡ true) }
 {}
 
-/// A zone's first header pointer is the place of the first packet that starts in the zone, or 2047 where none does.
+/// A zone's first header pointer is the place of the first packet that starts in the zone, or 2047
+/// where none does.
 pub fn a_pointer_is_the_first_start()
     ensures { (z start : ℕ) (ps : List (List ℕ)) →
         IsFirstStart z start (starts 0 ps) (first_header_pointer z start 0 ps)
         ⊎ ((first_header_pointer z start 0 ps ≡ 2047) × HasNoStart z start (starts 0 ps)) }
 {}
 
-/// A first header pointer that was written is read from the octets again, and its zone stands behind it.
+/// A first header pointer that was written is read from the octets again, and its zone stands
+/// behind it.
 pub fn a_written_pointer_is_read()
     ensures { (at : ℕ) (zone : List ℕ) → at < 2048 →
         (pointer_of (pointer_octets at ++ zone) ≡ at) × (drop 2 (pointer_octets at ++ zone) ≡ zone) }
@@ -32,43 +35,55 @@ pub fn octets_are_their_packets()
         (rest : List ℕ) × (text ≡ stream (packets_of text) ++ rest) × (begins_with_packet rest ≡ false) }
 {}
 
-/// Octets spell the packets that they were made of, whatever stands behind these, as long as no packet begins there.
+/// Octets spell the packets that they were made of, whatever stands behind these, as long as no
+/// packet begins there.
 pub fn packets_are_read_again()
-    ensures before { (ps : List (List ℕ)) (rest : List ℕ) → ArePackets ps → begins_with_packet rest ≡ false →
+    ensures before { (ps : List (List ℕ)) (rest : List ℕ) → ArePackets ps → begins_with_packet rest
+        ≡ false →
         packets_of (stream ps ++ rest) ≡ ps }
     ensures alone { (ps : List (List ℕ)) → ArePackets ps → packets_of (stream ps) ≡ ps }
 {}
 
-/// Of a stream's packets those survive, in order, all of whose zones were delivered. Where fewer zones were, a part of these packets survives,
-/// and one zone more completes no packet that it would not complete else.
+/// Of a stream's packets those survive, in order, all of whose zones were delivered. Where fewer
+/// zones were, a part of these packets survives, and one zone more completes no packet that it
+/// would not complete else.
 pub fn fewer_zones_give_a_part()
-    ensures sent { (z : ℕ) (marks : List Bool) (ps : List (List ℕ)) → IsPartOf (survivors z marks 0 ps) (busy ps) }
+    ensures sent { (z : ℕ) (marks : List Bool) (ps : List (List ℕ)) →
+        IsPartOf (survivors z marks 0 ps) (busy ps) }
     ensures part { (z : ℕ) (few marks : List Bool) (ps : List (List ℕ)) → AreAmong few marks →
         IsPartOf (survivors z few 0 ps) (survivors z marks 0 ps) }
-    ensures next { (z : ℕ) (few marks : List Bool) (ps added : List (List ℕ)) → ArePackets ps → AreAmong few marks →
+    ensures next { (z : ℕ) (few marks : List Bool) (ps added : List (List ℕ)) → ArePackets ps →
+        AreAmong few marks →
         survivors z (few ++ true ∷ []) 0 ps ≡ survivors z few 0 ps ++ added → CompletesMore z marks ps added }
 {}
 
 /// What is in a part is in the whole.
 pub fn a_part_has_no_more()
-    ensures { (whole part : List (List ℕ)) (x : List ℕ) → IsPartOf part whole → Contains part x → Contains whole x }
+    ensures { (whole part : List (List ℕ)) (x : List ℕ) → IsPartOf part whole → Contains part x →
+        Contains whole x }
 {}
 
 /// A zone that is struck completes no packet, and of the packet that it cuts nothing is kept.
 pub fn a_struck_zone_completes_nothing()
     ensures survivors { (z : ℕ) (marks : List Bool) (ps : List (List ℕ)) → 0 < z → ArePackets ps →
         survivors z (marks ++ false ∷ []) 0 ps ≡ survivors z marks 0 ps }
-    ensures begun { (z : ℕ) (marks : List Bool) (ps : List (List ℕ)) → 0 < z → begun z (marks ++ false ∷ []) 0 ps ≡ [] }
+    ensures begun { (z : ℕ) (marks : List Bool) (ps : List (List ℕ)) → 0 < z →
+        begun z (marks ++ false ∷ []) 0 ps ≡ [] }
 {}
 
-/// A packet that is put behind the others changes no zone that was whole before, nor what the zones so far give and leave.
+/// A packet that is put behind the others changes no zone that was whole before, nor what the zones
+/// so far give and leave.
 pub fn a_later_packet_changes_nothing()
-    ensures zone { (z start : ℕ) (ps : List (List ℕ)) (q : List ℕ) → start + z ≤ length (stream ps) →
+    ensures zone { (z start : ℕ) (ps : List (List ℕ)) (q : List ℕ) → start + z
+        ≤ length (stream ps) →
         zone z start (stream (ps ++ q ∷ [])) ≡ zone z start (stream ps) }
-    ensures pointer { (z start : ℕ) (ps : List (List ℕ)) (q : List ℕ) → start + z ≤ length (stream ps) →
+    ensures pointer { (z start : ℕ) (ps : List (List ℕ)) (q : List ℕ) → start + z
+        ≤ length (stream ps) →
         first_header_pointer z start 0 (ps ++ q ∷ []) ≡ first_header_pointer z start 0 ps }
-    ensures survivors { (z : ℕ) (marks : List Bool) (ps : List (List ℕ)) (q : List ℕ) → IsPacket q → length marks * z ≤ length (stream ps) →
+    ensures survivors { (z : ℕ) (marks : List Bool) (ps : List (List ℕ)) (q : List ℕ) → IsPacket q →
+        length marks * z ≤ length (stream ps) →
         survivors z marks 0 (ps ++ q ∷ []) ≡ survivors z marks 0 ps }
-    ensures begun { (z : ℕ) (marks : List Bool) (ps : List (List ℕ)) (q : List ℕ) → IsPacket q → length marks * z ≤ length (stream ps) →
+    ensures begun { (z : ℕ) (marks : List Bool) (ps : List (List ℕ)) (q : List ℕ) → IsPacket q →
+        length marks * z ≤ length (stream ps) →
         begun z marks 0 (ps ++ q ∷ []) ≡ begun z marks 0 ps }
 {}

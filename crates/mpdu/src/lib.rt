@@ -1,11 +1,12 @@
 //! Packets over the zones of M_PDUs, and back (CCSDS 732.0-B-4, 4.1.4.2).
 //!
-//! Packets lie end to end over the packet zones of the frames of a virtual channel. A zone's end may cut a packet, its header too, and each
-//! zone's first header pointer says where the first packet begins that starts in it. A [`Packer`] lays packets out so, a [`Reassembler`] gives
-//! back those all of whose zones came, and [`carry`] does both.
+//! Packets lie end to end over the packet zones of the frames of a virtual channel. A zone's end
+//! may cut a packet, its header too, and each zone's first header pointer says where the first
+//! packet begins that starts in it. A [`Packer`] lays packets out so, a [`Reassembler`] gives back
+//! those all of whose zones came, and [`carry`] does both.
 //!
-//! A packer takes whole packets and lends zones, each with the first header pointer that goes in front of it in its M_PDU. A reassembler
-//! takes these and gives the packets:
+//! A packer takes whole packets and lends zones, each with the first header pointer that goes in
+//! front of it in its M_PDU. A reassembler takes these and gives the packets:
 //!
 //! ```
 //! let mut packer = Packer::new(alloc, 16, 1024)?;
@@ -44,7 +45,8 @@ pub use reassembler::{Notes, Reassembler};
 /// The first header pointer of a zone in which no packet starts (CCSDS 732.0-B-4, 4.1.4.2.3).
 pub const NO_START: u16 = 2047;
 
-/// The first header pointer of a zone that holds idle data only (CCSDS 732.0-B-4, 4.1.4.2.3). A [`Packer`] never makes one.
+/// The first header pointer of a zone that holds idle data only (CCSDS 732.0-B-4, 4.1.4.2.3). A
+/// [`Packer`] never makes one.
 pub const ONLY_IDLE: u16 = 2046;
 
 /// The most octets that a zone may have.

@@ -48,7 +48,8 @@ fn append_idle(octets: &mut Vec<u8>, len: usize)
     let _ = octets.extend_from_slice(&packet[..len]);
 }
 
-// Moves what waits behind the octets that were taken to the buffer's start, where so many more octets do not fit behind it.
+// Moves what waits behind the octets that were taken to the buffer's start, where so many more
+// octets do not fit behind it.
 fn make_room(octets: &mut Vec<u8>, taken: &mut usize, count: usize)
     requires { taken.old ≤ length octets.old.items }
     ensures waiting { drop taken.new octets.new.items ≡ drop taken.old octets.old.items }
@@ -65,12 +66,14 @@ fn make_room(octets: &mut Vec<u8>, taken: &mut usize, count: usize)
 
 /// Lays packets end to end over zones of one size, and lends each zone's first header pointer.
 ///
-/// All octets that wait lie in one buffer, made with it: beside the capacity 2,047 octets for what `flush` adds. So no call takes memory.
+/// All octets that wait lie in one buffer, made with it: beside the capacity 2,047 octets for what
+/// `flush` adds. So no call takes memory.
 #[derive(Debug, Drop)]
 pub struct Packer {
     size: usize,
     capacity: usize,
-    // behind the octets that were taken: moving the others at each zone would cost more the more wait
+    // behind the octets that were taken: moving the others at each zone would cost more the more
+    // wait
     waiting: Vec<u8>,
     taken: usize,
     first: usize,
@@ -86,14 +89,16 @@ impl Model for Packer {
 }
 
 impl Packer {
-    /// A packer of zones of `zone` octets (16 to 2,040) that holds `capacity` octets at most (up to 131,072), none of them yet.
+    /// A packer of zones of `zone` octets (16 to 2,040) that holds `capacity` octets at most (up to
+    /// 131,072), none of them yet.
     ///
     /// `AllocError` comes only where its buffer was refused.
     pub fn new(alloc: Global, zone: usize, capacity: usize) -> Result<Self, AllocError>
         requires least { 16 ≤ zone }
         requires most { zone ≤ 2040 }
         requires capacity { capacity ≤ 131072 }
-        ensures { IfOk result (λ p. p ≡ record { size = zone; capacity = capacity; waiting = []; first = 0; flushed = false }) }
+        ensures { IfOk result (λ p. p
+            ≡ record { size = zone; capacity = capacity; waiting = []; first = 0; flushed = false }) }
     {
         Ok(Packer {
             size: zone,
@@ -122,29 +127,36 @@ impl Packer {
             .saturating_sub(self.waiting.len() - self.taken)
     }
 
-    /// Puts a packet behind the others, or tells that there is no room for it: that the waiting octets with its own pass the capacity.
+    /// Puts a packet behind the others, or tells that there is no room for it: that the waiting
+    /// octets with its own pass the capacity.
     ///
-    /// The packet is a whole one, which [`is_packet`](crate::is_packet) tests. Where it answers `Full` nothing changed.
+    /// The packet is a whole one, which [`is_packet`](crate::is_packet) tests. Where it answers
+    /// `Full` nothing changed.
     pub fn push(&mut self, packet: &[u8]) -> Result<(), Full>
         requires { IsPacket packet.now }
-        ensures full { IsErr result ↔ (self.old.capacity < length self.old.waiting + length packet.now) }
+        ensures full { IsErr result
+            ↔ (self.old.capacity < length self.old.waiting + length packet.now) }
         ensures err { OnErr result (self.new ≡ self.old) }
         ensures fixed { (self.new.size ≡ self.old.size) × (self.new.capacity ≡ self.old.capacity) }
         ensures unflushed { OnOk result (self.new.flushed ≡ false) }
         ensures waiting { OnOk result (self.new.waiting ≡ self.old.waiting ++ packet.now) }
-        ensures len { OnOk result (length self.new.waiting ≡ length self.old.waiting + length packet.now) }
+        ensures len { OnOk result (length self.new.waiting
+            ≡ length self.old.waiting + length packet.now) }
 
         // Its stream is then longer by the packet.
-        ensures stream { (ps : List (List ℕ)) (taken : ℕ) → IsAt self.old ps taken → OnOk result (IsAt self.new (ps ++ packet.now ∷ []) taken) }
+        ensures stream { (ps : List (List ℕ)) (taken : ℕ) → IsAt self.old ps taken →
+            OnOk result (IsAt self.new (ps ++ packet.now ∷ []) taken) }
     {
         self.append(packet)
     }
 
     fn append(&mut self, packet: &[u8]) -> Result<(), Full>
         requires { 1 ≤ length packet.now }
-        ensures full { IsErr result ↔ (self.old.capacity < length self.old.waiting + length packet.now) }
+        ensures full { IsErr result
+            ↔ (self.old.capacity < length self.old.waiting + length packet.now) }
         ensures err { OnErr result (self.new ≡ self.old) }
-        ensures ok { OnOk result (self.new ≡ record self.old { waiting = self.old.waiting ++ packet.now; flushed = false }) }
+        ensures ok { OnOk result (self.new
+            ≡ record self.old { waiting = self.old.waiting ++ packet.now; flushed = false }) }
     {
         if packet.len() > self.room() {
             return Err(Full);
@@ -155,21 +167,25 @@ impl Packer {
         Ok(())
     }
 
-    /// Writes the oldest whole zone, takes it off, and answers its first header pointer; `None` where no whole zone waits.
+    /// Writes the oldest whole zone, takes it off, and answers its first header pointer; `None`
+    /// where no whole zone waits.
     pub fn zone(&mut self, out: &mut [u8]) -> Option<u16>
         requires { length out.old ≡ self.old.size }
         ensures none { IsNone result ↔ (length self.old.waiting < self.old.size) }
         ensures kept { IfNone result ((self.new ≡ self.old) × (out.new ≡ out.old)) }
 
         // It is the stream's zone behind those taken, and one more is taken then.
-        ensures stream { (ps : List (List ℕ)) (taken : ℕ) → IsAt self.old ps taken → IfSome result (λ at.
+        ensures stream { (ps : List (List ℕ)) (taken : ℕ) → IsAt self.old ps taken →
+            IfSome result (λ at.
             ZoneOf ps taken self.old.size at out.new × IsAt self.new ps (taken + 1)) }
         ensures below { IfSome result (λ at. at < 2048) }
         ensures octets { IfSome result (λ at. out.new ≡ take self.old.size self.old.waiting) }
-        ensures rest { IfSome result (λ at. self.new.waiting ≡ drop self.old.size self.old.waiting) }
+        ensures rest { IfSome result (λ at. self.new.waiting
+            ≡ drop self.old.size self.old.waiting) }
         ensures flag { self.new.flushed ≡ self.old.flushed }
         ensures fixed { (self.new.size ≡ self.old.size) × (self.new.capacity ≡ self.old.capacity) }
-        ensures shorter { IfSome result (λ at. length self.new.waiting + self.old.size ≡ length self.old.waiting) }
+        ensures shorter { IfSome result (λ at. length self.new.waiting + self.old.size
+            ≡ length self.old.waiting) }
     {
         if self.waiting_len() < self.size {
             return None;
@@ -200,11 +216,13 @@ impl Packer {
 
     /// Fills the begun zone by an idle packet, where one is begun.
     ///
-    /// Of r free octets the idle packet has r, or 7 where r is less: its rest opens the next zone then. A zone that holds nothing, or only
-    /// such a rest, isn't begun: a second flush adds nothing.
+    /// Of r free octets the idle packet has r, or 7 where r is less: its rest opens the next zone
+    /// then. A zone that holds nothing, or only such a rest, isn't begun: a second flush adds
+    /// nothing.
     pub fn flush(&mut self)
         // Its stream is then longer by the idle packet, or as it was.
-        ensures stream { (ps : List (List ℕ)) (taken : ℕ) → IsAt self.old ps taken → IsAt self.new (ps ++ flush_of self.old) taken }
+        ensures stream { (ps : List (List ℕ)) (taken : ℕ) → IsAt self.old ps taken →
+            IsAt self.new (ps ++ flush_of self.old) taken }
         ensures fixed { (self.new.size ≡ self.old.size) × (self.new.capacity ≡ self.old.capacity) }
         ensures once { flush_of self.new ≡ [] }
         ensures same { flush_of self.old ≡ [] → self.new ≡ self.old }
@@ -212,7 +230,12 @@ impl Packer {
         // It is one packet at most, and carries nothing.
         ensures idle { (length (flush_of self.old) ≤ 1) × (busy (flush_of self.old) ≡ []) }
         ensures most { length self.new.waiting ≤ self.new.capacity + 2047 }
-        ensures flushed { (self.new ≡ self.old) ⊎ (self.new ≡ record self.old { waiting = self.old.waiting ++ stream (flush_of self.old); flushed = true }) }
+        ensures flushed { (self.new ≡ self.old)
+            ⊎ (self.new ≡ record self.old {
+              waiting = self.old.waiting
+                  ++ stream (flush_of self.old);
+              flushed = true;
+            }) }
     {
         let _ = &self.size;
         self.fill();
@@ -222,7 +245,8 @@ impl Packer {
         ensures fixed { (self.new.size ≡ self.old.size) × (self.new.capacity ≡ self.old.capacity) }
         ensures most { length self.new.waiting ≤ self.new.capacity + 2047 }
         ensures same { flush_of self.old ≡ [] → self.new ≡ self.old }
-        ensures more { (n : ℕ) → flush_of self.old ≡ idle_packet n ∷ [] → self.new ≡ record self.old { waiting = self.old.waiting ++ idle_packet n; flushed = true } }
+        ensures more { (n : ℕ) → flush_of self.old ≡ idle_packet n ∷ [] → self.new
+            ≡ record self.old { waiting = self.old.waiting ++ idle_packet n; flushed = true } }
     {
         let begun = (self.waiting.len() - self.taken) % self.size;
         if self.flushed || begun == 0 {

@@ -15,7 +15,8 @@ use std::marker::Model;
 pub struct Notes {
     /// A begun packet was let go, or the first header pointer lies outside the zone.
     ///
-    /// False at the pointer [`ONLY_IDLE`](crate::ONLY_IDLE), and where the begun packet is one of the bad ones.
+    /// False at the pointer [`ONLY_IDLE`](crate::ONLY_IDLE), and where the begun packet is one of
+    /// the bad ones.
     pub resync: bool,
     /// How many packet headers had another version than `000`: 0 to 2.
     pub bad: u8,
@@ -38,7 +39,8 @@ struct Front {
 /// Appends a packet that isn't idle.
 fn emit(alloc: Global, packet: &[u8], out: &mut Vec<Vec<u8>>) -> Result<(), AllocError>
     requires { 6 ≤ length packet.now }
-    ensures ok { OnOk result (octets_of_each out.new.items ≡ octets_of_each out.old.items ++ keep (not (is_idle packet.now)) packet.now []) }
+    ensures ok { OnOk result (octets_of_each out.new.items ≡ octets_of_each out.old.items
+        ++ keep (not (is_idle packet.now)) packet.now []) }
     ensures err { OnErr result (octets_of_each out.new.items ≡ octets_of_each out.old.items) }
 {
     if !has_idle_apid(packet) {
@@ -50,10 +52,14 @@ fn emit(alloc: Global, packet: &[u8], out: &mut Vec<Vec<u8>>) -> Result<(), Allo
 /// Takes the whole packets off the front, and tells where the begun one starts.
 fn cut(alloc: Global, bytes: &[u8], out: &mut Vec<Vec<u8>>) -> Result<Front, AllocError>
     ensures end { IfOk result (λ c. c.end ≤ length bytes.now) }
-    ensures held { IfOk result (λ c. drop c.end bytes.now ≡ (scan (length bytes.now) bytes.now).begun) }
+    ensures held { IfOk result (λ c. drop c.end bytes.now
+        ≡ (scan (length bytes.now) bytes.now).begun) }
     ensures bad { IfOk result (λ c. c.bad ≡ (scan (length bytes.now) bytes.now).bad) }
-    ensures ok { OnOk result (octets_of_each out.new.items ≡ octets_of_each out.old.items ++ (scan (length bytes.now) bytes.now).out) }
-    ensures err { OnErr result ((n : ℕ) × (octets_of_each out.new.items ≡ octets_of_each out.old.items ++ take n (scan (length bytes.now) bytes.now).out)) }
+    ensures ok { OnOk result (octets_of_each out.new.items ≡ octets_of_each out.old.items
+        ++ (scan (length bytes.now) bytes.now).out) }
+    ensures err { OnErr result ((n : ℕ)
+        × (octets_of_each out.new.items ≡ octets_of_each out.old.items
+        ++ take n (scan (length bytes.now) bytes.now).out)) }
 {
     let mut rest = bytes;
     while rest.len() >= HEADER_LEN {
@@ -80,11 +86,13 @@ fn cut(alloc: Global, bytes: &[u8], out: &mut Vec<Vec<u8>>) -> Result<Front, All
     })
 }
 
-/// How the packet of which the first `held` of these octets are held stands at the zone that the others are.
+/// How the packet of which the first `held` of these octets are held stands at the zone that the
+/// others are.
 fn judge(octets: &[u8], held: usize, pointer: usize, zone: usize) -> Joined
     requires some { 6 ≤ length octets.now }
     requires parts { held + zone ≡ length octets.now }
-    ensures goes_on { result.goes_on ≡ goes_on zone (take held octets.now) pointer (drop held octets.now) }
+    ensures goes_on { result.goes_on
+        ≡ goes_on zone (take held octets.now) pointer (drop held octets.now) }
     ensures bad { result.bad ≡ turns_bad (take held octets.now) (drop held octets.now) }
 {
     if held == 0 {
@@ -113,9 +121,11 @@ fn judge(octets: &[u8], held: usize, pointer: usize, zone: usize) -> Joined
 /// Leaves what is read of a zone, behind what is held.
 fn join(held: &mut Vec<u8>, pointer: usize, zone: &[u8]) -> Result<Joined, AllocError>
     requires { 6 ≤ length zone.now }
-    ensures goes_on { IfOk result (λ j. j.goes_on ≡ goes_on (length zone.now) held.old.items pointer zone.now) }
+    ensures goes_on { IfOk result (λ j. j.goes_on
+        ≡ goes_on (length zone.now) held.old.items pointer zone.now) }
     ensures bad { IfOk result (λ j. j.bad ≡ turns_bad held.old.items zone.now) }
-    ensures ok { OnOk result (held.new.items ≡ to_read (length zone.now) held.old.items pointer zone.now) }
+    ensures ok { OnOk result (held.new.items
+        ≡ to_read (length zone.now) held.old.items pointer zone.now) }
     ensures err { OnErr result (held.new.items ≡ held.old.items) }
 {
     let before = held.len();
@@ -127,7 +137,8 @@ fn join(held: &mut Vec<u8>, pointer: usize, zone: &[u8]) -> Result<Joined, Alloc
     Ok(joined)
 }
 
-/// Takes the whole packets off what is read of a zone behind what is held, and tells whether a bad header ended them.
+/// Takes the whole packets off what is read of a zone behind what is held, and tells whether a bad
+/// header ended them.
 fn read_behind(
     alloc: Global,
     held: &mut Vec<u8>,
@@ -136,12 +147,18 @@ fn read_behind(
     out: &mut Vec<Vec<u8>>,
 ) -> Result<(Joined, bool), AllocError>
     requires { 6 ≤ length zone.now }
-    ensures goes_on { IfOk result (λ r. r.0.goes_on ≡ goes_on (length zone.now) held.old.items pointer zone.now) }
+    ensures goes_on { IfOk result (λ r. r.0.goes_on
+        ≡ goes_on (length zone.now) held.old.items pointer zone.now) }
     ensures turns_bad { IfOk result (λ r. r.0.bad ≡ turns_bad held.old.items zone.now) }
-    ensures held { OnOk result (held.new.items ≡ (step (length zone.now) held.old.items pointer zone.now).begun) }
-    ensures bad { IfOk result (λ r. r.1 ≡ (step (length zone.now) held.old.items pointer zone.now).bad) }
-    ensures ok { OnOk result (octets_of_each out.new.items ≡ octets_of_each out.old.items ++ (step (length zone.now) held.old.items pointer zone.now).out) }
-    ensures err { OnErr result ((n : ℕ) × (octets_of_each out.new.items ≡ octets_of_each out.old.items ++ take n (step (length zone.now) held.old.items pointer zone.now).out)) }
+    ensures held { OnOk result (held.new.items
+        ≡ (step (length zone.now) held.old.items pointer zone.now).begun) }
+    ensures bad { IfOk result (λ r. r.1
+        ≡ (step (length zone.now) held.old.items pointer zone.now).bad) }
+    ensures ok { OnOk result (octets_of_each out.new.items ≡ octets_of_each out.old.items
+        ++ (step (length zone.now) held.old.items pointer zone.now).out) }
+    ensures err { OnErr result ((n : ℕ)
+        × (octets_of_each out.new.items ≡ octets_of_each out.old.items
+        ++ take n (step (length zone.now) held.old.items pointer zone.now).out)) }
 {
     let joined = join(held, pointer, zone)?;
     let front = cut(alloc, held, out)?;
@@ -192,10 +209,15 @@ impl Reassembler {
     ) -> Result<Notes, AllocError>
         requires { 6 ≤ length zone.now }
         ensures held { OnOk result (self.new ≡ (reading self.old follows pointer zone.now).begun) }
-        ensures ok { OnOk result (octets_of_each out.new.items ≡ octets_of_each out.old.items ++ (reading self.old follows pointer zone.now).out) }
-        ensures resync { IfOk result (λ n. n.resync ≡ resync (length zone.now) self.old follows pointer zone.now) }
-        ensures bad { IfOk result (λ n. n.bad ≡ bad_count (length zone.now) (held_at follows self.old) pointer zone.now) }
-        ensures err { OnErr result ((n : ℕ) × (octets_of_each out.new.items ≡ octets_of_each out.old.items ++ take n (reading self.old follows pointer zone.now).out)) }
+        ensures ok { OnOk result (octets_of_each out.new.items ≡ octets_of_each out.old.items
+            ++ (reading self.old follows pointer zone.now).out) }
+        ensures resync { IfOk result (λ n. n.resync
+            ≡ resync (length zone.now) self.old follows pointer zone.now) }
+        ensures bad { IfOk result (λ n. n.bad
+            ≡ bad_count (length zone.now) (held_at follows self.old) pointer zone.now) }
+        ensures err { OnErr result ((n : ℕ)
+            × (octets_of_each out.new.items ≡ octets_of_each out.old.items
+            ++ take n (reading self.old follows pointer zone.now).out)) }
         ensures err_held { OnErr result (self.new ≡ []) }
     {
         let had = !self.begun.is_empty();
@@ -216,14 +238,18 @@ impl Reassembler {
         }
     }
 
-    /// Reads one zone (16 to 2,040 octets), appends the packets that it completes, and says what was out of order.
+    /// Reads one zone (16 to 2,040 octets), appends the packets that it completes, and says what
+    /// was out of order.
     ///
-    /// `follows` is false where a frame since the last one fed was lost: the begun packet is let go then. A begun packet goes on from the zone's
-    /// start if the pointer fits its length, else it is let go, and reading starts at the pointer. Idle packets are passed over. Behind a header
-    /// with another version than `000` the rest of the zone is let go, save where it is the begun packet's: then reading goes on at the pointer.
+    /// `follows` is false where a frame since the last one fed was lost: the begun packet is let go
+    /// then. A begun packet goes on from the zone's start if the pointer fits its length, else it
+    /// is let go, and reading starts at the pointer. Idle packets are passed over. Behind a header
+    /// with another version than `000` the rest of the zone is let go, save where it is the begun
+    /// packet's: then reading goes on at the pointer.
     ///
-    /// `AllocError` comes only where a growth was refused: a front of the packets that would have come was appended then, the begun packet and
-    /// the rest of the zone are let go, and the next zone is read from its pointer.
+    /// `AllocError` comes only where a growth was refused: a front of the packets that would have
+    /// come was appended then, the begun packet and the rest of the zone are let go, and the next
+    /// zone is read from its pointer.
     pub fn feed(
         &mut self,
         pointer: u16,
@@ -234,25 +260,34 @@ impl Reassembler {
         requires least { 16 ≤ length zone.now }
         requires most { length zone.now ≤ 2040 }
 
-        // Where it is as the zones of a stream so far left it, it is then as this one leaves it too, and the survivors that this one completes were appended.
-        ensures stream { (ps : List (List ℕ)) (marks : List Bool) → IsNext ps marks (held_at follows self.old) pointer zone.now →
+        // Where it is as the zones of a stream so far left it, it is then as this one leaves it
+        // too, and the survivors that this one completes were appended.
+        ensures stream { (ps : List (List ℕ)) (marks : List Bool) →
+            IsNext ps marks (held_at follows self.old) pointer zone.now →
             OnOk result (IsTaken ps marks (length zone.now) self.new (octets_of_each out.old.items) (octets_of_each out.new.items)) }
 
         // Of a stream no packet is bad, and none is let go but by a zone that was lost.
-        ensures in_order { (ps : List (List ℕ)) (marks : List Bool) → IsNext ps marks (held_at follows self.old) pointer zone.now →
+        ensures in_order { (ps : List (List ℕ)) (marks : List Bool) →
+            IsNext ps marks (held_at follows self.old) pointer zone.now →
             IfOk result (λ n. (n.resync ≡ (not follows && is_some self.old)) × (n.bad ≡ 0)) }
 
         // Without memory a front of them was appended, and nothing is held.
-        ensures cut_short { (ps : List (List ℕ)) (marks : List Bool) → IsNext ps marks (held_at follows self.old) pointer zone.now →
+        ensures cut_short { (ps : List (List ℕ)) (marks : List Bool) →
+            IsNext ps marks (held_at follows self.old) pointer zone.now →
             OnErr result (IsFrontTaken ps marks (length zone.now) (octets_of_each out.old.items) (octets_of_each out.new.items)) }
         ensures err { OnErr result (self.new ≡ []) }
 
         // What any zone gives, whatever it is.
         ensures begun { OnOk result (self.new ≡ (reading self.old follows pointer zone.now).begun) }
-        ensures appended { OnOk result (octets_of_each out.new.items ≡ octets_of_each out.old.items ++ (reading self.old follows pointer zone.now).out) }
-        ensures front { OnErr result ((n : ℕ) × (octets_of_each out.new.items ≡ octets_of_each out.old.items ++ take n (reading self.old follows pointer zone.now).out)) }
-        ensures resync { IfOk result (λ n. n.resync ≡ resync (length zone.now) self.old follows pointer zone.now) }
-        ensures bad { IfOk result (λ n. n.bad ≡ bad_count (length zone.now) (held_at follows self.old) pointer zone.now) }
+        ensures appended { OnOk result (octets_of_each out.new.items ≡ octets_of_each out.old.items
+            ++ (reading self.old follows pointer zone.now).out) }
+        ensures front { OnErr result ((n : ℕ)
+            × (octets_of_each out.new.items ≡ octets_of_each out.old.items
+            ++ take n (reading self.old follows pointer zone.now).out)) }
+        ensures resync { IfOk result (λ n. n.resync
+            ≡ resync (length zone.now) self.old follows pointer zone.now) }
+        ensures bad { IfOk result (λ n. n.bad
+            ≡ bad_count (length zone.now) (held_at follows self.old) pointer zone.now) }
     {
         self.read_zone(pointer, zone, follows, out)
     }

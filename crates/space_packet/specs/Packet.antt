@@ -48,7 +48,8 @@ count_field text = field text 18 14
 abbrev pub length_field : List ℕ → ℕ
 length_field text = field text 32 16
 
--- The octets are this packet, and no more. Its data field has one octet more than the data length field says, so that none is empty.
+-- The octets are this packet, and no more. Its data field has one octet more than the data length
+-- field says, so that none is empty.
 pub record SpellsPacket (p : Parts) (text : List ℕ) : Type 0 where
   pub version : version_field text ≡ 0
   pub kind : type_field text ≡ flag p.kind

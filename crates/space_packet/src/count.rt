@@ -67,8 +67,8 @@ impl Watch {
         Watch { last: None }
     }
 
-    /// How many packets are missing between the last one seen and one with this count, modulo [`SEQUENCE_COUNTS`]; 0 at the first.
-    /// The count is below that, as `decode` answers it.
+    /// How many packets are missing between the last one seen and one with this count, modulo
+    /// [`SEQUENCE_COUNTS`]; 0 at the first. The count is below that, as `decode` answers it.
     pub fn see(&mut self, count: u16) -> u16
         requires { count < 16384 }
         ensures first { self.old ≡ None → result ≡ 0 }

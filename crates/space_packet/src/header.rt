@@ -1,6 +1,8 @@
-//! What the primary header in front of some octets says (CCSDS 133.0-B-2, 4.1.3), also where its packet isn't all there.
+//! What the primary header in front of some octets says (CCSDS 133.0-B-2, 4.1.3), also where its
+//! packet isn't all there.
 //!
-//! The octets are 6 at least: the header's. What stands behind them, and how much of it, says nothing here.
+//! The octets are 6 at least: the header's. What stands behind them, and how much of it, says
+//! nothing here.
 ghost use Rattle.std.specs.Prelude.{◌≡◌, ◌==◌, ◌+◌, ◌<◌, ◌≤◌, length};
 ghost use Rattle.space_packet.specs.Packet.{version_field, type_field, secondary_field, apid_field, flags_field, count_field, length_field};
 
@@ -61,7 +63,8 @@ pub fn sequence_count(octets: &[u8]) -> u16
     get(octets, 18, 14) as u16
 }
 
-/// The octets that the packet has in all, its header among them, 7 to 65,542: the length field holds 7 less.
+/// The octets that the packet has in all, its header among them, 7 to 65,542: the length field
+/// holds 7 less.
 pub fn packet_len(octets: &[u8]) -> usize
     requires { 6 ≤ length octets.now }
     ensures value { result ≡ 7 + length_field octets.now }

@@ -9,10 +9,12 @@ pub fn written_packet_is_read()
 
 /// No spelling of a packet begins another, and octets spell at most one packet.
 pub fn no_packet_begins_another()
-    ensures { (p q : Parts) (a b x y : List ℕ) → SpellsPacket p a → SpellsPacket q b → a ++ x ≡ b ++ y → (p ≡ q) × (a ≡ b) × (x ≡ y) }
+    ensures { (p q : Parts) (a b x y : List ℕ) → SpellsPacket p a → SpellsPacket q b → a ++ x ≡ b
+        ++ y → (p ≡ q) × (a ≡ b) × (x ≡ y) }
 {}
 
 /// A packet has no spelling but the written one, since no bit of it is spare.
 pub fn a_packet_has_one_spelling()
-    ensures { (p : Parts) (text : List ℕ) → ((i : ℕ) → slice_index text i < 256) → SpellsPacket p text → IsWritable p × (text ≡ packet_octets p) }
+    ensures { (p : Parts) (text : List ℕ) → ((i : ℕ) → slice_index text i < 256) →
+        SpellsPacket p text → IsWritable p × (text ≡ packet_octets p) }
 {}

@@ -1,6 +1,7 @@
 //! Space packets (CCSDS 133.0-B-2): their octets, their counts, and the counts that are missing.
 //!
-//! None of these calls takes memory: a packet's body is borrowed from the octets that it was read from, or that it is to be written from.
+//! None of these calls takes memory: a packet's body is borrowed from the octets that it was read
+//! from, or that it is to be written from.
 //!
 //! A packet is written into octets of the caller's, and read from them; behind it may stand more:
 //!
@@ -35,15 +36,17 @@ pub use packet::{IDLE_APID, Packet, is_packet_len};
 
 /// The packet in front, and the octets behind it.
 ///
-/// `Short` where there are fewer than 6 octets, or fewer than the length field says; `Version` where the version number is not 0. With at
-/// least 6 octets `Version` is told first.
+/// `Short` where there are fewer than 6 octets, or fewer than the length field says; `Version`
+/// where the version number is not 0. With at least 6 octets `Version` is told first.
 pub fn decode(bytes: &[u8]) -> Result<(Packet<'_>, &[u8]), PacketError>
     ensures found { IfOk result (λ x. SpellsPacket (view x.0) (take (packet_len (view x.0)) bytes.now)) }
     ensures rest { IfOk result (λ x. x.1.now ≡ drop (packet_len (view x.0)) bytes.now) }
-    ensures only { (p : Parts) (front behind : List ℕ) → SpellsPacket p front → bytes.now ≡ front ++ behind → IsOkAnd result (λ x. (view x.0 ≡ p) × (x.1.now ≡ behind)) }
+    ensures only { (p : Parts) (front behind : List ℕ) → SpellsPacket p front → bytes.now ≡ front
+        ++ behind → IsOkAnd result (λ x. (view x.0 ≡ p) × (x.1.now ≡ behind)) }
 
     // The same, of a front that is told by its length.
-    ensures front { (p : Parts) (n : ℕ) → SpellsPacket p (take n bytes.now) → IsOkAnd result (λ x. (view x.0 ≡ p) × (x.1.now ≡ drop n bytes.now)) }
+    ensures front { (p : Parts) (n : ℕ) → SpellsPacket p (take n bytes.now) →
+        IsOkAnd result (λ x. (view x.0 ≡ p) × (x.1.now ≡ drop n bytes.now)) }
     ensures refused { result_err result ≡ fault bytes.now }
 {
     if bytes.len() < HEADER_LEN {
@@ -68,8 +71,8 @@ pub fn decode(bytes: &[u8]) -> Result<(Packet<'_>, &[u8]), PacketError>
     Ok((packet, rest))
 }
 
-/// Writes the packet, which [`Packet::is_writable`] tests, into the first octets, and says how many they are: 6 and those of its body. The
-/// octets behind stay.
+/// Writes the packet, which [`Packet::is_writable`] tests, into the first octets, and says how many
+/// they are: 6 and those of its body. The octets behind stay.
 pub fn encode(packet: &Packet<'_>, out: &mut [u8]) -> usize
     requires writable { IsWritable (view packet.now) }
     requires room { packet_len (view packet.now) ≤ length out.old }
@@ -84,8 +87,8 @@ pub fn encode(packet: &Packet<'_>, out: &mut [u8]) -> usize
     put_bytes(front, at, packet.body)
 }
 
-/// Writes an idle packet of `len` octets (7 to 65,542, which [`is_packet_len`] tests) into the first octets: sequence flags `11`, count 0,
-/// data octets 0. The octets behind stay.
+/// Writes an idle packet of `len` octets (7 to 65,542, which [`is_packet_len`] tests) into the
+/// first octets: sequence flags `11`, count 0, data octets 0. The octets behind stay.
 pub fn encode_idle(len: usize, out: &mut [u8])
     requires least { 7 ≤ len }
     requires most { len ≤ 65542 }

@@ -5,7 +5,8 @@ ghost use Rattle.space_packet.specs.Packet.{IsWritable, IsPacketLen, view};
 use crate::count::SEQUENCE_COUNTS;
 use crate::header::HEADER_LEN;
 
-/// The application process identifier of idle packets, whose data mean nothing (CCSDS 133.0-B-2, 4.1.3.3.4).
+/// The application process identifier of idle packets, whose data mean nothing (CCSDS 133.0-B-2,
+/// 4.1.3.3.4).
 pub const IDLE_APID: u16 = 2047;
 
 /// A space packet; its body lies in octets that are lent.
@@ -17,7 +18,8 @@ pub struct Packet<'a> {
     pub kind: bool,
     /// Whether the body begins with a secondary header.
     pub secondary: bool,
-    /// The sequence flags, 0 to 3: 0 a continuation, 1 the first and 2 the last segment, 3 unsegmented.
+    /// The sequence flags, 0 to 3: 0 a continuation, 1 the first and 2 the last segment, 3
+    /// unsegmented.
     pub flags: u8,
     /// The sequence count, 0 to 16,383.
     pub count: u16,
@@ -33,7 +35,8 @@ impl Packet<'_> {
         self.apid == IDLE_APID
     }
 
-    /// Whether each part fits its field, as `encode` asks: so it is of each packet that `decode` answers.
+    /// Whether each part fits its field, as `encode` asks: so it is of each packet that `decode`
+    /// answers.
     pub fn is_writable(&self) -> bool
         ensures { IsTrue result ↔ IsWritable (view self.now) }
     {

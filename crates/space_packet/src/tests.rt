@@ -3,7 +3,8 @@ ghost use Rattle.space_packet.specs.Packet.{IsWritable, packet_len, view};
 
 use super::*;
 
-/// A caller that needs no lemma, but only clauses of `encode` and `decode`: what it writes it reads.
+/// A caller that needs no lemma, but only clauses of `encode` and `decode`: what it writes it
+/// reads.
 fn written_and_read(packet: &Packet<'_>, out: &mut [u8]) -> u16
     requires writable { IsWritable (view packet.now) }
     requires room { packet_len (view packet.now) ≤ length out.old }
