@@ -68,7 +68,7 @@ impl<O: Outbox> FuseOutbox<O> {
         &self.store
     }
 
-    /// The store behind the fuse, which is let go.
+    /// The store behind the fuse; the fuse itself is dropped.
     pub fn into_inner(self) -> O
         ensures { result ≡ self.store }
     {
@@ -128,7 +128,7 @@ impl<I: Inbox> FuseInbox<I> {
         &self.store
     }
 
-    /// The store behind the fuse, which is let go.
+    /// The store behind the fuse; the fuse itself is dropped.
     pub fn into_inner(self) -> I
         ensures { result ≡ self.store }
     {

@@ -33,7 +33,7 @@ pub trait Inbox: Drop {
     /// after one call of it.
     ghost steps: { Self → InboxCall → Self → Type 0 } = { λ _ _ _. Unit {0} };
 
-    /// Begins a transaction, with nothing staged for it. What was staged for it is let go.
+    /// Begins a transaction, with nothing staged for it. What was staged for it before is dropped.
     ///
     /// # Errors
     ///
@@ -64,7 +64,7 @@ pub trait Inbox: Drop {
 
     /// Publishes the first `size` staged octets of a transaction under a name, in the place of a
     /// file that is there. The transaction is begun, as with `write`, and all these octets were
-    /// written. What is staged for it is let go.
+    /// written. What is staged for it is dropped.
     ///
     /// # Errors
     ///

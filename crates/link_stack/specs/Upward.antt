@@ -111,8 +111,8 @@ pub record TakesFront (read : FrameRead) (up new : LinkReceiverState) (old out :
   pub drops : new.drops ≡ all_counted (counted up.drops NoMemory) (drops_of up.link (take count read.packets))
   pub pdus : out ≡ old ++ pdus_of up.link (take count read.packets)
 
--- The end is as the frames of the packets' stream leave it that were taken. The marks say which
--- those are; the last `missed` frames were struck, fewer than there are counts.
+-- The receiving end is in the state in which the delivered frames of this stream leave it. The marks
+-- say which frames were delivered; the last `missed` were lost, fewer than there are frame counts.
 pub record IsUp (up : LinkReceiverState) (ps : List (List ℕ)) (marks : List Bool) (missed : ℕ) : Type 0 where
   pub packets_whole : ArePackets ps
   pub of_link : AreOfLink up.link ps

@@ -12,9 +12,9 @@ pub enum LinkDrop {
     /// header pointer 2046 tells too.
     #[error("{0}")]
     Frame(FrameError),
-    /// A begun packet was let go, since a frame was missing or the first header pointer did not fit
-    /// it, or the pointer lies outside the zone.
-    #[error("a begun packet was let go")]
+    /// A begun packet was discarded, since a frame was missing or the first header pointer did not
+    /// fit it, or the pointer lies outside the zone.
+    #[error("a begun packet was discarded")]
     Resync,
     /// A packet's version isn't `000` (CCSDS 133.0-B-2, 4.1.3.2).
     #[error("the packet version number is not 0")]

@@ -278,7 +278,7 @@ impl Up {
     /// and carries no PDU of the link.
     ///
     /// Where a growth was refused, `NoMemory` is counted in the place of what the zone tells: a
-    /// front of its PDUs was appended, the begun packet and the rest of the zone are let go, and
+    /// front of its PDUs was appended, the begun packet and the rest of the zone are discarded, and
     /// the next zone is read from its pointer, as if this frame had been lost.
     pub fn take(&mut self, frame: &[u8], out: &mut Vec<Vec<u8>>)
         // What any frame does.

@@ -59,7 +59,7 @@ abbrev pub is_some : List ℕ → Bool
 is_some [] = false
 is_some (x ∷ xs) = true
 
--- Whether a begun packet is let go for another cause than its header, or the pointer is not usable.
+-- Whether a begun packet is discarded for another cause than its header, or the pointer is not usable.
 -- The pointer 2046, of a zone of idle data, says neither.
 abbrev pub resync : ℕ → List ℕ → Bool → ℕ → List ℕ → Bool
 resync z held follows at octets =

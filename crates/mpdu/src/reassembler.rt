@@ -13,7 +13,7 @@ use std::marker::Model;
 /// What was out of order in a zone.
 #[derive(Clone, Copy, Debug, PartialEq, Eq)]
 pub struct Notes {
-    /// A begun packet was let go, or the first header pointer lies outside the zone.
+    /// A begun packet was discarded, or the first header pointer lies outside the zone.
     ///
     /// False at the pointer [`ONLY_IDLE`](crate::ONLY_IDLE), and where the begun packet is one of
     /// the bad ones.
@@ -241,15 +241,15 @@ impl Reassembler {
     /// Reads one zone (16 to 2,040 octets), appends the packets that it completes, and says what
     /// was out of order.
     ///
-    /// `follows` is false where a frame since the last one fed was lost: the begun packet is let go
-    /// then. A begun packet goes on from the zone's start if the pointer fits its length, else it
-    /// is let go, and reading starts at the pointer. Idle packets are passed over. Behind a header
-    /// with another version than `000` the rest of the zone is let go, save where it is the begun
-    /// packet's: then reading goes on at the pointer.
+    /// `follows` is false where a frame since the last one fed was lost: the begun packet is
+    /// discarded then. A begun packet goes on from the zone's start if the pointer fits its length,
+    /// else it is discarded, and reading starts at the pointer. Idle packets are passed over.
+    /// Behind a header with another version than `000` the rest of the zone is discarded, save
+    /// where it is the begun packet's: then reading goes on at the pointer.
     ///
     /// `AllocError` comes only where a growth was refused: a front of the packets that would have
-    /// come was appended then, the begun packet and the rest of the zone are let go, and the next
-    /// zone is read from its pointer.
+    /// come was appended then, the begun packet and the rest of the zone are discarded, and the
+    /// next zone is read from its pointer.
     pub fn feed(
         &mut self,
         pointer: u16,
@@ -266,7 +266,7 @@ impl Reassembler {
             IsNext ps marks (held_at follows self.old) pointer zone.now →
             OnOk result (IsTaken ps marks (length zone.now) self.new (octets_of_each out.old.items) (octets_of_each out.new.items)) }
 
-        // Of a stream no packet is bad, and none is let go but by a zone that was lost.
+        // Of a stream no packet is bad, and none is discarded but by a zone that was lost.
         ensures in_order { (ps : List (List ℕ)) (marks : List Bool) →
             IsNext ps marks (held_at follows self.old) pointer zone.now →
             IfOk result (λ n. (n.resync ≡ (not follows && is_some self.old)) × (n.bad ≡ 0)) }
