@@ -5,3 +5,5 @@ pub mod Missing
 pub mod Taken
 pub mod RangesIn
 pub mod CallerLemmas
+pub mod Kept
+pub mod Inserted

@@ -1,5 +1,5 @@
 -- The offsets of ranges, one by one.
-use Rattle.std.proofs.Common.{◌≡◌, ℕ, zero, suc, ◌+◌, ◌-◌, ◌<◌, ◌≤◌, false, ◌||◌, List, [], ◌∷◌, ◌++◌, length, get_or, take, drop, ap, ◌∙◌, arith, ◌⊎◌, inl, inr, eqb}
+use Rattle.std.proofs.Common.{◌≡◌, ℕ, zero, suc, ◌+◌, ◌-◌, ◌<◌, ◌≤◌, false, ◌||◌, List, [], ◌∷◌, length, get_or, take, ap, ◌∙◌, arith, ◌⊎◌, inl, inr, eqb}
 use Rattle.std.specs.Bool.{Decides}
 use Rattle.std.specs.Ordering.{nat_cmp}
 use Rattle.std.specs.Cmp.{nat_cmp_total, unsigned_tied}
@@ -58,38 +58,6 @@ Decides-union_of (r ∷ rs) n =
 pub same_offsets : (a b : Offsets) → ((n : ℕ) → contains a n ≡ contains b n) → a ≡ b
 same_offsets a b h = same_set nat_cmp_total nat_cmp-IsAntisymmetric a b h
 
-pub InRanges-append : (xs ys : List (ℕ × ℕ)) (n : ℕ) → InRanges (xs ++ ys) n → InRanges xs n ⊎ InRanges ys n
-InRanges-append [] ys n h = inr h
-InRanges-append (x ∷ xs) ys n (inl h) = inl (inl h)
-InRanges-append (x ∷ xs) ys n (inr h) = elim (InRanges-append xs ys n h) [ inl a ↦ inl (inr a) | inr b ↦ inr b ]
-
-pub InRanges-left : (xs ys : List (ℕ × ℕ)) (n : ℕ) → InRanges xs n → InRanges (xs ++ ys) n
-InRanges-left [] ys n h = absurd h
-InRanges-left (x ∷ xs) ys n (inl h) = inl h
-InRanges-left (x ∷ xs) ys n (inr h) = inr (InRanges-left xs ys n h)
-
-pub InRanges-right : (xs ys : List (ℕ × ℕ)) (n : ℕ) → InRanges ys n → InRanges (xs ++ ys) n
-InRanges-right [] ys n h = h
-InRanges-right (x ∷ xs) ys n h = inr (InRanges-right xs ys n h)
-
--- in the ranges before a place, or in those from it on
-pub InRanges-parts : (i : ℕ) (xs : List (ℕ × ℕ)) (n : ℕ) → InRanges xs n → InRanges (take i xs) n ⊎ InRanges (drop i xs) n
-InRanges-parts zero xs n h = inr h
-InRanges-parts (suc i) [] n h = absurd h
-InRanges-parts (suc i) (x ∷ xs) n (inl h) = inl (inl h)
-InRanges-parts (suc i) (x ∷ xs) n (inr h) = elim (InRanges-parts i xs n h) [ inl a ↦ inl (inr a) | inr b ↦ inr b ]
-
-pub InRanges-take : (i : ℕ) (xs : List (ℕ × ℕ)) (n : ℕ) → InRanges (take i xs) n → InRanges xs n
-InRanges-take zero xs n h = absurd h
-InRanges-take (suc i) [] n h = absurd h
-InRanges-take (suc i) (x ∷ xs) n (inl h) = inl h
-InRanges-take (suc i) (x ∷ xs) n (inr h) = inr (InRanges-take i xs n h)
-
-pub InRanges-drop : (i : ℕ) (xs : List (ℕ × ℕ)) (n : ℕ) → InRanges (drop i xs) n → InRanges xs n
-InRanges-drop zero xs n h = h
-InRanges-drop (suc i) [] n h = absurd h
-InRanges-drop (suc i) (x ∷ xs) n h = inr (InRanges-drop i xs n h)
-
 pub InRanges-at : (xs : List (ℕ × ℕ)) (k n : ℕ) (d : ℕ × ℕ) → k < length xs → (get_or xs k d).0 ≤ n → n < (get_or xs k d).1 → InRanges xs n
 InRanges-at [] k n d l low high = absurd (omega arith)
 InRanges-at (x ∷ xs) zero n d l low high = inl (low, high)
@@ -104,17 +72,6 @@ behind_start m (x ∷ xs) n h b (inr w) =
     let here : x.0 < x.1 = h.0 in
     let first : m < x.0 = b in
     omega arith
-
--- what lies in ranges from a place on is no less than the start there
-pub low_at : (i : ℕ) (xs : List (ℕ × ℕ)) (n : ℕ) (d : ℕ × ℕ) → AreApart xs → InRanges (drop i xs) n → (get_or xs i d).0 ≤ n
-low_at zero [] n d h w = absurd w
-low_at zero (x ∷ xs) n d h (inl w) = w.0
-low_at zero (x ∷ xs) n d h (inr w) =
-    let later : x.1 < n = behind_start x.1 xs n h.2 h.1 w in
-    let here : x.0 < x.1 = h.0 in
-    omega arith
-low_at (suc i) [] n d h w = absurd w
-low_at (suc i) (x ∷ xs) n d h w = low_at i xs n d h.2 w
 
 -- what lies in the ranges up to a place is less than the end there
 pub high_at : (k : ℕ) (xs : List (ℕ × ℕ)) (n : ℕ) (d : ℕ × ℕ) → AreApart xs → k < length xs → InRanges (take (suc k) xs) n → n < (get_or xs k d).1

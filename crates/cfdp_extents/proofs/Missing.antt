@@ -1,20 +1,15 @@
 -- The gaps between ranges, and why there is only one list of them.
-use Rattle.std.proofs.Common.{rules, subst, ◌≡◌, ℕ, suc, ◌-◌, ◌<◌, ◌≤◌, List, [], ◌∷◌, length, get_or, take, drop, refl, ap, ◌∙◌, sym, arith, ◌⊎◌, inl, inr, max}
+use Rattle.std.proofs.Common.{rules, subst, ◌≡◌, ℕ, ◌-◌, ◌<◌, ◌≤◌, List, [], ◌∷◌, length, refl, ap, ◌∙◌, sym, arith, inl, inr}
 use Rattle.std.specs.Iterator.{MakesProgress, item_count}
 use Rattle.std.specs.declared.option.Option.TheVariants.{Some, None}
-use Rattle.std.specs.List.{AllWithin, slice_get}
-use Rattle.std.specs.List.Sorted.{IsPartitionPoint}
 use Rattle.std.specs.Cmp.{nat_cmp_total}
 use Rattle.std.specs.FinSet.{contains, contains-difference}
-use Rattle.std.proofs.lemmas.List.{get_or_default, length-take-le, get_or-take}
-use Rattle.std.proofs.lemmas.Option.{slice_get_within, get_or_from_slice_get}
 use Rattle.std.proofs.lemmas.Bool.{cases_lt, lt-ltb, le-ltb}
 use Rattle.std.proofs.lemmas.Bool.Decides.{Decides-and, Decides-not, Decides-at, Decides-like, same_from_decides}
 use Rattle.cfdp_extents.specs.Offsets.{Offsets, range, union_of, missing_from, AreApart, AreRangesOf, StartBehind}
-use Rattle.cfdp_extents.specs.Ranges.{gaps_between}
-use Rattle.cfdp_extents.proofs.Apart.{apart_drop, start_at, ascending}
-use Rattle.cfdp_extents.proofs.Taken.{last-none}
-use Rattle.cfdp_extents.proofs.Members.{Decides-within, contains-range, InRanges, Decides-union_of, same_offsets, InRanges-parts, InRanges-drop, InRanges-at, behind_start, high_at}
+use Rattle.cfdp_extents.proofs.Kept.{behind-here, behind-below}
+use Rattle.cfdp_extents.specs.Ranges.{gaps_between, behind, first_behind}
+use Rattle.cfdp_extents.proofs.Members.{Decides-within, contains-range, InRanges, Decides-union_of, same_offsets, behind_start}
 
 -- the three cases of a gap list
 pub gaps-past : (start limit : ℕ) (rs : List (ℕ × ℕ)) → limit ≤ start → gaps_between start limit rs ≡ []
@@ -136,66 +131,6 @@ are-missing gaps xs start limit h forth back = record {
       (Decides-and _ _ (Decides-at _ _ (contains-range start limit n) (Decides-within start limit n)) (Decides-not _ (Decides-union_of xs n))))));
 }
 
--- `p` ranges start by `start`; the search for gaps begins at `from`, behind the last of them
-pub record Behind (xs : List (ℕ × ℕ)) (start from p : ℕ) : Type 0 where
-  pub apart : AreApart xs
-  pub within : p ≤ length xs
-  pub before : AllWithin (λ r. r.0 ≤ start) xs 0 p
-  pub behind : AllWithin (λ r. start < r.0) xs p (length xs)
-  pub from_is : ((p ≡ 0) × (from ≡ start)) ⊎ ((r : ℕ × ℕ) × (0 < p) × (get_or xs (p - 1) r ≡ r) × (from ≡ max start r.1))
-
-module _ (xs : List (ℕ × ℕ)) (start from p limit : ℕ) (b : Behind xs start from p) where
-  from-start : start ≤ from
-  from-start = elim b.from_is [ inl f ↦ omega (arith, f.1) | inr f ↦ omega (arith, f.3) ]
-
-  rest-behind : StartBehind from (drop p xs)
-  rest-behind = start_at from p xs (λ d m. elim b.from_is [
-    | inl f ↦ let at : start < (get_or xs p d).0 = b.behind p d (omega arith) m in omega (arith, f.1)
-    | inr f ↦
-        let at : start < (get_or xs p d).0 = b.behind p d (omega arith) m in
-        let up : (get_or xs (p - 1) d).1 < (get_or xs p d).0 = ascending xs (p - 1) p d b.apart (omega (arith, f.1)) m in
-        let same : get_or xs (p - 1) d ≡ get_or xs (p - 1) f.0 = get_or_default xs (p - 1) d f.0 (omega (arith, f.1)) in
-        let up' : f.0.1 < (get_or xs p d).0 = rw (same, f.2) at up in
-        omega (arith, f.3)
-  ])
-
-  -- no range before the place holds what lies from there on
-  not-before : (n : ℕ) → from ≤ n → InRanges (take p xs) n → ⊥
-  not-before n low w = elim b.from_is [
-    | inl f ↦ absurd (rw f.0 at w)
-    | inr f ↦
-        let pos : 0 < p = f.1 in
-        let is : suc (p - 1) ≡ p = omega arith in
-        let high : n < (get_or xs (p - 1) f.0).1 = high_at (p - 1) xs n f.0 b.apart (omega (arith, b.within)) (rw is w) in
-        let high' : n < f.0.1 = rw f.2 at high in
-        omega (arith, f.3)
-  ]
-
-  -- what lies before there and is no less than the start is held
-  held-before : (n : ℕ) → start ≤ n → n < from → InRanges xs n
-  held-before n low high = elim b.from_is [
-    | inl f ↦ absurd (omega (arith, f.1))
-    | inr f ↦
-        let pos : 0 < p = f.1 in
-        let at : (get_or xs (p - 1) f.0).0 ≤ start = b.before (p - 1) f.0 (omega arith) (omega arith) in
-        InRanges-at xs (p - 1) n f.0 (omega (arith, b.within)) (omega arith) (rw f.2 (omega (arith, f.3)))
-  ]
-
-  forth : (n : ℕ) → InRanges (gaps_between from limit (drop p xs)) n → IsMissing start limit xs n
-  forth n w =
-      let gap = in_gaps-forth from limit (drop p xs) n rest-behind (apart_drop p xs b.apart) w in
-      let low : from ≤ n = gap.0.0 in
-      ((omega (arith, from-start), gap.0.1), λ x. elim (InRanges-parts p xs n x) [ inl a ↦ not-before n low a | inr a ↦ gap.1 a ])
-
-  back : (n : ℕ) → IsMissing start limit xs n → InRanges (gaps_between from limit (drop p xs)) n
-  back n w = elim (cases_lt n from) [
-    | inl before ↦ absurd (w.1 (held-before n w.0.0 before))
-    | inr low ↦ in_gaps-back from limit (drop p xs) n ((low, w.0.1), λ x. w.1 (InRanges-drop p xs n x))
-  ]
-
-  pub gaps-missing : AreRangesOf (missing_from (union_of xs) start limit) (gaps_between from limit (drop p xs))
-  gaps-missing = are-missing (gaps_between from limit (drop p xs)) xs start limit (gaps-apart from limit (drop p xs) rest-behind (apart_drop p xs b.apart)) forth back
-
 -- of two lists of ranges that hold the same, the first's start is in the second
 same-first : (r : ℕ × ℕ) (rs : List (ℕ × ℕ)) (s : ℕ × ℕ) (ss : List (ℕ × ℕ)) → AreApart (r ∷ rs) → AreApart (s ∷ ss) → ((n : ℕ) → InRanges (r ∷ rs) n → InRanges (s ∷ ss) n) → s.0 ≤ r.0
 same-first r rs s ss h k to = elim (to r.0 (inl (let le : r.0 ≤ r.0 = omega arith in le, h.0))) [
@@ -258,23 +193,99 @@ pub behind_none : (limit : ℕ) (xs : List (ℕ × ℕ)) → length xs ≡ 0 →
 behind_none limit [] e = tt
 behind_none limit (x ∷ xs) e = absurd (omega arith)
 
--- what a split at the place of the ranges that start by `start` shows
-pub behind-last : (xs ys front : List (ℕ × ℕ)) (start from p : ℕ) (r : ℕ × ℕ) → ys ≡ xs → AreApart xs → p ≤ length ys → IsPartitionPoint (λ x. x.0 ≤ start) (λ x. start < x.0) ys p → front ≡ take p xs → Some r ≡ slice_get front (length front - 1) → from ≡ max start r.1 → Behind xs start from p
-behind-last xs ys front start from p r same h within parts is last from-is =
-    let within' : p ≤ length xs = rw same at within in
-    let parts' = subst (λ v. IsPartitionPoint (λ x. x.0 ≤ start) (λ x. start < x.0) v p) same parts in
-    let len : length front ≡ p = ap length is ∙ length-take-le p xs within' in
-    let last' : slice_get (take p xs) (p - 1) ≡ Some r = rw (is, length-take-le p xs within') at (sym last) in
-    let some : p - 1 < length (take p xs) = slice_get_within (take p xs) (p - 1) r last' in
-    let pos : 0 < p = omega (arith, length-take-le p xs within') in
-    let read : get_or (take p xs) (p - 1) r ≡ r = get_or_from_slice_get (take p xs) (p - 1) r r last' in
-    let read' : get_or xs (p - 1) r ≡ r = sym (get_or-take p xs (p - 1) r (omega arith)) ∙ read in
-    record { apart = h; within = within'; before = parts'.0; behind = parts'.1; from_is = inr (r, pos, read', from-is) }
+-- ---- gaps between the ranges that end behind an offset
+skipped : (o : ℕ) (r : ℕ × ℕ) (rs : List (ℕ × ℕ)) → r.1 ≤ o → behind o (r ∷ rs) ≡ behind o rs
+skipped o r rs h = rw (le-ltb o r.1 h) refl
 
-pub behind-none : (xs ys front : List (ℕ × ℕ)) (start from p : ℕ) → ys ≡ xs → AreApart xs → p ≤ length ys → IsPartitionPoint (λ x. x.0 ≤ start) (λ x. start < x.0) ys p → front ≡ take p xs → None ≡ slice_get front (length front - 1) → from ≡ start → Behind xs start from p
-behind-none xs ys front start from p same h within parts is last from-is =
-    let within' : p ≤ length xs = rw same at within in
-    let parts' = subst (λ v. IsPartitionPoint (λ x. x.0 ≤ start) (λ x. start < x.0) v p) same parts in
-    let len : length front ≡ p = ap length is ∙ length-take-le p xs within' in
-    let none : length front ≡ 0 = last-none front front refl last in
-    record { apart = h; within = within'; before = parts'.0; behind = parts'.1; from_is = inl (omega arith, from-is) }
+here : (o : ℕ) (r : ℕ × ℕ) (rs : List (ℕ × ℕ)) → o < r.1 → behind o (r ∷ rs) ≡ r ∷ rs
+here o r rs h = rw (lt-ltb o r.1 h) refl
+
+apart-behind : (o : ℕ) (xs : List (ℕ × ℕ)) → AreApart xs → AreApart (behind o xs)
+apart-behind o [] h = tt
+apart-behind o (r ∷ rs) h = elim (cases_lt o r.1) [
+  | inl d ↦ subst AreApart (sym (here o r rs d)) h
+  | inr c ↦ subst AreApart (sym (skipped o r rs c)) (apart-behind o rs h.2)
+]
+
+to-behind : (o n : ℕ) (xs : List (ℕ × ℕ)) → o ≤ n → InRanges xs n → InRanges (behind o xs) n
+to-behind o n [] le w = w
+to-behind o n (r ∷ rs) le w = elim (cases_lt o r.1) [
+  | inl d ↦ subst (λ ys. InRanges ys n) (sym (here o r rs d)) w
+  | inr c ↦ subst (λ ys. InRanges ys n) (sym (skipped o r rs c)) (elim w [ inl q ↦ absurd (omega (arith, q.1, c, le)) | inr q ↦ to-behind o n rs le q ])
+]
+
+of-behind : (o n : ℕ) (xs : List (ℕ × ℕ)) → InRanges (behind o xs) n → InRanges xs n
+of-behind o n [] w = w
+of-behind o n (r ∷ rs) w = elim (cases_lt o r.1) [
+  | inl d ↦ subst (λ ys. InRanges ys n) (here o r rs d) w
+  | inr c ↦ inr (of-behind o n rs (subst (λ ys. InRanges ys n) (skipped o r rs c) w))
+]
+
+in-behind : (o n : ℕ) (xs : List (ℕ × ℕ)) (r : ℕ × ℕ) → first_behind o xs ≡ Some r → r.0 ≤ n → n < r.1 → InRanges xs n
+in-behind o n [] r f low high = absurd (cc)
+in-behind o n (x ∷ xs) r f low high = elim (cases_lt o x.1) [
+  | inl d ↦ (let same : Some x ≡ Some r = sym (behind-here o x xs d) ∙ f in let is : x ≡ r = cc in inl (rw is low, rw is high))
+  | inr c ↦ inr (in-behind o n xs r (sym (behind-below o x xs c) ∙ f) low high)
+]
+
+first-start : (o m : ℕ) (xs : List (ℕ × ℕ)) (r : ℕ × ℕ) → first_behind o xs ≡ Some r → m < r.0 → StartBehind m (behind o xs)
+first-start o m [] r f up = tt
+first-start o m (x ∷ xs) r f up = elim (cases_lt o x.1) [
+  | inl d ↦ (let same : Some x ≡ Some r = sym (behind-here o x xs d) ∙ f in let is : x ≡ r = cc in let low : m < x.0 = rw is up in subst (StartBehind m) (sym (here o x xs d)) low)
+  | inr c ↦ subst (StartBehind m) (sym (skipped o x xs c)) (first-start o m xs r (sym (behind-below o x xs c) ∙ f) up)
+]
+
+no-start : (o m : ℕ) (xs : List (ℕ × ℕ)) → first_behind o xs ≡ None → StartBehind m (behind o xs)
+no-start o m [] f = tt
+no-start o m (x ∷ xs) f = elim (cases_lt o x.1) [
+  | inl d ↦ (let same : Some x ≡ None = sym (behind-here o x xs d) ∙ f in absurd (cc))
+  | inr c ↦ subst (StartBehind m) (sym (skipped o x xs c)) (no-start o m xs (sym (behind-below o x xs c) ∙ f))
+]
+
+all-start : (m : ℕ) (xs : List (ℕ × ℕ)) → AreApart xs → StartBehind m xs → StartBehind m (behind m xs)
+all-start m [] h b = tt
+all-start m (x ∷ xs) h b = let up : m < x.1 = omega (arith, b, h.0) in subst (StartBehind m) (sym (here m x xs up)) b
+
+next-start : (o : ℕ) (xs : List (ℕ × ℕ)) (r : ℕ × ℕ) → AreApart xs → first_behind o xs ≡ Some r → (o < r.1) × StartBehind r.1 (behind r.1 xs)
+next-start o [] r h f = absurd (cc)
+next-start o (x ∷ xs) r h f = elim (cases_lt o x.1) [
+  | inl d ↦
+      let same : Some x ≡ Some r = sym (behind-here o x xs d) ∙ f in
+      let is : r ≡ x = cc in
+      let end : r.1 ≡ x.1 = ap (λ y. y.1) is in
+      let past : x.1 ≤ r.1 = omega arith in
+      (omega (arith, d, end), subst (StartBehind r.1) (sym (skipped r.1 x xs past)) (rw end (all-start x.1 xs h.2 h.1)))
+  | inr c ↦
+      let more : (o < r.1) × StartBehind r.1 (behind r.1 xs) = next-start o xs r h.2 (sym (behind-below o x xs c) ∙ f) in
+      let past : x.1 ≤ r.1 = omega (arith, c, more.0) in
+      (more.0, subst (StartBehind r.1) (sym (skipped r.1 x xs past)) more.1)
+]
+
+gaps-from : (xs : List (ℕ × ℕ)) (start from limit : ℕ) → AreApart xs → start ≤ from → StartBehind from (behind from xs) → ((n : ℕ) → start ≤ n → n < from → InRanges xs n) →
+    AreRangesOf (missing_from (union_of xs) start limit) (gaps_between from limit (behind from xs))
+gaps-from xs start from limit h low next held =
+    let rest : AreApart (behind from xs) = apart-behind from xs h in
+    are-missing (gaps_between from limit (behind from xs)) xs start limit (gaps-apart from limit (behind from xs) next rest)
+    (λ n w. let gap = in_gaps-forth from limit (behind from xs) n next rest w in let up : from ≤ n = gap.0.0 in
+    ((omega (arith, low, up), gap.0.1), λ x. gap.1 (to-behind from n xs up x)))
+    (λ n w. elim (cases_lt n from) [
+      | inl before ↦ absurd (w.1 (held n w.0.0 before))
+      | inr up ↦ in_gaps-back from limit (behind from xs) n ((up, w.0.1), λ x. w.1 (of-behind from n xs x))
+    ])
+
+-- an offset in a range: the search begins at that range's end
+pub gaps-inside_range : (xs : List (ℕ × ℕ)) (start limit : ℕ) (r : ℕ × ℕ) → AreApart xs → first_behind start xs ≡ Some r → r.0 ≤ start →
+    AreRangesOf (missing_from (union_of xs) start limit) (gaps_between r.1 limit (behind r.1 xs))
+gaps-inside_range xs start limit r h f le =
+    let next = next-start start xs r h f in
+    let up : start < r.1 = next.0 in
+    gaps-from xs start r.1 limit h (omega arith) next.1 (λ n low high. in-behind start n xs r f (omega arith) high)
+
+-- an offset in no range: it begins there
+pub gaps-before_range : (xs : List (ℕ × ℕ)) (start limit : ℕ) (r : ℕ × ℕ) → AreApart xs → first_behind start xs ≡ Some r → start < r.0 →
+    AreRangesOf (missing_from (union_of xs) start limit) (gaps_between start limit (behind start xs))
+gaps-before_range xs start limit r h f up = gaps-from xs start start limit h (omega arith) (first-start start start xs r f up) (λ n low high. absurd (omega arith))
+
+pub gaps-behind_all : (xs : List (ℕ × ℕ)) (start limit : ℕ) → AreApart xs → first_behind start xs ≡ None →
+    AreRangesOf (missing_from (union_of xs) start limit) (gaps_between start limit (behind start xs))
+gaps-behind_all xs start limit h f = gaps-from xs start start limit h (omega arith) (no-start start start xs f) (λ n low high. absurd (omega arith))

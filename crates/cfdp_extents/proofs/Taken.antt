@@ -4,10 +4,10 @@ use Rattle.std.specs.Cmp.{nat_cmp_total}
 use Rattle.std.specs.Ordering.{nat_cmp}
 use Rattle.std.specs.FinSet.{contains, contains-empty, empty, difference, contains-difference}
 use Rattle.std.specs.List.{slice_get}
-use Rattle.std.specs.declared.option.Option.TheVariants.{Some, None}
+use Rattle.std.specs.declared.option.Option.TheVariants.{Some}
 use Rattle.std.proofs.lemmas.List.{take_all}
-use Rattle.std.proofs.lemmas.Option.{slice_get_within, get_or_from_slice_get, slice_get-get_or, none-some}
-use Rattle.std.proofs.lemmas.Bool.{both_ways, cases_lt, false_from_ne_true, eqb-true}
+use Rattle.std.proofs.lemmas.Option.{slice_get_within, get_or_from_slice_get}
+use Rattle.std.proofs.lemmas.Bool.{both_ways, cases_lt, false_from_ne_true}
 use Rattle.std.proofs.lemmas.Bool.Decides.{Decides-and, Decides-not, Decides-at, Decides-like, same_from_decides, nat_tests}
 use Rattle.cfdp_extents.specs.Offsets.{Offsets, range, union_of, AreApart}
 use Rattle.cfdp_extents.specs.Front.{IsFront}
@@ -99,21 +99,8 @@ last-read ys xs r same e =
     let within : length xs - 1 < length xs = slice_get_within xs (length xs - 1) r e' in
     (omega arith, get_or_from_slice_get xs (length xs - 1) r r e')
 
-pub last-none : (ys xs : List (ℕ × ℕ)) → ys ≡ xs → None ≡ slice_get ys (length ys - 1) → length xs ≡ 0
-last-none ys [] same e = refl
-last-none ys (x ∷ xs) same e =
-    let e' : None ≡ slice_get (x ∷ xs) (length (x ∷ xs) - 1) = rw same at e in
-    let some = slice_get-get_or (x ∷ xs) (length (x ∷ xs) - 1) x (omega arith) in
-    absurd (none-some _ (e' ∙ some))
-
 some-len : (n : ℕ) → false ≡ eqb n 0 → 0 < n
 some-len n e = grind (arith, nat_tests)
-
-no-len : (n : ℕ) → true ≡ eqb n 0 → n ≡ 0
-no-len n e = eqb-true n 0 (sym e)
-
-pub no-offsets_by_test : (xs : List (ℕ × ℕ)) (held : Offsets) → union_of xs ≡ held → true ≡ eqb (length xs) 0 → held ≡ empty
-no-offsets_by_test xs held view e = sym view ∙ no-offsets xs (no-len (length xs) e)
 
 -- a set that is empty has no ranges
 pub no_ranges : (xs : List (ℕ × ℕ)) → AreApart xs → union_of xs ≡ empty → length xs ≡ 0
@@ -134,18 +121,8 @@ first xs held r h view some read =
     let is = first-and-rest xs r (some-len (length xs) some) read in
     record { is = is; apart = subst AreApart is h; view = ap union_of (sym is) ∙ view }
 
-pub whole-front : (xs : List (ℕ × ℕ)) (held : Offsets) (r : ℕ × ℕ) (max : ℕ) → First xs held r → r.1 - r.0 ≤ max → IsFront held max r.0 r.1
-whole-front xs held r max f h =
-    let some : r.0 < r.1 = f.apart.0 in
-    subst (λ s. IsFront s max r.0 r.1) f.view (is-front r.0 r.1 r.1 max (drop 1 xs) f.apart some (omega arith) (omega arith) (inr refl))
-
 pub whole-rest : (xs : List (ℕ × ℕ)) (held : Offsets) (r : ℕ × ℕ) → First xs held r → union_of (drop 1 xs) ≡ difference held (range r.0 r.1)
 whole-rest xs held r f = union-without_first r (drop 1 xs) f.apart ∙ ap (λ s. difference s (range r.0 r.1)) f.view
-
-pub part-front : (xs : List (ℕ × ℕ)) (held : Offsets) (r : ℕ × ℕ) (max : ℕ) → First xs held r → (max ≡ 0 → ⊥) → max < r.1 - r.0 → IsFront held max r.0 (r.0 + max)
-part-front xs held r max f pos h =
-    let pos' : 0 < max = grind (arith, pos) in
-    subst (λ s. IsFront s max r.0 (r.0 + max)) f.view (is-front r.0 r.1 (r.0 + max) max (drop 1 xs) f.apart (omega arith) (omega arith) (omega arith) (inl refl))
 
 pub part-rest : (xs : List (ℕ × ℕ)) (held : Offsets) (r : ℕ × ℕ) (max : ℕ) → First xs held r → (max ≡ 0 → ⊥) → max < r.1 - r.0 → union_of (set xs 0 (r.0 + max, r.1)) ≡ difference held (range r.0 (r.0 + max))
 part-rest xs held r max f pos h =
@@ -157,3 +134,6 @@ part-rest xs held r max f pos h =
 pub part-apart : (xs : List (ℕ × ℕ)) (held : Offsets) (r : ℕ × ℕ) (max : ℕ) → First xs held r → max < r.1 - r.0 → AreApart (set xs 0 (r.0 + max, r.1))
 part-apart xs held r max f h =
     subst (λ v. AreApart (set v 0 (r.0 + max, r.1))) (sym f.is) (apart-without_front r.0 r.1 (r.0 + max) (drop 1 xs) f.apart (omega arith))
+
+pub first-of : (xs : List (ℕ × ℕ)) (held : Offsets) (r : ℕ × ℕ) → AreApart xs → union_of xs ≡ held → xs ≡ r ∷ drop 1 xs → First xs held r
+first-of xs held r h view is = record { is = is; apart = subst AreApart is h; view = ap union_of (sym is) ∙ view }

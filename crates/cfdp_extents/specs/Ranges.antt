@@ -1,5 +1,55 @@
--- Proof-only: what is left to give of the gaps between ranges.
-use Rattle.std.specs.Prelude.{ℕ, nat_lt, List, [], ◌∷◌, if◌then◌else◌}
+-- Proof-only: how ranges are kept, by their ends, and what is left to give of the gaps between them.
+use Rattle.std.specs.Prelude.{ℕ, ◌<◌, nat_lt, nat_le, min, List, [], ◌∷◌, Option, None, Some, if◌then◌else◌}
+
+-- entries, each an end with its start, as ranges
+abbrev pub turned : List (ℕ × ℕ) → List (ℕ × ℕ)
+turned [] = []
+turned (e ∷ es) = (e.1, e.0) ∷ turned es
+
+-- the first range that ends at an offset or behind it
+abbrev pub first_from : ℕ → List (ℕ × ℕ) → Option (ℕ × ℕ)
+first_from offset [] = None
+first_from offset (r ∷ rs) = if nat_lt r.1 offset then first_from offset rs else Some r
+
+-- the ranges that end behind an offset, where they ascend
+abbrev pub behind : ℕ → List (ℕ × ℕ) → List (ℕ × ℕ)
+behind offset [] = []
+behind offset (r ∷ rs) = if nat_lt offset r.1 then r ∷ rs else behind offset rs
+
+-- the first of them
+abbrev pub first_behind : ℕ → List (ℕ × ℕ) → Option (ℕ × ℕ)
+first_behind offset [] = None
+first_behind offset (r ∷ rs) = if nat_lt offset r.1 then Some r else first_behind offset rs
+
+-- an offset, or the start of the first range that ends there or behind it, whichever is less
+abbrev pub low_of : ℕ → List (ℕ × ℕ) → ℕ
+low_of start [] = start
+low_of start (r ∷ rs) = if nat_lt r.1 start then low_of start rs else min start r.0
+
+-- with the first range that ends at `end` or behind it starting at `low`, if `end` touches it, else
+-- with one range more
+abbrev pub put_in : ℕ → ℕ → List (ℕ × ℕ) → List (ℕ × ℕ)
+put_in low end [] = (low, end) ∷ []
+put_in low end (r ∷ rs) =
+    if nat_lt r.1 end then r ∷ put_in low end rs
+    else (if nat_le r.0 end then (low, r.1) ∷ rs else (low, end) ∷ r ∷ rs)
+
+-- the end of the first range that ends at `end` or behind it, if `end` touches it, else `end`
+abbrev pub key_at : ℕ → Option (ℕ × ℕ) → ℕ
+key_at end None = end
+key_at end (Some r) = if nat_le r.0 end then r.1 else end
+
+-- no range, or one that starts behind an offset
+abbrev pub Untouched : ℕ → Option (ℕ × ℕ) → Type 0
+Untouched end None = Unit {0}
+Untouched end (Some r) = end < r.0
+
+-- without the ranges that end at `start` or behind it, and before `end`
+abbrev pub outside : ℕ → ℕ → List (ℕ × ℕ) → List (ℕ × ℕ)
+outside start end [] = []
+outside start end (r ∷ rs) =
+    if nat_lt r.1 start then r ∷ outside start end rs
+    else (if nat_lt r.1 end then outside start end rs else r ∷ rs)
 
 -- the gaps from an offset up to a limit, before and between ranges that start behind the offset
 unfoldable pub gaps_between : ℕ → ℕ → List (ℕ × ℕ) → List (ℕ × ℕ)

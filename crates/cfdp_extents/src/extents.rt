@@ -1,4 +1,4 @@
-// A set of offsets in a sorted vector of ranges.
+// A set of offsets in a map of ranges.
 ghost use Rattle.std.specs.Prelude.{◌≡◌, ◌↔◌, ◌⊎◌, ℕ, ◌+◌, ◌-◌, ◌<◌, ◌≤◌, true, false, IsTrue, List, OnOk, OnErr, IsOk, IfNone, IfSome};
 ghost use Rattle.std.specs.FinSet as set;
 ghost use Rattle.std.specs.List.{All};
@@ -7,15 +7,16 @@ ghost use Rattle.cfdp_extents.specs.Front.{IsFront};
 ghost use Rattle.cfdp_extents.specs.Terms.{gaps_of, end_of, front_of};
 
 use crate::gaps::Gaps;
-use crate::search::{ending_before, starting_by};
+use crate::search::{lowest, put, range_behind, range_from, remove_within};
 use std::alloc::{AllocError, Global};
+use std::collections::BTreeMap;
 use std::marker::Model;
 
 /// A set of offsets of a file, such as those that a receiver holds. Only `insert` takes memory.
 #[derive(Debug, Drop)]
 pub struct Extents {
-    // Each range's start and end.
-    ranges: Vec<(u64, u64)>,
+    // From each range's end to its start, so that the front can be cut without memory.
+    ranges: BTreeMap<u64, u64>,
 }
 
 impl Model for Extents {
@@ -23,14 +24,15 @@ impl Model for Extents {
     ghost use Rattle.std.specs.FinSet as set;
     ghost use Rattle.std.specs.Coded.{coded_ℕ};
     ghost use Rattle.cfdp_extents.specs.Offsets.{union_of, AreApart};
+    ghost use Rattle.cfdp_extents.specs.Ranges.{turned};
 
     ghost Value = { set.FinSet nat_cmp };
 
     ghost coded = { set.code coded_ℕ };
 
-    ghost view = { λ e. union_of e.ranges.items };
+    ghost view = { λ e. union_of (turned e.ranges.entries) };
 
-    ghost invariant = { λ e. AreApart e.ranges.items };
+    ghost invariant = { λ e. AreApart (turned e.ranges.entries) };
 }
 
 impl Extents {
@@ -39,7 +41,7 @@ impl Extents {
         ensures { result ≡ set.empty }
     {
         Extents {
-            ranges: Vec::new(alloc),
+            ranges: BTreeMap::new(alloc),
         }
     }
 
@@ -50,7 +52,7 @@ impl Extents {
         self.ranges.is_empty()
     }
 
-    /// Lets go of all offsets. The memory stays, for ranges to come.
+    /// Lets go of all offsets.
     pub fn clear(&mut self)
         ensures { self.new ≡ set.empty }
     {
@@ -74,18 +76,9 @@ impl Extents {
         if start == end {
             return Ok(());
         }
-        let first = ending_before(&self.ranges, start);
-        let past = starting_by(&self.ranges, end);
-        if first == past {
-            self.ranges.insert(first, (start, end))?;
-            return Ok(());
-        }
-        let joined = (
-            start.min(self.ranges[first].0),
-            end.max(self.ranges[past - 1].1),
-        );
-        self.ranges[first] = joined;
-        self.ranges.drain(first + 1..past);
+        let low = lowest(&self.ranges, start);
+        put(&mut self.ranges, low, end)?;
+        remove_within(&mut self.ranges, start, end);
         Ok(())
     }
 
@@ -95,8 +88,13 @@ impl Extents {
         requires { start ≤ end }
         ensures { result ≡ set.is_subset (range start end) self.now }
     {
-        let past = starting_by(&self.ranges, start);
-        start == end || past > 0 && end <= self.ranges[past - 1].1
+        if start == end {
+            return true;
+        }
+        match range_from(&self.ranges, end) {
+            Some(range) => range.0 <= start,
+            None => false,
+        }
     }
 
     /// The gaps below `limit`, ascending.
@@ -121,12 +119,11 @@ impl Extents {
         // Each has an offset at least, and lies in the range asked for.
         ensures inside { All (LiesIn start limit) result }
     {
-        let (held, behind) = self.ranges.split_at(starting_by(&self.ranges, start));
-        let from = match held.last() {
-            Some(range) => start.max(range.1),
-            None => start,
+        let from = match range_behind(&self.ranges, start) {
+            Some(range) if range.0 <= start => range.1,
+            _ => start,
         };
-        Gaps::new(behind, from, limit)
+        Gaps::new(&self.ranges, from, limit)
     }
 
     /// One more than the greatest offset held; 0 where none is.
@@ -135,8 +132,8 @@ impl Extents {
         ensures last { 0 < result → set.contains self.now (result - 1) ≡ true }
         ensures is { result ≡ end_of self.now }
     {
-        match self.ranges.last() {
-            Some(range) => range.1,
+        match self.ranges.last_key_value() {
+            Some((end, _)) => *end,
             None => 0,
         }
     }
@@ -148,11 +145,13 @@ impl Extents {
         ensures spent { IfNone result ((max ≡ 0) ⊎ (self.now ≡ set.empty)) }
         ensures front { IfSome result (λ r. IsFront self.now max r.0 r.1) }
     {
-        if max == 0 || self.ranges.is_empty() {
+        if max == 0 {
             return None;
         }
-        let (start, end) = self.ranges[0];
-        Some((start, start + max.min(end - start)))
+        match range_from(&self.ranges, 0) {
+            Some((start, end)) => Some((start, start + max.min(end - start))),
+            None => None,
+        }
     }
 
     /// Takes away what `front` gives, and gives it.
@@ -163,15 +162,18 @@ impl Extents {
         ensures front { IfSome result (λ r. IsFront self.old max r.0 r.1) }
         ensures rest { IfSome result (λ r. self.new ≡ set.difference self.old (range r.0 r.1)) }
     {
-        if max == 0 || self.ranges.is_empty() {
+        if max == 0 {
             return None;
         }
-        let (start, end) = self.ranges[0];
+        let Some((start, end)) = range_from(&self.ranges, 0) else {
+            return None;
+        };
         if end - start <= max {
-            self.ranges.remove(0);
+            self.ranges.remove(&end);
             return Some((start, end));
         }
-        self.ranges[0] = (start + max, end);
+        // The key is there, so this takes no memory.
+        let _ = self.ranges.insert(end, start + max);
         Some((start, start + max))
     }
 }

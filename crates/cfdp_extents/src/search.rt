@@ -1,22 +1,77 @@
-// Places in an ascending list of ranges.
-ghost use Rattle.std.specs.Prelude.{◌≤◌, ◌<◌, length};
-ghost use Rattle.std.specs.List.Sorted.{IsPartitionPoint};
+// Steps on a map from each range's end to its start.
+ghost use Rattle.std.specs.Prelude.{◌≡◌, OnOk, OnErr};
 ghost use Rattle.cfdp_extents.specs.Offsets.{AreApart};
+ghost use Rattle.cfdp_extents.specs.Ranges.{turned, first_from, first_behind, low_of, key_at, put_in, outside, Untouched};
 
-/// How many ranges end before an offset.
-pub(crate) fn ending_before(ranges: &[(u64, u64)], offset: u64) -> usize
-    requires { AreApart ranges.now }
-    ensures within { result ≤ length ranges.now }
-    ensures parts { IsPartitionPoint (λ r. r.1 < offset) (λ r. offset ≤ r.1) ranges.now result }
+use std::alloc::AllocError;
+use std::collections::BTreeMap;
+use std::ops::Bound;
+
+/// The first range that ends at an offset or behind it: its start and its end.
+pub(crate) fn range_from(ranges: &BTreeMap<u64, u64>, offset: u64) -> Option<(u64, u64)>
+    ensures { result ≡ first_from offset (turned ranges.now.entries) }
 {
-    ranges.partition_point(|range| range.1 < offset)
+    match ranges.range(offset..).next() {
+        Some((end, start)) => Some((*start, *end)),
+        None => None,
+    }
 }
 
-/// How many ranges start at an offset or before it.
-pub(crate) fn starting_by(ranges: &[(u64, u64)], offset: u64) -> usize
-    requires { AreApart ranges.now }
-    ensures within { result ≤ length ranges.now }
-    ensures parts { IsPartitionPoint (λ r. r.0 ≤ offset) (λ r. offset < r.0) ranges.now result }
+/// The first range that ends behind an offset: its start and its end.
+pub(crate) fn range_behind(ranges: &BTreeMap<u64, u64>, offset: u64) -> Option<(u64, u64)>
+    ensures { result ≡ first_behind offset (turned ranges.now.entries) }
 {
-    ranges.partition_point(|range| range.0 <= offset)
+    match ranges
+        .range((Bound::Excluded(offset), Bound::Unbounded))
+        .next()
+    {
+        Some((end, start)) => Some((*start, *end)),
+        None => None,
+    }
+}
+
+/// Where a range starts that is joined with the first one that ends at its start or behind it.
+pub(crate) fn lowest(ranges: &BTreeMap<u64, u64>, start: u64) -> u64
+    ensures { result ≡ low_of start (turned ranges.now.entries) }
+{
+    match range_from(ranges, start) {
+        Some(range) => start.min(range.0),
+        None => start,
+    }
+}
+
+/// The end of the range that `end` touches, where that isn't before it, else `end`.
+fn touched_end(ranges: &BTreeMap<u64, u64>, end: u64) -> u64
+    ensures { result ≡ key_at end (first_from end (turned ranges.now.entries)) }
+{
+    match range_from(ranges, end) {
+        Some(range) if range.0 <= end => range.1,
+        _ => end,
+    }
+}
+
+/// Lets the range that `end` touches start at `low`, or puts in the range from `low` to `end`. Only
+/// the latter takes memory.
+pub(crate) fn put(ranges: &mut BTreeMap<u64, u64>, low: u64, end: u64) -> Result<(), AllocError>
+    requires { AreApart (turned ranges.old.entries) }
+    ensures ok { OnOk result (turned ranges.new.entries
+        ≡ put_in low end (turned ranges.old.entries)) }
+    ensures err { OnErr result (ranges.new.entries ≡ ranges.old.entries) }
+    // It fails only where no range touches the end.
+    ensures touched { OnErr result (Untouched end (first_from end (turned ranges.old.entries))) }
+{
+    ranges.insert(touched_end(ranges, end), low)?;
+    Ok(())
+}
+
+/// Removes the ranges that end at `start` or behind it, and before `end`.
+pub(crate) fn remove_within(ranges: &mut BTreeMap<u64, u64>, start: u64, end: u64)
+    ensures { turned ranges.new.entries ≡ outside start end (turned ranges.old.entries) }
+{
+    while let Some(range) = range_from(ranges, start) {
+        if range.1 >= end {
+            return;
+        }
+        ranges.remove(&range.1);
+    }
 }

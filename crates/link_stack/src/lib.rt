@@ -10,7 +10,7 @@
 //! down.send(&pdu)?;
 //! down.flush();
 //!
-//! let mut up = Up::new(alloc, link);
+//! let mut up = Up::new(alloc, link)?;
 //! let mut frame = vec![in alloc; 0u8; down.frame_len()]?;
 //! let mut pdus = Vec::new(alloc);
 //! while down.next_frame(&mut frame) {

@@ -62,7 +62,7 @@ fn whole_frames(alloc: Global, down: &mut Down) -> Result<Vec<Vec<u8>>, Fail> {
 /// What a new end takes of those frames of which the bit in `delivered` is 1, the first frame's the
 /// lowest.
 fn taken(alloc: Global, frames: &[Vec<u8>], delivered: u8) -> Result<(Up, Vec<Vec<u8>>), Fail> {
-    let mut up = Up::new(alloc, LINK);
+    let mut up = Up::new(alloc, LINK)?;
     let mut out = Vec::new(alloc);
     let mut left = delivered;
     for frame in frames {
@@ -212,7 +212,7 @@ fn taken_alone(rt: &impl Abort, alloc: Global, front: &str) -> Result<(u8, usize
     for _ in front.len()..34 {
         frame.push(0)?;
     }
-    let mut up = Up::new(alloc, LINK);
+    let mut up = Up::new(alloc, LINK)?;
     let mut out = Vec::new(alloc);
     take_alone(&mut up, &frame, &mut out);
     Ok((only_drop(&up), out.len()))
@@ -234,7 +234,7 @@ fn each_drop_has_its_number(rt: HostRuntime) -> Result<(), Fail> {
         let told = taken_alone(&rt, alloc, front)?;
         assert_eq!(rt; told, (number, pdus), "at {front}");
     }
-    let mut up = Up::new(alloc, LINK);
+    let mut up = Up::new(alloc, LINK)?;
     let mut out = Vec::new(alloc);
     up.take(&[], &mut out);
     assert_eq!(rt; only_drop(&up), 1);

@@ -183,20 +183,23 @@ impl Model for Up {
 }
 
 impl Up {
-    /// The end of a valid link, which has taken no frame. It takes no memory yet.
-    pub fn new(alloc: Global, link: LinkConfig) -> Self
+    /// The end of a valid link, which has taken no frame.
+    ///
+    /// `AllocError` comes only where the buffer of its reassembler was refused.
+    pub fn new(alloc: Global, link: LinkConfig) -> Result<Self, AllocError>
         requires { IsLink link }
-        ensures new { result ≡ record { link = link; last = None; begun = []; drops = replicate 11 0 } }
+        ensures new { IfOk result (λ u. u
+            ≡ record { link = link; last = None; begun = []; drops = replicate 11 0 }) }
         // It is as no frame of a stream of the link leaves it.
         ensures stream { (ps : List (List ℕ)) → ArePackets ps → AreOfLink link ps →
-            IsUp result ps [] 0 }
+            IfOk result (λ u. IsUp u ps [] 0) }
     {
-        Up {
+        Ok(Up {
             link,
             monitor: VcMonitor::new(),
-            reassembler: Reassembler::new(alloc),
+            reassembler: Reassembler::new(alloc)?,
             drops: Drops::new(),
-        }
+        })
     }
 
     /// How often something was dropped under a number: 1 to 6 are [`FrameError`]'s, 7 to 11 those

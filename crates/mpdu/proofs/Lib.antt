@@ -17,3 +17,4 @@ pub mod Parts
 pub mod Fewer
 pub mod NextZone
 pub mod Following
+pub mod Joining

@@ -8,3 +8,4 @@ pub mod Draining
 pub mod Places
 pub mod Packets
 pub mod Parts
+pub mod Joining

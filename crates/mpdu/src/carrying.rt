@@ -115,7 +115,7 @@ pub fn carry(
         ++ fill_of zone (octets_of_each packets.now)) struck.now zone (octets_of_each v.items)) }
 {
     let mut packer = Packer::new(alloc, zone, CARRY_CAPACITY)?;
-    let mut reassembler = Reassembler::new(alloc);
+    let mut reassembler = Reassembler::new(alloc)?;
     let mut buffer = vec![in alloc; 0u8; zone]?;
     let mut out = Vec::new(alloc);
     let mut sent = 0;

@@ -1,6 +1,6 @@
 //! What a reassembler asks of the primary header in front of some octets (CCSDS 133.0-B-2, 4.1.3),
 //! also where its packet isn't all there.
-ghost use Rattle.std.specs.Prelude.{◌≡◌, ◌≤◌, ◌↔◌, IsTrue, length, drop, vec_capacity};
+ghost use Rattle.std.specs.Prelude.{◌≡◌, ◌≤◌, ◌↔◌, IsTrue, length};
 ghost use Rattle.mpdu.specs.Stream.{IsPacket, ArePackets, header_len, header_ok, is_idle};
 ghost use Rattle.mpdu.specs.Feeding.{octets_of_each};
 
@@ -50,18 +50,4 @@ pub(crate) fn has_idle_apid(bytes: &[u8]) -> bool
     ensures { result ≡ is_idle bytes.now }
 {
     space_packet::header::apid(bytes) == IDLE_APID
-}
-
-/// Removes the first `count` octets, and keeps the room.
-pub(crate) fn drop_front(octets: &mut Vec<u8>, count: usize)
-    requires { count ≤ length octets.old.items }
-    ensures items { octets.new.items ≡ drop count octets.old.items }
-    ensures capacity { vec_capacity octets.new ≡ vec_capacity octets.old }
-{
-    if count == 0 {
-        return;
-    }
-    let left = octets.len() - count;
-    octets.copy_within(count.., 0);
-    octets.truncate(left);
 }

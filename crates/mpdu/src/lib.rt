@@ -13,7 +13,7 @@
 //! packer.push(&packet)?;
 //! packer.flush();
 //!
-//! let mut reassembler = Reassembler::new(alloc);
+//! let mut reassembler = Reassembler::new(alloc)?;
 //! let mut zone = [0u8; 16];
 //! let mut packets = Vec::new(alloc);
 //! while let Some(pointer) = packer.zone(&mut zone) {

@@ -1,12 +1,14 @@
 //! Packets into zones.
-ghost use Rattle.std.specs.Prelude.{◌≡◌, ℕ, ◌+◌, ◌-◌, ◌<◌, ◌≤◌, ◌↔◌, ◌⊎◌, ◌++◌, List, [], ◌∷◌, false, true, length, take, drop, IfOk, OnOk, OnErr, IsErr, IsNone, IfNone, IfSome, vec_capacity};
-ghost use Rattle.mpdu.specs.Stream.{IsPacket, stream};
+ghost use Rattle.std.specs.Prelude.{◌≡◌, ℕ, ◌+◌, ◌-◌, ◌<◌, ◌≤◌, ◌↔◌, ◌⊎◌, ◌++◌, List, [], ◌∷◌, false, true, length, take, drop, get_or, IfOk, OnOk, OnErr, IsErr, IsNone, IfNone, IfSome};
+ghost use Rattle.circular_buffer.specs.Buffer.{buffer};
+ghost use Rattle.mpdu.specs.Stream.{IsPacket, stream, header_len};
 ghost use Rattle.mpdu.specs.Reading.{pointer_after};
 ghost use Rattle.mpdu.specs.Packets.{busy};
 ghost use Rattle.mpdu.specs.Packing.{PackerState, skip, IsAt, ZoneOf, idle_packet, flush_of};
 
-use crate::header::{drop_front, packet_len};
+use crate::header::packet_len;
 use crate::{MAX_ZONE, NO_START};
+use circular_buffer::HeapCircularBuffer;
 use space_packet::encode_idle;
 use space_packet::header::HEADER_LEN;
 use std::alloc::{AllocError, Global};
@@ -22,60 +24,97 @@ const FLUSH_ROOM: usize = 2047;
 #[derive(Clone, Copy, Debug, PartialEq, Eq)]
 pub struct Full;
 
-/// The first start at `size` or behind it, going by the headers from the start `first`.
-fn next_first(bytes: &[u8], first: usize, size: usize) -> usize
+/// One of the octets; 0 behind the last.
+fn octet_at(octets: &HeapCircularBuffer<u8>, place: usize) -> u8
+    ensures { result ≡ get_or octets.now.items place 0 }
+{
+    octets.get(place).copied().unwrap_or(0)
+}
+
+/// The octets of the packet that begins at this place.
+fn packet_len_at(octets: &HeapCircularBuffer<u8>, place: usize) -> usize
+    requires near { place < 2040 }
+    requires inside { place + 6 ≤ length octets.now.items }
+    ensures told { result ≡ header_len (drop place octets.now.items) }
+    ensures long { 7 ≤ result }
+    ensures short { result ≤ 65542 }
+{
+    packet_len(&[
+        octet_at(octets, place),
+        octet_at(octets, place + 1),
+        octet_at(octets, place + 2),
+        octet_at(octets, place + 3),
+        octet_at(octets, place + 4),
+        octet_at(octets, place + 5),
+    ])
+}
+
+/// The first start at `size` or behind it, or whose header isn't whole there, going by the headers
+/// from the start `first`.
+fn next_in_front(front: &[u8], first: usize, size: usize) -> usize
     requires { size ≤ 2040 }
-    ensures { result ≡ skip size size first bytes.now }
+    ensures { (behind : List ℕ) → skip size size first (front.now ++ behind)
+        ≡ skip size size result (front.now ++ behind) }
 {
     let mut at = first;
-    while at < size && at + HEADER_LEN <= bytes.len() {
-        at += packet_len(&bytes[at..]);
+    while at < size && at + HEADER_LEN <= front.len() {
+        at += packet_len(&front[at..]);
     }
     at
 }
 
+/// The first start at `size` or behind it, going by the headers from the start `first`.
+fn next_first(octets: &HeapCircularBuffer<u8>, first: usize, size: usize) -> usize
+    requires { size ≤ 2040 }
+    ensures { result ≡ skip size size first octets.now.items }
+{
+    let (front, _) = octets.as_slices();
+    let mut at = next_in_front(front, first, size);
+    while at < size && at + HEADER_LEN <= octets.len() {
+        at += packet_len_at(octets, at);
+    }
+    at
+}
+
+/// Moves the first octets out, as many as `out` has.
+fn take_into(octets: &mut HeapCircularBuffer<u8>, out: &mut [u8])
+    requires { length out.old ≤ length octets.old.items }
+    ensures out { out.new ≡ take (length out.old) octets.old.items }
+    ensures rest { octets.new
+        ≡ buffer (drop (length out.old) octets.old.items) octets.old.capacity }
+{
+    let (front, _) = octets.as_slices();
+    if front.len() < out.len() {
+        let _ = octets.read_into(out);
+        return;
+    }
+    // Mostly they lie in one piece: one copy is then faster than two, one of them of nothing.
+    out.copy_from_slice(&front[..out.len()]);
+    octets.truncate_front(octets.len() - out.len());
+}
+
 /// Writes an idle packet of `len` octets behind what is there, where there is room for it.
-fn append_idle(octets: &mut Vec<u8>, len: usize)
+fn append_idle(octets: &mut HeapCircularBuffer<u8>, len: usize)
     requires least { 7 ≤ len }
     requires most { len ≤ 2040 }
-    requires room { length octets.old.items + len ≤ vec_capacity octets.old }
-    ensures items { octets.new.items ≡ octets.old.items ++ idle_packet len }
+    requires room { length octets.old.items + len ≤ octets.old.capacity }
+    ensures items { octets.new ≡ buffer (octets.old.items ++ idle_packet len) octets.old.capacity }
     ensures len { length octets.new.items ≡ length octets.old.items + len }
-    ensures capacity { vec_capacity octets.old ≤ vec_capacity octets.new }
 {
     let mut packet = [0; MAX_ZONE];
     encode_idle(len, &mut packet);
-    let _ = octets.extend_from_slice(&packet[..len]);
-}
-
-// Moves what waits behind the octets that were taken to the buffer's start, where so many more
-// octets do not fit behind it.
-fn make_room(octets: &mut Vec<u8>, taken: &mut usize, count: usize)
-    requires { taken.old ≤ length octets.old.items }
-    ensures waiting { drop taken.new octets.new.items ≡ drop taken.old octets.old.items }
-    ensures taken { taken.new ≤ length octets.new.items }
-    ensures len { length octets.new.items + taken.old ≡ length octets.old.items + taken.new }
-    ensures capacity { vec_capacity octets.new ≡ vec_capacity octets.old }
-    ensures room { (length octets.new.items + count ≤ vec_capacity octets.new) ⊎ (taken.new ≡ 0) }
-{
-    if octets.capacity() - octets.len() < count {
-        drop_front(octets, *taken);
-        *taken = 0;
-    }
+    let _ = octets.fill_from_slice(&packet[..len]);
 }
 
 /// Lays packets end to end over zones of one size, and lends each zone's first header pointer.
 ///
-/// All octets that wait lie in one buffer, made with it: beside the capacity 2,047 octets for what
-/// `flush` adds. So no call takes memory.
+/// All octets that wait lie in one ring, made with it: beside the capacity 2,047 octets for what
+/// `flush` adds. So no call takes memory, and none moves what waits.
 #[derive(Debug, Drop)]
 pub struct Packer {
     size: usize,
     capacity: usize,
-    // behind the octets that were taken: moving the others at each zone would cost more the more
-    // wait
-    waiting: Vec<u8>,
-    taken: usize,
+    waiting: HeapCircularBuffer<u8>,
     first: usize,
     flushed: bool,
 }
@@ -83,9 +122,9 @@ pub struct Packer {
 impl Model for Packer {
     ghost Value = { PackerState };
 
-    ghost view = { λ s. record { size = s.size; capacity = s.capacity; waiting = drop s.taken s.waiting.items; first = s.first; flushed = s.flushed } };
+    ghost view = { λ s. record { size = s.size; capacity = s.capacity; waiting = s.waiting.items; first = s.first; flushed = s.flushed } };
 
-    ghost invariant = { λ s. (16 ≤ s.size) × (s.size ≤ 2040) × (s.taken ≤ length s.waiting.items) × (length s.waiting.items ≤ s.taken + s.capacity + 2047) × (s.capacity + 2047 ≤ vec_capacity s.waiting) × (s.flushed ≡ false → length s.waiting.items ≤ s.taken + s.capacity) };
+    ghost invariant = { λ s. (16 ≤ s.size) × (s.size ≤ 2040) × (s.waiting.capacity ≡ s.capacity + 2047) × (length s.waiting.items ≤ s.capacity + 2047) × (s.flushed ≡ false → length s.waiting.items ≤ s.capacity) };
 }
 
 impl Packer {
@@ -103,8 +142,7 @@ impl Packer {
         Ok(Packer {
             size: zone,
             capacity,
-            waiting: Vec::with_capacity(alloc, capacity + FLUSH_ROOM)?,
-            taken: 0,
+            waiting: HeapCircularBuffer::with_capacity(alloc, capacity + FLUSH_ROOM)?,
             first: 0,
             flushed: false,
         })
@@ -116,15 +154,14 @@ impl Packer {
         ensures most { result ≤ self.now.capacity + 2047 }
     {
         let _ = &self.capacity;
-        self.waiting.len() - self.taken
+        self.waiting.len()
     }
 
     /// The octets of the longest packet for which there is room.
     pub fn room(&self) -> usize
         ensures { result ≡ self.now.capacity - length self.now.waiting }
     {
-        self.capacity
-            .saturating_sub(self.waiting.len() - self.taken)
+        self.capacity.saturating_sub(self.waiting.len())
     }
 
     /// Puts a packet behind the others, or tells that there is no room for it: that the waiting
@@ -161,8 +198,7 @@ impl Packer {
         if packet.len() > self.room() {
             return Err(Full);
         }
-        make_room(&mut self.waiting, &mut self.taken, packet.len());
-        let _ = self.waiting.extend_from_slice(packet);
+        let _ = self.waiting.fill_from_slice(packet);
         self.flushed = false;
         Ok(())
     }
@@ -201,16 +237,14 @@ impl Packer {
         ensures octets { out.new ≡ take self.old.size self.old.waiting }
         ensures rest { self.new ≡ record self.old { waiting = drop self.old.size self.old.waiting; first = skip self.old.size self.old.size self.old.first self.old.waiting - self.old.size } }
     {
-        let waiting = &self.waiting[self.taken..];
-        out.copy_from_slice(&waiting[..self.size]);
         let pointer = if self.first < self.size {
             self.first as u16
         } else {
             NO_START
         };
-        let next = next_first(waiting, self.first, self.size);
+        let next = next_first(&self.waiting, self.first, self.size);
         self.first = next.saturating_sub(self.size);
-        self.taken += self.size;
+        take_into(&mut self.waiting, out);
         pointer
     }
 
@@ -248,13 +282,11 @@ impl Packer {
         ensures more { (n : ℕ) → flush_of self.old ≡ idle_packet n ∷ [] → self.new
             ≡ record self.old { waiting = self.old.waiting ++ idle_packet n; flushed = true } }
     {
-        let begun = (self.waiting.len() - self.taken) % self.size;
+        let begun = self.waiting.len() % self.size;
         if self.flushed || begun == 0 {
             return;
         }
-        let free = (self.size - begun).max(MIN_PACKET);
-        make_room(&mut self.waiting, &mut self.taken, free);
-        append_idle(&mut self.waiting, free);
+        append_idle(&mut self.waiting, (self.size - begun).max(MIN_PACKET));
         self.flushed = true;
     }
 }

@@ -1,14 +1,18 @@
 //! Packets out of zones.
-ghost use Rattle.std.specs.Prelude.{◌≡◌, ◌≢◌, ℕ, ◌+◌, ◌-◌, ◌≤◌, ◌&&◌, ◌++◌, List, Bool, [], false, not, length, take, drop, IfOk, OnOk, OnErr};
-ghost use Rattle.mpdu.specs.Stream.{keep, is_idle};
-ghost use Rattle.mpdu.specs.Reading.{scan, step, reading, to_read, goes_on, turns_bad, held_at, is_some, resync, bad_count};
+ghost use Rattle.std.specs.Prelude.{◌≡◌, ◌≢◌, ℕ, ◌+◌, ◌-◌, ◌≤◌, ◌==◌, ◌&&◌, ◌++◌, List, Bool, [], false, not, length, take, drop, IfOk, OnOk, OnErr, vec_capacity};
+ghost use Rattle.mpdu.specs.Stream.{keep, is_idle, header_ok, header_len};
+ghost use Rattle.mpdu.specs.Reading.{scan, step, reading, to_read, goes_on, turns_bad, pointer_after, held_at, is_some, resync, bad_count};
+ghost use Rattle.mpdu.specs.Joining.{IsBegun, Heads, IsSplit};
 ghost use Rattle.mpdu.specs.Feeding.{octets_of_each, IsNext, IsTaken, IsFrontTaken};
 
-use crate::header::{drop_front, has_good_version, has_idle_apid, packet_len};
+use crate::header::{has_good_version, has_idle_apid, packet_len};
 use crate::{NO_START, ONLY_IDLE};
 use space_packet::header::HEADER_LEN;
 use std::alloc::{AllocError, Global};
 use std::marker::Model;
+
+/// Octets of the longest packet.
+const MAX_PACKET: usize = 65_542;
 
 /// What was out of order in a zone.
 #[derive(Clone, Copy, Debug, PartialEq, Eq)]
@@ -27,6 +31,8 @@ pub struct Notes {
 struct Joined {
     goes_on: bool,
     bad: bool,
+    // where in the zone the packets behind it are read
+    from: usize,
 }
 
 /// How far the whole packets reach, and whether a bad header ended them.
@@ -86,55 +92,82 @@ fn cut(alloc: Global, bytes: &[u8], out: &mut Vec<Vec<u8>>) -> Result<Front, All
     })
 }
 
-/// How the packet of which the first `held` of these octets are held stands at the zone that the
-/// others are.
-fn judge(octets: &[u8], held: usize, pointer: usize, zone: usize) -> Joined
-    requires some { 6 ≤ length octets.now }
-    requires parts { held + zone ≡ length octets.now }
-    ensures goes_on { result.goes_on
-        ≡ goes_on zone (take held octets.now) pointer (drop held octets.now) }
-    ensures bad { result.bad ≡ turns_bad (take held octets.now) (drop held octets.now) }
+/// Appends octets for which there is room.
+fn append(held: &mut Vec<u8>, octets: &[u8])
+    requires { length held.old.items + length octets.now ≤ vec_capacity held.old }
+    ensures items { held.new.items ≡ held.old.items ++ octets.now }
+    ensures capacity { vec_capacity held.old ≤ vec_capacity held.new }
 {
-    if held == 0 {
-        return Joined {
-            goes_on: false,
-            bad: false,
-        };
-    }
-    if !has_good_version(octets) {
-        return Joined {
-            goes_on: false,
-            bad: true,
-        };
-    }
-    let wants = packet_len(octets).saturating_sub(held);
-    Joined {
-        goes_on: if wants < zone {
-            pointer == wants
-        } else {
-            pointer == 2047
-        },
-        bad: false,
+    if !octets.is_empty() {
+        let _ = held.extend_from_slice(octets);
     }
 }
 
-/// Leaves what is read of a zone, behind what is held.
-fn join(held: &mut Vec<u8>, pointer: usize, zone: &[u8]) -> Result<Joined, AllocError>
-    requires { 6 ≤ length zone.now }
-    ensures goes_on { IfOk result (λ j. j.goes_on
-        ≡ goes_on (length zone.now) held.old.items pointer zone.now) }
-    ensures bad { IfOk result (λ j. j.bad ≡ turns_bad held.old.items zone.now) }
-    ensures ok { OnOk result (held.new.items
-        ≡ to_read (length zone.now) held.old.items pointer zone.now) }
-    ensures err { OnErr result (held.new.items ≡ held.old.items) }
+/// Whether the packet whose header these octets begin with goes on in a zone of `zone` octets, at
+/// which `held` octets of it are held.
+fn fits(header: &[u8], held: usize, pointer: usize, zone: usize) -> bool
+    requires { 6 ≤ length header.now }
+    ensures { result ≡ (header_ok header.now && (pointer == pointer_after zone (header_len header.now - held))) }
 {
-    let before = held.len();
-    held.extend_from_slice(zone)?;
-    let joined = judge(held, before, pointer, zone.len());
-    if !joined.goes_on {
-        drop_front(held, before + pointer.min(zone.len()));
+    let wants = packet_len(header).saturating_sub(held);
+    has_good_version(header) && pointer == if wants < zone { wants } else { 2047 }
+}
+
+/// Appends what a zone has of the begun packet, if that goes on there, else discards it.
+fn join(held: &mut Vec<u8>, pointer: usize, zone: &[u8]) -> Joined
+    requires zone { 6 ≤ length zone.now }
+    requires begun { IsBegun held.old.items }
+    requires room { 65542 ≤ vec_capacity held.old }
+    ensures goes_on { result.goes_on
+        ≡ goes_on (length zone.now) held.old.items pointer zone.now }
+    ensures bad { result.bad ≡ turns_bad held.old.items zone.now }
+    ensures within { result.from ≤ length zone.now }
+    ensures read { held.new.items ++ drop result.from zone.now
+        ≡ to_read (length zone.now) held.old.items pointer zone.now }
+    ensures heads { Heads held.new.items (drop result.from zone.now) }
+    ensures capacity { vec_capacity held.old ≤ vec_capacity held.new }
+{
+    let start = pointer.min(zone.len());
+    if held.is_empty() {
+        return Joined {
+            goes_on: false,
+            bad: false,
+            from: start,
+        };
     }
-    Ok(joined)
+    let before = held.len();
+    let header = HEADER_LEN.saturating_sub(before);
+    append(held, &zone[..header]);
+    if !fits(held, before, pointer, zone.len()) {
+        let bad = !has_good_version(held);
+        held.clear();
+        return Joined {
+            goes_on: false,
+            bad,
+            from: start,
+        };
+    }
+    let end = (packet_len(held) - before).min(zone.len());
+    append(held, &zone[header..end]);
+    Joined {
+        goes_on: true,
+        bad: false,
+        from: end,
+    }
+}
+
+/// Hands out the packet that is held, where it is whole.
+fn finish(alloc: Global, held: &mut Vec<u8>, out: &mut Vec<Vec<u8>>) -> Result<(), AllocError>
+    ensures ok { (rest : List ℕ) → Heads held.old.items rest →
+        OnOk result (IsSplit (held.old.items ++ rest) rest held.new.items (octets_of_each out.old.items) (octets_of_each out.new.items)) }
+    ensures err { OnErr result (octets_of_each out.new.items ≡ octets_of_each out.old.items) }
+    ensures capacity { vec_capacity held.old ≤ vec_capacity held.new }
+{
+    if held.len() >= HEADER_LEN && packet_len(held) == held.len() {
+        emit(alloc, held, out)?;
+        held.clear();
+    }
+    Ok(())
 }
 
 /// Takes the whole packets off what is read of a zone behind what is held, and tells whether a bad
@@ -146,7 +179,9 @@ fn read_behind(
     zone: &[u8],
     out: &mut Vec<Vec<u8>>,
 ) -> Result<(Joined, bool), AllocError>
-    requires { 6 ≤ length zone.now }
+    requires zone { 6 ≤ length zone.now }
+    requires begun { IsBegun held.old.items }
+    requires room { 65542 ≤ vec_capacity held.old }
     ensures goes_on { IfOk result (λ r. r.0.goes_on
         ≡ goes_on (length zone.now) held.old.items pointer zone.now) }
     ensures turns_bad { IfOk result (λ r. r.0.bad ≡ turns_bad held.old.items zone.now) }
@@ -159,16 +194,22 @@ fn read_behind(
     ensures err { OnErr result ((n : ℕ)
         × (octets_of_each out.new.items ≡ octets_of_each out.old.items
         ++ take n (step (length zone.now) held.old.items pointer zone.now).out)) }
+    ensures begun { OnOk result (IsBegun held.new.items) }
+    ensures capacity { vec_capacity held.old ≤ vec_capacity held.new }
 {
-    let joined = join(held, pointer, zone)?;
-    let front = cut(alloc, held, out)?;
-    drop_front(held, front.end);
+    let joined = join(held, pointer, zone);
+    finish(alloc, held, out)?;
+    let rest = &zone[joined.from..];
+    let front = cut(alloc, rest, out)?;
+    append(held, &rest[front.end..]);
     Ok((joined, front.bad))
 }
 
 /// Puts packets together from the zones of one virtual channel, given to it in the order sent.
 ///
-/// Its value is what it holds of the begun packet, the one that the last zone's end cut.
+/// Its value is what it holds of the begun packet, the one that the last zone's end cut. That lies
+/// in one buffer, made with it, in which the longest packet has room. So only a packet that is
+/// handed out takes memory.
 #[derive(Debug, Drop)]
 pub struct Reassembler {
     alloc: Global,
@@ -176,20 +217,27 @@ pub struct Reassembler {
 }
 
 impl Model for Reassembler {
+    ghost use Rattle.std.specs.Prelude.{ℕ, ◌≤◌, List, vec_capacity};
+    ghost use Rattle.mpdu.specs.Joining.{IsBegun};
+
     ghost Value = { List ℕ };
 
     ghost view = { λ s. s.begun.items };
+
+    ghost invariant = { λ s. IsBegun s.begun.items × (65542 ≤ vec_capacity s.begun) };
 }
 
 impl Reassembler {
-    /// A reassembler without a begun packet. It takes no memory yet.
-    pub fn new(alloc: Global) -> Self
-        ensures { result ≡ [] }
+    /// A reassembler without a begun packet.
+    ///
+    /// `AllocError` comes only where its buffer was refused.
+    pub fn new(alloc: Global) -> Result<Self, AllocError>
+        ensures { IfOk result (λ r. r ≡ []) }
     {
-        Reassembler {
+        Ok(Reassembler {
             alloc,
-            begun: Vec::new(alloc),
-        }
+            begun: Vec::with_capacity(alloc, MAX_PACKET)?,
+        })
     }
 
     /// Lets the begun packet go, where there is one. It takes no memory.

@@ -1,4 +1,4 @@
-ghost use Rattle.std.specs.Prelude.{◌≤◌};
+ghost use Rattle.std.specs.Prelude.{◌≡◌, ◌≤◌, length};
 
 use super::*;
 use space_packet::{Packet, encode};
@@ -95,7 +95,7 @@ fn a_zone_without_a_start_is_passed_over(rt: HostRuntime) -> Result<(), Fail> {
         resync: false,
         bad: 0,
     };
-    let mut reassembler = Reassembler::new(alloc);
+    let mut reassembler = Reassembler::new(alloc)?;
     let mut zone = [0; 32];
     let mut out = Vec::new(alloc);
     assert_eq!(rt; packer.zone(&mut zone), Some(0));
@@ -108,10 +108,49 @@ fn a_zone_without_a_start_is_passed_over(rt: HostRuntime) -> Result<(), Fail> {
     Ok(())
 }
 
+/// How many of so many zones are taken, and have no start.
+fn zones_without_start(packer: &mut Packer, zone: &mut [u8], count: usize) -> usize
+    requires { length zone.old ≡ packer.old.size }
+    ensures { packer.new.size ≡ packer.old.size }
+{
+    let mut found = 0;
+    for _i in 0..count {
+        if packer.zone(zone) == Some(NO_START) {
+            found += 1;
+        }
+    }
+    found
+}
+
+// A packet of all the capacity leaves zone by zone, and the next comes round the ring's end.
+#[test]
+fn a_packet_of_all_the_capacity_leaves(rt: HostRuntime) -> Result<(), Fail> {
+    let alloc = rt.alloc();
+    let longest = packet(alloc, 8_192, 1)?;
+    let shortest = packet(alloc, 7, 2)?;
+    let last = packet(alloc, 16, 3)?;
+    assert!(rt; is_packet(&longest) && is_packet(&shortest) && is_packet(&last));
+    let mut zone = [0; 16];
+    let mut packer = Packer::new(alloc, 16, 8_192)?;
+    assert_eq!(rt; packer.push(&longest), Ok(()));
+    assert_eq!(rt; packer.push(&shortest), Err(Full));
+    assert_eq!(rt; packer.zone(&mut zone), Some(0));
+    assert_eq!(rt; packer.push(&last), Ok(()));
+    assert_eq!(rt; zones_without_start(&mut packer, &mut zone, 511), 511);
+    assert_eq!(rt; packer.zone(&mut zone), Some(0));
+    assert_eq!(rt; zone.as_slice(), last.as_slice());
+    assert_eq!(rt; packer.push(&longest), Ok(()));
+    assert_eq!(rt; packer.zone(&mut zone), Some(0));
+    assert_eq!(rt; zone.as_slice(), &longest[..16]);
+    assert_eq!(rt; zones_without_start(&mut packer, &mut zone, 511), 511);
+    assert_eq!(rt; packer.zone(&mut zone), None);
+    Ok(())
+}
+
 #[test]
 fn notes_what_is_out_of_order(rt: HostRuntime) -> Result<(), Fail> {
     let alloc = rt.alloc();
-    let mut reassembler = Reassembler::new(alloc);
+    let mut reassembler = Reassembler::new(alloc)?;
     let mut out = Vec::new(alloc);
     let begun = [0x00, 0x64, 0xC0, 0, 0, 0xFF, 1, 1, 1, 1, 1, 1, 1, 1, 1, 1];
     let cut = [7; 16];

@@ -1,23 +1,30 @@
-use Rattle.std.proofs.Common.{◌∙◌, sym, ap, eqb}
-use Rattle.cfdp_extents.proofs.Taken.{first, no-offsets_by_test}
+use Rattle.std.proofs.Common.{◌∙◌, sym, arith}
+use Rattle.cfdp_extents.specs.Ranges.{turned}
+use Rattle.cfdp_extents.proofs.Kept.{first-some, first-none}
+use Rattle.cfdp_extents.proofs.Taken.{First, first-of, no-offsets}
 use Rattle.cfdp_extents.proofs.CallerLemmas.{front-zero, front-empty, front-min, front-is, front-none}
 use Rattle.cfdp_extents.proofs.extents.Extents.front.Goals as goal
-use Rattle.cfdp_extents.proofs.extents.Extents.front.Goals.{then-max-eq0-via-then-max-eq0, then-max-eq0-via-else-max-eq0+then-is_empty}
 
 pub returns-then-max-eq0-clause-is : goal.returns-then-max-eq0-clause-is
-returns-then-max-eq0-clause-is c = elim c.then-max-eq0.branch [
-  | then-max-eq0-via-then-max-eq0 w ↦ sym (front-zero c.args.self.now c.args.max w.if-max-eq0.true)
-  | then-max-eq0-via-else-max-eq0+then-is_empty w ↦ sym (front-empty c.args.self.now c.args.max
-      (no-offsets_by_test c.self.inside.ranges.items c.args.self.now c.self.view_is (w.if-is_empty.ensures ∙ ap (λ n. eqb n 0) c.self.inside.ranges.ok.0)))
-]
+returns-then-max-eq0-clause-is c = sym (front-zero c.args.self.now c.args.max c.if-max-eq0.true)
 
-pub returns-then-max-eq0-clause-spent : goal.returns-then-max-eq0-clause-spent
-returns-then-max-eq0-clause-spent c = front-none c.args.self.now c.args.max (sym (returns-then-max-eq0-clause-is c))
+pub overflow_sub-end : goal.overflow_sub-end
+overflow_sub-end c =
+    let f : First (turned c.self.inside.ranges.entries) c.args.self.now (c.in-Some.start, c.in-Some.end) =
+    first-of (turned c.self.inside.ranges.entries) c.args.self.now (c.in-Some.start, c.in-Some.end) c.self.invariant c.self.view_is (first-some (turned c.self.inside.ranges.entries) (c.in-Some.start, c.in-Some.end) (sym c.range_from.ensures ∙ c.in-Some.is)) in
+    omega (arith, f.apart.0)
 
-pub returns-clause-is : goal.returns-clause-is
-returns-clause-is c = front-min c.self.inside.ranges.items c.args.self.now c.index.result.now c.args.max _
-    (first c.self.inside.ranges.items c.args.self.now c.index.result.now c.self.invariant c.self.view_is (c.if-is_empty.ensures ∙ ap (λ n. eqb n 0) c.self.inside.ranges.ok.0) c.index.ensures)
-    c.if-max-eq0.false c.min.ensures
+pub returns-in-Some-clause-is : goal.returns-in-Some-clause-is
+returns-in-Some-clause-is c =
+    let f : First (turned c.self.inside.ranges.entries) c.args.self.now (c.in-Some.start, c.in-Some.end) =
+    first-of (turned c.self.inside.ranges.entries) c.args.self.now (c.in-Some.start, c.in-Some.end) c.self.invariant c.self.view_is (first-some (turned c.self.inside.ranges.entries) (c.in-Some.start, c.in-Some.end) (sym c.range_from.ensures ∙ c.in-Some.is)) in
+    front-min (turned c.self.inside.ranges.entries) c.args.self.now (c.in-Some.start, c.in-Some.end) c.args.max c.min.result f c.if-max-eq0.false c.min.ensures
 
-pub returns-clause-front : goal.returns-clause-front
-returns-clause-front c = front-is c.args.self.now c.args.max _ (sym (returns-clause-is c))
+pub returns-in-Some-clause-front : goal.returns-in-Some-clause-front
+returns-in-Some-clause-front c = front-is c.args.self.now c.args.max _ (sym (returns-in-Some-clause-is c))
+
+pub returns-in-None-clause-is : goal.returns-in-None-clause-is
+returns-in-None-clause-is c = sym (front-empty c.args.self.now c.args.max (sym c.self.view_is ∙ no-offsets (turned c.self.inside.ranges.entries) (first-none (turned c.self.inside.ranges.entries) (sym c.range_from.ensures ∙ c.in-None.is))))
+
+pub returns-in-None-clause-spent : goal.returns-in-None-clause-spent
+returns-in-None-clause-spent c = front-none c.args.self.now c.args.max (sym (returns-in-None-clause-is c))

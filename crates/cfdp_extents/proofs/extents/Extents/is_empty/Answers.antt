@@ -1,10 +1,12 @@
-use Rattle.std.proofs.Common.{◌∙◌, sym, ap, eqb, eq-eqb}
-use Rattle.cfdp_extents.proofs.Taken.{no-offsets_by_test, no_ranges}
+use Rattle.std.proofs.Common.{◌≡◌, ◌∙◌, length, sym}
+use Rattle.cfdp_extents.specs.Ranges.{turned}
+use Rattle.cfdp_extents.proofs.Kept.{length-turned}
+use Rattle.cfdp_extents.proofs.Taken.{no-offsets, no_ranges}
 use Rattle.cfdp_extents.proofs.extents.Extents.is_empty.Goals as goal
 
 pub returns : goal.returns
 returns c =
-    let length_is = c.is_empty.ensures ∙ ap (λ n. eqb n 0) c.self.inside.ranges.ok.0 in (
-      λ t. no-offsets_by_test c.self.inside.ranges.items c.args.self.now c.self.view_is (sym t ∙ length_is),
-      λ e. length_is ∙ eq-eqb _ 0 (no_ranges c.self.inside.ranges.items c.self.invariant (c.self.view_is ∙ e)),
+    let len : length (turned c.self.inside.ranges.entries) ≡ length c.self.inside.ranges.entries = length-turned c.self.inside.ranges.entries in (
+      λ t. sym c.self.view_is ∙ no-offsets (turned c.self.inside.ranges.entries) (len ∙ c.is_empty.ensures.0 t),
+      λ e. c.is_empty.ensures.1 (sym len ∙ no_ranges (turned c.self.inside.ranges.entries) c.self.invariant (c.self.view_is ∙ e)),
     )

@@ -1,24 +1,23 @@
-use Rattle.std.proofs.Common.{◌∙◌, sym, ap, subst, take, drop}
+use Rattle.std.proofs.Common.{◌∙◌, ℕ, List, sym, subst}
 use Rattle.std.specs.List.{All}
-use Rattle.cfdp_extents.specs.Offsets.{AreRangesOf, missing_from, LiesIn}
-use Rattle.cfdp_extents.specs.Ranges.{gaps_between}
-use Rattle.cfdp_extents.proofs.Missing.{only-ranges, gaps-missing, Behind, behind-last, behind-none}
+use Rattle.cfdp_extents.specs.Offsets.{AreRangesOf, missing_from, union_of, LiesIn}
+use Rattle.cfdp_extents.specs.Ranges.{turned, behind, gaps_between}
+use Rattle.cfdp_extents.proofs.Missing.{only-ranges, gaps-inside_range, gaps-before_range, gaps-behind_all}
 use Rattle.cfdp_extents.proofs.CallerLemmas.{gaps-only, gaps-inside}
 use Rattle.cfdp_extents.proofs.extents.Extents.missing_in.Goals as goal
-use Rattle.cfdp_extents.proofs.extents.Extents.missing_in.Goals.{in-Some, in-None}
+use Rattle.cfdp_extents.proofs.extents.Extents.missing_in.Goals.{in-Some, in_default-2, in_default}
 
 pub returns-clause-gaps : goal.returns-clause-gaps
 returns-clause-gaps c =
-    let front = c.split_at.ensures.front ∙ ap (take c.starting_by.result) c.deref.ensures.value in
-    let behind : Behind c.self.inside.ranges.items c.args.start c.match-last.from c.starting_by.result = elim c.match-last.branch [
-      | in-Some w ↦ behind-last c.self.inside.ranges.items c.deref-2.result.now c.split_at.result.0.now c.args.start c.match-last.from c.starting_by.result w.in-Some.range.now c.deref-2.ensures.value c.self.invariant c.starting_by.ensures.within c.starting_by.ensures.parts front w.in-Some.ensures.value (w.from-is ∙ w.max-from.ensures)
-      | in-None w ↦ behind-none c.self.inside.ranges.items c.deref-2.result.now c.split_at.result.0.now c.args.start c.match-last.from c.starting_by.result c.deref-2.ensures.value c.self.invariant c.starting_by.ensures.within c.starting_by.ensures.parts front w.in-None.ensures.value w.from-is
+    let xs : List (ℕ × ℕ) = turned c.self.inside.ranges.entries in
+    let from : ℕ = c.match-range_behind.from in
+    let gaps : AreRangesOf (missing_from (union_of xs) c.args.start c.args.limit) (gaps_between from c.args.limit (behind from xs)) = elim c.match-range_behind.branch [
+      | in-Some w ↦ subst (λ (f : ℕ). AreRangesOf (missing_from (union_of xs) c.args.start c.args.limit) (gaps_between f c.args.limit (behind f xs))) (sym w.from-is) (gaps-inside_range xs c.args.start c.args.limit w.in-Some.range c.self.invariant (sym c.range_behind.ensures ∙ w.in-Some.is) w.if-range-start.true)
+      | in_default-2 w ↦ subst (λ (f : ℕ). AreRangesOf (missing_from (union_of xs) c.args.start c.args.limit) (gaps_between f c.args.limit (behind f xs))) (sym w.from-is) (gaps-before_range xs c.args.start c.args.limit w.in-Some.range c.self.invariant (sym c.range_behind.ensures ∙ w.in-Some.is) w.if-range-start.false)
+      | in_default w ↦ subst (λ (f : ℕ). AreRangesOf (missing_from (union_of xs) c.args.start c.args.limit) (gaps_between f c.args.limit (behind f xs))) (sym w.from-is) (gaps-behind_all xs c.args.start c.args.limit c.self.invariant (sym c.range_behind.ensures ∙ w.in_default.is))
     ] in
-    let gaps = gaps-missing c.self.inside.ranges.items c.args.start c.match-last.from c.starting_by.result c.args.limit behind in
-    let back = c.split_at.ensures.back ∙ ap (drop c.starting_by.result) c.deref.ensures.value in
-    let is = c.new.ensures ∙ ap (gaps_between c.match-last.from c.args.limit) back in
-    subst (AreRangesOf (missing_from c.args.self.now c.args.start c.args.limit)) (sym is)
-    (subst (λ held. AreRangesOf (missing_from held c.args.start c.args.limit) (gaps_between c.match-last.from c.args.limit (drop c.starting_by.result c.self.inside.ranges.items))) c.self.view_is gaps)
+    subst (AreRangesOf (missing_from c.args.self.now c.args.start c.args.limit)) (sym c.new.ensures)
+    (subst (λ held. AreRangesOf (missing_from held c.args.start c.args.limit) (gaps_between from c.args.limit (behind from xs))) c.self.view_is gaps)
 
 pub returns-clause-only : goal.returns-clause-only
 returns-clause-only c = λ gaps h. only-ranges _ gaps _ h (returns-clause-gaps c)

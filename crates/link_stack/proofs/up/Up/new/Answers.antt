@@ -5,5 +5,5 @@ use Rattle.link_stack.proofs.up.Up.new.Goals as goal
 
 pub returns-clause-stream : goal.returns-clause-stream
 returns-clause-stream c ps whole all =
-    subst (λ (last : Option ℕ). IsUp (record { link = c.args.link; last = last; begun = c.new-2.result; drops = c.new-3.result }) ps [] 0) (sym c.new.ensures)
-    (subst (λ (held : List ℕ). IsUp (record { link = c.args.link; last = None; begun = held; drops = c.new-3.result }) ps [] 0) (sym c.new-2.ensures) (new_is c.args.link ps c.new-3.result (ap (λ l. length l) c.new-3.ensures) whole all))
+    subst (λ (last : Option ℕ). IsUp (record { link = c.args.link; last = last; begun = c.in_ok-new.field-0; drops = c.new-3.result }) ps [] 0) (sym c.new.ensures)
+    (subst (λ (held : List ℕ). IsUp (record { link = c.args.link; last = None; begun = held; drops = c.new-3.result }) ps [] 0) (sym c.in_ok-new.ensures) (new_is c.args.link ps c.new-3.result (ap (λ l. length l) c.new-3.ensures) whole all))

@@ -1,0 +1,9 @@
+use Rattle.std.proofs.Common.{sym, ◌∙◌}
+use Rattle.cfdp_extents.proofs.Kept.{from_some, from_none}
+use Rattle.cfdp_extents.proofs.search.range_from.Goals as goal
+
+pub returns-in-Some : goal.returns-in-Some
+returns-in-Some c = from_some c.args.offset c.args.ranges.now.entries c.next.new.self (c.in-Some.end.now, c.in-Some.start.now) (sym (c.range.ensures.between tt) ∙ c.in-Some.ensures.steps)
+
+pub returns-in-None : goal.returns-in-None
+returns-in-None c = from_none c.args.offset c.args.ranges.now.entries (sym (c.range.ensures.between tt) ∙ c.in-None.ensures.steps.0)
