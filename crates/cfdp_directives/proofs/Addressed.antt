@@ -1,5 +1,5 @@
 -- The header of a content can be written.
-use Rattle.std.proofs.Common.{ℕ, ◌^◌, ◌<◌, refl}
+use Rattle.std.proofs.Common.{◌^◌, ◌<◌, refl}
 use Rattle.cfdp_directives.specs.declared.addressing.Addressing.{Addressing}
 use Rattle.cfdp_directives.specs.Codes.{file_size_octets}
 use Rattle.cfdp_directives.specs.Content.{Content}

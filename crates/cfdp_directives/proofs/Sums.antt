@@ -1,4 +1,4 @@
--- Sums of octets by their places.
+-- Exported: sums of octets by their places.
 use Rattle.std.proofs.Common.{◌≡◌, ℕ, zero, suc, ◌+◌, ◌-◌, ◌*◌, ◌%◌, ◌^◌, ◌<◌, ◌≤◌, true, false, cond, leb, ltb, List, [], ◌∷◌, ◌++◌, length, get_or, take, drop, refl, sym, ap, ◌∙◌, arith, length-take, zero-add, add-zero}
 use Rattle.std.specs.Prelude.{fold, sum_by, count_by}
 use Rattle.std.specs.List.{AllByRecursion}

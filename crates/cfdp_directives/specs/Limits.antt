@@ -1,5 +1,5 @@
 -- How often something is sent again, and how long an answer is waited for.
-use Rattle.std.specs.Prelude.{ℕ, ◌≤◌}
+use Rattle.std.specs.Prelude.{◌≤◌}
 use Rattle.cfdp_directives.specs.declared.limits.Limits.{Limits}
 use Rattle.cfdp_directives.specs.declared.limits.Times.{Times}
 

@@ -28,7 +28,7 @@ pub struct Addressing {
 }
 
 impl Addressing {
-    /// That of a PDU that was heard, as for an answer in the same widths.
+    /// Takes them from the header of a PDU that was heard, as for an answer in the same widths.
     pub fn of(header: &Header) -> Addressing
         ensures { result ≡ addressing_of header.now }
     {

@@ -19,14 +19,14 @@ impl Model for Checksum {
 }
 
 impl Checksum {
-    /// Of no octets: 0.
+    /// The checksum of no octets, which is 0.
     pub fn new() -> Checksum
         ensures { result ≡ 0 }
     {
         Checksum { sum: 0 }
     }
 
-    /// Adds the octets that begin at this offset of the file.
+    /// Adds a piece of the file: octets, the first of them at this offset.
     pub fn add(&mut self, offset: u64, bytes: &[u8])
         ensures { self.new ≡ added self.old (record { offset = offset; bytes = bytes.now }) }
     {

@@ -128,7 +128,7 @@ pub enum Acknowledged {
     Finished,
 }
 
-/// How a file's checksum is made: 4 bits (CCSDS 727.0-B-5, 4.2.2).
+/// Which checksum a file has: a checksum type of 4 bits (CCSDS 727.0-B-5, 4.2.2).
 #[derive(Clone, Copy, Debug, PartialEq, Eq)]
 pub struct ChecksumKind {
     code: u8,
@@ -172,7 +172,7 @@ impl ChecksumKind {
 }
 
 impl Delivery {
-    /// The bit that spells it.
+    /// The bit that spells it in a Finished.
     pub fn code(self) -> u8
         ensures { result ≡ delivery_code self }
     {
@@ -184,7 +184,7 @@ impl Delivery {
 }
 
 impl FileStatus {
-    /// The two bits that spell it.
+    /// The two bits that spell it in a Finished, 0 to 3.
     pub fn code(self) -> u8
         ensures { result ≡ file_status_code self }
     {
@@ -198,7 +198,7 @@ impl FileStatus {
 }
 
 impl TransactionStatus {
-    /// The two bits that spell it.
+    /// The two bits that spell it in an ACK, 0 to 3.
     pub fn code(self) -> u8
         ensures { result ≡ transaction_status_code self }
     {
@@ -212,7 +212,7 @@ impl TransactionStatus {
 }
 
 impl Acknowledged {
-    /// The code of the directive.
+    /// The code of the directive that is acknowledged: 4 of an EOF, 5 of a Finished.
     pub fn code(self) -> u8
         ensures { result ≡ acknowledged_code self }
     {
@@ -222,7 +222,7 @@ impl Acknowledged {
         }
     }
 
-    /// The subtype that is written with it.
+    /// The subtype that an ACK of it is written with: 0 of an EOF, 1 of a Finished.
     pub fn subtype(self) -> u8
         ensures { result ≡ acknowledged_subtype self }
     {

@@ -72,7 +72,7 @@ impl Octets {
         self.octets
     }
 
-    /// The octets.
+    /// The octets, lent.
     pub fn as_slice(&self) -> &[u8]
         ensures { result.now ≡ self.now }
     {

@@ -42,7 +42,7 @@ impl<'a> Model for Pairs<'a> {
 }
 
 impl<'a> Pairs<'a> {
-    /// These pairs. To be written, each number has to fit a file-size field.
+    /// Ranges with these starts and ends. To be written, each number has to fit a file-size field.
     pub fn of(pairs: &'a [(u64, u64)]) -> Self
         ensures { result ≡ pairs.now }
     {
@@ -66,7 +66,7 @@ impl<'a> Pairs<'a> {
         }
     }
 
-    /// How many they are.
+    /// How many ranges there are.
     #[tactic(auto, using(crate::proofs::Ranges::pairs_count))]
     pub fn len(&self) -> usize
         ensures { result ≡ length self.now }
@@ -77,7 +77,7 @@ impl<'a> Pairs<'a> {
         }
     }
 
-    /// The start and the end of the first, and the pairs behind it.
+    /// The start and the end of the first range, and the pairs behind it.
     #[tactic(auto, using(crate::proofs::Ranges::first_pair, crate::proofs::Ranges::no_pair))]
     pub fn split_first(&self) -> Option<(u64, u64, Pairs<'a>)>
         ensures some { IfSome result (λ x. self.now ≡ (x.0, x.1) ∷ x.2) }

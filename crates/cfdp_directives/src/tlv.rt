@@ -84,7 +84,7 @@ impl<'a> Tlvs<'a> {
         }
     }
 
-    /// The octets that they are.
+    /// The octets that spell the options, one behind the other.
     #[tactic(auto, using(crate::proofs::Options::spelled_view))]
     pub fn octets(&self) -> &[u8]
         ensures { result.now ≡ flat_map tlv self.now }

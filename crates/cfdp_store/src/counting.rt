@@ -26,6 +26,7 @@ pub struct CountingStore {
 }
 
 impl CountingStore {
+    /// A store with these files that no call has reached.
     pub fn new(files: Files) -> Self
         ensures { result.files ≡ files }
     {

@@ -24,6 +24,7 @@ mod laws;
 mod memory;
 mod outbox;
 mod pieces;
+mod stored;
 #[cfg(test)]
 mod tests;
 
@@ -34,3 +35,4 @@ pub use inbox::Inbox;
 pub use laws::{front_is_what_stands, written_octets_cover, written_octets_stand};
 pub use memory::{MemoryInbox, MemoryOutbox};
 pub use outbox::Outbox;
+pub use stored::Stored;

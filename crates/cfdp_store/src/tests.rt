@@ -5,6 +5,7 @@ use crate::counting::{Called, CountingStore};
 use cfdp_header::TransactionId;
 use std::alloc::{AllocError, Global};
 use std::io;
+use std::process::Abort;
 use std::test::Fail;
 
 const FIRST: TransactionId = TransactionId {
@@ -17,16 +18,6 @@ const SECOND: TransactionId = TransactionId {
     number: 2,
 };
 
-/// An outbox with one file.
-fn with_one(alloc: Global, name: &[u8], octets: &[u8]) -> Result<MemoryOutbox, AllocError> {
-    let mut outbox = MemoryOutbox::new(alloc);
-    outbox.add(
-        Vec::from_slice(alloc, name)?,
-        Vec::from_slice(alloc, octets)?,
-    )?;
-    Ok(outbox)
-}
-
 /// One file by its name.
 fn files_with(alloc: Global, name: &[u8], octets: &[u8]) -> Result<Files, AllocError> {
     let mut files = Files::new(alloc);
@@ -35,6 +26,11 @@ fn files_with(alloc: Global, name: &[u8], octets: &[u8]) -> Result<Files, AllocE
         Vec::from_slice(alloc, octets)?,
     )?;
     Ok(files)
+}
+
+/// An outbox with one file.
+fn with_one(alloc: Global, name: &[u8], octets: &[u8]) -> Result<MemoryOutbox, AllocError> {
+    Ok(MemoryOutbox::with_files(files_with(alloc, name, octets)?))
 }
 
 /// A whole file, read in one call, if it is there.
@@ -84,49 +80,46 @@ fn add_file(text: &mut Vec<u8>, name: &[u8], octets: &[u8]) -> Result<(), AllocE
     text.extend_from_slice(b";")
 }
 
-/// Stages octets over others, and publishes all that the first ones reach.
-fn publish_over<I: Inbox>(
-    inbox: &mut I,
-    id: TransactionId,
-    name: &[u8],
-    first: &[u8],
-    over: &[u8],
-) -> Result<(), StoreError> {
-    inbox.begin(id)?;
-    inbox.write(id, 0, first)?;
-    inbox.write(id, 0, over)?;
-    inbox.publish(id, name, first.len() as u64)
+/// Whether the outbox has a file of that name with these octets, and nothing failed.
+fn has(outbox: &mut MemoryOutbox, alloc: Global, name: &[u8], octets: &[u8]) -> bool {
+    match read_whole(alloc, outbox, name) {
+        Ok(Some(whole)) => whole.as_slice() == octets && outbox.failures() == 0,
+        _ => false,
+    }
 }
 
 #[test]
 fn an_outbox_tells_and_reads_its_files(rt: HostRuntime) -> Result<(), Fail> {
     let alloc = rt.alloc();
     let mut outbox = with_one(alloc, b"a.txt", b"hello")?;
-    assert_eq!(rt; outbox.len(b"a.txt")?, Some(5));
-    assert_eq!(rt; outbox.len(b"b.txt")?, None);
-    let octets = read_whole(alloc, &mut outbox, b"a.txt")?.ok_or("no file")?;
-    assert_eq!(rt; octets.as_slice(), b"hello".as_slice());
-    assert_eq!(rt; outbox.failures(), 0);
-    let files = files_with(alloc, b"a", b"b")?;
-    assert_eq!(rt; MemoryOutbox::with_files(files).len(b"a")?, Some(1));
+    assert!(rt; has(&mut outbox, alloc, b"a.txt", b"hello"));
+    assert!(rt; !has(&mut outbox, alloc, b"b.txt", b""));
     Ok(())
 }
 
 #[test]
-fn later_octets_replace_earlier_ones(rt: HostRuntime) -> Result<(), Fail> {
+fn an_outbox_takes_files(rt: HostRuntime) -> Result<(), Fail> {
+    let alloc = rt.alloc();
+    let mut outbox = MemoryOutbox::new(alloc);
+    outbox.add(Vec::new(alloc), Vec::new(alloc))?;
+    assert!(rt; has(&mut outbox, alloc, b"", b""));
+    Ok(())
+}
+
+#[test]
+fn files_are_published_by_their_names(rt: HostRuntime) -> Result<(), Fail> {
     let mut inbox = MemoryInbox::new(rt.alloc());
     publish_both(&mut inbox, FIRST, b"b.txt", b"he", b"LLO")?;
     publish_both(&mut inbox, SECOND, b"a.txt", b"", b"one")?;
     publish_both(&mut inbox, FIRST, b"", b"x", b"")?;
-    publish_over(&mut inbox, SECOND, b"c.txt", b"HELLO", b"he")?;
     assert_eq!(rt;
         shown(rt.alloc(), &inbox)?.as_slice(),
-        b" x;a.txt one;b.txt heLLO;c.txt heLLO;".as_slice()
+        b" x;a.txt one;b.txt heLLO;".as_slice()
     );
     publish_both(&mut inbox, FIRST, b"a.txt", b"t", b"wo")?;
     assert_eq!(rt;
         shown(rt.alloc(), &inbox)?.as_slice(),
-        b" x;a.txt two;b.txt heLLO;c.txt heLLO;".as_slice()
+        b" x;a.txt two;b.txt heLLO;".as_slice()
     );
     inbox.begin(SECOND)?;
     inbox.discard(SECOND)?;
@@ -147,46 +140,46 @@ fn an_inbox_begins_with_given_files(rt: HostRuntime) -> Result<(), Fail> {
     Ok(())
 }
 
+/// Asks for a file and reads it, over a fuse that fails from this call on, and asks once more.
+fn read_to_failure(rt: &impl Abort, alloc: Global, call: u64, works: bool) -> Result<(), Fail> {
+    let mut outbox = FuseOutbox::new(with_one(alloc, b"a.txt", b"hello")?, call);
+    let answer = read_whole(alloc, &mut outbox, b"a.txt");
+    assert_eq!(rt; answer.is_ok(), works, "at {call}");
+    assert_eq!(rt; outbox.failures(), u64::from(!works), "at {call}");
+    let _ = outbox.len(b"a.txt");
+    let failed = if works { 1 } else { 2 };
+    assert_eq!(rt; outbox.failures(), failed, "at {call}");
+    assert_eq!(rt; outbox.into_inner().failures(), 0, "at {call}");
+    Ok(())
+}
+
 #[test]
 fn an_outbox_fails_from_the_call_on_that_its_fuse_names(rt: HostRuntime) -> Result<(), Fail> {
-    let alloc = rt.alloc();
-    for (call, works) in [(0, false), (1, false), (2, false), (3, true)] {
-        let mut outbox = FuseOutbox::new(with_one(alloc, b"a.txt", b"hello")?, call);
-        let answer = read_whole(alloc, &mut outbox, b"a.txt");
-        assert_eq!(rt; answer.is_ok(), works, "at {call}");
-        assert_eq!(rt; outbox.failures(), u64::from(!works), "at {call}");
-        let _ = outbox.len(b"a.txt");
-        assert_eq!(rt;
-            outbox.failures(),
-            if call == 3 { 1 } else { 2 },
-            "at {call}"
-        );
-        assert_eq!(rt; outbox.inner().failures(), 0, "at {call}");
-        assert_eq!(rt; outbox.into_inner().len(b"a.txt")?, Some(5), "at {call}");
+    for call in 0u64..4 {
+        read_to_failure(&rt, rt.alloc(), call, call == 3)?;
     }
+    Ok(())
+}
+
+/// Receives a file over a fuse that fails from this call on, and discards once more.
+fn publish_to_failure(rt: &impl Abort, alloc: Global, call: u64, works: bool) -> Result<(), Fail> {
+    let mut inbox = FuseInbox::new(MemoryInbox::new(alloc), call);
+    let answer = publish_both(&mut inbox, FIRST, b"a.txt", b"he", b"llo");
+    assert_eq!(rt; answer.is_ok(), works, "at {call}");
+    assert_eq!(rt; inbox.failures(), u64::from(!works), "at {call}");
+    let _ = inbox.discard(FIRST);
+    let failed = if works { 1 } else { 2 };
+    assert_eq!(rt; inbox.failures(), failed, "at {call}");
+    let text: &[u8] = if works { b"a.txt hello;" } else { b"" };
+    assert_eq!(rt; shown(alloc, inbox.inner())?.as_slice(), text, "at {call}");
+    assert_eq!(rt; inbox.into_inner().failures(), 0, "at {call}");
     Ok(())
 }
 
 #[test]
 fn an_inbox_fails_from_the_call_on_that_its_fuse_names(rt: HostRuntime) -> Result<(), Fail> {
-    let alloc = rt.alloc();
-    for (call, works) in [
-        (1, false),
-        (2, false),
-        (3, false),
-        (4, false),
-        (5, false),
-        (6, true),
-    ] {
-        let mut inbox = FuseInbox::new(MemoryInbox::new(alloc), call);
-        let answer = publish_both(&mut inbox, FIRST, b"a.txt", b"he", b"llo");
-        assert_eq!(rt; answer.is_ok(), works, "at {call}");
-        assert_eq!(rt; inbox.failures(), u64::from(!works), "at {call}");
-        let _ = inbox.discard(FIRST);
-        assert_eq!(rt; inbox.failures(), if works { 1 } else { 2 }, "at {call}");
-        let text: &[u8] = if works { b"a.txt hello;" } else { b"" };
-        assert_eq!(rt; shown(alloc, inbox.inner())?.as_slice(), text, "at {call}");
-        assert_eq!(rt; inbox.into_inner().failures(), 0, "at {call}");
+    for call in 1u64..7 {
+        publish_to_failure(&rt, rt.alloc(), call, call == 6)?;
     }
     Ok(())
 }

@@ -6,3 +6,4 @@ pub mod Alarms
 pub mod Distinct
 pub mod Firing
 pub mod CallerLemmas
+pub mod Waited

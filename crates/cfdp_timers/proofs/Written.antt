@@ -15,10 +15,10 @@ use Rattle.cfdp_header.specs.contracts.value.TransactionIdPartialEq.TheImpl.{eq-
 use Rattle.cfdp_timers.specs.declared.kind.Kind.{Kind}
 use Rattle.cfdp_timers.specs.declared.kind.Kind.TheVariants.{EofAck, Nak, FinishedAck, Inactivity}
 use Rattle.cfdp_timers.specs.declared.deadlines.Deadlines.{Deadlines}
-use Rattle.cfdp_timers.specs.Armed.{Armed}
+use Rattle.cfdp_timers.specs.Armed.{Armed, with_timer}
 use Rattle.cfdp_timers.specs.Order.{Timer, kind_place, timer_cmp}
 use Rattle.cfdp_header.specs.Ids.{id_cmp}
-use Rattle.cfdp_timers.specs.Entries.{deadline_at, with_deadline, with_timer, alarms_of, alarms, roomy_of, armed_of, state_of}
+use Rattle.cfdp_timers.specs.Entries.{deadline_at, with_deadline, alarms_of, alarms, roomy_of, armed_of, state_of}
 use Rattle.cfdp_header.proofs.Ids.{id_total, id_laws, id_cmp-IsAntisymmetric, id_eq}
 use Rattle.cfdp_timers.proofs.Orders.{timer_total, same_timer}
 use Rattle.cfdp_timers.proofs.Kept.{get-armed_of, by_id, has-room}
@@ -78,7 +78,7 @@ split_tie Less s o x y h = refl
 split_tie Equal s o x y h = sym (h refl)
 split_tie Greater s o x y h = refl
 
-get-with_timer : (armed : Armed) (t : Timer) (o : Option ℕ) (u : Timer) → map.get (with_timer armed t o) u ≡ cond (eq_by_cmp timer_cmp u t) o (map.get armed u)
+pub get-with_timer : (armed : Armed) (t : Timer) (o : Option ℕ) (u : Timer) → map.get (with_timer armed t o) u ≡ cond (eq_by_cmp timer_cmp u t) o (map.get armed u)
 get-with_timer armed t None u = map.get-remove timer_total armed t u
 get-with_timer armed t (Some at) u = map.get-insert timer_total armed t at u
 

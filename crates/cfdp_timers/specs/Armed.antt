@@ -1,5 +1,5 @@
 -- Which timers are armed.
-use Rattle.std.specs.Prelude.{ℕ, refl, Option}
+use Rattle.std.specs.Prelude.{ℕ, refl, Option, None, Some}
 use Rattle.std.specs.Coded.{Coded, code_by, coded×, coded_ℕ}
 use Rattle.std.specs.FinMap as map
 use Rattle.std.specs.FinSet as set
@@ -7,7 +7,7 @@ use Rattle.cfdp_header.specs.declared.value.TransactionId.{TransactionId}
 use Rattle.cfdp_header.specs.contracts.value.TransactionId as id
 use Rattle.cfdp_timers.specs.declared.kind.Kind.{Kind}
 use Rattle.cfdp_timers.specs.contracts.kind.Kind as kind
-use Rattle.cfdp_timers.specs.Order.{timer_cmp}
+use Rattle.cfdp_timers.specs.Order.{Timer, timer_cmp}
 use Rattle.cfdp_header.specs.Ids.{id_cmp}
 
 -- the deadlines of the timers that are armed
@@ -37,3 +37,8 @@ timers_code =
 -- the deadline of a timer, if it is armed
 abbrev pub deadline_of : TimersState → TransactionId → Kind → Option ℕ
 deadline_of timers id kind = map.get timers.armed (id, kind)
+
+-- with a timer armed with a deadline, or cleared
+abbrev pub with_timer : Armed → Timer → Option ℕ → Armed
+with_timer armed t None = map.remove armed t
+with_timer armed t (Some at) = map.insert armed t at

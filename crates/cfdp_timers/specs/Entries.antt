@@ -2,7 +2,6 @@
 -- kind.
 use Rattle.std.specs.Prelude.{ℕ, Option, None, Some, List, [], ◌∷◌, ◌++◌, filter, nat_le, min}
 use Rattle.std.specs.Map.{keys_of}
-use Rattle.std.specs.FinMap as map
 use Rattle.std.specs.FinMap.{from_entries}
 use Rattle.std.specs.FinSet.{FinSet, from_list}
 use Rattle.cfdp_header.specs.declared.value.TransactionId.{TransactionId}
@@ -25,11 +24,6 @@ with_deadline d EofAck at = record d { eof_ack = at }
 with_deadline d Nak at = record d { nak = at }
 with_deadline d FinishedAck at = record d { finished_ack = at }
 with_deadline d Inactivity at = record d { inactivity = at }
-
--- a timer armed with a deadline, or cleared
-abbrev pub with_timer : Armed → Timer → Option ℕ → Armed
-with_timer armed t None = map.remove armed t
-with_timer armed t (Some at) = map.insert armed t at
 
 -- a timer with its deadline, if it is armed
 abbrev pub alarm_if : TransactionId → Kind → Option ℕ → List (Timer × ℕ)

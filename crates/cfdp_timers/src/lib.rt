@@ -18,7 +18,9 @@ mod laws;
 #[cfg(test)]
 mod tests;
 mod timers;
+mod wait;
 
 pub use kind::Kind;
-pub use laws::what_fired_is_armed_no_more;
+pub use laws::{what_fired_is_armed_no_more, what_is_waited_for_is_armed};
 pub use timers::Timers;
+pub use wait::{Wait, Waits, is_anew};

@@ -1,4 +1,4 @@
-use crate::{Kind, Timers};
+use crate::{Kind, Timers, Wait, Waits};
 use cfdp_header::TransactionId;
 use std::alloc::AllocError;
 use std::test::Fail;
@@ -52,6 +52,16 @@ fn a_timer_is_armed_anew_and_cleared(rt: HostRuntime) -> Result<(), Fail> {
     timers.arm(first, Kind::FinishedAck, later);
     assert_eq!(rt; timers.deadline_of(first, Kind::FinishedAck), Some(9));
     timers.clear(second, Kind::Nak);
+    let waits = Waits {
+        eof_ack: Wait::Keep(4),
+        nak: Wait::Clear,
+        finished_ack: Wait::of(true, false, 20),
+        inactivity: Wait::of(true, true, 5),
+    };
+    timers.set(first, &waits);
+    assert_eq!(rt; timers.deadline_of(first, Kind::EofAck), Some(4));
+    assert_eq!(rt; timers.deadline_of(first, Kind::FinishedAck), Some(9));
+    assert_eq!(rt; timers.deadline_of(first, Kind::Inactivity), Some(5));
     timers.clear(first, Kind::FinishedAck);
     assert_eq!(rt; timers.deadline_of(first, Kind::FinishedAck), None);
     arm_one(&mut timers, second)?;

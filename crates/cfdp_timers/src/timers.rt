@@ -6,13 +6,15 @@ ghost use Rattle.std.specs.FinSet as set;
 ghost use Rattle.std.specs.Ordering.{eq_by_cmp};
 ghost use Rattle.cfdp_header.specs.declared.value.TransactionId.{TransactionId};
 ghost use Rattle.cfdp_timers.specs.Order.{Timer, timer_cmp};
-ghost use Rattle.cfdp_timers.specs.Armed.{deadline_of};
+ghost use Rattle.cfdp_timers.specs.Armed.{deadline_of, with_timer};
 ghost use Rattle.cfdp_timers.specs.Due.{AreDue, IsLeast, due_count, still_armed};
-ghost use Rattle.cfdp_timers.specs.Entries.{timer_of, with_timer};
+ghost use Rattle.cfdp_timers.specs.Entries.{timer_of};
+ghost use Rattle.cfdp_timers.specs.Waits.{deadline_after, with_wait, waited};
 
 use crate::Kind;
 use crate::alarm::{Alarm, timers_of};
 use crate::deadlines::{Deadlines, earlier};
+use crate::wait::{Wait, Waits};
 use cfdp_header::TransactionId;
 use indexmap::IndexMap;
 use std::alloc::{AllocError, Global};
@@ -73,7 +75,7 @@ impl Timers {
 
     /// The time so many units after now, or the greatest there is.
     pub fn deadline_after(&self, duration: u32) -> u64
-        ensures { result ≡ min (self.now.time + duration) (2 ^ 64 - 1) }
+        ensures { result ≡ deadline_after self.now.time duration }
     {
         self.time.saturating_add(u64::from(duration))
     }
@@ -125,7 +127,7 @@ impl Timers {
             ≡ record self.old { armed = map.insert self.old.armed (id, kind) deadline } }
         ensures roomy { self.new.roomy ≡ self.old.roomy }
     {
-        self.set(id, kind, Some(deadline));
+        self.set_deadline(id, kind, Some(deadline));
     }
 
     /// Clears a timer; one that isn't armed stays so.
@@ -134,7 +136,7 @@ impl Timers {
             ≡ record self.old { armed = map.remove self.old.armed (id, kind) } }
         ensures roomy { self.new.roomy ≡ self.old.roomy }
     {
-        self.set(id, kind, None);
+        self.set_deadline(id, kind, None);
     }
 
     /// The earliest deadline of the armed timers; `None` where none is armed.
@@ -190,8 +192,39 @@ impl Timers {
         Ok(fired)
     }
 
+    /// Arms and clears the four timers of a transaction by what it waits for: clears those that it
+    /// doesn't wait for, arms those that it waits for anew or that aren't armed, and leaves the
+    /// others. Takes no memory.
+    #[tactic(auto, unfolding(crate::specs::Waits::waited))]
+    pub fn set(&mut self, id: TransactionId, waits: &Waits)
+        requires has_room { set.contains self.old.roomy id ≡ true }
+        ensures set { self.new
+            ≡ record self.old { armed = waited self.old.time id waits.now self.old.armed } }
+        ensures roomy { self.new.roomy ≡ self.old.roomy }
+    {
+        self.set_one(id, Kind::EofAck, waits.eof_ack);
+        self.set_one(id, Kind::Nak, waits.nak);
+        self.set_one(id, Kind::FinishedAck, waits.finished_ack);
+        self.set_one(id, Kind::Inactivity, waits.inactivity);
+    }
+
+    // Sets one timer of a transaction that has room.
+    #[tactic(auto, using(crate::proofs::Waited::with_timer_kept))]
+    fn set_one(&mut self, id: TransactionId, kind: Kind, wait: Wait)
+        requires { set.contains self.old.roomy id ≡ true }
+        ensures { self.new
+            ≡ record self.old { armed = with_wait self.old.time id kind wait self.old.armed } }
+    {
+        let old = self.deadline_of(id, kind);
+        let new = wait.deadline(self.time, old);
+        // Most timers stay as they are, and a search costs more than a comparison.
+        if new != old {
+            self.set_deadline(id, kind, new);
+        }
+    }
+
     // Arms a timer of a transaction that has room, or clears a timer.
-    fn set(&mut self, id: TransactionId, kind: Kind, deadline: Option<u64>)
+    fn set_deadline(&mut self, id: TransactionId, kind: Kind, deadline: Option<u64>)
         requires { IsSome deadline → set.contains self.old.roomy id ≡ true }
         ensures { self.new ≡ record self.old { armed = with_timer self.old.armed (id, kind) deadline } }
     {

@@ -5,10 +5,11 @@ use Rattle.std.specs.Map.{lookup}
 use Rattle.std.specs.Option.{option_copied_mut}
 use Rattle.indexmap.specs.IndexMap.{WritesThrough}
 use Rattle.cfdp_header.specs.contracts.value.TransactionIdPartialEq.TheImpl.{eq-value}
-use Rattle.cfdp_timers.specs.Entries.{state_of, roomy_of, with_timer}
+use Rattle.cfdp_timers.specs.Entries.{state_of, roomy_of}
+use Rattle.cfdp_timers.specs.Armed.{with_timer}
 use Rattle.cfdp_timers.proofs.Written.{state_of-written, with_timer-absent, distinct_ids}
-use Rattle.cfdp_timers.proofs.timers.Timers.set.Goals.{in-Some, in_default}
-use Rattle.cfdp_timers.proofs.timers.Timers.set.Goals as goal
+use Rattle.cfdp_timers.proofs.timers.Timers.set_deadline.Goals.{in-Some, in_default}
+use Rattle.cfdp_timers.proofs.timers.Timers.set_deadline.Goals as goal
 
 pub returns : goal.returns
 returns c = elim c.match-get_mut.branch [
