@@ -1,0 +1,15 @@
+mod Rows
+pub mod Facts
+pub mod FactsDue
+pub mod FactsTimers
+pub mod FactsKept
+pub mod FactsPieces
+pub mod FactsAsks
+pub mod Sums
+pub mod SoundSteps
+pub mod SoundHears
+pub mod SoundLaws
+pub mod Held
+pub mod StagedLemmas
+pub mod StepLemmas
+pub mod AskedLemmas

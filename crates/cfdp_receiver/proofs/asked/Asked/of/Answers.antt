@@ -1,0 +1,53 @@
+use Rattle.std.proofs.Common.{◌≡◌, ◌<◌, ◌≤◌, true, refl, length-set, ◌∷◌, ◌++◌, ◌∙◌, ℕ, suc, List, length, ap, subst, arith}
+use Rattle.std.specs.List.{All}
+use Rattle.cfdp_extents.specs.Offsets.{LiesIn}
+use Rattle.cfdp_receiver.specs.declared.asked.Asked.{Asked}
+use Rattle.cfdp_receiver.specs.Asked.{pairs_of}
+use Rattle.cfdp_receiver.proofs.AskedLemmas.{asks_first, asks_all, all_with_one, end_with_one, writable_with_one}
+use Rattle.cfdp_receiver.proofs.asked.Asked.of.Goals as goal
+
+all_parts : (P : ℕ × ℕ → Type 0) (x : ℕ × ℕ) (xs ys : List (ℕ × ℕ)) → ys ≡ x ∷ xs → All P ys →
+    P x × All P xs
+all_parts P x xs ys is all = let Q : List (ℕ × ℕ) → Type 0 = λ l. All P l in
+    (subst Q is all 0 x (omega arith), λ k d low. (subst Q is all) (suc k) d (omega arith))
+
+pub returns-then-asked-eq-MOST_PAIRS-clause-asks : goal.returns-then-asked-eq-MOST_PAIRS-clause-asks
+returns-then-asked-eq-MOST_PAIRS-clause-asks c =
+    let inv = c.loop-from.invariant in
+    let a : Asked = record c.loop-from.asked { more = true } in
+    asks_first _ a (c.in-Some.from, c.in-Some.to) c.next.new.self
+    (inv.all ∙ ap (λ (l : List (ℕ × ℕ)). pairs_of c.loop-from.asked ++ l) c.in-Some.ensures.steps)
+    (inv.writable.len ∙ c.if-asked-eq-MOST_PAIRS.true) inv.end refl
+
+pub loop-from-preserved : goal.loop-from-preserved
+loop-from-preserved c =
+    let inv = c.loop-from.invariant in
+    let a : Asked = c.loop-from.asked in
+    let r : ℕ × ℕ = (c.in-Some.from, c.in-Some.to) in
+    let at_most : a.count ≤ 32 = inv.writable.few in
+    let other : a.count ≡ 32 → ⊥ = c.if-asked-eq-MOST_PAIRS.false in
+    let few : a.count < 32 = omega arith in
+    let size : length a.pairs ≡ 32 = inv.size in
+    let low : a.count < length a.pairs = omega arith in
+    let parts = all_parts (LiesIn c.args.start c.args.limit) r c.next.new.self _
+    c.in-Some.ensures.steps inv.inside in
+    record {
+      all = all_with_one _ a r c.next.new.self low
+          (inv.all ∙ ap (λ (l : List (ℕ × ℕ)). pairs_of c.loop-from.asked ++ l)
+          c.in-Some.ensures.steps);
+      end = end_with_one a r low;
+      more = inv.more;
+      writable = writable_with_one a r c.args.start c.args.limit low few inv.writable parts.0
+          c.requires.limit;
+      size = length-set a.pairs a.count r ∙ inv.size;
+      inside = parts.1;
+    }
+
+pub returns-clause-asks : goal.returns-clause-asks
+returns-clause-asks c =
+    let inv = c.loop-from.invariant in
+    let at_most : c.loop-from.asked.count ≤ 32 = inv.writable.few in
+    let len : length (pairs_of c.loop-from.asked) ≡ c.loop-from.asked.count = inv.writable.len in
+    asks_all _ c.loop-from.asked
+    (inv.all ∙ ap (λ (l : List (ℕ × ℕ)). pairs_of c.loop-from.asked ++ l) c.in-None.ensures.steps.0)
+    (omega arith) inv.end inv.more

@@ -1,0 +1,22 @@
+use Rattle.cfdp_receiver.proofs.SoundSteps.{LowerLaws}
+use Rattle.cfdp_receiver.proofs.SoundHears.{step-true}
+use Rattle.cfdp_receiver.proofs.SoundLaws.{sound-opens, sound-closed}
+use Rattle.cfdp_receiver.proofs.laws.what_is_heard_true_is_kept_true.Goals as goal
+
+pub returns-clause-step : goal.returns-clause-step
+returns-clause-step c put heard stored input m files r truth s =
+    let sets = c.a_set_is_what_it_holds.ensures in
+    let laws : LowerLaws = record {
+      ranges = sets.range;
+      sets = sets.union;
+      whole_sum = c.whole_file_has_its_checksum.ensures;
+      last = c.the_end_is_one_past_the_last.ensures.last;
+      staged = c.octets_held_keep_their_value.ensures.staged;
+    } in
+    (step-true laws put heard ⊥ (λ f. absurd f) files m r s stored input truth (λ f. absurd f)).sound
+
+pub returns-clause-opened : goal.returns-clause-opened
+returns-clause-opened c = sound-opens
+
+pub returns-clause-closed : goal.returns-clause-closed
+returns-clause-closed c = sound-closed

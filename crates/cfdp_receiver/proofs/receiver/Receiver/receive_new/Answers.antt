@@ -1,0 +1,45 @@
+use Rattle.std.proofs.Common.{◌∙◌, sym, ap, rules, inl, refl}
+use Rattle.std.specs.FinSet.{contains}
+use Rattle.cfdp_extents.specs.Offsets.{Offsets}
+use Rattle.cfdp_receiver.proofs.Held.{held_with, held_below_with}
+use Rattle.cfdp_receiver.proofs.StagedLemmas.{keeps_unheld, ready_staged}
+use Rattle.cfdp_receiver.proofs.receiver.Receiver.receive_new.Goals as goal
+
+pub returns-in_err-insert-in-Done-clause-keeps : goal.returns-in_err-insert-in-Done-clause-keeps
+returns-in_err-insert-in-Done-clause-keeps g c =
+    keeps_unheld _ (g.I.Inbox.staged c.args.inbox.now) (g.I.Inbox.staged c.stage.new.inbox)
+    c.args.self.now _
+    c.insert.new.self c.args.told.now.items _ _ _ c.args.offset c.args.bytes.now
+    c.self.view_is c.in_err-insert-in-Done.ensures.err c.stage.ensures.published
+    c.stage.ensures.others
+    (c.stage.ensures.staged (search rules)) c.missing_in-gaps.ensures.gaps
+    c.missing_in-gaps.ensures.inside
+
+pub returns-in_err-insert-in-Done-clause-ready : goal.returns-in_err-insert-in-Done-clause-ready
+returns-in_err-insert-in-Done-clause-ready g c =
+    ready_staged (g.I.Inbox.staged c.args.inbox.now) (g.I.Inbox.staged c.stage.new.inbox)
+    c.args.self.now _ _ _
+    c.args.offset c.args.bytes.now c.self.view_is c.requires.ready c.requires.receiving refl
+    (c.stage.ensures.staged (search rules)) c.missing_in-gaps.ensures.gaps
+    c.missing_in-gaps.ensures.inside
+    (λ n h. inl (sym (ap (λ (s : Offsets). contains s n) c.in_err-insert-in-Done.ensures.err) ∙ h))
+
+pub invariant_of-self-in-Done : goal.invariant_of-self-in-Done
+invariant_of-self-in-Done g c = record {
+  addressing_fits = c.self.invariant.addressing_fits;
+  suspended_receives = c.self.invariant.suspended_receives;
+  held_below = λ n h. held_below_with c.self.inside.held c.insert.new.self c.args.offset _ n
+      c.in_ok-insert-in-Done.ensures.ok c.self.invariant.held_below c.requires.fits h;
+  size_below = c.self.invariant.size_below;
+  cursor_below = c.self.invariant.cursor_below;
+}
+
+pub complete-requires-clause-ready : goal.complete-requires-clause-ready
+complete-requires-clause-ready g c =
+    ready_staged (g.I.Inbox.staged c.args.inbox.now) (g.I.Inbox.staged c.stage.new.inbox)
+    c.args.self.now _ _ _
+    c.args.offset c.args.bytes.now c.self.view_is c.requires.ready c.requires.receiving refl
+    (c.stage.ensures.staged (search rules)) c.missing_in-gaps.ensures.gaps
+    c.missing_in-gaps.ensures.inside
+    (λ n h. held_with c.self.inside.held c.args.offset _ n
+    (sym (ap (λ (s : Offsets). contains s n) c.in_ok-insert-in-Done.ensures.ok) ∙ h))

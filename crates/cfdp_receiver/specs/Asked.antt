@@ -1,0 +1,29 @@
+-- What one NAK asks for, as it lies in memory.
+use Rattle.std.specs.Prelude.{◌≡◌, ℕ, ◌≤◌, ◌++◌, Bool, List, [], ◌∷◌, length, take, if◌then◌else◌}
+use Rattle.std.specs.List.{AllByRecursion}
+use Rattle.cfdp_directives.specs.Codes.{file_size_octets}
+use Rattle.cfdp_directives.specs.Pair.{IsPair}
+use Rattle.cfdp_receiver.specs.declared.asked.Asked.{Asked}
+use Rattle.cfdp_receiver.specs.State.{size_limit}
+use Rattle.cfdp_receiver.specs.Missing.{asked, has_more, last_end}
+
+-- gaps, and Metadata ahead of them if it is asked for
+abbrev pub with_metadata : Bool → List (ℕ × ℕ) → List (ℕ × ℕ)
+with_metadata metadata gaps = (if metadata then (0, 0) ∷ [] else []) ++ gaps
+
+-- the pairs that count
+abbrev pub pairs_of : Asked → List (ℕ × ℕ)
+pairs_of a = take a.count a.pairs
+
+-- Its pairs can be written.
+pub record IsWritable (a : Asked) : Type 0 where
+  pub few : a.count ≤ 32
+  pub len : length (pairs_of a) ≡ a.count
+  pub pairs : AllByRecursion (IsPair file_size_octets) (pairs_of a)
+  pub end : a.end ≤ size_limit
+
+-- It is what one NAK asks for, of all that is missing.
+pub record AsksFor (all : List (ℕ × ℕ)) (a : Asked) : Type 0 where
+  pub pairs : pairs_of a ≡ asked all
+  pub end : a.end ≡ last_end 0 (asked all)
+  pub more : a.more ≡ has_more all

@@ -1,0 +1,96 @@
+-- What a receiver of one transaction keeps (CCSDS 727.0-B-5, 4.6.1.2 and 4.6.4).
+use Rattle.std.specs.Prelude.{◌≡◌, ℕ, ◌<◌, ◌≤◌, Bool, true, false, Option, None, IfSome, IsSome}
+use Rattle.std.specs.FinMap as map
+use Rattle.std.specs.FinSet as set
+use Rattle.cfdp_header.specs.declared.value.TransactionId.{TransactionId}
+use Rattle.cfdp_directives.specs.declared.addressing.Addressing.{Addressing}
+use Rattle.cfdp_directives.specs.declared.telling.Outcome.{Outcome}
+use Rattle.cfdp_directives.specs.Addressing.{FitsAddressing}
+use Rattle.cfdp_directives.specs.declared.phase.Phase.{Phase}
+use Rattle.cfdp_directives.specs.declared.phase.Phase.TheVariants as phase
+use Rattle.cfdp_extents.specs.Offsets.{Offsets}
+use Rattle.cfdp_store.specs.Staged.{OctetMap, staged_for}
+use Rattle.cfdp_receiver.specs.declared.state.ReceiverPhase.{ReceiverPhase}
+use Rattle.cfdp_receiver.specs.declared.state.ReceiverPhase.TheVariants.{Receiving, Finishing, Closed}
+use Rattle.cfdp_receiver.specs.declared.state.FileInfo.{FileInfo}
+use Rattle.cfdp_receiver.specs.declared.state.Ending.{Ending}
+
+pub record ReceiverState : Type 0 where
+  -- the transaction, and how its first PDU was written: answers are written so too
+  pub addressing : Addressing
+  pub phase : ReceiverPhase
+  pub suspended : Bool
+  -- what the first Metadata said, and the first EOF without an error
+  pub metadata : Option FileInfo
+  pub ending : Option Ending
+  -- the offsets held, and the sum of their octets
+  pub held : Offsets
+  pub checksum : ℕ
+  -- whether an ACK of EOF is due, and with which condition: that of the EOF heard last
+  pub ack_due : Option ℕ
+  -- whether a NAK is due, and from which offset on
+  pub nak_cursor : Option ℕ
+  pub keep_alive_due : Bool
+  pub finished_due : Bool
+  pub finished_taken : Bool
+  -- how the transaction ended
+  pub outcome : Option Outcome
+  -- how often what is missing was asked for again, and how often Finished was sent again
+  pub nak_count : ℕ
+  pub finished_count : ℕ
+
+-- a receiver that has heard nothing yet
+abbrev pub opened_receiver : Addressing → ReceiverState
+opened_receiver addressing = record {
+  addressing = addressing;
+  phase = Receiving;
+  suspended = false;
+  metadata = None;
+  ending = None;
+  held = set.empty;
+  checksum = 0;
+  ack_due = None;
+  nak_cursor = None;
+  keep_alive_due = false;
+  finished_due = false;
+  finished_taken = false;
+  outcome = None;
+  nak_count = 0;
+  finished_count = 0;
+}
+
+abbrev pub is_receiving : ReceiverPhase → Bool
+is_receiving Receiving = true
+is_receiving Finishing = false
+is_receiving Closed = false
+
+abbrev pub is_finishing : ReceiverPhase → Bool
+is_finishing Receiving = false
+is_finishing Finishing = true
+is_finishing Closed = false
+
+-- the phase that callers see
+abbrev pub public_phase : ReceiverPhase → Phase
+public_phase Receiving = phase.Receiving
+public_phase Finishing = phase.Finishing
+public_phase Closed = phase.Closed
+
+-- the greatest size of a file
+abbrev pub size_limit : ℕ
+size_limit = 4294967295
+
+-- What holds of every receiver: its transaction can be written in its widths, it is suspended only
+-- while it receives, and each offset that it may have to write is at most the greatest size.
+pub record IsReceiver (addressing : Addressing) (phase : ReceiverPhase) (suspended : Bool)
+    (ending : Option Ending) (held : Offsets) (nak_cursor : Option ℕ) : Type 0 where
+  pub addressing_fits : FitsAddressing addressing
+  pub suspended_receives : suspended ≡ true → phase ≡ Receiving
+  pub held_below : (n : ℕ) → set.contains held n ≡ true → n < size_limit
+  pub size_below : phase ≡ Receiving → IfSome ending (λ e. e.size ≤ size_limit)
+  pub cursor_below : IfSome nak_cursor (λ cursor. cursor ≤ size_limit)
+
+-- While it receives, its transaction is begun in the inbox, and what is held is staged there.
+pub record IsReady (staged : TransactionId → Option OctetMap) (r : ReceiverState) : Type 0 where
+  pub begun : r.phase ≡ Receiving → IsSome (staged r.addressing.id)
+  pub backed : r.phase ≡ Receiving → (n : ℕ) → set.contains r.held n ≡ true
+      → IsSome (map.get (staged_for staged r.addressing.id) n)

@@ -1,0 +1,81 @@
+// The pairs of a NAK.
+ghost use Rattle.std.specs.Prelude.{◌≡◌, ◌≤◌, [], Some, None, if◌then◌else◌};
+ghost use Rattle.std.specs.List.{All};
+ghost use Rattle.cfdp_extents.specs.Offsets.{LiesIn};
+ghost use Rattle.cfdp_receiver.specs.State.{size_limit};
+ghost use Rattle.cfdp_receiver.specs.Asked.{pairs_of, with_metadata, IsWritable, AsksFor};
+
+use cfdp_directives::Pairs;
+use cfdp_extents::Gaps;
+
+/// The most pairs of one NAK.
+const MOST_PAIRS: usize = 32;
+
+/// What one NAK asks for, of all that is missing.
+#[derive(Clone, Copy, Debug)]
+pub(crate) struct Asked {
+    pub(crate) pairs: [(u64, u64); 32],
+    // How many of them count.
+    pub(crate) count: usize,
+    // Where the last of them ends.
+    pub(crate) end: u64,
+    // Whether more is missing.
+    pub(crate) more: bool,
+}
+
+impl Asked {
+    /// Nothing, or Metadata.
+    pub(crate) fn new(metadata: bool) -> Asked
+        ensures asks { AsksFor (with_metadata metadata []) result }
+        ensures writable { IsWritable result }
+    {
+        Asked {
+            pairs: [(0, 0); 32],
+            count: usize::from(metadata),
+            end: 0,
+            more: false,
+        }
+    }
+
+    /// The first of these gaps, and ahead of them Metadata if it is asked for.
+    pub(crate) fn of(metadata: bool, gaps: Gaps<'_>, start: u64, limit: u64) -> Asked
+        requires limit { limit ≤ size_limit }
+        requires inside { All (LiesIn start limit) gaps }
+        ensures asks { AsksFor (with_metadata metadata gaps.entry) result }
+        ensures writable { IsWritable result }
+    {
+        let mut asked = Asked::new(metadata);
+        for (from, to) in gaps {
+            if asked.count == MOST_PAIRS {
+                asked.more = true;
+                return asked;
+            }
+            asked.pairs[asked.count] = (from, to);
+            asked.count += 1;
+            asked.end = to;
+        }
+        asked
+    }
+
+    /// The pairs.
+    pub(crate) fn pairs(&self) -> Pairs<'_>
+        requires { IsWritable self.now }
+        ensures { result ≡ pairs_of self.now }
+    {
+        Pairs::of(&self.pairs[..self.count])
+    }
+
+    /// Where the scope of the NAK ends, if nothing is missing from this limit on.
+    pub(crate) fn scope_end(&self, limit: u64) -> u64
+        ensures { result ≡ (if self.now.more then self.now.end else limit) }
+    {
+        if self.more { self.end } else { limit }
+    }
+
+    /// From where on the next NAK is due, if more is missing.
+    pub(crate) fn next_cursor(&self) -> Option<u64>
+        ensures { result ≡ (if self.now.more then Some self.now.end else None) }
+    {
+        if self.more { Some(self.end) } else { None }
+    }
+}

@@ -1,0 +1,199 @@
+// How a transaction ends, and the completion test.
+ghost use Rattle.std.specs.Prelude.{◌≡◌, ◌+◌, ◌≤◌, ◌++◌, ◌∷◌, [], ◌-◌, ◌^◌, ◌<◌, None, true, false, vec_len, vec_capacity};
+ghost use Rattle.cfdp_directives.specs.Policy.{finished_told, fault_told};
+ghost use Rattle.cfdp_directives.specs.Codes.{filestore_rejection};
+ghost use Rattle.cfdp_store.specs.Staged.{OthersKeep, staged_for};
+ghost use Rattle.cfdp_store.specs.Stores.{Counts};
+ghost use Rattle.cfdp_receiver.specs.State.{is_receiving, IsReady};
+ghost use Rattle.cfdp_receiver.specs.Steps as steps;
+ghost use Rattle.cfdp_receiver.specs.Steps.{ended, finishing, faulted, completed};
+ghost use Rattle.cfdp_receiver.specs.Does.{Does, Stores, LetsGo};
+
+use crate::receiver::Receiver;
+use crate::state::{Ending, FileInfo, ReceiverPhase};
+use cfdp_directives::{
+    Checksum, ChecksumKind, Condition, Delivery, FileStatus, Handler, Indication, Outcome, tell,
+    tell_fault,
+};
+use cfdp_header::TransactionId;
+use cfdp_store::{Inbox, Stored};
+
+impl Receiver {
+    /// Receives no more, and lets go of all that it kept for that.
+    #[tactic(auto, using(crate::proofs::Held::none_held))]
+    pub(crate) fn end(&mut self, phase: ReceiverPhase)
+        requires { is_receiving phase ≡ false }
+        ensures { self.new ≡ ended phase self.old }
+    {
+        self.phase = phase;
+        self.suspended = false;
+        self.held.clear();
+        self.checksum = Checksum::new();
+        self.nak_cursor = None;
+        self.keep_alive_due = false;
+        self.finished_due = false;
+        self.finished_taken = false;
+        self.nak_count = 0;
+        self.finished_count = 0;
+    }
+
+    /// Tells how the transaction ended: Finished is due.
+    pub(crate) fn finish(
+        &mut self,
+        told: &mut Vec<Indication>,
+        condition: Condition,
+        delivery: Delivery,
+        status: FileStatus,
+    )
+        requires { vec_len told.old + 1 ≤ vec_capacity told.old }
+        ensures receiver { self.new ≡ finishing
+            (record { condition = condition; delivery = delivery; status = status }) self.old }
+        ensures tells { told.new.items ≡ told.old.items ++ finished_told self.old.addressing.id
+            (record { condition = condition; delivery = delivery; status = status }) ∷ [] }
+        ensures told_room { vec_len told.new + vec_capacity told.old
+            ≤ vec_len told.old + 1 + vec_capacity told.new }
+    {
+        tell_finished(told, self.addressing.id, condition, delivery, status);
+        self.end(ReceiverPhase::Finishing);
+        self.finished_due = true;
+        self.outcome = Some(Outcome {
+            condition,
+            delivery,
+            status,
+        });
+    }
+
+    /// Lets what is staged for the transaction go. That the inbox fails has no other effect.
+    pub(crate) fn discard<I: Inbox>(&self, inbox: &mut I)
+        ensures published { I.published inbox.new ≡ I.published inbox.old }
+        ensures others { OthersKeep self.now.addressing.id
+            (I.staged inbox.old) (I.staged inbox.new) }
+        ensures counts { I.failures inbox.old ≤ I.failures inbox.new }
+        ensures lets_go { I.failures inbox.old < 2 ^ 64 - 1
+            → I.failures inbox.new ≡ I.failures inbox.old
+            → I.staged inbox.new self.now.addressing.id ≡ None }
+    {
+        let _ = inbox.discard(self.addressing.id);
+    }
+
+    /// A fault ends the transaction.
+    pub(crate) fn fault<I: Inbox>(
+        &mut self,
+        told: &mut Vec<Indication>,
+        inbox: &mut I,
+        condition: Condition,
+    )
+        requires { vec_len told.old + 2 ≤ vec_capacity told.old }
+        ensures receiver { self.new ≡ finishing (steps.failed condition) self.old }
+        ensures tells { told.new.items ≡ told.old.items
+            ++ (fault_told Handler.Cancel self.old.addressing.id condition
+            ++ finished_told self.old.addressing.id (steps.failed condition) ∷ []) }
+        ensures published { I.published inbox.new ≡ I.published inbox.old }
+        ensures others { OthersKeep self.old.addressing.id
+            (I.staged inbox.old) (I.staged inbox.new) }
+        ensures counts { I.failures inbox.old ≤ I.failures inbox.new }
+        ensures lets_go { I.failures inbox.old < 2 ^ 64 - 1
+            → I.failures inbox.new ≡ I.failures inbox.old
+            → I.staged inbox.new self.old.addressing.id ≡ None }
+        ensures told_room { vec_len told.new + vec_capacity told.old
+            ≤ vec_len told.old + 2 + vec_capacity told.new }
+    {
+        self.discard(inbox);
+        tell_fault(told, Handler::Cancel, self.addressing.id, condition);
+        self.finish(
+            told,
+            condition,
+            Delivery::Incomplete,
+            status_after(condition),
+        );
+    }
+
+    /// The completion test, and what follows from it: where Metadata and EOF were heard and all of
+    /// the file is held, it is published if the checksum agrees.
+    #[tactic(auto, using(crate::proofs::StagedLemmas::staged_is))]
+    pub(crate) fn complete<I: Inbox>(&mut self, told: &mut Vec<Indication>, inbox: &mut I) -> Stored
+        requires room { vec_len told.old + 2 ≤ vec_capacity told.old }
+        requires ready { IsReady (I.staged inbox.old) self.old }
+        requires receiving { self.old.phase ≡ ReceiverPhase.Receiving }
+        ensures does { Does (completed result
+            (staged_for (I.staged inbox.old) self.old.addressing.id) (I.published inbox.old)
+            self.old) self.new told.old.items told.new.items }
+        ensures refused { result ≡ Stored.Refused → Does (faulted filestore_rejection
+            (staged_for (I.staged inbox.old) self.old.addressing.id) (I.published inbox.old)
+            self.old) self.new told.old.items told.new.items }
+        ensures stores { Stores (completed result
+            (staged_for (I.staged inbox.old) self.old.addressing.id) (I.published inbox.old)
+            self.old) (I.published inbox.new) (I.staged inbox.old) (I.staged inbox.new) }
+        ensures ready { IsReady (I.staged inbox.new) self.new }
+        ensures addressing { self.new.addressing ≡ self.old.addressing }
+        ensures counts { Counts result (I.failures inbox.old) (I.failures inbox.new) }
+        ensures lets_go { LetsGo self.old self.new (I.failures inbox.old) (I.failures inbox.new)
+            (I.staged inbox.new) }
+    {
+        let (Some(info), Some(ending)) = (&self.metadata, self.ending) else {
+            return Stored::Done;
+        };
+        if !self.held.covers(0, ending.size) {
+            return Stored::Done;
+        }
+        if !agrees(info, &ending, self.checksum.value()) {
+            self.fault(told, inbox, Condition::FILE_CHECKSUM_FAILURE);
+            return Stored::Done;
+        }
+        let name = info.destination.as_slice();
+        match inbox.publish(self.addressing.id, name, ending.size) {
+            Ok(()) => {
+                let condition = Condition::NO_ERROR;
+                self.finish(told, condition, Delivery::Complete, FileStatus::Retained);
+                Stored::Done
+            }
+            Err(_) => {
+                self.fault(told, inbox, Condition::FILESTORE_REJECTION);
+                Stored::Refused
+            }
+        }
+    }
+}
+
+/// Whether the checksum of the held octets agrees with the EOF's. The null checksum isn't compared.
+fn agrees(info: &FileInfo, ending: &Ending, sum: u32) -> bool
+    ensures { result ≡ steps.agrees info.now ending.now sum }
+{
+    info.checksum_kind != ChecksumKind::MODULAR || sum == ending.checksum
+}
+
+/// What becomes of the file of a transaction that fails with this condition.
+fn status_after(condition: Condition) -> FileStatus
+    ensures { result ≡ steps.status_after condition }
+{
+    if condition == Condition::FILESTORE_REJECTION {
+        FileStatus::Rejected
+    } else {
+        FileStatus::Discarded
+    }
+}
+
+/// Tells that a transaction is over.
+pub(crate) fn tell_finished(
+    told: &mut Vec<Indication>,
+    id: TransactionId,
+    condition: Condition,
+    delivery: Delivery,
+    status: FileStatus,
+)
+    requires { vec_len told.old + 1 ≤ vec_capacity told.old }
+    ensures tells { told.new.items ≡ told.old.items ++ finished_told id
+        (record { condition = condition; delivery = delivery; status = status }) ∷ [] }
+    ensures told_room { vec_len told.new + vec_capacity told.old
+        ≤ vec_len told.old + 1 + vec_capacity told.new }
+{
+    tell(
+        told,
+        Indication::Finished {
+            id,
+            condition,
+            delivery,
+            status,
+        },
+    );
+}

@@ -1,0 +1,508 @@
+// What a receiver hears.
+ghost use Rattle.std.specs.Prelude.{◌≡◌, Option, ◌++◌, ◌∷◌, [], None, ◌+◌, ◌≤◌, ◌<◌, ◌-◌, ◌^◌, ◌&&◌, true, false, Some, IfOk, OnErr, vec_len, vec_capacity, length};
+ghost use Rattle.std.specs.FinSet as set;
+ghost use Rattle.cfdp_directives.specs.Policy.{finished_told};
+ghost use Rattle.cfdp_store.specs.Staged.{OctetMap, OthersKeep, staged_for};
+ghost use Rattle.cfdp_store.specs.Stores.{Counts};
+ghost use Rattle.cfdp_timers.specs.declared.kind.Kind.TheVariants as kinds;
+ghost use Rattle.cfdp_header.specs.Files.{FileMap};
+ghost use Rattle.cfdp_header.specs.declared.value.TransactionId.{TransactionId};
+ghost use Rattle.cfdp_receiver.specs.State.{IsReady, size_limit};
+ghost use Rattle.cfdp_receiver.specs.Missing.{tidied};
+ghost use Rattle.cfdp_receiver.specs.Steps as steps;
+ghost use Rattle.cfdp_receiver.specs.Steps.{cancelled, given_up, contradicts, receives_metadata, receives_data, receives_new, receives_eof, first_eof, hears_metadata, hears_data, hears_eof, hears_ack, hears_prompt};
+ghost use Rattle.cfdp_receiver.specs.Does.{Does, Stores, LetsGo, Keeps, timers_set};
+
+use crate::ending::tell_finished;
+use crate::receiver::{Receiver, SIZE_LIMIT};
+use crate::staging::stage;
+use crate::state::{Ending, FileInfo, ReceiverPhase};
+use cfdp_directives::{
+    ChecksumKind, Condition, Delivery, FileStatus, Indication, Octets, Outcome, Policy, tell,
+};
+use cfdp_store::{Inbox, Stored};
+use cfdp_timers::{Kind, Timers};
+use std::alloc::AllocError;
+
+/// What Metadata says of its file.
+#[derive(Clone, Copy, Debug)]
+pub struct Metadata<'a> {
+    /// How the file's checksum is made.
+    pub checksum_kind: ChecksumKind,
+    /// Octets of the file.
+    pub size: u64,
+    /// Its name at the sender.
+    pub source: &'a [u8],
+    /// Its name at the receiver.
+    pub destination: &'a [u8],
+}
+
+impl Receiver {
+    /// The first Metadata, or another. An error leaves all as it was.
+    fn receive_metadata<I: Inbox>(
+        &mut self,
+        told: &mut Vec<Indication>,
+        inbox: &mut I,
+        metadata: &Metadata<'_>,
+    ) -> Result<Stored, AllocError>
+        requires room { vec_len told.old + 3 ≤ vec_capacity told.old }
+        requires ready { IsReady (I.staged inbox.old) self.old }
+        requires receiving { self.old.phase ≡ ReceiverPhase.Receiving }
+        ensures does { IfOk result (λ stored. Does (receives_metadata stored
+            metadata.now.checksum_kind metadata.now.size metadata.now.source.now
+            metadata.now.destination.now
+            (staged_for (I.staged inbox.old) self.old.addressing.id) (I.published inbox.old)
+            self.old) self.new told.old.items told.new.items) }
+        ensures stores { IfOk result (λ stored. Stores (receives_metadata stored
+            metadata.now.checksum_kind metadata.now.size metadata.now.source.now
+            metadata.now.destination.now
+            (staged_for (I.staged inbox.old) self.old.addressing.id) (I.published inbox.old)
+            self.old) (I.published inbox.new) (I.staged inbox.old) (I.staged inbox.new)) }
+        ensures keeps { OnErr result (self.new ≡ self.old) }
+        ensures keeps_told { OnErr result (told.new.items ≡ told.old.items) }
+        ensures keeps_inbox { OnErr result (inbox.new ≡ inbox.old) }
+        ensures ready { IsReady (I.staged inbox.new) self.new }
+        ensures addressing { self.new.addressing ≡ self.old.addressing }
+        ensures counts { IfOk result (λ stored.
+            Counts stored (I.failures inbox.old) (I.failures inbox.new)) }
+        ensures lets_go { LetsGo self.old self.new (I.failures inbox.old) (I.failures inbox.new)
+            (I.staged inbox.new) }
+    {
+        if self.metadata.is_some() {
+            return Ok(Stored::Done);
+        }
+        let source = Octets::copied(self.alloc, metadata.source)?;
+        let destination = Octets::copied(self.alloc, metadata.destination)?;
+        let name = Octets::copied(self.alloc, metadata.destination)?;
+        tell(
+            told,
+            Indication::MetadataRecv {
+                id: self.addressing.id,
+                source,
+                destination,
+                size: metadata.size,
+            },
+        );
+        self.metadata = Some(FileInfo {
+            checksum_kind: metadata.checksum_kind,
+            destination: name,
+        });
+        self.nak_count = 0;
+        if is_supported(metadata.checksum_kind) {
+            return Ok(self.complete(told, inbox));
+        }
+        self.fault(told, inbox, Condition::UNSUPPORTED_CHECKSUM_TYPE);
+        Ok(Stored::Done)
+    }
+
+    /// Hears Metadata. In Receiving the first one is indicated, and the file is published if all of
+    /// it is there; a checksum type that isn't known is a fault. Any other changes nothing.
+    ///
+    /// # Errors
+    ///
+    /// `AllocError` where there is no memory for the names. All is then as it was.
+    pub fn on_metadata<I: Inbox>(
+        &mut self,
+        timers: &mut Timers,
+        policy: &Policy,
+        told: &mut Vec<Indication>,
+        inbox: &mut I,
+        metadata: &Metadata<'_>,
+    ) -> Result<Stored, AllocError>
+        requires has_room { set.contains timers.old.roomy self.old.addressing.id ≡ true }
+        requires room { vec_len told.old + 3 ≤ vec_capacity told.old }
+        requires ready { IsReady (I.staged inbox.old) self.old }
+        ensures does { IfOk result (λ stored. Does (hears_metadata stored
+            metadata.now.checksum_kind metadata.now.size metadata.now.source.now
+            metadata.now.destination.now
+            (staged_for (I.staged inbox.old) self.old.addressing.id) (I.published inbox.old)
+            self.old) self.new told.old.items told.new.items) }
+        ensures stores { IfOk result (λ stored. Stores (hears_metadata stored
+            metadata.now.checksum_kind metadata.now.size metadata.now.source.now
+            metadata.now.destination.now
+            (staged_for (I.staged inbox.old) self.old.addressing.id) (I.published inbox.old)
+            self.old) (I.published inbox.new) (I.staged inbox.old) (I.staged inbox.new)) }
+        ensures timers { IfOk result (λ stored. timers.new
+            ≡ timers_set policy.now.times (Some kinds.Inactivity) self.new timers.old) }
+        ensures keeps { OnErr result (Keeps self.old self.new told.old.items told.new.items
+            (I.published inbox.old) (I.published inbox.new)
+            (I.staged inbox.old) (I.staged inbox.new)) }
+        ensures keeps_timers { OnErr result (timers.new ≡ timers.old) }
+        ensures ready { IsReady (I.staged inbox.new) self.new }
+        ensures addressing { self.new.addressing ≡ self.old.addressing }
+        ensures counts { IfOk result (λ stored.
+            Counts stored (I.failures inbox.old) (I.failures inbox.new)) }
+        ensures lets_go { LetsGo self.old self.new (I.failures inbox.old) (I.failures inbox.new)
+            (I.staged inbox.new) }
+    {
+        let stored = if self.phase == ReceiverPhase::Receiving {
+            self.receive_metadata(told, inbox, metadata)?
+        } else {
+            Stored::Done
+        };
+        self.heard(timers, policy);
+        Ok(stored)
+    }
+
+    /// File data of an open transaction. An error leaves all as it was, save octets staged at
+    /// offsets that aren't held.
+    fn receive_data<I: Inbox>(
+        &mut self,
+        told: &mut Vec<Indication>,
+        inbox: &mut I,
+        offset: u64,
+        bytes: &[u8],
+    ) -> Result<Stored, AllocError>
+        requires room { vec_len told.old + 3 ≤ vec_capacity told.old }
+        requires ready { IsReady (I.staged inbox.old) self.old }
+        requires receiving { self.old.phase ≡ ReceiverPhase.Receiving }
+        ensures does { IfOk result (λ stored. Does (receives_data stored offset bytes.now
+            (staged_for (I.staged inbox.old) self.old.addressing.id) (I.published inbox.old)
+            self.old) self.new told.old.items told.new.items) }
+        ensures stores { IfOk result (λ stored. Stores (receives_data stored offset bytes.now
+            (staged_for (I.staged inbox.old) self.old.addressing.id) (I.published inbox.old)
+            self.old) (I.published inbox.new) (I.staged inbox.old) (I.staged inbox.new)) }
+        ensures keeps { OnErr result (Keeps self.old self.new told.old.items told.new.items
+            (I.published inbox.old) (I.published inbox.new)
+            (I.staged inbox.old) (I.staged inbox.new)) }
+        ensures ready { IsReady (I.staged inbox.new) self.new }
+        ensures addressing { self.new.addressing ≡ self.old.addressing }
+        ensures counts { IfOk result (λ stored.
+            Counts stored (I.failures inbox.old) (I.failures inbox.new)) }
+        ensures grows { I.failures inbox.old ≤ I.failures inbox.new }
+        ensures lets_go { LetsGo self.old self.new (I.failures inbox.old) (I.failures inbox.new)
+            (I.staged inbox.new) }
+    {
+        if exceeds(self.ending, offset, bytes.len()) {
+            self.fault(told, inbox, Condition::FILE_SIZE_ERROR);
+            return Ok(Stored::Done);
+        }
+        let end = offset + bytes.len() as u64;
+        if self.held.covers(offset, end) {
+            return Ok(self.complete(told, inbox));
+        }
+        self.receive_new(told, inbox, offset, bytes)
+    }
+
+    /// Octets of which some are new: those are staged, summed and held.
+    fn receive_new<I: Inbox>(
+        &mut self,
+        told: &mut Vec<Indication>,
+        inbox: &mut I,
+        offset: u64,
+        bytes: &[u8],
+    ) -> Result<Stored, AllocError>
+        requires room { vec_len told.old + 3 ≤ vec_capacity told.old }
+        requires ready { IsReady (I.staged inbox.old) self.old }
+        requires receiving { self.old.phase ≡ ReceiverPhase.Receiving }
+        requires fits { offset + length bytes.now ≤ size_limit }
+        ensures does { IfOk result (λ stored. Does (receives_new stored offset bytes.now
+            (staged_for (I.staged inbox.old) self.old.addressing.id) (I.published inbox.old)
+            self.old) self.new told.old.items told.new.items) }
+        ensures stores { IfOk result (λ stored. Stores (receives_new stored offset bytes.now
+            (staged_for (I.staged inbox.old) self.old.addressing.id) (I.published inbox.old)
+            self.old) (I.published inbox.new) (I.staged inbox.old) (I.staged inbox.new)) }
+        ensures keeps { OnErr result (Keeps self.old self.new told.old.items told.new.items
+            (I.published inbox.old) (I.published inbox.new)
+            (I.staged inbox.old) (I.staged inbox.new)) }
+        ensures ready { IsReady (I.staged inbox.new) self.new }
+        ensures addressing { self.new.addressing ≡ self.old.addressing }
+        ensures counts { IfOk result (λ stored.
+            Counts stored (I.failures inbox.old) (I.failures inbox.new)) }
+        ensures grows { I.failures inbox.old ≤ I.failures inbox.new }
+        ensures lets_go { LetsGo self.old self.new (I.failures inbox.old) (I.failures inbox.new)
+            (I.staged inbox.new) }
+    {
+        let end = offset + bytes.len() as u64;
+        let mut checksum = self.checksum;
+        let gaps = self.held.missing_in(offset, end);
+        match stage(
+            inbox,
+            self.addressing.id,
+            &mut checksum,
+            gaps,
+            offset,
+            bytes,
+        ) {
+            Stored::Done => {
+                self.held.insert(offset, end)?;
+                self.checksum = checksum;
+                self.nak_count = 0;
+                Ok(self.complete(told, inbox))
+            }
+            Stored::Refused => {
+                self.fault(told, inbox, Condition::FILESTORE_REJECTION);
+                Ok(Stored::Refused)
+            }
+        }
+    }
+
+    /// Hears file data. In Receiving the octets that aren't held yet are staged, and those that are
+    /// keep their value; the file is published if all of it is there. Data that end behind the
+    /// EOF's size, or behind the greatest size, are a fault. Otherwise nothing changes.
+    ///
+    /// # Errors
+    ///
+    /// `AllocError` where there is no memory to note what is held. All is then as it was, but
+    /// octets may be staged at offsets that aren't held.
+    pub fn on_data<I: Inbox>(
+        &mut self,
+        timers: &mut Timers,
+        policy: &Policy,
+        told: &mut Vec<Indication>,
+        inbox: &mut I,
+        offset: u64,
+        bytes: &[u8],
+    ) -> Result<Stored, AllocError>
+        requires has_room { set.contains timers.old.roomy self.old.addressing.id ≡ true }
+        requires room { vec_len told.old + 3 ≤ vec_capacity told.old }
+        requires ready { IsReady (I.staged inbox.old) self.old }
+        ensures does { IfOk result (λ stored. Does (hears_data stored offset bytes.now
+            (staged_for (I.staged inbox.old) self.old.addressing.id) (I.published inbox.old)
+            self.old) self.new told.old.items told.new.items) }
+        ensures stores { IfOk result (λ stored. Stores (hears_data stored offset bytes.now
+            (staged_for (I.staged inbox.old) self.old.addressing.id) (I.published inbox.old)
+            self.old) (I.published inbox.new) (I.staged inbox.old) (I.staged inbox.new)) }
+        ensures timers { IfOk result (λ stored. timers.new
+            ≡ timers_set policy.now.times (Some kinds.Inactivity) self.new timers.old) }
+        ensures keeps { OnErr result (Keeps self.old self.new told.old.items told.new.items
+            (I.published inbox.old) (I.published inbox.new)
+            (I.staged inbox.old) (I.staged inbox.new)) }
+        ensures keeps_timers { OnErr result (timers.new ≡ timers.old) }
+        ensures ready { IsReady (I.staged inbox.new) self.new }
+        ensures addressing { self.new.addressing ≡ self.old.addressing }
+        ensures counts { IfOk result (λ stored.
+            Counts stored (I.failures inbox.old) (I.failures inbox.new)) }
+        ensures grows { I.failures inbox.old ≤ I.failures inbox.new }
+        ensures lets_go { LetsGo self.old self.new (I.failures inbox.old) (I.failures inbox.new)
+            (I.staged inbox.new) }
+    {
+        let stored = if self.phase == ReceiverPhase::Receiving {
+            self.receive_data(told, inbox, offset, bytes)?
+        } else {
+            Stored::Done
+        };
+        self.heard(timers, policy);
+        Ok(stored)
+    }
+
+    /// An EOF of an open transaction.
+    fn receive_eof<I: Inbox>(
+        &mut self,
+        told: &mut Vec<Indication>,
+        inbox: &mut I,
+        condition: Condition,
+        ending: Ending,
+    ) -> Stored
+        requires room { vec_len told.old + 3 ≤ vec_capacity told.old }
+        requires ready { IsReady (I.staged inbox.old) self.old }
+        requires receiving { self.old.phase ≡ ReceiverPhase.Receiving }
+        ensures does { Does (receives_eof result condition ending.checksum ending.size
+            (staged_for (I.staged inbox.old) self.old.addressing.id) (I.published inbox.old)
+            self.old) self.new told.old.items told.new.items }
+        ensures stores { Stores (receives_eof result condition ending.checksum ending.size
+            (staged_for (I.staged inbox.old) self.old.addressing.id) (I.published inbox.old)
+            self.old) (I.published inbox.new) (I.staged inbox.old) (I.staged inbox.new) }
+        ensures ready { IsReady (I.staged inbox.new) self.new }
+        ensures addressing { self.new.addressing ≡ self.old.addressing }
+        ensures counts { Counts result (I.failures inbox.old) (I.failures inbox.new) }
+        ensures lets_go { LetsGo self.old self.new (I.failures inbox.old) (I.failures inbox.new)
+            (I.staged inbox.new) }
+    {
+        if condition != Condition::NO_ERROR {
+            self.cancel_by_sender(told, inbox, condition);
+            return Stored::Done;
+        }
+        if self.ending.is_none() {
+            return self.receive_first_eof(told, inbox, ending);
+        }
+        self.ack_due = Some(Condition::NO_ERROR);
+        self.nak_cursor = Some(0);
+        Stored::Done
+    }
+
+    /// The first EOF without an error: what is still missing is asked for.
+    fn receive_first_eof<I: Inbox>(
+        &mut self,
+        told: &mut Vec<Indication>,
+        inbox: &mut I,
+        ending: Ending,
+    ) -> Stored
+        requires room { vec_len told.old + 3 ≤ vec_capacity told.old }
+        requires ready { IsReady (I.staged inbox.old) self.old }
+        requires receiving { self.old.phase ≡ ReceiverPhase.Receiving }
+        ensures does { Does (first_eof result ending.checksum ending.size
+            (staged_for (I.staged inbox.old) self.old.addressing.id) (I.published inbox.old)
+            self.old) self.new told.old.items told.new.items }
+        ensures stores { Stores (first_eof result ending.checksum ending.size
+            (staged_for (I.staged inbox.old) self.old.addressing.id) (I.published inbox.old)
+            self.old) (I.published inbox.new) (I.staged inbox.old) (I.staged inbox.new) }
+        ensures ready { IsReady (I.staged inbox.new) self.new }
+        ensures addressing { self.new.addressing ≡ self.old.addressing }
+        ensures counts { Counts result (I.failures inbox.old) (I.failures inbox.new) }
+        ensures lets_go { LetsGo self.old self.new (I.failures inbox.old) (I.failures inbox.new)
+            (I.staged inbox.new) }
+    {
+        tell(told, Indication::EofRecv(self.addressing.id));
+        self.ack_due = Some(Condition::NO_ERROR);
+        if self.contradicts(ending.size) {
+            self.fault(told, inbox, Condition::FILE_SIZE_ERROR);
+            self.ending = Some(ending);
+            return Stored::Done;
+        }
+        self.ending = Some(ending);
+        self.nak_cursor = Some(0);
+        self.complete(told, inbox)
+    }
+
+    /// Whether the size that an EOF tells is below what is held, or above the greatest size.
+    fn contradicts(&self, size: u64) -> bool
+        ensures value { result ≡ contradicts size self.now }
+        ensures fits { result ≡ false → size ≤ size_limit }
+    {
+        size < self.held.end() || SIZE_LIMIT < size
+    }
+
+    /// An EOF with an error ends the transaction.
+    fn cancel_by_sender<I: Inbox>(
+        &mut self,
+        told: &mut Vec<Indication>,
+        inbox: &mut I,
+        condition: Condition,
+    )
+        requires room { vec_len told.old + 3 ≤ vec_capacity told.old }
+        ensures receiver { self.new ≡ cancelled condition self.old }
+        ensures tells { told.new.items ≡ told.old.items
+            ++ finished_told self.old.addressing.id (given_up condition) ∷ [] }
+        ensures published { I.published inbox.new ≡ I.published inbox.old }
+        ensures others { OthersKeep self.old.addressing.id
+            (I.staged inbox.old) (I.staged inbox.new) }
+        ensures counts { I.failures inbox.old ≤ I.failures inbox.new }
+        ensures lets_go { I.failures inbox.old < 2 ^ 64 - 1
+            → I.failures inbox.new ≡ I.failures inbox.old
+            → I.staged inbox.new self.old.addressing.id ≡ None }
+    {
+        self.discard(inbox);
+        let (delivery, status) = (Delivery::Incomplete, FileStatus::Discarded);
+        tell_finished(told, self.addressing.id, condition, delivery, status);
+        self.end(ReceiverPhase::Closed);
+        self.ack_due = Some(condition);
+        self.outcome = Some(Outcome {
+            condition,
+            delivery,
+            status,
+        });
+    }
+
+    /// Hears an EOF, with what it says of the file. It is acknowledged. In Receiving the first one
+    /// without an error is indicated, and the file is published if all of it is there; else what is
+    /// missing is asked for. One with an error ends the transaction. A size below what is held, or
+    /// above the greatest size, is a fault. Takes no memory.
+    pub fn on_eof<I: Inbox>(
+        &mut self,
+        timers: &mut Timers,
+        policy: &Policy,
+        told: &mut Vec<Indication>,
+        inbox: &mut I,
+        condition: Condition,
+        ending: Ending,
+    ) -> Stored
+        requires has_room { set.contains timers.old.roomy self.old.addressing.id ≡ true }
+        requires room { vec_len told.old + 3 ≤ vec_capacity told.old }
+        requires ready { IsReady (I.staged inbox.old) self.old }
+        ensures does { Does (hears_eof result condition ending.checksum ending.size
+            (staged_for (I.staged inbox.old) self.old.addressing.id) (I.published inbox.old)
+            self.old) self.new told.old.items told.new.items }
+        ensures stores { Stores (hears_eof result condition ending.checksum ending.size
+            (staged_for (I.staged inbox.old) self.old.addressing.id) (I.published inbox.old)
+            self.old) (I.published inbox.new) (I.staged inbox.old) (I.staged inbox.new) }
+        ensures timers { timers.new
+            ≡ timers_set policy.now.times (Some kinds.Inactivity) self.new timers.old }
+        ensures ready { IsReady (I.staged inbox.new) self.new }
+        ensures addressing { self.new.addressing ≡ self.old.addressing }
+        ensures counts { Counts result (I.failures inbox.old) (I.failures inbox.new) }
+        ensures lets_go { LetsGo self.old self.new (I.failures inbox.old) (I.failures inbox.new)
+            (I.staged inbox.new) }
+    {
+        let stored = if self.phase == ReceiverPhase::Receiving {
+            self.receive_eof(told, inbox, condition, ending)
+        } else {
+            self.ack_due = Some(condition);
+            Stored::Done
+        };
+        self.heard(timers, policy);
+        stored
+    }
+
+    /// Hears an ACK of Finished, whatever it says. Where the Finished was sent the transaction is
+    /// closed; otherwise nothing changes. Takes no memory.
+    pub fn on_ack(&mut self, timers: &mut Timers, policy: &Policy)
+        requires has_room { set.contains timers.old.roomy self.old.addressing.id ≡ true }
+        ensures receiver { (m : OctetMap) (files : FileMap) → self.new
+            ≡ (hears_ack m files self.old).receiver }
+        ensures ready { (staged : TransactionId → Option OctetMap) →
+            IsReady staged self.old → IsReady staged self.new }
+        ensures addressing { self.new.addressing ≡ self.old.addressing }
+        ensures timers { timers.new
+            ≡ timers_set policy.now.times (Some kinds.Inactivity) self.new timers.old }
+    {
+        if self.phase == ReceiverPhase::Finishing && self.finished_taken {
+            self.end(ReceiverPhase::Closed);
+        }
+        self.heard(timers, policy);
+    }
+
+    /// Hears a Prompt. In Receiving a Keep Alive is due, or a NAK; otherwise nothing changes. Takes
+    /// no memory.
+    pub fn on_prompt(&mut self, timers: &mut Timers, policy: &Policy, keep_alive: bool)
+        requires has_room { set.contains timers.old.roomy self.old.addressing.id ≡ true }
+        ensures receiver { (m : OctetMap) (files : FileMap) → self.new
+            ≡ (hears_prompt keep_alive m files self.old).receiver }
+        ensures ready { (staged : TransactionId → Option OctetMap) →
+            IsReady staged self.old → IsReady staged self.new }
+        ensures addressing { self.new.addressing ≡ self.old.addressing }
+        ensures timers { timers.new
+            ≡ timers_set policy.now.times (Some kinds.Inactivity) self.new timers.old }
+    {
+        if self.phase == ReceiverPhase::Receiving {
+            if keep_alive {
+                self.keep_alive_due = true;
+            } else {
+                self.nak_cursor = Some(0);
+            }
+        }
+        self.heard(timers, policy);
+    }
+
+    /// A PDU was heard: a NAK that is due is over if nothing is missing, and Inactivity is armed
+    /// anew.
+    fn heard(&mut self, timers: &mut Timers, policy: &Policy)
+        requires has_room { set.contains timers.old.roomy self.old.addressing.id ≡ true }
+        ensures receiver { self.new ≡ tidied self.old }
+        ensures timers { timers.new
+            ≡ timers_set policy.now.times (Some kinds.Inactivity) self.new timers.old }
+    {
+        self.tidy();
+        self.set_timers(timers, policy, Some(Kind::Inactivity));
+    }
+}
+
+/// Whether checksums of this kind can be made.
+fn is_supported(kind: ChecksumKind) -> bool
+    ensures { result ≡ steps.is_supported kind }
+{
+    kind == ChecksumKind::MODULAR || kind == ChecksumKind::NULL
+}
+
+/// Whether file data of so many octets, from an offset on, end behind the EOF's size, where one was
+/// heard, or behind the greatest size.
+fn exceeds(ending: Option<Ending>, offset: u64, len: usize) -> bool
+    ensures value { result ≡ steps.exceeds ending (offset + len) }
+    ensures fits { result ≡ false → offset + len ≤ size_limit }
+{
+    let end = offset.saturating_add(len as u64);
+    match ending {
+        Some(ending) => ending.size < end || SIZE_LIMIT < end,
+        None => SIZE_LIMIT < end,
+    }
+}

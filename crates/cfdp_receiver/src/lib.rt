@@ -1,0 +1,45 @@
+//! The receiving machine of CFDP, class 2 (CCSDS 727.0-B-5, 4.6.1.2 and 4.6.4): of one
+//! transaction, what its receiver does about each PDU that it hears, each timer that expires and
+//! each call of its user, and what it sends next.
+//!
+//! ```rust
+//! let address = Addressing::of(&header);
+//! let (mut receiver, _) =
+//!     Receiver::open(alloc, address, &mut timers, &policy, &mut told, &mut inbox)?;
+//! receiver.on_data(&mut timers, &policy, &mut told, &mut inbox, 0, b"hello")?;
+//! if receiver.due().is_some() {
+//!     let len = receiver.take_pdu(&mut timers, &policy, &mut out);
+//!     // The PDU is the first `len` octets of `out`.
+//! }
+//! ```
+#![tactic(auto)]
+
+mod asked;
+mod due;
+mod ending;
+mod hearing;
+mod laws;
+#[cfg(test)]
+mod lone;
+mod missing;
+mod opening;
+mod receiver;
+mod sending;
+mod staging;
+mod state;
+#[cfg(test)]
+mod tests;
+mod waiting;
+
+pub use due::Due;
+pub use hearing::Metadata;
+pub use laws::{
+    a_completion_publishes_the_put, a_file_that_comes_in_lacks_something,
+    a_finished_says_what_was_indicated, a_nak_that_is_due_asks_for_something,
+    a_rejection_has_a_refusal, a_transaction_is_finished_once, a_true_file_raises_no_fault,
+    a_whole_file_is_published, an_opening_may_finish, more_is_heard, octets_held_keep_their_value,
+    timers_are_those_waited_for, what_comes_is_kept, what_goes_well_ends_well,
+    what_is_heard_true_is_kept_true,
+};
+pub use receiver::Receiver;
+pub use state::{Ending, FileInfo, ReceiverPhase};

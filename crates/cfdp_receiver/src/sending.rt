@@ -1,0 +1,264 @@
+// What a receiver sends.
+ghost use Rattle.std.specs.Prelude.{◌≡◌, ◌≤◌, ◌<◌, ◌^◌, Option, Some, IsSome, IfSome, take, drop, length, true};
+ghost use Rattle.std.specs.FinSet as set;
+ghost use Rattle.cfdp_header.specs.declared.value.TransactionId.{TransactionId};
+ghost use Rattle.cfdp_directives.specs.Addressing as addressings;
+ghost use Rattle.cfdp_directives.specs.Codes.{file_size_octets};
+ghost use Rattle.cfdp_directives.specs.Content.{view};
+ghost use Rattle.cfdp_directives.specs.Written.{content_len, FitsContent, pdu_octets};
+ghost use Rattle.std.specs.List.{flat_map};
+ghost use Rattle.cfdp_directives.specs.Tlv.{tlv};
+ghost use Rattle.cfdp_store.specs.Staged.{OctetMap};
+ghost use Rattle.cfdp_receiver.specs.declared.due.Due.TheVariants as due_is;
+ghost use Rattle.cfdp_receiver.specs.State.{IsReady, size_limit};
+ghost use Rattle.cfdp_receiver.specs.Missing.{missing_pairs};
+ghost use Rattle.cfdp_receiver.specs.Asked.{IsWritable, AsksFor};
+ghost use Rattle.cfdp_receiver.specs.Due as dues;
+ghost use Rattle.cfdp_receiver.specs.Due.{receiver_due, receiver_says, receiver_taken, nak_first, finished_by, due_len, location_told, IsWritableIn};
+ghost use Rattle.cfdp_receiver.specs.Steps as steps;
+ghost use Rattle.cfdp_receiver.specs.Does.{timers_set};
+
+use crate::asked::Asked;
+use crate::due::Due;
+use crate::receiver::Receiver;
+use crate::state::ReceiverPhase;
+use cfdp_directives::{Acknowledged, Condition, Outcome, Pdu, Policy, Tlvs, TransactionStatus};
+use cfdp_timers::{Kind, Timers};
+
+impl Receiver {
+    /// Octets of the PDU that is due, its header too; `None` where none is, as while the
+    /// transaction is suspended. Takes no memory.
+    pub fn due(&self) -> Option<usize>
+        ensures { result ≡ due_len self.now }
+    {
+        let due = self.next_due()?;
+        Some(self.len_of(&due))
+    }
+
+    /// Writes the PDU that is due into the first octets of `out`, and says how many they are. The
+    /// octets behind stay. Takes no memory.
+    pub fn take_pdu(&mut self, timers: &mut Timers, policy: &Policy, out: &mut [u8]) -> usize
+        requires has_room { set.contains timers.old.roomy self.old.addressing.id ≡ true }
+        requires due { IsSome (due_len self.old) }
+        requires fits { IfSome (due_len self.old) (λ len. len ≤ length out.old) }
+        ensures len { due_len self.old ≡ Some result }
+        ensures front { IfSome (receiver_due self.old) (λ d. let v = receiver_says self.old d in
+            take result out.new ≡ pdu_octets (addressings.header_of self.old.addressing v) v) }
+        ensures behind { drop result out.new ≡ drop result out.old }
+        ensures receiver { IfSome (receiver_due self.old) (λ d.
+            self.new ≡ receiver_taken d self.old) }
+        ensures timers { IfSome (receiver_due self.old) (λ d. timers.new
+            ≡ timers_set policy.now.times (steps.anew_once_taken d) self.new timers.old) }
+        ensures ready { (staged : TransactionId → Option OctetMap) →
+            IsReady staged self.old → IsReady staged self.new }
+        ensures addressing { self.new.addressing ≡ self.old.addressing }
+    {
+        let Some(due) = self.next_due() else {
+            return 0;
+        };
+        let len = self.write(&due, out);
+        self.take(&due);
+        self.set_timers(timers, policy, anew_once_taken(&due));
+        len
+    }
+
+    /// What is due.
+    fn next_due(&self) -> Option<Due>
+        ensures due { result ≡ receiver_due self.now }
+        ensures writable { IfSome result (λ d. IsWritableIn self.now d) }
+    {
+        if self.suspended {
+            return None;
+        }
+        if let Some(condition) = self.ack_due {
+            return Some(Due::AckOfEof(condition));
+        }
+        match self.phase {
+            ReceiverPhase::Receiving => self.due_while_receiving(),
+            ReceiverPhase::Finishing => self.due_while_finishing(),
+            ReceiverPhase::Closed => None,
+        }
+    }
+
+    fn due_while_receiving(&self) -> Option<Due>
+        requires { self.now.phase ≡ ReceiverPhase.Receiving }
+        ensures due { result ≡ nak_first self.now.nak_cursor self.now }
+        ensures writable { IfSome result (λ d. IsWritableIn self.now d) }
+    {
+        if let Some(cursor) = self.nak_cursor
+            && self.is_missing(cursor)
+        {
+            return Some(Due::Nak(cursor));
+        }
+        if self.keep_alive_due {
+            return Some(Due::KeepAlive);
+        }
+        None
+    }
+
+    fn due_while_finishing(&self) -> Option<Due>
+        ensures due { result ≡ finished_by self.now.finished_due self.now.outcome }
+        ensures writable { IfSome result (λ d. IsWritableIn self.now d) }
+    {
+        if !self.finished_due {
+            return None;
+        }
+        match self.outcome {
+            Some(outcome) => Some(Due::Finished(outcome)),
+            None => None,
+        }
+    }
+
+    /// Octets of the PDU, its header too.
+    fn len_of(&self, due: &Due) -> usize
+        requires { IsWritableIn self.now due.now }
+        ensures { result
+            ≡ addressings.written_len self.now.addressing (receiver_says self.now due.now) }
+    {
+        match due {
+            Due::AckOfEof(condition) => self.addressing.written_len(&self.ack(*condition)),
+            Due::Nak(cursor) => {
+                let asked = self.asked(*cursor);
+                self.addressing.written_len(&self.nak(*cursor, &asked))
+            }
+            Due::KeepAlive => self.addressing.written_len(&self.keep_alive()),
+            Due::Finished(outcome) => self.addressing.written_len(&self.finished(outcome)),
+        }
+    }
+
+    /// Writes the PDU.
+    fn write(&self, due: &Due, out: &mut [u8]) -> usize
+        requires writable { IsWritableIn self.now due.now }
+        requires room { addressings.written_len self.now.addressing (receiver_says self.now due.now)
+            ≤ length out.old }
+        ensures len { result
+            ≡ addressings.written_len self.now.addressing (receiver_says self.now due.now) }
+        ensures front { let v = receiver_says self.now due.now in
+            take result out.new ≡ pdu_octets (addressings.header_of self.now.addressing v) v }
+        ensures behind { drop result out.new ≡ drop result out.old }
+    {
+        match due {
+            Due::AckOfEof(condition) => self.addressing.write_pdu(&self.ack(*condition), out),
+            Due::Nak(cursor) => {
+                let asked = self.asked(*cursor);
+                self.addressing.write_pdu(&self.nak(*cursor, &asked), out)
+            }
+            Due::KeepAlive => self.addressing.write_pdu(&self.keep_alive(), out),
+            Due::Finished(outcome) => self.addressing.write_pdu(&self.finished(outcome), out),
+        }
+    }
+
+    /// Goes on behind the PDU, which is taken.
+    fn take(&mut self, due: &Due)
+        requires { IsWritableIn self.old due.now }
+        ensures receiver { self.new ≡ receiver_taken due.now self.old }
+        ensures ready { (staged : TransactionId → Option OctetMap) →
+            IsReady staged self.old → IsReady staged self.new }
+        ensures addressing { self.new.addressing ≡ self.old.addressing }
+    {
+        match due {
+            Due::AckOfEof(_) => self.ack_due = None,
+            Due::Nak(cursor) => self.nak_cursor = self.asked(*cursor).next_cursor(),
+            Due::KeepAlive => self.keep_alive_due = false,
+            Due::Finished(_) => {
+                self.finished_due = false;
+                self.finished_taken = true;
+            }
+        }
+    }
+
+    fn ack<'a>(&self, condition: Condition) -> Pdu<'a>
+        ensures says { view result ≡ receiver_says self.now (due_is.AckOfEof condition) }
+        ensures fits { FitsContent file_size_octets (view result) }
+    {
+        let _any_condition_fits = condition.code();
+        Pdu::Ack {
+            of: Acknowledged::Eof,
+            condition,
+            status: status_in(self.phase),
+        }
+    }
+
+    fn keep_alive<'a>(&self) -> Pdu<'a>
+        ensures says { view result ≡ receiver_says self.now due_is.KeepAlive }
+        ensures fits { FitsContent file_size_octets (view result) }
+    {
+        Pdu::KeepAlive {
+            progress: self.held_end(),
+        }
+    }
+
+    fn finished<'a>(&self, outcome: &Outcome) -> Pdu<'a>
+        ensures says { view result ≡ receiver_says self.now (due_is.Finished outcome.now) }
+        ensures fits { FitsContent file_size_octets (view result) }
+        ensures short { content_len file_size_octets (view result) < 2 ^ 16 }
+    {
+        let condition = outcome.condition;
+        let _any_condition_fits = condition.code();
+        Pdu::Finished {
+            condition,
+            delivery: outcome.delivery,
+            status: outcome.status,
+            tlvs: self.location(condition),
+        }
+    }
+
+    /// Where the fault of the transaction was, as its Finished tells it.
+    fn location<'a>(&self, condition: Condition) -> Tlvs<'a>
+        ensures value { result ≡ location_told self.now.addressing condition }
+        ensures short { length (flat_map tlv result) ≤ 10 }
+    {
+        if condition == Condition::NO_ERROR || condition == Condition::UNSUPPORTED_CHECKSUM_TYPE {
+            Tlvs::none()
+        } else {
+            Tlvs::fault_location_of(self.addressing.destination, self.addressing.id_width)
+        }
+    }
+
+    fn nak<'a>(&self, cursor: u64, asked: &'a Asked) -> Pdu<'a>
+        requires receiving { self.now.phase ≡ ReceiverPhase.Receiving }
+        requires cursor { cursor ≤ size_limit }
+        requires asks { AsksFor (missing_pairs cursor self.now) asked.now }
+        requires writable { IsWritable asked.now }
+        ensures says { view result ≡ receiver_says self.now (due_is.Nak cursor) }
+        ensures fits { FitsContent file_size_octets (view result) }
+        ensures short { content_len file_size_octets (view result) < 2 ^ 16 }
+    {
+        Pdu::Nak {
+            start: cursor,
+            end: asked.scope_end(self.scope_limit()),
+            pairs: asked.pairs(),
+        }
+    }
+
+    /// What a NAK from an offset on asks for.
+    fn asked(&self, cursor: u64) -> Asked
+        requires { self.now.phase ≡ ReceiverPhase.Receiving }
+        ensures asks { AsksFor (missing_pairs cursor self.now) result }
+        ensures writable { IsWritable result }
+    {
+        let limit = self.scope_limit();
+        let gaps = self.held.missing_in(cursor, limit);
+        Asked::of(self.asks_for_metadata(cursor), gaps, cursor, limit)
+    }
+}
+
+/// The status in an ACK of EOF.
+fn status_in(phase: ReceiverPhase) -> TransactionStatus
+    ensures { result ≡ dues.status_in phase }
+{
+    match phase {
+        ReceiverPhase::Receiving | ReceiverPhase::Finishing => TransactionStatus::Active,
+        ReceiverPhase::Closed => TransactionStatus::Terminated,
+    }
+}
+
+/// The timer that is armed anew once a PDU was taken.
+fn anew_once_taken(due: &Due) -> Option<Kind>
+    ensures { result ≡ steps.anew_once_taken due.now }
+{
+    match due {
+        Due::Finished(_) => Some(Kind::FinishedAck),
+        Due::AckOfEof(_) | Due::Nak(_) | Due::KeepAlive => None,
+    }
+}
