@@ -1,0 +1,11 @@
+pub mod Invariants
+pub mod Asking
+pub mod Dues
+pub mod Failed
+pub mod Truth
+pub mod KeepsPut
+pub mod Ends
+pub mod Told
+pub mod Waiting
+pub mod Ready
+pub mod Rows

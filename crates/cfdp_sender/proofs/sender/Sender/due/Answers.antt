@@ -1,0 +1,30 @@
+use Rattle.std.proofs.Common.{◌≡◌, [], Some, sym, ap, subst, ◌∙◌, arith}
+use Rattle.cfdp_directives.specs.Content.{view}
+use Rattle.cfdp_directives.specs.Codes.{file_size_octets}
+use Rattle.cfdp_directives.specs.Written.{content_len}
+use Rattle.cfdp_directives.specs.Addressing.{written_len}
+use Rattle.cfdp_sender.specs.State.{SenderState, IsSender}
+use Rattle.cfdp_sender.specs.Due.{sender_due}
+use Rattle.cfdp_sender.proofs.Dues.{fits-short, due-len}
+use Rattle.cfdp_sender.proofs.sender.Sender.due.Goals as goal
+
+pub written_len-requires : goal.written_len-requires
+written_len-requires c =
+    let s : IsSender c.args.self.now = subst IsSender c.self.view_is c.self.invariant in
+    let is : sender_due c.args.self.now ≡ Some c.in_ok-due.due = sym c.in_ok-due.ensures in
+    rw c.says.ensures (fits-short c.args.self.now c.in_ok-due.due [] s is (omega arith)).1
+
+pub overflow_add-result : goal.overflow_add-result
+overflow_add-result c =
+    let s : IsSender c.args.self.now = subst IsSender c.self.view_is c.self.invariant in
+    let is : sender_due c.args.self.now ≡ Some c.in_ok-due.due = sym c.in_ok-due.ensures in
+    let fits = (fits-short c.args.self.now c.in_ok-due.due [] s is (omega arith)).1 in
+    let content = ap (content_len file_size_octets) c.says.ensures in
+    let widths = c.self.invariant.transfer.addressing.id in
+    omega (arith, c.written_len.ensures, content, fits, widths.id_width.1, widths.number_width.1, c.extent-carried.ensures.short)
+
+pub returns-clause-len : goal.returns-clause-len
+returns-clause-len c = λ file whole.
+    let is : sender_due c.args.self.now ≡ Some c.in_ok-due.due = sym c.in_ok-due.ensures in
+    let written = c.written_len.ensures ∙ ap (λ (x : SenderState). written_len x.addressing (view c.says.result)) c.self.view_is in
+    due-len c.args.self.now c.in_ok-due.due file _ _ _ (view c.says.result) is c.says.ensures written (c.extent-carried.ensures.part file) whole c.extent-carried.ensures.within

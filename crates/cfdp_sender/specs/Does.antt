@@ -1,0 +1,115 @@
+-- How a call is tied to its step: by the sender, what it indicated, and the timers.
+use Rattle.std.specs.Prelude.{◌≡◌, ◌++◌, ℕ, true, Bool, false, List, [], length, take, drop, Option, None, Some, IsSome}
+use Rattle.std.specs.FinMap as map
+use Rattle.std.specs.FinSet as set
+use Rattle.cfdp_header.specs.Files.{FileMap}
+use Rattle.cfdp_directives.specs.declared.indication.Indication.{Indication}
+use Rattle.cfdp_directives.specs.declared.limits.Times.{Times}
+use Rattle.cfdp_directives.specs.declared.addressing.Addressing.{Addressing}
+use Rattle.cfdp_directives.specs.Addressing.{header_of, written_len}
+use Rattle.cfdp_directives.specs.Written.{pdu_octets}
+use Rattle.cfdp_directives.specs.Content.{Content}
+use Rattle.cfdp_store.specs.Files.{octets_in}
+use Rattle.cfdp_store.specs.declared.stored.Stored.TheVariants.{Done, Refused}
+use Rattle.cfdp_timers.specs.declared.kind.Kind.{Kind}
+use Rattle.cfdp_timers.specs.declared.kind.Kind.TheVariants as kind
+use Rattle.cfdp_timers.specs.declared.wait.Waits.{Waits}
+use Rattle.cfdp_timers.specs.Armed.{TimersState}
+use Rattle.cfdp_timers.specs.Waits.{is_anew, wait_by, waited}
+use Rattle.cfdp_sender.specs.declared.taken.Taken.{Taken}
+use Rattle.cfdp_sender.specs.declared.taken.Taken.TheVariants.{Nothing, Moved, SourceFailed}
+use Rattle.cfdp_sender.specs.declared.due.SenderDue.{SenderDue}
+use Rattle.cfdp_sender.specs.State.{SenderState}
+use Rattle.cfdp_sender.specs.Due.{sender_says, carries}
+use Rattle.cfdp_sender.specs.declared.phase.SenderPhase.TheVariants.{Sending}
+use Rattle.cfdp_sender.specs.Steps.{SenderAfter, sender_waits, sender_sends, asks_all}
+
+-- what a sender asks of its timers, where one of them is to be armed anew
+abbrev pub waits_of : Times → Option Kind → SenderState → Waits
+waits_of times anew x = record {
+  eof_ack = wait_by (sender_waits kind.EofAck x) (is_anew anew kind.EofAck) times.eof;
+  nak = wait_by (sender_waits kind.Nak x) (is_anew anew kind.Nak) times.nak;
+  finished_ack =
+      wait_by (sender_waits kind.FinishedAck x) (is_anew anew kind.FinishedAck) times.finished;
+  inactivity =
+      wait_by (sender_waits kind.Inactivity x) (is_anew anew kind.Inactivity) times.inactivity;
+}
+
+-- the timers once those of the sender are set
+abbrev pub timers_set : Times → Option Kind → SenderState → TimersState → TimersState
+timers_set times anew x timers =
+    let waits : Waits = waits_of times anew x in
+    record timers { armed = waited timers.time x.addressing.id waits timers.armed }
+
+-- The timers of the transaction can be armed.
+abbrev pub HasTimers : SenderState → TimersState → Type 0
+HasTimers x timers = set.contains timers.roomy x.addressing.id ≡ true
+
+-- A step left this sender, with what it indicated.
+pub record Leaves (a : SenderAfter) (new : SenderState)
+    (told_before told_now : List Indication) : Type 0 where
+  pub sender : new ≡ a.sender
+  pub tells : told_now ≡ told_before ++ a.told
+
+-- A call did this step, and set the timers by it.
+pub record Does (times : Times) (a : SenderAfter) (new : SenderState)
+    (told_before told_now : List Indication)
+    (timers_before timers_now : TimersState) : Type 0 where
+  pub sender : new ≡ a.sender
+  pub tells : told_now ≡ told_before ++ a.told
+  pub timers : timers_now ≡ timers_set times a.anew a.sender timers_before
+
+-- A call that indicates nothing did this step, and set the timers by it.
+pub record DoesQuietly (times : Times) (a : SenderAfter) (new : SenderState)
+    (timers_before timers_now : TimersState) : Type 0 where
+  pub sender : new ≡ a.sender
+  pub quiet : a.told ≡ []
+  pub timers : timers_now ≡ timers_set times a.anew a.sender timers_before
+
+-- Some of the pairs of a NAK were asked for, from the first on, and nothing else has changed.
+pub record AsksSome (pairs : List (ℕ × ℕ)) (old new : SenderState) : Type 0 where
+  pub sending : old.phase ≡ Sending
+  pub count : ℕ
+  pub asked : new ≡ asks_all (take count pairs) old
+
+-- The outbox has a file of this name, with so many octets.
+pub record HasFile (files : FileMap) (name : List ℕ) (size : ℕ) : Type 0 where
+  pub there : IsSome (map.get files name)
+  pub whole : length (octets_in files name) ≡ size
+
+-- Its file is in the outbox, and its timers can be armed.
+abbrev pub IsReady : FileMap → SenderState → TimersState → Type 0
+IsReady files x timers = HasFile files x.source x.size × HasTimers x timers
+
+-- Nothing was due, and all is as it was.
+pub record Rests (old new : SenderState) (told_before told_now : List Indication)
+    (timers_before timers_now : TimersState) (out_before out_now : List ℕ) : Type 0 where
+  pub sender : new ≡ old
+  pub tells : told_now ≡ told_before
+  pub timers : timers_now ≡ timers_before
+  pub out : out_now ≡ out_before
+
+-- So many octets were written, those of this PDU, and the octets behind stay.
+pub record Writes (a : Addressing) (v : Content) (octets : ℕ)
+    (out_before out_now : List ℕ) : Type 0 where
+  pub end : octets ≡ written_len a v
+  pub front : take octets out_now ≡ pdu_octets (header_of a v) v
+  pub behind : drop octets out_now ≡ drop octets out_before
+
+-- What taking a PDU did, by what was due: where that is data which the outbox failed to give, no
+-- PDU is there, and what `out` then holds is left open.
+abbrev pub Takes : Times → List ℕ → Option SenderDue → Taken → (old new : SenderState)
+    → (told told' : List Indication) → (timers timers' : TimersState) → (out out' : List ℕ) → Type 0
+Takes times file None Nothing old new told told' timers timers' out out' =
+    Rests old new told told' timers timers' out out'
+Takes times file (Some d) (Moved octets) old new told told' timers timers' out out' =
+    Writes old.addressing (sender_says file old d) octets out out'
+    × Does times (sender_sends Done file old d) new told told' timers timers'
+Takes times file (Some d) SourceFailed old new told told' timers timers' out out' =
+    (carries d ≡ true) × Does times (sender_sends Refused file old d) new told told' timers timers'
+Takes times file _ _ old new told told' timers timers' out out' = ⊥
+
+-- whether the outbox gave what was asked of it
+abbrev pub was_given : Taken → Bool
+was_given SourceFailed = false
+was_given _ = true

@@ -1,0 +1,17 @@
+pub mod State
+pub mod Inside
+pub mod Due
+pub mod Steps
+pub mod Does
+pub mod Inputs
+pub use Rattle.cfdp_directives.specs.Policy
+pub use Rattle.cfdp_directives.specs.Content
+pub use Rattle.cfdp_directives.specs.Addressing
+pub use Rattle.cfdp_directives.specs.Written
+pub use Rattle.cfdp_directives.specs.Checksum
+pub use Rattle.cfdp_directives.specs.Put
+pub use Rattle.cfdp_extents.specs.Offsets
+pub use Rattle.cfdp_extents.specs.Terms
+pub use Rattle.cfdp_timers.specs.Waits
+pub use Rattle.cfdp_timers.specs.Armed
+pub use Rattle.cfdp_store.specs.Stores

@@ -1,0 +1,170 @@
+// What a sender sends next, and what that PDU says.
+ghost use Rattle.std.specs.Prelude.{◌≡◌, ◌+◌, ◌^◌, ◌<◌, ◌≤◌, ℕ, List, length, take, drop, true, Some, is_some};
+ghost use Rattle.std.specs.Option.{option_map};
+ghost use Rattle.cfdp_directives.specs.Content.{view};
+ghost use Rattle.cfdp_directives.specs.Addressing.{written_len};
+ghost use Rattle.cfdp_sender.specs.Due as dues;
+ghost use Rattle.cfdp_sender.specs.Due.{sender_due, sender_says, pdu_says, carried, carries};
+
+use crate::phase::SenderPhase;
+use crate::sender::Sender;
+use cfdp_directives::{Acknowledged, ChecksumKind, Condition, Pdu, Tlvs, TransactionStatus};
+
+/// What a sender sends next.
+#[derive(Clone, Copy, Debug, PartialEq, Eq)]
+pub enum SenderDue {
+    /// ACK of the Finished heard last, with its condition.
+    AckOfFinished(Condition),
+    /// A Prompt, for a Keep Alive where true, else for a NAK.
+    Prompt(bool),
+    Metadata,
+    /// File data that were asked for, from an offset up to, and without, another.
+    AskedData(u64, u64),
+    /// New file data, from an offset up to, and without, another.
+    NewData(u64, u64),
+    Eof,
+}
+
+impl Sender {
+    /// Octets of the PDU that is due, its header too: of what `take_pdu` would write now. `None`
+    /// where none is due, as of a suspended transaction. Whatever the file holds, its size alone
+    /// counts.
+    pub fn due(&self) -> Option<usize>
+        ensures some { is_some result ≡ is_some (sender_due self.now) }
+        ensures len { (file : List ℕ) → length file ≡ self.now.size → result
+            ≡ option_map (λ d. written_len self.now.addressing (sender_says file self.now d))
+            (sender_due self.now) }
+    {
+        let _size = self.size;
+        let due = self.next()?;
+        let (_, carried) = self.extent(&due);
+        Some(self.addressing.written_len(&self.says(&due, &[])) + carried)
+    }
+
+    // Where the octets of the file begin that a PDU carries, and how many they are.
+    pub(crate) fn extent(&self, due: &SenderDue) -> (u64, usize)
+        requires { sender_due self.now ≡ Some due.now }
+        ensures within { result.0 + result.1 ≤ self.now.size }
+        ensures short { result.1 ≤ 4096 }
+        ensures some { 0 < result.1 → carries due.now ≡ true }
+        ensures part { (file : List ℕ) →
+            carried file due.now ≡ take result.1 (drop result.0 file) }
+    {
+        let _size = self.size;
+        match due {
+            SenderDue::AskedData(start, end) | SenderDue::NewData(start, end) => {
+                (*start, (*end - *start) as usize)
+            }
+            SenderDue::AckOfFinished(_)
+            | SenderDue::Prompt(_)
+            | SenderDue::Metadata
+            | SenderDue::Eof => (0, 0),
+        }
+    }
+
+    // What is due.
+    pub(crate) fn next(&self) -> Option<SenderDue>
+        ensures { result ≡ sender_due self.now }
+    {
+        if self.suspended {
+            return None;
+        }
+        if let Some(condition) = self.ack_due {
+            return Some(SenderDue::AckOfFinished(condition));
+        }
+        match self.phase {
+            SenderPhase::Sending => self.next_of_file(),
+            SenderPhase::Cancelling => {
+                if self.eof_due {
+                    Some(SenderDue::Eof)
+                } else {
+                    None
+                }
+            }
+            SenderPhase::Closed => None,
+        }
+    }
+
+    // What is due while the file is sent.
+    fn next_of_file(&self) -> Option<SenderDue>
+        ensures { result ≡ dues.prompt_first self.now.prompt_due self.now }
+    {
+        if let Some(keep_alive) = self.prompt_due {
+            return Some(SenderDue::Prompt(keep_alive));
+        }
+        if self.metadata_due {
+            return Some(SenderDue::Metadata);
+        }
+        if let Some((start, end)) = self.asked.front(u64::from(self.segment)) {
+            return Some(SenderDue::AskedData(start, end));
+        }
+        if self.sent < self.size {
+            let end = self.size.min(self.sent + u64::from(self.segment));
+            return Some(SenderDue::NewData(self.sent, end));
+        }
+        if self.eof_due || !self.eof_taken {
+            return Some(SenderDue::Eof);
+        }
+        None
+    }
+
+    // The PDU that is due, with these octets of the file where it carries some.
+    pub(crate) fn says<'a>(&'a self, due: &SenderDue, octets: &'a [u8]) -> Pdu<'a>
+        ensures { view result ≡ pdu_says octets.now self.now due.now }
+    {
+        match due {
+            SenderDue::AckOfFinished(condition) => Pdu::Ack {
+                of: Acknowledged::Finished,
+                condition: *condition,
+                status: TransactionStatus::Terminated,
+            },
+            SenderDue::Prompt(keep_alive) => Pdu::Prompt {
+                keep_alive: *keep_alive,
+            },
+            SenderDue::Metadata => Pdu::Metadata {
+                checksum_kind: self.checksum_kind,
+                size: self.size,
+                source: self.source.as_slice(),
+                destination: self.destination.as_slice(),
+                options: Tlvs::none(),
+            },
+            SenderDue::AskedData(start, _) | SenderDue::NewData(start, _) => Pdu::FileData {
+                offset: *start,
+                bytes: octets,
+            },
+            SenderDue::Eof => self.eof(),
+        }
+    }
+
+    // The EOF that is due.
+    fn eof(&self) -> Pdu<'_>
+        ensures { view result ≡ dues.eof_says self.now.phase self.now }
+    {
+        let checksum = self.told_checksum();
+        match self.phase {
+            SenderPhase::Sending => Pdu::Eof {
+                condition: Condition::NO_ERROR,
+                checksum,
+                size: self.size,
+                tlvs: Tlvs::none(),
+            },
+            SenderPhase::Cancelling | SenderPhase::Closed => Pdu::Eof {
+                condition: self.condition,
+                checksum,
+                size: self.sent,
+                tlvs: Tlvs::fault_location_of(self.addressing.id.source, self.addressing.id_width),
+            },
+        }
+    }
+
+    // The checksum that EOF tells.
+    fn told_checksum(&self) -> u32
+        ensures { result ≡ dues.told_checksum self.now }
+    {
+        if self.checksum_kind == ChecksumKind::MODULAR {
+            self.checksum.value()
+        } else {
+            0
+        }
+    }
+}

@@ -1,0 +1,195 @@
+// What a sender hears.
+ghost use Rattle.std.specs.Prelude.{◌≡◌, ◌+◌, ◌≤◌, ◌++◌, vec_len, vec_capacity, OnOk, OnErr};
+ghost use Rattle.cfdp_sender.specs.declared.phase.SenderPhase.TheVariants as phases;
+ghost use Rattle.cfdp_sender.specs.Steps as steps;
+ghost use Rattle.cfdp_sender.specs.Does.{HasTimers, Leaves, Does, DoesQuietly, AsksSome};
+
+use crate::phase::SenderPhase;
+use crate::sender::Sender;
+use cfdp_directives::{Condition, Indication, Outcome, Pairs, Policy, tell};
+use cfdp_timers::{Kind, Timers};
+use std::alloc::AllocError;
+
+impl Sender {
+    /// Hears an ACK of EOF, with its condition (CCSDS 727.0-B-5, 5.2.4). One without an error
+    /// acknowledges the EOF that was sent. Where the transaction is cancelled, the ACK that has the
+    /// condition of the cancel closes it, and Finished is indicated. Takes no memory.
+    ///
+    /// The timers have room for the transaction, and `told` has room for three more indications.
+    pub fn on_ack(
+        &mut self,
+        condition: Condition,
+        timers: &mut Timers,
+        policy: &Policy,
+        told: &mut Vec<Indication>,
+    )
+        requires timers { HasTimers self.old timers.old }
+        requires room { vec_len told.old + 3 ≤ vec_capacity told.old }
+        ensures { Does policy.now.times (steps.sender_hears_ack condition self.old) self.new
+            told.old.items told.new.items timers.old timers.new }
+    {
+        self.hear_ack(condition, told);
+        self.set_timers(Some(Kind::Inactivity), timers, &policy.times);
+    }
+
+    // The row of an ACK of EOF.
+    fn hear_ack(&mut self, condition: Condition, told: &mut Vec<Indication>)
+        requires room { vec_len told.old + 1 ≤ vec_capacity told.old }
+        ensures { Leaves (steps.sender_hears_ack condition self.old) self.new told.old.items
+            told.new.items }
+    {
+        match self.phase {
+            SenderPhase::Sending => {
+                if self.eof_taken && condition == Condition::NO_ERROR {
+                    self.acknowledged = true;
+                    self.eof_due = false;
+                }
+            }
+            SenderPhase::Cancelling => {
+                if condition == self.condition {
+                    tell(told, self.cancelled().indication(self.addressing.id));
+                    self.close();
+                }
+            }
+            SenderPhase::Closed => {}
+        }
+    }
+
+    /// Hears a Finished (CCSDS 727.0-B-5, 5.2.3). It closes the transaction, and is acknowledged
+    /// however often it comes. The first time it is indicated: as it says, or where the transaction
+    /// was cancelled before, that it was. Takes no memory.
+    ///
+    /// The timers have room for the transaction, and `told` has room for three more indications.
+    pub fn on_finished(
+        &mut self,
+        outcome: Outcome,
+        timers: &mut Timers,
+        policy: &Policy,
+        told: &mut Vec<Indication>,
+    )
+        requires timers { HasTimers self.old timers.old }
+        requires room { vec_len told.old + 3 ≤ vec_capacity told.old }
+        ensures { Does policy.now.times (steps.sender_hears_finished outcome self.old) self.new
+            told.old.items told.new.items timers.old timers.new }
+    {
+        self.hear_finished(outcome, told);
+        self.set_timers(Some(Kind::Inactivity), timers, &policy.times);
+    }
+
+    // The row of a Finished.
+    fn hear_finished(&mut self, outcome: Outcome, told: &mut Vec<Indication>)
+        requires room { vec_len told.old + 1 ≤ vec_capacity told.old }
+        ensures { Leaves (steps.sender_hears_finished outcome self.old) self.new told.old.items
+            told.new.items }
+    {
+        self.tell_end(&outcome, told);
+        self.close();
+        self.ack_due = Some(outcome.condition);
+    }
+
+    // Tells how it ended, unless that was told before.
+    fn tell_end(&self, outcome: &Outcome, told: &mut Vec<Indication>)
+        requires room { vec_len told.old + 1 ≤ vec_capacity told.old }
+        ensures { told.new.items
+            ≡ told.old.items ++ steps.end_told self.now.phase outcome.now self.now }
+    {
+        match self.phase {
+            SenderPhase::Sending => tell(told, outcome.indication(self.addressing.id)),
+            SenderPhase::Cancelling => {
+                tell(told, self.cancelled().indication(self.addressing.id));
+            }
+            SenderPhase::Closed => {}
+        }
+    }
+
+    /// Hears a Keep Alive, with the offset up to which the receiver holds the file (CCSDS
+    /// 727.0-B-5, 5.2.8). While the file is sent that is indicated. Takes no memory.
+    ///
+    /// The timers have room for the transaction, and `told` has room for three more indications.
+    pub fn on_keep_alive(
+        &mut self,
+        progress: u64,
+        timers: &mut Timers,
+        policy: &Policy,
+        told: &mut Vec<Indication>,
+    )
+        requires timers { HasTimers self.old timers.old }
+        requires room { vec_len told.old + 3 ≤ vec_capacity told.old }
+        ensures { Does policy.now.times (steps.sender_hears_keep_alive progress self.old) self.new
+            told.old.items told.new.items timers.old timers.new }
+    {
+        if self.phase == SenderPhase::Sending {
+            tell(told, Indication::Progress(self.addressing.id, progress));
+        }
+        self.set_timers(Some(Kind::Inactivity), timers, &policy.times);
+    }
+
+    /// Hears a NAK, with its requested ranges (CCSDS 727.0-B-5, 5.2.6). While the file is sent, the
+    /// pair (0, 0) makes Metadata due again, and each other range its offsets that were sent; an
+    /// empty range and the scope of the NAK ask for nothing. Nothing is indicated.
+    ///
+    /// The timers have room for the transaction, as `open` made it.
+    ///
+    /// # Errors
+    ///
+    /// Where there is no memory for one more range. Some of the pairs, from the first on, may have
+    /// been asked for, and nothing else has changed.
+    pub fn on_nak(
+        &mut self,
+        pairs: &Pairs<'_>,
+        timers: &mut Timers,
+        policy: &Policy,
+    ) -> Result<(), AllocError>
+        requires timers { HasTimers self.old timers.old }
+        ensures ok { OnOk result (DoesQuietly policy.now.times
+            (steps.sender_hears_nak pairs.now self.old) self.new timers.old timers.new) }
+        ensures err { OnErr result
+            (AsksSome pairs.now self.old self.new × (timers.new ≡ timers.old)) }
+    {
+        self.hear_nak(pairs)?;
+        self.set_timers(Some(Kind::Inactivity), timers, &policy.times);
+        Ok(())
+    }
+
+    // The row of a NAK.
+    fn hear_nak(&mut self, pairs: &Pairs<'_>) -> Result<(), AllocError>
+        ensures ok { OnOk result (self.new ≡ steps.asks_in self.old.phase pairs.now self.old) }
+        ensures err { OnErr result (AsksSome pairs.now self.old self.new) }
+        ensures same { self.new.addressing ≡ self.old.addressing }
+    {
+        if self.phase == SenderPhase::Sending {
+            self.ask_all(pairs)?;
+        }
+        Ok(())
+    }
+
+    // Asks for what each pair of a NAK names.
+    fn ask_all(&mut self, pairs: &Pairs<'_>) -> Result<(), AllocError>
+        ensures ok { OnOk result (self.new ≡ steps.asks_all pairs.now self.old) }
+        ensures err { OnErr result (self.old.phase ≡ phases.Sending →
+            AsksSome pairs.now self.old self.new) }
+        ensures same { self.new.addressing ≡ self.old.addressing }
+    {
+        for (start, end) in pairs {
+            self.ask(start, end)?;
+        }
+        Ok(())
+    }
+
+    // Asks for what one pair names.
+    fn ask(&mut self, start: u64, end: u64) -> Result<(), AllocError>
+        ensures ok { OnOk result (self.new ≡ steps.asks (start, end) self.old) }
+        ensures err { OnErr result (self.new ≡ self.old) }
+        ensures same { self.new.addressing ≡ self.old.addressing }
+    {
+        if start == 0 && end == 0 {
+            self.metadata_due = true;
+            return Ok(());
+        }
+        let end = end.min(self.sent);
+        if start < end {
+            return self.asked.insert(start, end);
+        }
+        Ok(())
+    }
+}

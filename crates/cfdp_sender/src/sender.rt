@@ -1,0 +1,242 @@
+// One sender, and what it waits for.
+ghost use Rattle.std.specs.Prelude.{◌≡◌, ◌+◌, ◌<◌, ◌≤◌, ◌++◌, [], ◌∷◌, true, vec_len, vec_capacity, is_some, IfOk, OnOk, OnErr};
+ghost use Rattle.std.specs.FinSet as set;
+ghost use Rattle.cfdp_header.specs.declared.value.TransactionId.{TransactionId};
+ghost use Rattle.cfdp_directives.specs.declared.indication.Indication.TheVariants as indication;
+ghost use Rattle.cfdp_sender.specs.State.{IsSendable, IsSender, opened_sender};
+ghost use Rattle.cfdp_sender.specs.Due as dues;
+ghost use Rattle.cfdp_sender.specs.Steps as steps;
+ghost use Rattle.cfdp_sender.specs.Steps.{sender_waits};
+ghost use Rattle.cfdp_sender.specs.Does as does;
+ghost use Rattle.cfdp_sender.specs.Does.{HasTimers, timers_set};
+
+use crate::phase::SenderPhase;
+use crate::transfer::Transfer;
+use cfdp_directives::{
+    Addressing, Checksum, ChecksumKind, Condition, Delivery, FileStatus, Indication, Octets,
+    Outcome, Phase, Times, tell,
+};
+use cfdp_extents::Extents;
+use cfdp_header::TransactionId;
+use cfdp_timers::{Kind, Timers, Wait, Waits, is_anew};
+use std::alloc::{AllocError, Global};
+use std::marker::Model;
+
+/// The sending side of one transaction (CCSDS 727.0-B-5, 4.6.1.1): what was sent of its file, what
+/// is due, and what is waited for. The time is that of the timers.
+///
+/// It keeps no octet of the file, but the checksum of the front that was sent. Only `open` and
+/// `on_nak` take memory.
+#[derive(Debug, Drop)]
+pub struct Sender {
+    pub(crate) addressing: Addressing,
+    pub(crate) checksum_kind: ChecksumKind,
+    pub(crate) segment: u16,
+    pub(crate) source: Octets,
+    pub(crate) destination: Octets,
+    pub(crate) size: u64,
+    pub(crate) phase: SenderPhase,
+    pub(crate) suspended: bool,
+    pub(crate) sent: u64,
+    pub(crate) checksum: Checksum,
+    pub(crate) asked: Extents,
+    pub(crate) metadata_due: bool,
+    pub(crate) prompt_due: Option<bool>,
+    pub(crate) eof_due: bool,
+    pub(crate) eof_taken: bool,
+    pub(crate) acknowledged: bool,
+    pub(crate) ack_due: Option<Condition>,
+    pub(crate) condition: Condition,
+    pub(crate) count: u8,
+}
+
+impl Model for Sender {
+    ghost use Rattle.std.specs.Coded.{codes, coded_ℕ};
+    ghost use Rattle.std.specs.Ordering.{nat_cmp};
+    ghost use Rattle.std.specs.FinSet as set;
+    ghost use Rattle.cfdp_sender.specs.State.{SenderState, IsSender};
+
+    ghost Value = { SenderState };
+
+    ghost coded = { Prim.hlevel (codes, set.code {R = nat_cmp} coded_ℕ) };
+
+    ghost use Rattle.cfdp_sender.specs.Inside.{state_of};
+
+    ghost view = { state_of };
+
+    ghost invariant = { λ s. IsSender (state_of s) };
+}
+
+impl Sender {
+    /// Opens the sender of a put, indicates Transaction, and makes room for its timers. Metadata is
+    /// due then, and no timer is waited for.
+    ///
+    /// What it is to send has to be sendable, as `Transfer::is_sendable` tells, and `told` has room
+    /// for three more indications.
+    ///
+    /// # Errors
+    ///
+    /// Where there is no memory for its timers. Nothing is then told, and the timers are unchanged.
+    pub fn open(
+        alloc: Global,
+        transfer: Transfer,
+        timers: &mut Timers,
+        told: &mut Vec<Indication>,
+    ) -> Result<Sender, AllocError>
+        requires sendable { IsSendable transfer }
+        requires room { vec_len told.old + 3 ≤ vec_capacity told.old }
+        ensures opens { IfOk result (λ sender. sender ≡ opened_sender transfer) }
+        ensures tells { OnOk result (told.new.items
+            ≡ told.old.items ++ indication.Transaction transfer.addressing.id ∷ []) }
+        ensures timers { OnOk result (timers.new
+            ≡ record timers.old { roomy = set.insert timers.old.roomy transfer.addressing.id }) }
+        // So its timers can be armed, and those of others as before.
+        ensures has_room { OnOk result (HasTimers (opened_sender transfer) timers.new) }
+        ensures keeps { (other : TransactionId) → set.contains timers.old.roomy other ≡ true
+            → set.contains timers.new.roomy other ≡ true }
+        ensures err { OnErr result
+            ((told.new.items ≡ told.old.items) × (timers.new ≡ timers.old)) }
+    {
+        let id = transfer.addressing.id;
+        timers.room(id)?;
+        tell(told, Indication::Transaction(id));
+        Ok(Sender {
+            addressing: transfer.addressing,
+            checksum_kind: transfer.checksum_kind,
+            segment: transfer.segment,
+            source: transfer.source,
+            destination: transfer.destination,
+            size: transfer.size,
+            phase: SenderPhase::Sending,
+            suspended: false,
+            sent: 0,
+            checksum: Checksum::new(),
+            asked: Extents::new(alloc),
+            metadata_due: true,
+            prompt_due: None,
+            eof_due: false,
+            eof_taken: false,
+            acknowledged: false,
+            ack_due: None,
+            condition: Condition::NO_ERROR,
+            count: 0,
+        })
+    }
+
+    /// How far it has come.
+    pub fn phase(&self) -> Phase
+        ensures { result ≡ dues.phase_told self.now.phase }
+    {
+        match self.phase {
+            SenderPhase::Sending => Phase::Sending,
+            SenderPhase::Cancelling => Phase::Cancelling,
+            SenderPhase::Closed => Phase::Closed,
+        }
+    }
+
+    /// The transaction.
+    pub fn id(&self) -> TransactionId
+        ensures { result ≡ self.now.addressing.id }
+    {
+        self.addressing.id
+    }
+
+    /// Whether it is suspended: nothing is sent then, and nothing is waited for.
+    pub fn is_suspended(&self) -> bool
+        ensures { result ≡ self.now.suspended }
+    {
+        self.suspended
+    }
+
+    /// Whether a Prompt is due.
+    pub fn has_prompt_due(&self) -> bool
+        ensures { result ≡ is_some self.now.prompt_due }
+    {
+        self.prompt_due.is_some()
+    }
+
+    /// A law: of every sender, whatever may be due can be written, and its data are in the file.
+    pub fn every_sender_can_send(&self)
+        ensures { IsSender self.now }
+    {
+        let _size = self.size;
+    }
+
+    // Whether it waits for this timer.
+    pub(crate) fn waits(&self, kind: Kind) -> bool
+        ensures { result ≡ sender_waits kind self.now }
+    {
+        if self.suspended {
+            return false;
+        }
+        match (kind, self.phase) {
+            (Kind::EofAck, SenderPhase::Sending) => {
+                self.eof_taken && !self.eof_due && !self.acknowledged
+            }
+            (Kind::EofAck, SenderPhase::Cancelling) => self.eof_taken && !self.eof_due,
+            (Kind::Inactivity, SenderPhase::Sending) => self.acknowledged,
+            _ => false,
+        }
+    }
+
+    // Arms what is waited for, and clears the other timers.
+    pub(crate) fn set_timers(&self, anew: Option<Kind>, timers: &mut Timers, times: &Times)
+        requires { HasTimers self.now timers.old }
+        ensures { timers.new ≡ timers_set times.now anew self.now timers.old }
+    {
+        let waits = Waits {
+            eof_ack: Wait::of(
+                self.waits(Kind::EofAck),
+                is_anew(anew, Kind::EofAck),
+                times.eof,
+            ),
+            nak: Wait::of(self.waits(Kind::Nak), is_anew(anew, Kind::Nak), times.nak),
+            finished_ack: Wait::of(
+                self.waits(Kind::FinishedAck),
+                is_anew(anew, Kind::FinishedAck),
+                times.finished,
+            ),
+            inactivity: Wait::of(
+                self.waits(Kind::Inactivity),
+                is_anew(anew, Kind::Inactivity),
+                times.inactivity,
+            ),
+        };
+        timers.set(self.addressing.id, &waits);
+    }
+
+    // The transaction is cancelled because of an error: its EOF is due, and no more of the file.
+    pub(crate) fn enter_cancelling(&mut self, condition: Condition)
+        requires { 0 < condition }
+        ensures { self.new ≡ steps.cancelling condition self.old }
+    {
+        let _code = condition.code();
+        self.asked.clear();
+        self.phase = SenderPhase::Cancelling;
+        self.suspended = false;
+        self.metadata_due = false;
+        self.prompt_due = None;
+        self.eof_due = true;
+        self.condition = condition;
+        self.count = 0;
+    }
+
+    // It is over, and so is a suspension.
+    pub(crate) fn close(&mut self)
+        ensures { self.new ≡ steps.closed self.old }
+    {
+        self.phase = SenderPhase::Closed;
+        self.suspended = false;
+    }
+
+    // What a cancelled transaction comes to.
+    pub(crate) fn cancelled(&self) -> Outcome
+        ensures { result ≡ steps.cancelled self.now }
+    {
+        Outcome {
+            condition: self.condition,
+            delivery: Delivery::Incomplete,
+            status: FileStatus::Unreported,
+        }
+    }
+}

@@ -1,0 +1,152 @@
+// Sending the PDU that is due.
+ghost use Rattle.std.specs.Prelude.{◌≡◌, ◌+◌, ◌≤◌, ◌++◌, [], length, vec_len, vec_capacity, true, IfOk, IfSome, OnErr, Some, is_ok};
+ghost use Rattle.cfdp_directives.specs.Addressing.{written_len};
+ghost use Rattle.cfdp_store.specs.Files.{octets_in};
+ghost use Rattle.cfdp_store.specs.Stores.{failures_after};
+ghost use Rattle.cfdp_store.specs.declared.stored.Stored.TheVariants as answers;
+ghost use Rattle.cfdp_sender.specs.Due.{sender_due, sender_says, carried, carries};
+ghost use Rattle.cfdp_sender.specs.declared.due.SenderDue.TheVariants as dues;
+ghost use Rattle.cfdp_sender.specs.Steps as steps;
+ghost use Rattle.cfdp_sender.specs.Does.{HasTimers, HasFile, Leaves, Writes, Takes, was_given};
+
+use crate::due::SenderDue;
+use crate::phase::SenderPhase;
+use crate::sender::Sender;
+use crate::taken::Taken;
+use crate::transfer::MOST_SEGMENT;
+use cfdp_directives::{Condition, Handler, Indication, Policy, tell, tell_fault};
+use cfdp_store::{Outbox, StoreError};
+use cfdp_timers::{Kind, Timers};
+
+impl Sender {
+    /// Sends the PDU that is due: writes it into the first octets of `out`, whose others stay. File
+    /// data are read from the outbox; where that fails, it is fault 4, the transaction is
+    /// cancelled, and what `out` then holds is left open. Sending EOF for the first time is
+    /// indicated. Takes no memory, what the outbox takes for itself apart.
+    ///
+    /// The outbox has the file under the source name, with all its octets. `out` has room for the
+    /// PDU, as `due` tells; the timers have room for the transaction, and `told` has room for three
+    /// more indications.
+    pub fn take_pdu<O: Outbox>(
+        &mut self,
+        outbox: &mut O,
+        timers: &mut Timers,
+        policy: &Policy,
+        told: &mut Vec<Indication>,
+        out: &mut [u8],
+    ) -> Taken
+        requires file { HasFile (O.files outbox.old) self.old.source self.old.size }
+        requires timers { HasTimers self.old timers.old }
+        requires room { vec_len told.old + 3 ≤ vec_capacity told.old }
+        requires fits { let file = octets_in (O.files outbox.old) self.old.source in
+            IfSome (sender_due self.old)
+            (λ d. written_len self.old.addressing (sender_says file self.old d) ≤ length out.old) }
+        ensures takes { Takes policy.now.times (octets_in (O.files outbox.old) self.old.source)
+            (sender_due self.old) result self.old self.new told.old.items told.new.items timers.old
+            timers.new out.old out.new }
+        ensures files { O.files outbox.new ≡ O.files outbox.old }
+        ensures failures { O.failures outbox.new
+            ≡ failures_after (O.failures outbox.old) (was_given result) }
+    {
+        let _size = self.size;
+        let Some(due) = self.next() else {
+            return Taken::Nothing;
+        };
+        let mut buffer = [0; MOST_SEGMENT as usize];
+        let octets = match self.read(outbox, &due, &mut buffer) {
+            Ok(octets) => octets,
+            Err(_) => {
+                self.lose_source(told);
+                self.set_timers(None, timers, &policy.times);
+                return Taken::SourceFailed;
+            }
+        };
+        let pdu = self.says(&due, octets);
+        let len = self.addressing.write_pdu(&pdu, out);
+        let anew = self.note_sent(&due, octets, told);
+        self.set_timers(anew, timers, &policy.times);
+        Taken::Moved(len)
+    }
+
+    // The octets of the file that the PDU which is due carries.
+    fn read<'a, O: Outbox>(
+        &self,
+        outbox: &mut O,
+        due: &SenderDue,
+        buffer: &'a mut [u8],
+    ) -> Result<&'a [u8], StoreError>
+        requires due { sender_due self.now ≡ Some due.now }
+        requires file { HasFile (O.files outbox.old) self.now.source self.now.size }
+        requires room { length buffer.old ≡ 4096 }
+        ensures octets { IfOk result (λ octets. octets.now
+            ≡ carried (octets_in (O.files outbox.old) self.now.source) due.now) }
+        ensures short { IfOk result (λ octets. length octets.now ≤ 4096) }
+        ensures refused { OnErr result (carries due.now ≡ true) }
+        ensures files { O.files outbox.new ≡ O.files outbox.old }
+        ensures failures { O.failures outbox.new
+            ≡ failures_after (O.failures outbox.old) (is_ok result) }
+    {
+        let (start, len) = self.extent(due);
+        let (octets, _) = buffer.split_at_mut(len);
+        if len > 0 {
+            outbox.read(self.source.as_slice(), start, octets)?;
+        }
+        Ok(octets)
+    }
+
+    // The outbox failed to give the data that are due.
+    fn lose_source(&mut self, told: &mut Vec<Indication>)
+        requires room { vec_len told.old + 2 ≤ vec_capacity told.old }
+        ensures { Leaves (steps.sender_reads answers.Refused self.old self.old) self.new
+            told.old.items told.new.items }
+    {
+        let condition = Condition::FILESTORE_REJECTION;
+        tell_fault(told, Handler::Cancel, self.addressing.id, condition);
+        self.enter_cancelling(condition);
+    }
+
+    // The PDU that was due was written. The answer is the timer that this arms anew.
+    fn note_sent(
+        &mut self,
+        due: &SenderDue,
+        octets: &[u8],
+        told: &mut Vec<Indication>,
+    ) -> Option<Kind>
+        requires due { sender_due self.old ≡ Some due.now }
+        requires room { vec_len told.old + 1 ≤ vec_capacity told.old }
+        ensures sent { Leaves (steps.pdu_sent answers.Done octets.now self.old due.now) self.new
+            told.old.items told.new.items }
+        ensures anew { result ≡ (steps.pdu_sent answers.Done octets.now self.old due.now).anew }
+    {
+        match due {
+            SenderDue::AckOfFinished(_) => self.ack_due = None,
+            SenderDue::Prompt(_) => self.prompt_due = None,
+            SenderDue::Metadata => self.metadata_due = false,
+            SenderDue::AskedData(_, _) => {
+                self.asked.take_front(u64::from(self.segment));
+            }
+            SenderDue::NewData(_, end) => {
+                self.checksum.add(self.sent, octets);
+                self.sent = *end;
+            }
+            SenderDue::Eof => {
+                self.note_eof(told);
+                return Some(Kind::EofAck);
+            }
+        }
+        None
+    }
+
+    // EOF was written.
+    fn note_eof(&mut self, told: &mut Vec<Indication>)
+        requires room { vec_len told.old + 1 ≤ vec_capacity told.old }
+        ensures { Leaves (steps.pdu_sent answers.Done [] self.old dues.Eof) self.new told.old.items
+            told.new.items }
+    {
+        if self.phase == SenderPhase::Sending && !self.eof_taken {
+            tell(told, Indication::EofSent(self.addressing.id));
+        }
+        self.eof_due = false;
+        self.eof_taken = true;
+    }
+}
