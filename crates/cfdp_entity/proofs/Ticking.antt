@@ -1,0 +1,33 @@
+-- Timers that fire, one after another.
+use Rattle.std.proofs.Common.{◌≡◌, ℕ, suc, ◌+◌, ◌<◌, List, [], length, get_or, drop, drop-cons, add-one, Result, Ok, Err, OnOk, IfOk, ap, ◌∙◌, max}
+use Rattle.cfdp_header.specs.declared.value.TransactionId.{TransactionId}
+use Rattle.cfdp_header.specs.Files.{FileMap}
+use Rattle.cfdp_timers.specs.Order.{Timer}
+use Rattle.cfdp_timers.specs.Armed.{Armed, TimersState}
+use Rattle.cfdp_timers.specs.Due.{due_count, still_armed}
+use Rattle.cfdp_directives.specs.declared.indication.Indication.{Indication}
+use Rattle.cfdp_directives.specs.declared.policy.Policy.{Policy}
+use Rattle.cfdp_entity.specs.declared.record.Record.{Record}
+use Rattle.cfdp_entity.specs.Table.{TableState, at_time, expired, all_expired}
+use Rattle.cfdp_entity.specs.Whole.{Staged, state_of}
+
+pub state-fired : {X E : Type 0} (r : Result X E) (staged : Staged) (files sources : FileMap) (policy : Policy) (es : List (TransactionId × Record)) (timers timers_now : TimersState) (told : List Indication) (now : ℕ)
+    → OnOk r (timers_now.time ≡ max timers.time now) → OnOk r (timers_now.armed ≡ still_armed timers_now.time timers.armed)
+    → (old : TableState) → state_of staged files sources policy es timers told ≡ old → OnOk r (state_of staged files sources policy es timers_now told ≡ at_time now old)
+state-fired (Ok x) staged files sources policy es timers timers_now told now time left old is =
+    let armed : timers_now.armed ≡ still_armed (max timers.time now) timers.armed = left ∙ ap (λ t. still_armed t timers.armed) time in
+    (λ i. record (state_of staged files sources policy es timers told) { now = time i; armed = armed i }) ∙ ap (at_time now) is
+state-fired (Err e) staged files sources policy es timers timers_now told now time left old is = tt
+
+pub count-fired : {X E : Type 0} (r : Result X E) (f : X → List Timer) (armed armed_now : Armed) (now time at : ℕ) → OnOk r (at ≡ max time now) → IfOk r (λ x. length (f x) ≡ due_count armed at)
+    → armed ≡ armed_now → (time_now : ℕ) → time ≡ time_now → IfOk r (λ x. length (f x) ≡ due_count armed_now (max time_now now))
+count-fired (Ok x) f armed armed_now now time at is count same time_now same_time = count ∙ (λ i. due_count (same i) ((is ∙ ap (λ t. max t now) same_time) i))
+count-fired (Err e) f armed armed_now now time at is count same time_now same_time = tt
+
+pub one_more : (fired : List Timer) (i : ℕ) (d : Timer) (mid now : TableState) → i < length fired → now ≡ expired (get_or fired i d) mid → all_expired (drop (i + 1) fired) now ≡ all_expired (drop i fired) mid
+unfolding all_expired
+one_more fired i d mid now low is = rw (add-one, drop-cons fired i d low) (ap (all_expired (drop (suc i) fired)) is)
+
+pub none_left : (fired : List Timer) (i : ℕ) (mid : TableState) → drop i fired ≡ [] → all_expired (drop i fired) mid ≡ mid
+unfolding all_expired
+none_left fired i mid none = ap (λ l. all_expired l mid) none

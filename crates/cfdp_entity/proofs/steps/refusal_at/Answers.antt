@@ -1,0 +1,11 @@
+use Rattle.std.proofs.Common.{ap, sym, ◌∙◌}
+use Rattle.cfdp_entity.specs.Calling.{refusal_of}
+use Rattle.cfdp_entity.proofs.Entries.{seen_by_entry, seen_nowhere}
+use Rattle.cfdp_entity.proofs.steps.refusal_at.Goals as goal
+
+pub returns-in-Some : goal.returns-in-Some
+returns-in-Some c = λ staged.
+    c.refusal.ensures (staged _) ∙ ap (refusal_of c.args.call) (sym (seen_by_entry staged c.args.records.now.entries c.args.place _ c.in-Some.record.now c.in-Some.ensures.entry))
+
+pub returns-in-None : goal.returns-in-None
+returns-in-None c = λ staged. ap (refusal_of c.args.call) (sym (seen_nowhere staged c.args.records.now.entries c.args.place c.in-None.ensures.entry))

@@ -1,0 +1,68 @@
+-- When a call of the user is refused, and what it does else.
+use Rattle.std.specs.Prelude.{◌≡◌, ℕ, not, Bool, true, false, is_some, Option, Some, None, slice_get, if◌then◌else◌}
+use Rattle.cfdp_sender.specs.declared.phase.SenderPhase.{SenderPhase}
+use Rattle.cfdp_sender.specs.declared.phase.SenderPhase.TheVariants.{Sending, Cancelling, Closed}
+use Rattle.cfdp_receiver.specs.State.{is_receiving}
+use Rattle.cfdp_entity.specs.declared.call.Call.{Call}
+use Rattle.cfdp_entity.specs.declared.call.Call.TheVariants as call
+use Rattle.cfdp_entity.specs.declared.error.CallError.{CallError}
+use Rattle.cfdp_entity.specs.declared.error.CallError.TheVariants.{Unknown, WrongSide, AlreadyClosed, AlreadySo, NoMemory}
+use Rattle.cfdp_entity.specs.Seen.{Seen, Sends, Receives}
+use Rattle.cfdp_entity.specs.Table.{TableState, Entry, called_at}
+
+abbrev pub is_sending : SenderPhase → Bool
+is_sending Sending = true
+is_sending Cancelling = false
+is_sending Closed = false
+
+-- only a sender prompts
+abbrev pub is_wrong_side : Call → Seen → Bool
+is_wrong_side (call.Prompt keep_alive) (Receives r m) = true
+is_wrong_side _ _ = false
+
+-- whether the transaction is no longer sent or received
+abbrev pub is_over : Seen → Bool
+is_over (Sends x) = not (is_sending x.phase)
+is_over (Receives r m) = not (is_receiving r.phase)
+
+abbrev pub is_suspended : Seen → Bool
+is_suspended (Sends x) = x.suspended
+is_suspended (Receives r m) = r.suspended
+
+abbrev pub has_prompt : Seen → Bool
+has_prompt (Sends x) = is_some x.prompt_due
+has_prompt (Receives r m) = false
+
+-- whether what is asked for is so already: never of a cancel
+abbrev pub is_so : Call → Seen → Bool
+is_so call.Cancel s = false
+is_so call.Suspend s = is_suspended s
+is_so call.Resume s = not (is_suspended s)
+is_so (call.Prompt keep_alive) s = has_prompt s
+
+-- the first cause that holds, by the record
+abbrev pub refusal : Call → Seen → Option CallError
+refusal c s =
+    if is_wrong_side c s then Some WrongSide
+    else if is_over s then Some AlreadyClosed
+    else if is_so c s then Some AlreadySo
+    else None
+
+-- of a transaction that may have no record
+abbrev pub refusal_of : Call → Option Entry → Option CallError
+refusal_of c (Some e) = refusal c e.1
+refusal_of c None = Some Unknown
+
+-- by where its record is
+abbrev pub refusal_in : Call → Option ℕ → TableState → Option CallError
+refusal_in c (Some place) st = refusal_of c (slice_get st.records place)
+refusal_in c None st = Some Unknown
+
+abbrev pub called_in : Call → Option ℕ → TableState → TableState
+called_in c (Some place) st = called_at place c st
+called_in c None st = st
+
+-- a call on a transaction is refused by this cause, or for want of memory
+abbrev pub IsRefusal : Option CallError → CallError → Type 0
+IsRefusal (Some e) by = by ≡ e
+IsRefusal None by = by ≡ NoMemory

@@ -1,0 +1,29 @@
+-- How an entity may be set up.
+use Rattle.std.specs.Prelude.{◌≡◌, ◌≢◌, ℕ, ◌≤◌, ◌⊎◌}
+use Rattle.cfdp_header.specs.Header.{FitsWidth, IsWidth}
+use Rattle.cfdp_directives.specs.Codes.{modular, null}
+use Rattle.cfdp_directives.specs.Limits.{IsValidTimes}
+use Rattle.cfdp_entity.specs.declared.config.EntityConfig.{EntityConfig}
+
+-- the most octets of a file that one PDU may carry
+abbrev pub most_segment : ℕ
+most_segment = 4096
+
+-- The two entities are two, and their ids fit their width.
+pub record HasIds (c : EntityConfig) : Type 0 where
+  pub apart : c.entity ≢ c.peer
+  pub entity : FitsWidth c.entity c.id_width
+  pub peer : FitsWidth c.peer c.id_width
+
+-- How files are sent is in its range.
+pub record HasSending (c : EntityConfig) : Type 0 where
+  pub number_width : IsWidth c.number_width
+  pub some : 1 ≤ c.segment
+  pub most : c.segment ≤ most_segment
+  pub checksum_kind : (c.checksum_kind ≡ modular) ⊎ (c.checksum_kind ≡ null)
+
+-- An entity can be set up so.
+pub record IsConfig (c : EntityConfig) : Type 0 where
+  pub ids : HasIds c
+  pub sending : HasSending c
+  pub times : IsValidTimes c.policy.times

@@ -1,0 +1,14 @@
+pub mod Config
+pub mod Errors
+pub mod Ready
+pub mod Seen
+pub mod Steps
+pub mod Opening
+pub mod Calling
+pub mod Table
+pub mod Whole
+pub mod Does
+pub mod Gives
+pub mod Sides
+pub mod Roomy
+pub use Rattle.cfdp_timers.specs.Waits

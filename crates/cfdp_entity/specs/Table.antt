@@ -1,0 +1,161 @@
+-- A table of records with their timers: which one is served next, and one step of one record.
+use Rattle.std.specs.Prelude.{◌≡◌, ℕ, ◌+◌, Bool, List, [], ◌∷◌, ◌++◌, drop, position, slice_get, max, Option, Some, None}
+use Rattle.std.specs.Option.{option_or, option_map}
+use Rattle.std.specs.Map.{lookup}
+use Rattle.std.specs.FinMap as finmap
+use Rattle.indexmap.specs.IndexMap.{set_value_at}
+use Rattle.cfdp_header.specs.declared.value.TransactionId.{TransactionId}
+use Rattle.cfdp_header.specs.Ids.{same_id}
+use Rattle.cfdp_header.specs.Files.{FileMap}
+use Rattle.cfdp_directives.specs.declared.indication.Indication.{Indication}
+use Rattle.cfdp_directives.specs.declared.phase.Phase.{Phase}
+use Rattle.cfdp_directives.specs.declared.policy.Policy.{Policy}
+use Rattle.cfdp_directives.specs.Content.{Content}
+use Rattle.cfdp_store.specs.declared.stored.Stored.{Stored}
+use Rattle.cfdp_timers.specs.declared.kind.Kind.{Kind}
+use Rattle.cfdp_timers.specs.Order.{Timer}
+use Rattle.cfdp_timers.specs.Armed.{Armed}
+use Rattle.cfdp_timers.specs.Due.{AreDue, still_armed}
+use Rattle.cfdp_sender.specs.declared.transfer.Transfer.{Transfer}
+use Rattle.cfdp_entity.specs.declared.call.Call.{Call}
+use Rattle.cfdp_entity.specs.Seen.{Seen, is_due, due_octets, due_len, phase_of}
+use Rattle.cfdp_entity.specs.Steps.{After, with_waits, hears, expires, calls, takes, Spoils}
+use Rattle.cfdp_entity.specs.Opening.{puts}
+
+abbrev pub Entry : Type 0
+Entry = TransactionId × Seen
+
+-- the records in order of opening, the latest time told, the armed timers, what was indicated, the
+-- published files, the files of the outbox, and how long and how often answers are waited for
+pub record TableState : Type 0 where
+  pub records : List Entry
+  pub now : ℕ
+  pub armed : Armed
+  pub told : List Indication
+  pub files : FileMap
+  pub sources : FileMap
+  pub policy : Policy
+
+-- the most records of a table, closed ones included
+abbrev pub most_records : ℕ
+most_records = 4096
+
+-- ---- where a record is, and which one is served next
+abbrev pub place_of : TransactionId → List Entry → Option ℕ
+place_of id records = position (λ e. same_id id e.0) records
+
+-- the record of a transaction, if there is one
+abbrev pub record_of : TransactionId → List Entry → Option Seen
+record_of id records = lookup (same_id id) records
+
+abbrev pub has_due : Entry → Bool
+has_due e = is_due e.1
+
+-- the place of the first record from a place on that has something due, and else of the first of all
+abbrev pub next_due : ℕ → List Entry → Option ℕ
+next_due from records =
+    option_or (option_map (λ i. from + i) (position has_due (drop from records)))
+    (position has_due records)
+
+abbrev pub octets_due : FileMap → Option Entry → List ℕ
+octets_due sources None = []
+octets_due sources (Some e) = due_octets sources e.1
+
+abbrev pub len_due : FileMap → Option Entry → ℕ
+len_due sources None = 0
+len_due sources (Some e) = due_len sources e.1
+
+-- the octets of the PDU that the record at a place has due, and how many they are
+abbrev pub due_at : ℕ → TableState → List ℕ
+due_at place st = octets_due st.sources (slice_get st.records place)
+
+abbrev pub len_at : ℕ → TableState → ℕ
+len_at place st = len_due st.sources (slice_get st.records place)
+
+abbrev pub phase_in : Option Entry → Option Phase
+phase_in (Some e) = Some (phase_of e.1)
+phase_in None = None
+
+-- ---- one step of the record at a place; no other record changes
+abbrev pub stepped : ℕ → TransactionId → After → TableState → TableState
+stepped place id after st = record st {
+  records = set_value_at st.records place after.seen;
+  armed = with_waits st.now id after.waits st.armed;
+  told = st.told ++ after.told;
+  files = after.files;
+}
+
+-- the table after a step of the record at a place, if one is there
+abbrev pub step_of : (Entry → After) → ℕ → Option Entry → TableState → TableState
+step_of f place None st = st
+step_of f place (Some e) st = stepped place e.0 (f e) st
+
+abbrev pub step_at : (Entry → After) → ℕ → TableState → TableState
+step_at f place st = step_of f place (slice_get st.records place) st
+
+abbrev pub heard_at : Stored → ℕ → Content → TableState → TableState
+heard_at stored place v st = step_at (λ e. hears stored st.policy.times st.files v e.1) place st
+
+abbrev pub expired_at : ℕ → Kind → TableState → TableState
+expired_at place k st = step_at (λ e. expires st.policy st.files k e.1) place st
+
+abbrev pub called_at : ℕ → Call → TableState → TableState
+called_at place c st = step_at (λ e. calls st.policy.times st.files c e.1) place st
+
+abbrev pub taken_at : Stored → ℕ → TableState → TableState
+taken_at stored place st =
+    step_at (λ e. takes stored st.policy.times st.sources st.files e.1) place st
+
+-- ---- a record more, behind all others
+abbrev pub with_record : TransactionId → After → TableState → TableState
+with_record id after st = record st {
+  records = st.records ++ (id, after.seen) ∷ [];
+  armed = with_waits st.now id after.waits st.armed;
+  told = st.told ++ after.told;
+  files = after.files;
+}
+
+abbrev pub put_in : Transfer → TableState → TableState
+put_in t st = with_record t.addressing.id (puts st.files t) st
+
+abbrev pub first_table : FileMap → FileMap → Policy → TableState
+first_table sources files policy = record {
+  records = [];
+  now = 0;
+  armed = finmap.empty;
+  told = [];
+  files = files;
+  sources = sources;
+  policy = policy;
+}
+
+-- ---- timers that fired
+abbrev pub expired_in : Option ℕ → Kind → TableState → TableState
+expired_in None k st = st
+expired_in (Some place) k st = expired_at place k st
+
+-- the timer of a transaction fired: one step of its record
+abbrev pub expired : Timer → TableState → TableState
+expired t st = expired_in (place_of t.0 st.records) t.1 st
+
+-- these timers fired, one after another: each step finds what the earlier ones left
+unfoldable pub all_expired : List Timer → TableState → TableState
+all_expired [] st = st
+all_expired (t ∷ timers) st = all_expired timers (expired t st)
+
+abbrev pub at_time : ℕ → TableState → TableState
+at_time now st = record st { now = max st.now now; armed = still_armed (max st.now now) st.armed }
+
+-- The time was told: of the timers that were armed, those that are due have fired in their order,
+-- each once, and nothing else changed. A timer that such a step arms isn't among them.
+pub record Ticks (now : ℕ) (old new : TableState) : Type 0 where
+  pub fired : List Timer
+  pub are : AreDue old.armed (max old.now now) fired
+  pub ticked : new ≡ all_expired fired (at_time now old)
+
+-- ---- want of memory
+-- a record at a place found no memory for a PDU, and nothing else changed
+pub record SpoiledAt (place : ℕ) (v : Content) (old new : TableState) : Type 0 where
+  pub seen : Seen
+  pub spoils : (e : Entry) → slice_get old.records place ≡ Some e → Spoils v e.1 seen
+  pub table : new ≡ record old { records = set_value_at old.records place seen }

@@ -1,0 +1,59 @@
+ghost use Rattle.std.specs.Prelude.{◌↔◌, IsTrue};
+ghost use Rattle.cfdp_entity.specs.Config.{IsConfig, HasIds, HasSending};
+
+use cfdp_directives::{ChecksumKind, Policy};
+use cfdp_header::fits_width;
+
+/// The most octets of a file that one PDU may carry.
+const MOST_SEGMENT: u16 = 4096;
+
+/// How an entity is set up: who it is, to whom it sends, and how.
+#[derive(Clone, Copy, Debug, PartialEq, Eq)]
+pub struct EntityConfig {
+    /// The id of this entity.
+    pub entity: u64,
+    /// The id of the other entity, to which it sends and from which it hears.
+    pub peer: u64,
+    /// Octets of an entity id in the PDUs of its own transactions: 1 to 8.
+    pub id_width: u8,
+    /// Octets of a sequence number there: 1 to 8.
+    pub number_width: u8,
+    /// The sequence number of its first transaction. Where it doesn't fit its width, no put is
+    /// accepted.
+    pub first_number: u64,
+    /// The most octets of the file that one PDU carries: 1 to 4,096.
+    pub segment: u16,
+    /// How checksums of the files that it sends are made.
+    pub checksum_kind: ChecksumKind,
+    /// How long it waits, how often it sends something again, and what it does after that.
+    pub policy: Policy,
+}
+
+impl EntityConfig {
+    /// Whether an entity can be set up so: the ids differ and fit their width, both widths are 1 to
+    /// 8 octets, the segment and the times are in their ranges, and the checksum is modular or null.
+    pub fn is_valid(&self) -> bool
+        ensures { IsTrue result ↔ IsConfig self.now }
+    {
+        self.has_ids() && self.has_sending() && self.policy.times.is_valid()
+    }
+
+    fn has_ids(&self) -> bool
+        ensures { IsTrue result ↔ HasIds self.now }
+    {
+        self.entity != self.peer
+            && fits_width(self.entity, self.id_width)
+            && fits_width(self.peer, self.id_width)
+    }
+
+    fn has_sending(&self) -> bool
+        ensures { IsTrue result ↔ HasSending self.now }
+    {
+        let kind = self.checksum_kind.code();
+        1 <= self.number_width
+            && self.number_width <= 8
+            && 1 <= self.segment
+            && self.segment <= MOST_SEGMENT
+            && (kind == 0 || kind == 15)
+    }
+}

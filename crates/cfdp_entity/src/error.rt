@@ -1,0 +1,172 @@
+ghost use Rattle.std.specs.Prelude.{◌≡◌, ◌≤◌};
+ghost use Rattle.cfdp_entity.specs.Errors as errors;
+
+use cfdp_directives::PduError;
+use thiserror::Error;
+
+/// Why a PDU that was heard is dropped: the first cause that holds, in the order in which they are
+/// told.
+#[derive(Clone, Copy, Debug, PartialEq, Eq, Error)]
+pub enum EntityDrop {
+    /// The octets are no PDU. Told first.
+    #[error("{0}")]
+    Pdu(PduError),
+    /// The direction bit of the header isn't the one for what the PDU says.
+    #[error("the direction bit does not fit the PDU")]
+    WrongDirection,
+    /// By direction, the ids of source and destination are not the peer's and this entity's.
+    #[error("the PDU is not for this entity, or not from its peer")]
+    NotForUs,
+    /// Metadata names no file: a name is empty.
+    #[error("a name is empty")]
+    NoFile,
+    /// An ACK, a NAK, a Prompt or a Keep Alive of a transaction that has no record here.
+    #[error("the transaction is not known")]
+    Unknown,
+    /// There is no room for one more record, or for one more stray acknowledgement.
+    #[error("the table is full")]
+    TableFull,
+    /// There is no memory for what the PDU brings. Told last.
+    #[error("there is no memory for it")]
+    NoMemory,
+}
+
+impl EntityDrop {
+    /// The number that names this cause in reports: 1 to 17.
+    pub fn number(self) -> u8
+        ensures { result ≡ errors.drop_number self }
+    {
+        match self {
+            EntityDrop::Pdu(e) => e.number(),
+            EntityDrop::WrongDirection => 12,
+            EntityDrop::NotForUs => 13,
+            EntityDrop::Unknown => 14,
+            EntityDrop::TableFull => 15,
+            EntityDrop::NoMemory => 16,
+            EntityDrop::NoFile => 17,
+        }
+    }
+
+    /// The name of this cause in reports: the variant's, or that of the refusal of the octets.
+    pub fn name(self) -> &'static str
+        ensures { result.now ≡ errors.drop_name self }
+    {
+        match self {
+            EntityDrop::Pdu(e) => e.name(),
+            EntityDrop::WrongDirection => "WrongDirection",
+            EntityDrop::NotForUs => "NotForUs",
+            EntityDrop::Unknown => "Unknown",
+            EntityDrop::TableFull => "TableFull",
+            EntityDrop::NoMemory => "NoMemory",
+            EntityDrop::NoFile => "NoFile",
+        }
+    }
+}
+
+/// Why a put is refused: the first cause that holds, in the order in which they are told.
+#[derive(Clone, Copy, Debug, PartialEq, Eq, Error)]
+pub enum PutError {
+    /// A name has no octet, or more than 255. Told first.
+    #[error("a name does not have 1 to 255 octets")]
+    Name,
+    /// There is no room for one more record.
+    #[error("the table is full")]
+    TableFull,
+    /// The next sequence number doesn't fit its width.
+    #[error("the sequence numbers are used up")]
+    NumbersSpent,
+    /// The outbox failed when it was asked for the file.
+    #[error("the outbox failed")]
+    SourceFault,
+    /// The outbox has no file of that name.
+    #[error("there is no such file")]
+    NoSuchFile,
+    /// The file has 2^32 octets or more.
+    #[error("the file is too large")]
+    TooLarge,
+    /// There is no memory for the record. Told last.
+    #[error("there is no memory for it")]
+    NoMemory,
+}
+
+impl PutError {
+    /// The number that names this refusal in reports: 1 to 7.
+    pub fn number(self) -> u8
+        ensures { result ≡ errors.put_number self }
+    {
+        match self {
+            PutError::NoSuchFile => 1,
+            PutError::Name => 2,
+            PutError::TooLarge => 3,
+            PutError::TableFull => 4,
+            PutError::NumbersSpent => 5,
+            PutError::SourceFault => 6,
+            PutError::NoMemory => 7,
+        }
+    }
+
+    /// The name of this refusal in reports: the variant's.
+    pub fn name(self) -> &'static str
+        ensures { result.now ≡ errors.put_name self }
+    {
+        match self {
+            PutError::NoSuchFile => "NoSuchFile",
+            PutError::Name => "Name",
+            PutError::TooLarge => "TooLarge",
+            PutError::TableFull => "TableFull",
+            PutError::NumbersSpent => "NumbersSpent",
+            PutError::SourceFault => "SourceFault",
+            PutError::NoMemory => "NoMemory",
+        }
+    }
+}
+
+/// Why a call on a transaction is refused: the first cause that holds, in the order in which they
+/// are told.
+#[derive(Clone, Copy, Debug, PartialEq, Eq, Error)]
+pub enum CallError {
+    /// The transaction has no record here. Told first.
+    #[error("the transaction is not known")]
+    Unknown,
+    /// A prompt is for the file's sender alone.
+    #[error("only the file's sender can prompt")]
+    WrongSide,
+    /// The transaction is no longer sent or received.
+    #[error("the transaction is over")]
+    AlreadyClosed,
+    /// It is suspended already, or isn't suspended, or a Prompt is due already. Never told of a
+    /// cancel.
+    #[error("it is so already")]
+    AlreadySo,
+    /// There is no memory for what the call indicates. Told last.
+    #[error("there is no memory for it")]
+    NoMemory,
+}
+
+impl CallError {
+    /// The number that names this refusal in reports: 1 to 5.
+    pub fn number(self) -> u8
+        ensures { result ≡ errors.call_number self }
+    {
+        match self {
+            CallError::Unknown => 1,
+            CallError::AlreadyClosed => 2,
+            CallError::WrongSide => 3,
+            CallError::AlreadySo => 4,
+            CallError::NoMemory => 5,
+        }
+    }
+
+    /// The name of this refusal in reports: the variant's.
+    pub fn name(self) -> &'static str
+        ensures { result.now ≡ errors.call_name self }
+    {
+        match self {
+            CallError::Unknown => "Unknown",
+            CallError::AlreadyClosed => "AlreadyClosed",
+            CallError::WrongSide => "WrongSide",
+            CallError::AlreadySo => "AlreadySo",
+            CallError::NoMemory => "NoMemory",
+        }
+    }
+}

@@ -1,0 +1,336 @@
+// Records with their timers and both stores.
+ghost use Rattle.std.specs.Prelude.{◌≡◌, ◌+◌, ◌≤◌, ◌<◌, ◌++◌, ◌*◌, max, None, Option, drop, length, slice_get, IfOk, IfSome, OnOk, OnErr, is_ok};
+ghost use Rattle.std.specs.FinMap as map;
+ghost use Rattle.std.specs.Option.{option_map};
+ghost use Rattle.std.specs.List.{IsDistinct};
+ghost use Rattle.std.specs.Map.{keys_of};
+ghost use Rattle.cfdp_header.specs.Ids.{same_id};
+ghost use Rattle.cfdp_directives.specs.Content.{view};
+ghost use Rattle.cfdp_timers.specs.Due.{AreDue, due_count};
+ghost use Rattle.cfdp_store.specs.Stores.{Counts, failures_after};
+ghost use Rattle.cfdp_sender.specs.State.{IsSendable};
+ghost use Rattle.cfdp_sender.specs.Does.{HasFile};
+ghost use Rattle.cfdp_entity.specs.Seen as seens;
+ghost use Rattle.cfdp_entity.specs.Calling as calling;
+ghost use Rattle.cfdp_entity.specs.Gives.{Gives, stored_by_gave};
+ghost use Rattle.cfdp_entity.specs.Table as tables;
+ghost use Rattle.cfdp_entity.specs.Table.{heard_at, expired_at, called_at, taken_at, due_at, len_at, put_in, next_due, first_table, all_expired, at_time, Ticks, SpoiledAt, phase_in};
+
+use crate::call::Call;
+use crate::error::CallError;
+use crate::ready::Ready;
+use crate::record::{Gave, Record};
+use crate::steps;
+use cfdp_directives::{Indication, Pdu, Phase, Policy};
+use cfdp_header::TransactionId;
+use cfdp_sender::Transfer;
+use cfdp_store::{Inbox, Outbox, StoreError, Stored};
+use cfdp_timers::{Kind, Timers};
+use indexmap::IndexMap;
+use std::alloc::{AllocError, Global};
+use std::marker::Model;
+
+/// The most records of a table, closed ones included.
+pub const MOST_RECORDS: usize = 4096;
+
+/// Records in order of opening, with their timers, both stores, and what was indicated.
+#[derive(Drop)]
+pub struct Table<O: Outbox, I: Inbox> {
+    alloc: Global,
+    records: IndexMap<TransactionId, Record>,
+    ready: Ready,
+    timers: Timers,
+    outbox: O,
+    inbox: I,
+    told: Vec<Indication>,
+    policy: Policy,
+}
+
+impl<O: Outbox, I: Inbox> Model for Table<O, I> {
+    ghost use Rattle.std.specs.Coded.{codes, coded_ℕ, coded_list, coded×};
+    ghost use Rattle.std.specs.Ordering.{nat_cmp};
+    ghost use Rattle.std.specs.Cmp.Lexicographic.{slice_cmp};
+    ghost use Rattle.std.specs.FinMap as finmap;
+    ghost use Rattle.std.specs.FinSet as finset;
+    ghost use Rattle.cfdp_timers.specs.Armed.{armed_code};
+    ghost use Rattle.cfdp_entity.specs.Does.{spare};
+    ghost use Rattle.cfdp_entity.specs.Roomy.{Roomy};
+    ghost use Rattle.cfdp_entity.specs.Whole.{IsWhole, state_of};
+
+    ghost Value = { Roomy };
+
+    ghost coded = { Prim.hlevel (codes, armed_code, finset.code {R = nat_cmp} coded_ℕ, finmap.code {R = nat_cmp} coded_ℕ coded_ℕ, finmap.code {R = slice_cmp nat_cmp} (coded_list coded_ℕ) (coded_list coded_ℕ)) };
+
+    ghost view = { λ t. record {
+      state = state_of (I.staged t.inbox) (I.published t.inbox) (O.files t.outbox) t.policy t.records.entries t.timers t.told.items;
+      spare = spare t.told;
+      inbox_failures = I.failures t.inbox;
+      outbox_failures = O.failures t.outbox;
+    } };
+
+    ghost invariant = { λ t. IsWhole (I.staged t.inbox) (O.files t.outbox) t.records.entries t.ready t.timers };
+}
+
+impl<O: Outbox, I: Inbox> Table<O, I> {
+    /// No records.
+    pub fn new(alloc: Global, outbox: O, inbox: I, policy: Policy) -> Result<Self, AllocError>
+        ensures { IfOk result (λ t. t.state ≡ first_table (O.files outbox)
+            (I.published inbox) policy) }
+    {
+        let ready = Ready::new(alloc)?;
+        Ok(Table {
+            alloc,
+            records: IndexMap::new(alloc),
+            ready,
+            timers: Timers::new(alloc),
+            outbox,
+            inbox,
+            told: Vec::new(alloc),
+            policy,
+        })
+    }
+
+    /// How many records there are.
+    pub fn len(&self) -> usize
+        ensures len { result ≡ length self.now.state.records }
+        ensures few { result ≤ 4096 }
+        ensures distinct { IsDistinct same_id (keys_of self.now.state.records) }
+    {
+        self.records.len()
+    }
+
+    /// What was indicated.
+    pub fn told(&self) -> &[Indication]
+        ensures { result.now ≡ self.now.state.told }
+    {
+        self.told.as_slice()
+    }
+
+    /// Where the record of a transaction is.
+    pub fn place_of(&self, id: TransactionId) -> Option<usize>
+        ensures { result ≡ tables.place_of id self.now.state.records }
+    {
+        self.records.get_index_of(&id)
+    }
+
+    /// The first record from a place on that has something due, and else the first of all.
+    pub fn next_due(&self, from: usize) -> Option<usize>
+        ensures next { result ≡ next_due from self.now.state.records }
+        ensures within { IfSome result (λ place. place < 4096) }
+    {
+        self.ready.next(from)
+    }
+
+    /// Octets of the PDU that the record at a place has due.
+    pub fn due_len(&self, place: usize) -> usize
+        ensures { result ≡ len_at place self.now.state }
+    {
+        steps::due_len_at(&self.records, place)
+    }
+
+    /// How far the transaction has come whose record is at a place.
+    pub fn phase_at(&self, place: usize) -> Option<Phase>
+        ensures { result ≡ phase_in (slice_get self.now.state.records place) }
+    {
+        steps::phase_at(&self.records, place)
+    }
+
+    /// Why a call on the record at a place is refused, if it is.
+    pub fn refusal_at(&self, place: usize, call: Call) -> Option<CallError>
+        ensures { result ≡ calling.refusal_of call (slice_get self.now.state.records place) }
+    {
+        steps::refusal_at(&self.records, place, call)
+    }
+
+    /// Octets of a file of the outbox.
+    pub fn source_len(&mut self, name: &[u8]) -> Result<Option<u64>, StoreError>
+        ensures state { self.new.state ≡ self.old.state }
+        ensures answer { IfOk result (λ len. len ≡ option_map length
+            (map.get self.old.state.sources name.now)) }
+        ensures failures { self.new.outbox_failures ≡ failures_after self.old.outbox_failures
+            (is_ok result) }
+        ensures inbox { self.new.inbox_failures ≡ self.old.inbox_failures }
+    {
+        self.outbox.len(name)
+    }
+
+    /// Makes room for so many indications.
+    pub fn reserve(&mut self, more: usize) -> Result<(), AllocError>
+        ensures state { self.new.state ≡ self.old.state }
+        ensures room { OnOk result (more ≤ self.new.spare) }
+        ensures inbox { self.new.inbox_failures ≡ self.old.inbox_failures }
+        ensures outbox { self.new.outbox_failures ≡ self.old.outbox_failures }
+    {
+        self.told.reserve(more)
+    }
+
+    /// The record at a place hears a PDU.
+    pub fn hear(&mut self, place: usize, pdu: &Pdu<'_>) -> Result<Stored, AllocError>
+        requires room { 3 ≤ self.old.spare }
+        ensures heard { IfOk result (λ stored. self.new.state ≡ heard_at stored place
+            (view pdu.now) self.old.state) }
+        ensures err { OnErr result (SpoiledAt place (view pdu.now) self.old.state self.new.state) }
+        ensures counts { IfOk result (λ stored. Counts stored self.old.inbox_failures
+            self.new.inbox_failures) }
+        ensures outbox { self.new.outbox_failures ≡ self.old.outbox_failures }
+    {
+        steps::hear_at(
+            &mut self.records,
+            &mut self.ready,
+            &self.outbox,
+            &mut self.inbox,
+            &mut self.timers,
+            &mut self.told,
+            &self.policy,
+            place,
+            pdu,
+        )
+    }
+
+    /// A timer of the record at a place expired.
+    pub fn expire(&mut self, place: usize, kind: Kind)
+        requires room { 3 ≤ self.old.spare }
+        ensures expired { self.new.state ≡ expired_at place kind self.old.state }
+        ensures room { self.old.spare ≤ self.new.spare + 3 }
+        ensures grows { self.old.inbox_failures ≤ self.new.inbox_failures }
+        ensures outbox { self.new.outbox_failures ≡ self.old.outbox_failures }
+    {
+        steps::expire_at(
+            &mut self.records,
+            &mut self.ready,
+            &self.outbox,
+            &mut self.inbox,
+            &mut self.timers,
+            &mut self.told,
+            &self.policy,
+            place,
+            kind,
+        );
+    }
+
+    /// A call of the user on the record at a place.
+    pub fn call(&mut self, place: usize, call: Call)
+        requires room { 3 ≤ self.old.spare }
+        ensures called { self.new.state ≡ called_at place call self.old.state }
+        ensures grows { self.old.inbox_failures ≤ self.new.inbox_failures }
+        ensures outbox { self.new.outbox_failures ≡ self.old.outbox_failures }
+    {
+        steps::call_at(
+            &mut self.records,
+            &mut self.ready,
+            &self.outbox,
+            &mut self.inbox,
+            &mut self.timers,
+            &mut self.told,
+            &self.policy,
+            place,
+            call,
+        );
+    }
+
+    /// Takes the PDU of the record at a place.
+    pub fn take(&mut self, place: usize, out: &mut [u8]) -> Gave
+        requires room { 3 ≤ self.old.spare }
+        requires fits { len_at place self.old.state ≤ length out.old }
+        ensures taken { self.new.state ≡ taken_at (stored_by_gave result) place self.old.state }
+        ensures gives { Gives (due_at place self.old.state) (len_at place self.old.state) result
+            out.old out.new }
+        ensures counts { Counts (stored_by_gave result) self.old.outbox_failures
+            self.new.outbox_failures }
+        ensures grows { self.old.inbox_failures ≤ self.new.inbox_failures }
+    {
+        steps::take_at(
+            &mut self.records,
+            &mut self.ready,
+            &mut self.outbox,
+            &mut self.inbox,
+            &mut self.timers,
+            &mut self.told,
+            &self.policy,
+            place,
+            out,
+        )
+    }
+
+    /// A put opens a record.
+    pub fn put(&mut self, transfer: Transfer) -> Result<(), AllocError>
+        requires absent { tables.place_of transfer.addressing.id self.old.state.records ≡ None }
+        requires not_full { length self.old.state.records < 4096 }
+        requires sendable { IsSendable transfer }
+        requires file { HasFile self.old.state.sources transfer.source transfer.size }
+        ensures put { OnOk result (self.new.state ≡ put_in transfer self.old.state) }
+        ensures err { OnErr result (self.new.state ≡ self.old.state) }
+        ensures inbox { self.new.inbox_failures ≡ self.old.inbox_failures }
+        ensures outbox { self.new.outbox_failures ≡ self.old.outbox_failures }
+    {
+        steps::put_record(
+            self.alloc,
+            &mut self.records,
+            &mut self.ready,
+            &self.outbox,
+            &self.inbox,
+            &mut self.timers,
+            &mut self.told,
+            &self.policy,
+            transfer,
+        )
+    }
+
+    /// Tells the time: the timers that are due fire, one after another.
+    pub fn tick(&mut self, now: u64) -> Result<(), AllocError>
+        ensures ticked { OnOk result (Ticks now self.old.state self.new.state) }
+        ensures err { OnErr result (self.new.state ≡ self.old.state) }
+        ensures grows { self.old.inbox_failures ≤ self.new.inbox_failures }
+        ensures outbox { self.new.outbox_failures ≡ self.old.outbox_failures }
+    {
+        let due = self.due_count(now);
+        self.reserve(3 * due)?;
+        let fired = self.fire(now)?;
+        self.expire_all(&fired);
+        Ok(())
+    }
+
+    fn due_count(&self, now: u64) -> usize
+        ensures count { result ≡ due_count self.now.state.armed (max self.now.state.now now) }
+        ensures few { result < 4611686018427387904 }
+    {
+        self.timers.due_count(now)
+    }
+
+    fn fire(&mut self, now: u64) -> Result<Vec<(TransactionId, Kind)>, AllocError>
+        ensures state { OnOk result (self.new.state ≡ at_time now self.old.state) }
+        ensures spare { self.new.spare ≡ self.old.spare }
+        ensures fired { IfOk result (λ fired. AreDue self.old.state.armed
+            (max self.old.state.now now) fired.items) }
+        ensures count { IfOk result (λ fired. length fired.items ≡ due_count self.old.state.armed
+            (max self.old.state.now now)) }
+        ensures err { OnErr result (self.new.state ≡ self.old.state) }
+        ensures inbox { self.new.inbox_failures ≡ self.old.inbox_failures }
+        ensures outbox { self.new.outbox_failures ≡ self.old.outbox_failures }
+    {
+        self.timers.fire(now)
+    }
+
+    fn expire_all(&mut self, fired: &[(TransactionId, Kind)])
+        requires room { 3 * length fired.now ≤ self.old.spare }
+        ensures fires { self.new.state ≡ all_expired fired.now self.old.state }
+        ensures grows { self.old.inbox_failures ≤ self.new.inbox_failures }
+        ensures outbox { self.new.outbox_failures ≡ self.old.outbox_failures }
+    {
+        for (id, kind) in fired {
+            self.expire_one(*id, *kind);
+        }
+    }
+
+    fn expire_one(&mut self, id: TransactionId, kind: Kind)
+        requires room { 3 ≤ self.old.spare }
+        ensures expired { self.new.state ≡ tables.expired (id, kind) self.old.state }
+        ensures room { self.old.spare ≤ self.new.spare + 3 }
+        ensures grows { self.old.inbox_failures ≤ self.new.inbox_failures }
+        ensures outbox { self.new.outbox_failures ≡ self.old.outbox_failures }
+    {
+        if let Some(place) = self.place_of(id) {
+            self.expire(place, kind);
+        }
+    }
+}
