@@ -4,7 +4,7 @@ ghost use Rattle.aos_frame.specs.Frame.{IsLink};
 
 use crate::header::IDLE_CHANNEL;
 
-/// The frames of one direction of a link, and the packets in them.
+/// What both ends of one direction of a link know of its frames, and of the packets in them.
 #[derive(Clone, Copy, Debug, PartialEq, Eq)]
 pub struct LinkConfig {
     /// The spacecraft identifier of the frames, 0 to 255.

@@ -99,6 +99,7 @@ fn refusals_have_their_numbers(rt: HostRuntime) -> Result<(), Fail> {
 #[test]
 fn only_numbers_of_their_widths_fit(rt: HostRuntime) {
     assert_eq!(rt; Header::len_in_widths(2, 4), 12);
+    assert!(rt; fits_width(255, 1));
     assert!(rt; of_ack(8, 8, u64::MAX).fits());
     assert!(rt; of_ack(1, 1, 255).fits());
     assert!(rt; !of_ack(1, 1, 256).fits());

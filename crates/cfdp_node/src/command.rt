@@ -20,7 +20,7 @@ pub enum Line<'a> {
     Command(Command<'a>),
 }
 
-/// A file in a station's outbox.
+/// A file that a script puts into a station's outbox.
 #[derive(Clone, Copy, Debug)]
 pub struct FileLine<'a> {
     pub at: Side,
@@ -28,7 +28,7 @@ pub struct FileLine<'a> {
     pub contents: Contents<'a>,
 }
 
-/// What is in a file.
+/// What is in a file that a script makes.
 #[derive(Clone, Copy, Debug)]
 pub enum Contents<'a> {
     /// These octets.
@@ -37,7 +37,7 @@ pub enum Contents<'a> {
     Fill { count: u64, octet: u8 },
 }
 
-/// What happens to the stations and the link.
+/// A command of a script: what happens to the stations and the link.
 #[derive(Clone, Copy, Debug)]
 pub enum Command<'a> {
     /// `put S SRC DST`: the station is asked to send a file.
@@ -62,7 +62,7 @@ pub enum Command<'a> {
     Settle,
 }
 
-/// Why a line is bad.
+/// Why a line of a script is bad.
 #[derive(Clone, Copy, Debug, PartialEq, Eq)]
 pub enum LineError {
     /// It has more than `MAX_LINE` octets.

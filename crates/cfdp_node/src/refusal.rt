@@ -6,7 +6,7 @@ use aos_frame::FrameError;
 use cfdp_directives::PduError;
 use std::fmt;
 
-/// Why a line spells nothing.
+/// Why a line of a dump is no PDU, or no frame.
 #[derive(Clone, Copy)]
 pub enum Refusal {
     /// It isn't pairs of hexadecimal digits.

@@ -14,7 +14,7 @@ use link_sim::{Files, Side};
 use std::io::Write;
 use std::{fmt, io};
 
-/// The puts of a script.
+/// How many puts a script has, and how many of them were completed.
 #[derive(Clone, Copy, Debug, PartialEq, Eq)]
 pub struct Tally {
     /// Those that were completed, by what their sender was told.

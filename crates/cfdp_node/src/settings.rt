@@ -1,7 +1,7 @@
 use cfdp_directives::ChecksumKind;
 use link_sim::SimConfig;
 
-/// What `set` sets, for both stations.
+/// What a script's `set` sets, for both stations.
 #[derive(Clone, Copy, Debug, PartialEq, Eq)]
 pub enum Setting {
     /// Octets of the file in one PDU at the most.
@@ -12,7 +12,7 @@ pub enum Setting {
     FirstNumber,
 }
 
-/// The values set so far, whatever they are.
+/// The values that a script has set so far, in range or not.
 #[derive(Clone, Copy, Debug, PartialEq, Eq)]
 pub struct Settings {
     pub segment: u64,

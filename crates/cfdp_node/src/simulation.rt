@@ -22,7 +22,7 @@ impl Model for Simulation {
 }
 
 impl Simulation {
-    /// Stations with these outboxes, before anything happened: the first is that of station 1.
+    /// Two stations with these outboxes, that of station 1 first, before anything happened.
     pub fn new(alloc: Global, config: SimConfig, outboxes: (Files, Files)) -> Self
         requires { IsValidConfig config }
     {

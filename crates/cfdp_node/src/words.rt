@@ -29,7 +29,7 @@ impl<'a> Words<'a> {
         Words { rest: Some(line) }
     }
 
-    /// Whether the last word was taken.
+    /// Whether no word is left.
     pub fn is_empty(&self) -> bool {
         self.rest.is_none()
     }
