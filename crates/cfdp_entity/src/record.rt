@@ -395,8 +395,7 @@ fn receiver_hears_ack(
     of: Acknowledged,
 )
     requires { set.contains timers.old.roomy receiver.old.addressing.id ≡ true }
-    ensures acks { ReceiverAcks policy.now.times of receiver.old receiver.new timers.old timers.new
-        }
+    ensures acks { ReceiverAcks policy.now.times of receiver.old receiver.new timers.old timers.new }
     ensures ready { (staged : Staged) → IsReady staged receiver.old → IsReady staged receiver.new }
     ensures addressing { receiver.new.addressing ≡ receiver.old.addressing }
 {
