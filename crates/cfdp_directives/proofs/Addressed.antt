@@ -1,21 +1,26 @@
 -- The header of a content can be written.
-use Rattle.std.proofs.Common.{◌^◌, ◌<◌, refl}
+use Rattle.std.proofs.Common.{ℕ, Bool, ◌^◌, ◌<◌, refl}
 use Rattle.cfdp_directives.specs.declared.addressing.Addressing.{Addressing}
 use Rattle.cfdp_directives.specs.Codes.{file_size_octets}
-use Rattle.cfdp_directives.specs.Content.{Content}
+use Rattle.cfdp_directives.specs.Content.{Content, is_file_data}
+use Rattle.cfdp_directives.specs.Direction.{goes_toward_sender}
+use Rattle.cfdp_header.specs.Header.{FitsHeader}
 use Rattle.cfdp_directives.specs.Written.{content_len, FitsContent, CanWrite}
-use Rattle.cfdp_directives.specs.Addressing.{header_of, FitsAddressing}
+use Rattle.cfdp_directives.specs.Addressing.{header_by, header_of, FitsAddressing}
+
+pub header_fits : (a : Addressing) (file_data toward_sender : Bool) (length : ℕ) → FitsAddressing a → length < 2 ^ 16 → FitsHeader (header_by a file_data toward_sender length)
+header_fits a file_data toward_sender length fits short = record {
+  id_width = fits.id.id_width;
+  number_width = fits.id.number_width;
+  length = short;
+  source = fits.id.source;
+  number = fits.id.number;
+  destination = fits.destination;
+}
 
 pub can_write : (a : Addressing) (v : Content) → FitsAddressing a → FitsContent file_size_octets v → content_len file_size_octets v < 2 ^ 16 → CanWrite (header_of a v) v
 can_write a v fits content short = record {
-  header = record {
-    id_width = fits.id.id_width;
-    number_width = fits.id.number_width;
-    length = short;
-    source = fits.id.source;
-    number = fits.id.number;
-    destination = fits.destination;
-  };
+  header = header_fits a (is_file_data v) (goes_toward_sender v) (content_len file_size_octets v) fits short;
   content = content;
   kind = refl;
   no_segment_metadata = refl;

@@ -1,12 +1,14 @@
 -- Exported: sums of octets by their places.
-use Rattle.std.proofs.Common.{◌≡◌, ℕ, zero, suc, ◌+◌, ◌-◌, ◌*◌, ◌%◌, ◌^◌, ◌<◌, ◌≤◌, true, false, cond, leb, ltb, List, [], ◌∷◌, ◌++◌, length, get_or, take, drop, refl, sym, ap, ◌∙◌, arith, length-take, zero-add, add-zero}
+use Rattle.std.proofs.Common.{◌≡◌, ℕ, zero, suc, ◌+◌, ◌-◌, ◌*◌, ◌/◌, ◌%◌, ◌^◌, ◌<◌, ◌≤◌, true, false, cond, leb, ltb, List, [], ◌∷◌, ◌++◌, length, get_or, take, drop, refl, sym, ap, ◌∙◌, arith, length-take, length-drop, zero-add, add-zero, inl, inr}
 use Rattle.std.specs.Prelude.{fold, sum_by, count_by}
 use Rattle.std.specs.List.{AllByRecursion}
 use Rattle.std.proofs.Common.{add-mul}
 use Rattle.std.proofs.Math.Nat.{mul-add}
-use Rattle.std.proofs.lemmas.Bool.{le-leb, lt-leb, lt-ltb, le-ltb}
-use Rattle.std.proofs.lemmas.List.{take_more, take-append-drop}
-use Rattle.std.proofs.lemmas.List.Sums.{sum_by-cons}
+use Rattle.std.proofs.lemmas.Bool.{cases_lt, le-leb, lt-leb, lt-ltb, le-ltb}
+use Rattle.std.specs.Int.{w32, from_be_bytes}
+use Rattle.std.specs.Simd.{first_chunks}
+use Rattle.std.proofs.lemmas.List.{take_more, take-append-drop, drop-drop, take_all, drop_all}
+use Rattle.std.proofs.lemmas.List.Sums.{sum_by-cons, sum_by_more}
 use Rattle.cfdp_directives.specs.Checksum.{word_sum, modular_checksum, weight, sum_at, Piece, covers, IsOf, Cuts, added, sum_of}
 
 pub sum_at-append : (offset : ℕ) (a b : List ℕ) → sum_at offset (a ++ b) ≡ sum_at offset a + sum_at (offset + length a) b
@@ -42,6 +44,79 @@ one_more old offset i sum place b m bytes h p e is k =
     let w : m ≡ b * weight (offset + i) = rw (k, p) (ap (λ (x : ℕ). b * x) (four ((offset + i) % 4) (omega arith))) in
     let whole : sum_at offset (take (i + 1) bytes) ≡ sum_at offset front + m = rw (cut, more) (omega (arith, w)) in
     rw (e, whole) (omega arith)
+
+-- ---- four octets at once
+
+-- four places on, octets count the same
+again : (offset n : ℕ) (bytes : List ℕ) → sum_at (4 * n + offset) bytes ≡ sum_at offset bytes
+unfolding sum_at
+again offset n [] = refl
+again offset n (b ∷ bytes) =
+    let here : (4 * n + offset) % 4 ≡ offset % 4 = omega arith in
+    let next : 4 * n + offset + 1 ≡ 4 * n + (offset + 1) = omega arith in
+    rw (here, next, again (offset + 1) n bytes) refl
+
+-- a word counts as its octets
+pub one_word : (word : List ℕ) → length word ≡ 4 → sum_at 0 word ≡ from_be_bytes w32 word
+unfolding sum_at
+one_word [] h = absurd (omega arith)
+one_word (a ∷ []) h = absurd (omega arith)
+one_word (a ∷ b ∷ []) h = absurd (omega arith)
+one_word (a ∷ b ∷ c ∷ []) h = absurd (omega arith)
+one_word (a ∷ b ∷ c ∷ d ∷ []) h = omega arith
+one_word (a ∷ b ∷ c ∷ d ∷ e ∷ word) h = absurd (omega arith)
+
+abbrev words_sum : List (List ℕ) → ℕ
+words_sum words = sum_by (λ word. sum_at 0 word) words
+
+-- one word more
+pub word_more : (old i sum m : ℕ) (words : List (List ℕ)) → i < length words → sum ≡ (old + words_sum (take i words)) % 2 ^ 32 → length (get_or words i []) ≡ 4 → m ≡ from_be_bytes w32 (get_or words i [])
+    → (sum + m) % 2 ^ 32 ≡ (old + words_sum (take (i + 1) words)) % 2 ^ 32
+word_more old i sum m words h e four k =
+    let cut : words_sum (take (i + 1) words) ≡ words_sum (take i words) + sum_at 0 (get_or words i []) = sum_by_more (λ (w : List ℕ). sum_at 0 w) words i [] h in
+    let same : sum_at 0 (get_or words i []) ≡ m = one_word (get_or words i []) four ∙ sym k in
+    rw (e, cut, same) (omega arith)
+
+-- whole words, and the octets behind them
+cut_words : (k : ℕ) (bytes : List ℕ) → k * 4 ≤ length bytes → sum_at 0 bytes ≡ words_sum (first_chunks 4 k bytes) + sum_at 0 (drop (k * 4) bytes)
+cut_words zero bytes h = sym (zero-add (sum_at 0 bytes))
+cut_words (suc k) bytes h =
+    let front = take 4 bytes in
+    let back = drop 4 bytes in
+    let len : length front ≡ 4 = omega (arith, length-take 4 bytes) in
+    let whole : front ++ back ≡ bytes = take-append-drop 4 bytes in
+    let joined : sum_at 0 (front ++ back) ≡ sum_at 0 front + sum_at (0 + length front) back = sum_at-append 0 front back in
+    let place : sum_at (0 + length front) back ≡ sum_at 0 back = rw len (again 0 1 back) in
+    let ih = cut_words k back (omega (arith, length-drop 4 bytes)) in
+    let first : words_sum (first_chunks 4 (suc k) bytes) ≡ sum_at 0 front + words_sum (first_chunks 4 k back) = sum_by-cons (λ (word : List ℕ). sum_at 0 word) front (first_chunks 4 k back) in
+    let rest : drop (k * 4) back ≡ drop (suc k * 4) bytes = drop-drop (k * 4) 4 bytes ∙ ap (λ (n : ℕ). drop n bytes) (omega arith) in
+    let behind : sum_at 0 (drop (k * 4) back) ≡ sum_at 0 (drop (suc k * 4) bytes) = ap (sum_at 0) rest in
+    sym (ap (sum_at 0) whole) ∙ omega (arith, joined, place, ih, first, behind)
+
+-- octets up to where a word begins, or up to the end, and those behind them
+cut_front : (offset n : ℕ) (bytes : List ℕ) → (offset + n) % 4 ≡ 0 → n ≤ length bytes → sum_at offset bytes ≡ sum_at offset (take n bytes) + sum_at 0 (drop n bytes)
+cut_front offset n bytes at h =
+    let front = take n bytes in
+    let back = drop n bytes in
+    let len : length front ≡ n = omega (arith, length-take n bytes) in
+    let joined : sum_at offset (front ++ back) ≡ sum_at offset front + sum_at (offset + length front) back = sum_at-append offset front back in
+    let k : ℕ = (offset + n) / 4 in
+    let place : offset + length front ≡ 4 * k + 0 = omega (arith, len, at) in
+    let moved : sum_at (offset + length front) back ≡ sum_at 0 back = rw place (again 0 k back) in
+    sym (ap (sum_at offset) (take-append-drop n bytes)) ∙ omega (arith, joined, moved)
+
+cut_all : (offset n : ℕ) (bytes : List ℕ) → length bytes ≤ n → sum_at offset bytes ≡ sum_at offset (take n bytes) + sum_at 0 (drop n bytes)
+unfolding sum_at
+cut_all offset n bytes h = rw (take_all n bytes h, drop_all n bytes h) (sym (add-zero (sum_at offset bytes)))
+
+-- octets up to where a word begins, whole words, and the octets behind them
+pub by_words : (offset n k : ℕ) (bytes : List ℕ) → (n < length bytes → (offset + n) % 4 ≡ 0) → k * 4 ≤ length (drop n bytes) → sum_at offset (take n bytes) + (words_sum (first_chunks 4 k (drop n bytes)) + sum_at 0 (drop (k * 4) (drop n bytes))) ≡ sum_at offset bytes
+by_words offset n k bytes at within =
+    let behind = cut_words k (drop n bytes) within in
+    elim (cases_lt n (length bytes)) [
+      | inl h ↦ let front = cut_front offset n bytes (at h) (omega arith) in omega (arith, behind, front)
+      | inr h ↦ let front = cut_all offset n bytes h in omega (arith, behind, front)
+    ]
 
 -- ---- counted
 

@@ -1,5 +1,5 @@
 -- The header of each PDU of a transaction, from what they have in common.
-use Rattle.std.specs.Prelude.{ℕ, ◌+◌, ◌^◌, ◌<◌, false}
+use Rattle.std.specs.Prelude.{ℕ, ◌+◌, ◌^◌, ◌<◌, Bool, false}
 use Rattle.cfdp_header.specs.declared.value.Header.{Header}
 use Rattle.cfdp_header.specs.declared.value.TransactionId.{TransactionId}
 use Rattle.cfdp_header.specs.Header.{IsWidth, header_len}
@@ -9,18 +9,26 @@ use Rattle.cfdp_directives.specs.Content.{Content, is_file_data}
 use Rattle.cfdp_directives.specs.Written.{content_len}
 use Rattle.cfdp_directives.specs.Direction.{goes_toward_sender}
 
--- the header of a PDU that says this
-abbrev pub header_of : Addressing → Content → Header
-header_of a v = record {
-  file_data = is_file_data v;
-  toward_sender = goes_toward_sender v;
-  length = content_len file_size_octets v;
+-- a header of this kind, direction and length
+abbrev pub header_by : Addressing → Bool → Bool → ℕ → Header
+header_by a file_data toward_sender length = record {
+  file_data = file_data;
+  toward_sender = toward_sender;
+  length = length;
   segment_metadata = false;
   id_width = a.id_width;
   number_width = a.number_width;
   id = a.id;
   destination = a.destination;
 }
+
+-- the header of a PDU that says this
+abbrev pub header_of : Addressing → Content → Header
+header_of a v = header_by a (is_file_data v) (goes_toward_sender v) (content_len file_size_octets v)
+
+-- octets of a file data PDU in front of its data
+abbrev pub data_front_len : Addressing → ℕ
+data_front_len a = header_len a.id_width a.number_width + file_size_octets
 
 -- octets of the whole PDU, its header too
 abbrev pub written_len : Addressing → Content → ℕ

@@ -1,6 +1,6 @@
-ghost use Rattle.std.specs.Prelude.{◌≡◌, ◌+◌, ◌^◌, ◌<◌, ◌≤◌, ◌↔◌, length, take, drop, true, false, IsTrue};
+ghost use Rattle.std.specs.Prelude.{◌≡◌, ◌+◌, ◌^◌, ◌<◌, ◌≤◌, ◌↔◌, ◌++◌, ℕ, List, length, take, drop, true, false, IsTrue};
 ghost use Rattle.cfdp_directives.specs.declared.addressing.Addressing.{Addressing};
-ghost use Rattle.cfdp_directives.specs.Content.{Content, view};
+ghost use Rattle.cfdp_directives.specs.Content.{Content, FileData, view};
 ghost use Rattle.cfdp_directives.specs.Written.{content_len, FitsContent, CanWrite, pdu_octets};
 ghost use Rattle.cfdp_directives.specs.Codes.{file_size_octets};
 ghost use Rattle.cfdp_directives.specs.Direction as directions;
@@ -8,8 +8,10 @@ ghost use Rattle.cfdp_directives.specs.Direction.{goes_toward_sender};
 ghost use Rattle.cfdp_directives.specs.Addressing as addressings;
 ghost use Rattle.cfdp_directives.specs.Addressing.{addressing_of, FitsAddressing};
 
+use crate::codes::FILE_SIZE_OCTETS;
 use crate::pdu::Pdu;
 use crate::writing::encode;
+use cfd_bits::put_uint;
 use cfdp_header::{Header, TransactionId, fits_width};
 
 /// What the headers of a transaction's PDUs have in common: the two entities, the transaction's
@@ -55,10 +57,20 @@ impl Addressing {
         requires { content_len file_size_octets (view pdu.now) < 2 ^ 16 }
         ensures { result ≡ addressings.header_of self.now (view pdu.now) }
     {
+        self.header(
+            pdu.is_file_data(),
+            pdu.goes_toward_sender(),
+            pdu.len() as u16,
+        )
+    }
+
+    fn header(&self, file_data: bool, toward_sender: bool, length: u16) -> Header
+        ensures { result ≡ addressings.header_by self.now file_data toward_sender length }
+    {
         Header {
-            file_data: pdu.is_file_data(),
-            toward_sender: pdu.goes_toward_sender(),
-            length: pdu.len() as u16,
+            file_data,
+            toward_sender,
+            length,
             segment_metadata: false,
             id_width: self.id_width,
             number_width: self.number_width,
@@ -90,6 +102,26 @@ impl Addressing {
     {
         let header = self.header_of(pdu);
         encode(&header, pdu, out)
+    }
+
+    /// Writes a file data PDU but for its data, `count` octets, into the first octets of `out`, and
+    /// says how many it wrote: there the data go, which then make the PDU whole. The octets behind
+    /// stay. Takes no memory.
+    #[tactic(auto, using(crate::proofs::Addressed::header_fits))]
+    pub fn write_data_front(&self, offset: u64, count: usize, out: &mut [u8]) -> usize
+        requires addressing { FitsAddressing self.now }
+        requires offset { offset < 256 ^ file_size_octets }
+        requires short { file_size_octets + count < 2 ^ 16 }
+        requires room { addressings.data_front_len self.now ≤ length out.old }
+        ensures end { result ≡ addressings.data_front_len self.now }
+        ensures front { (octets : List ℕ) → length octets ≡ count →
+            let v = FileData offset octets in
+            take result out.new ++ octets ≡ pdu_octets (addressings.header_of self.now v) v }
+        ensures behind { drop result out.new ≡ drop result out.old }
+    {
+        let header = self.header(true, false, (FILE_SIZE_OCTETS + count) as u16);
+        let at = cfdp_header::encode(&header, out);
+        put_uint(out, at, FILE_SIZE_OCTETS, offset)
     }
 }
 

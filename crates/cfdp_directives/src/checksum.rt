@@ -1,4 +1,4 @@
-ghost use Rattle.std.specs.Prelude.{◌≡◌, ℕ, ◌+◌, ◌%◌, ◌^◌, List};
+ghost use Rattle.std.specs.Prelude.{◌≡◌, ℕ, ◌+◌, ◌%◌, ◌^◌, List, sum_by};
 ghost use Rattle.cfdp_directives.specs.Checksum.{sum_at, modular_checksum, Piece, Cuts, added, sum_of};
 
 use std::marker::Model;
@@ -41,8 +41,21 @@ impl Checksum {
     }
 }
 
-#[tactic(auto, using(crate::proofs::Sums::one_more, crate::proofs::Sums::none))]
+// Octets up to the first whole word of the file, the words, and the octets behind them.
+#[tactic(auto, using(crate::proofs::Sums::by_words))]
 fn sum_with(old: u32, offset: u64, bytes: &[u8]) -> u32
+    ensures { result ≡ (old + sum_at offset bytes.now) % 2 ^ 32 }
+{
+    let before = ((4 - offset % 4) % 4) as usize;
+    let (first, rest) = bytes.split_at(before.min(bytes.len()));
+    let (words, last) = rest.as_chunks::<4>();
+    let sum = sum_octets(old, offset, first);
+    let sum = sum_words(sum, words);
+    sum_octets(sum, 0, last)
+}
+
+#[tactic(auto, using(crate::proofs::Sums::one_more, crate::proofs::Sums::none))]
+fn sum_octets(old: u32, offset: u64, bytes: &[u8]) -> u32
     ensures { result ≡ (old + sum_at offset bytes.now) % 2 ^ 32 }
 {
     let mut sum = old;
@@ -50,6 +63,16 @@ fn sum_with(old: u32, offset: u64, bytes: &[u8]) -> u32
     for b in bytes {
         sum = sum.wrapping_add(u32::from(*b) << (8 * (3 - place)));
         place = (place + 1) % 4;
+    }
+    sum
+}
+
+fn sum_words(old: u32, words: &[[u8; 4]]) -> u32
+    ensures { result ≡ (old + sum_by (λ word. sum_at 0 word) words.now) % 2 ^ 32 }
+{
+    let mut sum = old;
+    for word in words {
+        sum = sum.wrapping_add(u32::from_be_bytes(*word));
     }
     sum
 }

@@ -23,7 +23,7 @@ use Rattle.cfdp_sender.specs.declared.phase.SenderPhase.TheVariants.{Sending, Ca
 use Rattle.cfdp_sender.specs.declared.due.SenderDue.{SenderDue}
 use Rattle.cfdp_sender.specs.declared.due.SenderDue.TheVariants as due
 use Rattle.cfdp_sender.specs.State.{SenderState, IsSender}
-use Rattle.cfdp_sender.specs.Due.{sender_due, ack_first, phase_due, prompt_first, file_due, data_due, rest_due, carried, pdu_says, sender_says, eof_says, told_checksum}
+use Rattle.cfdp_sender.specs.Due.{sender_due, ack_first, phase_due, prompt_first, file_due, data_due, rest_due, carried, carries, pdu_says, sender_says, eof_says, told_checksum}
 
 -- EOF is due once all was sent, or once it is cancelled
 abbrev pub IsEofDue : SenderPhase → SenderState → Type 0
@@ -163,6 +163,10 @@ extent-len file octets start len size is whole within =
     let taken = length-take len (drop start file) in
     let same : length octets ≡ length (take len (drop start file)) = ap length is in
     omega (arith, dropped, taken, same, whole, within)
+
+pub carries-data : (d : SenderDue) → ((start : ℕ) × (end : ℕ) × (d ≡ due.AskedData start end)) ⊎ ((start : ℕ) × (end : ℕ) × (d ≡ due.NewData start end)) → carries d ≡ true
+carries-data d (inl h) = ap carries h.2
+carries-data d (inr h) = ap carries h.2
 
 pub data-segment : (x : SenderState) (d : SenderDue) (start end : ℕ) → IsSender x → sender_due x ≡ Some d
     → (d ≡ due.AskedData start end) ⊎ (d ≡ due.NewData start end) → IsSegment x start end

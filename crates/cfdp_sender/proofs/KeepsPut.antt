@@ -1,5 +1,5 @@
 -- A sender goes on sending its put, whatever happens to it.
-use Rattle.std.proofs.Common.{◌≡◌, ℕ, ◌-◌, ◌==◌, ◌&&◌, min, nat_lt, Bool, true, false, List, [], ◌∷◌, take, drop, length, Option, Some, None, if◌then◌else◌, refl, sym, ap, subst, ◌∙◌, arith}
+use Rattle.std.proofs.Common.{◌≡◌, ℕ, ◌-◌, ◌≤◌, ◌==◌, ◌&&◌, min, nat_lt, Bool, true, false, List, [], ◌∷◌, take, drop, length, Option, Some, None, if◌then◌else◌, refl, sym, ap, subst, ◌∙◌, arith}
 use Rattle.std.specs.FinSet as set
 use Rattle.cfdp_extents.specs.Offsets.{range}
 use Rattle.cfdp_timers.specs.declared.kind.Kind.{Kind}
@@ -17,7 +17,7 @@ use Rattle.cfdp_sender.specs.declared.phase.SenderPhase.{SenderPhase}
 use Rattle.cfdp_sender.specs.declared.phase.SenderPhase.TheVariants.{Sending, Cancelling, Closed}
 use Rattle.cfdp_sender.specs.declared.due.SenderDue.{SenderDue}
 use Rattle.cfdp_sender.specs.declared.due.SenderDue.TheVariants as due
-use Rattle.cfdp_sender.specs.State.{SenderState, IsSender, opened_sender, transfer_of}
+use Rattle.cfdp_sender.specs.State.{SenderState, opened_sender, transfer_of}
 use Rattle.cfdp_sender.specs.Does.{AsksSome}
 use Rattle.cfdp_sender.specs.declared.transfer.Transfer.{Transfer}
 use Rattle.cfdp_sender.specs.Steps.{hearing, cancelled, closed, sender_sends, hears_ack, asks, asks_all, asks_in, sends_again, handled, quiet, with_new, unacknowledged_in, expires, sender_waits, sender_expires, cancels_in, suspends_in, resumes_in, prompts_in}
@@ -116,7 +116,7 @@ same-prompts Cancelling o keep_alive x = same x
 same-prompts Closed o keep_alive x = same x
 
 -- ---- sending
-new-of : AtOnce → (put : Put) (x : SenderState) (start end : ℕ) → IsSender x → IsSenderOf put x → IsDue x (due.NewData start end)
+new-of : AtOnce → (put : Put) (x : SenderState) (start end : ℕ) → x.sent ≤ x.size → IsSenderOf put x → IsDue x (due.NewData start end)
     → IsSenderOf put (with_new end (take (end - start) (drop start put.octets)) x)
 new-of whole put x start end s of is = record {
   id = of.id;
@@ -126,10 +126,10 @@ new-of whole put x start end s of is = record {
   size = of.size;
   front =
       ap (λ (n : ℕ). added x.checksum (record { offset = x.sent; bytes = take (end - n) (drop n put.octets) })) is.0
-      ∙ front-more whole put.octets x.sent end x.checksum (omega (arith, is.1, is.2)) (omega (arith, s.sent, of.size)) of.front;
+      ∙ front-more whole put.octets x.sent end x.checksum (omega (arith, is.1, is.2)) (omega (arith, s, of.size)) of.front;
 }
 
-sent-of : AtOnce → (put : Put) (stored : Stored) (x : SenderState) (d : SenderDue) → IsSender x → IsSenderOf put x → IsDue x d
+sent-of : AtOnce → (put : Put) (stored : Stored) (x : SenderState) (d : SenderDue) → x.sent ≤ x.size → IsSenderOf put x → IsDue x d
     → IsSenderOf put (sender_sends stored put.octets x d).sender
 sent-of whole put stored x (due.AckOfFinished condition) s of is = still-of put x _ of (same x)
 sent-of whole put stored x (due.Prompt keep_alive) s of is = still-of put x _ of (same x)
@@ -140,7 +140,7 @@ sent-of whole put Done x (due.NewData start end) s of is = new-of whole put x st
 sent-of whole put Refused x (due.NewData start end) s of is = still-of put x _ of (same x)
 sent-of whole put stored x due.Eof s of is = still-of put x _ of (same x)
 
-pub step-of : AtOnce → (put : Put) (policy : Policy) (input : SenderInput) (x : SenderState) → IsSender x → IsSenderOf put x → MayHappen input x
+pub step-of : AtOnce → (put : Put) (policy : Policy) (input : SenderInput) (x : SenderState) → x.sent ≤ x.size → IsSenderOf put x → MayHappen input x
     → IsSenderOf put (sender_step policy put.octets input x).sender
 step-of whole put policy (Sends stored d) x s of is = sent-of whole put stored x d s of (due-is x d is)
 step-of whole put policy (HearsAck condition) x s of is = still-of put x _ of (same-ack x x.phase condition)

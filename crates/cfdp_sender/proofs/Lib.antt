@@ -2,6 +2,8 @@ pub mod Invariants
 pub mod Asking
 pub mod Dues
 pub mod Failed
+mod Writing
+pub mod InFile
 pub mod Truth
 pub mod KeepsPut
 pub mod Ends

@@ -14,9 +14,11 @@ use Rattle.cfdp_sender.specs.declared.phase.SenderPhase.TheVariants.{Sending, Ca
 use Rattle.cfdp_sender.specs.declared.due.SenderDue.{SenderDue}
 use Rattle.cfdp_sender.specs.declared.due.SenderDue.TheVariants as due
 use Rattle.cfdp_sender.specs.State.{SenderState, IsSender, IsCause}
+use Rattle.cfdp_sender.specs.InFile.{IsInFile}
 use Rattle.cfdp_sender.specs.Due.{sender_due, sender_says, eof_says, told_checksum}
 use Rattle.cfdp_sender.specs.Inputs.{IsSenderOf}
-use Rattle.cfdp_sender.proofs.Dues.{IsSegment, IsDue, IsEofDue, due-is, asked-segment, new-segment, extent-len}
+use Rattle.cfdp_sender.proofs.Dues.{IsSegment, IsDue, IsEofDue, due-is, extent-len}
+use Rattle.cfdp_sender.proofs.InFile.{asked-in, new-in}
 
 -- the checksum that is told is that of the front of the file
 pub told-is : (put : Put) (x : SenderState) → IsSenderOf put x → told_checksum x ≡ checksum_of put.checksum_kind (take x.sent put.octets)
@@ -25,8 +27,8 @@ told-is put x of =
     ∙ ap (λ (k : ℕ). if k == modular then modular_checksum (take x.sent put.octets) else 0) of.kind
 
 -- and of the whole file where all was sent
-pub told-whole : (put : Put) (x : SenderState) → IsSender x → IsSenderOf put x → x.size ≤ x.sent → told_checksum x ≡ checksum_of put.checksum_kind put.octets
-told-whole put x s of all =
+pub told-whole : (put : Put) (x : SenderState) → IsSenderOf put x → x.size ≤ x.sent → told_checksum x ≡ checksum_of put.checksum_kind put.octets
+told-whole put x of all =
     told-is put x of ∙ ap (checksum_of put.checksum_kind) (take_all x.sent put.octets (omega (arith, all, of.size)))
 
 data-truth : (put : Put) (x : SenderState) (start end : ℕ) → IsSenderOf put x → IsSegment x start end
@@ -36,20 +38,20 @@ data-truth put x start end of part =
     extent-len put.octets _ start (end - start) x.size refl (sym of.size) (omega (arith, part.some, part.within)) in
     ap (λ n. take n (drop start put.octets)) (sym len)
 
-eof-truth : (put : Put) (x : SenderState) (p : SenderPhase) → IsSender x → IsSenderOf put x → IsEofDue p x → IsCause p x.condition → IsTruthful put (eof_says p x)
-eof-truth put x Sending s of is cause = λ _. (told-whole put x s of is, of.size)
-eof-truth put x Cancelling s of is cause = λ none. absurd (omega (arith, none, cause))
-eof-truth put x Closed s of is cause = absurd is
+eof-truth : (put : Put) (x : SenderState) (p : SenderPhase) → IsSenderOf put x → IsEofDue p x → IsCause p x.condition → IsTruthful put (eof_says p x)
+eof-truth put x Sending of is cause = λ _. (told-whole put x of is, of.size)
+eof-truth put x Cancelling of is cause = λ none. absurd (omega (arith, none, cause))
+eof-truth put x Closed of is cause = absurd is
 
-due-truth : (put : Put) (x : SenderState) (d : SenderDue) → IsSender x → IsSenderOf put x → IsDue x d → IsTruthful put (sender_says put.octets x d)
+due-truth : (put : Put) (x : SenderState) (d : SenderDue) → IsInFile x → IsSenderOf put x → IsDue x d → IsTruthful put (sender_says put.octets x d)
 due-truth put x (due.AckOfFinished condition) s of is = tt
 due-truth put x (due.Prompt keep_alive) s of is = tt
 due-truth put x due.Metadata s of is = (of.kind, of.size, of.source, of.destination)
-due-truth put x (due.AskedData start end) s of is = data-truth put x start end of (asked-segment x start end s is)
-due-truth put x (due.NewData start end) s of is = data-truth put x start end of (subst (λ n. IsSegment x n end) (sym is.0) (new-segment x end s is.1 is.2))
-due-truth put x due.Eof s of is = eof-truth put x x.phase s of is s.cause
+due-truth put x (due.AskedData start end) s of is = data-truth put x start end of (asked-in x start end s is)
+due-truth put x (due.NewData start end) s of is = data-truth put x start end of (subst (λ n. IsSegment x n end) (sym is.0) (new-in x end s is.1 is.2))
+due-truth put x due.Eof s of is = eof-truth put x x.phase of is s.cause
 
-pub truth : (put : Put) (x : SenderState) (d : SenderDue) → IsSender x → IsSenderOf put x → sender_due x ≡ Some d → IsTruthful put (sender_says put.octets x d)
+pub truth : (put : Put) (x : SenderState) (d : SenderDue) → IsInFile x → IsSenderOf put x → sender_due x ≡ Some d → IsTruthful put (sender_says put.octets x d)
 truth put x d s of is = due-truth put x d s of (due-is x d is)
 
 -- ---- the checksum of the front, as the front grows
@@ -84,7 +86,7 @@ pub eof-whole : (put : Put) (x : SenderState) → IsSender x → IsSenderOf put 
 eof-whole put x s of is e =
     let all : x.size ≤ x.sent = subst (λ q. IsEofDue q x) is (due-is x due.Eof e) in
     eof-in put x Sending is
-    ∙ ap (λ (n : ℕ). Eof no_error n x.size []) (told-whole put x s of all)
+    ∙ ap (λ (n : ℕ). Eof no_error n x.size []) (told-whole put x of all)
     ∙ ap (λ (n : ℕ). Eof no_error (checksum_of put.checksum_kind put.octets) n []) of.size
 
 pub eof-front : (put : Put) (x : SenderState) → IsSenderOf put x → x.phase ≡ Cancelling

@@ -1,4 +1,5 @@
 pub mod State
+pub mod InFile
 pub mod Inside
 pub mod Due
 pub mod Steps

@@ -1,7 +1,7 @@
 // What a sender sends next, and what that PDU says.
-ghost use Rattle.std.specs.Prelude.{◌≡◌, ◌+◌, ◌^◌, ◌<◌, ◌≤◌, ℕ, List, length, take, drop, true, Some, is_some};
+ghost use Rattle.std.specs.Prelude.{◌≡◌, ◌+◌, ◌^◌, ◌<◌, ◌≤◌, ℕ, List, [], length, take, drop, true, Some, is_some};
 ghost use Rattle.std.specs.Option.{option_map};
-ghost use Rattle.cfdp_directives.specs.Content.{view};
+ghost use Rattle.cfdp_directives.specs.Content.{FileData, view};
 ghost use Rattle.cfdp_directives.specs.Addressing.{written_len};
 ghost use Rattle.cfdp_sender.specs.Due as dues;
 ghost use Rattle.cfdp_sender.specs.Due.{sender_due, sender_says, pdu_says, carried, carries};
@@ -38,7 +38,7 @@ impl Sender {
         let _size = self.size;
         let due = self.next()?;
         let (_, carried) = self.extent(&due);
-        Some(self.addressing.written_len(&self.says(&due, &[])) + carried)
+        Some(self.addressing.written_len(&self.says(&due)) + carried)
     }
 
     // Where the octets of the file begin that a PDU carries, and how many they are.
@@ -49,6 +49,8 @@ impl Sender {
         ensures some { 0 < result.1 → carries due.now ≡ true }
         ensures part { (file : List ℕ) →
             carried file due.now ≡ take result.1 (drop result.0 file) }
+        ensures says { (octets : List ℕ) → carries due.now ≡ true →
+            pdu_says octets self.now due.now ≡ FileData result.0 octets }
     {
         let _size = self.size;
         match due {
@@ -108,9 +110,9 @@ impl Sender {
         None
     }
 
-    // The PDU that is due, with these octets of the file where it carries some.
-    pub(crate) fn says<'a>(&'a self, due: &SenderDue, octets: &'a [u8]) -> Pdu<'a>
-        ensures { view result ≡ pdu_says octets.now self.now due.now }
+    // The PDU that is due, but for the octets of the file that it carries.
+    pub(crate) fn says(&self, due: &SenderDue) -> Pdu<'_>
+        ensures { view result ≡ pdu_says [] self.now due.now }
     {
         match due {
             SenderDue::AckOfFinished(condition) => Pdu::Ack {
@@ -130,7 +132,7 @@ impl Sender {
             },
             SenderDue::AskedData(start, _) | SenderDue::NewData(start, _) => Pdu::FileData {
                 offset: *start,
-                bytes: octets,
+                bytes: &[],
             },
             SenderDue::Eof => self.eof(),
         }

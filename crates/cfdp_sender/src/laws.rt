@@ -1,5 +1,5 @@
 //! Laws of senders, each the contract of a function that does nothing.
-ghost use Rattle.std.specs.Prelude.{◌≡◌, ℕ, false, List, [], ◌∷◌, length, take, is_some, Option, Some, Contains};
+ghost use Rattle.std.specs.Prelude.{◌≡◌, ◌≤◌, ℕ, false, List, [], ◌∷◌, length, take, is_some, Option, Some, Contains};
 ghost use Rattle.cfdp_header.specs.declared.value.TransactionId.{TransactionId};
 ghost use Rattle.cfdp_header.specs.Ids.{same_id};
 ghost use Rattle.cfdp_timers.specs.declared.kind.Kind.{Kind};
@@ -19,6 +19,7 @@ ghost use Rattle.cfdp_sender.specs.declared.due.SenderDue.{SenderDue};
 ghost use Rattle.cfdp_sender.specs.declared.due.SenderDue.TheVariants as dues;
 ghost use Rattle.cfdp_sender.specs.declared.transfer.Transfer.{Transfer};
 ghost use Rattle.cfdp_sender.specs.State.{SenderState, IsSender, opened_sender, transfer_of};
+ghost use Rattle.cfdp_sender.specs.InFile.{IsInFile};
 ghost use Rattle.cfdp_sender.specs.Due.{sender_due, sender_says};
 ghost use Rattle.cfdp_sender.specs.Steps.{sender_waits};
 ghost use Rattle.cfdp_sender.specs.Does.{AsksSome, timers_set};
@@ -33,17 +34,26 @@ pub fn a_sender_keeps_what_it_sends()
         → transfer_of y ≡ transfer_of x }
 {}
 
+/// What a sender has due is in its file. So it is of every sender, once it is opened, and whatever
+/// happens to it.
+pub fn what_is_due_is_in_the_file()
+    ensures held { (x : SenderState) → IsSender x → IsInFile x }
+    ensures opened { (t : Transfer) → 1 ≤ t.segment → IsInFile (opened_sender t) }
+    ensures stays { (policy : Policy) (file : List ℕ) (input : SenderInput) (x : SenderState) →
+        IsInFile x → MayHappen input x → IsInFile (sender_step policy file input x).sender }
+{}
+
 /// Each PDU that a sender of a put sends says what is so: Metadata, file data and an EOF without an
 /// error are truthful. It is a sender of the put once it is opened, and stays one whatever happens
 /// to it, also where a NAK is heard in part.
 pub fn a_sender_says_what_is_so()
     ensures truthful { (put : Put) (x : SenderState) (d : SenderDue) →
-        IsSender x → IsSenderOf put x → sender_due x ≡ Some d
+        IsInFile x → IsSenderOf put x → sender_due x ≡ Some d
         → IsTruthful put (sender_says put.octets x d) }
     ensures opened { (t : Transfer) (file : List ℕ) → length file ≡ t.size
         → IsSenderOf (put_of t file) (opened_sender t) }
     ensures stays { (put : Put) (policy : Policy) (input : SenderInput) (x : SenderState) →
-        IsSender x → IsSenderOf put x → MayHappen input x
+        IsInFile x → IsSenderOf put x → MayHappen input x
         → IsSenderOf put (sender_step policy put.octets input x).sender }
     ensures partly { (put : Put) (pairs : List (ℕ × ℕ)) (x y : SenderState) →
         IsSenderOf put x → AsksSome pairs x y → IsSenderOf put y }

@@ -32,6 +32,7 @@ pub use laws::{
     a_sender_finishes_once, a_sender_keeps_what_it_sends, a_sender_says_what_is_so,
     a_sender_waits_with_armed_timers, a_source_fault_comes_of_a_failed_read,
     an_eof_has_the_checksum_of_what_was_sent, told_complete_by_a_finished_alone,
+    what_is_due_is_in_the_file,
 };
 pub use phase::SenderPhase;
 pub use sender::Sender;

@@ -1,10 +1,12 @@
 // Sending the PDU that is due.
-ghost use Rattle.std.specs.Prelude.{◌≡◌, ◌+◌, ◌≤◌, ◌++◌, [], length, vec_len, vec_capacity, true, IfOk, IfSome, OnErr, Some, is_ok};
-ghost use Rattle.cfdp_directives.specs.Addressing.{written_len};
+ghost use Rattle.std.specs.Prelude.{◌≡◌, ◌+◌, ◌≤◌, ◌++◌, [], length, take, drop, vec_len, vec_capacity, true, IfOk, IfSome, OnErr, OnOk, IsSome, Some, is_ok};
+ghost use Rattle.std.specs.FinMap as map;
+ghost use Rattle.cfdp_directives.specs.Addressing.{written_len, data_front_len};
+ghost use Rattle.cfdp_directives.specs.Content.{FileData};
 ghost use Rattle.cfdp_store.specs.Files.{octets_in};
 ghost use Rattle.cfdp_store.specs.Stores.{failures_after};
 ghost use Rattle.cfdp_store.specs.declared.stored.Stored.TheVariants as answers;
-ghost use Rattle.cfdp_sender.specs.Due.{sender_due, sender_says, carried, carries};
+ghost use Rattle.cfdp_sender.specs.Due.{sender_due, sender_says, carries};
 ghost use Rattle.cfdp_sender.specs.declared.due.SenderDue.TheVariants as dues;
 ghost use Rattle.cfdp_sender.specs.Steps as steps;
 ghost use Rattle.cfdp_sender.specs.Does.{HasTimers, HasFile, Leaves, Writes, Takes, was_given};
@@ -13,7 +15,6 @@ use crate::due::SenderDue;
 use crate::phase::SenderPhase;
 use crate::sender::Sender;
 use crate::taken::Taken;
-use crate::transfer::MOST_SEGMENT;
 use cfdp_directives::{Condition, Handler, Indication, Policy, tell, tell_fault};
 use cfdp_store::{Outbox, StoreError};
 use cfdp_timers::{Kind, Timers};
@@ -52,46 +53,73 @@ impl Sender {
         let Some(due) = self.next() else {
             return Taken::Nothing;
         };
-        let mut buffer = [0; MOST_SEGMENT as usize];
-        let octets = match self.read(outbox, &due, &mut buffer) {
-            Ok(octets) => octets,
+        let len = match self.write_due(outbox, &due, out) {
+            Ok(len) => len,
             Err(_) => {
                 self.lose_source(told);
                 self.set_timers(None, timers, &policy.times);
                 return Taken::SourceFailed;
             }
         };
-        let pdu = self.says(&due, octets);
-        let len = self.addressing.write_pdu(&pdu, out);
-        let anew = self.note_sent(&due, octets, told);
+        let (_, carried) = self.extent(&due);
+        let anew = self.note_sent(&due, &out[len - carried..len], told);
         self.set_timers(anew, timers, &policy.times);
         Taken::Moved(len)
     }
 
-    // The octets of the file that the PDU which is due carries.
-    fn read<'a, O: Outbox>(
+    // Writes the PDU that is due.
+    fn write_due<O: Outbox>(
         &self,
         outbox: &mut O,
         due: &SenderDue,
-        buffer: &'a mut [u8],
-    ) -> Result<&'a [u8], StoreError>
+        out: &mut [u8],
+    ) -> Result<usize, StoreError>
         requires due { sender_due self.now ≡ Some due.now }
         requires file { HasFile (O.files outbox.old) self.now.source self.now.size }
-        requires room { length buffer.old ≡ 4096 }
-        ensures octets { IfOk result (λ octets. octets.now
-            ≡ carried (octets_in (O.files outbox.old) self.now.source) due.now) }
-        ensures short { IfOk result (λ octets. length octets.now ≤ 4096) }
+        requires fits { let file = octets_in (O.files outbox.old) self.now.source in
+            written_len self.now.addressing (sender_says file self.now due.now) ≤ length out.old }
+        ensures written { let file = octets_in (O.files outbox.old) self.now.source in
+            IfOk result (λ len. Writes self.now.addressing (sender_says file self.now due.now) len
+            out.old out.new) }
         ensures refused { OnErr result (carries due.now ≡ true) }
         ensures files { O.files outbox.new ≡ O.files outbox.old }
         ensures failures { O.failures outbox.new
             ≡ failures_after (O.failures outbox.old) (is_ok result) }
     {
-        let (start, len) = self.extent(due);
-        let (octets, _) = buffer.split_at_mut(len);
-        if len > 0 {
-            outbox.read(self.source.as_slice(), start, octets)?;
+        let (start, carried) = self.extent(due);
+        match due {
+            SenderDue::AskedData(_, _) | SenderDue::NewData(_, _) => {
+                self.write_data(outbox, start, carried, out)
+            }
+            SenderDue::AckOfFinished(_)
+            | SenderDue::Prompt(_)
+            | SenderDue::Metadata
+            | SenderDue::Eof => Ok(self.addressing.write_pdu(&self.says(due), out)),
         }
-        Ok(octets)
+    }
+
+    // Writes a PDU with octets of the file, which the outbox puts right where they belong.
+    fn write_data<O: Outbox>(
+        &self,
+        outbox: &mut O,
+        start: u64,
+        count: usize,
+        out: &mut [u8],
+    ) -> Result<usize, StoreError>
+        requires file { HasFile (O.files outbox.old) self.now.source self.now.size }
+        requires within { start + count ≤ self.now.size }
+        requires short { count ≤ 4096 }
+        requires room { data_front_len self.now.addressing + count ≤ length out.old }
+        ensures written { let file = octets_in (O.files outbox.old) self.now.source in
+            IfOk result (λ len. Writes self.now.addressing
+            (FileData start (take count (drop start file))) len out.old out.new) }
+        ensures files { O.files outbox.new ≡ O.files outbox.old }
+        ensures failures { O.failures outbox.new
+            ≡ failures_after (O.failures outbox.old) (is_ok result) }
+    {
+        let at = self.addressing.write_data_front(start, count, out);
+        read_to(outbox, self.source.as_slice(), start, out, at, count)?;
+        Ok(at + count)
     }
 
     // The outbox failed to give the data that are due.
@@ -149,4 +177,26 @@ impl Sender {
         self.eof_due = false;
         self.eof_taken = true;
     }
+}
+
+// Reads octets of a file into `out` from the place `at` on.
+fn read_to<O: Outbox>(
+    outbox: &mut O,
+    name: &[u8],
+    start: u64,
+    out: &mut [u8],
+    at: usize,
+    count: usize,
+) -> Result<(), StoreError>
+    requires there { IsSome (map.get (O.files outbox.old) name.now) }
+    requires within { start + count ≤ length (octets_in (O.files outbox.old) name.now) }
+    requires room { at + count ≤ length out.old }
+    ensures front { OnOk result (take (at + count) out.new ≡ take at out.old
+        ++ take count (drop start (octets_in (O.files outbox.old) name.now))) }
+    ensures behind { drop (at + count) out.new ≡ drop (at + count) out.old }
+    ensures files { O.files outbox.new ≡ O.files outbox.old }
+    ensures failures { O.failures outbox.new
+        ≡ failures_after (O.failures outbox.old) (is_ok result) }
+{
+    outbox.read(name, start, &mut out[at..at + count])
 }

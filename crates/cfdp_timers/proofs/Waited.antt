@@ -40,7 +40,7 @@ module _ (now : ℕ) (id : TransactionId) (wait : Wait) (armed : Armed) (kind : 
       ] refl
 
   -- a timer of another kind
-  of_kind : (k : Kind) → kind_place k ≢ kind_place kind → map.get (with_wait now id kind wait armed) (id, k) ≡ map.get armed (id, k)
+  pub of_kind : (k : Kind) → kind_place k ≢ kind_place kind → map.get (with_wait now id kind wait armed) (id, k) ≡ map.get armed (id, k)
   of_kind k apart = other (id, k) (λ e. apart (ap (λ t. kind_place t.1) e))
 
 module _ (now : ℕ) (id : TransactionId) (w : Waits) (armed : Armed) where

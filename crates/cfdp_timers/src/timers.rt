@@ -5,10 +5,11 @@ ghost use Rattle.std.specs.FinMap as map;
 ghost use Rattle.std.specs.FinSet as set;
 ghost use Rattle.std.specs.Ordering.{eq_by_cmp};
 ghost use Rattle.cfdp_header.specs.declared.value.TransactionId.{TransactionId};
+ghost use Rattle.cfdp_timers.specs.declared.kind.Kind.{Kind};
 ghost use Rattle.cfdp_timers.specs.Order.{Timer, timer_cmp};
 ghost use Rattle.cfdp_timers.specs.Armed.{deadline_of, with_timer};
 ghost use Rattle.cfdp_timers.specs.Due.{AreDue, IsLeast, due_count, still_armed};
-ghost use Rattle.cfdp_timers.specs.Entries.{timer_of};
+ghost use Rattle.cfdp_timers.specs.Entries.{timer_of, deadline_at};
 ghost use Rattle.cfdp_timers.specs.Waits.{deadline_after, with_wait, waited};
 
 use crate::Kind;
@@ -202,22 +203,33 @@ impl Timers {
             ≡ record self.old { armed = waited self.old.time id waits.now self.old.armed } }
         ensures roomy { self.new.roomy ≡ self.old.roomy }
     {
-        self.set_one(id, Kind::EofAck, waits.eof_ack);
-        self.set_one(id, Kind::Nak, waits.nak);
-        self.set_one(id, Kind::FinishedAck, waits.finished_ack);
-        self.set_one(id, Kind::Inactivity, waits.inactivity);
+        // One search for all four: most timers stay as they are.
+        let old = self.deadlines(id);
+        self.set_one(id, Kind::EofAck, waits.eof_ack, old.eof_ack);
+        self.set_one(id, Kind::Nak, waits.nak, old.nak);
+        self.set_one(id, Kind::FinishedAck, waits.finished_ack, old.finished_ack);
+        self.set_one(id, Kind::Inactivity, waits.inactivity, old.inactivity);
     }
 
-    // Sets one timer of a transaction that has room.
+    // The deadlines of a transaction; none where it has no room.
+    fn deadlines(&self, id: TransactionId) -> Deadlines
+        ensures { (kind : Kind) → deadline_at result kind ≡ deadline_of self.now id kind }
+    {
+        match self.entries.get(&id) {
+            Some(deadlines) => *deadlines,
+            None => Deadlines::NONE,
+        }
+    }
+
+    // Sets one timer of a transaction that has room, where it had this deadline.
     #[tactic(auto, using(crate::proofs::Waited::with_timer_kept))]
-    fn set_one(&mut self, id: TransactionId, kind: Kind, wait: Wait)
-        requires { set.contains self.old.roomy id ≡ true }
+    fn set_one(&mut self, id: TransactionId, kind: Kind, wait: Wait, old: Option<u64>)
+        requires room { set.contains self.old.roomy id ≡ true }
+        requires old { old ≡ deadline_of self.old id kind }
         ensures { self.new
             ≡ record self.old { armed = with_wait self.old.time id kind wait self.old.armed } }
     {
-        let old = self.deadline_of(id, kind);
         let new = wait.deadline(self.time, old);
-        // Most timers stay as they are, and a search costs more than a comparison.
         if new != old {
             self.set_deadline(id, kind, new);
         }

@@ -6,6 +6,6 @@ pub returns : goal.returns
 returns c = record {
   truthful = truth;
   opened = opened-of;
-  stays = step-of c.whole_file_has_its_checksum.ensures;
+  stays = λ put policy input x s of may. step-of c.whole_file_has_its_checksum.ensures put policy input x s.sent of may;
   partly = partly-of;
 }

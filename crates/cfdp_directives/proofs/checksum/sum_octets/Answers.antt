@@ -1,6 +1,6 @@
 use Rattle.std.proofs.Common.{◌*◌, ◌-◌, ◌^◌, refl, arith}
 use Rattle.cfdp_directives.proofs.Sums.{one_more}
-use Rattle.cfdp_directives.proofs.checksum.sum_with.Goals as goal
+use Rattle.cfdp_directives.proofs.checksum.sum_octets.Goals as goal
 
 pub loop-b-preserved : goal.loop-b-preserved
 loop-b-preserved c = record {
