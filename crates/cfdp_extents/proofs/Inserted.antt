@@ -4,35 +4,31 @@ use Rattle.std.proofs.lemmas.Bool.{lt-ltb, le-ltb, le-leb, lt-leb, cases_lt, leb
 use Rattle.std.proofs.lemmas.Bool.Decides.{same_from_decides}
 use Rattle.std.specs.FinSet.{union, contains, is_subset}
 use Rattle.cfdp_extents.specs.Offsets.{Offsets, AreApart, StartBehind, union_of, range}
-use Rattle.cfdp_extents.specs.Ranges.{low_of, put_in, outside, first_from, Untouched}
+use Rattle.cfdp_extents.specs.Ranges.{low_of, joined_in, first_from, Untouched}
 use Rattle.cfdp_extents.proofs.Members.{InRanges, behind_start, Decides-union_of}
 use Rattle.cfdp_extents.proofs.Kept.{from-below, from-here, from-low}
 use Rattle.cfdp_extents.proofs.Joined.{union-more, Decides-is_subset}
 
--- the ranges with one put in, and without those that it covers
-abbrev pub joined_in : ℕ → ℕ → ℕ → List (ℕ × ℕ) → List (ℕ × ℕ)
-joined_in low s e xs = outside s e (put_in low e xs)
-
-in-none : (low s e : ℕ) → s < e → joined_in low s e [] ≡ (low, e) ∷ []
+pub in-none : (low s e : ℕ) → s < e → joined_in low s e [] ≡ (low, e) ∷ []
 in-none low s e some =
     let up : s ≤ e = omega arith in
     let same : e ≤ e = omega arith in
     rw (le-ltb e s up, le-ltb e e same) refl
 
-in-before : (low s e : ℕ) (r : ℕ × ℕ) (rs : List (ℕ × ℕ)) → s < e → r.1 < s → joined_in low s e (r ∷ rs) ≡ r ∷ joined_in low s e rs
+pub in-before : (low s e : ℕ) (r : ℕ × ℕ) (rs : List (ℕ × ℕ)) → s < e → r.1 < s → joined_in low s e (r ∷ rs) ≡ r ∷ joined_in low s e rs
 in-before low s e r rs some c =
     let past : r.1 < e = omega arith in
     rw (lt-ltb r.1 e past, lt-ltb r.1 s c) refl
 
-in-within : (low s e : ℕ) (r : ℕ × ℕ) (rs : List (ℕ × ℕ)) → s ≤ r.1 → r.1 < e → joined_in low s e (r ∷ rs) ≡ joined_in low s e rs
+pub in-within : (low s e : ℕ) (r : ℕ × ℕ) (rs : List (ℕ × ℕ)) → s ≤ r.1 → r.1 < e → joined_in low s e (r ∷ rs) ≡ joined_in low s e rs
 in-within low s e r rs c d = rw (lt-ltb r.1 e d, le-ltb r.1 s c, lt-ltb r.1 e d) refl
 
-in-touched : (low s e : ℕ) (r : ℕ × ℕ) (rs : List (ℕ × ℕ)) → s < e → e ≤ r.1 → r.0 ≤ e → joined_in low s e (r ∷ rs) ≡ (low, r.1) ∷ rs
+pub in-touched : (low s e : ℕ) (r : ℕ × ℕ) (rs : List (ℕ × ℕ)) → s < e → e ≤ r.1 → r.0 ≤ e → joined_in low s e (r ∷ rs) ≡ (low, r.1) ∷ rs
 in-touched low s e r rs some c d =
     let up : s ≤ r.1 = omega arith in
     rw (le-ltb r.1 e c, le-leb r.0 e d, le-ltb r.1 s up, le-ltb r.1 e c) refl
 
-in-apart : (low s e : ℕ) (r : ℕ × ℕ) (rs : List (ℕ × ℕ)) → s < e → e ≤ r.1 → e < r.0 → joined_in low s e (r ∷ rs) ≡ (low, e) ∷ r ∷ rs
+pub in-apart : (low s e : ℕ) (r : ℕ × ℕ) (rs : List (ℕ × ℕ)) → s < e → e ≤ r.1 → e < r.0 → joined_in low s e (r ∷ rs) ≡ (low, e) ∷ r ∷ rs
 in-apart low s e r rs some c d =
     let up : s ≤ e = omega arith in
     let same : e ≤ e = omega arith in
@@ -108,10 +104,10 @@ behind-joined m low s e (r ∷ rs) some up h b =
       ]
     ]
 
-low-below : (s : ℕ) (r : ℕ × ℕ) (rs : List (ℕ × ℕ)) → r.1 < s → low_of s (r ∷ rs) ≡ low_of s rs
+pub low-below : (s : ℕ) (r : ℕ × ℕ) (rs : List (ℕ × ℕ)) → r.1 < s → low_of s (r ∷ rs) ≡ low_of s rs
 low-below s r rs c = rw (lt-ltb r.1 s c) refl
 
-low-here : (s : ℕ) (r : ℕ × ℕ) (rs : List (ℕ × ℕ)) → s ≤ r.1 → low_of s (r ∷ rs) ≡ min s r.0
+pub low-here : (s : ℕ) (r : ℕ × ℕ) (rs : List (ℕ × ℕ)) → s ≤ r.1 → low_of s (r ∷ rs) ≡ min s r.0
 low-here s r rs c = rw (le-ltb r.1 s c) refl
 
 low-behind : (m s : ℕ) (xs : List (ℕ × ℕ)) → m < s → AreApart xs → StartBehind m xs → m < low_of s xs

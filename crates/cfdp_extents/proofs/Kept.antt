@@ -1,5 +1,5 @@
 -- Ranges kept by their ends.
-use Rattle.std.proofs.Common.{◌≡◌, ℕ, zero, suc, ◌<◌, ◌≤◌, Less, Equal, Greater, true, ◌&&◌, length, List, [], ◌∷◌, None, Some, refl, ap, ◌∙◌, sym, arith, inl, inr, min, drop, set, slice_get, Result, Ok, Err, OnOk, OnErr}
+use Rattle.std.proofs.Common.{◌≡◌, ℕ, ◌<◌, ◌≤◌, Less, Equal, Greater, true, ◌&&◌, length, List, [], ◌∷◌, None, Some, refl, ap, ◌∙◌, sym, arith, inl, inr, min, drop, Result, Ok, Err, OnOk, OnErr}
 use Rattle.std.specs.Ordering.{nat_cmp, is_le, is_lt}
 use Rattle.std.specs.Cmp.{nat_cmp_is}
 use Rattle.std.specs.Map.{lookup, remove_entry}
@@ -9,13 +9,13 @@ use Rattle.std.proofs.lemmas.Bool.{lt-ltb, le-ltb, le-leb, lt-leb, cases_lt}
 use Rattle.cfdp_extents.specs.Offsets.{AreApart, StartBehind}
 use Rattle.cfdp_extents.specs.Ranges.{turned, first_from, first_behind, behind, low_of, key_at, put_in, outside, Untouched}
 
-greater : (x y : ℕ) → y < x → nat_cmp x y ≡ Greater
+pub greater : (x y : ℕ) → y < x → nat_cmp x y ≡ Greater
 greater x y h = sym (nat_cmp_is x y Greater h)
 
 less : (x y : ℕ) → x < y → nat_cmp x y ≡ Less
 less x y h = sym (nat_cmp_is x y Less h)
 
-equal : (x y : ℕ) → x ≡ y → nat_cmp x y ≡ Equal
+pub equal : (x y : ℕ) → x ≡ y → nat_cmp x y ≡ Equal
 equal x y h = sym (nat_cmp_is x y Equal h)
 
 -- ---- look-ups
@@ -196,15 +196,6 @@ low-none start (x ∷ xs) h = elim (cases_lt x.1 start) [
 ]
 
 -- ---- the first, the last and the rest
-pub length-turned : (es : List (ℕ × ℕ)) → length (turned es) ≡ length es
-length-turned [] = refl
-length-turned (e ∷ es) = ap suc (length-turned es)
-
-pub turned-get : (es : List (ℕ × ℕ)) (i : ℕ) (p : ℕ × ℕ) → slice_get es i ≡ Some p → Some (p.1, p.0) ≡ slice_get (turned es) i
-turned-get [] i p h = absurd (cc)
-turned-get (e ∷ es) zero p h = let is : e ≡ p = cc in ap (λ x. Some (x.1, x.0)) (sym is)
-turned-get (e ∷ es) (suc i) p h = turned-get es i p h
-
 pub first-some : (xs : List (ℕ × ℕ)) (r : ℕ × ℕ) → first_from 0 xs ≡ Some r → xs ≡ r ∷ drop 1 xs
 first-some [] r h = absurd (cc)
 first-some (x ∷ xs) r h =
@@ -218,28 +209,6 @@ first-none [] h = refl
 first-none (x ∷ xs) h =
     let low : 0 ≤ x.1 = omega arith in
     let k : Some x ≡ None = sym (from-here 0 x xs low) ∙ h in
-    absurd (cc)
-
-pub removed-first : (es : List (ℕ × ℕ)) (r : ℕ × ℕ) → turned es ≡ r ∷ drop 1 (turned es) → turned (remove_entry (is_at (nat_cmp r.1)) es) ≡ drop 1 (turned es)
-removed-first [] r h = absurd (cc)
-removed-first (e ∷ es) r h =
-    let is : (e.1, e.0) ≡ r = cc in
-    let q : r.1 ≡ e.0 = sym (ap (λ x. x.1) is) in
-    rw (equal r.1 e.0 q) refl
-
-pub changed-first : (es : List (ℕ × ℕ)) (r : ℕ × ℕ) (v : ℕ) → turned es ≡ r ∷ drop 1 (turned es) → turned (insert_entry nat_cmp es r.1 v) ≡ set (turned es) 0 (v, r.1)
-changed-first [] r v h = absurd (cc)
-changed-first (e ∷ es) r v h =
-    let is : (e.1, e.0) ≡ r = cc in
-    let q : r.1 ≡ e.0 = sym (ap (λ x. x.1) is) in
-    rw (equal r.1 e.0 q) (ap (λ k. (v, k) ∷ turned es) (sym q))
-
-pub there-first : (es : List (ℕ × ℕ)) (r : ℕ × ℕ) → turned es ≡ r ∷ drop 1 (turned es) → lookup (is_at (nat_cmp r.1)) es ≡ None → ⊥
-there-first [] r h none = absurd (cc)
-there-first (e ∷ es) r h none =
-    let is : (e.1, e.0) ≡ r = cc in
-    let q : r.1 ≡ e.0 = sym (ap (λ x. x.1) is) in
-    let k = rw (equal r.1 e.0 q) at none in
     absurd (cc)
 
 pub only-ok : {T E A B : Type 0} (r : Result T E) → OnOk r A → OnErr r B → (B → ⊥) → A

@@ -1,4 +1,3 @@
-pub mod Apart
 pub mod Members
 pub mod Joined
 pub mod Missing
@@ -7,3 +6,4 @@ pub mod RangesIn
 pub mod CallerLemmas
 pub mod Kept
 pub mod Inserted
+pub mod Last

@@ -1,5 +1,5 @@
 -- The offsets of ranges, one by one.
-use Rattle.std.proofs.Common.{◌≡◌, ℕ, zero, suc, ◌+◌, ◌-◌, ◌<◌, ◌≤◌, false, ◌||◌, List, [], ◌∷◌, length, get_or, take, ap, ◌∙◌, arith, ◌⊎◌, inl, inr, eqb}
+use Rattle.std.proofs.Common.{◌≡◌, ℕ, zero, suc, ◌+◌, ◌-◌, ◌<◌, ◌≤◌, false, ◌||◌, List, [], ◌∷◌, ap, ◌∙◌, arith, ◌⊎◌, inl, inr, eqb}
 use Rattle.std.specs.Bool.{Decides}
 use Rattle.std.specs.Ordering.{nat_cmp}
 use Rattle.std.specs.Cmp.{nat_cmp_total, unsigned_tied}
@@ -7,7 +7,6 @@ use Rattle.std.specs.FinSet.{contains, contains-empty, contains-insert, contains
 use Rattle.std.proofs.lemmas.Bool.{both_ways, leb-true, ltb-true, le-leb, lt-ltb, and_parts, and_from}
 use Rattle.std.proofs.lemmas.Bool.Decides.{nat_tests, Decides-or, Decides-at}
 use Rattle.cfdp_extents.specs.Offsets.{Offsets, is_within, offsets_from, range, union_of, AreApart, StartBehind}
-use Rattle.cfdp_extents.proofs.Apart.{start_behind, apart_at}
 
 pub Decides-within : (s e n : ℕ) → Decides (is_within s e n) ((s ≤ n) × (n < e))
 Decides-within s e n = (
@@ -58,11 +57,6 @@ Decides-union_of (r ∷ rs) n =
 pub same_offsets : (a b : Offsets) → ((n : ℕ) → contains a n ≡ contains b n) → a ≡ b
 same_offsets a b h = same_set nat_cmp_total nat_cmp-IsAntisymmetric a b h
 
-pub InRanges-at : (xs : List (ℕ × ℕ)) (k n : ℕ) (d : ℕ × ℕ) → k < length xs → (get_or xs k d).0 ≤ n → n < (get_or xs k d).1 → InRanges xs n
-InRanges-at [] k n d l low high = absurd (omega arith)
-InRanges-at (x ∷ xs) zero n d l low high = inl (low, high)
-InRanges-at (x ∷ xs) (suc k) n d l low high = inr (InRanges-at xs k n d (omega arith) low high)
-
 -- what lies in ranges lies behind an offset that the first starts behind
 pub behind_start : (m : ℕ) (xs : List (ℕ × ℕ)) (n : ℕ) → AreApart xs → StartBehind m xs → InRanges xs n → m < n
 behind_start m [] n h b w = absurd w
@@ -72,15 +66,3 @@ behind_start m (x ∷ xs) n h b (inr w) =
     let here : x.0 < x.1 = h.0 in
     let first : m < x.0 = b in
     omega arith
-
--- what lies in the ranges up to a place is less than the end there
-pub high_at : (k : ℕ) (xs : List (ℕ × ℕ)) (n : ℕ) (d : ℕ × ℕ) → AreApart xs → k < length xs → InRanges (take (suc k) xs) n → n < (get_or xs k d).1
-high_at k [] n d h l w = absurd w
-high_at zero (x ∷ xs) n d h l (inl w) = w.1
-high_at zero (x ∷ xs) n d h l (inr w) = absurd w
-high_at (suc k) (x ∷ xs) n d h l (inl w) =
-    let up : x.1 < (get_or xs k d).0 = start_behind x.1 xs k d h.2 h.1 (omega arith) in
-    let some : (get_or xs k d).0 < (get_or xs k d).1 = apart_at xs k d h.2 (omega arith) in
-    let here : n < x.1 = w.1 in
-    omega arith
-high_at (suc k) (x ∷ xs) n d h l (inr w) = high_at k xs n d h.2 (omega arith) w

@@ -194,10 +194,10 @@ behind_none limit [] e = tt
 behind_none limit (x ∷ xs) e = absurd (omega arith)
 
 -- ---- gaps between the ranges that end behind an offset
-skipped : (o : ℕ) (r : ℕ × ℕ) (rs : List (ℕ × ℕ)) → r.1 ≤ o → behind o (r ∷ rs) ≡ behind o rs
+pub skipped : (o : ℕ) (r : ℕ × ℕ) (rs : List (ℕ × ℕ)) → r.1 ≤ o → behind o (r ∷ rs) ≡ behind o rs
 skipped o r rs h = rw (le-ltb o r.1 h) refl
 
-here : (o : ℕ) (r : ℕ × ℕ) (rs : List (ℕ × ℕ)) → o < r.1 → behind o (r ∷ rs) ≡ r ∷ rs
+pub here : (o : ℕ) (r : ℕ × ℕ) (rs : List (ℕ × ℕ)) → o < r.1 → behind o (r ∷ rs) ≡ r ∷ rs
 here o r rs h = rw (lt-ltb o r.1 h) refl
 
 apart-behind : (o : ℕ) (xs : List (ℕ × ℕ)) → AreApart xs → AreApart (behind o xs)

@@ -1,18 +1,13 @@
 -- What is held after the front of the first range was taken, and the last offset held.
-use Rattle.std.proofs.Common.{◌≡◌, ℕ, suc, ◌+◌, ◌-◌, ◌<◌, ◌≤◌, true, false, List, [], ◌∷◌, length, get_or, set, subst, take, drop, eqb, refl, ap, ◌∙◌, sym, arith, ◌⊎◌, inl, inr}
+use Rattle.std.proofs.Common.{◌≡◌, ℕ, ◌+◌, ◌-◌, ◌<◌, ◌≤◌, true, List, [], ◌∷◌, length, set, subst, drop, refl, ap, ◌∙◌, sym, arith, ◌⊎◌, inl, inr}
 use Rattle.std.specs.Cmp.{nat_cmp_total}
 use Rattle.std.specs.Ordering.{nat_cmp}
 use Rattle.std.specs.FinSet.{contains, contains-empty, empty, difference, contains-difference}
-use Rattle.std.specs.List.{slice_get}
-use Rattle.std.specs.declared.option.Option.TheVariants.{Some}
-use Rattle.std.proofs.lemmas.List.{take_all}
-use Rattle.std.proofs.lemmas.Option.{slice_get_within, get_or_from_slice_get}
 use Rattle.std.proofs.lemmas.Bool.{both_ways, cases_lt, false_from_ne_true}
-use Rattle.std.proofs.lemmas.Bool.Decides.{Decides-and, Decides-not, Decides-at, Decides-like, same_from_decides, nat_tests}
+use Rattle.std.proofs.lemmas.Bool.Decides.{Decides-and, Decides-not, Decides-at, Decides-like, same_from_decides}
 use Rattle.cfdp_extents.specs.Offsets.{Offsets, range, union_of, AreApart}
 use Rattle.cfdp_extents.specs.Front.{IsFront}
-use Rattle.cfdp_extents.proofs.Apart.{apart_at}
-use Rattle.cfdp_extents.proofs.Members.{Decides-within, contains-range, InRanges, Decides-union_of, same_offsets, InRanges-at, behind_start, high_at}
+use Rattle.cfdp_extents.proofs.Members.{Decides-within, contains-range, InRanges, Decides-union_of, same_offsets, behind_start}
 use Rattle.cfdp_extents.proofs.Joined.{Decides-is_subset}
 
 -- ranges that hold what others do, without a range
@@ -64,43 +59,14 @@ is-front s e t max rs h some within most whole = record {
   ];
 }
 
--- a list with a first element
-pub first-and-rest : (xs : List (ℕ × ℕ)) (r : ℕ × ℕ) → 0 < length xs → r ≡ get_or xs 0 r → xs ≡ r ∷ drop 1 xs
-first-and-rest [] r l e = absurd (omega arith)
-first-and-rest (x ∷ xs) r l e = ap (λ z. z ∷ xs) (sym e)
-
 pub no-offsets : (xs : List (ℕ × ℕ)) → length xs ≡ 0 → union_of xs ≡ empty
 unfolding union_of
 no-offsets [] l = refl
 no-offsets (x ∷ xs) l = absurd (omega arith)
 
--- what is held lies before the last range's end
-pub all-before_last : (xs : List (ℕ × ℕ)) (r : ℕ × ℕ) → AreApart xs → 0 < length xs → get_or xs (length xs - 1) r ≡ r → (n : ℕ) → contains (union_of xs) n ≡ true → n < r.1
-all-before_last xs r h some is n held =
-    let last : suc (length xs - 1) ≡ length xs = omega arith in
-    let whole : take (suc (length xs - 1)) xs ≡ xs = take_all (suc (length xs - 1)) xs (omega arith) in
-    let up : n < (get_or xs (length xs - 1) r).1 = high_at (length xs - 1) xs n r h (omega arith) (rw whole ((Decides-union_of xs n).0 held)) in
-    rw is at up
-
-pub last-is_held : (xs : List (ℕ × ℕ)) (r : ℕ × ℕ) → AreApart xs → 0 < length xs → get_or xs (length xs - 1) r ≡ r → contains (union_of xs) (r.1 - 1) ≡ true
-last-is_held xs r h some is =
-    let apart : (get_or xs (length xs - 1) r).0 < (get_or xs (length xs - 1) r).1 = apart_at xs (length xs - 1) r h (omega arith) in
-    let apart' : r.0 < r.1 = rw is at apart in
-    (Decides-union_of xs (r.1 - 1)).1 (InRanges-at xs (length xs - 1) (r.1 - 1) r (omega arith) (rw is (omega arith)) (rw is (omega arith)))
-
 pub none-held : (xs : List (ℕ × ℕ)) → length xs ≡ 0 → (n : ℕ) → contains (union_of xs) n ≡ true → ⊥
 none-held [] l n held = (Decides-union_of [] n).0 held
 none-held (x ∷ xs) l n held = absurd (omega arith)
-
--- what `last` of a slice reads
-pub last-read : (ys xs : List (ℕ × ℕ)) (r : ℕ × ℕ) → ys ≡ xs → Some r ≡ slice_get ys (length ys - 1) → (0 < length xs) × (get_or xs (length xs - 1) r ≡ r)
-last-read ys xs r same e =
-    let e' : slice_get xs (length xs - 1) ≡ Some r = rw same at (sym e) in
-    let within : length xs - 1 < length xs = slice_get_within xs (length xs - 1) r e' in
-    (omega arith, get_or_from_slice_get xs (length xs - 1) r r e')
-
-some-len : (n : ℕ) → false ≡ eqb n 0 → 0 < n
-some-len n e = grind (arith, nat_tests)
 
 -- a set that is empty has no ranges
 pub no_ranges : (xs : List (ℕ × ℕ)) → AreApart xs → union_of xs ≡ empty → length xs ≡ 0
@@ -115,11 +81,6 @@ pub record First (xs : List (ℕ × ℕ)) (held : Offsets) (r : ℕ × ℕ) : Ty
   pub is : xs ≡ r ∷ drop 1 xs
   pub apart : AreApart (r ∷ drop 1 xs)
   pub view : union_of (r ∷ drop 1 xs) ≡ held
-
-pub first : (xs : List (ℕ × ℕ)) (held : Offsets) (r : ℕ × ℕ) → AreApart xs → union_of xs ≡ held → false ≡ eqb (length xs) 0 → r ≡ get_or xs 0 r → First xs held r
-first xs held r h view some read =
-    let is = first-and-rest xs r (some-len (length xs) some) read in
-    record { is = is; apart = subst AreApart is h; view = ap union_of (sym is) ∙ view }
 
 pub whole-rest : (xs : List (ℕ × ℕ)) (held : Offsets) (r : ℕ × ℕ) → First xs held r → union_of (drop 1 xs) ≡ difference held (range r.0 r.1)
 whole-rest xs held r f = union-without_first r (drop 1 xs) f.apart ∙ ap (λ s. difference s (range r.0 r.1)) f.view

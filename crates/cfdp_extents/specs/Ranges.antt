@@ -1,10 +1,15 @@
 -- Proof-only: how ranges are kept, by their ends, and what is left to give of the gaps between them.
-use Rattle.std.specs.Prelude.{ℕ, ◌<◌, nat_lt, nat_le, min, List, [], ◌∷◌, Option, None, Some, if◌then◌else◌}
+use Rattle.std.specs.Prelude.{ℕ, ◌<◌, ◌++◌, nat_lt, nat_le, min, List, [], ◌∷◌, Option, None, Some, if◌then◌else◌}
 
 -- entries, each an end with its start, as ranges
 abbrev pub turned : List (ℕ × ℕ) → List (ℕ × ℕ)
 turned [] = []
 turned (e ∷ es) = (e.1, e.0) ∷ turned es
+
+-- ranges, and the greatest one behind them, where there is one
+abbrev pub with_last : List (ℕ × ℕ) → Option (ℕ × ℕ) → List (ℕ × ℕ)
+with_last rs None = rs
+with_last rs (Some last) = rs ++ (last ∷ [])
 
 -- the first range that ends at an offset or behind it
 abbrev pub first_from : ℕ → List (ℕ × ℕ) → Option (ℕ × ℕ)
@@ -50,6 +55,14 @@ outside start end [] = []
 outside start end (r ∷ rs) =
     if nat_lt r.1 start then r ∷ outside start end rs
     else (if nat_lt r.1 end then outside start end rs else r ∷ rs)
+
+-- with one put in, and without those that it covers
+abbrev pub joined_in : ℕ → ℕ → ℕ → List (ℕ × ℕ) → List (ℕ × ℕ)
+joined_in low start end rs = outside start end (put_in low end rs)
+
+-- with one joined in, from an offset up to another
+abbrev pub with_range : ℕ → ℕ → List (ℕ × ℕ) → List (ℕ × ℕ)
+with_range start end rs = joined_in (low_of start rs) start end rs
 
 -- the gaps from an offset up to a limit, before and between ranges that start behind the offset
 unfoldable pub gaps_between : ℕ → ℕ → List (ℕ × ℕ) → List (ℕ × ℕ)

@@ -7,59 +7,71 @@ ghost use Rattle.cfdp_extents.specs.Front.{IsFront};
 ghost use Rattle.cfdp_extents.specs.Terms.{gaps_of, end_of, front_of};
 
 use crate::gaps::Gaps;
-use crate::search::{lowest, put, range_behind, range_from, remove_within};
+use crate::whole::{cut_first, drop_first, first_at, first_past, join};
 use std::alloc::{AllocError, Global};
 use std::collections::BTreeMap;
 use std::marker::Model;
 
-/// A set of offsets of a file, such as those that a receiver holds. Only `insert` takes memory.
+/// The parts of a file that a receiver has, or that a sender is to send again.
+///
+/// It is a set of offsets, each that of an octet from the file's start, kept as ranges. Only
+/// `insert` takes memory.
 #[derive(Debug, Drop)]
 pub struct Extents {
-    // From each range's end to its start, so that the front can be cut without memory.
+    // All but the greatest, from each range's end to its start, so that the front can be cut
+    // without memory.
     ranges: BTreeMap<u64, u64>,
+    // The greatest, its start and its end: most offsets come behind all others.
+    last: Option<(u64, u64)>,
 }
 
 impl Model for Extents {
+    ghost use Rattle.std.specs.Prelude.{◌≡◌, None, []};
     ghost use Rattle.std.specs.Ordering.{nat_cmp};
     ghost use Rattle.std.specs.FinSet as set;
     ghost use Rattle.std.specs.Coded.{coded_ℕ};
     ghost use Rattle.cfdp_extents.specs.Offsets.{union_of, AreApart};
-    ghost use Rattle.cfdp_extents.specs.Ranges.{turned};
+    ghost use Rattle.cfdp_extents.specs.Ranges.{turned, with_last};
 
     ghost Value = { set.FinSet nat_cmp };
 
     ghost coded = { set.code coded_ℕ };
 
-    ghost view = { λ e. union_of (turned e.ranges.entries) };
+    ghost view = { λ e. union_of (with_last (turned e.ranges.entries) e.last) };
 
-    ghost invariant = { λ e. AreApart (turned e.ranges.entries) };
+    ghost invariant = { λ e. AreApart (with_last (turned e.ranges.entries) e.last)
+        × (e.last ≡ None → e.ranges.entries ≡ []) };
 }
 
 impl Extents {
-    /// The empty set.
+    /// No part of a file. It takes no memory; `alloc` serves what is added later.
     pub fn new(alloc: Global) -> Self
         ensures { result ≡ set.empty }
     {
         Extents {
             ranges: BTreeMap::new(alloc),
+            last: None,
         }
     }
 
-    /// Whether no offset is held.
+    /// Whether nothing of the file is held.
     pub fn is_empty(&self) -> bool
         ensures { IsTrue result ↔ (self.now ≡ set.empty) }
     {
-        self.ranges.is_empty()
+        self.last.is_none()
     }
 
-    /// Lets go of all offsets.
+    /// Lets go of all parts.
     pub fn clear(&mut self)
         ensures { self.new ≡ set.empty }
     {
         self.ranges.clear();
+        self.last = None;
     }
 
-    /// Adds the offsets from `start` up to, and without, `end`; an empty range adds none.
+    /// Adds a part of the file: the offsets from `start` up to, and without, `end`.
+    ///
+    /// An empty one adds none. What is held already may be added again.
     ///
     /// # Errors
     ///
@@ -76,14 +88,13 @@ impl Extents {
         if start == end {
             return Ok(());
         }
-        let low = lowest(&self.ranges, start);
-        put(&mut self.ranges, low, end)?;
-        remove_within(&mut self.ranges, start, end);
-        Ok(())
+        join(&mut self.ranges, &mut self.last, start, end)
     }
 
-    /// Whether each offset from `start` up to, and without, `end` is held; so it is of an empty
-    /// range.
+    /// Whether a part of the file is held without a gap.
+    ///
+    /// So it is where each offset from `start` up to, and without, `end` is held, and of an empty
+    /// part.
     pub fn covers(&self, start: u64, end: u64) -> bool
         requires { start ≤ end }
         ensures { result ≡ set.is_subset (range start end) self.now }
@@ -91,13 +102,13 @@ impl Extents {
         if start == end {
             return true;
         }
-        match range_from(&self.ranges, end) {
+        match first_at(&self.ranges, self.last, end) {
             Some(range) => range.0 <= start,
             None => false,
         }
     }
 
-    /// The gaps below `limit`, ascending.
+    /// The gaps below `limit`: what is missing of the file's first `limit` octets, ascending.
     pub fn missing(&self, limit: u64) -> Gaps<'_>
         // Ascending, none empty, no two touching, and together what isn't held below the limit.
         ensures gaps { AreRangesOf (missing_from self.now 0 limit) result }
@@ -110,7 +121,7 @@ impl Extents {
         self.missing_in(0, limit)
     }
 
-    /// The gaps from `start` on and below `limit`, ascending.
+    /// The gaps from `start` on and below `limit`: what is missing there, ascending.
     pub fn missing_in(&self, start: u64, limit: u64) -> Gaps<'_>
         ensures gaps { AreRangesOf (missing_from self.now start limit) result }
         ensures only { (gaps : List (ℕ × ℕ)) →
@@ -119,27 +130,29 @@ impl Extents {
         // Each has an offset at least, and lies in the range asked for.
         ensures inside { All (LiesIn start limit) result }
     {
-        let from = match range_behind(&self.ranges, start) {
+        let from = match first_past(&self.ranges, self.last, start) {
             Some(range) if range.0 <= start => range.1,
             _ => start,
         };
-        Gaps::new(&self.ranges, from, limit)
+        Gaps::new(&self.ranges, self.last, from, limit)
     }
 
-    /// One more than the greatest offset held; 0 where none is.
+    /// Where the last part ends: one more than the greatest offset held; 0 where none is.
     pub fn end(&self) -> u64
         ensures all_before { (n : ℕ) → set.contains self.now n ≡ true → n < result }
         ensures last { 0 < result → set.contains self.now (result - 1) ≡ true }
         ensures is { result ≡ end_of self.now }
     {
-        match self.ranges.last_key_value() {
-            Some((end, _)) => *end,
+        match self.last {
+            Some((_, end)) => end,
             None => 0,
         }
     }
 
-    /// The front of the least gapless range, at most `max` offsets of it, as its start and its end;
-    /// `None` where no offset is held, or `max` is 0.
+    /// The first part of the file that is held, at most `max` octets of it.
+    ///
+    /// It is the front of the least range without a gap, as its start and its end, the end not in
+    /// it; `None` where no offset is held, or `max` is 0.
     pub fn front(&self, max: u64) -> Option<(u64, u64)>
         ensures is { result ≡ front_of self.now max }
         ensures spent { IfNone result ((max ≡ 0) ⊎ (self.now ≡ set.empty)) }
@@ -148,13 +161,13 @@ impl Extents {
         if max == 0 {
             return None;
         }
-        match range_from(&self.ranges, 0) {
+        match first_at(&self.ranges, self.last, 0) {
             Some((start, end)) => Some((start, start + max.min(end - start))),
             None => None,
         }
     }
 
-    /// Takes away what `front` gives, and gives it.
+    /// Takes the first part away, at most `max` octets of it: what `front` gives.
     pub fn take_front(&mut self, max: u64) -> Option<(u64, u64)>
         ensures is { result ≡ front_of self.old max }
         ensures none { IfNone result (self.new ≡ self.old) }
@@ -165,15 +178,14 @@ impl Extents {
         if max == 0 {
             return None;
         }
-        let Some((start, end)) = range_from(&self.ranges, 0) else {
+        let Some((start, end)) = first_at(&self.ranges, self.last, 0) else {
             return None;
         };
         if end - start <= max {
-            self.ranges.remove(&end);
+            drop_first(&mut self.ranges, &mut self.last, (start, end));
             return Some((start, end));
         }
-        // The key is there, so this takes no memory.
-        let _ = self.ranges.insert(end, start + max);
+        cut_first(&mut self.ranges, &mut self.last, (start, end), start + max);
         Some((start, start + max))
     }
 }

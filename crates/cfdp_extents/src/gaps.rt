@@ -1,19 +1,23 @@
 // The gaps between held ranges, one after another.
-ghost use Rattle.std.specs.Prelude.{◌≡◌, ℕ, List};
+ghost use Rattle.std.specs.Prelude.{◌≡◌, ℕ, List, [], ◌∷◌, IfNone, IfSome};
 ghost use Rattle.cfdp_extents.specs.Offsets.{AreApart};
 ghost use Rattle.std.specs.Iterator.{YieldsFirst, item_count};
-ghost use Rattle.cfdp_extents.specs.Ranges.{turned, behind, gaps_between};
+ghost use Rattle.cfdp_extents.specs.Ranges.{turned, with_last, behind, gaps_between};
 
 use std::collections::BTreeMap;
 use std::collections::btree_map::Range;
 use std::marker::Model;
 use std::ops::Bound;
 
-/// The gaps that are left to give, each its start and its end, ascending. It takes no memory.
+/// The gaps in what is held of a file, one after another, ascending.
+///
+/// Each is its start and its end, the end not in it. Going over them takes no memory.
 #[derive(Drop)]
 pub struct Gaps<'a> {
     // Behind `start`, ascending, from each range's end to its start.
     ranges: Range<'a, u64, u64>,
+    // Behind these.
+    last: Option<(u64, u64)>,
     start: u64,
     limit: u64,
 }
@@ -21,17 +25,46 @@ pub struct Gaps<'a> {
 impl<'a> Model for Gaps<'a> {
     ghost Value = { List (ℕ × ℕ) };
 
-    ghost view = { λ g. gaps_between g.start g.limit (turned g.ranges) };
+    ghost view = { λ g. gaps_between g.start g.limit (with_last (turned g.ranges) g.last) };
+}
+
+/// The range, if it ends behind an offset.
+fn ending_behind(range: Option<(u64, u64)>, offset: u64) -> Option<(u64, u64)>
+    ensures { with_last [] result ≡ behind offset (with_last [] range) }
+{
+    match range {
+        Some((_, end)) if end <= offset => None,
+        _ => range,
+    }
+}
+
+/// Takes the next range, which is the last one where no others are left.
+fn next_range(ranges: &mut Range<'_, u64, u64>, last: &mut Option<(u64, u64)>) -> Option<(u64, u64)>
+    ensures some { IfSome result (λ r. with_last (turned ranges.old) last.old
+        ≡ r ∷ with_last (turned ranges.new) last.new) }
+    ensures none { IfNone result (with_last (turned ranges.old) last.old ≡ []) }
+{
+    match ranges.next() {
+        Some((end, start)) => Some((*start, *end)),
+        None => last.take(),
+    }
 }
 
 impl<'a> Gaps<'a> {
     /// The gaps between the ranges that end behind `start`.
-    pub(crate) fn new(ranges: &'a BTreeMap<u64, u64>, start: u64, limit: u64) -> Self
-        requires { AreApart (turned ranges.now.entries) }
-        ensures { result ≡ gaps_between start limit (behind start (turned ranges.now.entries)) }
+    pub(crate) fn new(
+        ranges: &'a BTreeMap<u64, u64>,
+        last: Option<(u64, u64)>,
+        start: u64,
+        limit: u64,
+    ) -> Self
+        requires { AreApart (with_last (turned ranges.now.entries) last) }
+        ensures { result ≡ gaps_between start limit
+            (behind start (with_last (turned ranges.now.entries) last)) }
     {
         Gaps {
             ranges: ranges.range((Bound::Excluded(start), Bound::Unbounded)),
+            last: ending_behind(last, start),
             start,
             limit,
         }
@@ -50,10 +83,10 @@ impl<'a> Iterator for Gaps<'a> {
         if self.limit <= start {
             return None;
         }
-        match self.ranges.next() {
-            Some((end, behind)) if *behind < self.limit => {
-                self.start = *end;
-                Some((start, *behind))
+        match next_range(&mut self.ranges, &mut self.last) {
+            Some((behind, end)) if behind < self.limit => {
+                self.start = end;
+                Some((start, behind))
             }
             _ => {
                 self.start = self.limit;

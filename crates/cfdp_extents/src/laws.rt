@@ -6,8 +6,10 @@ ghost use Rattle.cfdp_extents.specs.Offsets.{Offsets, is_within, range, union_of
 ghost use Rattle.cfdp_extents.specs.Front.{IsFront};
 ghost use Rattle.cfdp_extents.specs.Terms.{ranges_in, ranges_of, gaps_of, end_of, front_of};
 
-/// What a set of offsets holds: a range, what lies in it; a union, what either side holds; a
-/// difference, what the first holds and the second does not. Two sets that hold the same are one.
+/// What a set of offsets holds, and that sets which hold the same are one.
+///
+/// A range holds what lies in it; a union, what either side holds; a difference, what the first
+/// holds and the second does not.
 pub fn a_set_is_what_it_holds()
     ensures range { (start end n : ℕ) → set.contains (range start end) n ≡ is_within start end n }
     ensures union { (a b : Offsets) (n : ℕ) →
@@ -19,8 +21,9 @@ pub fn a_set_is_what_it_holds()
     ensures same { (a b : Offsets) → ((n : ℕ) → set.contains a n ≡ set.contains b n) → a ≡ b }
 {}
 
-/// The gaps of a set are the ranges of what lies between two offsets and is not held, and no other
-/// list is. Each has an offset at least, and lies between the two.
+/// The gaps between two offsets are the ranges of what is not held there.
+///
+/// No other list is. Each has an offset at least, and lies between the two.
 pub fn the_gaps_are_those_ranges()
     ensures are { (held : Offsets) (start limit : ℕ) →
         AreRangesOf (missing_from held start limit) (gaps_of held start limit) }
@@ -30,8 +33,9 @@ pub fn the_gaps_are_those_ranges()
         All (LiesIn start limit) (gaps_of held start limit) }
 {}
 
-/// The ranges of a set are what it is made of, and no other list is. They are those that are found
-/// below any limit that all of the set lies below.
+/// A set is made of one list of ranges, apart and ascending.
+///
+/// They are those that are found below any limit that all of the set lies below.
 pub fn a_set_has_one_list_of_ranges()
     ensures are { (held : Offsets) → AreRangesOf held (ranges_of held) }
     ensures only { (held : Offsets) (ranges : List (ℕ × ℕ)) →
@@ -41,8 +45,9 @@ pub fn a_set_has_one_list_of_ranges()
         ranges_in (set.contains held) 0 limit ≡ ranges_of held }
 {}
 
-/// The front of a set is that of its first range. There is one, unless the set is empty or nothing
-/// is asked for.
+/// The front of a set is that of its first range.
+///
+/// There is one, unless the set is empty or nothing is asked for.
 pub fn the_front_is_the_first_range()
     ensures is { (held : Offsets) (max : ℕ) (r : ℕ × ℕ) →
         front_of held max ≡ Some r → IsFront held max r.0 r.1 }

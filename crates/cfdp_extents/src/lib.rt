@@ -16,6 +16,7 @@ mod laws;
 mod search;
 #[cfg(test)]
 mod tests;
+mod whole;
 
 pub use extents::Extents;
 pub use gaps::Gaps;

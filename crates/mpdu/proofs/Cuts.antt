@@ -1,4 +1,4 @@
--- Packets that are read from a stream are those that it was made of.
+-- Exported: packets that are read from a stream are those that it was made of.
 use Rattle.std.proofs.Common.{◌≡◌, ℕ, zero, suc, ◌+◌, ◌≤◌, true, false, ◌&&◌, nat_le, ◌==◌, List, [], ◌∷◌, ◌++◌, length, take, drop, refl, sym, ap, ◌∙◌, arith, inl, inr, subst, Bool, length-append, length-drop}
 use Rattle.std.proofs.lemmas.Bool.{le-leb, lt-leb, leb-true, cases_Bool, eqb-true}
 use Rattle.cfd_bits.specs.Field.{field}

@@ -1,4 +1,4 @@
--- Where fewer zones are delivered, fewer packets survive, and each zone completes no more.
+-- Exported: where fewer zones are delivered, fewer packets survive, and each zone completes no more.
 use Rattle.std.proofs.Common.{◌≡◌, ℕ, ◌+◌, ◌*◌, ◌<◌, ◌≤◌, Bool, true, false, not, ◌&&◌, cond, List, [], ◌∷◌, ◌++◌, length, refl, sym, ap, subst, ◌∙◌, inl, inr, arith}
 use Rattle.std.proofs.lemmas.Bool.{cases_lt}
 use Rattle.mpdu.specs.Stream.{keep, is_idle, ArePackets, arrived, meets, survivors}

@@ -38,7 +38,9 @@ struct Counts {
     monitor: VcMonitor,
 }
 
-/// Whether fewer than 16,777,216 frames in a row are struck, so that the counts tell each gap.
+/// Whether so few frames in a row are lost that the 24 bit frame counts tell each loss.
+///
+/// Fewer than 16,777,216 are. Frame n is lost where `struck[n]` is true.
 pub fn are_few_in_a_row(struck: &[bool]) -> bool
     ensures { IsTrue result ↔ AreFewInARow struck.now }
 {
@@ -93,6 +95,8 @@ fn drain(
     Ok(())
 }
 
+/// Sends packets over a channel that loses frames, and gives back those that come whole.
+///
 /// Packs the packets into zones of `zone` octets (16 to 2,040), flushes, strikes frame n where
 /// `struck[n]` is true, and puts packets together again from the zones of the others, whose 24 bit
 /// frame counts tell where some are missing. A frame past the list's end is not struck.

@@ -6,7 +6,9 @@ ghost use Rattle.mpdu.specs.Feeding.{octets_of_each};
 
 use space_packet::{IDLE_APID, decode};
 
-/// Whether the octets are one whole space packet and nothing else, idle or not.
+/// Whether the octets are one whole space packet and nothing else.
+///
+/// An idle packet is one, too (CCSDS 133.0-B-2, 4.1).
 pub fn is_packet(bytes: &[u8]) -> bool
     ensures { IsTrue result ↔ IsPacket bytes.now }
 {
@@ -16,7 +18,7 @@ pub fn is_packet(bytes: &[u8]) -> bool
     }
 }
 
-/// Whether each item is one whole space packet, idle or not.
+/// Whether each item is one whole space packet and nothing else.
 pub fn are_packets(packets: &[Vec<u8>]) -> bool
     ensures { IsTrue result ↔ ArePackets (octets_of_each packets.now) }
 {

@@ -6,37 +6,39 @@ ghost use Rattle.mpdu.specs.Packets.{packets_of, begins_with_packet, busy};
 ghost use Rattle.mpdu.specs.Parts.{IsPartOf, AreAmong, CompletesMore};
 ghost use Rattle.mpdu.specs.Places.{IsInSpan, IsFirstStart, HasNoStart, starts};
 
-/// A packet, the octets from a up to b of a stream, arrived where each zone of its span was
-/// delivered, and only there.
+/// A packet arrives where each zone that carries a part of it does, and only there.
+///
+/// It is the octets from a up to b of a stream that is cut into zones of z octets.
 pub fn a_packet_arrives_with_its_span()
     ensures { (z a b : ℕ) (marks : List Bool) → 0 < z → a < b →
         (arrived z 0 marks a b ≡ true) ↔ ((f : ℕ) → IsInSpan z a b f → slice_index_or marks f false ≡ true) }
 {}
 
-/// A zone's first header pointer is the place of the first packet that starts in the zone, or 2047
-/// where none does.
+/// A first header pointer is the place in its zone where the first packet starts.
+///
+/// Where no packet starts in the zone it is 2047.
 pub fn a_pointer_is_the_first_start()
     ensures { (z start : ℕ) (ps : List (List ℕ)) →
         IsFirstStart z start (starts 0 ps) (first_header_pointer z start 0 ps)
         ⊎ ((first_header_pointer z start 0 ps ≡ 2047) × HasNoStart z start (starts 0 ps)) }
 {}
 
-/// A first header pointer that was written is read from the octets again, and its zone stands
-/// behind it.
+/// A first header pointer is read as it was written, and its zone stands behind it.
 pub fn a_written_pointer_is_read()
     ensures { (at : ℕ) (zone : List ℕ) → at < 2048 →
         (pointer_of (pointer_octets at ++ zone) ≡ at) × (drop 2 (pointer_octets at ++ zone) ≡ zone) }
 {}
 
-/// Octets are the packets that they spell, end to end, and behind these no packet begins.
+/// Octets are the packets that they spell, end to end, with a rest that begins no packet.
 pub fn octets_are_their_packets()
     ensures whole { (text : List ℕ) → ArePackets (packets_of text) }
     ensures joined { (text : List ℕ) →
         (rest : List ℕ) × (text ≡ stream (packets_of text) ++ rest) × (begins_with_packet rest ≡ false) }
 {}
 
-/// Octets spell the packets that they were made of, whatever stands behind these, as long as no
-/// packet begins there.
+/// Packets that were laid end to end are read as the same packets.
+///
+/// Whatever stands behind them, as long as no packet begins there.
 pub fn packets_are_read_again()
     ensures before { (ps : List (List ℕ)) (rest : List ℕ) → ArePackets ps → begins_with_packet rest
         ≡ false →
@@ -44,6 +46,8 @@ pub fn packets_are_read_again()
     ensures alone { (ps : List (List ℕ)) → ArePackets ps → packets_of (stream ps) ≡ ps }
 {}
 
+/// Where fewer zones come, only a part of the packets comes that would come else.
+///
 /// Of a stream's packets those survive, in order, all of whose zones were delivered. Where fewer
 /// zones were, a part of these packets survives, and one zone more completes no packet that it
 /// would not complete else.
@@ -57,13 +61,13 @@ pub fn fewer_zones_give_a_part()
         survivors z (few ++ true ∷ []) 0 ps ≡ survivors z few 0 ps ++ added → CompletesMore z marks ps added }
 {}
 
-/// What is in a part is in the whole.
+/// What is in a part of a list is in the whole list.
 pub fn a_part_has_no_more()
     ensures { (whole part : List (List ℕ)) (x : List ℕ) → IsPartOf part whole → Contains part x →
         Contains whole x }
 {}
 
-/// A zone that is struck completes no packet, and of the packet that it cuts nothing is kept.
+/// A zone that is lost completes no packet, and of the packet that it cuts nothing is kept.
 pub fn a_struck_zone_completes_nothing()
     ensures survivors { (z : ℕ) (marks : List Bool) (ps : List (List ℕ)) → 0 < z → ArePackets ps →
         survivors z (marks ++ false ∷ []) 0 ps ≡ survivors z marks 0 ps }
@@ -71,8 +75,9 @@ pub fn a_struck_zone_completes_nothing()
         begun z (marks ++ false ∷ []) 0 ps ≡ [] }
 {}
 
-/// A packet that is put behind the others changes no zone that was whole before, nor what the zones
-/// so far give and leave.
+/// A packet that is sent later changes no zone that was full before.
+///
+/// Nor does it change which packets the zones so far give, and what they leave of a begun one.
 pub fn a_later_packet_changes_nothing()
     ensures zone { (z start : ℕ) (ps : List (List ℕ)) (q : List ℕ) → start + z
         ≤ length (stream ps) →

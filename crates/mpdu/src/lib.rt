@@ -45,8 +45,9 @@ pub use reassembler::{Notes, Reassembler};
 /// The first header pointer of a zone in which no packet starts (CCSDS 732.0-B-4, 4.1.4.2.3).
 pub const NO_START: u16 = 2047;
 
-/// The first header pointer of a zone that holds idle data only (CCSDS 732.0-B-4, 4.1.4.2.3). A
-/// [`Packer`] never makes one.
+/// The first header pointer of a zone that holds only idle data (CCSDS 732.0-B-4, 4.1.4.2.3).
+///
+/// A [`Packer`] never makes one.
 pub const ONLY_IDLE: u16 = 2046;
 
 /// The most octets that a zone may have.

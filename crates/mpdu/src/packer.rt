@@ -20,7 +20,7 @@ const MIN_PACKET: usize = 7;
 /// Octets that a packer keeps beside its capacity, for what a flush adds.
 const FLUSH_ROOM: usize = 2047;
 
-/// There is no room for the packet.
+/// The packer has no room for the packet, and took nothing of it.
 #[derive(Clone, Copy, Debug, PartialEq, Eq)]
 pub struct Full;
 
@@ -106,10 +106,11 @@ fn append_idle(octets: &mut HeapCircularBuffer<u8>, len: usize)
     let _ = octets.fill_from_slice(&packet[..len]);
 }
 
-/// Lays packets end to end over zones of one size, and lends each zone's first header pointer.
+/// Cuts packets, laid end to end, into the zones of one size that frames carry.
 ///
-/// All octets that wait lie in one ring, made with it: beside the capacity 2,047 octets for what
-/// `flush` adds. So no call takes memory, and none moves what waits.
+/// With each zone comes its first header pointer. All octets that wait lie in one ring, made with
+/// it: beside the capacity 2,047 octets for what `flush` adds. So no call takes memory, and none
+/// moves what waits.
 #[derive(Debug, Drop)]
 pub struct Packer {
     size: usize,
@@ -128,10 +129,10 @@ impl Model for Packer {
 }
 
 impl Packer {
-    /// A packer of zones of `zone` octets (16 to 2,040) that holds `capacity` octets at most (up to
-    /// 131,072), none of them yet.
+    /// A packer that holds no packet yet.
     ///
-    /// `AllocError` comes only where its buffer was refused.
+    /// Its zones have `zone` octets, 16 to 2,040, and at most `capacity` octets wait in it, up to
+    /// 131,072. `AllocError` comes only where its buffer was refused.
     pub fn new(alloc: Global, zone: usize, capacity: usize) -> Result<Self, AllocError>
         requires least { 16 ≤ zone }
         requires most { zone ≤ 2040 }
@@ -148,7 +149,7 @@ impl Packer {
         })
     }
 
-    /// The octets that wait: those given to it, by packets and flushes, and not yet taken by zones.
+    /// How many octets wait in it: those of packets and flushes that no zone has taken yet.
     pub fn waiting_len(&self) -> usize
         ensures len { result ≡ length self.now.waiting }
         ensures most { result ≤ self.now.capacity + 2047 }
@@ -157,18 +158,17 @@ impl Packer {
         self.waiting.len()
     }
 
-    /// The octets of the longest packet for which there is room.
+    /// How many octets a packet may have that there is room for.
     pub fn room(&self) -> usize
         ensures { result ≡ self.now.capacity - length self.now.waiting }
     {
         self.capacity.saturating_sub(self.waiting.len())
     }
 
-    /// Puts a packet behind the others, or tells that there is no room for it: that the waiting
-    /// octets with its own pass the capacity.
+    /// Puts a packet behind the others, or tells that there is no room for it.
     ///
-    /// The packet is a whole one, which [`is_packet`](crate::is_packet) tests. Where it answers
-    /// `Full` nothing changed.
+    /// The packet is a whole one, which [`is_packet`](crate::is_packet) tests. The answer is `Full`
+    /// where the waiting octets with its own pass the capacity, and then nothing changed.
     pub fn push(&mut self, packet: &[u8]) -> Result<(), Full>
         requires { IsPacket packet.now }
         ensures full { IsErr result
@@ -203,8 +203,10 @@ impl Packer {
         Ok(())
     }
 
-    /// Writes the oldest whole zone, takes it off, and answers its first header pointer; `None`
-    /// where no whole zone waits.
+    /// Writes the oldest zone that is full, and answers its first header pointer.
+    ///
+    /// `out` has as many octets as a zone, and the zone is taken off. The answer is `None` where
+    /// too few octets wait to fill one: then nothing changed.
     pub fn zone(&mut self, out: &mut [u8]) -> Option<u16>
         requires { length out.old ≡ self.old.size }
         ensures none { IsNone result ↔ (length self.old.waiting < self.old.size) }
@@ -248,7 +250,7 @@ impl Packer {
         pointer
     }
 
-    /// Fills the begun zone by an idle packet, where one is begun.
+    /// Fills the begun zone by an idle packet, so that it can be sent.
     ///
     /// Of r free octets the idle packet has r, or 7 where r is less: its rest opens the next zone
     /// then. A zone that holds nothing, or only such a rest, isn't begun: a second flush adds

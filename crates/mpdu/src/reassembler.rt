@@ -14,10 +14,10 @@ use std::marker::Model;
 /// Octets of the longest packet.
 const MAX_PACKET: usize = 65_542;
 
-/// What was out of order in a zone.
+/// What was out of order in a zone: a packet that was cut off, or headers that are none.
 #[derive(Clone, Copy, Debug, PartialEq, Eq)]
 pub struct Notes {
-    /// A begun packet was discarded, or the first header pointer lies outside the zone.
+    /// Whether a begun packet was discarded, or the first header pointer lies outside the zone.
     ///
     /// False at the pointer [`ONLY_IDLE`](crate::ONLY_IDLE), and where the begun packet is one of
     /// the bad ones.
@@ -50,7 +50,7 @@ fn emit(alloc: Global, packet: &[u8], out: &mut Vec<Vec<u8>>) -> Result<(), Allo
     ensures err { OnErr result (octets_of_each out.new.items ≡ octets_of_each out.old.items) }
 {
     if !has_idle_apid(packet) {
-        out.push(packet.to_vec(alloc)?)?;
+        out.push(Vec::from_slice(alloc, packet)?)?;
     }
     Ok(())
 }
@@ -205,7 +205,7 @@ fn read_behind(
     Ok((joined, front.bad))
 }
 
-/// Puts packets together from the zones of one virtual channel, given to it in the order sent.
+/// Puts packets together again from the zones of one virtual channel, in the order sent.
 ///
 /// Its value is what it holds of the begun packet, the one that the last zone's end cut. That lies
 /// in one buffer, made with it, in which the longest packet has room. So only a packet that is
@@ -228,7 +228,7 @@ impl Model for Reassembler {
 }
 
 impl Reassembler {
-    /// A reassembler without a begun packet.
+    /// A reassembler that has seen no zone yet.
     ///
     /// `AllocError` comes only where its buffer was refused.
     pub fn new(alloc: Global) -> Result<Self, AllocError>
@@ -240,7 +240,7 @@ impl Reassembler {
         })
     }
 
-    /// Lets the begun packet go, where there is one. It takes no memory.
+    /// Lets go of the packet that is only begun, where there is one. It takes no memory.
     pub fn let_go(&mut self)
         ensures { self.new ≡ [] }
     {
@@ -286,13 +286,13 @@ impl Reassembler {
         }
     }
 
-    /// Reads one zone (16 to 2,040 octets), appends the packets that it completes, and says what
-    /// was out of order.
+    /// Reads one zone, appends the packets that it completes, and says what was out of order.
     ///
-    /// `follows` is false where a frame since the last one fed was lost: the begun packet is
-    /// discarded then. A begun packet goes on from the zone's start if the pointer fits its length,
-    /// else it is discarded, and reading starts at the pointer. Idle packets are passed over.
-    /// Behind a header with another version than `000` the rest of the zone is discarded, save
+    /// The zone has 16 to 2,040 octets, and `pointer` is its first header pointer. `follows` is
+    /// false where a frame since the last one fed was lost: the begun packet is discarded then. A
+    /// begun packet goes on from the zone's start if the pointer fits its length, else it is
+    /// discarded, and reading starts at the pointer. Idle packets are passed over. Behind a header
+    /// with another version than `000` the rest of the zone is discarded, save
     /// where it is the begun packet's: then reading goes on at the pointer.
     ///
     /// `AllocError` comes only where a growth was refused: a front of the packets that would have

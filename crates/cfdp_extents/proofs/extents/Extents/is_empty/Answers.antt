@@ -1,12 +1,11 @@
-use Rattle.std.proofs.Common.{◌≡◌, ◌∙◌, length, sym}
-use Rattle.cfdp_extents.specs.Ranges.{turned}
-use Rattle.cfdp_extents.proofs.Kept.{length-turned}
+use Rattle.std.proofs.Common.{◌∙◌, sym}
+use Rattle.cfdp_extents.specs.Ranges.{turned, with_last}
 use Rattle.cfdp_extents.proofs.Taken.{no-offsets, no_ranges}
+use Rattle.cfdp_extents.proofs.Last.{no-last, none-last, none-by_test, test-by_none}
 use Rattle.cfdp_extents.proofs.extents.Extents.is_empty.Goals as goal
 
 pub returns : goal.returns
-returns c =
-    let len : length (turned c.self.inside.ranges.entries) ≡ length c.self.inside.ranges.entries = length-turned c.self.inside.ranges.entries in (
-      λ t. sym c.self.view_is ∙ no-offsets (turned c.self.inside.ranges.entries) (len ∙ c.is_empty.ensures.0 t),
-      λ e. c.is_empty.ensures.1 (sym len ∙ no_ranges (turned c.self.inside.ranges.entries) c.self.invariant (c.self.view_is ∙ e)),
-    )
+returns c = (
+  λ t. sym c.self.view_is ∙ no-offsets (with_last (turned c.self.inside.ranges.entries) c.self.inside.last) (no-last c.self.inside.ranges.entries c.self.inside.last (none-by_test c.self.inside.last c.is_none.result c.is_none.ensures t) c.self.invariant.1),
+  λ e. test-by_none c.self.inside.last c.is_none.result c.is_none.ensures (none-last (turned c.self.inside.ranges.entries) c.self.inside.last (no_ranges (with_last (turned c.self.inside.ranges.entries) c.self.inside.last) c.self.invariant.0 (c.self.view_is ∙ e))),
+)

@@ -1,0 +1,140 @@
+// Steps on ranges of which the greatest stands beside the map of the others, so that a range put in
+// at the end, as most are, changes that one alone.
+ghost use Rattle.std.specs.Prelude.{◌≡◌, ◌<◌, [], None, Some, OnOk, OnErr, drop, set};
+ghost use Rattle.cfdp_extents.specs.Offsets.{AreApart};
+ghost use Rattle.cfdp_extents.specs.Ranges.{turned, with_last, first_from, first_behind, with_range, Untouched};
+
+use crate::search::{lowest, put, range_behind, range_from, remove_within};
+use std::alloc::AllocError;
+use std::collections::BTreeMap;
+
+/// The first range that ends at an offset or behind it: its start and its end.
+pub(crate) fn first_at(
+    ranges: &BTreeMap<u64, u64>,
+    last: Option<(u64, u64)>,
+    offset: u64,
+) -> Option<(u64, u64)>
+    requires { AreApart (with_last (turned ranges.now.entries) last) }
+    ensures { result ≡ first_from offset (with_last (turned ranges.now.entries) last) }
+{
+    match last {
+        Some(range) if range.0 <= offset => { if offset <= range.1 { Some(range) } else { None } }
+        _ => match range_from(ranges, offset) {
+            Some(range) => Some(range),
+            None => last,
+        },
+    }
+}
+
+/// The first range that ends behind an offset: its start and its end.
+pub(crate) fn first_past(
+    ranges: &BTreeMap<u64, u64>,
+    last: Option<(u64, u64)>,
+    offset: u64,
+) -> Option<(u64, u64)>
+    requires { AreApart (with_last (turned ranges.now.entries) last) }
+    ensures { result ≡ first_behind offset (with_last (turned ranges.now.entries) last) }
+{
+    match last {
+        Some(range) if range.0 <= offset => { if offset < range.1 { Some(range) } else { None } }
+        _ => match range_behind(ranges, offset) {
+            Some(range) => Some(range),
+            None => last,
+        },
+    }
+}
+
+/// Joins a range in that ends before the greatest one.
+fn join_between(ranges: &mut BTreeMap<u64, u64>, start: u64, end: u64) -> Result<(), AllocError>
+    requires { AreApart (turned ranges.old.entries) }
+    ensures ok { OnOk result (turned ranges.new.entries
+        ≡ with_range start end (turned ranges.old.entries)) }
+    ensures err { OnErr result (ranges.new.entries ≡ ranges.old.entries) }
+    ensures touched { OnErr result (Untouched end (first_from end (turned ranges.old.entries))) }
+{
+    let low = lowest(ranges, start);
+    put(ranges, low, end)?;
+    remove_within(ranges, start, end);
+    Ok(())
+}
+
+/// Joins a range in. It takes memory only where one more range is there then.
+pub(crate) fn join(
+    ranges: &mut BTreeMap<u64, u64>,
+    last: &mut Option<(u64, u64)>,
+    start: u64,
+    end: u64,
+) -> Result<(), AllocError>
+    requires some { start < end }
+    requires apart { AreApart (with_last (turned ranges.old.entries) last.old) }
+    requires none { last.old ≡ None → ranges.old.entries ≡ [] }
+    ensures ok { OnOk result (with_last (turned ranges.new.entries) last.new
+        ≡ with_range start end (with_last (turned ranges.old.entries) last.old)) }
+    ensures err { OnErr result (ranges.new.entries ≡ ranges.old.entries) }
+    ensures err_last { OnErr result (last.new ≡ last.old) }
+    // It fails only where no range touches the end.
+    ensures touched { OnErr result
+        (Untouched end (first_from end (with_last (turned ranges.old.entries) last.old))) }
+    ensures none { last.new ≡ None → ranges.new.entries ≡ [] }
+{
+    let Some((low, high)) = *last else {
+        *last = Some((start, end));
+        return Ok(());
+    };
+    if high < start {
+        ranges.insert(high, low)?;
+        *last = Some((start, end));
+        return Ok(());
+    }
+    if end < low {
+        return join_between(ranges, start, end);
+    }
+    if low <= start {
+        *last = Some((low, high.max(end)));
+        return Ok(());
+    }
+    let from = lowest(ranges, start);
+    remove_within(ranges, start, end);
+    *last = Some((from, high.max(end)));
+    Ok(())
+}
+
+/// Takes the first range away.
+pub(crate) fn drop_first(
+    ranges: &mut BTreeMap<u64, u64>,
+    last: &mut Option<(u64, u64)>,
+    first: (u64, u64),
+)
+    requires first { first_from 0 (with_last (turned ranges.old.entries) last.old) ≡ Some first }
+    requires none { last.old ≡ None → ranges.old.entries ≡ [] }
+    ensures rest { with_last (turned ranges.new.entries) last.new
+        ≡ drop 1 (with_last (turned ranges.old.entries) last.old) }
+    ensures none { last.new ≡ None → ranges.new.entries ≡ [] }
+{
+    if ranges.is_empty() {
+        *last = None;
+    } else {
+        ranges.remove(&first.1);
+    }
+}
+
+/// Lets the first range start at another offset. It takes no memory.
+pub(crate) fn cut_first(
+    ranges: &mut BTreeMap<u64, u64>,
+    last: &mut Option<(u64, u64)>,
+    first: (u64, u64),
+    start: u64,
+)
+    requires first { first_from 0 (with_last (turned ranges.old.entries) last.old) ≡ Some first }
+    requires none { last.old ≡ None → ranges.old.entries ≡ [] }
+    ensures cut { with_last (turned ranges.new.entries) last.new
+        ≡ set (with_last (turned ranges.old.entries) last.old) 0 (start, first.1) }
+    ensures none { last.new ≡ None → ranges.new.entries ≡ [] }
+{
+    if ranges.is_empty() {
+        *last = Some((start, first.1));
+    } else {
+        // The key is there, so this takes no memory.
+        let _ = ranges.insert(first.1, start);
+    }
+}
