@@ -15,6 +15,15 @@ use Rattle.cfdp_receiver.specs.State.{ReceiverState}
 use Rattle.cfdp_receiver.specs.Steps.{waits}
 use Rattle.cfdp_receiver.specs.Does.{waits_of, timers_set}
 use Rattle.cfdp_timers.specs.Waits.{is_anew}
+use Rattle.cfdp_header.specs.Files.{FileMap}
+use Rattle.cfdp_directives.specs.declared.addressing.Addressing.{Addressing}
+use Rattle.cfdp_directives.specs.Content.{Content}
+use Rattle.cfdp_store.specs.declared.stored.Stored.{Stored}
+use Rattle.cfdp_store.specs.declared.stored.Stored.TheVariants.{Done, Refused}
+use Rattle.cfdp_store.specs.Staged.{OctetMap}
+use Rattle.cfdp_receiver.specs.State.{opened_receiver}
+use Rattle.cfdp_receiver.specs.Steps.{ReceiverAfter, opens, opened_closed}
+use Rattle.cfdp_receiver.specs.Sound.{ReceiverInput, Hears, receiver_step, opens_hearing, timers_opened}
 
 -- what the law of timers says
 abbrev pub AreWaitedFor : Type 0
@@ -65,3 +74,56 @@ module _ (law : AreWaitedFor) (times : Times) (anew : Option Kind) (r : Receiver
   others-keep id k other =
       law timers.time r.addressing.id (waits_of times anew r) timers.armed (id, k)
       ∙ ap (λ b. if b then deadline_by timers.time (wait_for (waits_of times anew r) k) (deadline_of timers id k) else deadline_of timers id k) other
+
+-- ---- a receiver that was just opened
+pub none_refused : (files : FileMap) (addressing : Addressing) (k : Kind) → waits k (opens Refused files addressing).receiver ≡ false
+none_refused files addressing kind.EofAck = refl
+none_refused files addressing kind.Nak = refl
+none_refused files addressing kind.FinishedAck = refl
+none_refused files addressing kind.Inactivity = refl
+
+pub none_closed : (condition : ℕ) (addressing : Addressing) (k : Kind) → waits k (opened_closed condition addressing) ≡ false
+none_closed condition addressing kind.EofAck = refl
+none_closed condition addressing kind.Nak = refl
+none_closed condition addressing kind.FinishedAck = refl
+none_closed condition addressing kind.Inactivity = refl
+
+-- no step changes the transaction
+abbrev pub KeepsAddressing : Type 0
+KeepsAddressing = (stored : Stored) (input : ReceiverInput) (m : OctetMap) (files : FileMap) (r : ReceiverState) → (receiver_step stored input m files r).receiver.addressing ≡ r.addressing
+
+own_id : KeepsAddressing → (stored : Stored) (v : Content) (files : FileMap) (addressing : Addressing) → (opens_hearing Done stored v files addressing).receiver.addressing.id ≡ addressing.id
+own_id keeps stored v files addressing = ap (λ (a : Addressing). a.id) (keeps stored (Hears v) map.empty files (opened_receiver addressing))
+
+abbrev pub OwnArmed : Type 0
+OwnArmed = (times : Times) (anew : Option Kind) (r : ReceiverState) (timers : TimersState) (k : Kind) → waits k r ≡ true → IsSome (deadline_of (timers_set times anew r timers) r.addressing.id k)
+
+abbrev pub OwnClear : Type 0
+OwnClear = (times : Times) (anew : Option Kind) (r : ReceiverState) (timers : TimersState) (k : Kind) → waits k r ≡ false → deadline_of (timers_set times anew r timers) r.addressing.id k ≡ None
+
+abbrev pub OthersKept : Type 0
+OthersKept = (times : Times) (anew : Option Kind) (r : ReceiverState) (timers : TimersState) (id : TransactionId) (k : Kind) → same_id r.addressing.id id ≡ false → deadline_of (timers_set times anew r timers) id k ≡ deadline_of timers id k
+
+pub opened-armed : OwnArmed → KeepsAddressing → (times : Times) (begun stored : Stored) (v : Content) (files : FileMap) (addressing : Addressing) (timers : TimersState) (k : Kind)
+    → waits k (opens_hearing begun stored v files addressing).receiver ≡ true
+    → IsSome (deadline_of (timers_opened times begun (opens_hearing begun stored v files addressing) timers) addressing.id k)
+opened-armed law keeps times Done stored v files addressing timers k h =
+    let a : ReceiverAfter = opens_hearing Done stored v files addressing in
+    subst (λ id. IsSome (deadline_of (timers_set times a.anew a.receiver timers) id k)) (own_id keeps stored v files addressing) (law times a.anew a.receiver timers k h)
+opened-armed law keeps times Refused stored v files addressing timers k h = absurd (false≢true (sym (none_refused files addressing k) ∙ h))
+
+pub opened-clear : OwnClear → KeepsAddressing → (times : Times) (begun stored : Stored) (v : Content) (files : FileMap) (addressing : Addressing) (timers : TimersState) (k : Kind)
+    → deadline_of timers addressing.id k ≡ None → waits k (opens_hearing begun stored v files addressing).receiver ≡ false
+    → deadline_of (timers_opened times begun (opens_hearing begun stored v files addressing) timers) addressing.id k ≡ None
+opened-clear law keeps times Done stored v files addressing timers k none h =
+    let a : ReceiverAfter = opens_hearing Done stored v files addressing in
+    subst (λ id. deadline_of (timers_set times a.anew a.receiver timers) id k ≡ None) (own_id keeps stored v files addressing) (law times a.anew a.receiver timers k h)
+opened-clear law keeps times Refused stored v files addressing timers k none h = none
+
+pub opened-others : OthersKept → KeepsAddressing → (times : Times) (begun stored : Stored) (v : Content) (files : FileMap) (addressing : Addressing) (timers : TimersState) (id : TransactionId) (k : Kind)
+    → same_id addressing.id id ≡ false
+    → deadline_of (timers_opened times begun (opens_hearing begun stored v files addressing) timers) id k ≡ deadline_of timers id k
+opened-others law keeps times Done stored v files addressing timers id k other =
+    let a : ReceiverAfter = opens_hearing Done stored v files addressing in
+    law times a.anew a.receiver timers id k (ap (λ (own : TransactionId). same_id own id) (own_id keeps stored v files addressing) ∙ other)
+opened-others law keeps times Refused stored v files addressing timers id k other = refl

@@ -5,10 +5,12 @@ use Rattle.std.specs.FinMap as map
 use Rattle.std.specs.FinSet as set
 use Rattle.cfdp_header.specs.declared.value.TransactionId.{TransactionId}
 use Rattle.cfdp_header.specs.Files.{FileMap}
+use Rattle.cfdp_directives.specs.declared.addressing.Addressing.{Addressing}
 use Rattle.cfdp_directives.specs.declared.codes.Acknowledged.{Acknowledged}
 use Rattle.cfdp_directives.specs.declared.codes.Acknowledged.TheVariants as acknowledged
 use Rattle.cfdp_directives.specs.declared.indication.Indication.{Indication}
 use Rattle.cfdp_directives.specs.declared.indication.Indication.TheVariants.{Fault, Abandoned, Finished as Told}
+use Rattle.cfdp_directives.specs.declared.limits.Times.{Times}
 use Rattle.cfdp_directives.specs.declared.policy.Policy.{Policy}
 use Rattle.cfdp_directives.specs.declared.telling.Outcome.{Outcome}
 use Rattle.cfdp_directives.specs.Codes.{no_error, file_checksum_failure, file_size_error, unsupported_checksum_type}
@@ -19,17 +21,19 @@ use Rattle.cfdp_directives.specs.Policy.{finished_told}
 use Rattle.cfdp_directives.specs.Put.{Put, IsTruthful, SomePdu, IsMetadataOf, IsEofOf, Brings, HeardInFull}
 use Rattle.cfdp_extents.specs.Offsets.{Offsets, range}
 use Rattle.cfdp_store.specs.declared.stored.Stored.{Stored}
-use Rattle.cfdp_store.specs.declared.stored.Stored.TheVariants.{Done}
+use Rattle.cfdp_store.specs.declared.stored.Stored.TheVariants.{Done, Refused}
 use Rattle.cfdp_store.specs.Staged.{OctetMap, front}
 use Rattle.cfdp_timers.specs.declared.kind.Kind.{Kind}
+use Rattle.cfdp_timers.specs.Armed.{TimersState}
 use Rattle.cfdp_receiver.specs.declared.due.Due.{Due}
 use Rattle.cfdp_receiver.specs.declared.state.ReceiverPhase.{ReceiverPhase}
 use Rattle.cfdp_receiver.specs.declared.state.ReceiverPhase.TheVariants.{Receiving, Finishing}
 use Rattle.cfdp_receiver.specs.declared.state.FileInfo.{FileInfo}
 use Rattle.cfdp_receiver.specs.declared.state.Ending.{Ending}
-use Rattle.cfdp_receiver.specs.State.{ReceiverState, is_receiving, is_finishing, size_limit}
+use Rattle.cfdp_receiver.specs.Does.{timers_set}
+use Rattle.cfdp_receiver.specs.State.{ReceiverState, opened_receiver, is_receiving, is_finishing, size_limit}
 use Rattle.cfdp_receiver.specs.Missing.{missing_pairs, is_empty}
-use Rattle.cfdp_receiver.specs.Steps.{ReceiverAfter, leaving, complete, is_supported, hears_metadata, hears_data, hears_eof, hears_ack, hears_prompt, takes, expires, cancels, suspends, resumes}
+use Rattle.cfdp_receiver.specs.Steps.{ReceiverAfter, leaving, complete, is_supported, hears_metadata, hears_data, hears_eof, hears_ack, hears_prompt, opens, takes, expires, cancels, suspends, resumes}
 
 -- ---- one step for every input
 -- What comes to a receiver: a PDU of its transaction, its turn to send what is due, the expiry of a
@@ -67,6 +71,17 @@ receiver_step stored (Expires k policy) m files r = expires k policy m files r
 receiver_step stored Cancels m files r = cancels m files r
 receiver_step stored Suspends m files r = suspends m files r
 receiver_step stored Resumes m files r = resumes m files r
+
+-- A receiver is opened and, where the inbox began the transaction, hears the PDU that opened it.
+abbrev pub opens_hearing : (begun stored : Stored) → Content → FileMap → Addressing → ReceiverAfter
+opens_hearing Done stored v files addressing =
+    receiver_hears stored v map.empty files (opened_receiver addressing)
+opens_hearing Refused stored v files addressing = opens Refused files addressing
+
+-- the timers after that: it is the PDU heard that sets them
+abbrev pub timers_opened : Times → Stored → ReceiverAfter → TimersState → TimersState
+timers_opened times Done a timers = timers_set times a.anew a.receiver timers
+timers_opened times Refused a timers = timers
 
 -- ---- of every step
 -- 1 while the transaction is received, and 0 once it is over

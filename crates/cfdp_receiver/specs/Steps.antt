@@ -248,11 +248,11 @@ hears_prompt keep_alive m files r =
     heard (leaving m files (if is_receiving r.phase then prompted_for keep_alive r else r))
 
 -- ---- how a record is opened
--- by Metadata, file data or an EOF without an error, once the inbox began the transaction. Where it
--- refuses, the PDU isn't taken further
+-- by Metadata, file data or an EOF without an error, once the inbox began the transaction. The
+-- receiver hears that PDU next, which arms its timers. Where the inbox refuses, the PDU isn't taken
+-- further, and no timer is waited for
 abbrev pub opens : Stored → FileMap → Addressing → ReceiverAfter
-opens Done files addressing =
-    arming kind.Inactivity (leaving map.empty files (opened_receiver addressing))
+opens Done files addressing = leaving map.empty files (opened_receiver addressing)
 opens Refused files addressing =
     faulted filestore_rejection map.empty files (opened_receiver addressing)
 

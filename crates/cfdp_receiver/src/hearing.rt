@@ -65,6 +65,7 @@ impl Receiver {
         ensures addressing { self.new.addressing ≡ self.old.addressing }
         ensures counts { IfOk result (λ stored.
             Counts stored (I.failures inbox.old) (I.failures inbox.new)) }
+        ensures grows { I.failures inbox.old ≤ I.failures inbox.new }
         ensures lets_go { LetsGo self.old self.new (I.failures inbox.old) (I.failures inbox.new)
             (I.staged inbox.new) }
     {
@@ -132,6 +133,7 @@ impl Receiver {
         ensures addressing { self.new.addressing ≡ self.old.addressing }
         ensures counts { IfOk result (λ stored.
             Counts stored (I.failures inbox.old) (I.failures inbox.new)) }
+        ensures grows { I.failures inbox.old ≤ I.failures inbox.new }
         ensures lets_go { LetsGo self.old self.new (I.failures inbox.old) (I.failures inbox.new)
             (I.staged inbox.new) }
     {

@@ -25,14 +25,14 @@ ghost use Rattle.cfdp_store.specs.declared.stored.Stored.TheVariants.{Done, Refu
 ghost use Rattle.cfdp_store.specs.Staged.{OctetMap};
 ghost use Rattle.cfdp_timers.specs.declared.kind.Kind.{Kind};
 ghost use Rattle.cfdp_timers.specs.Armed.{TimersState, deadline_of};
-ghost use Rattle.cfdp_receiver.specs.declared.state.ReceiverPhase.TheVariants.{Receiving};
+ghost use Rattle.cfdp_receiver.specs.declared.state.ReceiverPhase.TheVariants.{Receiving, Closed};
 ghost use Rattle.cfdp_receiver.specs.State.{ReceiverState};
 ghost use Rattle.cfdp_receiver.specs.declared.due.Due.TheVariants as due;
 ghost use Rattle.cfdp_receiver.specs.Due.{receiver_due};
 ghost use Rattle.cfdp_receiver.specs.Pieces.{new_pieces, staged_with};
 ghost use Rattle.cfdp_receiver.specs.Steps.{opens, opened_closed, waits, with_data};
 ghost use Rattle.cfdp_receiver.specs.Does.{timers_set};
-ghost use Rattle.cfdp_receiver.specs.Sound.{ReceiverInput, receiver_step, open_count, fault_count, held_after, brings_metadata, brings_ending, PublishesNone, Publishes, Sound, IsAmong, IsTrueInput, BeginsWithin, PublishesPut, is_file_fault, IsReceivable, is_lacking, is_tidy, owes_finished, is_bad_end, goes_well};
+ghost use Rattle.cfdp_receiver.specs.Sound.{ReceiverInput, receiver_step, opens_hearing, timers_opened, open_count, fault_count, held_after, brings_metadata, brings_ending, PublishesNone, Publishes, Sound, IsAmong, IsTrueInput, BeginsWithin, PublishesPut, is_file_fault, IsReceivable, is_lacking, is_tidy, owes_finished, is_bad_end, goes_well};
 
 use cfdp_directives::whole_file_has_its_checksum;
 use cfdp_extents::{
@@ -83,7 +83,7 @@ pub fn what_comes_is_kept()
 
 /// A transaction is indicated finished at most once, and only by the step that ends its reception:
 /// a receiver that no longer receives never does again. No other transaction is indicated finished.
-/// How a transaction ended is known only once that was indicated.
+/// How a transaction ended is known only once that was indicated. What is closed stays so.
 pub fn a_transaction_is_finished_once()
     ensures same { (stored : Stored) (input : ReceiverInput) (m : OctetMap) (files : FileMap)
         (r : ReceiverState) →
@@ -95,6 +95,9 @@ pub fn a_transaction_is_finished_once()
     ensures own { (stored : Stored) (input : ReceiverInput) (m : OctetMap) (files : FileMap)
         (r : ReceiverState) (id : TransactionId) → same_id r.addressing.id id ≡ false
         → count_by (is_finished id) (receiver_step stored input m files r).told ≡ 0 }
+    ensures stays { (stored : Stored) (input : ReceiverInput) (m : OctetMap) (files : FileMap)
+        (r : ReceiverState) → r.phase ≡ Closed
+        → (receiver_step stored input m files r).receiver.phase ≡ Closed }
     ensures outcome { (stored : Stored) (input : ReceiverInput) (m : OctetMap) (files : FileMap)
         (r : ReceiverState) (o : Outcome) →
         (receiver_step stored input m files r).receiver.outcome ≡ Some o
@@ -213,6 +216,34 @@ pub fn timers_are_those_waited_for()
         → deadline_of (timers_set times anew r timers) id k ≡ deadline_of timers id k }
 {
     what_is_waited_for_is_armed();
+}
+
+/// The same of a receiver that was just opened and heard the PDU that opened it, if none of its
+/// timers was armed before. One that isn't begun, or is closed at once, waits for none.
+pub fn an_opened_receiver_has_its_timers()
+    ensures armed { (times : Times) (begun stored : Stored) (v : Content) (files : FileMap)
+        (addressing : Addressing) (timers : TimersState) (k : Kind) →
+        waits k (opens_hearing begun stored v files addressing).receiver ≡ true
+        → IsSome (deadline_of (timers_opened times begun
+        (opens_hearing begun stored v files addressing) timers) addressing.id k) }
+    ensures clear { (times : Times) (begun stored : Stored) (v : Content) (files : FileMap)
+        (addressing : Addressing) (timers : TimersState) (k : Kind) →
+        deadline_of timers addressing.id k ≡ None
+        → waits k (opens_hearing begun stored v files addressing).receiver ≡ false
+        → deadline_of (timers_opened times begun
+        (opens_hearing begun stored v files addressing) timers) addressing.id k ≡ None }
+    ensures others { (times : Times) (begun stored : Stored) (v : Content) (files : FileMap)
+        (addressing : Addressing) (timers : TimersState) (id : TransactionId) (k : Kind) →
+        same_id addressing.id id ≡ false
+        → deadline_of (timers_opened times begun
+        (opens_hearing begun stored v files addressing) timers) id k ≡ deadline_of timers id k }
+    ensures refused { (files : FileMap) (addressing : Addressing) (k : Kind) →
+        waits k (opens Refused files addressing).receiver ≡ false }
+    ensures closed { (condition : ℕ) (addressing : Addressing) (k : Kind) →
+        waits k (opened_closed condition addressing) ≡ false }
+{
+    a_transaction_is_finished_once();
+    timers_are_those_waited_for();
 }
 
 /// A receiver that hears nothing but the truth of a put knows nothing but that: its Metadata and

@@ -5,7 +5,7 @@
 //! ```rust
 //! let address = Addressing::of(&header);
 //! let (mut receiver, _) =
-//!     Receiver::open(alloc, address, &mut timers, &policy, &mut told, &mut inbox)?;
+//!     Receiver::open(alloc, address, &mut timers, &mut told, &mut inbox)?;
 //! receiver.on_data(&mut timers, &policy, &mut told, &mut inbox, 0, b"hello")?;
 //! if receiver.due().is_some() {
 //!     let len = receiver.take_pdu(&mut timers, &policy, &mut out);
@@ -37,9 +37,9 @@ pub use laws::{
     a_completion_publishes_the_put, a_file_that_comes_in_lacks_something,
     a_finished_says_what_was_indicated, a_nak_that_is_due_asks_for_something,
     a_rejection_has_a_refusal, a_transaction_is_finished_once, a_true_file_raises_no_fault,
-    a_whole_file_is_published, an_opening_may_finish, more_is_heard, octets_held_keep_their_value,
-    timers_are_those_waited_for, what_comes_is_kept, what_goes_well_ends_well,
-    what_is_heard_true_is_kept_true,
+    a_whole_file_is_published, an_opened_receiver_has_its_timers, an_opening_may_finish,
+    more_is_heard, octets_held_keep_their_value, timers_are_those_waited_for, what_comes_is_kept,
+    what_goes_well_ends_well, what_is_heard_true_is_kept_true,
 };
 pub use receiver::Receiver;
 pub use state::{Ending, FileInfo, ReceiverPhase};

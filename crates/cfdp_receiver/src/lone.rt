@@ -83,14 +83,7 @@ impl<I: Inbox> Lone<I> {
         if !PUT.is_writable() {
             return Err(AllocError);
         }
-        let (receiver, _) = Receiver::open(
-            alloc,
-            PUT,
-            &mut timers,
-            &policy,
-            &mut told,
-            &mut inbox,
-        )?;
+        let (receiver, _) = Receiver::open(alloc, PUT, &mut timers, &mut told, &mut inbox)?;
         Ok(Lone {
             inbox,
             told,

@@ -5,20 +5,21 @@ ghost use Rattle.cfdp_directives.specs.Addressing.{FitsAddressing};
 ghost use Rattle.cfdp_store.specs.Stores.{Counts};
 ghost use Rattle.cfdp_receiver.specs.State.{IsReady};
 ghost use Rattle.cfdp_receiver.specs.Steps.{opens, opened_closed};
-ghost use Rattle.cfdp_receiver.specs.Does.{Does, Stores, timers_set};
+ghost use Rattle.cfdp_receiver.specs.Does.{Does, Stores};
 
 use crate::receiver::Receiver;
 use crate::state::ReceiverPhase;
-use cfdp_directives::{Addressing, Condition, Indication, Policy};
+use cfdp_directives::{Addressing, Condition, Indication};
 use cfdp_store::{Inbox, Stored};
-use cfdp_timers::{Kind, Timers};
+use cfdp_timers::Timers;
 use std::alloc::{AllocError, Global};
 
 impl Receiver {
-    /// Opens the record of a transaction, by its first Metadata, file data or EOF without an error,
-    /// which the receiver hears next. The transaction is begun in the inbox. Where the inbox
-    /// refuses, that is a fault, and the PDU isn't taken further. Answers are written in the widths
-    /// given.
+    /// Opens the record of a transaction, by its first Metadata, file data or EOF without an error.
+    /// The transaction is begun in the inbox. Where that answers `Done`, the receiver hears the PDU
+    /// next, and that sets its timers; until then none runs. Where the inbox refuses, that is a
+    /// fault, the receiver waits for no timer, and the PDU isn't taken further. Answers are written
+    /// in the widths given.
     ///
     /// # Errors
     ///
@@ -27,7 +28,6 @@ impl Receiver {
         alloc: Global,
         addressing: Addressing,
         timers: &mut Timers,
-        policy: &Policy,
         told: &mut Vec<Indication>,
         inbox: &mut I,
     ) -> Result<(Receiver, Stored), AllocError>
@@ -39,9 +39,11 @@ impl Receiver {
         ensures stores { IfOk result (λ opened. Stores
             (opens opened.1 (I.published inbox.old) addressing)
             (I.published inbox.new) (I.staged inbox.old) (I.staged inbox.new)) }
-        ensures timers { IfOk result (λ opened. timers.new ≡ timers_set policy.now.times
-            (opens opened.1 (I.published inbox.old) addressing).anew opened.0
-            (record timers.old { roomy = set.insert timers.old.roomy addressing.id })) }
+        ensures tells_nothing { IfOk result (λ opened.
+            opened.1 ≡ Stored.Done → told.new ≡ told.old) }
+        ensures timers { OnOk result (timers.new
+            ≡ record timers.old { roomy = set.insert timers.old.roomy addressing.id }) }
+        ensures addressing { IfOk result (λ opened. opened.0.addressing ≡ addressing) }
         ensures keeps_told { OnErr result (told.new.items ≡ told.old.items) }
         ensures keeps_inbox { OnErr result (inbox.new ≡ inbox.old) }
         ensures keeps_timers { OnErr result (timers.new ≡ timers.old) }
@@ -53,13 +55,9 @@ impl Receiver {
         timers.room(addressing.id)?;
         let mut receiver = Receiver::new(alloc, addressing);
         match inbox.begin(addressing.id) {
-            Ok(()) => {
-                receiver.set_timers(timers, policy, Some(Kind::Inactivity));
-                Ok((receiver, Stored::Done))
-            }
+            Ok(()) => Ok((receiver, Stored::Done)),
             Err(_) => {
                 receiver.fault(told, inbox, Condition::FILESTORE_REJECTION);
-                receiver.set_timers(timers, policy, None);
                 Ok((receiver, Stored::Refused))
             }
         }
