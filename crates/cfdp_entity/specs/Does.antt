@@ -27,6 +27,13 @@ pub record Keeps (v : Content) (old new : Seen) (told_before told_now : List Ind
   pub timers : timers_now ≡ timers_before
   pub files : files_now ≡ files_before
 
+-- No record was opened for want of memory: at most, timers have more room.
+pub record OpensNone (told_before told_now : List Indication)
+    (timers_before timers_now : TimersState) (files_before files_now : FileMap) : Type 0 where
+  pub tells : told_now ≡ told_before
+  pub timers : timers_now ≡ record timers_before { roomy = timers_now.roomy }
+  pub files : files_now ≡ files_before
+
 -- how many more indications fit without memory
 abbrev pub spare : {X Y : Type 0} → Vec X Y → ℕ
 spare v = vec_capacity v - vec_len v

@@ -11,4 +11,13 @@ pub mod Does
 pub mod Gives
 pub mod Sides
 pub mod Roomy
+pub mod Strays
+pub mod Entity
+pub mod Calls
+pub mod Hearing
+pub mod Polling
+pub mod Putting
+pub mod History
+pub mod Truth
+pub mod Sending
 pub use Rattle.cfdp_timers.specs.Waits

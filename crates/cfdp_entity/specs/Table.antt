@@ -7,6 +7,7 @@ use Rattle.indexmap.specs.IndexMap.{set_value_at}
 use Rattle.cfdp_header.specs.declared.value.TransactionId.{TransactionId}
 use Rattle.cfdp_header.specs.Ids.{same_id}
 use Rattle.cfdp_header.specs.Files.{FileMap}
+use Rattle.cfdp_directives.specs.declared.addressing.Addressing.{Addressing}
 use Rattle.cfdp_directives.specs.declared.indication.Indication.{Indication}
 use Rattle.cfdp_directives.specs.declared.phase.Phase.{Phase}
 use Rattle.cfdp_directives.specs.declared.policy.Policy.{Policy}
@@ -20,7 +21,7 @@ use Rattle.cfdp_sender.specs.declared.transfer.Transfer.{Transfer}
 use Rattle.cfdp_entity.specs.declared.call.Call.{Call}
 use Rattle.cfdp_entity.specs.Seen.{Seen, is_due, due_octets, due_len, phase_of}
 use Rattle.cfdp_entity.specs.Steps.{After, with_waits, hears, expires, calls, takes, Spoils}
-use Rattle.cfdp_entity.specs.Opening.{puts}
+use Rattle.cfdp_entity.specs.Opening.{puts, opens}
 
 abbrev pub Entry : Type 0
 Entry = TransactionId × Seen
@@ -117,6 +118,11 @@ with_record id after st = record st {
 
 abbrev pub put_in : Transfer → TableState → TableState
 put_in t st = with_record t.addressing.id (puts st.files t) st
+
+-- a PDU of no record opens one; `begun` and `stored` are the answers of the inbox
+abbrev pub opened_by : (begun stored : Stored) → Addressing → Content → TableState → TableState
+opened_by begun stored a v st =
+    with_record a.id (opens begun stored st.policy.times st.files v a) st
 
 abbrev pub first_table : FileMap → FileMap → Policy → TableState
 first_table sources files policy = record {

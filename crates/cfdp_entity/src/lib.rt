@@ -1,17 +1,39 @@
-//! The table of transactions of an entity of CFDP, class 2: one record for each, of the sending or of
-//! the receiving machine, with their timers and both stores.
+//! An entity of CFDP, class 2: the table of its transactions, one record for each, of the sending
+//! or of the receiving machine, with their timers and both stores. Its user asks things of it and
+//! tells it the time, it hears PDUs, and PDUs are taken from it.
 #![tactic(auto)]
 
+#[cfg(test)]
+mod bench;
 mod call;
+mod calls;
 mod config;
+mod entity;
 mod error;
+mod hearing;
+mod laws;
+mod opening;
+mod polled;
+mod polling;
+mod putting;
 mod ready;
 mod record;
+mod route;
 mod steps;
+mod stray;
 mod table;
+#[cfg(test)]
+mod tests;
 
 pub use call::Call;
 pub use config::EntityConfig;
+pub use entity::Entity;
 pub use error::{CallError, EntityDrop, PutError};
+pub use laws::{
+    a_table_finishes_a_transaction_once, a_table_keeps_the_truth, a_table_sends_the_truth,
+    calls_are_steps, other_records_stay, records_stay_for_good,
+};
+pub use opening::Opened;
+pub use polled::EntityPolled;
 pub use record::{Gave, Record};
 pub use table::{MOST_RECORDS, Table};

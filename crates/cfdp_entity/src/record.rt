@@ -117,6 +117,7 @@ impl Record {
             told.old.items told.new.items timers.old timers.new (I.published inbox.old) (I.published inbox.new)) }
         ensures counts { IfOk result (λ stored. Counts stored (I.failures inbox.old)
             (I.failures inbox.new)) }
+        ensures grows { I.failures inbox.old ≤ I.failures inbox.new }
         ensures ready { IsReadyRecord (I.staged inbox.new) (O.files outbox.now) id self.new }
         ensures others { OthersKeep id (I.staged inbox.old) (I.staged inbox.new) }
     {
@@ -318,8 +319,8 @@ fn sender_hears(
     Ok(Stored::Done)
 }
 
-// A receiver hears what is for it.
-fn receiver_hears<I: Inbox>(
+/// A receiver hears what is for it.
+pub(crate) fn receiver_hears<I: Inbox>(
     receiver: &mut Receiver,
     inbox: &mut I,
     timers: &mut Timers,
@@ -339,6 +340,8 @@ fn receiver_hears<I: Inbox>(
         (I.staged inbox.old) (I.staged inbox.new)) }
     ensures counts { IfOk result (λ stored. Counts stored (I.failures inbox.old)
         (I.failures inbox.new)) }
+    ensures roomy { timers.new.roomy ≡ timers.old.roomy }
+    ensures grows { I.failures inbox.old ≤ I.failures inbox.new }
     ensures ready { IsReady (I.staged inbox.new) receiver.new }
     ensures addressing { receiver.new.addressing ≡ receiver.old.addressing }
     ensures others { OthersKeep receiver.old.addressing.id (I.staged inbox.old)

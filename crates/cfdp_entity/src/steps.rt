@@ -10,17 +10,20 @@ ghost use Rattle.cfdp_directives.specs.Content.{view};
 ghost use Rattle.cfdp_store.specs.Stores.{Counts};
 ghost use Rattle.cfdp_sender.specs.State.{IsSendable};
 ghost use Rattle.cfdp_sender.specs.Does.{HasFile};
+ghost use Rattle.cfdp_directives.specs.Addressing.{FitsAddressing};
 ghost use Rattle.cfdp_entity.specs.Does.{spare};
+ghost use Rattle.cfdp_entity.specs.Opening.{CountsBoth};
 ghost use Rattle.cfdp_entity.specs.Gives.{Gives, stored_by_gave};
-ghost use Rattle.cfdp_entity.specs.Table.{heard_at, expired_at, called_at, taken_at, octets_due, len_due, put_in, SpoiledAt, phase_in};
+ghost use Rattle.cfdp_entity.specs.Table.{heard_at, expired_at, called_at, taken_at, octets_due, len_due, put_in, opened_by, SpoiledAt, phase_in};
 ghost use Rattle.cfdp_entity.specs.Calling as calling;
 ghost use Rattle.cfdp_entity.specs.Whole.{IsWhole, Staged, state_of, entries_seen};
 
 use crate::call::Call;
 use crate::error::CallError;
+use crate::opening::{MOST_TOLD, Opened, open_heard};
 use crate::ready::Ready;
 use crate::record::{Gave, Record, open_put};
-use cfdp_directives::{Indication, Pdu, Phase, Policy};
+use cfdp_directives::{Addressing, Indication, Pdu, Phase, Policy};
 use cfdp_header::TransactionId;
 use cfdp_sender::Transfer;
 use cfdp_store::{Inbox, Outbox, Stored};
@@ -100,6 +103,7 @@ pub(crate) fn hear_at<O: Outbox, I: Inbox>(
         (O.files outbox.now) policy.now records.new.entries timers.new told.new.items)) }
     ensures counts { IfOk result (λ stored. Counts stored (I.failures inbox.old)
         (I.failures inbox.new)) }
+    ensures grows { I.failures inbox.old ≤ I.failures inbox.new }
     ensures whole { IsWhole (I.staged inbox.new) (O.files outbox.now) records.new.entries ready.new
         timers.new }
 {
@@ -237,7 +241,7 @@ fn room_in(
     ensures entry { OnOk result (1 ≤ spare_entries records.new) }
     ensures room { OnOk result (3 ≤ spare told.new) }
 {
-    told.reserve(3)?;
+    told.reserve(MOST_TOLD)?;
     records.reserve(1)?;
     Ok(())
 }
@@ -285,4 +289,42 @@ pub(crate) fn put_record<O: Outbox, I: Inbox>(
     ready.push(record.is_due());
     push_record(records, id, record);
     Ok(())
+}
+
+/// Opens the record of a PDU that has none.
+pub(crate) fn open_record<O: Outbox, I: Inbox>(
+    alloc: Global,
+    records: &mut IndexMap<TransactionId, Record>,
+    ready: &mut Ready,
+    outbox: &O,
+    inbox: &mut I,
+    timers: &mut Timers,
+    told: &mut Vec<Indication>,
+    policy: &Policy,
+    addressing: Addressing,
+    pdu: &Pdu<'_>,
+) -> Result<Opened, AllocError>
+    requires whole { IsWhole (I.staged inbox.old) (O.files outbox.now) records.old.entries ready.old
+        timers.old }
+    requires absent { get same_id records.old addressing.id ≡ None }
+    requires not_full { length records.old.entries < 4096 }
+    requires fits { FitsAddressing addressing }
+    ensures opened { IfOk result (λ o. state_of (I.staged inbox.new) (I.published inbox.new)
+        (O.files outbox.now) policy.now records.new.entries timers.new told.new.items
+        ≡ opened_by o.begun o.stored addressing (view pdu.now) (state_of (I.staged inbox.old) (I.published inbox.old) (O.files outbox.now) policy.now records.old.entries timers.old told.old.items)) }
+    ensures err { OnErr result (state_of (I.staged inbox.new) (I.published inbox.new)
+        (O.files outbox.now) policy.now records.new.entries timers.new told.new.items
+        ≡ state_of (I.staged inbox.old) (I.published inbox.old) (O.files outbox.now) policy.now records.old.entries timers.old told.old.items) }
+    ensures counts { IfOk result (λ o. CountsBoth o.begun o.stored (I.failures inbox.old)
+        (I.failures inbox.new)) }
+    ensures grows { I.failures inbox.old ≤ I.failures inbox.new }
+    ensures whole { IsWhole (I.staged inbox.new) (O.files outbox.now) records.new.entries ready.new
+        timers.new }
+{
+    let _ = outbox;
+    room_in(records, told)?;
+    let (record, opened) = open_heard(alloc, inbox, timers, told, policy, addressing, pdu)?;
+    ready.push(record.is_due());
+    push_record(records, addressing.id, record);
+    Ok(opened)
 }

@@ -5,6 +5,7 @@ ghost use Rattle.std.specs.Option.{option_map};
 ghost use Rattle.std.specs.List.{IsDistinct};
 ghost use Rattle.std.specs.Map.{keys_of};
 ghost use Rattle.cfdp_header.specs.Ids.{same_id};
+ghost use Rattle.cfdp_directives.specs.Addressing.{FitsAddressing};
 ghost use Rattle.cfdp_directives.specs.Content.{view};
 ghost use Rattle.cfdp_timers.specs.Due.{AreDue, due_count};
 ghost use Rattle.cfdp_store.specs.Stores.{Counts, failures_after};
@@ -13,15 +14,17 @@ ghost use Rattle.cfdp_sender.specs.Does.{HasFile};
 ghost use Rattle.cfdp_entity.specs.Seen as seens;
 ghost use Rattle.cfdp_entity.specs.Calling as calling;
 ghost use Rattle.cfdp_entity.specs.Gives.{Gives, stored_by_gave};
+ghost use Rattle.cfdp_entity.specs.Opening.{CountsBoth};
 ghost use Rattle.cfdp_entity.specs.Table as tables;
-ghost use Rattle.cfdp_entity.specs.Table.{heard_at, expired_at, called_at, taken_at, due_at, len_at, put_in, next_due, first_table, all_expired, at_time, Ticks, SpoiledAt, phase_in};
+ghost use Rattle.cfdp_entity.specs.Table.{heard_at, expired_at, called_at, taken_at, due_at, len_at, put_in, opened_by, next_due, first_table, all_expired, at_time, Ticks, SpoiledAt, phase_in};
 
 use crate::call::Call;
 use crate::error::CallError;
+use crate::opening::Opened;
 use crate::ready::Ready;
 use crate::record::{Gave, Record};
 use crate::steps;
-use cfdp_directives::{Indication, Pdu, Phase, Policy};
+use cfdp_directives::{Addressing, Indication, Pdu, Phase, Policy};
 use cfdp_header::TransactionId;
 use cfdp_sender::Transfer;
 use cfdp_store::{Inbox, Outbox, StoreError, Stored};
@@ -74,8 +77,10 @@ impl<O: Outbox, I: Inbox> Model for Table<O, I> {
 impl<O: Outbox, I: Inbox> Table<O, I> {
     /// No records.
     pub fn new(alloc: Global, outbox: O, inbox: I, policy: Policy) -> Result<Self, AllocError>
-        ensures { IfOk result (λ t. t.state ≡ first_table (O.files outbox)
+        ensures state { IfOk result (λ t. t.state ≡ first_table (O.files outbox)
             (I.published inbox) policy) }
+        ensures inbox { IfOk result (λ t. t.inbox_failures ≡ I.failures inbox) }
+        ensures outbox { IfOk result (λ t. t.outbox_failures ≡ O.failures outbox) }
     {
         let ready = Ready::new(alloc)?;
         Ok(Table {
@@ -172,6 +177,7 @@ impl<O: Outbox, I: Inbox> Table<O, I> {
         ensures err { OnErr result (SpoiledAt place (view pdu.now) self.old.state self.new.state) }
         ensures counts { IfOk result (λ stored. Counts stored self.old.inbox_failures
             self.new.inbox_failures) }
+        ensures grows { self.old.inbox_failures ≤ self.new.inbox_failures }
         ensures outbox { self.new.outbox_failures ≡ self.old.outbox_failures }
     {
         steps::hear_at(
@@ -276,6 +282,34 @@ impl<O: Outbox, I: Inbox> Table<O, I> {
         )
     }
 
+    /// A PDU of no record opens one, which hears it if the inbox begins its transaction. An EOF
+    /// with an error opens one that is closed.
+    pub fn open(&mut self, addressing: Addressing, pdu: &Pdu<'_>) -> Result<Opened, AllocError>
+        requires absent { tables.place_of addressing.id self.old.state.records ≡ None }
+        requires not_full { length self.old.state.records < 4096 }
+        requires addressing { FitsAddressing addressing }
+        ensures opened { IfOk result (λ o. self.new.state ≡ opened_by o.begun o.stored addressing
+            (view pdu.now) self.old.state) }
+        ensures err { OnErr result (self.new.state ≡ self.old.state) }
+        ensures counts { IfOk result (λ o. CountsBoth o.begun o.stored self.old.inbox_failures
+            self.new.inbox_failures) }
+        ensures grows { self.old.inbox_failures ≤ self.new.inbox_failures }
+        ensures outbox { self.new.outbox_failures ≡ self.old.outbox_failures }
+    {
+        steps::open_record(
+            self.alloc,
+            &mut self.records,
+            &mut self.ready,
+            &self.outbox,
+            &mut self.inbox,
+            &mut self.timers,
+            &mut self.told,
+            &self.policy,
+            addressing,
+            pdu,
+        )
+    }
+
     /// Tells the time: the timers that are due fire, one after another.
     pub fn tick(&mut self, now: u64) -> Result<(), AllocError>
         ensures ticked { OnOk result (Ticks now self.old.state self.new.state) }
@@ -332,5 +366,23 @@ impl<O: Outbox, I: Inbox> Table<O, I> {
         if let Some(place) = self.place_of(id) {
             self.expire(place, kind);
         }
+    }
+}
+
+impl<O: Outbox, I: Inbox> Table<O, I> {
+    /// The outbox, lent.
+    pub fn outbox(&self) -> &O
+        ensures files { O.files result.now ≡ self.now.state.sources }
+        ensures failures { O.failures result.now ≡ self.now.outbox_failures }
+    {
+        &self.outbox
+    }
+
+    /// The inbox, lent.
+    pub fn inbox(&self) -> &I
+        ensures published { I.published result.now ≡ self.now.state.files }
+        ensures failures { I.failures result.now ≡ self.now.inbox_failures }
+    {
+        &self.inbox
     }
 }

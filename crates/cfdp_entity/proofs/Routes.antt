@@ -1,0 +1,59 @@
+-- A PDU that opens a record comes from the peer.
+use Rattle.std.proofs.Common.{◌≡◌, ℕ, nat_lt, length, Bool, true, false, not, ◌==◌, ◌&&◌, if◌then◌else◌, Option, Some, None, refl}
+use Rattle.std.specs.Bool.{beq}
+use Rattle.std.proofs.lemmas.Bool.{eqb-true}
+use Rattle.cfdp_header.specs.declared.value.Header.{Header}
+use Rattle.cfdp_directives.specs.declared.codes.Acknowledged.TheVariants as acknowledged
+use Rattle.cfdp_directives.specs.Content.{Content, FileData, Metadata, Eof, Finished, Ack, Nak, Prompt, KeepAlive}
+use Rattle.cfdp_directives.specs.Direction.{goes_toward_sender, direction_fits, is_for}
+use Rattle.cfdp_entity.specs.declared.error.EntityDrop.{EntityDrop}
+use Rattle.cfdp_entity.specs.declared.error.EntityDrop.TheVariants as drops
+use Rattle.cfdp_entity.specs.declared.route.Route.{Route}
+use Rattle.cfdp_entity.specs.declared.route.Route.TheVariants.{Drops, Opens, Queues}
+use Rattle.cfdp_entity.specs.Entity.{EntityState}
+use Rattle.cfdp_entity.specs.Hearing.{route, route_by, queues, names_no_file}
+use Rattle.cfdp_entity.specs.Strays.{StrayAck, most_strays}
+use Rattle.cfdp_entity.specs.Table.{place_of}
+
+opens-past : (b : Bool) (d : EntityDrop) (r : Route) → (if b then Drops d else r) ≡ Opens → (b ≡ false) × (r ≡ Opens)
+opens-past true d r is = absurd (cc)
+opens-past false d r is = (refl, is)
+
+queues-none : (s : StrayAck) (e : EntityState) → queues s e ≡ Opens → true ≡ false
+queues-none s e is = elim (nat_lt (length e.strays) most_strays) as (λ b. (if b then Queues s else Drops drops.TableFull) ≡ Opens → true ≡ false) [
+  | true ↦ λ h. absurd (cc)
+  | false ↦ λ h. absurd (cc)
+] is
+
+opens-down : (o : Option ℕ) (h : Header) (v : Content) (e : EntityState) → route_by o h v e ≡ Opens → goes_toward_sender v ≡ false
+opens-down (Some place) h v e is = absurd (cc)
+opens-down None h (FileData offset bytes) e is = refl
+opens-down None h (Metadata kind size source destination options) e is = refl
+opens-down None h (Eof condition checksum size tlvs) e is = refl
+opens-down None h (Finished condition delivery status tlvs) e is = queues-none _ e is
+opens-down None h (Ack acknowledged.Eof condition status) e is = absurd (cc)
+opens-down None h (Ack acknowledged.Finished condition status) e is = refl
+opens-down None h (Nak start end pairs) e is = absurd (cc)
+opens-down None h (Prompt keep_alive) e is = refl
+opens-down None h (KeepAlive progress) e is = absurd (cc)
+
+not-sender : (b down : Bool) → down ≡ false → not (beq b down) ≡ false → b ≡ false
+not-sender true true d fits = absurd (cc)
+not-sender true false d fits = absurd (cc)
+not-sender false down d fits = refl
+
+first-of-both : (p q : Bool) → not (p && q) ≡ false → p ≡ true
+first-of-both true q h = refl
+first-of-both false q h = absurd (cc)
+
+from-peer : (toward : Bool) (source peer destination own : ℕ) → toward ≡ false → not (if toward then (source == own) && (destination == peer) else (source == peer) && (destination == own)) ≡ false → source ≡ peer
+from-peer true source peer destination own down is = absurd (cc)
+from-peer false source peer destination own down is = eqb-true source peer (first-of-both (source == peer) (destination == own) is)
+
+pub opens-peer : (h : Header) (v : Content) (e : EntityState) → route h v e ≡ Opens → h.id.source ≡ e.config.peer
+opens-peer h v e is =
+    let fits = opens-past (not (direction_fits h v)) drops.WrongDirection _ is in
+    let for_us = opens-past (not (is_for e.config.entity e.config.peer h)) drops.NotForUs _ fits.1 in
+    let named = opens-past (names_no_file v) drops.NoFile _ for_us.1 in
+    let down = opens-down (place_of h.id e.table.records) h v e named.1 in
+    from-peer h.toward_sender h.id.source e.config.peer h.destination e.config.entity (not-sender h.toward_sender (goes_toward_sender v) down fits.0) for_us.0

@@ -1,0 +1,30 @@
+use Rattle.std.proofs.Common.{refl, sym, ap, ◌∙◌, ◌≡◌, ◌+◌}
+use Rattle.cfdp_header.specs.declared.value.TransactionId.{TransactionId}
+use Rattle.cfdp_sender.specs.declared.transfer.Transfer.{Transfer}
+use Rattle.cfdp_entity.specs.Entity.{Counted, own_id, next_of}
+use Rattle.cfdp_entity.specs.Putting.{next_id}
+use Rattle.cfdp_entity.specs.Table.{place_of}
+use Rattle.cfdp_entity.proofs.Numbers.{free-at, free-put, risen}
+use Rattle.cfdp_entity.proofs.entity.Entity.open_put.Goals as goal
+
+pub put-requires-clause-absent : goal.put-requires-clause-absent
+put-requires-clause-absent g c =
+    let own : c.in_ok-transfer.transfer.addressing.id ≡ own_id c.self.inside.config.entity (next_of c.self.inside.next) =
+    ap (λ (t : Transfer). t.addressing.id) c.in_ok-transfer.ensures.transfer ∙ sym (ap (λ (v : Counted). next_id v.state) c.self.view_is) in
+    ap (λ (id : TransactionId). place_of id c.self.inside.table.state.records) own ∙ free-at c.self.inside.config.entity (next_of c.self.inside.next) c.self.inside.table.state.records c.self.invariant.2
+
+pub invariant_of-self-2 : goal.invariant_of-self-2
+invariant_of-self-2 g c =
+    let own : c.in_ok-transfer.transfer.addressing.id ≡ own_id c.self.inside.config.entity (next_of c.self.inside.next) =
+    ap (λ (t : Transfer). t.addressing.id) c.in_ok-transfer.ensures.transfer ∙ sym (ap (λ (v : Counted). next_id v.state) c.self.view_is) in
+    let number : c.args.number ≡ next_of c.self.inside.next = c.requires.number ∙ sym (ap (λ (v : Counted). v.state.next) c.self.view_is) in (
+      c.self.invariant.0,
+      c.self.invariant.1,
+      free-put c.self.inside.config.entity (next_of c.self.inside.next) c.self.inside.table.state c.self.inside.table.state c.put.new.self.state refl c.self.invariant.2
+          c.in_ok-transfer.transfer c.in_ok-put.ensures.put own c.checked_add-self-inside.result
+          (risen c.checked_add-self-inside.result c.args.number c.ranges.number.fits c.checked_add-self-inside.ensures ∙ ap (λ n. n + 1) number),
+    )
+
+pub returns-clause-fresh : goal.returns-clause-fresh
+returns-clause-fresh g c =
+    sym (ap (λ (v : Counted). place_of (next_id v.state) v.state.table.records) c.self.view_is) ∙ free-at c.self.inside.config.entity (next_of c.self.inside.next) c.self.inside.table.state.records c.self.invariant.2

@@ -1,0 +1,21 @@
+-- What a call of the user on a transaction does to an entity.
+use Rattle.std.specs.Prelude.{◌≡◌, Option, None}
+use Rattle.cfdp_header.specs.declared.value.TransactionId.{TransactionId}
+use Rattle.cfdp_entity.specs.declared.call.Call.{Call}
+use Rattle.cfdp_entity.specs.declared.error.CallError.{CallError}
+use Rattle.cfdp_entity.specs.Calling.{refusal_in, called_in}
+use Rattle.cfdp_entity.specs.Entity.{EntityState, with_table}
+use Rattle.cfdp_entity.specs.Table.{TableState, place_of}
+
+-- why a call on a transaction is refused, if it is
+abbrev pub call_refusal : Call → TransactionId → TableState → Option CallError
+call_refusal c id t = refusal_in c (place_of id t.records) t
+
+-- the table once its record was called
+abbrev pub after_call : Call → TransactionId → TableState → TableState
+after_call c id t = called_in c (place_of id t.records) t
+
+-- A call on a transaction was accepted.
+pub record IsCalled (c : Call) (id : TransactionId) (old new : EntityState) : Type 0 where
+  pub allowed : call_refusal c id old.table ≡ None
+  pub called : new ≡ with_table old (after_call c id old.table)

@@ -1,0 +1,72 @@
+-- The state of an entity, and how it is kept.
+use Rattle.std.specs.Prelude.{◌≡◌, ◌≤◌, ℕ, ◌+◌, ◌-◌, ◌^◌, min, max, List, [], replicate, get_or, slice_get, slice_set, Option, Some, None}
+use Rattle.cfdp_header.specs.Files.{FileMap}
+use Rattle.cfdp_header.specs.declared.value.TransactionId.{TransactionId}
+use Rattle.cfdp_directives.specs.declared.phase.Phase.{Phase}
+use Rattle.cfdp_entity.specs.declared.config.EntityConfig.{EntityConfig}
+use Rattle.cfdp_entity.specs.declared.error.EntityDrop.{EntityDrop}
+use Rattle.cfdp_entity.specs.Errors.{drop_number}
+use Rattle.cfdp_entity.specs.Strays.{StrayAck}
+use Rattle.cfdp_entity.specs.Table.{Entry, TableState, place_of, first_table, phase_in}
+
+-- The table, the stray acknowledgements in their order, the place behind the record served last, the
+-- number of the next put, the counts of drops by their number, and how it is set up.
+pub record EntityState : Type 0 where
+  pub table : TableState
+  pub strays : List StrayAck
+  pub cursor : ℕ
+  pub next : ℕ
+  pub drops : List ℕ
+  pub config : EntityConfig
+
+-- an entity, and how many calls of each store failed
+pub record Counted : Type 0 where
+  pub state : EntityState
+  pub inbox_failures : ℕ
+  pub outbox_failures : ℕ
+
+abbrev pub first_entity : FileMap → FileMap → EntityConfig → EntityState
+first_entity sources files config = record {
+  table = first_table sources files config.policy;
+  strays = [];
+  cursor = 0;
+  next = config.first_number;
+  drops = replicate 18 0;
+  config = config;
+}
+
+abbrev pub with_table : EntityState → TableState → EntityState
+with_table e t = record e { table = t }
+
+-- ---- numbers
+-- the transaction of this number, of a file that the entity sends
+abbrev pub own_id : ℕ → ℕ → TransactionId
+own_id entity number = record { source = entity; number = number }
+
+-- No record has the number of the next put, or one behind it: so no number comes twice.
+unfoldable pub AreFree : ℕ → ℕ → List Entry → Type 0
+AreFree entity next records = (n : ℕ) → next ≤ n → place_of (own_id entity n) records ≡ None
+
+-- the number of the next put; where all are used it is one behind the last of eight octets
+abbrev pub next_of : Option ℕ → ℕ
+next_of (Some n) = n
+next_of None = 2 ^ 64
+
+-- ---- counts of drops
+-- one more, save at the greatest value
+abbrev pub raised : ℕ → ℕ
+raised n = max n (min (n + 1) (2 ^ 64 - 1))
+
+abbrev pub counted : EntityDrop → List ℕ → List ℕ
+counted d drops = slice_set drops (drop_number d) (raised (get_or drops (drop_number d) 0))
+
+abbrev pub dropped : EntityDrop → EntityState → EntityState
+dropped d e = record e { drops = counted d e.drops }
+
+-- ---- how far a transaction has come
+abbrev pub phase_by : Option ℕ → TableState → Option Phase
+phase_by (Some place) t = phase_in (slice_get t.records place)
+phase_by None t = None
+
+abbrev pub phase_told : TransactionId → TableState → Option Phase
+phase_told id t = phase_by (place_of id t.records) t

@@ -1,0 +1,113 @@
+-- All that may happen to a table, as one step, and what every step keeps.
+use Rattle.std.specs.Prelude.{◌≡◌, ℕ, ◌+◌, ◌≤◌, List, [], ◌∷◌, slice_get, Option, Some, None}
+use Rattle.std.specs.List.{IsDistinct}
+use Rattle.std.specs.Map.{keys_of}
+use Rattle.indexmap.specs.IndexMap.{set_value_at}
+use Rattle.cfdp_header.specs.declared.value.TransactionId.{TransactionId}
+use Rattle.cfdp_header.specs.Ids.{same_id}
+use Rattle.cfdp_directives.specs.declared.addressing.Addressing.{Addressing}
+use Rattle.cfdp_directives.specs.declared.indication.Indication.{Indication}
+use Rattle.cfdp_directives.specs.Content.{Content}
+use Rattle.cfdp_store.specs.declared.stored.Stored.{Stored}
+use Rattle.cfdp_timers.specs.declared.kind.Kind.{Kind}
+use Rattle.cfdp_timers.specs.Order.{Timer}
+use Rattle.cfdp_sender.specs.declared.phase.SenderPhase.{SenderPhase}
+use Rattle.cfdp_sender.specs.declared.phase.SenderPhase.TheVariants as sending
+use Rattle.cfdp_sender.specs.declared.transfer.Transfer.{Transfer}
+use Rattle.cfdp_sender.specs.State.{transfer_of}
+use Rattle.cfdp_sender.specs.Inputs.{finished_count}
+use Rattle.cfdp_receiver.specs.declared.state.ReceiverPhase.TheVariants as receiving
+use Rattle.cfdp_receiver.specs.Sound.{open_count}
+use Rattle.cfdp_entity.specs.declared.call.Call.{Call}
+use Rattle.cfdp_entity.specs.Seen.{Seen, Sends, Receives, addressing_of}
+use Rattle.cfdp_entity.specs.Steps as steps
+use Rattle.cfdp_entity.specs.Table.{Entry, TableState, place_of, record_of, heard_at, expired_at, called_at, taken_at, put_in, opened_by, at_time, all_expired}
+
+-- `stored` and `begun` are how a store answered
+pub data TableStep : Type 0 where
+  Hears : (stored : Stored) (place : ℕ) (v : Content) → TableStep
+  -- a record found no memory for a PDU, and is so then
+  Spoils : (place : ℕ) (v : Content) (noted : Seen) → TableStep
+  Expires : (place : ℕ) (k : Kind) → TableStep
+  Calls : (place : ℕ) (c : Call) → TableStep
+  Takes : (stored : Stored) (place : ℕ) → TableStep
+  Puts : (t : Transfer) → TableStep
+  Opens : (begun stored : Stored) (a : Addressing) (v : Content) → TableStep
+  -- the time is told, and these timers fire
+  Tells : (now : ℕ) → TableStep
+  Fires : (timers : List Timer) → TableStep
+
+abbrev pub table_step : TableStep → TableState → TableState
+table_step (Hears stored place v) st = heard_at stored place v st
+table_step (Spoils place v noted) st =
+    record st { records = set_value_at st.records place noted }
+table_step (Expires place k) st = expired_at place k st
+table_step (Calls place c) st = called_at place c st
+table_step (Takes stored place) st = taken_at stored place st
+table_step (Puts t) st = put_in t st
+table_step (Opens begun stored a v) st = opened_by begun stored a v st
+table_step (Tells now) st = at_time now st
+table_step (Fires timers) st = all_expired timers st
+
+-- Only a transaction without a record gets one, and where there is no memory for a PDU its record
+-- is as it may then be.
+abbrev pub MayHappen : TableStep → TableState → Type 0
+MayHappen (Puts t) st = place_of t.addressing.id st.records ≡ None
+MayHappen (Opens begun stored a v) st = place_of a.id st.records ≡ None
+MayHappen (Spoils place v noted) st =
+    (e : Entry) → slice_get st.records place ≡ Some e → steps.Spoils v e.1 noted
+MayHappen _ st = Unit {0}
+
+-- the table after these steps, one after another
+unfoldable pub table_run : List TableStep → TableState → TableState
+table_run [] st = st
+table_run (s ∷ rest) st = table_run rest (table_step s st)
+
+-- each of them may happen when its turn comes
+unfoldable pub MayRun : List TableStep → TableState → Type 0
+MayRun [] st = Unit {0}
+MayRun (s ∷ rest) st = MayHappen s st × MayRun rest (table_step s st)
+
+-- Steps lead from one table to another, each of which may happen when its turn comes.
+pub record Leads (old new : TableState) : Type 0 where
+  pub steps : List TableStep
+  pub may : MayRun steps old
+  pub ends : new ≡ table_run steps old
+
+-- ---- records
+-- A record becomes another: of the same side and transaction, and closed if it was closed. A sender
+-- keeps what it is to send.
+abbrev pub GoesOn : (old new : Seen) → Type 0
+GoesOn (Sends x) (Sends y) =
+    (transfer_of y ≡ transfer_of x) × (x.phase ≡ sending.Closed → y.phase ≡ sending.Closed)
+GoesOn (Receives r m) (Receives s n) =
+    (s.addressing ≡ r.addressing) × (r.phase ≡ receiving.Closed → s.phase ≡ receiving.Closed)
+GoesOn _ _ = ⊥
+
+-- Each record is still at its place, under its transaction, and went on.
+abbrev pub KeepsRecords : (old new : List Entry) → Type 0
+KeepsRecords old new = (place : ℕ) (e : Entry) → slice_get old place ≡ Some e →
+    (s : Seen) × ((slice_get new place ≡ Some (e.0, s)) × GoesOn e.1 s)
+
+-- ---- what is indicated
+abbrev pub sender_open_count : SenderPhase → ℕ
+sender_open_count sending.Sending = 1
+sender_open_count sending.Cancelling = 1
+sender_open_count sending.Closed = 0
+
+-- 1 while it may still be indicated that the transaction is finished, and else 0
+abbrev pub open_in : Seen → ℕ
+open_in (Sends x) = sender_open_count x.phase
+open_in (Receives r m) = open_count r.phase
+
+abbrev pub open_of : Option Seen → ℕ
+open_of (Some s) = open_in s
+open_of None = 1
+
+-- Each record stands under its transaction, no two under the same. Each transaction is indicated
+-- finished at most once, and not yet while it may still be.
+pub record FinishesOnce (records : List Entry) (told : List Indication) : Type 0 where
+  pub distinct : IsDistinct same_id (keys_of records)
+  pub own : (place : ℕ) (e : Entry) → slice_get records place ≡ Some e
+      → (addressing_of e.1).id ≡ e.0
+  pub once : (id : TransactionId) → finished_count id told + open_of (record_of id records) ≤ 1

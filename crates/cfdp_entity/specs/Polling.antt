@@ -1,0 +1,75 @@
+-- What a poll does.
+use Rattle.std.specs.Prelude.{◌≡◌, ◌≤◌, ◌<◌, ℕ, ◌+◌, List, [], ◌∷◌, Option, Some, None}
+use Rattle.cfdp_store.specs.declared.stored.Stored.{Stored}
+use Rattle.cfdp_store.specs.declared.stored.Stored.TheVariants.{Done, Refused}
+use Rattle.cfdp_entity.specs.declared.polled.EntityPolled.{EntityPolled}
+use Rattle.cfdp_entity.specs.declared.polled.EntityPolled.TheVariants.{Moved, Nothing, Full, SourceFailed}
+use Rattle.cfdp_entity.specs.Entity.{EntityState, Counted}
+use Rattle.cfdp_entity.specs.Gives.{Writes}
+use Rattle.cfdp_entity.specs.Strays.{StrayAck, stray_octets, stray_len}
+use Rattle.cfdp_entity.specs.Table.{next_due, due_at, len_at, taken_at}
+
+-- what has the next turn: a stray acknowledgement, with those behind it, or the record at a place
+pub data Turn : Type 0 where
+  Stray : (first : StrayAck) (behind : List StrayAck) → Turn
+  Place : (place : ℕ) → Turn
+  Rests : Turn
+
+abbrev pub record_turn : Option ℕ → Turn
+record_turn (Some place) = Place place
+record_turn None = Rests
+
+abbrev pub turn_by : List StrayAck → Option ℕ → Turn
+turn_by (s ∷ strays) next = Stray s strays
+turn_by [] next = record_turn next
+
+-- strays come first, and then the first record behind the one served last that has something due,
+-- round robin
+abbrev pub turn : EntityState → Turn
+turn e = turn_by e.strays (next_due e.cursor e.table.records)
+
+-- the octets of the PDU that is due, and how many they are
+abbrev pub turn_octets : Turn → EntityState → List ℕ
+turn_octets (Stray s strays) e = stray_octets s
+turn_octets (Place place) e = due_at place e.table
+turn_octets Rests e = []
+
+abbrev pub turn_len : Turn → EntityState → ℕ
+turn_len (Stray s strays) e = stray_len s
+turn_len (Place place) e = len_at place e.table
+turn_len Rests e = 0
+
+-- the entity once it was served
+abbrev pub served : Stored → Turn → EntityState → EntityState
+served stored (Stray s strays) e = record e { strays = strays }
+served stored (Place place) e =
+    record e { table = taken_at stored place e.table; cursor = place + 1 }
+served stored Rests e = e
+
+-- The PDU that is due has so many octets: they fit, and were written over the first of `out`.
+pub record MovesPdu (n room : ℕ) (old new : EntityState) (out_before out_now : List ℕ) : Type 0 where
+  pub some : 1 ≤ n
+  pub fits : n ≤ room
+  pub len : n ≡ turn_len (turn old) old
+  pub writes : Writes (turn_octets (turn old) old) n out_before out_now
+  pub served : new ≡ served Done (turn old) old
+
+-- The outbox failed to give the file data of a PDU that fits. What `out` then holds is left open.
+pub record LosesPdu (room : ℕ) (old new : EntityState) : Type 0 where
+  pub place : ℕ
+  pub is_next : turn old ≡ Place place
+  pub fits : turn_len (turn old) old ≤ room
+  pub served : new ≡ served Refused (turn old) old
+
+-- A poll answered this.
+abbrev pub Polls : ℕ → EntityPolled → (old new : Counted) → (out_before out_now : List ℕ) → Type 0
+Polls room (Moved n) old new out out' = MovesPdu n room old.state new.state out out'
+Polls room Nothing old new out out' = (turn old.state ≡ Rests) × (new ≡ old) × (out' ≡ out)
+Polls room Full old new out out' =
+    (room < turn_len (turn old.state) old.state) × (new ≡ old) × (out' ≡ out)
+Polls room SourceFailed old new out out' = LosesPdu room old.state new.state
+
+-- how the outbox answered
+abbrev pub stored_by_poll : EntityPolled → Stored
+stored_by_poll SourceFailed = Refused
+stored_by_poll _ = Done

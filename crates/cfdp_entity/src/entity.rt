@@ -1,0 +1,149 @@
+ghost use Rattle.std.specs.Prelude.{◌≡◌, length, get_or, IfOk, None};
+ghost use Rattle.cfdp_entity.specs.Config.{IsConfig};
+ghost use Rattle.cfdp_entity.specs.Entity.{first_entity, phase_told, dropped};
+
+use crate::call::Call;
+use crate::config::EntityConfig;
+use crate::error::EntityDrop;
+use crate::stray::Stray;
+use crate::table::Table;
+use cfdp_directives::{Indication, Phase};
+use cfdp_header::TransactionId;
+use cfdp_store::{Inbox, Outbox};
+use circular_buffer::HeapCircularBuffer;
+use std::alloc::{AllocError, Global};
+use std::marker::Model;
+
+/// The most stray acknowledgements that wait.
+pub(crate) const MOST_STRAYS: usize = 64;
+
+/// An entity of CFDP, class 2 (CCSDS 727.0-B-5): it sends files of its outbox to its peer, and
+/// publishes in its inbox the files that its peer sends.
+///
+/// Its records stay for good, closed ones too, at most 4,096. PDUs are given to it by `hear` and
+/// taken from it by `poll`; the time is told to it by `tick`. What it tells its user is a list that
+/// only grows.
+#[derive(Drop)]
+pub struct Entity<O: Outbox, I: Inbox> {
+    pub(crate) alloc: Global,
+    pub(crate) config: EntityConfig,
+    pub(crate) table: Table<O, I>,
+    pub(crate) strays: HeapCircularBuffer<Stray>,
+    // The place behind the record served last.
+    pub(crate) cursor: usize,
+    // The number of the next put, none once the last of eight octets is used.
+    pub(crate) next: Option<u64>,
+    // By their number, of 1 to 17.
+    drops: [u64; 18],
+}
+
+impl<O: Outbox, I: Inbox> Model for Entity<O, I> {
+    ghost use Rattle.std.specs.Prelude.{◌≡◌};
+    ghost use Rattle.std.specs.Coded.{codes, coded_ℕ, coded_list};
+    ghost use Rattle.std.specs.Ordering.{nat_cmp};
+    ghost use Rattle.std.specs.Cmp.Lexicographic.{slice_cmp};
+    ghost use Rattle.std.specs.FinMap as finmap;
+    ghost use Rattle.std.specs.FinSet as finset;
+    ghost use Rattle.cfdp_timers.specs.Armed.{armed_code};
+    ghost use Rattle.cfdp_entity.specs.Config.{IsConfig};
+    ghost use Rattle.cfdp_entity.specs.Entity.{Counted, AreFree, next_of};
+
+    ghost Value = { Counted };
+
+    ghost coded = { Prim.hlevel (codes, armed_code, finset.code {R = nat_cmp} coded_ℕ, finmap.code {R = nat_cmp} coded_ℕ coded_ℕ, finmap.code {R = slice_cmp nat_cmp} (coded_list coded_ℕ) (coded_list coded_ℕ)) };
+
+    ghost view = { λ e. record {
+      state = record {
+        table = e.table.state;
+        strays = e.strays.items;
+        cursor = e.cursor;
+        next = next_of e.next;
+        drops = e.drops;
+        config = e.config;
+      };
+      inbox_failures = e.table.inbox_failures;
+      outbox_failures = e.table.outbox_failures;
+    } };
+
+    ghost invariant = { λ e. IsConfig e.config × (e.strays.capacity ≡ 64) × AreFree e.config.entity (next_of e.next) e.table.state.records };
+}
+
+impl<O: Outbox, I: Inbox> Entity<O, I> {
+    /// An entity without records, over its two stores.
+    ///
+    /// # Errors
+    ///
+    /// `AllocError` where there is no memory for it.
+    pub fn new(alloc: Global, config: EntityConfig, outbox: O, inbox: I) -> Result<Self, AllocError>
+        requires { IsConfig config }
+        ensures state { IfOk result (λ e. e.state ≡ first_entity (O.files outbox)
+            (I.published inbox) config) }
+        ensures inbox_failures { IfOk result (λ e. e.inbox_failures ≡ I.failures inbox) }
+        ensures outbox_failures { IfOk result (λ e. e.outbox_failures ≡ O.failures outbox) }
+    {
+        let strays = HeapCircularBuffer::with_capacity(alloc, MOST_STRAYS)?;
+        let next = Some(config.first_number);
+        let table = Table::new(alloc, outbox, inbox, config.policy)?;
+        Ok(Entity {
+            alloc,
+            config,
+            table,
+            strays,
+            cursor: 0,
+            next,
+            drops: [0; 18],
+        })
+    }
+
+    /// How far a transaction has come; `None` where it has no record here.
+    pub fn phase(&self, id: TransactionId) -> Option<Phase>
+        ensures { result ≡ phase_told id self.now.state.table }
+    {
+        match self.table.place_of(id) {
+            Some(place) => self.table.phase_at(place),
+            None => None,
+        }
+    }
+
+    /// How often `hear` dropped a PDU by the cause with this number; 0 where no cause has it. The
+    /// count stays at the greatest `u64`.
+    pub fn drops(&self, number: u8) -> u64
+        ensures count { result ≡ get_or self.now.state.drops number 0 }
+        ensures kinds { length self.now.state.drops ≡ 18 }
+    {
+        match self.drops.get(usize::from(number)) {
+            Some(count) => *count,
+            None => 0,
+        }
+    }
+
+    /// What was indicated, in order, from the first indication on.
+    pub fn indications(&self) -> &[Indication]
+        ensures { result.now ≡ self.now.state.table.told }
+    {
+        self.table.told()
+    }
+
+    /// The outbox, lent.
+    pub fn outbox(&self) -> &O
+        ensures files { O.files result.now ≡ self.now.state.table.sources }
+        ensures failures { O.failures result.now ≡ self.now.outbox_failures }
+    {
+        self.table.outbox()
+    }
+
+    /// The inbox, lent.
+    pub fn inbox(&self) -> &I
+        ensures published { I.published result.now ≡ self.now.state.table.files }
+        ensures failures { I.failures result.now ≡ self.now.inbox_failures }
+    {
+        self.table.inbox()
+    }
+
+    pub(crate) fn count(&mut self, drop: EntityDrop)
+        ensures counted { self.new ≡ record self.old { state = dropped drop self.old.state } }
+    {
+        let place = usize::from(drop.number());
+        self.drops[place] = self.drops[place].saturating_add(1);
+    }
+}

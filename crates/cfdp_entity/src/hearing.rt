@@ -1,0 +1,211 @@
+// What an entity hears.
+ghost use Rattle.std.specs.Prelude.{◌≡◌, ◌≤◌, ◌<◌, length, None, IfErr, OnOk, OnErr};
+ghost use Rattle.cfdp_directives.specs.Addressing.{addressing_of, FitsAddressing};
+ghost use Rattle.cfdp_directives.specs.Content.{view};
+ghost use Rattle.cfdp_directives.specs.Faults.{pdu_fault};
+ghost use Rattle.cfdp_entity.specs.declared.error.EntityDrop.TheVariants as drops;
+ghost use Rattle.cfdp_entity.specs.declared.route.Route.TheVariants as routes;
+ghost use Rattle.cfdp_entity.specs.Entity.{with_table};
+ghost use Rattle.cfdp_entity.specs.Hearing as hearings;
+ghost use Rattle.cfdp_entity.specs.Hearing.{StepsAt, OpensOne, Takes, DropsBy, FindsNoMemory, HearsOctets, DropsOctets, queued};
+ghost use Rattle.cfdp_entity.specs.Table.{SpoiledAt};
+ghost use Rattle.cfdp_entity.specs.Table as tables;
+
+use crate::entity::{Entity, MOST_STRAYS};
+use crate::error::EntityDrop;
+use crate::route::Route;
+use crate::stray::Stray;
+use crate::table::MOST_RECORDS;
+use cfdp_directives::{
+    Addressing, Pdu, a_pdu_read_can_be_answered, decode, direction_fits, is_for,
+};
+use cfdp_header::Header;
+use cfdp_store::{Inbox, Outbox};
+use std::alloc::AllocError;
+
+// Whether a PDU is Metadata with an empty name.
+fn names_no_file(pdu: &Pdu<'_>) -> bool
+    ensures { result ≡ hearings.names_no_file (view pdu.now) }
+{
+    match pdu {
+        Pdu::Metadata {
+            source,
+            destination,
+            ..
+        } => source.is_empty() || destination.is_empty(),
+        _ => false,
+    }
+}
+
+impl<O: Outbox, I: Inbox> Entity<O, I> {
+    /// Hears a PDU, which is all the octets. It makes one step of its transaction's record.
+    /// Metadata, file data and an EOF of a transaction without a record open one, and a Finished of
+    /// such a transaction is answered. Answers are written in the widths of the PDU that opened the
+    /// record, or of that Finished.
+    ///
+    /// # Errors
+    ///
+    /// The first that holds, in this order: `Pdu`, `WrongDirection`, `NotForUs`, `NoFile`,
+    /// `Unknown`, `TableFull`, `NoMemory`. It is counted by its number, and nothing else changes,
+    /// but for two things where memory was wanted: a NAK may have asked for a prefix of its ranges,
+    /// and file data may have staged octets at offsets that don't count as held.
+    pub fn hear(&mut self, pdu: &[u8]) -> Result<(), EntityDrop>
+        ensures heard { OnOk result (HearsOctets pdu.now self.old self.new) }
+        ensures dropped { IfErr result (λ by. DropsOctets (pdu_fault pdu.now) pdu.now by self.old
+            self.new) }
+    {
+        match decode(pdu) {
+            Ok((header, pdu)) => {
+                a_pdu_read_can_be_answered();
+                self.hear_pdu(&header, &pdu)
+            }
+            Err(e) => {
+                let drop = EntityDrop::Pdu(e);
+                self.count(drop);
+                Err(drop)
+            }
+        }
+    }
+
+    fn hear_pdu(&mut self, header: &Header, pdu: &Pdu<'_>) -> Result<(), EntityDrop>
+        requires { FitsAddressing (addressing_of header.now) }
+        ensures heard { OnOk result (Takes (hearings.route header.now (view pdu.now)
+            self.old.state) header.now (view pdu.now) self.old self.new) }
+        ensures dropped { IfErr result (λ by. DropsBy (hearings.route header.now (view pdu.now)
+            self.old.state) by (view pdu.now) self.old self.new) }
+    {
+        match self.route(header, pdu) {
+            Route::Drops(drop) => {
+                self.count(drop);
+                Err(drop)
+            }
+            Route::Steps(place) => self.hear_at(place, pdu),
+            Route::Opens => self.hear_first(Addressing::of(header), pdu),
+            Route::Queues(stray) => {
+                self.queue(stray);
+                Ok(())
+            }
+        }
+    }
+
+    // Where a PDU goes.
+    fn route(&self, header: &Header, pdu: &Pdu<'_>) -> Route
+        requires { FitsAddressing (addressing_of header.now) }
+        ensures { result ≡ hearings.route header.now (view pdu.now) self.now.state }
+    {
+        if !direction_fits(header, pdu) {
+            return Route::Drops(EntityDrop::WrongDirection);
+        }
+        if !is_for(self.config.entity, self.config.peer, header) {
+            return Route::Drops(EntityDrop::NotForUs);
+        }
+        if names_no_file(pdu) {
+            return Route::Drops(EntityDrop::NoFile);
+        }
+        match self.table.place_of(header.id) {
+            Some(place) => Route::Steps(place),
+            None => self.route_new(header, pdu),
+        }
+    }
+
+    // Where a PDU of no record goes.
+    fn route_new(&self, header: &Header, pdu: &Pdu<'_>) -> Route
+        requires { FitsAddressing (addressing_of header.now) }
+        ensures { result ≡ hearings.route_new header.now (view pdu.now) self.now.state }
+    {
+        match pdu {
+            Pdu::Metadata { .. } | Pdu::FileData { .. } | Pdu::Eof { .. } => self.route_to_open(),
+            Pdu::Finished { condition, .. } => self.route_stray(Stray::of(header, *condition)),
+            _ => Route::Drops(EntityDrop::Unknown),
+        }
+    }
+
+    fn route_to_open(&self) -> Route
+        ensures { result ≡ hearings.opens_record self.now.state }
+    {
+        if self.table.len() < MOST_RECORDS {
+            Route::Opens
+        } else {
+            Route::Drops(EntityDrop::TableFull)
+        }
+    }
+
+    fn route_stray(&self, stray: Stray) -> Route
+        ensures { result ≡ hearings.queues stray self.now.state }
+    {
+        if self.strays.len() < MOST_STRAYS {
+            Route::Queues(stray)
+        } else {
+            Route::Drops(EntityDrop::TableFull)
+        }
+    }
+
+    // The record at a place hears a PDU.
+    fn hear_at(&mut self, place: usize, pdu: &Pdu<'_>) -> Result<(), EntityDrop>
+        ensures heard { OnOk result (StepsAt place (view pdu.now) self.old self.new) }
+        ensures dropped { IfErr result (λ by. (by ≡ drops.NoMemory)
+            × FindsNoMemory place (view pdu.now) self.old self.new) }
+    {
+        match self.step_at(place, pdu) {
+            Ok(()) => Ok(()),
+            Err(_) => {
+                self.count(EntityDrop::NoMemory);
+                Err(EntityDrop::NoMemory)
+            }
+        }
+    }
+
+    fn step_at(&mut self, place: usize, pdu: &Pdu<'_>) -> Result<(), AllocError>
+        ensures steps { OnOk result (StepsAt place (view pdu.now) self.old self.new) }
+        ensures spoils { OnErr result (SpoiledAt place (view pdu.now) self.old.state.table
+            self.new.state.table) }
+        ensures table { self.new.state ≡ with_table self.old.state self.new.state.table }
+        ensures grows { self.old.inbox_failures ≤ self.new.inbox_failures }
+        ensures outbox { self.new.outbox_failures ≡ self.old.outbox_failures }
+    {
+        self.table.reserve(3)?;
+        self.table.hear(place, pdu)?;
+        Ok(())
+    }
+
+    // A PDU opens a record, which hears it.
+    fn hear_first(&mut self, addressing: Addressing, pdu: &Pdu<'_>) -> Result<(), EntityDrop>
+        requires fits { FitsAddressing addressing }
+        requires from_peer { addressing.id.source ≡ self.old.state.config.peer }
+        requires absent { tables.place_of addressing.id self.old.state.table.records ≡ None }
+        requires not_full { length self.old.state.table.records < 4096 }
+        ensures heard { OnOk result (OpensOne addressing (view pdu.now) self.old self.new) }
+        ensures dropped { IfErr result (λ by. DropsBy routes.Opens by (view pdu.now) self.old
+            self.new) }
+    {
+        match self.open(addressing, pdu) {
+            Ok(()) => Ok(()),
+            Err(_) => {
+                self.count(EntityDrop::NoMemory);
+                Err(EntityDrop::NoMemory)
+            }
+        }
+    }
+
+    fn open(&mut self, addressing: Addressing, pdu: &Pdu<'_>) -> Result<(), AllocError>
+        requires fits { FitsAddressing addressing }
+        requires from_peer { addressing.id.source ≡ self.old.state.config.peer }
+        requires absent { tables.place_of addressing.id self.old.state.table.records ≡ None }
+        requires not_full { length self.old.state.table.records < 4096 }
+        ensures opens { OnOk result (OpensOne addressing (view pdu.now) self.old self.new) }
+        ensures err { OnErr result (self.new.state ≡ self.old.state) }
+        ensures grows { self.old.inbox_failures ≤ self.new.inbox_failures }
+        ensures outbox { self.new.outbox_failures ≡ self.old.outbox_failures }
+    {
+        self.table.open(addressing, pdu)?;
+        Ok(())
+    }
+
+    // A Finished of no record is answered.
+    fn queue(&mut self, stray: Stray)
+        requires { length self.old.state.strays < 64 }
+        ensures { self.new ≡ record self.old { state = queued stray self.old.state } }
+    {
+        let _ = self.strays.push_back(stray);
+    }
+}

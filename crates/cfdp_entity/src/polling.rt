@@ -1,0 +1,109 @@
+// What an entity sends.
+ghost use Rattle.std.specs.Prelude.{◌≡◌, ◌≤◌, ◌<◌, [], length, IfOk, OnErr};
+ghost use Rattle.cfdp_store.specs.declared.stored.Stored.TheVariants as storeds;
+ghost use Rattle.cfdp_store.specs.Stores.{Counts};
+ghost use Rattle.cfdp_entity.specs.Gives.{Gives, stored_by_gave};
+ghost use Rattle.cfdp_entity.specs.Polling.{Polls, Place, served, stored_by_poll};
+ghost use Rattle.cfdp_entity.specs.Strays.{first_stray_len};
+ghost use Rattle.cfdp_entity.specs.Table.{due_at, len_at};
+
+use crate::entity::Entity;
+use crate::polled::EntityPolled;
+use crate::record::Gave;
+use cfdp_store::{Inbox, Outbox};
+use std::alloc::AllocError;
+
+impl<O: Outbox, I: Inbox> Entity<O, I> {
+    /// Takes the PDU that is due next: stray acknowledgements come first, then the records in order
+    /// of opening, round robin from behind the one served last. It is written over the first octets
+    /// of `out`, where it has at most `room` octets.
+    ///
+    /// # Errors
+    ///
+    /// `AllocError` where there is no memory for what is indicated. All is then as it was.
+    pub fn poll(&mut self, room: usize, out: &mut [u8]) -> Result<EntityPolled, AllocError>
+        requires fits { room ≤ length out.old }
+        ensures polled { IfOk result (λ answer. Polls room answer self.old self.new out.old
+            out.new) }
+        ensures counts { IfOk result (λ answer. Counts (stored_by_poll answer)
+            self.old.outbox_failures self.new.outbox_failures) }
+        ensures err { OnErr result ((self.new ≡ self.old) × (out.new ≡ out.old)) }
+        ensures grows { self.old.inbox_failures ≤ self.new.inbox_failures }
+    {
+        if self.strays.is_empty() {
+            self.poll_record(room, out)
+        } else {
+            Ok(self.poll_stray(room, out))
+        }
+    }
+
+    // The first stray acknowledgement, where there is one.
+    fn poll_stray(&mut self, room: usize, out: &mut [u8]) -> EntityPolled
+        requires fits { room ≤ length out.old }
+        requires some { 1 ≤ length self.old.state.strays }
+        ensures polled { Polls room result self.old self.new out.old out.new }
+        ensures done { stored_by_poll result ≡ storeds.Done }
+        ensures inbox { self.new.inbox_failures ≡ self.old.inbox_failures }
+        ensures outbox { self.new.outbox_failures ≡ self.old.outbox_failures }
+    {
+        let len = self.stray_len();
+        if len > room {
+            return EntityPolled::Full;
+        }
+        match self.strays.pop_front() {
+            Some(stray) => EntityPolled::Moved(stray.write(out)),
+            None => EntityPolled::Nothing,
+        }
+    }
+
+    fn stray_len(&self) -> usize
+        ensures { result ≡ first_stray_len self.now.state.strays }
+    {
+        match self.strays.front() {
+            Some(stray) => stray.len(),
+            None => 0,
+        }
+    }
+
+    // The record that is next, where no stray acknowledgement waits.
+    fn poll_record(&mut self, room: usize, out: &mut [u8]) -> Result<EntityPolled, AllocError>
+        requires fits { room ≤ length out.old }
+        requires no_stray { self.old.state.strays ≡ [] }
+        ensures polled { IfOk result (λ answer. Polls room answer self.old self.new out.old
+            out.new) }
+        ensures counts { IfOk result (λ answer. Counts (stored_by_poll answer)
+            self.old.outbox_failures self.new.outbox_failures) }
+        ensures err { OnErr result ((self.new ≡ self.old) × (out.new ≡ out.old)) }
+        ensures grows { self.old.inbox_failures ≤ self.new.inbox_failures }
+    {
+        let Some(place) = self.table.next_due(self.cursor) else {
+            return Ok(EntityPolled::Nothing);
+        };
+        if self.table.due_len(place) > room {
+            return Ok(EntityPolled::Full);
+        }
+        match self.take_at(place, out)? {
+            Gave::Octets(octets) => Ok(EntityPolled::Moved(octets)),
+            Gave::Failed => Ok(EntityPolled::SourceFailed),
+        }
+    }
+
+    // Takes the PDU of the record at a place.
+    fn take_at(&mut self, place: usize, out: &mut [u8]) -> Result<Gave, AllocError>
+        requires fits { len_at place self.old.state.table ≤ length out.old }
+        requires within { place < 4096 }
+        ensures taken { IfOk result (λ gave. self.new.state
+            ≡ served (stored_by_gave gave) (Place place) self.old.state) }
+        ensures gives { IfOk result (λ gave. Gives (due_at place self.old.state.table)
+            (len_at place self.old.state.table) gave out.old out.new) }
+        ensures counts { IfOk result (λ gave. Counts (stored_by_gave gave)
+            self.old.outbox_failures self.new.outbox_failures) }
+        ensures err { OnErr result ((self.new ≡ self.old) × (out.new ≡ out.old)) }
+        ensures grows { self.old.inbox_failures ≤ self.new.inbox_failures }
+    {
+        self.table.reserve(3)?;
+        let gave = self.table.take(place, out);
+        self.cursor = place + 1;
+        Ok(gave)
+    }
+}

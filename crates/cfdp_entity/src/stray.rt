@@ -1,0 +1,67 @@
+// Acknowledgements of transactions that have no record.
+ghost use Rattle.std.specs.Prelude.{◌≡◌, ◌≤◌, length};
+ghost use Rattle.cfdp_directives.specs.Addressing.{addressing_of, FitsAddressing};
+ghost use Rattle.cfdp_directives.specs.Content.{view};
+ghost use Rattle.cfdp_entity.specs.Gives.{Writes};
+ghost use Rattle.cfdp_entity.specs.Strays.{stray_says, stray_octets, stray_len};
+
+use cfdp_directives::{Acknowledged, Addressing, Condition, Pdu, TransactionStatus};
+use cfdp_header::Header;
+use std::marker::Model;
+
+/// The ACK of a Finished whose transaction has no record here.
+#[derive(Debug, Drop)]
+pub struct Stray {
+    addressing: Addressing,
+    condition: Condition,
+}
+
+impl Model for Stray {
+    ghost use Rattle.cfdp_directives.specs.Addressing.{FitsAddressing};
+    ghost use Rattle.cfdp_entity.specs.Strays.{StrayAck};
+
+    ghost Value = { StrayAck };
+
+    ghost view = { λ s. record { addressing = s.addressing; condition = s.condition } };
+
+    ghost invariant = { λ s. FitsAddressing s.addressing };
+}
+
+impl Stray {
+    /// The answer to a Finished with this header and condition.
+    pub(crate) fn of(header: &Header, condition: Condition) -> Self
+        requires { FitsAddressing (addressing_of header.now) }
+        ensures { result ≡ record { addressing = addressing_of header.now; condition = condition } }
+    {
+        Stray {
+            addressing: Addressing::of(header),
+            condition,
+        }
+    }
+
+    fn pdu(&self) -> Pdu<'_>
+        ensures { view result ≡ stray_says self.now }
+    {
+        Pdu::Ack {
+            of: Acknowledged::Finished,
+            condition: self.condition,
+            status: TransactionStatus::Unrecognized,
+        }
+    }
+
+    /// Its octets.
+    pub(crate) fn len(&self) -> usize
+        ensures { result ≡ stray_len self.now }
+    {
+        self.addressing.written_len(&self.pdu())
+    }
+
+    /// Writes it over the first octets of `out`, and says how many they are.
+    pub(crate) fn write(&self, out: &mut [u8]) -> usize
+        requires room { stray_len self.now ≤ length out.old }
+        ensures len { result ≡ stray_len self.now }
+        ensures writes { Writes (stray_octets self.now) result out.old out.new }
+    {
+        self.addressing.write_pdu(&self.pdu(), out)
+    }
+}
