@@ -1,0 +1,13 @@
+-- How a station may be set up.
+use Rattle.std.specs.Prelude.{◌≤◌}
+use Rattle.aos_frame.specs.Frame.{IsLink}
+use Rattle.cfdp_entity.specs.Config.{IsConfig}
+use Rattle.cfdp_station.specs.declared.config.StationConfig.{StationConfig}
+
+-- A station can be set up so.
+pub record IsStationConfig (c : StationConfig) : Type 0 where
+  pub entity : IsConfig c.entity
+  pub down : IsLink c.down
+  pub up : IsLink c.up
+  pub least : 8192 ≤ c.capacity
+  pub most : c.capacity ≤ 65536

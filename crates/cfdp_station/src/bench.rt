@@ -1,0 +1,104 @@
+// For tests: a station over stores in memory, with room for one of its frames.
+ghost use Rattle.cfdp_station.specs.Config.{IsStationConfig};
+
+use crate::{Polled, Station, StationConfig};
+use cfdp_store::{MemoryInbox, MemoryOutbox};
+use std::alloc::{AllocError, Global};
+use std::marker::Model;
+
+/// The most PDUs polled at once, and frames taken.
+const MOST: u8 = 16;
+
+#[derive(Drop)]
+pub struct Bench {
+    station: Station<MemoryOutbox, MemoryInbox>,
+    frame: Vec<u8>,
+}
+
+impl Model for Bench {
+    ghost use Rattle.std.specs.Prelude.{◌≡◌, ◌+◌, length};
+
+    ghost Value = { Unit {0} };
+
+    ghost view = { λ _. tt };
+
+    ghost invariant = { λ b. length b.frame.items ≡ 8 + b.station.down.link.zone };
+}
+
+impl Bench {
+    /// A station with these files to send.
+    pub fn new(
+        alloc: Global,
+        config: StationConfig,
+        outbox: MemoryOutbox,
+    ) -> Result<Bench, AllocError>
+        requires { IsStationConfig config }
+    {
+        let station = Station::new(alloc, config, outbox, MemoryInbox::new(alloc))?;
+        let frame = vec![in alloc; 0u8; station.frame_len()]?;
+        Ok(Bench { station, frame })
+    }
+
+    /// Puts `a.txt` to be published as `b.txt`. False where that is refused.
+    pub fn puts(&mut self) -> bool {
+        self.station.put(b"a.txt", b"b.txt").is_ok()
+    }
+
+    /// The frames of what is due, at most 16 PDUs, and of a flush behind each or behind all.
+    pub fn sends(&mut self, alloc: Global, flush_each: bool) -> Result<Vec<Vec<u8>>, AllocError> {
+        for _ in 0..MOST {
+            if !self.moves(flush_each)? {
+                break;
+            }
+        }
+        self.station.flush();
+        self.frames(alloc)
+    }
+
+    fn moves(&mut self, flush: bool) -> Result<bool, AllocError> {
+        let moved = self.station.poll()? == Polled::Moved;
+        if flush {
+            self.station.flush();
+        }
+        Ok(moved)
+    }
+
+    fn frames(&mut self, alloc: Global) -> Result<Vec<Vec<u8>>, AllocError> {
+        let mut frames = Vec::new(alloc);
+        for _ in 0..MOST {
+            match self.next(alloc)? {
+                Some(frame) => frames.push(frame)?,
+                None => break,
+            }
+        }
+        Ok(frames)
+    }
+
+    fn next(&mut self, alloc: Global) -> Result<Option<Vec<u8>>, AllocError> {
+        if !self.station.next_frame(&mut self.frame) {
+            return Ok(None);
+        }
+        Ok(Some(Vec::from_slice(alloc, &self.frame)?))
+    }
+
+    /// Takes these frames, in order.
+    pub fn takes(&mut self, frames: &[Vec<u8>]) {
+        for frame in frames {
+            self.take(frame);
+        }
+    }
+
+    fn take(&mut self, frame: &[u8]) {
+        self.station.take(frame);
+    }
+
+    /// Whether nothing was indicated.
+    pub fn is_quiet(&self) -> bool {
+        self.station.indications().is_empty()
+    }
+
+    /// How often something was dropped under a number: of frames, and of PDUs.
+    pub fn drops(&self, number: u8) -> (u64, u64) {
+        (self.station.link_drops(number), self.station.drops(number))
+    }
+}

@@ -1,0 +1,347 @@
+//! An entity over both directions of a link.
+ghost use Rattle.std.specs.Prelude.{◌≡◌, ℕ, ◌+◌, ◌*◌, ◌<◌, ◌≤◌, ◌↔◌, List, [], true, false, length, get_or, IfOk, IfErr, OnOk, OnErr};
+ghost use Rattle.mpdu.specs.Stream.{ArePackets};
+ghost use Rattle.link_stack.specs.Downward.{IsDown};
+ghost use Rattle.link_stack.specs.Drops.{count_of};
+ghost use Rattle.link_stack.specs.Frames.{AreOfLink};
+ghost use Rattle.link_stack.specs.Upward.{IsUp};
+ghost use Rattle.link_stack.specs.Downward as downward;
+ghost use Rattle.cfdp_store.specs.Stores.{Counts, failures_after};
+ghost use Rattle.cfdp_entity.specs.Calling.{IsRefusal};
+ghost use Rattle.cfdp_entity.specs.Calls.{IsCalled, call_refusal};
+ghost use Rattle.cfdp_entity.specs.Entity.{first_entity, with_table, phase_told};
+ghost use Rattle.cfdp_entity.specs.Putting.{Accepts, put_refusal, IsPutRefusal, stored_by_error, was_answered};
+ghost use Rattle.cfdp_entity.specs.Table.{Ticks};
+ghost use Rattle.cfdp_entity.specs.declared.call.Call.TheVariants as calls;
+ghost use Rattle.cfdp_station.specs.declared.polled.Polled.TheVariants as answers;
+ghost use Rattle.cfdp_station.specs.Config.{IsStationConfig};
+ghost use Rattle.cfdp_station.specs.Link.{Flushes, MakesFrame, WaitAtMost, HoldsAtMost};
+ghost use Rattle.cfdp_station.specs.Polling.{Polls, next_len, stored_by_poll};
+ghost use Rattle.cfdp_station.specs.Station.{first_down, first_up, KeepsLink, KeepsRest};
+ghost use Rattle.cfdp_station.specs.Taking.{TakesFrame};
+
+use crate::config::StationConfig;
+use crate::moving::{hear_all, move_one};
+use crate::polled::Polled;
+use cfdp_directives::{Indication, Phase};
+use cfdp_entity::{CallError, Entity, PutError};
+use cfdp_header::TransactionId;
+use cfdp_store::{Inbox, Outbox};
+use link_stack::{Down, Up};
+use std::alloc::{AllocError, Global};
+use std::marker::Model;
+
+/// An entity of CFDP, class 2, with both its stores and both directions of its link.
+///
+/// The calls of the user, and `tick`, are those of its [`Entity`]. A [`poll`](Self::poll) moves one
+/// PDU down, into a packet of its own; [`next_frame`](Self::next_frame) gives the frames that are
+/// whole, and a [`flush`](Self::flush) makes the begun one whole. [`take`](Self::take) takes a
+/// frame of the peer.
+///
+/// Each PDU is written once, into a buffer made with the station. So `flush`, `frames_ahead` and
+/// `next_frame` take no memory, and `poll` none but what the entity's indications need.
+#[derive(Drop)]
+pub struct Station<O: Outbox, I: Inbox> {
+    alloc: Global,
+    entity: Entity<O, I>,
+    down: Down,
+    up: Up,
+    // room for one PDU of the capacity
+    buffer: Vec<u8>,
+}
+
+impl<O: Outbox, I: Inbox> Model for Station<O, I> {
+    ghost use Rattle.std.specs.Prelude.{◌≡◌, ◌+◌, ◌≤◌, length};
+    ghost use Rattle.std.specs.Coded.{codes, coded_ℕ, coded_list, coded×};
+    ghost use Rattle.std.specs.Ordering.{nat_cmp};
+    ghost use Rattle.std.specs.Cmp.Lexicographic.{slice_cmp};
+    ghost use Rattle.std.specs.FinMap as finmap;
+    ghost use Rattle.std.specs.FinSet as finset;
+    ghost use Rattle.cfdp_timers.specs.Armed.{armed_code};
+    ghost use Rattle.cfdp_station.specs.Station.{StationState};
+
+    ghost Value = { StationState };
+
+    ghost coded = { Prim.hlevel (codes, armed_code, finset.code {R = nat_cmp} coded_ℕ, finmap.code {R = nat_cmp} coded_ℕ coded_ℕ, finmap.code {R = slice_cmp nat_cmp} (coded_list coded_ℕ) (coded_list coded_ℕ)) };
+
+    ghost view = { λ s. record { entity = s.entity; down = s.down; up = s.up } };
+
+    ghost invariant = { λ s. (length s.buffer.items ≡ s.down.capacity)
+        × (length s.down.waiting ≤ s.down.capacity + 2047) };
+}
+
+impl<O: Outbox, I: Inbox> Station<O, I> {
+    /// A station without transactions, over its two stores, that sent and took no frame.
+    ///
+    /// # Errors
+    ///
+    /// `AllocError` only where the memory for the entity, or for a buffer, was refused.
+    pub fn new(
+        alloc: Global,
+        config: StationConfig,
+        outbox: O,
+        inbox: I,
+    ) -> Result<Self, AllocError>
+        requires { IsStationConfig config }
+        ensures entity { IfOk result (λ s. s.entity.state ≡ first_entity (O.files outbox)
+            (I.published inbox) config.entity) }
+        ensures down { IfOk result (λ s. s.down
+            ≡ first_down config.down config.capacity) }
+        ensures up { IfOk result (λ s. s.up ≡ first_up config.up) }
+        // Its stream is empty, and it is as no frame of a stream leaves it.
+        ensures sent { IfOk result (λ s. IsDown s.down [] 0) }
+        ensures taken { (ps : List (List ℕ)) → ArePackets ps → AreOfLink config.up ps →
+            IfOk result (λ s. IsUp s.up ps [] 0) }
+    {
+        let entity = Entity::new(alloc, config.entity, outbox, inbox)?;
+        let down = Down::new(alloc, config.down, config.capacity)?;
+        let up = Up::new(alloc, config.up)?;
+        let buffer = vec![in alloc; 0u8; config.capacity]?;
+        Ok(Station {
+            alloc,
+            entity,
+            down,
+            up,
+            buffer,
+        })
+    }
+
+    /// Sends a file of the outbox, to be published by the peer under the second name; both have 1
+    /// to 255 octets. Answers the transaction.
+    ///
+    /// # Errors
+    ///
+    /// The first cause that holds, in the order of [`PutError`]. A refused put uses no number, and
+    /// changes nothing but the outbox's failures.
+    pub fn put(&mut self, source: &[u8], destination: &[u8]) -> Result<TransactionId, PutError>
+        ensures accepted { IfOk result (λ id. Accepts source.now destination.now id
+            self.old.entity.state self.new.entity.state) }
+        ensures refused { IfErr result (λ by. IsPutRefusal (put_refusal (stored_by_error by)
+            source.now destination.now self.old.entity.state) by) }
+        ensures err { OnErr result (self.new.entity.state ≡ self.old.entity.state) }
+        ensures inbox { self.new.entity.inbox_failures ≡ self.old.entity.inbox_failures }
+        ensures outbox { self.new.entity.outbox_failures
+            ≡ failures_after self.old.entity.outbox_failures (was_answered result) }
+        ensures link { KeepsLink self.old self.new }
+    {
+        self.entity.put(source, destination)
+    }
+
+    /// Gives a transaction up, and tells the peer.
+    ///
+    /// # Errors
+    ///
+    /// The first cause that holds, in the order of [`CallError`]; nothing changed then.
+    pub fn cancel(&mut self, id: TransactionId) -> Result<(), CallError>
+        ensures called { OnOk result (IsCalled calls.Cancel id self.old.entity.state
+            self.new.entity.state) }
+        ensures refused { IfErr result (IsRefusal (call_refusal calls.Cancel id
+            self.old.entity.state.table)) }
+        ensures err { OnErr result (self.new ≡ self.old) }
+        ensures grows { self.old.entity.inbox_failures ≤ self.new.entity.inbox_failures }
+        ensures outbox { self.new.entity.outbox_failures ≡ self.old.entity.outbox_failures }
+        ensures link { KeepsLink self.old self.new }
+    {
+        self.entity.cancel(id)
+    }
+
+    /// Sends nothing of a transaction, and lets no time run for it.
+    ///
+    /// # Errors
+    ///
+    /// The first cause that holds, in the order of [`CallError`]; nothing changed then.
+    pub fn suspend(&mut self, id: TransactionId) -> Result<(), CallError>
+        ensures called { OnOk result (IsCalled calls.Suspend id self.old.entity.state
+            self.new.entity.state) }
+        ensures refused { IfErr result (IsRefusal (call_refusal calls.Suspend id
+            self.old.entity.state.table)) }
+        ensures err { OnErr result (self.new ≡ self.old) }
+        ensures grows { self.old.entity.inbox_failures ≤ self.new.entity.inbox_failures }
+        ensures outbox { self.new.entity.outbox_failures ≡ self.old.entity.outbox_failures }
+        ensures link { KeepsLink self.old self.new }
+    {
+        self.entity.suspend(id)
+    }
+
+    /// Goes on with a transaction that was suspended.
+    ///
+    /// # Errors
+    ///
+    /// The first cause that holds, in the order of [`CallError`]; nothing changed then.
+    pub fn resume(&mut self, id: TransactionId) -> Result<(), CallError>
+        ensures called { OnOk result (IsCalled calls.Resume id self.old.entity.state
+            self.new.entity.state) }
+        ensures refused { IfErr result (IsRefusal (call_refusal calls.Resume id
+            self.old.entity.state.table)) }
+        ensures err { OnErr result (self.new ≡ self.old) }
+        ensures grows { self.old.entity.inbox_failures ≤ self.new.entity.inbox_failures }
+        ensures outbox { self.new.entity.outbox_failures ≡ self.old.entity.outbox_failures }
+        ensures link { KeepsLink self.old self.new }
+    {
+        self.entity.resume(id)
+    }
+
+    /// Asks the receiver of a file that this station sends for a Keep Alive where true, else for a
+    /// NAK.
+    ///
+    /// # Errors
+    ///
+    /// The first cause that holds, in the order of [`CallError`]; nothing changed then.
+    pub fn prompt(&mut self, id: TransactionId, keep_alive: bool) -> Result<(), CallError>
+        ensures called { OnOk result (IsCalled (calls.Prompt keep_alive) id self.old.entity.state
+            self.new.entity.state) }
+        ensures refused { IfErr result (IsRefusal (call_refusal (calls.Prompt keep_alive) id
+            self.old.entity.state.table)) }
+        ensures err { OnErr result (self.new ≡ self.old) }
+        ensures grows { self.old.entity.inbox_failures ≤ self.new.entity.inbox_failures }
+        ensures outbox { self.new.entity.outbox_failures ≡ self.old.entity.outbox_failures }
+        ensures link { KeepsLink self.old self.new }
+    {
+        self.entity.prompt(id, keep_alive)
+    }
+
+    /// How far a transaction has come; `None` where it has no record here.
+    pub fn phase(&self, id: TransactionId) -> Option<Phase>
+        ensures { result ≡ phase_told id self.now.entity.state.table }
+    {
+        self.entity.phase(id)
+    }
+
+    /// How often a PDU that came up was dropped by the cause with this number, 1 to 17; 0 of any
+    /// other number. The count stays at the greatest `u64`.
+    pub fn drops(&self, number: u8) -> u64
+        ensures { result ≡ get_or self.now.entity.state.drops number 0 }
+    {
+        self.entity.drops(number)
+    }
+
+    /// How often something of the frames taken was dropped under a number, 1 to 11; 0 of any other
+    /// number. The count stays at the greatest `u64`.
+    pub fn link_drops(&self, number: u8) -> u64
+        ensures { result ≡ count_of self.now.up.drops number }
+    {
+        self.up.drops(number)
+    }
+
+    /// What was indicated, in order, from the first indication on.
+    pub fn indications(&self) -> &[Indication]
+        ensures { result.now ≡ self.now.entity.state.table.told }
+    {
+        self.entity.indications()
+    }
+
+    /// The outbox, lent.
+    pub fn outbox(&self) -> &O
+        ensures files { O.files result.now ≡ self.now.entity.state.table.sources }
+        ensures failures { O.failures result.now ≡ self.now.entity.outbox_failures }
+    {
+        self.entity.outbox()
+    }
+
+    /// The inbox, lent.
+    pub fn inbox(&self) -> &I
+        ensures published { I.published result.now ≡ self.now.entity.state.table.files }
+        ensures failures { I.failures result.now ≡ self.now.entity.inbox_failures }
+    {
+        self.entity.inbox()
+    }
+
+    /// Moves the PDU whose turn it is down the link, in a packet of its own, where one is due and
+    /// there is room for it. One that doesn't fit stays due.
+    ///
+    /// # Errors
+    ///
+    /// `AllocError` only where the memory for the step's indications was refused; nothing changed
+    /// then.
+    pub fn poll(&mut self) -> Result<Polled, AllocError>
+        ensures polled { IfOk result (λ answer. Polls answer self.old self.new) }
+        ensures full { IfOk result (λ answer. (answer ≡ answers.Full)
+            ↔ (downward.room self.old.down < next_len self.old.entity.state)) }
+        ensures err { OnErr result (self.new ≡ self.old) }
+        ensures counts { IfOk result (λ answer. Counts (stored_by_poll answer)
+            self.old.entity.outbox_failures self.new.entity.outbox_failures) }
+        ensures grows { self.old.entity.inbox_failures ≤ self.new.entity.inbox_failures }
+        ensures ahead { (frames : ℕ) → HoldsAtMost frames self.old.down →
+            WaitAtMost frames self.new.down }
+        ensures fixed { (self.new.down.link ≡ self.old.down.link)
+            × (self.new.down.capacity ≡ self.old.down.capacity) }
+    {
+        move_one(&mut self.entity, &mut self.down, &mut self.buffer)
+    }
+
+    /// Fills the begun frame by an idle packet, where one is begun, so that all that was sent can
+    /// leave in whole frames. It polls nothing.
+    pub fn flush(&mut self)
+        ensures flushed { Flushes self.old.down self.new.down }
+        ensures rest { KeepsRest self.old self.new }
+        ensures ahead { (frames : ℕ) → HoldsAtMost frames self.old.down →
+            WaitAtMost frames self.new.down }
+    {
+        self.down.flush();
+    }
+
+    /// The most whole frames that can wait after a poll or a flush: a caller that has room for so
+    /// many can take them all.
+    pub fn frames_ahead(&self) -> usize
+        ensures enough { HoldsAtMost result self.now.down }
+        ensures no_more { result * self.now.down.link.zone ≤ self.now.down.capacity + 2047 }
+    {
+        self.down.frames_ahead()
+    }
+
+    /// The octets of each frame that it sends: 8 more than those of a zone.
+    pub fn frame_len(&self) -> usize
+        ensures { result ≡ 8 + self.now.down.link.zone }
+    {
+        self.down.frame_len()
+    }
+
+    /// Writes the oldest whole frame that waits, and takes it off. The buffer has
+    /// [`frame_len`](Self::frame_len) octets.
+    ///
+    /// False where no whole frame waits: nothing changed then.
+    pub fn next_frame(&mut self, out: &mut [u8]) -> bool
+        requires { length out.old ≡ 8 + self.old.down.link.zone }
+        ensures none { (result ≡ false) ↔ (length self.old.down.waiting < self.old.down.link.zone) }
+        ensures kept { result ≡ false → (self.new ≡ self.old) × (out.new ≡ out.old) }
+        // It is the stream's frame behind those made.
+        ensures made { result ≡ true → MakesFrame out.new self.old.down self.new.down }
+        ensures rest { KeepsRest self.old self.new }
+    {
+        self.down.next_frame(out)
+    }
+
+    /// Takes a frame, whatever its octets are: the entity hears each PDU that comes up, in order.
+    ///
+    /// It always returns. What can't be read of the frame is counted in
+    /// [`link_drops`](Self::link_drops), and a PDU that the entity doesn't take in
+    /// [`drops`](Self::drops). What finds no memory is dropped and counted in one of both, as if it
+    /// had been lost.
+    pub fn take(&mut self, frame: &[u8])
+        ensures { TakesFrame frame.now self.old self.new }
+    {
+        let mut pdus = Vec::new(self.alloc);
+        self.up.take(frame, &mut pdus);
+        hear_all(&mut self.entity, &pdus);
+    }
+
+    /// Tells the time: each timer that is due as the call begins expires once, in the order of
+    /// their deadlines. A time earlier than the last one told counts as that.
+    ///
+    /// # Errors
+    ///
+    /// `AllocError` only where the memory for what fires, or for its indications, was refused;
+    /// nothing changed then, the time neither.
+    pub fn tick(&mut self, now: u64) -> Result<(), AllocError>
+        ensures ticked { OnOk result (Ticks now self.old.entity.state.table
+            self.new.entity.state.table) }
+        ensures table { self.new.entity.state
+            ≡ with_table self.old.entity.state self.new.entity.state.table }
+        ensures err { OnErr result (self.new.entity.state ≡ self.old.entity.state) }
+        ensures grows { self.old.entity.inbox_failures ≤ self.new.entity.inbox_failures }
+        ensures outbox { self.new.entity.outbox_failures ≡ self.old.entity.outbox_failures }
+        ensures link { KeepsLink self.old self.new }
+    {
+        self.entity.tick(now)
+    }
+}
