@@ -12,3 +12,8 @@ pub mod WorkLemmas
 pub mod WorldSteps
 pub mod Runs
 pub mod Rows
+pub mod Sending
+pub mod Sends
+pub mod Receiving
+pub mod Pulling
+pub mod Carried

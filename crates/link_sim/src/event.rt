@@ -5,20 +5,21 @@ use crate::side::Side;
 use cfdp_directives::Octets;
 use thiserror::Error;
 
-/// Something that happens to the two stations and the link between them.
+/// One thing that happens to the two stations or on the link between them.
 #[derive(Debug, Drop)]
 pub enum Event {
-    /// The station's user asks for a file to be put to the other station.
+    /// A station's user asks it to send a file to the other station.
     Put {
+        /// The station that sends.
         at: Side,
-        /// The file's name in the station's outbox: 1 to 255 octets.
+        /// The file's name in that station's outbox: 1 to 255 octets.
         source: Octets,
         /// The file's name at the other station: 1 to 255 octets.
         destination: Octets,
     },
-    /// The station puts the PDU that is due on the link.
+    /// The station puts its next PDU on the link, where one is due.
     Poll(Side),
-    /// Nothing here: PDUs need no filling up.
+    /// Nothing here: each PDU is sent whole, so nothing needs filling up.
     Flush(Side),
     /// The oldest waiting PDU that this station sent reaches the other one.
     Deliver(Side),
@@ -26,7 +27,7 @@ pub enum Event {
     Strike(Side),
 }
 
-/// What an event did.
+/// What an event did: something, nothing, or a put that was refused.
 #[derive(Clone, Copy, Debug, PartialEq, Eq)]
 pub enum Applied {
     /// It happened.
@@ -37,7 +38,9 @@ pub enum Applied {
     Refused(PutError),
 }
 
-/// Why a put is refused: the first cause that holds, in the order of the variants here.
+/// Why a station refuses to send a file.
+///
+/// It is the first cause that holds, in the order in which they stand here.
 #[derive(Clone, Copy, Debug, PartialEq, Eq, Error)]
 pub enum PutError {
     /// A name doesn't have 1 to 255 octets.
@@ -58,7 +61,7 @@ pub enum PutError {
 }
 
 impl PutError {
-    /// The number that names this refusal in reports.
+    /// The number that stands for this refusal in reports, from 1 on.
     pub fn number(self) -> u8
         ensures { result ≡ put_refusal_number self }
     {
@@ -71,7 +74,7 @@ impl PutError {
         }
     }
 
-    /// Its name in reports.
+    /// The name of this refusal in reports.
     pub fn name(self) -> &'static str
         ensures { result.now ≡ put_refusal_name self }
     {
@@ -94,15 +97,18 @@ pub enum Mark {
     Struck,
 }
 
-/// A put that was accepted.
+/// A file that a station took to send: its transaction and its two names.
 #[derive(Debug, Drop)]
 pub struct AcceptedPut {
+    /// The transaction that sends it.
     pub id: cfdp_header::TransactionId,
+    /// The file's name in the sender's outbox.
     pub source: Octets,
+    /// The file's name at the receiver.
     pub destination: Octets,
 }
 
-/// Why settling stopped before it was done.
+/// Why [`World::settle`](crate::World::settle) stopped before it was done.
 #[derive(Clone, Copy, Debug, PartialEq, Eq, Error)]
 pub enum SettleError {
     /// An event found no memory.
@@ -111,7 +117,7 @@ pub enum SettleError {
 }
 
 impl SettleError {
-    /// The number that names this error in reports.
+    /// The number that stands for this error in reports, from 1 on.
     pub fn number(self) -> u8
         ensures { result ≡ settle_refusal_number self }
     {
@@ -120,7 +126,7 @@ impl SettleError {
         }
     }
 
-    /// Its name in reports.
+    /// The name of this error in reports.
     pub fn name(self) -> &'static str
         ensures { result.now ≡ settle_refusal_name self }
     {

@@ -7,9 +7,10 @@ use std::alloc::{AllocError, Global};
 use std::collections::BTreeMap;
 use std::marker::Model;
 
-/// The octets of a file that a receiver holds, by their offsets in the file (CCSDS 727.0-B-5, 4.6.1).
+/// What a receiver has of a file: octets by their offsets in it (CCSDS 727.0-B-5, 4.6.1).
 ///
-/// Data may come in any order, more than once and with gaps. The first octet that comes for an offset stays.
+/// Data may come in any order, more than once and with gaps. The first octet that comes for an
+/// offset stays.
 #[derive(Debug, Drop)]
 pub struct HeldOctets {
     octets: BTreeMap<u64, u8>,
@@ -30,7 +31,7 @@ impl Model for HeldOctets {
 }
 
 impl HeldOctets {
-    /// No octets. Takes no memory; `alloc` serves what is added later.
+    /// Nothing of a file yet. It takes no memory; `alloc` serves what is added later.
     pub fn new(alloc: Global) -> Self
         ensures { result ≡ map.empty }
     {
@@ -40,19 +41,21 @@ impl HeldOctets {
         }
     }
 
-    /// Lets all octets go.
+    /// Lets go of all octets.
     pub fn clear(&mut self)
         ensures { self.new ≡ map.empty }
     {
         self.octets.clear();
     }
 
-    /// Adds file data, whose first octet stands at the offset `at`, and says which octets are new, with their offsets.
-    /// An octet that is held keeps its value.
+    /// Adds file data that begin at the offset `at`, and says which octets are new.
+    ///
+    /// Each new octet comes with its offset. An octet that is held keeps its value.
     ///
     /// # Errors
     ///
-    /// `AllocError` where there is no memory for it. What was held is then held as before, and nothing else.
+    /// `AllocError` where there is no memory for it. What was held is then held as before, and
+    /// nothing else.
     pub fn add(&mut self, at: u64, bytes: &[u8]) -> Result<Vec<(u64, u8)>, AllocError>
         requires { at + length bytes.now < 2 ^ 64 }
         ensures ok { OnOk result (self.new ≡ with_data self.old at bytes.now) }
@@ -64,7 +67,7 @@ impl HeldOctets {
         Ok(new)
     }
 
-    /// Lets these octets go.
+    /// Lets go of these octets, each with its offset.
     pub fn remove_all(&mut self, octets: &[(u64, u8)])
         ensures { self.new ≡ without_octets self.old octets.now }
     {

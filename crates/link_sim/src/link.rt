@@ -6,7 +6,7 @@ use cfdp_directives::Octets;
 use std::alloc::{AllocError, Global};
 use std::marker::Model;
 
-/// The PDUs that one station sent, in order, and what became of those that no longer wait.
+/// One direction of the link: the PDUs that a station sent, in order, and what became of them.
 #[derive(Debug, Drop)]
 pub struct Link {
     pdus: Vec<Octets>,
@@ -26,7 +26,7 @@ impl Model for Link {
 }
 
 impl Link {
-    /// A link that nothing was put on.
+    /// A link on which nothing was put yet.
     pub fn new(alloc: Global) -> Link
         ensures { result ≡ record { pdus = []; marks = [] } }
     {
@@ -36,7 +36,7 @@ impl Link {
         }
     }
 
-    /// The oldest PDU that waits.
+    /// The octets of the oldest PDU that waits to be delivered, if there is one.
     pub fn waiting(&self) -> Option<&[u8]>
         ensures { MatchOption result (waiting self.now ≡ None) (λ text. waiting self.now ≡ Some text.now) }
     {
@@ -57,7 +57,7 @@ impl Link {
         Ok(())
     }
 
-    /// Marks the oldest PDU that waits.
+    /// Says of the oldest PDU that waits what became of it: it waits no longer.
     pub fn mark(&mut self, mark: Mark)
         requires { length self.old.marks < length self.old.pdus }
         ensures { self.new ≡ with_mark mark self.old }

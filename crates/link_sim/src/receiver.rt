@@ -23,7 +23,7 @@ pub enum ReceiverPhase {
     Closed,
 }
 
-/// What a receiver sends next.
+/// The PDU that a receiver sends next.
 #[derive(Clone, Copy, Debug, PartialEq, Eq)]
 pub enum ReceiverDue {
     /// ACK of the EOF heard last, with its condition.
@@ -32,7 +32,7 @@ pub enum ReceiverDue {
     Finished(Outcome),
 }
 
-/// What Metadata said that is still wanted.
+/// What the receiver keeps of Metadata: the file's name and its kind of checksum.
 #[derive(Debug, Drop)]
 pub struct FileInfo {
     pub checksum_kind: ChecksumKind,
@@ -40,7 +40,7 @@ pub struct FileInfo {
     pub destination: Octets,
 }
 
-/// What the first EOF without an error said.
+/// What the first EOF without an error said: the file's size and its checksum.
 #[derive(Clone, Copy, Debug, PartialEq, Eq)]
 pub struct Ending {
     pub checksum: u32,
@@ -48,7 +48,7 @@ pub struct Ending {
     pub size: u64,
 }
 
-/// How a transaction ended.
+/// How a transaction ended, as its Finished tells it (CCSDS 727.0-B-5, 5.2.3).
 #[derive(Clone, Copy, Debug, PartialEq, Eq)]
 pub struct Outcome {
     pub condition: Condition,
@@ -56,13 +56,13 @@ pub struct Outcome {
     pub status: FileStatus,
 }
 
-/// The receiving side of one transaction.
+/// The receiving side of one file transfer.
 #[derive(Debug, Drop)]
 pub struct Receiver {
     pub id: TransactionId,
-    /// Octets of an entity id in the first PDU that was heard: answers are written so too.
+    /// How many octets an entity id has in the PDUs: as many as in the first one that was heard.
     pub id_width: u8,
-    /// Octets of a sequence number in it.
+    /// How many octets a sequence number has in the PDUs, likewise.
     pub number_width: u8,
     pub file: Option<FileInfo>,
     pub ending: Option<Ending>,
@@ -79,7 +79,7 @@ pub struct Receiver {
 const SIZE_LIMIT: u64 = 4_294_967_295;
 
 impl Receiver {
-    /// A receiver in this phase that has heard nothing yet of the transaction that the header names.
+    /// A receiver that has heard nothing yet of the transaction that the header names.
     pub fn opened(alloc: Global, phase: ReceiverPhase, header: &Header) -> Receiver
         ensures { result ≡ opened_receiver phase header.now }
     {
@@ -97,7 +97,7 @@ impl Receiver {
         }
     }
 
-    /// What is due.
+    /// What the receiver sends next, if anything.
     pub fn due(&self) -> Option<ReceiverDue>
         ensures { result ≡ receiver_due self.now }
     {
@@ -110,7 +110,7 @@ impl Receiver {
         }
     }
 
-    /// What the PDU says that is due.
+    /// The contents of the PDU that is due.
     pub fn says<'a>(&self, due: &ReceiverDue) -> Pdu<'a>
         ensures { view result ≡ receiver_says self.now due.now }
     {
@@ -129,7 +129,7 @@ impl Receiver {
         }
     }
 
-    /// Goes on behind the PDU that was due, which is taken.
+    /// Notes that the PDU that was due is sent.
     pub fn take(&mut self, due: &ReceiverDue)
         ensures { self.new ≡ receiver_taken self.old due.now }
     {
@@ -353,7 +353,7 @@ impl Receiver {
         }
     }
 
-    /// Hears a PDU of its transaction. An error leaves all as it was.
+    /// Does what a PDU of its transaction asks for. An error leaves all as it was.
     pub fn hear(
         &mut self,
         alloc: Global,
@@ -424,7 +424,8 @@ fn is_supported(kind: ChecksumKind) -> bool
     kind == ChecksumKind::MODULAR || kind == ChecksumKind::NULL
 }
 
-/// Whether data of this length, from this offset on, end behind the file's end, or behind the greatest one.
+/// Whether data of this length, from this offset on, end behind the file's end, or behind the
+/// greatest one.
 fn exceeds(ending: Option<Ending>, offset: u64, len: usize) -> bool
     ensures value { result ≡ receiving.exceeds ending (offset + len) }
     ensures fits { result ≡ false → offset + len ≤ 4294967295 }

@@ -18,7 +18,7 @@ pub enum SenderPhase {
     Closed,
 }
 
-/// What a sender sends next.
+/// The PDU that a sender sends next.
 #[derive(Clone, Copy, Debug, PartialEq, Eq)]
 pub enum SenderDue {
     /// ACK of the Finished heard last, with its condition.
@@ -29,7 +29,7 @@ pub enum SenderDue {
     Eof,
 }
 
-/// The sending side of one transaction.
+/// The sending side of one file transfer.
 #[derive(Debug, Drop)]
 pub struct Sender {
     pub id: TransactionId,
@@ -37,9 +37,9 @@ pub struct Sender {
     pub source: Octets,
     /// The file's name at the receiver: 1 to 255 octets.
     pub destination: Octets,
-    /// Octets of the file: below 2^32.
+    /// How many octets the file has: below 2^32.
     pub size: u64,
-    /// End of the data sent so far.
+    /// How many octets of it were sent so far.
     pub sent: u64,
     pub metadata_due: bool,
     /// Whether EOF was sent.
@@ -52,7 +52,7 @@ pub struct Sender {
 }
 
 impl Sender {
-    /// A sender that has sent nothing yet.
+    /// A sender of a file of `size` octets that has sent nothing yet.
     pub fn opened(id: TransactionId, source: Octets, destination: Octets, size: u64) -> Sender
         ensures { result ≡ opened_sender id source destination size }
     {
@@ -70,7 +70,7 @@ impl Sender {
         }
     }
 
-    /// What is due.
+    /// What the sender sends next, if anything.
     pub fn due(&self) -> Option<SenderDue>
         ensures { result ≡ sender_due self.now }
     {
@@ -93,7 +93,9 @@ impl Sender {
         }
     }
 
-    /// What the PDU says that is due; `file` is what the outbox has under the source name.
+    /// The contents of the PDU that is due.
+    ///
+    /// `file` is what the outbox has under the source name.
     pub fn says<'a>(&'a self, config: &SimConfig, file: &'a [u8], due: &SenderDue) -> Pdu<'a>
         ensures { view result ≡ sender_says config.now file.now self.now due.now }
     {
@@ -123,7 +125,7 @@ impl Sender {
         }
     }
 
-    /// Goes on behind the PDU that was due, which is taken, and indicates what that means.
+    /// Notes that the PDU that was due is sent, and indicates what that means to the user.
     pub fn take(&mut self, config: &SimConfig, due: &SenderDue, told: &mut Vec<Indication>)
         requires room { vec_len told.old + 1 ≤ vec_capacity told.old }
         ensures sender { self.new ≡ sender_taken config.now self.old due.now }
@@ -183,7 +185,7 @@ impl Sender {
         }
     }
 
-    /// Hears a PDU of its transaction.
+    /// Does what a PDU of its transaction asks for.
     pub fn hear(&mut self, told: &mut Vec<Indication>, pdu: &Pdu<'_>)
         requires room { vec_len told.old + 1 ≤ vec_capacity told.old }
         ensures sender { self.new ≡ (sender_hears (view pdu.now) self.old).sender }

@@ -16,7 +16,7 @@ use cfdp_store::Files;
 use std::alloc::{AllocError, Global};
 use std::marker::Model;
 
-/// One station: its files, what it indicated, and its transaction, if there is one.
+/// One station: its files, what it told its user, and its file transfer, if there is one.
 #[derive(Debug, Drop)]
 pub struct Station {
     alloc: Global,
@@ -41,7 +41,7 @@ impl Model for Station {
 }
 
 impl Station {
-    /// A station with these files in its outbox and its inbox, that has done nothing yet.
+    /// A station that has done nothing yet, with these files to send and these received before.
     pub fn new(alloc: Global, sources: Files, published: Files) -> Station
         ensures { result ≡ first_station sources published }
     {
@@ -54,21 +54,21 @@ impl Station {
         }
     }
 
-    /// What was indicated, in order.
+    /// What the station told its user, in order: CFDP's indications.
     pub fn indications(&self) -> &[Indication]
         ensures { result.now ≡ self.now.told }
     {
         self.told.as_slice()
     }
 
-    /// The files that were published.
+    /// The files that the station received whole, over those that it began with.
     pub fn published(&self) -> &Files
         ensures { result.now ≡ self.now.published }
     {
         &self.published
     }
 
-    /// The files that can be sent.
+    /// The files that the station can send, by their names.
     pub fn sources(&self) -> &Files
         ensures { result.now ≡ self.now.sources }
     {
@@ -91,7 +91,9 @@ impl Station {
         Ok(())
     }
 
-    /// Puts the PDU that is due on the link, and says whether one was. An error leaves all as it was.
+    /// Puts the next PDU on the link, and says whether one was due.
+    ///
+    /// An error leaves all as it was.
     pub fn poll(
         &mut self,
         config: &SimConfig,
@@ -118,7 +120,9 @@ impl Station {
         }
     }
 
-    /// Hears the octets of a PDU: octets that are none change nothing. An error leaves all as it was.
+    /// Takes octets that came over the link, and does what their PDU asks for.
+    ///
+    /// Octets that are no PDU change nothing. An error leaves all as it was.
     pub fn hear(&mut self, side: Side, text: &[u8]) -> Result<(), AllocError>
         ensures ok { OnOk result (HearsPdu side text.now self.old self.new ⊎ DropsPdu text.now self.old self.new) }
         ensures err { OnErr result (self.new ≡ self.old) }

@@ -2,7 +2,7 @@ ghost use Rattle.std.specs.Prelude.{◌≡◌, ◌+◌, ◌<◌, ◌≤◌, ◌+
 
 use cfdp_directives::Indication;
 
-/// Adds an indication where there is room for it.
+/// Tells the station's user something: adds an indication where there is room for it.
 pub fn tell(told: &mut Vec<Indication>, indication: Indication)
     requires { vec_len told.old < vec_capacity told.old }
     ensures items { told.new.items ≡ told.old.items ++ indication ∷ [] }

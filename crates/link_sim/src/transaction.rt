@@ -20,7 +20,7 @@ use cfdp_header::{Header, TransactionId};
 use cfdp_store::Files;
 use std::alloc::{AllocError, Global};
 
-/// A transaction at one station: it sends the file or receives it.
+/// A station's side of a file transfer: it sends the file or receives it.
 #[derive(Debug, Drop)]
 pub enum Transaction {
     Sends(Sender),
@@ -43,7 +43,8 @@ fn written(alloc: Global, addressing: &Addressing, pdu: &Pdu<'_>) -> Result<Octe
     Ok(Octets::from_vec(octets))
 }
 
-/// Puts the PDU that is due of a sender on the link, and says whether one was. An error leaves all as it was.
+/// Puts the PDU that is due of a sender on the link, and says whether one was. An error leaves all
+/// as it was.
 fn poll_sender(
     alloc: Global,
     sender: &mut Sender,
@@ -78,7 +79,8 @@ fn poll_sender(
     Ok(true)
 }
 
-/// Puts the PDU that is due of a receiver on the link, and says whether one was. An error leaves all as it was.
+/// Puts the PDU that is due of a receiver on the link, and says whether one was. An error leaves
+/// all as it was.
 fn poll_receiver(
     alloc: Global,
     receiver: &mut Receiver,
@@ -128,7 +130,9 @@ fn opening_phase(pdu: &Pdu<'_>) -> Option<ReceiverPhase>
 }
 
 impl Transaction {
-    /// Puts the PDU that is due on the link, and says whether one was. An error leaves all as it was.
+    /// Puts the next PDU on the link, and says whether one was due.
+    ///
+    /// An error leaves all as it was.
     pub fn poll(
         &mut self,
         alloc: Global,
@@ -164,7 +168,8 @@ impl Transaction {
         }
     }
 
-    /// Hears a PDU that is for this station: one of another transaction changes nothing. An error leaves all as it was.
+    /// Hears a PDU that is for this station: one of another transaction changes nothing. An error
+    /// leaves all as it was.
     pub fn hear(
         &mut self,
         alloc: Global,

@@ -21,7 +21,7 @@ use cfdp_store::Files;
 use std::alloc::{AllocError, Global};
 use std::marker::Model;
 
-/// Two stations, and the PDUs between them.
+/// A simulation: two CFDP stations, and the PDUs on the link between them.
 #[derive(Debug, Drop)]
 pub struct World {
     alloc: Global,
@@ -54,7 +54,10 @@ impl Model for World {
 const LIMIT: u64 = 4_294_967_296;
 
 impl World {
-    /// Two stations that have done nothing yet, each with the files in its outbox and its inbox, station one first.
+    /// Two stations that have done nothing yet.
+    ///
+    /// Each has files that it can send, in its outbox, and files that it received before, in its
+    /// inbox; station one stands first.
     pub fn new(
         alloc: Global,
         config: SimConfig,
@@ -79,14 +82,14 @@ impl World {
         }
     }
 
-    /// The accepted puts, in order.
+    /// The files that stations took to send, in order.
     pub fn puts(&self) -> &[AcceptedPut]
         ensures { result.now ≡ self.now.puts }
     {
         self.puts.as_slice()
     }
 
-    /// What a station indicated, in order.
+    /// What a station told its user, in order: CFDP's indications.
     pub fn indications(&self, side: Side) -> &[Indication]
         ensures { result.now ≡ (station_at side self.now).told }
     {
@@ -96,7 +99,7 @@ impl World {
         }
     }
 
-    /// The files that a station published, over those it began with.
+    /// The files that a station received whole, over those that it began with.
     pub fn inbox(&self, side: Side) -> &Files
         ensures { result.now ≡ (station_at side self.now).published }
     {
@@ -106,7 +109,9 @@ impl World {
         }
     }
 
-    /// Applies an event. An error leaves the world as it was.
+    /// Lets one thing happen, and says what it did.
+    ///
+    /// An error leaves the world as it was.
     ///
     /// # Errors
     ///
@@ -262,12 +267,15 @@ impl World {
         Ok(one || two || from_one || from_two)
     }
 
-    /// Polls both stations and delivers what waits, again and again, until nothing is due and no PDU waits. Nothing is
-    /// put and nothing struck.
+    /// Lets both stations send and hear until nothing is left to do, without any loss.
+    ///
+    /// Polls both stations and delivers what waits, again and again, until nothing is due and no
+    /// PDU waits. Nothing is put and nothing struck.
     ///
     /// # Errors
     ///
-    /// `NoMemory` at the first event that finds no memory: the world is then as the events before it left it.
+    /// `NoMemory` at the first event that finds no memory: the world is then as the events before
+    /// it left it.
     pub fn settle(&mut self) -> Result<(), SettleError>
         ensures settled { OnOk result (IsSettled self.new) }
         // What happened is polls, flushes and deliveries alone.
@@ -325,7 +333,8 @@ fn put_at(
     Ok(Applied::Applied)
 }
 
-/// Delivers the oldest PDU that waits on a link to the station of this side. An error leaves all as it was.
+/// Delivers the oldest PDU that waits on a link to the station of this side. An error leaves all as
+/// it was.
 fn deliver_from(link: &mut Link, station: &mut Station, side: Side) -> Result<Applied, AllocError>
     ensures delivers { IfOk result (λ did. DeliversAt (waiting link.old) side did station.old station.new link.old link.new) }
     ensures err_station { OnErr result (station.new ≡ station.old) }
@@ -350,7 +359,7 @@ fn strike_on(link: &mut Link) -> Applied
     Applied::Applied
 }
 
-/// A world to which these events were applied in turn.
+/// Runs a simulation: a new world in which these events happened in turn.
 ///
 /// # Errors
 ///

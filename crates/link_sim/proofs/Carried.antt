@@ -1,0 +1,56 @@
+-- What the steps of a link do to a direction between events.
+use Rattle.std.proofs.Common.{◌≡◌, ℕ, ◌+◌, ◌<◌, false, List, [], ◌∷◌, ◌++◌, length, refl, sym, ap, subst, ◌∙◌, arith}
+use Rattle.mpdu.specs.Packets.{busy}
+use Rattle.link_stack.specs.Frames.{pdus_in}
+use Rattle.link_stack.specs.Downward.{LinkSenderState}
+use Rattle.link_stack.specs.Upward.{LinkReceiverState}
+use Rattle.link_sim.specs.declared.mark.Loss.{Loss}
+use Rattle.link_sim.specs.declared.mark.Loss.TheVariants.{Done, NoneWaits, TooMany}
+use Rattle.link_sim.specs.FrameLink.{FrameLinkState}
+use Rattle.link_sim.specs.OneWay.{OneWayState, IsOneWay, IsCarried, SendsNone, SendsMore, one_way}
+use Rattle.link_sim.proofs.Pulling.{pulled_none}
+use Rattle.link_sim.proofs.Receiving.{strikes}
+
+-- the link's frames, their marks and their octets are as they were
+abbrev pub IsSameLink : (old new : FrameLinkState) → Type 0
+IsSameLink k m = (m.frames ≡ k.frames) × (m.marks ≡ k.marks) × (m.run ≡ k.run) × (m.len ≡ k.len)
+
+-- a link that has more buffers is the same direction
+pub same_way : (d : LinkSenderState) (k m : FrameLinkState) (u : LinkReceiverState) → IsSameLink k m → one_way d m u ≡ one_way d k u
+same_way d k m u (f, g, r, n) =
+    let a : one_way d m u ≡ record { down = d; up = u; frames = k.frames; marks = m.marks; run = m.run } = ap (λ x. record { down = d; up = u; frames = x; marks = m.marks; run = m.run }) f in
+    let b : record { down = d; up = u; frames = k.frames; marks = m.marks; run = m.run } ≡ record { down = d; up = u; frames = k.frames; marks = k.marks; run = m.run } =
+    ap (λ x. record { down = d; up = u; frames = k.frames; marks = x; run = m.run }) g in
+    a ∙ b ∙ ap (λ x. record { down = d; up = u; frames = k.frames; marks = k.marks; run = x }) r
+
+-- room was made, packets were sent, and then frames were made of all whole zones
+pub sent_on : (d e f : LinkSenderState) (k m n : FrameLinkState) (u : LinkReceiverState) (qs texts : List (List ℕ)) → IsCarried d k u → IsSameLink k m →
+    SendsMore (one_way d k u) (one_way e k u) qs texts → ((up : LinkReceiverState) → IsOneWay (one_way e m up) → SendsNone (one_way e m up) (one_way f n up)) →
+    e.link ≡ d.link → f.link ≡ e.link → n.len ≡ m.len → length f.waiting < e.link.zone → IsCarried f n u × SendsMore (one_way d k u) (one_way f n u) qs texts
+sent_on d e f k m n u qs texts is same more pulled link link2 len waits =
+    let s : SendsMore (one_way d k u) (one_way e m u) qs texts = subst (λ (x : OneWayState). SendsMore (one_way d k u) x qs texts) (sym (same_way e k m u same)) more in
+    let p : SendsNone (one_way e m u) (one_way f n u) = pulled u s.way in
+    let zone : f.link.zone ≡ d.link.zone = ap (λ x. x.zone) (link2 ∙ link) in
+    let zone2 : e.link.zone ≡ d.link.zone = ap (λ x. x.zone) link in
+    let carried : IsCarried f n u = record { way = p.way; none_waits = omega (arith, waits, zone, zone2); fits = omega (arith, len, same.3, is.fits, zone) } in
+    let all : SendsMore (one_way d k u) (one_way f n u) qs texts = record {
+      way = p.way;
+      packets = p.packets ∙ s.packets;
+      pdus = ap (λ ps. pdus_in (busy ps)) p.packets ∙ s.pdus;
+      delivered = p.delivered ∙ s.delivered;
+    } in
+    (carried, all)
+
+-- a wish to strike a frame
+pub struck_on : (r : Loss) (d : LinkSenderState) (k m : FrameLinkState) (u : LinkReceiverState) → IsCarried d k u →
+    (r ≡ Done → (length k.marks < length k.frames) × (k.run < 16777215) × (m ≡ record k { marks = k.marks ++ false ∷ []; run = k.run + 1 })) →
+    ((r ≡ Done → ⊥) → m ≡ k) → IsCarried d m u × SendsNone (one_way d k u) (one_way d m u)
+struck_on Done d k m u is done kept =
+    let h = done refl in
+    let s : SendsNone (one_way d k u) (one_way d (record k { marks = k.marks ++ false ∷ []; run = k.run + 1 }) u) = strikes (one_way d k u) is.way h.0 h.1 in
+    subst (λ (x : FrameLinkState). IsCarried d x u × SendsNone (one_way d k u) (one_way d x u)) (sym h.2)
+    (record { way = s.way; none_waits = is.none_waits; fits = is.fits }, s)
+struck_on NoneWaits d k m u is done kept =
+    subst (λ (x : FrameLinkState). IsCarried d x u × SendsNone (one_way d k u) (one_way d x u)) (sym (kept (λ (e : NoneWaits ≡ Done). cc))) (is, pulled_none (one_way d k u) is.way)
+struck_on TooMany d k m u is done kept =
+    subst (λ (x : FrameLinkState). IsCarried d x u × SendsNone (one_way d k u) (one_way d x u)) (sym (kept (λ (e : TooMany ≡ Done). cc))) (is, pulled_none (one_way d k u) is.way)

@@ -1,0 +1,35 @@
+use Rattle.std.proofs.Common.{[], ◌∷◌, subst}
+use Rattle.link_stack.specs.Frames.{packet_of}
+use Rattle.link_sim.specs.OneWay.{OneWayState, SendsMore, one_way, packets_sent}
+use Rattle.link_sim.proofs.Sends.{sends}
+use Rattle.link_sim.proofs.Carried.{sent_on}
+use Rattle.link_sim.proofs.one_way.OneWay.send.Goals as goal
+
+pub invariant_of-self-2 : goal.invariant_of-self-2
+invariant_of-self-2 c =
+    let i = c.self.inside in
+    let l : OneWayState = one_way i.down i.link i.up in
+    let is = c.self.invariant in
+    let e = c.in-Ok.ensures in
+    let p = c.pull_all.ensures in
+    let q = packet_of i.down.link i.down.packet_count c.args.pdu.now in
+    let more : SendsMore l (record l { down = c.send.new.self }) (q ∷ []) (c.args.pdu.now ∷ []) =
+    sends l c.send.new.self c.args.pdu.now is.way (e.stream (packets_sent l) _ is.way.sent.made) e.pdu e.waiting e.fixed.0 in
+    (sent_on i.down c.send.new.self c.pull_all.new.down i.link c.make_room.new.self c.pull_all.new.link i.up (q ∷ []) (c.args.pdu.now ∷ []) is
+    c.in_ok-make_room.ensures.kept more p.way e.fixed.0 p.fixed.0 p.rest.2 p.all).0
+
+pub returns-clause-sends : goal.returns-clause-sends
+returns-clause-sends c done =
+    let i = c.self.inside in
+    let l : OneWayState = one_way i.down i.link i.up in
+    let is = c.self.invariant in
+    let e = c.in-Ok.ensures in
+    let p = c.pull_all.ensures in
+    let q = packet_of i.down.link i.down.packet_count c.args.pdu.now in
+    let more : SendsMore l (record l { down = c.send.new.self }) (q ∷ []) (c.args.pdu.now ∷ []) =
+    sends l c.send.new.self c.args.pdu.now is.way (e.stream (packets_sent l) _ is.way.sent.made) e.pdu e.waiting e.fixed.0 in
+    let new : OneWayState = one_way c.pull_all.new.down c.pull_all.new.link i.up in
+    let all : SendsMore l new (q ∷ []) (c.args.pdu.now ∷ []) =
+    (sent_on i.down c.send.new.self c.pull_all.new.down i.link c.make_room.new.self c.pull_all.new.link i.up (q ∷ []) (c.args.pdu.now ∷ []) is
+    c.in_ok-make_room.ensures.kept more p.way e.fixed.0 p.fixed.0 p.rest.2 p.all).1 in
+    subst (λ (x : OneWayState). SendsMore x new (packet_of x.down.link x.down.packet_count c.args.pdu.now ∷ []) (c.args.pdu.now ∷ [])) c.self.view_is all

@@ -1,0 +1,109 @@
+-- One direction of a link: what was sent, what became of its frames, and what was delivered.
+use Rattle.std.specs.Prelude.{◌≡◌, ℕ, ◌+◌, ◌<◌, ◌≤◌, ◌⊎◌, Bool, true, false, List, [], ◌∷◌, ◌++◌, length, drop, map, replicate, slice_index_or}
+use Rattle.aos_frame.specs.Frame.{IsLink}
+use Rattle.mpdu.specs.Stream.{stream, survivors}
+use Rattle.mpdu.specs.Packets.{packets_of, busy}
+use Rattle.mpdu.specs.Parts.{IsPartOf, AreAmong}
+use Rattle.link_stack.specs.Frames.{frame_of, pdus_in}
+use Rattle.link_stack.specs.Drops.{count_of}
+use Rattle.link_stack.specs.Downward.{LinkSenderState, IsDown}
+use Rattle.link_stack.specs.Upward.{LinkReceiverState, IsUp}
+use Rattle.link_sim.specs.FrameLink.{FrameLinkState}
+
+-- Its two ends; all frames sent, in order; the marks of those that no longer wait, in the same
+-- order; and how many of the last of these were struck in a row.
+pub record OneWayState : Type 0 where
+  pub down : LinkSenderState
+  pub up : LinkReceiverState
+  pub frames : List (List ℕ)
+  pub marks : List Bool
+  pub run : ℕ
+
+-- what lies between these two ends
+abbrev pub one_way : LinkSenderState → FrameLinkState → LinkReceiverState → OneWayState
+one_way down link up = record { down = down; up = up; frames = link.frames; marks = link.marks; run = link.run }
+
+-- ---- what was sent and delivered, read from the frames, the marks and the octets that wait
+-- the packet zones of frames, joined: 8 octets of headers stand before each
+abbrev pub zones_of : List (List ℕ) → List ℕ
+zones_of frames = stream (map (λ f. drop 8 f) frames)
+
+-- the octets sent: the zones of the frames, and then the octets that wait
+abbrev pub octets_sent : OneWayState → List ℕ
+octets_sent w = zones_of w.frames ++ w.down.waiting
+
+-- the packets that they spell
+abbrev pub packets_sent : OneWayState → List (List ℕ)
+packets_sent w = packets_of (octets_sent w)
+
+-- the PDUs put on the link, delivered or not
+abbrev pub pdus_sent : OneWayState → List (List ℕ)
+pdus_sent w = pdus_in (busy (packets_sent w))
+
+-- the PDUs delivered: those of the packets all of whose frames were
+abbrev pub pdus_delivered : OneWayState → List (List ℕ)
+pdus_delivered w = pdus_in (survivors w.up.link.zone w.marks 0 (packets_sent w))
+
+-- ---- what every direction keeps
+-- The end that sends, where its stream is these packets.
+pub record IsSent (w : OneWayState) (ps : List (List ℕ)) : Type 0 where
+  pub valid : IsLink w.down.link
+  pub made : IsDown w.down ps (length w.frames)
+  pub frames : (n : ℕ) → n < length w.frames →
+      slice_index_or w.frames n [] ≡ frame_of w.down.link ps n
+  pub octets : octets_sent w ≡ stream ps
+  pub taken : length w.marks ≤ length w.frames
+
+-- The last `run` frames taken were struck, and the one before them, if there is one, was delivered.
+pub record EndsStruck (marks : List Bool) (run : ℕ) : Type 0 where
+  pub before : List Bool
+  pub joined : marks ≡ before ++ replicate run false
+  pub end : (before ≡ []) ⊎ ((earlier : List Bool) × (before ≡ earlier ++ true ∷ []))
+
+-- The end that receives. `read` says which of the frames taken were delivered and found memory: all
+-- that were delivered, where no drop was counted for want of memory (number 11).
+pub record IsReceived (up : LinkReceiverState) (ps : List (List ℕ)) (marks : List Bool) (run : ℕ) : Type 0 where
+  pub read : List Bool
+  pub end : IsUp up ps read run
+  pub among : AreAmong read marks
+  pub all_read : count_of up.drops 11 ≡ 0 → read ≡ marks
+  pub struck : EndsStruck marks run
+
+pub record IsOneWayOf (w : OneWayState) (ps : List (List ℕ)) : Type 0 where
+  pub same_link : w.up.link ≡ w.down.link
+  pub sent : IsSent w ps
+  pub received : IsReceived w.up ps w.marks w.run
+
+-- The packets are those that the frames and the waiting octets spell.
+abbrev pub IsOneWay : OneWayState → Type 0
+IsOneWay w = IsOneWayOf w (packets_sent w)
+
+-- between events: no whole zone waits, and the buffers fit the link's frames
+pub record IsCarried (down : LinkSenderState) (link : FrameLinkState) (up : LinkReceiverState) : Type 0 where
+  pub way : IsOneWay (one_way down link up)
+  pub none_waits : length down.waiting < down.link.zone
+  pub fits : link.len ≡ 8 + down.link.zone
+
+-- ---- what the steps do
+-- These packets more were sent, which carry the PDUs with these texts; nothing was delivered.
+pub record SendsMore (old new : OneWayState) (qs texts : List (List ℕ)) : Type 0 where
+  pub way : IsOneWay new
+  pub packets : packets_sent new ≡ packets_sent old ++ qs
+  pub pdus : pdus_sent new ≡ pdus_sent old ++ texts
+  pub delivered : pdus_delivered new ≡ pdus_delivered old
+
+-- Nothing more was sent, and nothing was delivered.
+pub record SendsNone (old new : OneWayState) : Type 0 where
+  pub way : IsOneWay new
+  pub packets : packets_sent new ≡ packets_sent old
+  pub delivered : pdus_delivered new ≡ pdus_delivered old
+
+-- A frame was delivered: `more` are the PDUs that it delivers, of which `given` were given, in order:
+-- all of them, where no drop was counted for want of memory (number 11).
+pub record HearsMore (old new : OneWayState) (given : List (List ℕ)) : Type 0 where
+  pub way : IsOneWay new
+  pub packets : packets_sent new ≡ packets_sent old
+  pub more : List (List ℕ)
+  pub delivered : pdus_delivered new ≡ pdus_delivered old ++ more
+  pub part : IsPartOf given more
+  pub all : count_of new.up.drops 11 ≡ 0 → given ≡ more

@@ -1,0 +1,21 @@
+/// What became of a frame that was sent.
+#[derive(Clone, Copy, Debug, PartialEq, Eq)]
+pub enum Mark {
+    /// Nothing yet.
+    Waiting,
+    /// It reached the other end.
+    Delivered,
+    /// It was lost.
+    Struck,
+}
+
+/// What became of a wish to strike a frame.
+#[derive(Clone, Copy, Debug, PartialEq, Eq)]
+pub enum Loss {
+    /// It was struck.
+    Done,
+    /// No frame waits.
+    NoneWaits,
+    /// The last 16,777,215 frames taken were struck, and one more may not be.
+    TooMany,
+}
