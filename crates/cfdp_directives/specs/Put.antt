@@ -4,8 +4,11 @@ use Rattle.std.specs.FinMap.{insert}
 use Rattle.cfdp_header.specs.declared.value.Header.{Header}
 use Rattle.cfdp_header.specs.declared.value.TransactionId.{TransactionId}
 use Rattle.cfdp_header.specs.Files.{FileMap}
+use Rattle.cfdp_directives.specs.declared.codes.Delivery.TheVariants.{Complete}
+use Rattle.cfdp_directives.specs.declared.codes.FileStatus.TheVariants.{Retained}
 use Rattle.cfdp_directives.specs.Codes.{no_error}
-use Rattle.cfdp_directives.specs.Content.{Content, FileData, Metadata, Eof}
+use Rattle.cfdp_directives.specs.Content.{Content, FileData, Metadata, Eof, Finished}
+use Rattle.cfdp_directives.specs.Tlv.{Tlv}
 use Rattle.cfdp_directives.specs.Grammar.{SpellsPdu}
 use Rattle.cfdp_directives.specs.Checksum.{checksum_of}
 
@@ -29,6 +32,27 @@ IsTruthful put (FileData offset bytes) = bytes ≡ take (length bytes) (drop off
 IsTruthful put (Eof condition checksum size tlvs) = condition ≡ no_error →
     (checksum ≡ checksum_of put.checksum_kind put.octets) × (size ≡ length put.octets)
 IsTruthful put _ = Unit {0}
+
+-- A PDU of this transaction, which an entity sends, says what is so of a put of that entity.
+-- `put_of` finds the put of a transaction.
+abbrev pub IsOfPut : ℕ → (TransactionId → Option Put) → TransactionId → Content → Type 0
+IsOfPut own put_of id v =
+    (put : Put) × ((id.source ≡ own) × (put_of id ≡ Some put) × IsTruthful put v)
+
+-- An entity sends the truth: Metadata, file data and EOF speak of a put of its own, and truthfully.
+-- The other PDUs speak of no file.
+abbrev pub SaysTruth : ℕ → (TransactionId → Option Put) → TransactionId → Content → Type 0
+SaysTruth own put_of id (FileData offset bytes) = IsOfPut own put_of id (FileData offset bytes)
+SaysTruth own put_of id (Metadata kind size source destination options) =
+    IsOfPut own put_of id (Metadata kind size source destination options)
+SaysTruth own put_of id (Eof condition checksum size tlvs) =
+    IsOfPut own put_of id (Eof condition checksum size tlvs)
+SaysTruth own put_of id _ = Unit {0}
+
+-- a Finished of this transaction that says that the file was delivered
+abbrev pub SaysComplete : TransactionId → Header → Content → Type 0
+SaysComplete id h v =
+    (h.id ≡ id) × ((tlvs : List Tlv) × (v ≡ Finished no_error Complete Retained tlvs))
 
 -- One of the PDUs, each a list of octets, is spelled by a header and a content of which P holds.
 abbrev pub SomePdu : (Header → Content → Type 0) → List (List ℕ) → Type 0
