@@ -1,11 +1,11 @@
 // What a receiver sends.
-ghost use Rattle.std.specs.Prelude.{◌≡◌, ◌≤◌, ◌<◌, ◌^◌, Option, Some, IsSome, IfSome, take, drop, length, true};
+ghost use Rattle.std.specs.Prelude.{◌≡◌, ◌≤◌, Option, Some, IsSome, IfSome, take, drop, length, true};
 ghost use Rattle.std.specs.FinSet as set;
 ghost use Rattle.cfdp_header.specs.declared.value.TransactionId.{TransactionId};
 ghost use Rattle.cfdp_directives.specs.Addressing as addressings;
 ghost use Rattle.cfdp_directives.specs.Codes.{file_size_octets};
 ghost use Rattle.cfdp_directives.specs.Content.{view};
-ghost use Rattle.cfdp_directives.specs.Written.{content_len, FitsContent, pdu_octets};
+ghost use Rattle.cfdp_directives.specs.Written.{content_len, FitsContent, CanWrite, pdu_octets};
 ghost use Rattle.std.specs.List.{flat_map};
 ghost use Rattle.cfdp_directives.specs.Tlv.{tlv};
 ghost use Rattle.cfdp_store.specs.Staged.{OctetMap};
@@ -27,9 +27,13 @@ use cfdp_timers::{Kind, Timers};
 
 impl Receiver {
     /// Octets of the PDU that is due, its header too; `None` where none is, as while the
-    /// transaction is suspended. Takes no memory.
+    /// transaction is suspended. What is due can be written, and has 4,128 octets at the most.
+    /// Takes no memory.
     pub fn due(&self) -> Option<usize>
-        ensures { result ≡ due_len self.now }
+        ensures len { result ≡ due_len self.now }
+        ensures short { IfSome result (λ len. len ≤ 4128) }
+        ensures can_write { IfSome (receiver_due self.now) (λ d. let v = receiver_says self.now d in
+            CanWrite (addressings.header_of self.now.addressing v) v) }
     {
         let due = self.next_due()?;
         Some(self.len_of(&due))
@@ -112,8 +116,11 @@ impl Receiver {
     /// Octets of the PDU, its header too.
     fn len_of(&self, due: &Due) -> usize
         requires { IsWritableIn self.now due.now }
-        ensures { result
+        ensures len { result
             ≡ addressings.written_len self.now.addressing (receiver_says self.now due.now) }
+        ensures short { result ≤ 4128 }
+        ensures can_write { let v = receiver_says self.now due.now in
+            CanWrite (addressings.header_of self.now.addressing v) v }
     {
         match due {
             Due::AckOfEof(condition) => self.addressing.written_len(&self.ack(*condition)),
@@ -170,6 +177,7 @@ impl Receiver {
     fn ack<'a>(&self, condition: Condition) -> Pdu<'a>
         ensures says { view result ≡ receiver_says self.now (due_is.AckOfEof condition) }
         ensures fits { FitsContent file_size_octets (view result) }
+        ensures short { content_len file_size_octets (view result) ≤ 4100 }
     {
         let _any_condition_fits = condition.code();
         Pdu::Ack {
@@ -182,6 +190,7 @@ impl Receiver {
     fn keep_alive<'a>(&self) -> Pdu<'a>
         ensures says { view result ≡ receiver_says self.now due_is.KeepAlive }
         ensures fits { FitsContent file_size_octets (view result) }
+        ensures short { content_len file_size_octets (view result) ≤ 4100 }
     {
         Pdu::KeepAlive {
             progress: self.held_end(),
@@ -191,7 +200,7 @@ impl Receiver {
     fn finished<'a>(&self, outcome: &Outcome) -> Pdu<'a>
         ensures says { view result ≡ receiver_says self.now (due_is.Finished outcome.now) }
         ensures fits { FitsContent file_size_octets (view result) }
-        ensures short { content_len file_size_octets (view result) < 2 ^ 16 }
+        ensures short { content_len file_size_octets (view result) ≤ 4100 }
     {
         let condition = outcome.condition;
         let _any_condition_fits = condition.code();
@@ -222,7 +231,7 @@ impl Receiver {
         requires writable { IsWritable asked.now }
         ensures says { view result ≡ receiver_says self.now (due_is.Nak cursor) }
         ensures fits { FitsContent file_size_octets (view result) }
-        ensures short { content_len file_size_octets (view result) < 2 ^ 16 }
+        ensures short { content_len file_size_octets (view result) ≤ 4100 }
     {
         Pdu::Nak {
             start: cursor,

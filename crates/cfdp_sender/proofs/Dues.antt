@@ -1,5 +1,5 @@
 -- What holds of a PDU that is due, and that it can be written.
-use Rattle.std.proofs.Common.{◌≡◌, ℕ, ◌+◌, ◌-◌, ◌^◌, ◌<◌, ◌≤◌, ◌||◌, not, min, Bool, true, false, List, [], ◌∷◌, length, take, drop, Option, Some, None, IfSome, nat_lt, if◌then◌else◌, lit<, refl, sym, ap, subst, ◌∙◌, arith, ◌==◌, add-zero, ◌⊎◌, inl, inr}
+use Rattle.std.proofs.Common.{◌≡◌, ℕ, zero, suc, ◌+◌, ◌-◌, ◌^◌, ◌<◌, ◌≤◌, ◌||◌, not, min, Bool, true, false, List, [], ◌∷◌, length, take, drop, Option, Some, None, IfSome, nat_lt, if◌then◌else◌, lit<, refl, sym, ap, subst, ◌∙◌, arith, ◌==◌, add-zero, ◌⊎◌, inl, inr}
 use Rattle.std.specs.Cmp.{nat_cmp_total}
 use Rattle.std.specs.FinSet as set
 use Rattle.std.specs.List.{flat_map}
@@ -14,10 +14,11 @@ use Rattle.cfdp_extents.specs.Terms.{front_of}
 use Rattle.cfdp_extents.proofs.CallerLemmas.{contains-range, front-is}
 use Rattle.std.specs.Option.{option_map}
 use Rattle.cfdp_directives.specs.Content.{Content}
-use Rattle.cfdp_directives.specs.Addressing.{written_len}
+use Rattle.cfdp_directives.specs.Addressing.{header_of, written_len}
 use Rattle.cfdp_directives.specs.Codes.{file_size_octets, IsCondition, modular}
 use Rattle.cfdp_directives.specs.Tlv.{tlv, fault_location}
-use Rattle.cfdp_directives.specs.Written.{content_len, FitsContent}
+use Rattle.cfdp_directives.specs.Written.{content_len, FitsContent, CanWrite}
+use Rattle.cfdp_directives.proofs.Addressed.{can_write}
 use Rattle.cfdp_sender.specs.declared.phase.SenderPhase.{SenderPhase}
 use Rattle.cfdp_sender.specs.declared.phase.SenderPhase.TheVariants.{Sending, Cancelling, Closed}
 use Rattle.cfdp_sender.specs.declared.due.SenderDue.{SenderDue}
@@ -146,6 +147,39 @@ due-fits x (due.AskedData start end) bytes s is le =
     (omega (arith, part.some, part.within, s.transfer.size), omega (arith, le))
 due-fits x (due.NewData start end) bytes s is le = (omega (arith, is.0, is.1, s.transfer.size), omega (arith, le))
 due-fits x due.Eof bytes s is le = eof-fits x x.phase s
+
+-- what is due can be written
+carried-short : (x : SenderState) (d : SenderDue) (file : List ℕ) → CarriesSegment x d → x.segment ≤ 4096 → length (carried file d) ≤ 4096
+carried-short x (due.AskedData start end) file part most = omega (arith, length-take (end - start) (drop start file), part.most, most)
+carried-short x (due.NewData start end) file part most = omega (arith, length-take (end - start) (drop start file), part.most, most)
+carried-short x (due.AckOfFinished condition) file part most = omega arith
+carried-short x (due.Prompt keep_alive) file part most = omega arith
+carried-short x due.Metadata file part most = omega arith
+carried-short x due.Eof file part most = omega arith
+
+pub due-can_write : (x : SenderState) (d : SenderDue) (file : List ℕ) → IsSender x → sender_due x ≡ Some d → CanWrite (header_of x.addressing (sender_says file x d)) (sender_says file x d)
+due-can_write x d file s is =
+    let of = due-is x d is in
+    let fits : Fits x d (carried file d) = due-fits x d (carried file d) s of (carried-short x d file (carries-segment x d s of) s.transfer.most) in
+    can_write x.addressing (sender_says file x d) s.transfer.addressing fits.0 fits.1
+
+-- and is no longer than file data of a whole segment
+none-carried : (count : ℕ) → (0 < count → false ≡ true) → count ≡ 0
+none-carried zero some = refl
+none-carried (suc n) some = let e : false ≡ true = some (omega arith) in absurd (cc)
+
+eof-short : (x : SenderState) (p : SenderPhase) → IsSender x → content_len file_size_octets (eof_says p x) ≤ 20
+eof-short x Sending s = omega arith
+eof-short x Cancelling s = let len = location-len x.addressing.id.source x.addressing.id_width in omega (arith, len, s.transfer.addressing.id.id_width.1)
+eof-short x Closed s = let len = location-len x.addressing.id.source x.addressing.id_width in omega (arith, len, s.transfer.addressing.id.id_width.1)
+
+pub content-short : (x : SenderState) (d : SenderDue) (count : ℕ) → IsSender x → count ≤ 4096 → (0 < count → carries d ≡ true) → content_len file_size_octets (pdu_says [] x d) + count ≤ 4100
+content-short x (due.AckOfFinished condition) count s le some = omega (arith, none-carried count some)
+content-short x (due.Prompt keep_alive) count s le some = omega (arith, none-carried count some)
+content-short x due.Metadata count s le some = omega (arith, none-carried count some, s.transfer.source.1, s.transfer.destination.1)
+content-short x (due.AskedData start end) count s le some = omega (arith, le)
+content-short x (due.NewData start end) count s le some = omega (arith, le)
+content-short x due.Eof count s le some = omega (arith, none-carried count some, eof-short x x.phase s)
 
 -- the octets carried add to the length of a PDU without them
 pub says-len : (x : SenderState) (d : SenderDue) (file : List ℕ) → content_len file_size_octets (pdu_says (carried file d) x d) ≡ content_len file_size_octets (pdu_says [] x d) + length (carried file d)

@@ -1,8 +1,9 @@
 // What a sender sends next, and what that PDU says.
-ghost use Rattle.std.specs.Prelude.{◌≡◌, ◌+◌, ◌^◌, ◌<◌, ◌≤◌, ℕ, List, [], length, take, drop, true, Some, is_some};
+ghost use Rattle.std.specs.Prelude.{◌≡◌, ◌+◌, ◌^◌, ◌<◌, ◌≤◌, ℕ, List, [], length, take, drop, true, Some, is_some, IfSome};
 ghost use Rattle.std.specs.Option.{option_map};
 ghost use Rattle.cfdp_directives.specs.Content.{FileData, view};
-ghost use Rattle.cfdp_directives.specs.Addressing.{written_len};
+ghost use Rattle.cfdp_directives.specs.Addressing.{header_of, written_len};
+ghost use Rattle.cfdp_directives.specs.Written.{CanWrite};
 ghost use Rattle.cfdp_sender.specs.Due as dues;
 ghost use Rattle.cfdp_sender.specs.Due.{sender_due, sender_says, pdu_says, carried, carries};
 
@@ -28,9 +29,13 @@ pub enum SenderDue {
 impl Sender {
     /// Octets of the PDU that is due, its header too: of what `take_pdu` would write now. `None`
     /// where none is due, as of a suspended transaction. Whatever the file holds, its size alone
-    /// counts.
+    /// counts. What is due can be written, and has 4,128 octets at the most.
     pub fn due(&self) -> Option<usize>
         ensures some { is_some result ≡ is_some (sender_due self.now) }
+        ensures short { IfSome result (λ len. len ≤ 4128) }
+        ensures can_write { (file : List ℕ) → IfSome (sender_due self.now)
+            (λ d. let v = sender_says file self.now d in
+            CanWrite (header_of self.now.addressing v) v) }
         ensures len { (file : List ℕ) → length file ≡ self.now.size → result
             ≡ option_map (λ d. written_len self.now.addressing (sender_says file self.now d))
             (sender_due self.now) }

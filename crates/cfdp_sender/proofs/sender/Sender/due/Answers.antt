@@ -1,11 +1,12 @@
-use Rattle.std.proofs.Common.{◌≡◌, [], Some, sym, ap, subst, ◌∙◌, arith}
+use Rattle.std.proofs.Common.{◌≡◌, [], Option, Some, IfSome, sym, ap, subst, ◌∙◌, arith}
 use Rattle.cfdp_directives.specs.Content.{view}
 use Rattle.cfdp_directives.specs.Codes.{file_size_octets}
-use Rattle.cfdp_directives.specs.Written.{content_len}
-use Rattle.cfdp_directives.specs.Addressing.{written_len}
+use Rattle.cfdp_directives.specs.Written.{content_len, CanWrite}
+use Rattle.cfdp_directives.specs.Addressing.{header_of, written_len}
+use Rattle.cfdp_sender.specs.declared.due.SenderDue.{SenderDue}
 use Rattle.cfdp_sender.specs.State.{SenderState, IsSender}
-use Rattle.cfdp_sender.specs.Due.{sender_due}
-use Rattle.cfdp_sender.proofs.Dues.{fits-short, due-len}
+use Rattle.cfdp_sender.specs.Due.{sender_due, sender_says}
+use Rattle.cfdp_sender.proofs.Dues.{fits-short, content-short, due-can_write, due-len}
 use Rattle.cfdp_sender.proofs.sender.Sender.due.Goals as goal
 
 pub written_len-requires : goal.written_len-requires
@@ -22,6 +23,21 @@ overflow_add-result c =
     let content = ap (content_len file_size_octets) c.says.ensures in
     let widths = c.self.invariant.transfer.addressing.id in
     omega (arith, c.written_len.ensures, content, fits, widths.id_width.1, widths.number_width.1, c.extent-carried.ensures.short)
+
+pub returns-clause-short : goal.returns-clause-short
+returns-clause-short c =
+    let s : IsSender c.args.self.now = subst IsSender c.self.view_is c.self.invariant in
+    let short = content-short c.args.self.now c.in_ok-due.due _ s c.extent-carried.ensures.short c.extent-carried.ensures.some in
+    let content = ap (content_len file_size_octets) c.says.ensures in
+    let widths = c.self.invariant.transfer.addressing.id in
+    omega (arith, c.written_len.ensures, content, short, widths.id_width.1, widths.number_width.1)
+
+pub returns-clause-can_write : goal.returns-clause-can_write
+returns-clause-can_write c = λ file.
+    let s : IsSender c.args.self.now = subst IsSender c.self.view_is c.self.invariant in
+    let is : sender_due c.args.self.now ≡ Some c.in_ok-due.due = sym c.in_ok-due.ensures in
+    let Can : SenderDue → Type 0 = λ d. CanWrite (header_of c.args.self.now.addressing (sender_says file c.args.self.now d)) (sender_says file c.args.self.now d) in
+    subst (λ (o : Option SenderDue). IfSome o Can) (sym is) (due-can_write c.args.self.now c.in_ok-due.due file s is)
 
 pub returns-clause-len : goal.returns-clause-len
 returns-clause-len c = λ file whole.
