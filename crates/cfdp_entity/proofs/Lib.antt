@@ -3,6 +3,10 @@ pub mod Openings
 pub mod Histories
 pub mod Truths
 pub mod Sendings
+pub mod Tellings
+pub mod Sounds
+pub mod Growing
+pub mod Speaking
 pub mod Masked
 pub mod Records
 pub mod Entries
@@ -11,5 +15,6 @@ pub mod Ticking
 pub mod Numbers
 pub mod Routes
 pub mod Sparing
+pub mod Spelled
 pub mod Turns
 pub mod CallerLemmas

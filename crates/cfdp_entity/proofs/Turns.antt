@@ -17,9 +17,12 @@ use Rattle.cfdp_entity.specs.declared.record.Gave.TheVariants.{Octets}
 use Rattle.cfdp_entity.specs.Gives.{Gives, Writes, stored_by_gave}
 use Rattle.cfdp_entity.specs.Polling.{turn, turn_by, turn_len, turn_octets, served, Place, MovesPdu}
 use Rattle.cfdp_entity.specs.Seen.{Seen, Sends, Receives, is_due, due_len, sender_content, receiver_content, len_of}
+use Rattle.cfdp_entity.specs.Sound.{SpellsTurn}
+use Rattle.cfdp_entity.specs.Spelled.{EntryIsSpelled}
 use Rattle.cfdp_entity.specs.Table.{Entry, has_due, next_due, due_at, len_at, len_due}
 use Rattle.cfdp_entity.proofs.CallerLemmas.{next-due}
 use Rattle.cfdp_entity.proofs.Sparing.{resting}
+use Rattle.cfdp_entity.proofs.Spelled.{entry-spells}
 
 some-len : (a : Addressing) (v : Content) → 1 ≤ len_of a (Some v)
 some-len a v = omega arith
@@ -48,6 +51,10 @@ module _ (room place : ℕ) (old new : EntityState) (no_stray : old.strays ≡ [
 
   next-len : 1 ≤ len_at place old.table
   next-len = due-there old.table.records place (own_id 0 0, resting) refl (next-due old.cursor old.table.records place (own_id 0 0, resting) next) old.table.sources
+
+  -- its octets are those of what it says, where that is so of what the record has due
+  pub place-spells : EntryIsSpelled old.table.sources (slice_get old.table.records place) → SpellsTurn (turn old) old
+  place-spells is = subst (λ t. SpellsTurn t old) (sym turn-is) (entry-spells old.table.sources (slice_get old.table.records place) is next-len)
 
   pub moves-place : (n : ℕ) (out out_now : List ℕ) → len_at place old.table ≤ room → n ≡ len_at place old.table → Writes (due_at place old.table) n out out_now → new ≡ served Done (Place place) old → MovesPdu n room old new out out_now
   moves-place n out out_now fits len writes is = record {

@@ -20,4 +20,7 @@ pub mod Putting
 pub mod History
 pub mod Truth
 pub mod Sending
+pub mod Telling
+pub mod Sound
+pub mod Spelled
 pub use Rattle.cfdp_timers.specs.Waits

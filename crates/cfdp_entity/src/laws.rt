@@ -4,24 +4,41 @@ ghost use Rattle.std.specs.Prelude.{◌≡◌, ◌≢◌, ◌++◌, ℕ, ◌≤�
 ghost use Rattle.cfdp_header.specs.declared.value.TransactionId.{TransactionId};
 ghost use Rattle.cfdp_header.specs.Files.{FileMap};
 ghost use Rattle.cfdp_header.specs.Ids.{same_id};
+ghost use Rattle.cfdp_header.specs.declared.value.Header.{Header};
 ghost use Rattle.cfdp_directives.specs.declared.policy.Policy.{Policy};
 ghost use Rattle.cfdp_directives.specs.Content.{Content};
-ghost use Rattle.cfdp_directives.specs.Put.{Put, IsTruthful};
+ghost use Rattle.cfdp_directives.specs.Faults.{pdu_fault};
+ghost use Rattle.cfdp_directives.specs.Grammar.{SpellsPdu};
+ghost use Rattle.cfdp_directives.specs.Put.{Put, IsTruthful, SaysTruth};
+ghost use Rattle.cfdp_store.specs.declared.stored.Stored.{Stored};
 ghost use Rattle.cfdp_sender.specs.Inputs.{finished_count};
+ghost use Rattle.cfdp_entity.specs.declared.call.Call.{Call};
+ghost use Rattle.cfdp_entity.specs.declared.config.EntityConfig.{EntityConfig};
+ghost use Rattle.cfdp_entity.specs.declared.error.EntityDrop.{EntityDrop};
+ghost use Rattle.cfdp_entity.specs.Config.{IsConfig};
 ghost use Rattle.cfdp_entity.specs.Steps.{After};
 ghost use Rattle.cfdp_entity.specs.Table.{Entry, TableState, Ticks, SpoiledAt, record_of, step_at, with_record, first_table};
 ghost use Rattle.cfdp_entity.specs.History.{TableStep, table_step, MayHappen, Leads, KeepsRecords, FinishesOnce};
 ghost use Rattle.cfdp_entity.specs.Truth.{TellsTruth, IsTrueTable};
 ghost use Rattle.cfdp_entity.specs.Seen.{due_content};
 ghost use Rattle.cfdp_entity.specs.Sending.{FindsPut, SendsTruth};
+ghost use Rattle.cfdp_entity.specs.Telling.{HearsDelivered, TellsNoMore};
+ghost use Rattle.cfdp_entity.specs.Entity.{EntityState, Counted, first_entity, with_table};
+ghost use Rattle.cfdp_entity.specs.Calls.{IsCalled};
+ghost use Rattle.cfdp_entity.specs.Hearing.{HearsOctets, DropsOctets};
+ghost use Rattle.cfdp_entity.specs.Polling.{turn, turn_octets, served};
+ghost use Rattle.cfdp_entity.specs.Putting.{Accepts};
+ghost use Rattle.cfdp_entity.specs.Sound.{IsSound, FindsMore, FindsById, next_put, ComesTrue, SpellsTurn, SaysDelivered, GoesOn};
 
+use cfdp_directives::no_pdu_begins_another;
 use cfdp_receiver::{
-    a_completion_publishes_the_put, a_transaction_is_finished_once, an_opening_may_finish,
-    more_is_heard, what_is_heard_true_is_kept_true,
+    a_completion_publishes_the_put, a_finished_says_what_was_indicated,
+    a_transaction_is_finished_once, an_opening_may_finish, more_is_heard,
+    what_is_heard_true_is_kept_true,
 };
 use cfdp_sender::{
     a_sender_finishes_once, a_sender_keeps_what_it_sends, a_sender_says_what_is_so,
-    what_is_due_is_in_the_file,
+    told_complete_by_a_finished_alone, what_is_due_is_in_the_file,
 };
 
 /// A step of the record at a place changes no other record, and a record more changes none.
@@ -130,4 +147,94 @@ pub fn a_table_sends_the_truth()
 {
     a_sender_says_what_is_so();
     what_is_due_is_in_the_file();
+}
+
+/// A table tells no more of files that were delivered than it indicated or heard: a receiver knows
+/// of an end only once it was indicated, and a sender's user is told that its file was delivered
+/// only where a Finished was heard that says so. So it stays where more is heard.
+pub fn a_table_tells_no_more()
+    ensures first { (own : ℕ) (heard : List (List ℕ)) (sources files : FileMap)
+        (policy : Policy) → TellsNoMore own heard (first_table sources files policy) }
+    ensures step { (own : ℕ) (put_of : TransactionId → Option Put) (heard : List (List ℕ))
+        (first : FileMap) (s : TableStep) (st : TableState) → MayHappen s st
+        → TellsTruth own put_of heard s st → HearsDelivered heard s st
+        → IsTrueTable own put_of heard first st → TellsNoMore own heard st
+        → TellsNoMore own heard (table_step s st) }
+    ensures more { (own : ℕ) (heard more : List (List ℕ)) (st : TableState) →
+        TellsNoMore own heard st → TellsNoMore own (heard ++ more) st }
+{
+    a_table_keeps_the_truth();
+    a_transaction_is_finished_once();
+    an_opening_may_finish();
+    a_sender_finishes_once();
+    a_sender_keeps_what_it_sends();
+    told_complete_by_a_finished_alone();
+}
+
+/// An entity that hears nothing but the truth of puts keeps it, whatever happens to it. A PDU that
+/// comes may be heard or dropped, and what is polled may fail.
+pub fn an_entity_keeps_the_truth()
+    ensures first { (put_of : TransactionId → Option Put) (heard : List (List ℕ))
+        (sources files : FileMap) (config : EntityConfig) → IsConfig config
+        → IsSound put_of heard files (first_entity sources files config) }
+    ensures more { (put_of puts_then : TransactionId → Option Put) (heard more : List (List ℕ))
+        (first : FileMap) (e : EntityState) → FindsMore put_of puts_then
+        → IsSound put_of heard first e → IsSound puts_then (heard ++ more) first e }
+    ensures put { (put_of : TransactionId → Option Put) (heard : List (List ℕ)) (first : FileMap)
+        (source destination : List ℕ) (id : TransactionId) (old new : EntityState) →
+        Accepts source destination id old new
+        → put_of id ≡ Some (next_put source destination old)
+        → IsSound put_of heard first old → IsSound put_of heard first new }
+    ensures called { (put_of : TransactionId → Option Put) (heard : List (List ℕ))
+        (first : FileMap) (c : Call) (id : TransactionId) (old new : EntityState) →
+        IsCalled c id old new → IsSound put_of heard first old → IsSound put_of heard first new }
+    ensures ticked { (put_of : TransactionId → Option Put) (heard : List (List ℕ))
+        (first : FileMap) (now : ℕ) (old new : EntityState) → Ticks now old.table new.table
+        → new ≡ with_table old new.table
+        → IsSound put_of heard first old → IsSound put_of heard first new }
+    ensures heard { (put_of : TransactionId → Option Put) (heard : List (List ℕ))
+        (first : FileMap) (pdu : List ℕ) (old new : Counted) → FindsById put_of
+        → ComesTrue old.state.config.peer put_of heard pdu → HearsOctets pdu old new
+        → IsSound put_of heard first old.state → IsSound put_of heard first new.state }
+    ensures dropped { (put_of : TransactionId → Option Put) (heard : List (List ℕ))
+        (first : FileMap) (pdu : List ℕ) (by : EntityDrop) (old new : Counted) →
+        DropsOctets (pdu_fault pdu) pdu by old new
+        → IsSound put_of heard first old.state → IsSound put_of heard first new.state }
+    ensures served { (put_of : TransactionId → Option Put) (heard : List (List ℕ))
+        (first : FileMap) (stored : Stored) (e : EntityState) →
+        IsSound put_of heard first e → IsSound put_of heard first (served stored (turn e) e) }
+{
+    a_table_finishes_a_transaction_once();
+    a_table_keeps_the_truth();
+    a_table_sends_the_truth();
+    a_table_tells_no_more();
+}
+
+/// What an entity indicated stays, whatever happens to it, and so do the files that it can send.
+pub fn an_entity_goes_on()
+    ensures put { (source destination : List ℕ) (id : TransactionId) (old new : EntityState) →
+        Accepts source destination id old new → GoesOn old new }
+    ensures called { (c : Call) (id : TransactionId) (old new : EntityState) →
+        IsCalled c id old new → GoesOn old new }
+    ensures ticked { (now : ℕ) (old new : EntityState) → Ticks now old.table new.table
+        → new ≡ with_table old new.table → GoesOn old new }
+    ensures heard { (pdu : List ℕ) (old new : Counted) → HearsOctets pdu old new
+        → GoesOn old.state new.state }
+    ensures dropped { (pdu : List ℕ) (by : EntityDrop) (old new : Counted) →
+        DropsOctets (pdu_fault pdu) pdu by old new → GoesOn old.state new.state }
+    ensures served { (stored : Stored) (e : EntityState) → GoesOn e (served stored (turn e) e) }
+{}
+
+/// An entity sends the truth of its own puts, and tells its peer that a file was delivered only of
+/// transactions that it indicated complete.
+pub fn an_entity_sends_the_truth()
+    ensures { (put_of : TransactionId → Option Put) (heard : List (List ℕ)) (first : FileMap)
+        (e : EntityState) (h : Header) (v : Content) → IsSound put_of heard first e
+        → SpellsTurn (turn e) e → SpellsPdu h v (turn_octets (turn e) e)
+        → SaysTruth e.config.entity put_of h.id v
+        × SaysDelivered e.config.entity e.table.told h.id v }
+{
+    no_pdu_begins_another();
+    a_finished_says_what_was_indicated();
+    a_table_sends_the_truth();
 }

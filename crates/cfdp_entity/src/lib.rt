@@ -31,6 +31,7 @@ pub use entity::Entity;
 pub use error::{CallError, EntityDrop, PutError};
 pub use laws::{
     a_table_finishes_a_transaction_once, a_table_keeps_the_truth, a_table_sends_the_truth,
+    a_table_tells_no_more, an_entity_goes_on, an_entity_keeps_the_truth, an_entity_sends_the_truth,
     calls_are_steps, other_records_stay, records_stay_for_good,
 };
 pub use opening::Opened;

@@ -2,8 +2,11 @@
 ghost use Rattle.std.specs.Prelude.{◌≡◌, ◌≤◌, ◌<◌, [], length, IfOk, OnErr};
 ghost use Rattle.cfdp_store.specs.declared.stored.Stored.TheVariants as storeds;
 ghost use Rattle.cfdp_store.specs.Stores.{Counts};
+ghost use Rattle.cfdp_entity.specs.declared.polled.EntityPolled.TheVariants as answers;
 ghost use Rattle.cfdp_entity.specs.Gives.{Gives, stored_by_gave};
 ghost use Rattle.cfdp_entity.specs.Polling.{Polls, Place, served, stored_by_poll};
+ghost use Rattle.cfdp_entity.specs.Sound.{longest_pdu};
+ghost use Rattle.cfdp_entity.specs.Spelled.{FirstIsSpelled, SpellsMoved};
 ghost use Rattle.cfdp_entity.specs.Strays.{first_stray_len};
 ghost use Rattle.cfdp_entity.specs.Table.{due_at, len_at};
 
@@ -16,7 +19,7 @@ use std::alloc::AllocError;
 impl<O: Outbox, I: Inbox> Entity<O, I> {
     /// Takes the PDU that is due next: stray acknowledgements come first, then the records in order
     /// of opening, round robin from behind the one served last. It is written over the first octets
-    /// of `out`, where it has at most `room` octets.
+    /// of `out`, where it has at most `room` octets. No PDU is longer than 4,128 octets.
     ///
     /// # Errors
     ///
@@ -25,6 +28,9 @@ impl<O: Outbox, I: Inbox> Entity<O, I> {
         requires fits { room ≤ length out.old }
         ensures polled { IfOk result (λ answer. Polls room answer self.old self.new out.old
             out.new) }
+        // Its octets are those of what it says.
+        ensures spells { IfOk result (λ answer. SpellsMoved answer self.old.state) }
+        ensures roomy { IfOk result (λ answer. answer ≡ answers.Full → room < longest_pdu) }
         ensures counts { IfOk result (λ answer. Counts (stored_by_poll answer)
             self.old.outbox_failures self.new.outbox_failures) }
         ensures err { OnErr result ((self.new ≡ self.old) × (out.new ≡ out.old)) }
@@ -42,6 +48,8 @@ impl<O: Outbox, I: Inbox> Entity<O, I> {
         requires fits { room ≤ length out.old }
         requires some { 1 ≤ length self.old.state.strays }
         ensures polled { Polls room result self.old self.new out.old out.new }
+        ensures spells { SpellsMoved result self.old.state }
+        ensures roomy { result ≡ answers.Full → room < longest_pdu }
         ensures done { stored_by_poll result ≡ storeds.Done }
         ensures inbox { self.new.inbox_failures ≡ self.old.inbox_failures }
         ensures outbox { self.new.outbox_failures ≡ self.old.outbox_failures }
@@ -57,7 +65,9 @@ impl<O: Outbox, I: Inbox> Entity<O, I> {
     }
 
     fn stray_len(&self) -> usize
-        ensures { result ≡ first_stray_len self.now.state.strays }
+        ensures len { result ≡ first_stray_len self.now.state.strays }
+        ensures short { result ≤ longest_pdu }
+        ensures spelled { FirstIsSpelled self.now.state.strays }
     {
         match self.strays.front() {
             Some(stray) => stray.len(),
@@ -71,6 +81,8 @@ impl<O: Outbox, I: Inbox> Entity<O, I> {
         requires no_stray { self.old.state.strays ≡ [] }
         ensures polled { IfOk result (λ answer. Polls room answer self.old self.new out.old
             out.new) }
+        ensures spells { IfOk result (λ answer. SpellsMoved answer self.old.state) }
+        ensures roomy { IfOk result (λ answer. answer ≡ answers.Full → room < longest_pdu) }
         ensures counts { IfOk result (λ answer. Counts (stored_by_poll answer)
             self.old.outbox_failures self.new.outbox_failures) }
         ensures err { OnErr result ((self.new ≡ self.old) × (out.new ≡ out.old)) }

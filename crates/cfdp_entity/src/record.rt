@@ -21,6 +21,8 @@ ghost use Rattle.cfdp_entity.specs.Steps.{hears, expires, takes, sender_after, r
 ghost use Rattle.cfdp_entity.specs.Does.{Does, Keeps, spare};
 ghost use Rattle.cfdp_entity.specs.Sides.{Receives, ReceiverTook, ReceiverAcks, SenderDoes, SenderKeeps, ReceiverDoes, ReceiverKeeps};
 ghost use Rattle.cfdp_entity.specs.Gives.{Gives, stored_by_gave};
+ghost use Rattle.cfdp_entity.specs.Sound.{longest_pdu};
+ghost use Rattle.cfdp_entity.specs.Spelled.{SeenIsSpelled};
 ghost use Rattle.cfdp_entity.specs.Whole.{IsReadyRecord, Staged};
 
 use crate::call::Call;
@@ -64,9 +66,12 @@ impl Record {
 
     /// Octets of the PDU that is due, 0 where none is.
     pub(crate) fn due_len(&self) -> usize
-        ensures { (staged : Staged) (sources : FileMap) (id : TransactionId) →
+        ensures len { (staged : Staged) (sources : FileMap) (id : TransactionId) →
             IsReadyRecord staged sources id self.now
             → result ≡ seens.due_len sources (seen (staged id) self.now) }
+        ensures short { result ≤ longest_pdu }
+        ensures spelled { (staged : Option OctetMap) (sources : FileMap) →
+            SeenIsSpelled sources (seen staged self.now) }
     {
         match self {
             Record::Sends(sender) => sender.due().unwrap_or(0),

@@ -14,6 +14,8 @@ ghost use Rattle.cfdp_directives.specs.Addressing.{FitsAddressing};
 ghost use Rattle.cfdp_entity.specs.Does.{spare};
 ghost use Rattle.cfdp_entity.specs.Opening.{CountsBoth};
 ghost use Rattle.cfdp_entity.specs.Gives.{Gives, stored_by_gave};
+ghost use Rattle.cfdp_entity.specs.Sound.{longest_pdu};
+ghost use Rattle.cfdp_entity.specs.Spelled.{EntryIsSpelled};
 ghost use Rattle.cfdp_entity.specs.Table.{heard_at, expired_at, called_at, taken_at, octets_due, len_due, put_in, opened_by, SpoiledAt, phase_in};
 ghost use Rattle.cfdp_entity.specs.Calling as calling;
 ghost use Rattle.cfdp_entity.specs.Whole.{IsWhole, Staged, state_of, entries_seen};
@@ -43,9 +45,12 @@ fn id_at(records: &IndexMap<TransactionId, Record>, place: usize) -> Option<Tran
 
 /// Octets of the PDU that the record at a place has due.
 pub(crate) fn due_len_at(records: &IndexMap<TransactionId, Record>, place: usize) -> usize
-    ensures { (staged : Staged) (sources : FileMap) (flags : List Bool) (timers : TimersState) →
+    ensures len { (staged : Staged) (sources : FileMap) (flags : List Bool) (timers : TimersState) →
         IsWhole staged sources records.now.entries flags timers →
         result ≡ len_due sources (slice_get (entries_seen staged records.now.entries) place) }
+    ensures short { result ≤ longest_pdu }
+    ensures spelled { (staged : Staged) (sources : FileMap) →
+        EntryIsSpelled sources (slice_get (entries_seen staged records.now.entries) place) }
 {
     match records.get_index(place) {
         Some((_, record)) => record.due_len(),

@@ -3,6 +3,8 @@ ghost use Rattle.std.specs.Prelude.{◌≡◌, ◌≤◌, length};
 ghost use Rattle.cfdp_directives.specs.Addressing.{addressing_of, FitsAddressing};
 ghost use Rattle.cfdp_directives.specs.Content.{view};
 ghost use Rattle.cfdp_entity.specs.Gives.{Writes};
+ghost use Rattle.cfdp_entity.specs.Sound.{longest_pdu};
+ghost use Rattle.cfdp_entity.specs.Spelled.{StrayIsSpelled};
 ghost use Rattle.cfdp_entity.specs.Strays.{stray_says, stray_octets, stray_len};
 
 use cfdp_directives::{Acknowledged, Addressing, Condition, Pdu, TransactionStatus};
@@ -51,8 +53,11 @@ impl Stray {
 
     /// Its octets.
     pub(crate) fn len(&self) -> usize
-        ensures { result ≡ stray_len self.now }
+        ensures len { result ≡ stray_len self.now }
+        ensures short { result ≤ longest_pdu }
+        ensures spelled { StrayIsSpelled self.now }
     {
+        let _any_condition_fits = self.condition.code();
         self.addressing.written_len(&self.pdu())
     }
 

@@ -15,6 +15,8 @@ ghost use Rattle.cfdp_entity.specs.Seen as seens;
 ghost use Rattle.cfdp_entity.specs.Calling as calling;
 ghost use Rattle.cfdp_entity.specs.Gives.{Gives, stored_by_gave};
 ghost use Rattle.cfdp_entity.specs.Opening.{CountsBoth};
+ghost use Rattle.cfdp_entity.specs.Sound.{longest_pdu};
+ghost use Rattle.cfdp_entity.specs.Spelled.{EntryIsSpelled};
 ghost use Rattle.cfdp_entity.specs.Table as tables;
 ghost use Rattle.cfdp_entity.specs.Table.{heard_at, expired_at, called_at, taken_at, due_at, len_at, put_in, opened_by, next_due, first_table, all_expired, at_time, Ticks, SpoiledAt, phase_in};
 
@@ -128,7 +130,10 @@ impl<O: Outbox, I: Inbox> Table<O, I> {
 
     /// Octets of the PDU that the record at a place has due.
     pub fn due_len(&self, place: usize) -> usize
-        ensures { result ≡ len_at place self.now.state }
+        ensures len { result ≡ len_at place self.now.state }
+        ensures short { result ≤ longest_pdu }
+        ensures spelled { EntryIsSpelled self.now.state.sources
+            (slice_get self.now.state.records place) }
     {
         steps::due_len_at(&self.records, place)
     }

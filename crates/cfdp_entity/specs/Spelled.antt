@@ -1,0 +1,39 @@
+-- What is due is spelled by its octets.
+use Rattle.std.specs.Prelude.{List, [], ◌∷◌, Option, Some, None}
+use Rattle.cfdp_header.specs.Files.{FileMap}
+use Rattle.cfdp_directives.specs.declared.addressing.Addressing.{Addressing}
+use Rattle.cfdp_directives.specs.Content.{Content}
+use Rattle.cfdp_entity.specs.declared.polled.EntityPolled.{EntityPolled}
+use Rattle.cfdp_entity.specs.declared.polled.EntityPolled.TheVariants.{Moved}
+use Rattle.cfdp_entity.specs.Entity.{EntityState}
+use Rattle.cfdp_entity.specs.Polling.{turn}
+use Rattle.cfdp_entity.specs.Seen.{Seen, addressing_of, due_content, octets_of}
+use Rattle.cfdp_entity.specs.Sound.{SpellsDue, SpellsTurn}
+use Rattle.cfdp_entity.specs.Strays.{StrayAck, stray_says, stray_octets}
+use Rattle.cfdp_entity.specs.Table.{Entry}
+
+-- Where something is due, its octets are those of what it says.
+abbrev pub IsSpelled : Addressing → Option Content → Type 0
+IsSpelled a None = Unit {0}
+IsSpelled a (Some v) = SpellsDue (Some v) a (octets_of a (Some v))
+
+-- of what a record has due
+unfoldable pub SeenIsSpelled : FileMap → Seen → Type 0
+SeenIsSpelled sources s = IsSpelled (addressing_of s) (due_content sources s)
+
+abbrev pub EntryIsSpelled : FileMap → Option Entry → Type 0
+EntryIsSpelled sources None = Unit {0}
+EntryIsSpelled sources (Some e) = SeenIsSpelled sources e.1
+
+-- of a stray acknowledgement, and of the first that waits
+abbrev pub StrayIsSpelled : StrayAck → Type 0
+StrayIsSpelled s = SpellsDue (Some (stray_says s)) s.addressing (stray_octets s)
+
+abbrev pub FirstIsSpelled : List StrayAck → Type 0
+FirstIsSpelled [] = Unit {0}
+FirstIsSpelled (s ∷ strays) = StrayIsSpelled s
+
+-- Of a PDU that was moved, its octets are those of what it says.
+abbrev pub SpellsMoved : EntityPolled → EntityState → Type 0
+SpellsMoved (Moved n) e = SpellsTurn (turn e) e
+SpellsMoved _ e = Unit {0}

@@ -1,0 +1,36 @@
+-- What a table tells of files that were delivered: to the other entity, and to its user.
+use Rattle.std.specs.Prelude.{◌≡◌, ℕ, List, slice_get, Some, Contains}
+use Rattle.cfdp_header.specs.declared.value.TransactionId.{TransactionId}
+use Rattle.cfdp_directives.specs.declared.codes.Delivery.TheVariants.{Complete}
+use Rattle.cfdp_directives.specs.declared.codes.FileStatus.TheVariants.{Retained}
+use Rattle.cfdp_directives.specs.declared.indication.Indication.{Indication}
+use Rattle.cfdp_directives.specs.declared.telling.Outcome.{Outcome}
+use Rattle.cfdp_directives.specs.Codes.{no_error}
+use Rattle.cfdp_directives.specs.Completions.{IsToldComplete}
+use Rattle.cfdp_directives.specs.Content.{Finished}
+use Rattle.cfdp_directives.specs.Policy.{finished_told}
+use Rattle.cfdp_directives.specs.Put.{SomePdu, SaysComplete}
+use Rattle.cfdp_directives.specs.Tlv.{Tlv}
+use Rattle.cfdp_entity.specs.History.{TableStep, Hears}
+use Rattle.cfdp_entity.specs.Seen.{Seen, Sends, Receives}
+use Rattle.cfdp_entity.specs.Table.{Entry, TableState}
+
+-- How a receiver's transaction ended is kept only once that was indicated.
+abbrev pub WasIndicated : List Indication → Seen → Type 0
+WasIndicated told (Sends x) = Unit {0}
+WasIndicated told (Receives r m) =
+    (o : Outcome) → r.outcome ≡ Some o → Contains told (finished_told r.addressing.id o)
+
+-- A receiver tells nothing of an end that wasn't indicated here, and a user is told that a file of
+-- this entity was delivered only where a Finished was heard that says so.
+pub record TellsNoMore (own : ℕ) (heard : List (List ℕ)) (st : TableState) : Type 0 where
+  pub indicated : (place : ℕ) (e : Entry) → slice_get st.records place ≡ Some e
+      → WasIndicated st.told e.1
+  pub told : (id : TransactionId) → IsToldComplete own st.told id → SomePdu (SaysComplete id) heard
+
+-- A Finished that a record hears, and that says that its file was delivered, was heard.
+abbrev pub HearsDelivered : List (List ℕ) → TableStep → TableState → Type 0
+HearsDelivered heard (Hears stored place v) st =
+    (e : Entry) → slice_get st.records place ≡ Some e → (tlvs : List Tlv)
+    → v ≡ Finished no_error Complete Retained tlvs → SomePdu (SaysComplete e.0) heard
+HearsDelivered heard _ st = Unit {0}
