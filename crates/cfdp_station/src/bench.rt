@@ -44,25 +44,30 @@ impl Bench {
         self.station.put(b"a.txt", b"b.txt").is_ok()
     }
 
-    /// The frames of what is due, at most 16 PDUs, and of a flush behind each or behind all.
-    pub fn sends(&mut self, alloc: Global, flush_each: bool) -> Result<Vec<Vec<u8>>, AllocError> {
-        for _ in 0..MOST {
-            if !self.moves(flush_each)? {
-                break;
-            }
-        }
+    /// The frames of what is due, at most 16 PDUs, and of a flush behind all.
+    pub fn sends(&mut self, alloc: Global) -> Result<Vec<Vec<u8>>, AllocError> {
+        let _ = self.last_answer()?;
         self.station.flush();
         self.frames(alloc)
     }
 
-    fn moves(&mut self, flush: bool) -> Result<bool, AllocError> {
-        let moved = self.station.poll()? == Polled::Moved;
-        if flush {
-            self.station.flush();
+    // The first answer but that a PDU was moved, after at most 16 of these.
+    fn last_answer(&mut self) -> Result<Polled, AllocError> {
+        for _ in 0..MOST {
+            let answer = self.polls()?;
+            if answer != Polled::Moved {
+                return Ok(answer);
+            }
         }
-        Ok(moved)
+        Ok(Polled::Moved)
     }
 
+    // One poll.
+    fn polls(&mut self) -> Result<Polled, AllocError> {
+        self.station.poll()
+    }
+
+    // At most 16 frames that are whole.
     fn frames(&mut self, alloc: Global) -> Result<Vec<Vec<u8>>, AllocError> {
         let mut frames = Vec::new(alloc);
         for _ in 0..MOST {
@@ -81,24 +86,13 @@ impl Bench {
         Ok(Some(Vec::from_slice(alloc, &self.frame)?))
     }
 
-    /// Takes these frames, in order.
-    pub fn takes(&mut self, frames: &[Vec<u8>]) {
-        for frame in frames {
-            self.take(frame);
-        }
-    }
-
-    fn take(&mut self, frame: &[u8]) {
+    /// Takes these octets as a frame.
+    pub fn take(&mut self, frame: &[u8]) {
         self.station.take(frame);
     }
 
-    /// Whether nothing was indicated.
-    pub fn is_quiet(&self) -> bool {
-        self.station.indications().is_empty()
-    }
-
-    /// How often something was dropped under a number: of frames, and of PDUs.
-    pub fn drops(&self, number: u8) -> (u64, u64) {
-        (self.station.link_drops(number), self.station.drops(number))
+    /// How often a frame was dropped under a number.
+    pub fn link_drops(&self, number: u8) -> u64 {
+        self.station.link_drops(number)
     }
 }

@@ -1,8 +1,11 @@
 // What a station does to several of its parts at once.
-ghost use Rattle.std.specs.Prelude.{◌≡◌, ◌+◌, ◌≤◌, length, take, IfOk, OnErr};
+ghost use Rattle.std.specs.Prelude.{◌≡◌, ◌+◌, ◌<◌, ◌≤◌, length, take, IfOk, OnErr};
 ghost use Rattle.cfdp_store.specs.Stores.{Counts};
 ghost use Rattle.mpdu.specs.Feeding.{octets_of_each};
 ghost use Rattle.link_stack.specs.Downward as downward;
+ghost use Rattle.cfdp_entity.specs.Polling.{turn};
+ghost use Rattle.cfdp_entity.specs.Sound.{SpellsTurn, longest_pdu};
+ghost use Rattle.cfdp_station.specs.declared.polled.Polled.TheVariants as answers;
 ghost use Rattle.cfdp_station.specs.Link.{SendsPdu};
 ghost use Rattle.cfdp_station.specs.Polling.{Moves, stored_by_poll};
 ghost use Rattle.cfdp_station.specs.Taking.{HearsPdu, HearsAll};
@@ -33,6 +36,10 @@ pub(crate) fn move_one<O: Outbox, I: Inbox>(
     requires room { down.old.capacity ≤ length buffer.old }
     ensures moves { IfOk result (λ answer. Moves answer entity.old entity.new
         down.old down.new) }
+    ensures spells { IfOk result (λ answer. answer ≡ answers.Moved
+        → SpellsTurn (turn entity.old.state) entity.old.state) }
+    ensures roomy { IfOk result (λ answer. answer ≡ answers.Full
+        → downward.room down.old < longest_pdu) }
     ensures err { OnErr result ((entity.new ≡ entity.old) × (down.new ≡ down.old)) }
     ensures counts { IfOk result (λ answer. Counts (stored_by_poll answer)
         entity.old.outbox_failures entity.new.outbox_failures) }

@@ -10,7 +10,9 @@ ghost use Rattle.cfdp_store.specs.Stores.{Counts, failures_after};
 ghost use Rattle.cfdp_entity.specs.Calling.{IsRefusal};
 ghost use Rattle.cfdp_entity.specs.Calls.{IsCalled, call_refusal};
 ghost use Rattle.cfdp_entity.specs.Entity.{first_entity, with_table, phase_told};
+ghost use Rattle.cfdp_entity.specs.Polling.{turn};
 ghost use Rattle.cfdp_entity.specs.Putting.{Accepts, put_refusal, IsPutRefusal, stored_by_error, was_answered};
+ghost use Rattle.cfdp_entity.specs.Sound.{SpellsTurn, longest_pdu};
 ghost use Rattle.cfdp_entity.specs.Table.{Ticks};
 ghost use Rattle.cfdp_entity.specs.declared.call.Call.TheVariants as calls;
 ghost use Rattle.cfdp_station.specs.declared.polled.Polled.TheVariants as answers;
@@ -247,7 +249,7 @@ impl<O: Outbox, I: Inbox> Station<O, I> {
     }
 
     /// Moves the PDU whose turn it is down the link, in a packet of its own, where one is due and
-    /// there is room for it. One that doesn't fit stays due.
+    /// there is room for it. One that doesn't fit stays due. A PDU has 4,128 octets at the most.
     ///
     /// # Errors
     ///
@@ -255,8 +257,13 @@ impl<O: Outbox, I: Inbox> Station<O, I> {
     /// then.
     pub fn poll(&mut self) -> Result<Polled, AllocError>
         ensures polled { IfOk result (λ answer. Polls answer self.old self.new) }
+        // Its octets are those of what it says.
+        ensures spells { IfOk result (λ answer. answer ≡ answers.Moved
+            → SpellsTurn (turn self.old.entity.state) self.old.entity.state) }
         ensures full { IfOk result (λ answer. (answer ≡ answers.Full)
             ↔ (downward.room self.old.down < next_len self.old.entity.state)) }
+        ensures roomy { IfOk result (λ answer. answer ≡ answers.Full
+            → downward.room self.old.down < longest_pdu) }
         ensures err { OnErr result (self.new ≡ self.old) }
         ensures counts { IfOk result (λ answer. Counts (stored_by_poll answer)
             self.old.entity.outbox_failures self.new.entity.outbox_failures) }

@@ -113,16 +113,11 @@ fn frame(alloc: Global, texts: &[&str], len: usize) -> Result<Vec<u8>, Fail> {
     Ok(octets)
 }
 
-/// The frames of a put, with a flush behind each PDU or behind all.
-fn sent(
-    rt: &impl Abort,
-    alloc: Global,
-    setup: &Setup,
-    flush_each: bool,
-) -> Result<Vec<Vec<u8>>, AllocError> {
+/// The frames of a put.
+fn sent(rt: &impl Abort, alloc: Global, setup: &Setup) -> Result<Vec<Vec<u8>>, AllocError> {
     let mut one = station(rt, alloc, setup)?;
-    assert!(rt; one.puts());
-    one.sends(alloc, flush_each)
+    let _ = one.puts();
+    one.sends(alloc)
 }
 
 #[test]
@@ -139,7 +134,21 @@ fn a_put_goes_down_in_one_frame(rt: HostRuntime) -> Result<(), Fail> {
         "07FFC000001E",
     ];
     let wanted = frame(alloc, &texts, 136)?;
-    let frames = sent(&rt, alloc, &ONE, false)?;
+    let frames = sent(&rt, alloc, &ONE)?;
     assert!(rt; frames.len() == 1 && frames[0] == wanted);
+    Ok(())
+}
+
+/// How often a station dropped these octets for their version.
+fn dropped(rt: &impl Abort, alloc: Global, octets: &[u8]) -> Result<u64, AllocError> {
+    let mut one = station(rt, alloc, &ONE)?;
+    one.take(octets);
+    Ok(one.link_drops(2))
+}
+
+#[test]
+fn a_frame_of_noise_is_dropped_and_counted(rt: HostRuntime) -> Result<(), Fail> {
+    let count = dropped(&rt, rt.alloc(), &[0xFF; 136])?;
+    assert_eq!(rt; count, 1);
     Ok(())
 }
