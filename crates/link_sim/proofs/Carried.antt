@@ -1,19 +1,12 @@
 -- What the steps of a link do to a direction between events.
-use Rattle.std.proofs.Common.{◌≡◌, ℕ, ◌+◌, ◌<◌, false, List, [], ◌∷◌, ◌++◌, length, refl, sym, ap, subst, ◌∙◌, arith}
+use Rattle.std.proofs.Common.{◌≡◌, ℕ, ◌<◌, List, length, sym, ap, subst, ◌∙◌, arith}
 use Rattle.mpdu.specs.Packets.{busy}
 use Rattle.link_stack.specs.Frames.{pdus_in}
 use Rattle.link_stack.specs.Downward.{LinkSenderState}
 use Rattle.link_stack.specs.Upward.{LinkReceiverState}
-use Rattle.link_sim.specs.declared.mark.Loss.{Loss}
-use Rattle.link_sim.specs.declared.mark.Loss.TheVariants.{Done, NoneWaits, TooMany}
 use Rattle.link_sim.specs.FrameLink.{FrameLinkState}
+use Rattle.link_sim.specs.AtStation.{IsSameLink}
 use Rattle.link_sim.specs.OneWay.{OneWayState, IsOneWay, IsCarried, SendsNone, SendsMore, one_way}
-use Rattle.link_sim.proofs.Pulling.{pulled_none}
-use Rattle.link_sim.proofs.Receiving.{strikes}
-
--- the link's frames, their marks and their octets are as they were
-abbrev pub IsSameLink : (old new : FrameLinkState) → Type 0
-IsSameLink k m = (m.frames ≡ k.frames) × (m.marks ≡ k.marks) × (m.run ≡ k.run) × (m.len ≡ k.len)
 
 -- a link that has more buffers is the same direction
 pub same_way : (d : LinkSenderState) (k m : FrameLinkState) (u : LinkReceiverState) → IsSameLink k m → one_way d m u ≡ one_way d k u
@@ -40,17 +33,3 @@ sent_on d e f k m n u qs texts is same more pulled link link2 len waits =
       delivered = p.delivered ∙ s.delivered;
     } in
     (carried, all)
-
--- a wish to strike a frame
-pub struck_on : (r : Loss) (d : LinkSenderState) (k m : FrameLinkState) (u : LinkReceiverState) → IsCarried d k u →
-    (r ≡ Done → (length k.marks < length k.frames) × (k.run < 16777215) × (m ≡ record k { marks = k.marks ++ false ∷ []; run = k.run + 1 })) →
-    ((r ≡ Done → ⊥) → m ≡ k) → IsCarried d m u × SendsNone (one_way d k u) (one_way d m u)
-struck_on Done d k m u is done kept =
-    let h = done refl in
-    let s : SendsNone (one_way d k u) (one_way d (record k { marks = k.marks ++ false ∷ []; run = k.run + 1 }) u) = strikes (one_way d k u) is.way h.0 h.1 in
-    subst (λ (x : FrameLinkState). IsCarried d x u × SendsNone (one_way d k u) (one_way d x u)) (sym h.2)
-    (record { way = s.way; none_waits = is.none_waits; fits = is.fits }, s)
-struck_on NoneWaits d k m u is done kept =
-    subst (λ (x : FrameLinkState). IsCarried d x u × SendsNone (one_way d k u) (one_way d x u)) (sym (kept (λ (e : NoneWaits ≡ Done). cc))) (is, pulled_none (one_way d k u) is.way)
-struck_on TooMany d k m u is done kept =
-    subst (λ (x : FrameLinkState). IsCarried d x u × SendsNone (one_way d k u) (one_way d x u)) (sym (kept (λ (e : TooMany ≡ Done). cc))) (is, pulled_none (one_way d k u) is.way)

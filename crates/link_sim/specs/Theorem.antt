@@ -1,107 +1,117 @@
--- What is proved of every list of events, in the words of puts, PDUs delivered, indications and files. Of a world it reads
--- the files, what was indicated, the PDUs with their marks, and the accepted puts: nothing of the machines.
+-- What is proved of every list of events, in the words of puts, PDUs, indications and files. Of the
+-- two stations it speaks of what an observer sees: nothing of machines, packets, frames or timers.
 use Rattle.std.specs.Prelude.{◌≡◌, ℕ, ◌==◌, List, [], ◌∷◌, ◌++◌, Option, Some, None, Contains, if◌then◌else◌}
 use Rattle.std.specs.FinMap.{get}
 use Rattle.cfdp_header.specs.declared.value.Header.{Header}
 use Rattle.cfdp_header.specs.declared.value.TransactionId.{TransactionId}
-use Rattle.cfdp_directives.specs.declared.codes.Delivery.TheVariants.{Complete}
-use Rattle.cfdp_directives.specs.declared.codes.FileStatus.TheVariants.{Retained}
-use Rattle.cfdp_directives.specs.Codes.{no_error}
-use Rattle.cfdp_directives.specs.Tlv.{Tlv}
-use Rattle.cfdp_directives.specs.Content.{Content, FileData, Metadata, Eof, Finished}
-use Rattle.cfdp_directives.specs.Grammar.{SpellsPdu}
-use Rattle.cfdp_directives.specs.Put.{Put, IsTruthful, HeardInFull, SomePdu, inbox_after}
-use Rattle.cfdp_directives.specs.Completions.{completions, FinishedOnce, IsToldComplete}
+use Rattle.cfdp_header.specs.Files.{FileMap}
 use Rattle.cfdp_header.specs.Ids.{same_id}
+use Rattle.cfdp_directives.specs.declared.indication.Indication.{Indication}
+use Rattle.cfdp_directives.specs.Content.{Content}
+use Rattle.cfdp_directives.specs.Grammar.{SpellsPdu}
+use Rattle.cfdp_directives.specs.Put.{Put, HeardInFull, SomePdu, SaysTruth, SaysComplete, inbox_after}
+use Rattle.cfdp_directives.specs.Completions.{completions, FinishedOnce, IsToldComplete}
+use Rattle.cfdp_entity.specs.Sound.{FindsMore}
 use Rattle.link_sim.specs.declared.side.Side.{Side}
 use Rattle.link_sim.specs.declared.side.Side.TheVariants.{One, Two}
 use Rattle.link_sim.specs.declared.event.AcceptedPut.{AcceptedPut}
-use Rattle.link_sim.specs.declared.event.Mark.{Mark}
-use Rattle.link_sim.specs.declared.event.Mark.TheVariants.{Delivered, Struck}
-use Rattle.link_sim.specs.Sides.{other, entity_of}
-use Rattle.link_sim.specs.World.{WorldState, station_at, link_from}
+use Rattle.link_sim.specs.Sides.{other}
 
--- the PDUs that are marked delivered, in order
-abbrev pub delivered : List (List ℕ) → List Mark → List (List ℕ)
-delivered [] marks = []
-delivered (text ∷ texts) [] = []
-delivered (text ∷ texts) (Delivered ∷ marks) = text ∷ delivered texts marks
-delivered (text ∷ texts) (Struck ∷ marks) = delivered texts marks
+-- ---- what is seen
+-- Of a station: its entity's id and the checksum type of its puts, the files that it can send, the
+-- files of its inbox, what it told its user, the PDUs that it put on the link, and those that were
+-- delivered to it, each in order.
+pub record StationSeen : Type 0 where
+  pub entity : ℕ
+  pub checksum_kind : ℕ
+  pub sources : FileMap
+  pub inbox : FileMap
+  pub told : List Indication
+  pub sent : List (List ℕ)
+  pub delivered : List (List ℕ)
 
--- the PDUs that were delivered to a station
-abbrev pub delivered_to : Side → WorldState → List (List ℕ)
-delivered_to s w = delivered (link_from (other s) w).pdus (link_from (other s) w).marks
+-- Of the world: both stations, and the accepted puts in order.
+pub record WorldSeen : Type 0 where
+  pub one : StationSeen
+  pub two : StationSeen
+  pub puts : List AcceptedPut
 
+abbrev pub at : Side → WorldSeen → StationSeen
+at One w = w.one
+at Two w = w.two
+
+-- ---- puts
 -- the first accepted put of an id
 abbrev pub accepted_as : List AcceptedPut → TransactionId → Option AcceptedPut
 accepted_as [] id = None
 accepted_as (p ∷ puts) id = if same_id p.id id then Some p else accepted_as puts id
 
--- the station whose entity this is
-abbrev pub side_of : ℕ → Side
-side_of entity = if entity == entity_of One then One else Two
+-- the station of this entity
+abbrev pub side_of : ℕ → WorldSeen → Side
+side_of entity w = if entity == w.one.entity then One else Two
 
--- an accepted put with the octets of its source, where the outbox of its station has them
+-- an accepted put with the octets of its source, where its station has them
 abbrev pub with_octets : ℕ → AcceptedPut → Option (List ℕ) → Option Put
 with_octets kind p None = None
-with_octets kind p (Some octets) =
-    Some (record { id = p.id; source = p.source; destination = p.destination; octets = octets; checksum_kind = kind })
+with_octets kind p (Some octets) = Some (record {
+  id = p.id;
+  source = p.source;
+  destination = p.destination;
+  octets = octets;
+  checksum_kind = kind;
+})
 
-abbrev pub put_by : WorldState → Option AcceptedPut → Option Put
+abbrev pub put_at : StationSeen → AcceptedPut → Option Put
+put_at s p = with_octets s.checksum_kind p (get s.sources p.source)
+
+abbrev pub put_by : WorldSeen → Option AcceptedPut → Option Put
 put_by w None = None
-put_by w (Some p) = with_octets w.config.checksum_kind p (get (station_at (side_of p.id.source) w).sources p.source)
+put_by w (Some p) = put_at (at (side_of p.id.source w) w) p
 
 -- the put of an id
-abbrev pub put_of : WorldState → TransactionId → Option Put
+abbrev pub put_of : WorldSeen → TransactionId → Option Put
 put_of w id = put_by w (accepted_as w.puts id)
 
+-- ---- what every event keeps
 -- the transactions that a station received and indicated complete, in order
-abbrev pub completions_at : Side → WorldState → List TransactionId
-completions_at s w = completions (entity_of s) (station_at s w).told
+abbrev pub completions_at : Side → WorldSeen → List TransactionId
+completions_at s w = completions (at s w).entity (at s w).told
 
--- The inbox of a station was overwritten, in order of the completions that it gained, by the files of the puts they name.
-pub record FoldsAt (s : Side) (old new : WorldState) : Type 0 where
+-- The inbox of a station was overwritten, in order of the completions that it gained, by the files
+-- of the puts that they name.
+pub record FoldsAt (s : Side) (old new : WorldSeen) : Type 0 where
   pub gained : List TransactionId
   pub completions : completions_at s new ≡ completions_at s old ++ gained
-  pub inbox : (station_at s new).published ≡ inbox_after (put_of new) (station_at s old).published gained
+  pub inbox : (at s new).inbox ≡ inbox_after (put_of new) (at s old).inbox gained
+
+-- More happened: puts that were accepted stay what they are, and each inbox was overwritten by the
+-- files of the puts completed since.
+pub record Follows (old new : WorldSeen) : Type 0 where
+  pub puts : FindsMore (put_of old) (put_of new)
+  pub folds : (s : Side) → FoldsAt s old new
 
 -- Each put that a station completed was heard there in full.
-abbrev pub CausedAt : Side → WorldState → Type 0
+abbrev pub CausedAt : Side → WorldSeen → Type 0
 CausedAt s w = (id : TransactionId) → Contains (completions_at s w) id →
-    (put : Put) × ((put_of w id ≡ Some put) × HeardInFull put (delivered_to s w))
-
--- a Finished of this transaction that says that the file was delivered
-abbrev pub SaysComplete : TransactionId → Header → Content → Type 0
-SaysComplete id h v = (h.id ≡ id) × ((tlvs : List Tlv) × (v ≡ Finished no_error Complete Retained tlvs))
+    (put : Put) × ((put_of w id ≡ Some put) × HeardInFull put (at s w).delivered)
 
 -- Where a sender was told complete, it heard so, and the other station has completed the put.
-pub record IsTold (s : Side) (w : WorldState) (id : TransactionId) : Type 0 where
-  pub heard : SomePdu (SaysComplete id) (delivered_to s w)
+pub record IsTold (s : Side) (w : WorldSeen) (id : TransactionId) : Type 0 where
+  pub heard : SomePdu (SaysComplete id) (at s w).delivered
   pub completed : Contains (completions_at (other s) w) id
 
-abbrev pub ToldAt : Side → WorldState → Type 0
-ToldAt s w = (id : TransactionId) → IsToldComplete (entity_of s) (station_at s w).told id → IsTold s w id
+abbrev pub ToldAt : Side → WorldSeen → Type 0
+ToldAt s w = (id : TransactionId) → IsToldComplete (at s w).entity (at s w).told id → IsTold s w id
 
--- A content speaks of a put that this station made, and truthfully.
-abbrev pub IsOfPut : Side → WorldState → TransactionId → Content → Type 0
-IsOfPut s w id v = (put : Put) × ((id.source ≡ entity_of s) × (put_of w id ≡ Some put) × IsTruthful put v)
-
--- a content that speaks of a file speaks the truth; the other contents speak of none
-abbrev pub SaysTruth : Side → WorldState → TransactionId → Content → Type 0
-SaysTruth s w id (FileData offset bytes) = IsOfPut s w id (FileData offset bytes)
-SaysTruth s w id (Metadata kind size source destination options) =
-    IsOfPut s w id (Metadata kind size source destination options)
-SaysTruth s w id (Eof condition checksum size tlvs) = IsOfPut s w id (Eof condition checksum size tlvs)
-SaysTruth s w id _ = Unit {0}
-
--- Each Metadata, file data and EOF that a station put on the link is truthful for a put that it made.
-abbrev pub TruthAt : Side → WorldState → Type 0
-TruthAt s w = (text : List ℕ) → Contains (link_from s w).pdus text →
-    (h : Header) (v : Content) → SpellsPdu h v text → SaysTruth s w h.id v
+-- Each Metadata, file data and EOF that a station put on the link is truthful for a put that it
+-- made.
+abbrev pub TruthAt : Side → WorldSeen → Type 0
+TruthAt s w = (text : List ℕ) → Contains (at s w).sent text →
+    (h : Header) (v : Content) → SpellsPdu h v text → SaysTruth (at s w).entity (put_of w) h.id v
 
 -- What holds of every world that events led to.
-pub record HoldsAt (s : Side) (w : WorldState) : Type 0 where
-  pub once : FinishedOnce (station_at s w).told
+pub record HoldsAt (s : Side) (w : WorldSeen) : Type 0 where
+  pub once : FinishedOnce (at s w).told
   pub caused : CausedAt s w
   pub told : ToldAt s w
   pub truth : TruthAt s w

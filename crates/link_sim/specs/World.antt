@@ -1,200 +1,305 @@
--- Two stations and the PDUs between them: what each event does.
-use Rattle.std.specs.Prelude.{◌≡◌, ◌⊎◌, ℕ, ◌^◌, ◌==◌, ◌||◌, not, nat_lt, List, [], ◌∷◌, ◌++◌, length, Option, Some, None, All, MatchBool, if◌then◌else◌}
-use Rattle.std.specs.FinMap.{get}
+-- Two stations and the frames between them: what each event does.
+use Rattle.std.specs.Prelude.{◌≡◌, ◌≢◌, ◌⊎◌, ◌<◌, ◌≤◌, ℕ, ◌+◌, Bool, true, false, List, [], ◌∷◌, ◌++◌, length, Some}
 use Rattle.cfdp_header.specs.declared.value.TransactionId.{TransactionId}
-use Rattle.cfdp_directives.specs.declared.indication.Indication.TheVariants as indication
-use Rattle.cfdp_directives.specs.Written.{pdu_octets}
-use Rattle.cfdp_directives.specs.FileName.{is_file_name}
 use Rattle.cfdp_header.specs.Files.{FileMap}
+use Rattle.mpdu.specs.Packing.{flush_of}
+use Rattle.link_stack.specs.Frames.{packet_of}
+use Rattle.link_stack.specs.Downward.{LinkSenderState, packing}
+use Rattle.link_stack.specs.Upward.{LinkReceiverState}
+use Rattle.cfdp_store.specs.declared.stored.Stored.TheVariants as storeds
+use Rattle.cfdp_entity.specs.declared.call.Call.{Call}
+use Rattle.cfdp_entity.specs.declared.call.Call.TheVariants as calls
+use Rattle.cfdp_entity.specs.declared.error.PutError.{PutError}
+use Rattle.cfdp_entity.specs.declared.error.PutError.TheVariants as put_errors
+use Rattle.cfdp_entity.specs.declared.error.CallError.{CallError}
+use Rattle.cfdp_entity.specs.declared.error.CallError.TheVariants as call_errors
+use Rattle.cfdp_entity.specs.Calls.{IsCalled, call_refusal}
+use Rattle.cfdp_entity.specs.Entity.{EntityState, with_table, first_entity, raised}
+use Rattle.cfdp_entity.specs.Polling.{Rests, turn, served}
+use Rattle.cfdp_entity.specs.Putting.{Accepts, IsPutRefusal, put_refusal, stored_by_error}
+use Rattle.cfdp_entity.specs.Sound.{SpellsTurn}
+use Rattle.cfdp_entity.specs.Table.{Ticks}
+use Rattle.cfdp_station.specs.Polling.{next_pdu}
+use Rattle.cfdp_station.specs.Station.{StationState, KeepsLink, first_down, first_up}
+use Rattle.cfdp_station.specs.Taking.{HearsAll}
+use Rattle.cfdp_station.specs.declared.config.StationConfig.{StationConfig}
 use Rattle.link_sim.specs.declared.side.Side.{Side}
 use Rattle.link_sim.specs.declared.side.Side.TheVariants.{One, Two}
-use Rattle.link_sim.specs.declared.config.SimConfig.{SimConfig}
-use Rattle.link_sim.specs.declared.transaction.Transaction.TheVariants.{Sends}
 use Rattle.link_sim.specs.declared.event.Event.{Event}
 use Rattle.link_sim.specs.declared.event.Event.TheVariants as event
 use Rattle.link_sim.specs.declared.event.Applied.{Applied}
-use Rattle.link_sim.specs.declared.event.Applied.TheVariants as applied
-use Rattle.link_sim.specs.declared.event.PutError.{PutError}
-use Rattle.link_sim.specs.declared.event.PutError.TheVariants as refusal
-use Rattle.link_sim.specs.declared.event.Mark.TheVariants.{Delivered, Struck}
+use Rattle.link_sim.specs.declared.event.Applied.TheVariants as did
+use Rattle.link_sim.specs.declared.event.Refusal.TheVariants as refusal
 use Rattle.link_sim.specs.declared.event.AcceptedPut.{AcceptedPut}
-use Rattle.link_sim.specs.Sides.{other, entity_of}
-use Rattle.link_sim.specs.Link.{LinkState, waiting, with_pdu, with_mark}
-use Rattle.link_sim.specs.Sender.{opened_sender}
-use Rattle.link_sim.specs.Station.{StationState, Taken, takes, after_taken, HearsPdu, DropsPdu}
+use Rattle.link_sim.specs.declared.world_config.WorldConfig.{WorldConfig}
+use Rattle.link_sim.specs.FrameLink.{FrameLinkState}
+use Rattle.link_sim.specs.OneWay.{OneWayState, SendsMore, SendsNone, HearsMore}
+use Rattle.link_sim.specs.Sides.{other}
 
+-- All frames that a station sent, in order; the marks of those that no longer wait, in the same
+-- order: true where delivered; and how many of the last of these were struck in a row.
+pub record LinkState : Type 0 where
+  pub frames : List (List ℕ)
+  pub marks : List Bool
+  pub run : ℕ
+
+-- what is seen of a link: not how many buffers it keeps
+abbrev pub seen_link : FrameLinkState → LinkState
+seen_link k = record { frames = k.frames; marks = k.marks; run = k.run }
+
+-- Both stations, what each of them sent, the accepted puts in order, and how often the time was
+-- told.
 pub record WorldState : Type 0 where
-  pub config : SimConfig
   pub one : StationState
   pub two : StationState
   pub from_one : LinkState
   pub from_two : LinkState
   pub puts : List AcceptedPut
+  pub ticks : ℕ
 
 abbrev pub station_at : Side → WorldState → StationState
 station_at One w = w.one
 station_at Two w = w.two
 
--- the link that a station sends on
+-- what a station sent
 abbrev pub link_from : Side → WorldState → LinkState
 link_from One w = w.from_one
 link_from Two w = w.from_two
 
-abbrev pub with_station : Side → StationState → WorldState → WorldState
-with_station One st w = record w { one = st }
-with_station Two st w = record w { two = st }
+abbrev pub entity_at : Side → WorldState → EntityState
+entity_at s w = (station_at s w).entity.state
 
-abbrev pub with_link : Side → LinkState → WorldState → WorldState
-with_link One link w = record w { from_one = link }
-with_link Two link w = record w { from_two = link }
+-- the direction between the end that sends at one station and the end that receives at the other
+abbrev pub way : LinkSenderState → LinkState → LinkReceiverState → OneWayState
+way down link up =
+    record { down = down; up = up; frames = link.frames; marks = link.marks; run = link.run }
 
--- a world, and what the event that led to it did
-pub record Result : Type 0 where
-  pub world : WorldState
-  pub applied : Applied
+abbrev pub way_from : Side → WorldState → OneWayState
+way_from s w = way (station_at s w).down (link_from s w) (station_at (other s) w).up
 
--- a station that begins to send a file
-abbrev pub sends_file : TransactionId → List ℕ → List ℕ → ℕ → StationState → StationState
-sends_file id source destination size st = record st {
-  told = st.told ++ indication.Transaction id ∷ [];
-  transaction = Some (Sends (opened_sender id source destination size));
-}
+-- ---- at first
+abbrev pub no_frames : LinkState
+no_frames = record { frames = []; marks = []; run = 0 }
 
-abbrev pub accepts : TransactionId → Side → List ℕ → List ℕ → ℕ → WorldState → WorldState
-accepts id s source destination size w =
-    with_station s (sends_file id source destination size (station_at s w))
-    (record w { puts = w.puts ++ record { id = id; source = source; destination = destination } ∷ [] })
+-- A station that did nothing yet, with these files to send and these that were published before.
+pub record IsFirstAt (c : StationConfig) (sources files : FileMap) (s : StationState) : Type 0 where
+  pub entity : s.entity.state ≡ first_entity sources files c.entity
+  pub down : s.down ≡ first_down c.down c.capacity
+  pub up : s.up ≡ first_up c.up
 
-abbrev pub refuses : PutError → WorldState → Result
-refuses e w = record { world = w; applied = applied.Refused e }
+-- Nothing happened yet.
+pub record IsFirst (c : WorldConfig) (outboxes inboxes : FileMap × FileMap) (w : WorldState)
+    : Type 0 where
+  pub one : IsFirstAt c.one outboxes.0 inboxes.0 w.one
+  pub two : IsFirstAt c.two outboxes.1 inboxes.1 w.two
+  pub from_one : w.from_one ≡ no_frames
+  pub from_two : w.from_two ≡ no_frames
+  pub puts : w.puts ≡ []
+  pub ticks : w.ticks ≡ 0
 
-abbrev pub put_file : Option (List ℕ) → Side → List ℕ → List ℕ → WorldState → Result
-put_file None s source destination w = refuses refusal.NoSuchFile w
-put_file (Some octets) s source destination w =
-    if nat_lt (length octets) (2 ^ 32)
-    then record {
-      world = accepts (record { source = entity_of s; number = w.config.first_number }) s source destination (length octets) w;
-      applied = applied.Applied;
-    }
-    else refuses refusal.TooLarge w
+-- one station's of the files of both
+abbrev pub files_at : Side → FileMap × FileMap → FileMap
+files_at One files = files.0
+files_at Two files = files.1
 
--- a put: the first cause that holds refuses it, and nothing changes then
-abbrev pub put_step : Side → List ℕ → List ℕ → WorldState → Result
-put_step s source destination w =
-    if not (is_file_name source) || not (is_file_name destination) then refuses refusal.Name w
-    else if not (length w.puts == 0) then refuses refusal.TableFull w
-    else if not (nat_lt w.config.first_number (256 ^ 4)) then refuses refusal.NumbersSpent w
-    else put_file (get (station_at s w).sources source) s source destination w
+-- ---- what stays
+-- The other station, and what it sent, are as they were.
+pub record Spares (s : Side) (old new : WorldState) : Type 0 where
+  pub station : station_at (other s) new ≡ station_at (other s) old
+  pub link : link_from (other s) new ≡ link_from (other s) old
 
--- a poll: the PDU that is due goes onto the link
-abbrev pub poll_by : Option Taken → Side → WorldState → Result
-poll_by None s w = record { world = w; applied = applied.Nothing }
-poll_by (Some t) s w = record {
-  world = with_station s (after_taken (station_at s w) t) (with_link s (with_pdu (pdu_octets t.header t.content) (link_from s w)) w);
-  applied = applied.Applied;
-}
+-- No put was accepted, and no time told.
+pub record KeepsCounts (old new : WorldState) : Type 0 where
+  pub puts : new.puts ≡ old.puts
+  pub ticks : new.ticks ≡ old.ticks
 
-abbrev pub poll_step : Side → WorldState → Result
-poll_step s w = poll_by (takes w.config s (station_at s w)) s w
+-- Of both stations and both links only the entity of one station may have changed.
+pub record KeepsLinks (s : Side) (old new : WorldState) : Type 0 where
+  pub ends : KeepsLink (station_at s old) (station_at s new)
+  pub link : link_from s new ≡ link_from s old
+  pub spares : Spares s old new
 
-abbrev pub strike_by : Option (List ℕ) → Side → WorldState → Result
-strike_by None s w = record { world = w; applied = applied.Nothing }
-strike_by (Some text) s w = record { world = with_link s (with_mark Struck (link_from s w)) w; applied = applied.Applied }
+-- Nothing changed but, at most, how often the stores of one station failed.
+pub record Stays (s : Side) (old new : WorldState) : Type 0 where
+  pub entity : entity_at s new ≡ entity_at s old
+  pub links : KeepsLinks s old new
+  pub counts : KeepsCounts old new
 
--- a loss: the oldest PDU that waits is marked struck
-abbrev pub strike_step : Side → WorldState → Result
-strike_step s w = strike_by (waiting (link_from s w)) s w
+-- ---- calls of a station's user
+-- A put was accepted, and is the last one now.
+pub record TakesPut (s : Side) (source destination : List ℕ) (old new : WorldState) : Type 0 where
+  pub id : TransactionId
+  pub accepts : Accepts source destination id (entity_at s old) (entity_at s new)
+  pub links : KeepsLinks s old new
+  pub puts : new.puts
+      ≡ old.puts ++ record { id = id; source = source; destination = destination } ∷ []
+  pub ticks : new.ticks ≡ old.ticks
 
--- A put at a station whose outbox has this under the source name: what it answers, the station and the accepted puts.
-abbrev pub PutsAt : Option (List ℕ) → TransactionId → List ℕ → List ℕ → Applied → StationState → StationState → List AcceptedPut → List AcceptedPut → Type 0
-PutsAt None id source destination did old new puts_before puts_now =
-    (did ≡ applied.Refused refusal.NoSuchFile) × (new ≡ old) × (puts_now ≡ puts_before)
-PutsAt (Some octets) id source destination did old new puts_before puts_now =
-    MatchBool (nat_lt (length octets) (2 ^ 32))
-    ((did ≡ applied.Applied) × (new ≡ sends_file id source destination (length octets) old) × (puts_now ≡ puts_before ++ record { id = id; source = source; destination = destination } ∷ []))
-    ((did ≡ applied.Refused refusal.TooLarge) × (new ≡ old) × (puts_now ≡ puts_before))
+-- A put was refused by this cause.
+pub record RefusesPut (s : Side) (source destination : List ℕ) (by : PutError)
+    (old new : WorldState) : Type 0 where
+  pub no_memory : by ≢ put_errors.NoMemory
+  pub cause : IsPutRefusal
+      (put_refusal (stored_by_error by) source destination (entity_at s old)) by
+  pub stays : Stays s old new
 
--- A loss on one link.
-abbrev pub StrikesAt : Option (List ℕ) → Applied → LinkState → LinkState → Type 0
-StrikesAt None did old new = (did ≡ applied.Nothing) × (new ≡ old)
-StrikesAt (Some text) did old new = (did ≡ applied.Applied) × (new ≡ with_mark Struck old)
+abbrev pub Puts : Applied → Side → (source destination : List ℕ) → (old new : WorldState) → Type 0
+Puts did.Applied s source destination old new = TakesPut s source destination old new
+Puts did.Nothing s source destination old new = ⊥
+Puts (did.Refused (refusal.Put by)) s source destination old new =
+    RefusesPut s source destination by old new
+Puts (did.Refused (refusal.Call by)) s source destination old new = ⊥
+Puts (did.Refused refusal.LossRunTooLong) s source destination old new = ⊥
 
--- A delivery from one link to the station of a side.
-abbrev pub DeliversAt : Option (List ℕ) → Side → Applied → StationState → StationState → LinkState → LinkState → Type 0
-DeliversAt None s did old new link_before link_now = (did ≡ applied.Nothing) × (new ≡ old) × (link_now ≡ link_before)
-DeliversAt (Some text) s did old new link_before link_now =
-    (did ≡ applied.Applied) × (HearsPdu s text old new ⊎ DropsPdu text old new) × (link_now ≡ with_mark Delivered link_before)
+-- A call on a transaction was one step of its record.
+pub record StepsAt (s : Side) (c : Call) (id : TransactionId) (old new : WorldState) : Type 0 where
+  pub called : IsCalled c id (entity_at s old) (entity_at s new)
+  pub links : KeepsLinks s old new
+  pub counts : KeepsCounts old new
 
--- Nothing waits, and nothing changes.
-pub record DeliversNothing (s : Side) (did : Applied) (old new : WorldState) : Type 0 where
-  pub none : waiting (link_from s old) ≡ None
-  pub did_nothing : did ≡ applied.Nothing
+-- It was refused by this cause.
+pub record RefusesCall (s : Side) (c : Call) (id : TransactionId) (by : CallError)
+    (old new : WorldState) : Type 0 where
+  pub no_memory : by ≢ call_errors.NoMemory
+  pub cause : call_refusal c id (entity_at s old).table ≡ Some by
   pub same : new ≡ old
 
--- The oldest PDU that waits is marked delivered, and the other station hears it, or drops it where it is no PDU.
-pub record DeliversPdu (s : Side) (did : Applied) (old new : WorldState) : Type 0 where
-  pub text : List ℕ
-  pub was : waiting (link_from s old) ≡ Some text
-  pub station : StationState
-  pub came : HearsPdu (other s) text (station_at (other s) old) station ⊎ DropsPdu text (station_at (other s) old) station
-  pub did_apply : did ≡ applied.Applied
-  pub becomes : new ≡ with_station (other s) station (with_link s (with_mark Delivered (link_from s old)) old)
+abbrev pub Calls : Applied → Side → Call → TransactionId → (old new : WorldState) → Type 0
+Calls did.Applied s c id old new = StepsAt s c id old new
+Calls did.Nothing s c id old new = ⊥
+Calls (did.Refused (refusal.Put by)) s c id old new = ⊥
+Calls (did.Refused (refusal.Call by)) s c id old new = RefusesCall s c id by old new
+Calls (did.Refused refusal.LossRunTooLong) s c id old new = ⊥
 
-abbrev pub Delivers : Side → Applied → WorldState → WorldState → Type 0
-Delivers s did old new = DeliversNothing s did old new ⊎ DeliversPdu s did old new
+-- The time was told to a station.
+pub record TellsTime (s : Side) (now : ℕ) (old new : WorldState) : Type 0 where
+  pub ticked : Ticks now (entity_at s old).table (entity_at s new).table
+  pub table : entity_at s new ≡ with_table (entity_at s old) (entity_at s new).table
+  pub links : KeepsLinks s old new
+  pub puts : new.puts ≡ old.puts
+  pub ticks : new.ticks ≡ raised old.ticks
 
--- The new world, and the answer, are those of this result.
-pub record Becomes (result : Result) (did : Applied) (new : WorldState) : Type 0 where
-  pub world : new ≡ result.world
-  pub answer : did ≡ result.applied
+-- ---- what a station sends
+-- The end that receives, the marks and the run are as they were: only what a station sent grew.
+pub record KeepsMarks (s : Side) (old new : WorldState) : Type 0 where
+  pub up : (station_at s new).up ≡ (station_at s old).up
+  pub marks : (link_from s new).marks ≡ (link_from s old).marks
+  pub run : (link_from s new).run ≡ (link_from s old).run
+  pub spares : Spares s old new
+  pub counts : KeepsCounts old new
 
--- The event led from the old world to the new one, and did this.
-abbrev pub Steps : Event → Applied → WorldState → WorldState → Type 0
-Steps (event.Put s source destination) did old new = Becomes (put_step s source destination old) did new
-Steps (event.Poll s) did old new = Becomes (poll_step s old) did new
-Steps (event.Flush s) did old new = Becomes (record { world = old; applied = applied.Nothing }) did new
-Steps (event.Strike s) did old new = Becomes (strike_step s old) did new
-Steps (event.Deliver s) did old new = Delivers s did old new
+-- The PDU whose turn it was was taken, and its one packet is behind all that were sent.
+pub record SendsOne (s : Side) (old new : WorldState) : Type 0 where
+  pub served : entity_at s new ≡ served storeds.Done (turn (entity_at s old)) (entity_at s old)
+  pub spells : SpellsTurn (turn (entity_at s old)) (entity_at s old)
+  pub sends : let down = (station_at s old).down in let pdu = next_pdu (entity_at s old) in
+      SendsMore (way_from s old) (way_from s new) (packet_of down.link down.packet_count pdu ∷ [])
+      (pdu ∷ [])
+  pub marks : KeepsMarks s old new
 
--- The events, one after another, led from the old world to the new one.
-abbrev pub Reaches : List Event → WorldState → WorldState → Type 0
-Reaches [] old new = new ≡ old
-Reaches (e ∷ events) old new = (mid : WorldState) × ((did : Applied) × (Steps e did old mid × Reaches events mid new))
+-- The outbox failed to give file data: no PDU moved.
+pub record FailsSource (s : Side) (old new : WorldState) : Type 0 where
+  pub served : entity_at s new ≡ served storeds.Refused (turn (entity_at s old)) (entity_at s old)
+  pub links : KeepsLinks s old new
+  pub counts : KeepsCounts old new
 
--- An event of settling: it asks for nothing and loses nothing.
-abbrev pub IsSettling : Event → Type 0
-IsSettling (event.Poll s) = Unit {0}
-IsSettling (event.Flush s) = Unit {0}
-IsSettling (event.Deliver s) = Unit {0}
-IsSettling (event.Put s source destination) = ⊥
-IsSettling (event.Strike s) = ⊥
+abbrev pub Polls : Applied → Side → (old new : WorldState) → Type 0
+Polls did.Applied s old new = SendsOne s old new ⊎ FailsSource s old new
+Polls did.Nothing s old new = (turn (entity_at s old) ≡ Rests) × (new ≡ old)
+Polls (did.Refused by) s old new = ⊥
 
--- Some such events led from the old world to the new one.
-pub record SettlesTo (old new : WorldState) : Type 0 where
-  pub events : List Event
-  pub only_settling : All IsSettling events
-  pub reaches : Reaches events old new
+-- The begun frame was filled by at most one idle packet, and left.
+pub record Fills (s : Side) (old new : WorldState) : Type 0 where
+  pub entity : (station_at s new).entity ≡ (station_at s old).entity
+  pub sends : SendsMore (way_from s old) (way_from s new)
+      (flush_of (packing (station_at s old).down)) []
+  pub most : length (flush_of (packing (station_at s old).down)) ≤ 1
+  pub marks : KeepsMarks s old new
 
--- Nothing is due at either station, and no PDU waits.
-pub record IsSettled (w : WorldState) : Type 0 where
-  pub none_due : (s : Side) → takes w.config s (station_at s w) ≡ None
-  pub none_waits : (s : Side) → waiting (link_from s w) ≡ None
+abbrev pub Flushes : Applied → Side → (old new : WorldState) → Type 0
+Flushes did.Applied s old new = Fills s old new
+    × (length (link_from s old).frames < length (link_from s new).frames)
+Flushes did.Nothing s old new =
+    (flush_of (packing (station_at s old).down) ≡ []) × (new ≡ old)
+Flushes (did.Refused by) s old new = ⊥
 
--- a station's files, of those of both
-abbrev pub files_of : Side → FileMap × FileMap → FileMap
-files_of One files = files.0
-files_of Two files = files.1
+-- ---- frames that arrive or are lost
+-- No frame waits of what a station sent.
+abbrev pub NoneWaits : Side → WorldState → Type 0
+NoneWaits s w = length (link_from s w).frames ≤ length (link_from s w).marks
 
--- two stations that have done nothing yet, and a link that is empty
-abbrev pub first_station : FileMap → FileMap → StationState
-first_station sources published = record { sources = sources; published = published; told = []; transaction = None }
+-- the link once its oldest waiting frame was taken
+abbrev pub marked : Bool → ℕ → LinkState → LinkState
+marked mark run k = record k { marks = k.marks ++ mark ∷ []; run = run }
 
-abbrev pub first_world : SimConfig → FileMap × FileMap → FileMap × FileMap → WorldState
-first_world config outboxes inboxes = record {
-  config = config;
-  one = first_station outboxes.0 inboxes.0;
-  two = first_station outboxes.1 inboxes.1;
-  from_one = record { pdus = []; marks = [] };
-  from_two = record { pdus = []; marks = [] };
-  puts = [];
-}
+-- The oldest waiting frame reached the other station, whose entity heard, in order, the PDUs that
+-- came up.
+pub record DeliversFrame (s : Side) (old new : WorldState) : Type 0 where
+  pub waits : length (link_from s old).marks < length (link_from s old).frames
+  pub link : link_from s new ≡ marked true 0 (link_from s old)
+  pub given : List (List ℕ)
+  pub hears : HearsMore (way_from s old) (way_from s new) given
+  pub heard : HearsAll given (station_at (other s) old).entity (station_at (other s) new).entity
+  pub down : (station_at (other s) new).down ≡ (station_at (other s) old).down
+  pub station : station_at s new ≡ station_at s old
+  pub back : link_from (other s) new ≡ link_from (other s) old
+  pub counts : KeepsCounts old new
+
+abbrev pub Delivers : Applied → Side → (old new : WorldState) → Type 0
+Delivers did.Applied s old new = DeliversFrame s old new
+Delivers did.Nothing s old new = NoneWaits s old × (new ≡ old)
+Delivers (did.Refused by) s old new = ⊥
+
+-- The oldest waiting frame was lost.
+pub record StrikesFrame (s : Side) (old new : WorldState) : Type 0 where
+  pub waits : length (link_from s old).marks < length (link_from s old).frames
+  pub few : (link_from s old).run < 16777215
+  pub link : link_from s new ≡ marked false ((link_from s old).run + 1) (link_from s old)
+  pub sends : SendsNone (way_from s old) (way_from s new)
+  pub station : station_at s new ≡ station_at s old
+  pub spares : Spares s old new
+  pub counts : KeepsCounts old new
+
+-- One more loss in a row would be taken for none.
+pub record IsTooLong (s : Side) (old new : WorldState) : Type 0 where
+  pub waits : length (link_from s old).marks < length (link_from s old).frames
+  pub run : (link_from s old).run ≡ 16777215
+  pub same : new ≡ old
+
+abbrev pub Strikes : Applied → Side → (old new : WorldState) → Type 0
+Strikes did.Applied s old new = StrikesFrame s old new
+Strikes did.Nothing s old new = NoneWaits s old × (new ≡ old)
+Strikes (did.Refused (refusal.Put by)) s old new = ⊥
+Strikes (did.Refused (refusal.Call by)) s old new = ⊥
+Strikes (did.Refused refusal.LossRunTooLong) s old new = IsTooLong s old new
+
+-- ---- all events
+abbrev pub IsApplied : Applied → Type 0 → Type 0
+IsApplied did.Applied does = does
+IsApplied _ does = ⊥
+
+-- An event did this, and led from the old world to the new one.
+abbrev pub Steps : Event → Applied → (old new : WorldState) → Type 0
+Steps (event.Put s source destination) did old new = Puts did s source destination old new
+Steps (event.Cancel s id) did old new = Calls did s calls.Cancel id old new
+Steps (event.Suspend s id) did old new = Calls did s calls.Suspend id old new
+Steps (event.Resume s id) did old new = Calls did s calls.Resume id old new
+Steps (event.Prompt s id keep_alive) did old new = Calls did s (calls.Prompt keep_alive) id old new
+Steps (event.Poll s) did old new = Polls did s old new
+Steps (event.Flush s) did old new = Flushes did s old new
+Steps (event.Tick s now) did old new = IsApplied did (TellsTime s now old new)
+Steps (event.Deliver s) did old new = Delivers did s old new
+Steps (event.Strike s) did old new = Strikes did s old new
+
+-- the station that an event is about
+abbrev pub side_in : Event → Side
+side_in (event.Put s source destination) = s
+side_in (event.Cancel s id) = s
+side_in (event.Suspend s id) = s
+side_in (event.Resume s id) = s
+side_in (event.Prompt s id keep_alive) = s
+side_in (event.Poll s) = s
+side_in (event.Flush s) = s
+side_in (event.Tick s now) = s
+side_in (event.Deliver s) = s
+side_in (event.Strike s) = s

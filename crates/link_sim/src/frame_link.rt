@@ -1,34 +1,34 @@
 //! The frames of one direction of a link.
 ghost use Rattle.std.specs.Prelude.{◌≡◌, ◌≢◌, ℕ, ◌+◌, ◌*◌, ◌<◌, ◌≤◌, ◌↔◌, ◌⊎◌, ◌++◌, List, [], ◌∷◌, true, false, length, take, drop, IfOk, IfErr, OnOk, IsErr, IsSome, IfSome, IfNone, MatchOption, All, vec_len, vec_capacity};
 ghost use Rattle.mpdu.specs.Feeding.{octets_of_each};
-ghost use Rattle.mpdu.specs.Stream.{stream};
-ghost use Rattle.link_stack.specs.Frames.{frame_of};
-ghost use Rattle.link_stack.specs.Downward.{IsDown};
-ghost use Rattle.link_stack.specs.Upward.{LinkReceiverState};
+ghost use Rattle.cfdp_station.specs.Link.{MakesFrame};
+ghost use Rattle.cfdp_station.specs.Station.{KeepsRest};
 ghost use Rattle.link_sim.specs.FrameLink.{mark_at, oldest};
-ghost use Rattle.link_sim.specs.OneWay.{IsOneWay, SendsNone, one_way};
+ghost use Rattle.link_sim.specs.AtStation.{AddsNone, IsSameEnd, IsSameMarks};
 ghost use Rattle.link_sim.specs.declared.mark.Loss.TheVariants as losses;
 
 use crate::loss_run::LossRun;
 use crate::mark::{Loss, Mark};
-use link_stack::Down;
+use cfdp_station::Station;
+use cfdp_store::{Inbox, Outbox};
 use std::alloc::{AllocError, Global};
 use std::marker::Model;
 
-/// Makes the oldest whole zone that waits a frame, in this buffer; gives it back where none waits.
-fn make_frame(down: &mut Down, mut blank: Vec<u8>) -> Result<Vec<u8>, Vec<u8>>
-    requires { length blank.items ≡ 8 + down.old.link.zone }
-    ensures none { IsErr result ↔ (length down.old.waiting < down.old.link.zone) }
-    ensures kept { IfErr result (λ b. (down.new ≡ down.old) × (b.items ≡ blank.items)) }
-    ensures stream { (ps : List (List ℕ)) (made : ℕ) → IsDown down.old ps made → IfOk result (λ f.
-        (f.items ≡ frame_of down.old.link ps made) × (made * down.old.link.zone + down.old.link.zone ≤ length (stream ps)) × IsDown down.new ps (made + 1)) }
-    ensures zone { IfOk result (λ f. drop 8 f.items ≡ take down.old.link.zone down.old.waiting) }
-    ensures rest { IfOk result (λ f. down.new.waiting
-        ≡ drop down.old.link.zone down.old.waiting) }
-    ensures fixed { (down.new.link ≡ down.old.link) × (down.new.capacity ≡ down.old.capacity)
-        × (down.new.packet_count ≡ down.old.packet_count) }
+/// Makes the oldest whole zone that waits at a station a frame, in this buffer; gives it back where
+/// none waits.
+fn make_frame<O: Outbox, I: Inbox>(
+    station: &mut Station<O, I>,
+    mut blank: Vec<u8>,
+) -> Result<Vec<u8>, Vec<u8>>
+    requires { length blank.items ≡ 8 + station.old.down.link.zone }
+    ensures none { IsErr result
+        ↔ (length station.old.down.waiting < station.old.down.link.zone) }
+    ensures kept { IfErr result (λ b. (station.new ≡ station.old) × (b.items ≡ blank.items)) }
+    ensures made { IfOk result (λ f. MakesFrame f.items station.old.down station.new.down) }
+    ensures fixed { IsSameEnd station.old.down station.new.down }
+    ensures rest { KeepsRest station.old station.new }
 {
-    if down.next_frame(&mut blank) {
+    if station.next_frame(&mut blank) {
         Ok(blank)
     } else {
         Err(blank)
@@ -131,30 +131,30 @@ impl FrameLink {
         add_blanks(self.alloc, &mut self.blanks, count, self.len)
     }
 
-    /// Takes the oldest whole zone that waits in the sending end as a frame, into a buffer made
-    /// ahead.
+    /// Takes the oldest whole zone that waits at a station as a frame, into a buffer made ahead.
     ///
     /// False where none waits, or there is no buffer: nothing changed then.
-    pub fn pull(&mut self, down: &mut Down) -> bool
-        requires { self.old.len ≡ 8 + down.old.link.zone }
-        ensures none { (result ≡ false) ↔ ((length down.old.waiting < down.old.link.zone)
+    pub fn pull<O: Outbox, I: Inbox>(&mut self, station: &mut Station<O, I>) -> bool
+        requires { self.old.len ≡ 8 + station.old.down.link.zone }
+        ensures none { (result ≡ false)
+            ↔ ((length station.old.down.waiting < station.old.down.link.zone)
             ⊎ (self.old.blanks ≡ 0)) }
-        ensures kept { result ≡ false → (self.new ≡ self.old) × (down.new ≡ down.old) }
+        ensures kept { result ≡ false → (self.new ≡ self.old) × (station.new ≡ station.old) }
         // It adds nothing to what was sent, nor to what was delivered.
-        ensures way { (up : LinkReceiverState) → IsOneWay (one_way down.old self.old up) →
-            SendsNone (one_way down.old self.old up) (one_way down.new self.new up) }
-        ensures left { result ≡ true → down.new.waiting
-            ≡ drop down.old.link.zone down.old.waiting }
+        ensures way { AddsNone station.old.down station.new.down self.old self.new }
+        ensures left { result ≡ true → station.new.down.waiting
+            ≡ drop station.old.down.link.zone station.old.down.waiting }
         ensures used { result ≡ true → self.new.blanks + 1 ≡ self.old.blanks }
-        ensures fixed { (down.new.link ≡ down.old.link) × (down.new.capacity ≡ down.old.capacity)
-            × (down.new.packet_count ≡ down.old.packet_count) }
-        ensures rest { (self.new.marks ≡ self.old.marks) × (self.new.run ≡ self.old.run)
-            × (self.new.len ≡ self.old.len) }
+        ensures grown { result ≡ true →
+            length self.new.frames ≡ length self.old.frames + 1 }
+        ensures fixed { IsSameEnd station.old.down station.new.down }
+        ensures rest { KeepsRest station.old station.new }
+        ensures marks { IsSameMarks self.old self.new }
     {
         let Some(blank) = self.blanks.pop() else {
             return false;
         };
-        match make_frame(down, blank) {
+        match make_frame(station, blank) {
             Ok(frame) => {
                 put(&mut self.frames, frame);
                 true

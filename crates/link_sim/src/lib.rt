@@ -1,32 +1,27 @@
-//! Two stations, the PDUs between them, and what may happen to both.
+//! Two stations of CFDP, class 2, the frames between them, and what may happen to both: the delivery
+//! theorem is the contract of [`World`] and [`run`].
 #![tactic(auto)]
 
-mod config;
 mod event;
 mod frame_link;
-mod held;
-mod link;
 mod loss_run;
 mod mark;
-mod one_way;
-mod receiver;
-mod sender;
+mod promises;
+mod settle;
+mod settle_error;
 mod side;
-mod station;
-mod tell;
-mod transaction;
+mod two_stations;
 mod world;
+mod world_config;
 
-pub use cfdp_store::Files;
-pub use config::SimConfig;
-pub use event::{AcceptedPut, Applied, Event, PutError, SettleError};
+pub use event::{AcceptedPut, Applied, Event, Refusal};
 pub use frame_link::FrameLink;
+pub use loss_run::LossRun;
 pub use mark::{Loss, Mark};
-pub use one_way::OneWay;
+pub use settle_error::SettleError;
 pub use side::Side;
 pub use world::{World, run};
+pub use world_config::WorldConfig;
 
-#[cfg(test)]
-mod one_way_tests;
 #[cfg(test)]
 mod tests;

@@ -1,5 +1,5 @@
 //! Frames struck in a row.
-ghost use Rattle.std.specs.Prelude.{◌≡◌, ◌+◌, ◌<◌, ◌↔◌, true, false};
+ghost use Rattle.std.specs.Prelude.{◌≡◌, ◌+◌, ◌<◌, ◌≤◌, ◌↔◌, true, false};
 
 use std::marker::Model;
 
@@ -29,6 +29,14 @@ impl LossRun {
         ensures { result ≡ 0 }
     {
         LossRun { run: 0 }
+    }
+
+    /// So many were struck: at most 16,777,215.
+    pub fn from(run: u32) -> Self
+        requires { run ≤ 16777215 }
+        ensures { result ≡ run }
+    {
+        LossRun { run }
     }
 
     /// One more is struck. False where as many were as may be: nothing changed then.

@@ -1,7 +1,7 @@
 ghost use Rattle.std.specs.Prelude.{◌≡◌};
 ghost use Rattle.link_sim.specs.Sides as sides;
 
-/// One of the two stations of a simulation. Its CFDP entity id is 1 or 2.
+/// One of the two stations of a world.
 #[derive(Clone, Copy, Debug, PartialEq, Eq)]
 pub enum Side {
     One,
@@ -19,7 +19,7 @@ impl Side {
         }
     }
 
-    /// The station's CFDP entity id: 1 or 2.
+    /// The station's number, 1 or 2: in a script it is its entity id.
     pub fn entity(self) -> u64
         ensures { result ≡ sides.entity_of self }
     {

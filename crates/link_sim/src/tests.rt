@@ -1,56 +1,122 @@
-use crate::held::HeldOctets;
-use crate::{Event, Files, Side, SimConfig, run};
-use cfdp_directives::{ChecksumKind, Octets};
+use crate::{Event, LossRun, Mark, Side, World, WorldConfig, run};
+use cfdp_directives::{ChecksumKind, Octets, Policy};
+use cfdp_entity::EntityConfig;
+use cfdp_station::{LinkConfig, Station, StationConfig};
+use cfdp_store::{MemoryInbox, MemoryOutbox};
 use std::alloc::{AllocError, Global};
+use std::process::Abort;
 
-const CONFIG: SimConfig = SimConfig {
-    segment: 1024,
-    checksum_kind: ChecksumKind::MODULAR,
-    first_number: 1,
+type MemoryWorld = World<MemoryOutbox, MemoryInbox>;
+
+/// Direction 1 to 2.
+const FORTH: LinkConfig = LinkConfig {
+    spacecraft: 42,
+    channel: 5,
+    zone: 256,
+    apid: 100,
 };
 
-fn files(alloc: Global, name: &[u8], octets: &[u8]) -> Result<Files, AllocError> {
-    let mut files = Files::new(alloc);
-    files.insert(
-        Vec::from_slice(alloc, name)?,
-        Vec::from_slice(alloc, octets)?,
-    )?;
-    Ok(files)
+/// Direction 2 to 1.
+const BACK: LinkConfig = LinkConfig {
+    spacecraft: 42,
+    channel: 6,
+    zone: 256,
+    apid: 101,
+};
+
+// After 16,777,214 losses in a row one more may be struck, and then none until a frame arrives.
+#[test]
+fn a_run_of_losses_ends(rt: HostRuntime) {
+    let mut run = LossRun::from(16_777_214);
+    let first = run.strike();
+    let second = run.strike();
+    run.deliver();
+    let third = run.strike();
+    assert!(rt; first && !second && third);
 }
 
-// The program's tests run whole transfers; its scripts reach every call but this one.
-#[test]
-fn events_are_run(rt: HostRuntime) -> Result<(), AllocError> {
-    let alloc = rt.alloc();
-    let outboxes = (files(alloc, b"a.txt", b"hello")?, Files::new(alloc));
-    let inboxes = (Files::new(alloc), Files::new(alloc));
+fn station(entity: u64, peer: u64, down: LinkConfig, up: LinkConfig) -> StationConfig {
+    StationConfig {
+        entity: EntityConfig {
+            entity,
+            peer,
+            id_width: 2,
+            number_width: 4,
+            first_number: 1,
+            segment: 1024,
+            checksum_kind: ChecksumKind::MODULAR,
+            policy: Policy::default(),
+        },
+        down,
+        up,
+        capacity: 16_384,
+    }
+}
+
+fn config() -> WorldConfig {
+    WorldConfig {
+        one: station(1, 2, FORTH, BACK),
+        two: station(2, 1, BACK, FORTH),
+    }
+}
+
+fn outbox(alloc: Global) -> Result<MemoryOutbox, AllocError> {
+    let mut outbox = MemoryOutbox::new(alloc);
+    outbox.add(
+        Vec::from_slice(alloc, b"a.txt")?,
+        Vec::from_slice(alloc, b"hello")?,
+    )?;
+    Ok(outbox)
+}
+
+/// A world in which the first station sent `hello` in one frame, which was delivered.
+fn delivered(rt: &impl Abort, alloc: Global) -> Result<MemoryWorld, AllocError> {
+    let config = config();
+    assert!(rt; config.is_valid());
     let put = Event::Put {
         at: Side::One,
         source: Octets::copied(alloc, b"a.txt")?,
         destination: Octets::copied(alloc, b"b.txt")?,
     };
-    let world = run(alloc, CONFIG, outboxes, inboxes, &[put])?;
-    assert!(rt; world.puts().len() == 1);
-    assert!(rt; crate::PutError::TooLarge.name() == "TooLarge");
-    assert!(rt; crate::SettleError::NoMemory.name() == "NoMemory");
-    Ok(())
+    let events = [
+        put,
+        Event::Poll(Side::One),
+        Event::Poll(Side::One),
+        Event::Poll(Side::One),
+        Event::Flush(Side::One),
+        Event::Deliver(Side::One),
+    ];
+    let outboxes = (outbox(alloc)?, MemoryOutbox::new(alloc));
+    let inboxes = (MemoryInbox::new(alloc), MemoryInbox::new(alloc));
+    run(alloc, config, outboxes, inboxes, &events)
 }
 
+/// A station of its own that takes the frames that were delivered in a world to the second one.
+fn replayed(
+    rt: &impl Abort,
+    alloc: Global,
+    world: &MemoryWorld,
+) -> Result<Station<MemoryOutbox, MemoryInbox>, AllocError> {
+    let config = config();
+    assert!(rt; config.is_valid());
+    let outbox = MemoryOutbox::new(alloc);
+    let inbox = MemoryInbox::new(alloc);
+    let mut station = Station::new(alloc, config.two, outbox, inbox)?;
+    let sent = world.frames(Side::One);
+    for (place, frame) in sent.frames().iter().enumerate() {
+        if sent.mark(place) == Some(Mark::Delivered) {
+            station.take(frame);
+        }
+    }
+    Ok(station)
+}
+
+// The file is in the frames themselves: a station that takes those of a world publishes it.
 #[test]
-fn data_with_a_gap_is_held_and_then_whole(rt: HostRuntime) -> Result<(), AllocError> {
+fn recorded_frames_carry_the_file(rt: HostRuntime) -> Result<(), AllocError> {
     let alloc = rt.alloc();
-    let mut held = HeldOctets::new(alloc);
-    let _ = held.add(3, &[4, 5, 6])?;
-    assert!(rt; !held.holds_below(6));
-    assert!(rt; held.holds_from(5));
-    assert!(rt; !held.holds_from(6));
-    let new = held.add(0, &[1, 2, 3, 40, 50])?;
-    assert!(rt; new.len() == 3);
-    assert!(rt; held.holds_below(6));
-    assert!(rt; !held.holds_below(7));
-    let file = held.front(alloc, 6)?;
-    assert!(rt; file.as_slice() == [1, 2, 3, 4, 5, 6].as_slice());
-    held.remove_all(new.as_slice());
-    assert!(rt; !held.holds_below(1));
+    let world = delivered(&rt, alloc)?;
+    let station = replayed(&rt, alloc, &world)?;
+    assert!(rt; station.inbox().published().get(b"b.txt") == Some(b"hello".as_slice()));
     Ok(())
 }

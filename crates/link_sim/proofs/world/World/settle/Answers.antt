@@ -1,10 +1,21 @@
-use Rattle.std.proofs.Common.{subst}
-use Rattle.link_sim.specs.Sound.{IsSound}
-use Rattle.link_sim.proofs.Runs.{folds-settles, sound-settles}
+use Rattle.link_sim.specs.Observed.{seen}
+use Rattle.link_sim.proofs.Folding.{leads-none, leads-both}
 use Rattle.link_sim.proofs.world.World.settle.Goals as goal
 
-pub returns-clause-folds : goal.returns-clause-folds
-returns-clause-folds c = folds-settles c.args.self.now c.settle_all.new.self c.settle_all.ensures.events (subst IsSound c.self.view_is c.self.invariant)
+pub loop-init : goal.loop-init
+loop-init g c = leads-none (seen c.args.self.now)
+
+pub loop-preserved : goal.loop-preserved
+loop-preserved g c = leads-both (seen c.args.self.now) (seen c.loop.self) (seen c.settle_round.new.self) c.loop.invariant c.settle_round.ensures.leads
+
+pub returns-in_err-settle_round-clause-follows : goal.returns-in_err-settle_round-clause-follows
+returns-in_err-settle_round-clause-follows g c = (leads-both (seen c.args.self.now) (seen c.loop.self) (seen c.settle_round.new.self) c.loop.invariant c.settle_round.ensures.leads).follows c.show_what_holds.ensures
+
+pub returns-in_err-settle_round-clause-holds : goal.returns-in_err-settle_round-clause-holds
+returns-in_err-settle_round-clause-holds g c = (leads-both (seen c.args.self.now) (seen c.loop.self) (seen c.settle_round.new.self) c.loop.invariant c.settle_round.ensures.leads).holds c.show_what_holds.ensures
+
+pub returns-clause-follows : goal.returns-clause-follows
+returns-clause-follows g c = (leads-both (seen c.args.self.now) (seen c.loop.self) (seen c.settle_round.new.self) c.loop.invariant c.settle_round.ensures.leads).follows c.show_what_holds.ensures
 
 pub returns-clause-holds : goal.returns-clause-holds
-returns-clause-holds c = λ side. ((sound-settles c.args.self.now c.settle_all.new.self c.settle_all.ensures.events (subst IsSound c.self.view_is c.self.invariant)).at side).holds
+returns-clause-holds g c = (leads-both (seen c.args.self.now) (seen c.loop.self) (seen c.settle_round.new.self) c.loop.invariant c.settle_round.ensures.leads).holds c.show_what_holds.ensures

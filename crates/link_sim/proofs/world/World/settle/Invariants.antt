@@ -1,0 +1,9 @@
+use Rattle.link_sim.specs.Observed.{seen}
+use Rattle.link_sim.specs.Settling.{LeadsTo}
+use Rattle.link_sim.proofs.world.World.settle.Given as goal
+
+abbrev pub invariant-loop : goal.invariant-loop
+invariant-loop g l = LeadsTo (seen l.initial.self) (seen l.self)
+
+abbrev pub decreases-loop : goal.decreases-loop
+decreases-loop g l = l.left

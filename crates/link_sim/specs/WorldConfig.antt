@@ -1,0 +1,14 @@
+-- How two stations of one world may be set up.
+use Rattle.std.specs.Prelude.{◌≡◌}
+use Rattle.cfdp_station.specs.Config.{IsStationConfig}
+use Rattle.link_sim.specs.declared.world_config.WorldConfig.{WorldConfig}
+
+-- Each station can be set up so. They mirror each other: each is the other's peer, and takes the
+-- frames that the other sends.
+pub record IsWorldConfig (c : WorldConfig) : Type 0 where
+  pub one : IsStationConfig c.one
+  pub two : IsStationConfig c.two
+  pub peer_of_two : c.one.entity.entity ≡ c.two.entity.peer
+  pub peer_of_one : c.one.entity.peer ≡ c.two.entity.entity
+  pub down : c.one.down ≡ c.two.up
+  pub up : c.one.up ≡ c.two.down

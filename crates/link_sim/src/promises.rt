@@ -1,0 +1,43 @@
+//! What every event keeps of two stations and the frames between them.
+ghost use Rattle.std.specs.Prelude.{◌≡◌};
+ghost use Rattle.cfdp_entity.specs.Sound.{FindsMore};
+ghost use Rattle.cfdp_directives.specs.Put.{inbox_after};
+ghost use Rattle.cfdp_header.specs.Files.{FileMap};
+ghost use Rattle.link_sim.specs.Observed.{seen};
+ghost use Rattle.link_sim.specs.OneWay.{IsOneWay};
+ghost use Rattle.link_sim.specs.Sound.{IsSound};
+ghost use Rattle.link_sim.specs.Theorem.{HoldsAt, FoldsAt, at, put_of, completions_at};
+ghost use Rattle.link_sim.specs.World.{WorldState, IsFirst, Stays, Steps, way_from, files_at};
+ghost use Rattle.link_sim.specs.WorldConfig.{IsWorldConfig};
+ghost use Rattle.link_sim.specs.declared.event.Applied.{Applied};
+ghost use Rattle.link_sim.specs.declared.event.Event.{Event};
+ghost use Rattle.link_sim.specs.declared.side.Side.{Side};
+ghost use Rattle.link_sim.specs.declared.world_config.WorldConfig.{WorldConfig};
+
+/// What every world keeps holds of a new one and after each event, and the promises follow from it.
+pub(crate) fn events_keep_the_promises()
+    ensures first { (c : WorldConfig) (outboxes inboxes : FileMap × FileMap) (w : WorldState) →
+        IsWorldConfig c → IsFirst c outboxes inboxes w → ((s : Side) → IsOneWay (way_from s w))
+        → IsSound w }
+    ensures inboxes { (c : WorldConfig) (outboxes inboxes : FileMap × FileMap) (w : WorldState)
+        (s : Side) → IsWorldConfig c → IsFirst c outboxes inboxes w → (at s (seen w)).inbox
+        ≡ inbox_after (put_of (seen w)) (files_at s inboxes) (completions_at s (seen w)) }
+    ensures keeps { (e : Event) (did : Applied) (old new : WorldState) → IsSound old
+        → Steps e did old new → IsSound new }
+    ensures stays { (s : Side) (old new : WorldState) → IsSound old → Stays s old new
+        → IsSound new }
+    ensures puts { (e : Event) (did : Applied) (old new : WorldState) → IsSound old
+        → Steps e did old new → FindsMore (put_of (seen old)) (put_of (seen new)) }
+    ensures puts_stay { (s : Side) (old new : WorldState) → Stays s old new
+        → FindsMore (put_of (seen old)) (put_of (seen new)) }
+    ensures folds { (e : Event) (did : Applied) (old new : WorldState) (t : Side) → IsSound old
+        → Steps e did old new → FoldsAt t (seen old) (seen new) }
+    ensures folds_none { (s : Side) (old new : WorldState) (t : Side) → IsSound old
+        → Stays s old new → FoldsAt t (seen old) (seen new) }
+    ensures holds { (w : WorldState) (s : Side) → IsSound w → HoldsAt s (seen w) }
+{
+    cfdp_entity::an_entity_keeps_the_truth();
+    cfdp_entity::an_entity_goes_on();
+    cfdp_entity::an_entity_sends_the_truth();
+    mpdu::a_part_has_no_more();
+}

@@ -1,0 +1,434 @@
+//! Two stations and the frames between them, before anything is said of puts and files.
+ghost use Rattle.std.specs.Prelude.{◌≡◌, ◌≢◌, ℕ, ◌+◌, ◌*◌, ◌<◌, ◌≤◌, ◌⊎◌, ◌++◌, [], ◌∷◌, true, length, IfOk, OnErr};
+ghost use Rattle.cfdp_entity.specs.Entity.{with_table, raised};
+ghost use Rattle.cfdp_entity.specs.Table.{Ticks};
+ghost use Rattle.cfdp_entity.specs.declared.call.Call.TheVariants as call_kinds;
+ghost use Rattle.cfdp_station.specs.Link.{WaitAtMost};
+ghost use Rattle.cfdp_station.specs.Station.{KeepsLink, KeepsRest};
+ghost use Rattle.link_stack.specs.Downward.{LinkSenderState};
+ghost use Rattle.link_sim.specs.declared.event.Applied.TheVariants as dids;
+ghost use Rattle.link_sim.specs.AtStation.{AddsNone, CarriesOn, FlushesAt, HearsAt, IsReady, IsSameEnd, IsSameMarks, KeepsAt, PollsAt, PutsAt, StrikesAt, answered};
+ghost use Rattle.link_sim.specs.OneWay.{IsCarried, IsOneWay};
+ghost use Rattle.link_sim.specs.World as world;
+ghost use Rattle.link_sim.specs.World.{station_at, link_from, IsFirst, Stays, Steps, side_in};
+ghost use Rattle.link_sim.specs.WorldConfig.{IsWorldConfig};
+ghost use Rattle.link_sim.specs.declared.side.Side.TheVariants as sides;
+
+use crate::event::{AcceptedPut, Applied, Event, Refusal};
+use crate::frame_link::FrameLink;
+use crate::mark::Loss;
+use crate::side::Side;
+use crate::world_config::WorldConfig;
+use cfdp_directives::Octets;
+use cfdp_header::TransactionId;
+use cfdp_station::{CallError, Polled, PutError, Station};
+use cfdp_store::{Inbox, Outbox};
+use std::alloc::{AllocError, Global};
+use std::marker::Model;
+
+/// Two stations, the frames that each sent, the puts that they accepted, and how often the time was
+/// told.
+#[derive(Drop)]
+pub(crate) struct TwoStations<O: Outbox, I: Inbox> {
+    alloc: Global,
+    one: Station<O, I>,
+    two: Station<O, I>,
+    from_one: FrameLink,
+    from_two: FrameLink,
+    puts: Vec<AcceptedPut>,
+    ticks: u64,
+}
+
+impl<O: Outbox, I: Inbox> Model for TwoStations<O, I> {
+    ghost use Rattle.std.specs.Prelude.{◌≤◌};
+    ghost use Rattle.std.specs.Coded.{codes, coded_ℕ, coded_list, coded×};
+    ghost use Rattle.std.specs.Ordering.{nat_cmp};
+    ghost use Rattle.std.specs.Cmp.Lexicographic.{slice_cmp};
+    ghost use Rattle.std.specs.FinMap as finmap;
+    ghost use Rattle.std.specs.FinSet as finset;
+    ghost use Rattle.cfdp_timers.specs.Armed.{armed_code};
+    ghost use Rattle.link_sim.specs.OneWay.{IsCarried};
+    ghost use Rattle.link_sim.specs.World.{WorldState, seen_link};
+
+    ghost Value = { WorldState };
+
+    ghost coded = { Prim.hlevel (codes, armed_code, finset.code {R = nat_cmp} coded_ℕ, finmap.code {R = nat_cmp} coded_ℕ coded_ℕ, finmap.code {R = slice_cmp nat_cmp} (coded_list coded_ℕ) (coded_list coded_ℕ)) };
+
+    ghost view = { λ w. record {
+      one = w.one;
+      two = w.two;
+      from_one = seen_link w.from_one;
+      from_two = seen_link w.from_two;
+      puts = w.puts.items;
+      ticks = w.ticks;
+    } };
+
+    // Both directions are carried, and a PDU of any kind has room where no whole frame waits.
+    ghost invariant = { λ w. IsCarried w.one.down w.from_one w.two.up
+        × IsCarried w.two.down w.from_two w.one.up
+        × (8192 ≤ w.one.down.capacity) × (8192 ≤ w.two.down.capacity) };
+}
+
+impl<O: Outbox, I: Inbox> TwoStations<O, I> {
+    /// Two stations over these stores, that of the first station first. Nothing was sent.
+    pub(crate) fn new(
+        alloc: Global,
+        config: WorldConfig,
+        outboxes: (O, O),
+        inboxes: (I, I),
+    ) -> Result<Self, AllocError>
+        requires { IsWorldConfig config }
+        ensures first { IfOk result (IsFirst config (O.files outboxes.0, O.files outboxes.1)
+            (I.published inboxes.0, I.published inboxes.1)) }
+        // Both directions are carried, from the first frame on.
+        ensures ways { IfOk result (λ w. IsOneWay (world.way_from sides.One w)
+            × IsOneWay (world.way_from sides.Two w)) }
+    {
+        let one = Station::new(alloc, config.one, outboxes.0, inboxes.0)?;
+        let two = Station::new(alloc, config.two, outboxes.1, inboxes.1)?;
+        let from_one = FrameLink::new(alloc, one.frame_len());
+        let from_two = FrameLink::new(alloc, two.frame_len());
+        Ok(TwoStations {
+            alloc,
+            one,
+            two,
+            from_one,
+            from_two,
+            puts: Vec::new(alloc),
+            ticks: 0,
+        })
+    }
+
+    /// The puts that were accepted, in order.
+    pub(crate) fn puts(&self) -> &[AcceptedPut]
+        ensures { result.now ≡ self.now.puts }
+    {
+        self.puts.as_slice()
+    }
+
+    /// How often the time was told.
+    pub(crate) fn ticks(&self) -> u64
+        ensures { result ≡ self.now.ticks }
+    {
+        self.ticks
+    }
+
+    /// A station, lent.
+    pub(crate) fn station(&self, side: Side) -> &Station<O, I>
+        ensures { result.now ≡ station_at side self.now }
+    {
+        match side {
+            Side::One => &self.one,
+            Side::Two => &self.two,
+        }
+    }
+
+    /// The frames that a station sent, with their marks, lent.
+    pub(crate) fn frames(&self, side: Side) -> &FrameLink
+        ensures { world.seen_link result.now ≡ link_from side self.now }
+    {
+        match side {
+            Side::One => &self.from_one,
+            Side::Two => &self.from_two,
+        }
+    }
+
+    /// Lets one thing happen, and says what it did.
+    pub(crate) fn step(&mut self, event: &Event) -> Result<Applied, AllocError>
+        ensures steps { IfOk result (λ did. Steps event.now did self.old self.new) }
+        ensures err { OnErr result (Stays (side_in event.now) self.old self.new) }
+    {
+        match event {
+            Event::Put {
+                at,
+                source,
+                destination,
+            } => self.put(*at, source, destination),
+            Event::Cancel { at, id } => self.cancel(*at, *id),
+            Event::Suspend { at, id } => self.suspend(*at, *id),
+            Event::Resume { at, id } => self.resume(*at, *id),
+            Event::Prompt { at, id, keep_alive } => self.prompt(*at, *id, *keep_alive),
+            Event::Poll(side) => self.poll(*side),
+            Event::Flush(side) => self.flush(*side),
+            Event::Tick { at, now } => self.tick(*at, *now),
+            Event::Deliver(side) => Ok(self.deliver(*side)),
+            Event::Strike(side) => Ok(self.strike(*side)),
+        }
+    }
+
+    pub(crate) fn poll(&mut self, side: Side) -> Result<Applied, AllocError>
+        ensures polls { IfOk result (λ did. world.Polls did side self.old self.new) }
+        ensures err { OnErr result (self.new ≡ self.old) }
+    {
+        match side {
+            Side::One => poll_at(&mut self.one, &mut self.from_one),
+            Side::Two => poll_at(&mut self.two, &mut self.from_two),
+        }
+    }
+
+    pub(crate) fn flush(&mut self, side: Side) -> Result<Applied, AllocError>
+        ensures flushes { IfOk result (λ did. world.Flushes did side self.old self.new) }
+        ensures err { OnErr result (self.new ≡ self.old) }
+    {
+        match side {
+            Side::One => flush_at(&mut self.one, &mut self.from_one),
+            Side::Two => flush_at(&mut self.two, &mut self.from_two),
+        }
+    }
+
+    pub(crate) fn deliver(&mut self, side: Side) -> Applied
+        ensures { world.Delivers result side self.old self.new }
+    {
+        match side {
+            Side::One => deliver_to(&mut self.from_one, &mut self.two),
+            Side::Two => deliver_to(&mut self.from_two, &mut self.one),
+        }
+    }
+
+    fn put(
+        &mut self,
+        side: Side,
+        source: &Octets,
+        destination: &Octets,
+    ) -> Result<Applied, AllocError>
+        ensures puts { IfOk result (λ did. world.Puts did side source.now destination.now self.old
+            self.new) }
+        ensures err { OnErr result (Stays side self.old self.new) }
+    {
+        let alloc = self.alloc;
+        match side {
+            Side::One => put_at(alloc, &mut self.one, &mut self.puts, source, destination),
+            Side::Two => put_at(alloc, &mut self.two, &mut self.puts, source, destination),
+        }
+    }
+
+    fn cancel(&mut self, side: Side, id: TransactionId) -> Result<Applied, AllocError>
+        ensures calls { IfOk result (λ did. world.Calls did side call_kinds.Cancel id self.old
+            self.new) }
+        ensures err { OnErr result (self.new ≡ self.old) }
+    {
+        match side {
+            Side::One => answer(self.one.cancel(id)),
+            Side::Two => answer(self.two.cancel(id)),
+        }
+    }
+
+    fn suspend(&mut self, side: Side, id: TransactionId) -> Result<Applied, AllocError>
+        ensures calls { IfOk result (λ did. world.Calls did side call_kinds.Suspend id self.old
+            self.new) }
+        ensures err { OnErr result (self.new ≡ self.old) }
+    {
+        match side {
+            Side::One => answer(self.one.suspend(id)),
+            Side::Two => answer(self.two.suspend(id)),
+        }
+    }
+
+    fn resume(&mut self, side: Side, id: TransactionId) -> Result<Applied, AllocError>
+        ensures calls { IfOk result (λ did. world.Calls did side call_kinds.Resume id self.old
+            self.new) }
+        ensures err { OnErr result (self.new ≡ self.old) }
+    {
+        match side {
+            Side::One => answer(self.one.resume(id)),
+            Side::Two => answer(self.two.resume(id)),
+        }
+    }
+
+    fn prompt(
+        &mut self,
+        side: Side,
+        id: TransactionId,
+        keep_alive: bool,
+    ) -> Result<Applied, AllocError>
+        ensures calls { IfOk result (λ did. world.Calls did side (call_kinds.Prompt keep_alive) id
+            self.old self.new) }
+        ensures err { OnErr result (self.new ≡ self.old) }
+    {
+        match side {
+            Side::One => answer(self.one.prompt(id, keep_alive)),
+            Side::Two => answer(self.two.prompt(id, keep_alive)),
+        }
+    }
+
+    fn tick(&mut self, side: Side, now: u64) -> Result<Applied, AllocError>
+        ensures ticks { IfOk result (λ did. world.IsApplied did (world.TellsTime side now self.old
+            self.new)) }
+        ensures err { OnErr result (Stays side self.old self.new) }
+    {
+        match side {
+            Side::One => tick_at(&mut self.one, &mut self.ticks, now),
+            Side::Two => tick_at(&mut self.two, &mut self.ticks, now),
+        }
+    }
+
+    fn strike(&mut self, side: Side) -> Applied
+        ensures { world.Strikes result side self.old self.new }
+    {
+        match side {
+            Side::One => strike_at(&mut self.from_one),
+            Side::Two => strike_at(&mut self.from_two),
+        }
+    }
+}
+
+/// What a world answers to a call on a transaction.
+fn answer(called: Result<(), CallError>) -> Result<Applied, AllocError>
+    ensures { result ≡ answered called }
+{
+    match called {
+        Ok(()) => Ok(Applied::Applied),
+        Err(CallError::NoMemory) => Err(AllocError),
+        Err(error) => Ok(Applied::Refused(Refusal::Call(error))),
+    }
+}
+
+/// A put at a station. An error leaves all but the outbox's failures as it was.
+fn put_at<O: Outbox, I: Inbox>(
+    alloc: Global,
+    station: &mut Station<O, I>,
+    puts: &mut Vec<AcceptedPut>,
+    source: &Octets,
+    destination: &Octets,
+) -> Result<Applied, AllocError>
+    ensures puts { IfOk result (λ did. PutsAt did source.now destination.now
+        station.old.entity.state station.new.entity.state puts.old.items puts.new.items) }
+    ensures err { OnErr result ((station.new.entity.state ≡ station.old.entity.state)
+        × (puts.new.items ≡ puts.old.items)) }
+    ensures link { KeepsLink station.old station.new }
+{
+    let source_kept = source.copy(alloc)?;
+    let destination_kept = destination.copy(alloc)?;
+    puts.reserve(1)?;
+    match station.put(source.as_slice(), destination.as_slice()) {
+        Ok(id) => {
+            let _ = puts.push(AcceptedPut {
+                id,
+                source: source_kept,
+                destination: destination_kept,
+            });
+            Ok(Applied::Applied)
+        }
+        Err(PutError::NoMemory) => Err(AllocError),
+        Err(error) => Ok(Applied::Refused(Refusal::Put(error))),
+    }
+}
+
+/// A station is told the time.
+fn tick_at<O: Outbox, I: Inbox>(
+    station: &mut Station<O, I>,
+    ticks: &mut u64,
+    now: u64,
+) -> Result<Applied, AllocError>
+    ensures ticks { IfOk result (λ did. (did ≡ dids.Applied)
+        × Ticks now station.old.entity.state.table station.new.entity.state.table
+        × (station.new.entity.state
+        ≡ with_table station.old.entity.state station.new.entity.state.table)
+        × (ticks.new ≡ raised ticks.old)) }
+    ensures err { OnErr result ((station.new.entity.state ≡ station.old.entity.state)
+        × (ticks.new ≡ ticks.old)) }
+    ensures link { KeepsLink station.old station.new }
+{
+    station.tick(now)?;
+    *ticks = ticks.saturating_add(1);
+    Ok(Applied::Applied)
+}
+
+/// Takes all whole zones that wait at a station as frames. There are buffers for them.
+fn pull_all<O: Outbox, I: Inbox>(link: &mut FrameLink, station: &mut Station<O, I>)
+    requires len { link.old.len ≡ 8 + station.old.down.link.zone }
+    requires enough { WaitAtMost link.old.blanks station.old.down }
+    ensures way { AddsNone station.old.down station.new.down link.old link.new }
+    ensures all { length station.new.down.waiting < station.old.down.link.zone }
+    ensures made { ((station.new ≡ station.old) × (link.new ≡ link.old))
+        ⊎ ((station.old.down.link.zone ≤ length station.old.down.waiting)
+        × (length link.old.frames < length link.new.frames)) }
+    ensures fixed { IsSameEnd station.old.down station.new.down }
+    ensures rest { KeepsRest station.old station.new }
+    ensures marks { IsSameMarks link.old link.new }
+{
+    while link.pull(station) {}
+}
+
+/// A station sends its next PDU, and all frames that are whole then.
+fn poll_at<O: Outbox, I: Inbox>(
+    station: &mut Station<O, I>,
+    link: &mut FrameLink,
+) -> Result<Applied, AllocError>
+    requires ready { IsReady station.old.down link.old }
+    ensures polls { IfOk result (λ did. PollsAt did station.old station.new link.old link.new) }
+    ensures err { OnErr result (KeepsAt station.old station.new link.old link.new) }
+    ensures carried { CarriesOn station.old.down station.new.down link.old link.new }
+    ensures rest { (station.new.up ≡ station.old.up)
+        × (station.new.down.capacity ≡ station.old.down.capacity) }
+    ensures marks { IsSameMarks link.old link.new }
+{
+    link.make_room(station.frames_ahead())?;
+    match station.poll()? {
+        Polled::Moved => {
+            pull_all(link, station);
+            Ok(Applied::Applied)
+        }
+        Polled::SourceFailed => Ok(Applied::Applied),
+        // A PDU of any kind has room, so this is never Full.
+        Polled::Nothing | Polled::Full => Ok(Applied::Nothing),
+    }
+}
+
+/// A station fills its begun frame, which leaves.
+fn flush_at<O: Outbox, I: Inbox>(
+    station: &mut Station<O, I>,
+    link: &mut FrameLink,
+) -> Result<Applied, AllocError>
+    requires ready { IsReady station.old.down link.old }
+    ensures flushes { IfOk result (λ did. FlushesAt did station.old station.new
+        link.old link.new) }
+    ensures err { OnErr result (KeepsAt station.old station.new link.old link.new) }
+    ensures carried { CarriesOn station.old.down station.new.down link.old link.new }
+    ensures rest { KeepsRest station.old station.new }
+    ensures capacity { station.new.down.capacity ≡ station.old.down.capacity }
+    ensures marks { IsSameMarks link.old link.new }
+{
+    link.make_room(station.frames_ahead())?;
+    let before = link.frames().len();
+    station.flush();
+    pull_all(link, station);
+    if before < link.frames().len() {
+        Ok(Applied::Applied)
+    } else {
+        Ok(Applied::Nothing)
+    }
+}
+
+/// The oldest waiting frame of a link reaches a station.
+fn deliver_to<O: Outbox, I: Inbox>(link: &mut FrameLink, station: &mut Station<O, I>) -> Applied
+    ensures waits { result ≡ dids.Applied → length link.old.marks < length link.old.frames }
+    ensures hears { result ≡ dids.Applied → (down : LinkSenderState) →
+        IsCarried down link.old station.old.up →
+        HearsAt down link.old link.new station.old station.new }
+    ensures marked { result ≡ dids.Applied →
+        link.new ≡ record link.old { marks = link.old.marks ++ true ∷ []; run = 0 } }
+    ensures none { result ≡ dids.Nothing →
+        (length link.old.frames ≤ length link.old.marks)
+        × (link.new ≡ link.old) × (station.new ≡ station.old) }
+    ensures refused { result ≢ dids.Applied → result ≡ dids.Nothing }
+    ensures down { station.new.down ≡ station.old.down }
+{
+    let Some(frame) = link.oldest() else {
+        return Applied::Nothing;
+    };
+    station.take(frame);
+    link.deliver();
+    Applied::Applied
+}
+
+/// The oldest waiting frame of a link is lost.
+fn strike_at(link: &mut FrameLink) -> Applied
+    ensures strikes { StrikesAt result link.old link.new }
+{
+    match link.strike() {
+        Loss::Done => Applied::Applied,
+        Loss::NoneWaits => Applied::Nothing,
+        Loss::TooMany => Applied::Refused(Refusal::LossRunTooLong),
+    }
+}
