@@ -27,34 +27,52 @@ const NO_MEMORY: u8 = 3;
 const SIM_HELP: &str = "\
 The script is read from standard input: at most 1,048,576 octets in lines of
 at most 4,096, ASCII, one command a line, words with one space between. Empty
-lines and lines that begin with # are skipped. S is the station, 1 or 2.
+lines and lines that begin with # are skipped. S is the station, 1 or 2; ID is
+a transaction, SOURCE:NUMBER.
 First, what the stations have:
-  set KEY N             a setting of both stations:
-                          segment       1 to 4096 octets of a file in one PDU
-                                        (default 1024)
-                          checksum      0 modular (default) or 15 null
-                          first_number  of a station's first transaction, any
-                                        number below 2^64 (default 1)
+  set KEY N             a setting of both stations, see below
   file S NAME TEXT      a file in the outbox of S; TEXT is the rest of the line
   fill S NAME N HH      a file of N octets, each hexadecimal HH; N to 1048576
 Then, what happens:
   put S SRC DST         S sends its file SRC to the other station, as DST
-  poll S                S puts its next PDU on the link
-  flush S               nothing yet: PDUs need no filling up
-  spread S, burst S     S polls until nothing is due
-  deliver S [N]         the N oldest PDUs that S sent arrive (default 1)
-  strike S [N]          the N oldest PDUs that S sent are lost (default 1)
-  settle                both poll and all arrives, until nothing is due
+  cancel S ID           S gives the transaction up
+  suspend S ID          S sends nothing more of it, until resume S ID
+  prompt S ID nak       S asks the receiver of its file what it misses, or, with
+                        keep for nak, how far it has come
+  poll S                S sends its next PDU, and all frames that are full then
+  flush S               S fills up its begun frame and sends it
+  spread S              S polls until nothing is due, with a flush after each PDU
+  burst S               S polls until nothing is due, then flushes once
+  tick S N              S is told that the time is N
+  deliver S [N]         the N oldest frames that S sent arrive (default 1)
+  strike S [N]          the N oldest frames that S sent are lost (default 1)
+  settle                both poll and flush and all arrives, until nothing is due
+
+Settings, with their defaults:
+  zone 256              octets of a frame's packet zone, 16 to 2040
+  segment 1024          octets of a file in one PDU at most, 1 to 4096
+  id_width 2            octets of an entity id, 1 to 8
+  number_width 4        octets of a transaction's number, 1 to 8
+  first_number 1        of a station's first transaction, below 2^64
+  checksum 0            0 modular, 15 null
+  eof_limit 3, nak_limit 3, finished_limit 3
+                        how often each is sent again, 0 to 255
+  eof_time 10, nak_time 10, finished_time 10, inactivity_time 100
+                        how long an answer, or any PDU, is waited for, below 2^32
+  on_ack_limit 0, on_nak_limit 0, on_inactivity 0
+                        what is done then: 0 cancel, 1 suspend, 2 ignore, 3 abandon
 
 Report: a line for each command that could not do its work, what each station
 tells its user, the files received with their checksums, and how many of the
 puts were completed. A command that could not do its work is told as
   line N Nothing        there was nothing to do
   line N NoSuchFile     or Name, TooLarge, TableFull, NumbersSpent: a put refused
-  line N NoMemory       there was no memory
+  line N Unknown        or WrongSide, AlreadyClosed, AlreadySo: a call refused
+  line N LossRunTooLong too many frames lost in a row
+  line N NoMemory       or StoreFailed, TableFull, Unfinished: it ended early
 
 Exit status: 0 all puts completed, 1 some not, 2 bad script or arguments,
-3 a failed read or write, or no memory (told on standard error).
+3 a failed read, write or store, or no memory (told on standard error).
 
 Example:
   printf 'file 1 a.txt hello\\nput 1 a.txt b.txt\\nsettle\\n' | cfdp_node sim";

@@ -1,6 +1,8 @@
 use crate::number::{parse_hex_octet, parse_number};
 use crate::settings::Setting;
-use crate::words::Words;
+use crate::words::{Words, cut_at_first};
+use cfdp_entity::Call;
+use cfdp_header::TransactionId;
 use link_sim::Side;
 
 /// The longest line of a script, in octets, without its line feed.
@@ -46,17 +48,26 @@ pub enum Command<'a> {
         source: &'a [u8],
         destination: &'a [u8],
     },
-    /// `poll S`: the station puts its next PDU on the link.
+    /// `cancel S ID`, `suspend S ID`, `resume S ID`, `prompt S ID nak`, `prompt S ID keep`: the
+    /// station's user asks something of a transaction.
+    Call {
+        at: Side,
+        id: TransactionId,
+        call: Call,
+    },
+    /// `poll S`: the station sends its next PDU, and all frames that are whole then.
     Poll(Side),
-    /// `flush S`: the station sends what it held back.
+    /// `flush S`: the station fills its begun frame, which leaves.
     Flush(Side),
+    /// `tick S N`: the station is told the time.
+    Tick(Side, u64),
     /// `spread S`: polls until nothing is due, with a flush after each PDU.
     Spread(Side),
     /// `burst S`: polls until nothing is due, then one flush.
     Burst(Side),
-    /// `deliver S [N]`: so many PDUs that the station sent arrive.
+    /// `deliver S [N]`: so many frames that the station sent arrive.
     Deliver(Side, u64),
-    /// `strike S [N]`: so many PDUs that the station sent are lost.
+    /// `strike S [N]`: so many frames that the station sent are lost.
     Strike(Side, u64),
     /// `settle`: polls, flushes and delivers until nothing is due and nothing waits.
     Settle,
@@ -83,6 +94,10 @@ pub enum LineError {
     UnknownStation,
     /// A number isn't decimal digits below 2^64.
     BadNumber,
+    /// A transaction isn't two numbers with a colon between.
+    BadId,
+    /// What a prompt asks for isn't `nak` or `keep`.
+    UnknownPrompt,
     /// A file to fill has more than `MAX_FILL` octets.
     FileTooLong,
     /// An octet isn't two hexadecimal digits.
@@ -108,6 +123,8 @@ impl LineError {
             LineError::UnknownKey => "there is no such setting",
             LineError::UnknownStation => "a station is 1 or 2",
             LineError::BadNumber => "a number is decimal digits, below 2^64",
+            LineError::BadId => "a transaction is two numbers with a colon between",
+            LineError::UnknownPrompt => "a prompt asks for nak or keep",
             LineError::FileTooLong => "a file to fill has at most 1,048,576 octets",
             LineError::BadOctet => "an octet is two hexadecimal digits",
             LineError::TooLate => "set, file and fill stand before all other commands",
@@ -172,8 +189,16 @@ fn parse_command<'a>(name: &[u8], mut words: Words<'a>) -> Result<Command<'a>, L
             source: words.take_word()?,
             destination: words.take_word()?,
         },
+        b"cancel" => parse_call(&mut words, Call::Cancel)?,
+        b"suspend" => parse_call(&mut words, Call::Suspend)?,
+        b"resume" => parse_call(&mut words, Call::Resume)?,
+        b"prompt" => parse_prompt(&mut words)?,
         b"poll" => Command::Poll(parse_station(words.take_word()?)?),
         b"flush" => Command::Flush(parse_station(words.take_word()?)?),
+        b"tick" => Command::Tick(
+            parse_station(words.take_word()?)?,
+            parse_value(words.take_word()?)?,
+        ),
         b"spread" => Command::Spread(parse_station(words.take_word()?)?),
         b"burst" => Command::Burst(parse_station(words.take_word()?)?),
         b"deliver" => Command::Deliver(parse_station(words.take_word()?)?, repeats(&mut words)?),
@@ -183,6 +208,26 @@ fn parse_command<'a>(name: &[u8], mut words: Words<'a>) -> Result<Command<'a>, L
     };
     words.end()?;
     Ok(command)
+}
+
+/// A call on a transaction, by the next two words.
+fn parse_call<'a>(words: &mut Words<'_>, call: Call) -> Result<Command<'a>, LineError> {
+    let at = parse_station(words.take_word()?)?;
+    let id = parse_id(words.take_word()?)?;
+    Ok(Command::Call { at, id, call })
+}
+
+/// A prompt, by the next three words.
+fn parse_prompt<'a>(words: &mut Words<'_>) -> Result<Command<'a>, LineError> {
+    let at = parse_station(words.take_word()?)?;
+    let id = parse_id(words.take_word()?)?;
+    let keep_alive = match words.take_word()? {
+        b"nak" => false,
+        b"keep" => true,
+        _ => return Err(LineError::UnknownPrompt),
+    };
+    let call = Call::Prompt(keep_alive);
+    Ok(Command::Call { at, id, call })
 }
 
 /// How often an event is to happen: the next word, or once where there is none.
@@ -198,6 +243,17 @@ fn parse_value(word: &[u8]) -> Result<u64, LineError> {
     parse_number(word).ok_or(LineError::BadNumber)
 }
 
+fn parse_id(word: &[u8]) -> Result<TransactionId, LineError> {
+    let (source, number) = cut_at_first(word, b':');
+    match (
+        parse_number(source),
+        number.and_then(|digits| parse_number(digits)),
+    ) {
+        (Some(source), Some(number)) => Ok(TransactionId { source, number }),
+        _ => Err(LineError::BadId),
+    }
+}
+
 fn parse_station(word: &[u8]) -> Result<Side, LineError> {
     match parse_number(word) {
         Some(1) => Ok(Side::One),
@@ -208,9 +264,22 @@ fn parse_station(word: &[u8]) -> Result<Side, LineError> {
 
 fn parse_setting(word: &[u8]) -> Result<Setting, LineError> {
     match word {
+        b"zone" => Ok(Setting::Zone),
         b"segment" => Ok(Setting::Segment),
-        b"checksum" => Ok(Setting::Checksum),
+        b"id_width" => Ok(Setting::IdWidth),
+        b"number_width" => Ok(Setting::NumberWidth),
         b"first_number" => Ok(Setting::FirstNumber),
+        b"checksum" => Ok(Setting::Checksum),
+        b"eof_limit" => Ok(Setting::EofLimit),
+        b"nak_limit" => Ok(Setting::NakLimit),
+        b"finished_limit" => Ok(Setting::FinishedLimit),
+        b"eof_time" => Ok(Setting::EofTime),
+        b"nak_time" => Ok(Setting::NakTime),
+        b"finished_time" => Ok(Setting::FinishedTime),
+        b"inactivity_time" => Ok(Setting::InactivityTime),
+        b"on_ack_limit" => Ok(Setting::OnAckLimit),
+        b"on_nak_limit" => Ok(Setting::OnNakLimit),
+        b"on_inactivity" => Ok(Setting::OnInactivity),
         _ => Err(LineError::UnknownKey),
     }
 }

@@ -24,7 +24,7 @@ pub enum Fault {
     Unwritable,
     /// There was no memory before the first command was done. Nothing is printed.
     NoMemoryAtStart,
-    /// A command found no memory. The report says which one.
+    /// A command found no memory, or a store failed. The report says which one.
     NoMemory,
 }
 

@@ -10,7 +10,8 @@ use crate::simulation::Simulation;
 use crate::wording::{Id, delivery_word, status_word};
 use cfdp_directives::{Checksum, Delivery, FileStatus, Indication};
 use cfdp_header::TransactionId;
-use link_sim::{Files, Side};
+use cfdp_store::Files;
+use link_sim::Side;
 use std::io::Write;
 use std::{fmt, io};
 

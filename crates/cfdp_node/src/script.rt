@@ -1,11 +1,11 @@
 ghost use Rattle.std.specs.Prelude.{◌≤◌, length, IfOk};
-ghost use Rattle.link_sim.specs.Config.{IsValidConfig};
+ghost use Rattle.link_sim.specs.WorldConfig.{IsWorldConfig};
 
 use crate::command::{Command, FileLine, Line, LineError, parse_line};
 use crate::input::MAX_SCRIPT;
 use crate::settings::Settings;
 use crate::words::cut_at_first;
-use link_sim::SimConfig;
+use link_sim::WorldConfig;
 use std::alloc::{AllocError, Global};
 
 /// A script, read to its end.
@@ -94,8 +94,8 @@ impl<'a> Script<'a> {
     /// # Errors
     ///
     /// The first bad line. One that leaves a configuration that isn't valid is the last `set`.
-    pub fn config(&self) -> Result<SimConfig, BadLine>
-        ensures { IfOk result IsValidConfig }
+    pub fn config(&self) -> Result<WorldConfig, BadLine>
+        ensures { IfOk result IsWorldConfig }
     {
         let Some(config) = self.settings.config() else {
             return Err(self.bad_configuration());

@@ -1,4 +1,4 @@
-ghost use Rattle.link_sim.specs.Config.{IsValidConfig};
+ghost use Rattle.link_sim.specs.WorldConfig.{IsWorldConfig};
 
 use crate::answer::Answer;
 use crate::command::{Command, Contents, FileLine};
@@ -8,7 +8,8 @@ use crate::perform::perform;
 use crate::report::{Tally, completed_puts, write_report};
 use crate::script::{Script, Step};
 use crate::simulation::Simulation;
-use link_sim::{Files, Side, SimConfig};
+use cfdp_store::Files;
+use link_sim::{Side, WorldConfig};
 use std::alloc::{AllocError, Global};
 use std::io;
 use std::io::{BufWriter, Read, Write};
@@ -32,8 +33,13 @@ pub fn run_sim<R: Read + Drop, W: Write + Drop>(alloc: Global, reader: R, writer
     }
 }
 
-fn run_script<W: Write + Drop>(alloc: Global, config: SimConfig, script: &Script, writer: W) -> Exit
-    requires { IsValidConfig config }
+fn run_script<W: Write + Drop>(
+    alloc: Global,
+    config: WorldConfig,
+    script: &Script,
+    writer: W,
+) -> Exit
+    requires { IsWorldConfig config }
 {
     match Run::new(alloc, config, script) {
         Ok(mut run) => run.to_end(alloc, script.steps.as_slice(), writer),
@@ -55,12 +61,12 @@ impl Run {
     /// # Errors
     ///
     /// `AllocError` where there is no memory for them, or for the answers.
-    fn new(alloc: Global, config: SimConfig, script: &Script) -> Result<Run, AllocError>
-        requires { IsValidConfig config }
+    fn new(alloc: Global, config: WorldConfig, script: &Script) -> Result<Run, AllocError>
+        requires { IsWorldConfig config }
     {
         let outboxes = outboxes(alloc, script.files.as_slice())?;
         let answers = vec![in alloc; None; script.steps.len()]?;
-        let simulation = Simulation::new(alloc, config, outboxes);
+        let simulation = Simulation::new(alloc, config, outboxes)?;
         Ok(Run {
             simulation,
             answers,
@@ -101,13 +107,21 @@ impl Run {
         let answers = self.answers.as_slice();
         write_report(out, steps, answers, &self.simulation, tally)?;
         out.flush()?;
-        Ok(if answers.contains(&Some(Answer::NoMemory)) {
+        Ok(if answers.iter().any(|answer| is_device_fault(*answer)) {
             Exit::Device(Fault::NoMemory)
         } else if tally.complete == tally.asked {
             Exit::Complete
         } else {
             Exit::Incomplete
         })
+    }
+}
+
+/// Whether a command failed for want of memory, or a store failed.
+fn is_device_fault(answer: Option<Answer>) -> bool {
+    match answer {
+        Some(answer) => answer.is_device_fault(),
+        None => false,
     }
 }
 

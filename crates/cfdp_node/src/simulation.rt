@@ -2,17 +2,18 @@
 //!
 //! What `link_sim` proves of its world, the delivery theorem first, holds for whatever a script
 //! does. The program rests on none of it, so none of it stands in the goals of the callers here.
-ghost use Rattle.link_sim.specs.Config.{IsValidConfig};
+ghost use Rattle.link_sim.specs.WorldConfig.{IsWorldConfig};
 
 use cfdp_directives::Indication;
-use link_sim::{AcceptedPut, Applied, Event, Files, SettleError, Side, SimConfig, World};
+use cfdp_store::{Files, MemoryInbox, MemoryOutbox};
+use link_sim::{AcceptedPut, Applied, Event, SettleError, Side, World, WorldConfig};
 use std::alloc::{AllocError, Global};
 use std::marker::Model;
 
 /// Two stations and the link between them.
 #[derive(Drop)]
 pub struct Simulation {
-    world: World,
+    world: World<MemoryOutbox, MemoryInbox>,
 }
 
 impl Model for Simulation {
@@ -23,13 +24,24 @@ impl Model for Simulation {
 
 impl Simulation {
     /// Two stations with these outboxes, that of station 1 first, before anything happened.
-    pub fn new(alloc: Global, config: SimConfig, outboxes: (Files, Files)) -> Self
-        requires { IsValidConfig config }
+    ///
+    /// # Errors
+    ///
+    /// `AllocError` where there is no memory for them.
+    pub fn new(
+        alloc: Global,
+        config: WorldConfig,
+        outboxes: (Files, Files),
+    ) -> Result<Self, AllocError>
+        requires { IsWorldConfig config }
     {
-        let inboxes = (Files::new(alloc), Files::new(alloc));
-        Simulation {
-            world: World::new(alloc, config, outboxes, inboxes),
-        }
+        let outboxes = (
+            MemoryOutbox::with_files(outboxes.0),
+            MemoryOutbox::with_files(outboxes.1),
+        );
+        let inboxes = (MemoryInbox::new(alloc), MemoryInbox::new(alloc));
+        let world = World::new(alloc, config, outboxes, inboxes)?;
+        Ok(Simulation { world })
     }
 
     /// Makes an event happen.
@@ -41,11 +53,11 @@ impl Simulation {
         self.world.apply(event)
     }
 
-    /// Polls, flushes and delivers until nothing is due at either station and no PDU waits.
+    /// Polls, flushes and delivers until nothing is due at either station and no frame waits.
     ///
     /// # Errors
     ///
-    /// `NoMemory` at the first event that found none.
+    /// What ended it before that.
     pub fn settle(&mut self) -> Result<(), SettleError> {
         self.world.settle()
     }
@@ -62,6 +74,6 @@ impl Simulation {
 
     /// The files that this station received.
     pub fn inbox(&self, side: Side) -> &Files {
-        self.world.inbox(side)
+        self.world.inbox(side).published()
     }
 }

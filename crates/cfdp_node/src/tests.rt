@@ -2,6 +2,7 @@ use crate::command::{LineError, MAX_FILL, parse_line};
 use crate::dump::{DumpKind, run_dump};
 use crate::exit::{Exit, Fault};
 use crate::number::{parse_hex_octet, parse_number};
+use crate::rows::{CALLS, HELLO, LOSSES, PLAIN};
 use crate::script::{BadLine, Script};
 use crate::sim::run_sim;
 use std::alloc::{AllocError, Global};
@@ -10,91 +11,28 @@ use std::io::{ErrorKind, Read, Write};
 use std::process::Abort;
 use std::test::Fail;
 
-/// Runs a script that is to end so, with this report.
+/// Runs the script of a row.
 fn check_run(
     rt: &impl Abort,
     alloc: Global,
     script: &str,
-    exit: Exit,
+    status: u8,
     report: &str,
 ) -> io::Result<()> {
     let mut written = Vec::new(alloc);
     let ended = run_sim(alloc, script.as_bytes(), &mut written);
     let text = String::from_utf8(written).expect(rt, "the report is text");
     assert_eq!(rt; text.as_str(), report, "the report of {script}");
-    assert_eq!(rt; ended, exit, "the end of {script}");
+    assert_eq!(rt; ended.status(), status, "the end of {script}");
     Ok(())
 }
 
-const HELLO: &str = "\
-1 transaction 1:1
-1 eof-sent 1:1
-1 finished 1:1 0 complete retained
-2 metadata 1:1 a.txt b.txt 5
-2 eof-recv 1:1
-2 finished 1:1 0 complete retained
-inbox 2 b.txt 5 D7656C6C
-complete 1 of 1
-";
-
 #[test]
-fn sends_hello(rt: HostRuntime) -> Result<(), Fail> {
+fn each_script_prints_its_report(rt: HostRuntime) -> Result<(), Fail> {
     let alloc = rt.alloc();
-    let scripts = [
-        "file 1 a.txt hello\nput 1 a.txt b.txt\nsettle\n",
-        "file 1 a.txt hello\nput 1 a.txt b.txt\nsettle",
-        "# \u{e9} and\n\nset segment 0001\nset checksum 15\nset checksum 0\nfill 1 a.txt 3 5a\nfile 1 a.txt hello\nput 1 a.txt b.txt\nsettle",
-        "file 1 a.txt hello\nput 1 a.txt b.txt\ndeliver 1 0\nstrike 2 0\nspread 1\ndeliver 1 3\nspread 2\ndeliver 2 2\nburst 1\ndeliver 1",
-    ];
-    for script in scripts {
-        check_run(&rt, alloc, script, Exit::Complete, HELLO)?;
+    for row in PLAIN.iter().chain(LOSSES.iter()).chain(CALLS.iter()) {
+        check_run(&rt, alloc, row.script, row.status, row.report)?;
     }
-    Ok(())
-}
-
-#[test]
-fn reports_each_end(rt: HostRuntime) -> Result<(), Fail> {
-    let alloc = rt.alloc();
-    // A lost PDU.
-    let lost = "file 1 a.txt hello\nput 1 a.txt b.txt\nspread 1\ndeliver 1\nstrike 1\nsettle\n";
-    let report =
-        "1 transaction 1:1\n1 eof-sent 1:1\n2 metadata 1:1 a.txt b.txt 5\n2 eof-recv 1:1\ncomplete 0 of 1\n";
-    check_run(&rt, alloc, lost, Exit::Incomplete, report)?;
-    // An empty file.
-    let empty = "fill 1 a.txt 0 00\nput 1 a.txt b.txt\nsettle\n";
-    let report = "\
-1 transaction 1:1
-1 eof-sent 1:1
-1 finished 1:1 0 complete retained
-2 metadata 1:1 a.txt b.txt 0
-2 eof-recv 1:1
-2 finished 1:1 0 complete retained
-inbox 2 b.txt 0 00000000
-complete 1 of 1
-";
-    check_run(&rt, alloc, empty, Exit::Complete, report)?;
-    // From station 2, with names that have to be escaped.
-    let other = "set first_number 7\nfile 2 a%\x7f  b\t\nput 2 a%\x7f ~\x01\nsettle\n";
-    let report = "\
-1 metadata 2:7 a%25%7F ~%01 3
-1 eof-recv 2:7
-1 finished 2:7 0 complete retained
-2 transaction 2:7
-2 eof-sent 2:7
-2 finished 2:7 0 complete retained
-inbox 1 ~%01 3 20620900
-complete 1 of 1
-";
-    check_run(&rt, alloc, other, Exit::Complete, report)?;
-    // Nothing to do at all.
-    check_run(&rt, alloc, "", Exit::Complete, "complete 0 of 0\n")?;
-    check_run(
-        &rt,
-        alloc,
-        "\n#put\n\n",
-        Exit::Complete,
-        "complete 0 of 0\n",
-    )?;
     Ok(())
 }
 
@@ -136,7 +74,10 @@ impl Arrivals {
 /// A station sends the PDU that is due, and it arrives or is lost.
 fn pass(script: &mut String, station: char, arrives: bool) -> Result<(), AllocError> {
     let verb = if arrives { "deliver" } else { "strike" };
-    write!(script, "poll {station}\n{verb} {station}\n")
+    write!(
+        script,
+        "poll {station}\nflush {station}\n{verb} {station}\n"
+    )
 }
 
 /// A put of three PDUs, of which these arrive. The receiver answers an EOF, and then what it heard
@@ -215,47 +156,8 @@ fn every_choice_of_losses_does_what_the_definitions_say(rt: HostRuntime) -> Resu
         };
         let told = u8::from(arrivals.told());
         let report = format!(in alloc; "{first}{second}{inbox}complete {told} of 1\n")?;
-        let exit = if arrivals.told() {
-            Exit::Complete
-        } else {
-            Exit::Incomplete
-        };
-        check_run(&rt, alloc, script.as_str(), exit, report.as_str())?;
+        check_run(&rt, alloc, script.as_str(), 1 - told, report.as_str())?;
     }
-    Ok(())
-}
-
-#[test]
-fn tells_what_was_not_done(rt: HostRuntime) -> Result<(), Fail> {
-    let alloc = rt.alloc();
-    check_run(
-        &rt,
-        alloc,
-        "put 1 none x\n",
-        Exit::Incomplete,
-        "line 1 NoSuchFile\ncomplete 0 of 1\n",
-    )?;
-    let script = "set first_number 4294967296\n\nfile 1 a x\nput 1 a b\n";
-    check_run(
-        &rt,
-        alloc,
-        script,
-        Exit::Incomplete,
-        "line 4 NumbersSpent\ncomplete 0 of 1\n",
-    )?;
-    let script =
-        "file 1 a x\nput 1 a b\nput 1 a c\npoll 2\nflush 1\nburst 2\nspread 2\ndeliver 1 9\nstrike 2\npoll 1\nstrike 1 5\n";
-    let report = "\
-line 3 TableFull
-line 4 Nothing
-line 5 Nothing
-line 8 Nothing
-line 9 Nothing
-line 11 Nothing
-1 transaction 1:1
-complete 0 of 2
-";
-    check_run(&rt, alloc, script, Exit::Incomplete, report)?;
     Ok(())
 }
 
@@ -284,10 +186,21 @@ fn names_the_first_bad_line(rt: HostRuntime) -> Result<(), Fail> {
         ("deliver 1 18446744073709551616\n", 1),
         ("deliver 1 +1\n", 1),
         ("deliver 1 -1\n", 1),
-        ("set zone 256\n", 1),
         ("set segment\n", 1),
-        ("tick 1 5\n", 1),
-        ("cancel 1 1:1\n", 1),
+        ("set Zone 256\n", 1),
+        ("tick 1\n", 1),
+        ("tick 1 x\n", 1),
+        ("cancel 1\n", 1),
+        ("cancel 1 1\n", 1),
+        ("cancel 1 1:\n", 1),
+        ("cancel 1 :1\n", 1),
+        ("cancel 1 1:1:1\n", 1),
+        ("cancel 3 1:1\n", 1),
+        ("suspend 1 1:1 1\n", 1),
+        ("resume 1 1:x\n", 1),
+        ("prompt 1 1:1\n", 1),
+        ("prompt 1 1:1 NAK\n", 1),
+        ("prompt 1 1:1 keep 1\n", 1),
         ("recover\n", 1),
         // The order of lines.
         ("poll 1\n\n#\nset segment 5\n", 4),
@@ -299,6 +212,23 @@ fn names_the_first_bad_line(rt: HostRuntime) -> Result<(), Fail> {
         ("set segment 65536\n", 1),
         ("set checksum 1\n", 1),
         ("set checksum 271\n", 1),
+        ("set zone 15\n", 1),
+        ("set zone 2041\n", 1),
+        ("set zone 65792\n", 1),
+        ("set id_width 0\n", 1),
+        ("set id_width 9\n", 1),
+        ("set number_width 0\n", 1),
+        ("set number_width 260\n", 1),
+        ("set eof_limit 256\n", 1),
+        ("set nak_limit 256\n", 1),
+        ("set finished_limit 256\n", 1),
+        ("set eof_time 0\n", 1),
+        ("set nak_time 0\n", 1),
+        ("set finished_time 0\n", 1),
+        ("set inactivity_time 4294967296\n", 1),
+        ("set on_ack_limit 4\n", 1),
+        ("set on_nak_limit 4\n", 1),
+        ("set on_inactivity 256\n", 1),
         ("set segment 0\nbad\nset segment 1\n", 2),
         ("set segment 0\nbad\n", 1),
         ("bad\nset segment 0\n", 1),
@@ -327,12 +257,6 @@ fn explains_a_bad_line(rt: HostRuntime) -> Result<(), Fail> {
         assert!(rt; !error.reason().is_empty());
     }
     Ok(())
-}
-
-#[test]
-fn takes_a_station_as_a_number(rt: HostRuntime) -> Result<(), Fail> {
-    let report = "line 1 Nothing\ncomplete 0 of 0\n";
-    Ok(check_run(&rt, rt.alloc(), "poll 02\n", Exit::Complete, report)?)
 }
 
 /// Fails at the first write, and takes all later ones.
@@ -388,6 +312,8 @@ fn names_what_is_wrong(rt: HostRuntime) -> Result<(), Fail> {
         ("set size 1", LineError::UnknownKey),
         ("poll 3", LineError::UnknownStation),
         ("set segment 1x", LineError::BadNumber),
+        ("cancel 1 1", LineError::BadId),
+        ("prompt 1 1:1 now", LineError::UnknownPrompt),
         ("fill 1 a 1048577 00", LineError::FileTooLong),
         ("fill 1 a 1048576 0", LineError::BadOctet),
         ("file 1 a \u{e9}", LineError::NotAscii),
