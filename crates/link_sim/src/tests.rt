@@ -69,54 +69,63 @@ fn outbox(alloc: Global) -> Result<MemoryOutbox, AllocError> {
     Ok(outbox)
 }
 
-/// A world in which the first station sent `hello` in one frame, which was delivered.
-fn delivered(rt: &impl Abort, alloc: Global) -> Result<MemoryWorld, AllocError> {
-    let config = config();
-    assert!(rt; config.is_valid());
+/// A put at the first station, sent in one frame that is delivered.
+fn events(alloc: Global) -> Result<[Event; 6], AllocError> {
     let put = Event::Put {
         at: Side::One,
         source: Octets::copied(alloc, b"a.txt")?,
         destination: Octets::copied(alloc, b"b.txt")?,
     };
-    let events = [
+    Ok([
         put,
         Event::Poll(Side::One),
         Event::Poll(Side::One),
         Event::Poll(Side::One),
         Event::Flush(Side::One),
         Event::Deliver(Side::One),
-    ];
-    let outboxes = (outbox(alloc)?, MemoryOutbox::new(alloc));
-    let inboxes = (MemoryInbox::new(alloc), MemoryInbox::new(alloc));
-    run(alloc, config, outboxes, inboxes, &events)
+    ])
 }
 
-/// A station of its own that takes the frames that were delivered in a world to the second one.
-fn replayed(
-    rt: &impl Abort,
-    alloc: Global,
-    world: &MemoryWorld,
-) -> Result<Station<MemoryOutbox, MemoryInbox>, AllocError> {
+/// The frames that were delivered in a world to the second station.
+fn recorded(world: &MemoryWorld, alloc: Global) -> Result<Vec<Vec<u8>>, AllocError> {
+    let sent = world.frames(Side::One);
+    let mut frames = Vec::new(alloc);
+    for (place, frame) in sent.frames().iter().enumerate() {
+        if sent.mark(place) == Some(Mark::Delivered) {
+            frames.push(Vec::from_slice(alloc, frame)?)?;
+        }
+    }
+    Ok(frames)
+}
+
+/// The frames delivered to the second station in a world in which the first one sends `hello`.
+fn delivered(rt: &impl Abort, alloc: Global) -> Result<Vec<Vec<u8>>, AllocError> {
+    let config = config();
+    assert!(rt; config.is_valid());
+    let outboxes = (outbox(alloc)?, MemoryOutbox::new(alloc));
+    let inboxes = (MemoryInbox::new(alloc), MemoryInbox::new(alloc));
+    let world = run(alloc, config, outboxes, inboxes, &events(alloc)?)?;
+    recorded(&world, alloc)
+}
+
+/// Whether a station of its own that takes these frames publishes `hello`.
+fn publishes(rt: &impl Abort, alloc: Global, frames: &[Vec<u8>]) -> Result<bool, AllocError> {
     let config = config();
     assert!(rt; config.is_valid());
     let outbox = MemoryOutbox::new(alloc);
     let inbox = MemoryInbox::new(alloc);
     let mut station = Station::new(alloc, config.two, outbox, inbox)?;
-    let sent = world.frames(Side::One);
-    for (place, frame) in sent.frames().iter().enumerate() {
-        if sent.mark(place) == Some(Mark::Delivered) {
-            station.take(frame);
-        }
+    for frame in frames {
+        station.take(frame);
     }
-    Ok(station)
+    Ok(station.inbox().published().octets(b"b.txt") == b"hello".as_slice())
 }
 
 // The file is in the frames themselves: a station that takes those of a world publishes it.
 #[test]
 fn recorded_frames_carry_the_file(rt: HostRuntime) -> Result<(), AllocError> {
     let alloc = rt.alloc();
-    let world = delivered(&rt, alloc)?;
-    let station = replayed(&rt, alloc, &world)?;
-    assert!(rt; station.inbox().published().get(b"b.txt") == Some(b"hello".as_slice()));
+    let frames = delivered(&rt, alloc)?;
+    assert!(rt; publishes(&rt, alloc, &frames)?);
     Ok(())
 }
