@@ -9,7 +9,6 @@ use crate::script::Step;
 use crate::simulation::Simulation;
 use crate::wording::{Id, delivery_word, status_word};
 use cfdp_directives::{Checksum, Delivery, FileStatus, Indication};
-use cfdp_header::TransactionId;
 use cfdp_store::Files;
 use link_sim::Side;
 use std::io::Write;
@@ -143,34 +142,30 @@ fn write_inbox(out: &mut impl Write, station: u8, inbox: &Files) -> io::Result<(
     Ok(())
 }
 
-/// How many of the accepted puts were completed.
+/// How many of the accepted puts were completed: those of which their sender was told so, once each.
 pub fn completed_puts(simulation: &Simulation) -> usize {
-    simulation
-        .puts()
-        .iter()
-        .filter(|put| is_completed(simulation, put.id))
-        .count()
+    told_complete(simulation, Side::One).saturating_add(told_complete(simulation, Side::Two))
 }
 
-/// Whether the sender of this transaction was told that it is over with no error, with the file
-/// complete and retained.
-fn is_completed(simulation: &Simulation, id: TransactionId) -> bool {
-    let sender = if id.source == 1 { Side::One } else { Side::Two };
+/// Of how many of its own transactions a station was told that they are over with no error, with
+/// the file complete and retained.
+fn told_complete(simulation: &Simulation, sender: Side) -> usize {
     simulation
         .indications(sender)
         .iter()
-        .any(|indication| match indication {
+        .filter(|indication| match indication {
             Indication::Finished {
-                id: finished,
+                id,
                 condition,
                 delivery,
                 status,
             } => {
-                *finished == id
+                id.source == sender.entity()
                     && condition.code() == 0
                     && *delivery == Delivery::Complete
                     && *status == FileStatus::Retained
             }
             _ => false,
         })
+        .count()
 }
