@@ -1,4 +1,4 @@
--- The header of a content can be written.
+-- Exported: the header of a content can be written.
 use Rattle.std.proofs.Common.{ℕ, Bool, ◌^◌, ◌<◌, refl}
 use Rattle.cfdp_directives.specs.declared.addressing.Addressing.{Addressing}
 use Rattle.cfdp_directives.specs.Codes.{file_size_octets}
