@@ -1,5 +1,5 @@
 -- Two stations in which nothing happened are sound; and what each event comes to.
-use Rattle.std.proofs.Common.{◌≡◌, ◌≢◌, ℕ, ◌+◌, ◌<◌, ◌≤◌, Bool, true, false, List, [], ◌∷◌, ◌++◌, ◌⊎◌, length, Option, Some, None, refl, sym, ap, subst, ◌∙◌, inl, inr, arith}
+use Rattle.std.proofs.Common.{◌≡◌, ℕ, List, [], Option, sym, ap, subst, ◌∙◌, inl, inr}
 use Rattle.std.specs.Prelude.{Contains}
 use Rattle.cfdp_header.specs.declared.value.TransactionId.{TransactionId}
 use Rattle.cfdp_header.specs.Files.{FileMap}
@@ -7,14 +7,12 @@ use Rattle.cfdp_directives.specs.Completions.{completions}
 use Rattle.cfdp_directives.specs.Put.{Put, inbox_after}
 use Rattle.mpdu.specs.Packets.{packets_of}
 use Rattle.mpdu.specs.Packets as packets
-use Rattle.link_stack.specs.Frames.{pdus_in}
 use Rattle.cfdp_entity.specs.declared.call.Call.{Call}
 use Rattle.cfdp_entity.specs.declared.call.Call.TheVariants as calls
 use Rattle.cfdp_entity.specs.declared.config.EntityConfig.{EntityConfig}
 use Rattle.cfdp_entity.specs.Config.{IsConfig}
 use Rattle.cfdp_entity.specs.Entity.{EntityState, first_entity}
 use Rattle.cfdp_entity.specs.Sound.{IsSound as IsSoundEntity}
-use Rattle.cfdp_station.specs.Config.{IsStationConfig}
 use Rattle.cfdp_station.specs.Station.{StationState, first_down, first_up}
 use Rattle.cfdp_station.specs.declared.config.StationConfig.{StationConfig}
 use Rattle.link_sim.specs.declared.side.Side.{Side}
@@ -23,17 +21,16 @@ use Rattle.link_sim.specs.declared.event.Event.{Event}
 use Rattle.link_sim.specs.declared.event.Event.TheVariants as event
 use Rattle.link_sim.specs.declared.event.Applied.{Applied}
 use Rattle.link_sim.specs.declared.event.Applied.TheVariants as did
-use Rattle.link_sim.specs.declared.event.Refusal.{Refusal}
 use Rattle.link_sim.specs.declared.event.Refusal.TheVariants as refusal
 use Rattle.link_sim.specs.declared.event.AcceptedPut.{AcceptedPut}
 use Rattle.link_sim.specs.declared.world_config.WorldConfig.{WorldConfig}
 use Rattle.link_sim.specs.WorldConfig.{IsWorldConfig}
 use Rattle.link_sim.specs.Sides.{other}
-use Rattle.link_sim.specs.OneWay.{OneWayState, IsOneWay, packets_sent, pdus_sent, pdus_delivered}
-use Rattle.link_sim.specs.World.{WorldState, LinkState, station_at, entity_at, way, way_from, files_at, no_frames, IsFirstAt, IsFirst, Puts, Calls, Polls, Flushes, Delivers, Strikes, Steps}
+use Rattle.link_sim.specs.OneWay.{IsOneWay, pdus_sent, pdus_delivered}
+use Rattle.link_sim.specs.World.{WorldState, LinkState, entity_at, way, way_from, files_at, no_frames, IsFirst, Puts, Calls, Polls, Flushes, Delivers, Strikes, Steps}
 use Rattle.link_sim.specs.Theorem.{at, put_of, completions_at}
 use Rattle.link_sim.specs.Observed.{seen}
-use Rattle.link_sim.specs.Sound.{SentTruly, IsSoundAt, IsSound}
+use Rattle.link_sim.specs.Sound.{IsSound}
 use Rattle.link_sim.proofs.Keeping.{at-done, at-inbox}
 use Rattle.link_sim.proofs.Moving.{EntityLaws, Moves, none-in, same-moves, stays-moves, put-moves, called-moves, told-moves, sent-moves, failed-moves, filled-moves, delivered-moves, struck-moves}
 

@@ -1,6 +1,6 @@
 -- What every event keeps of two stations, and the promises that follow: from the laws of an entity,
 -- and from what the steps do to the two directions.
-use Rattle.std.proofs.Common.{◌≡◌, ◌≢◌, ℕ, zero, suc, ◌+◌, ◌<◌, ◌≤◌, Bool, true, false, List, [], ◌∷◌, ◌++◌, ◌⊎◌, length, get_or, Option, Some, None, refl, sym, ap, subst, ◌∙◌, inl, inr, arith, append-nil, drop}
+use Rattle.std.proofs.Common.{◌≡◌, ℕ, zero, suc, ◌+◌, ◌<◌, ◌≤◌, List, [], ◌∷◌, ◌++◌, ◌⊎◌, length, Option, refl, sym, ap, subst, ◌∙◌, inl, inr, arith, drop}
 use Rattle.std.specs.Prelude.{Contains, count_by}
 use Rattle.cfdp_header.specs.declared.value.Header.{Header}
 use Rattle.cfdp_header.specs.declared.value.TransactionId.{TransactionId}
@@ -19,17 +19,16 @@ use Rattle.mpdu.proofs.Parts.{part-map}
 use Rattle.cfdp_entity.specs.Entity.{EntityState}
 use Rattle.cfdp_entity.specs.History.{open_of}
 use Rattle.cfdp_entity.specs.Table.{record_of}
-use Rattle.cfdp_entity.specs.Sound.{IsSound as IsSoundEntity, FindsMore, FindsById, ComesTrue, SaysDelivered, GoesOn}
+use Rattle.cfdp_entity.specs.Sound.{IsSound as IsSoundEntity, FindsMore, ComesTrue, SaysDelivered, GoesOn}
 use Rattle.link_sim.specs.declared.side.Side.{Side}
 use Rattle.link_sim.specs.declared.side.Side.TheVariants.{One, Two}
 use Rattle.link_sim.specs.declared.event.AcceptedPut.{AcceptedPut}
 use Rattle.link_sim.specs.Sides.{other}
 use Rattle.link_sim.specs.OneWay.{OneWayState, IsOneWay, packets_sent, pdus_sent, pdus_delivered}
 use Rattle.link_sim.specs.World.{WorldState, entity_at, way_from}
-use Rattle.link_sim.specs.Theorem.{StationSeen, WorldSeen, at, put_of, completions_at, FoldsAt, CausedAt, IsTold, ToldAt, TruthAt, HoldsAt}
-use Rattle.link_sim.specs.Observed.{seen, station_seen}
-use Rattle.link_sim.specs.Sound.{SentTruly, IsSoundAt, IsSound}
-use Rattle.link_sim.proofs.PutsFound.{puts-by-id}
+use Rattle.link_sim.specs.Theorem.{at, put_of, completions_at, FoldsAt, CausedAt, ToldAt, TruthAt, HoldsAt}
+use Rattle.link_sim.specs.Observed.{seen}
+use Rattle.link_sim.specs.Sound.{SentTruly, IsSound}
 
 -- ---- two sides
 pub both : (P : Side → Type 0) (s : Side) → P s → P (other s) → (t : Side) → P t

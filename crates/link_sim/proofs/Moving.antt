@@ -1,5 +1,5 @@
 -- What each event does to both sides, by the laws of an entity.
-use Rattle.std.proofs.Common.{◌≡◌, ◌≢◌, ℕ, zero, suc, ◌+◌, ◌<◌, ◌≤◌, Bool, true, false, List, [], ◌∷◌, ◌++◌, ◌⊎◌, length, Option, Some, None, refl, sym, ap, subst, ◌∙◌, inl, inr, arith}
+use Rattle.std.proofs.Common.{◌≡◌, ℕ, zero, suc, ◌+◌, ◌<◌, ◌≤◌, true, false, List, [], ◌∷◌, ◌++◌, length, Option, Some, None, refl, sym, ap, subst, ◌∙◌, inl, inr, arith}
 use Rattle.std.proofs.lemmas.List.{append-nil, append_assoc}
 use Rattle.std.proofs.lemmas.Bool.{eqb-true, eq-eqb}
 use Rattle.std.specs.Prelude.{Contains, unwrap_or, ◌==◌, if◌then◌else◌}
@@ -17,13 +17,12 @@ use Rattle.cfdp_store.specs.declared.stored.Stored.TheVariants.{Done, Refused}
 use Rattle.cfdp_store.specs.Files.{octets_in}
 use Rattle.cfdp_entity.specs.declared.call.Call.{Call}
 use Rattle.cfdp_entity.specs.declared.error.EntityDrop.{EntityDrop}
-use Rattle.cfdp_entity.specs.declared.error.PutError.{PutError}
 use Rattle.cfdp_entity.specs.Calls.{IsCalled}
 use Rattle.cfdp_entity.specs.Entity.{EntityState, Counted, with_table}
 use Rattle.cfdp_entity.specs.Hearing.{HearsOctets, DropsOctets}
 use Rattle.cfdp_entity.specs.Polling.{turn, turn_octets, served}
-use Rattle.cfdp_entity.specs.Putting.{Accepts, asked, file_refusal, early_refusal, put_refusal}
-use Rattle.cfdp_entity.specs.Sound.{IsSound as IsSoundEntity, FindsMore, FindsById, ComesTrue, SaysDelivered, SpellsTurn, GoesOn, next_put}
+use Rattle.cfdp_entity.specs.Putting.{Accepts, asked, early_refusal}
+use Rattle.cfdp_entity.specs.Sound.{IsSound as IsSoundEntity, FindsById, ComesTrue, SaysDelivered, SpellsTurn, GoesOn, next_put}
 use Rattle.cfdp_entity.specs.Table.{Ticks}
 use Rattle.cfdp_station.specs.Taking.{HearsPdu, HearsAll}
 use Rattle.mpdu.specs.Packets.{busy}
@@ -35,11 +34,11 @@ use Rattle.link_sim.specs.declared.side.Side.{Side}
 use Rattle.link_sim.specs.declared.side.Side.TheVariants.{One, Two}
 use Rattle.link_sim.specs.declared.event.AcceptedPut.{AcceptedPut}
 use Rattle.link_sim.specs.Sides.{other}
-use Rattle.link_sim.specs.OneWay.{OneWayState, IsOneWay, pdus_sent, pdus_delivered}
+use Rattle.link_sim.specs.OneWay.{IsOneWay, pdus_sent, pdus_delivered}
 use Rattle.link_sim.specs.World.{WorldState, LinkState, station_at, link_from, entity_at, way, way_from, KeepsLinks, Stays, TakesPut, StepsAt, TellsTime, KeepsMarks, SendsOne, FailsSource, Fills, DeliversFrame, StrikesFrame}
-use Rattle.link_sim.specs.Theorem.{StationSeen, WorldSeen, at, side_of, put_of, put_by, put_at, with_octets}
+use Rattle.link_sim.specs.Theorem.{at, side_of, put_of, put_at, with_octets}
 use Rattle.link_sim.specs.Observed.{seen}
-use Rattle.link_sim.specs.Sound.{IsSoundAt, IsSound}
+use Rattle.link_sim.specs.Sound.{IsSound}
 use Rattle.link_sim.proofs.PutsFound.{SendsSame, puts-by-id, puts-more, put-last}
 use Rattle.link_sim.proofs.Keeping.{both, other-other, in-either, SideMoves, PutsMove}
 

@@ -1,4 +1,3 @@
-use Rattle.std.proofs.Common.{refl, sym}
 use Rattle.link_sim.proofs.Keeping.{Grounds, holds, sound-next, folds-next}
 use Rattle.link_sim.proofs.Moving.{EntityLaws, Moves, stays-moves}
 use Rattle.link_sim.proofs.Beginning.{sound-first, inbox-first, event-moves}

@@ -1,4 +1,4 @@
-use Rattle.std.proofs.Common.{◌≡◌, [], sym, ap, ◌∙◌, arith}
+use Rattle.std.proofs.Common.{[], sym, ap, ◌∙◌, arith}
 use Rattle.cfdp_station.specs.Station.{first_up}
 use Rattle.link_sim.specs.OneWay.{IsCarried}
 use Rattle.link_sim.proofs.AtStations.{first_carried}

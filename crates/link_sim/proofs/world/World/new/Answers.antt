@@ -1,4 +1,3 @@
-use Rattle.link_sim.specs.declared.side.Side.TheVariants.{One, Two}
 use Rattle.link_sim.proofs.Keeping.{each}
 use Rattle.link_sim.proofs.world.World.new.Goals as goal
 
