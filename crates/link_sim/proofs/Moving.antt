@@ -116,11 +116,23 @@ quiet t u old new is front back goes kept = record {
   kept = λ heard first true_. kept heard first;
 }
 
+-- a side whose entity is as it was, and that sent and heard nothing more
+resting : (t u : Side) (old new : WorldState) → IsOneWay (way_from t new) → pdus_sent (way_from t new) ≡ pdus_sent (way_from t old) → pdus_delivered (way_from u new) ≡ pdus_delivered (way_from u old) →
+    entity_at t new ≡ entity_at t old → SideMoves t u old new
+resting t u old new is sent delivered e = record {
+  goes = goes-same (entity_at t old) (entity_at t new) e;
+  way = is;
+  texts = [];
+  sent = sent ∙ sym (append-nil (pdus_sent (way_from t old)));
+  says = λ p heard first is x c. absurd (none-in x c);
+  more = [];
+  delivered = delivered ∙ sym (append-nil (pdus_delivered (way_from u old)));
+  kept = λ heard first true_ k. subst (λ (x : EntityState). IsSoundEntity (put_of (seen new)) heard first x) (sym e) k;
+}
+
 -- a side of which nothing moved
 still : (t u : Side) (old new : WorldState) → IsOneWay (way_from t old) → way_from t new ≡ way_from t old → way_from u new ≡ way_from u old → entity_at t new ≡ entity_at t old → SideMoves t u old new
-still t u old new is front back e =
-    quiet t u old new is front back (goes-same (entity_at t old) (entity_at t new) e)
-    (λ heard first h. subst (λ (x : EntityState). IsSoundEntity (put_of (seen new)) heard first x) (sym e) h)
+still t u old new is front back e = resting t u old new (subst IsOneWay (sym front) is) (ap pdus_sent front) (ap pdus_delivered back) e
 
 each-side : (s : Side) (old new : WorldState) → SideMoves s (other s) old new → SideMoves (other s) s old new → (t : Side) → SideMoves t (other t) old new
 each-side s old new this that =
@@ -296,17 +308,7 @@ module _ (laws : EntityLaws) (old new : WorldState) (sound : IsSound old) where
   unheard : (s : Side) → KeepsMarks s old new → pdus_delivered (way_from s new) ≡ pdus_delivered (way_from s old) → SideMoves (other s) s old new
   unheard s k same =
       let back : way_from (other s) new ≡ way_from (other s) old = back-same s old new (ap (λ x. x.down) k.spares.station) k.spares.link k.up in
-      let e : entity_at (other s) new ≡ entity_at (other s) old = ap (λ x. x.entity.state) k.spares.station in
-      record {
-        goes = goes-same (entity_at (other s) old) (entity_at (other s) new) e;
-        way = subst IsOneWay (sym back) (sound (other s)).way;
-        texts = [];
-        sent = ap pdus_sent back ∙ sym (append-nil (pdus_sent (way_from (other s) old)));
-        says = λ p heard first is x c. absurd (none-in x c);
-        more = [];
-        delivered = same ∙ sym (append-nil (pdus_delivered (way_from s old)));
-        kept = λ heard first true_ h. subst (λ (x : EntityState). IsSoundEntity (put_of (seen new)) heard first x) (sym e) h;
-      }
+      resting (other s) s old new (subst IsOneWay (sym back) (sound (other s)).way) (ap pdus_sent back) same (ap (λ x. x.entity.state) k.spares.station)
 
   pub sent-moves : (s : Side) → SendsOne s old new → Moves old new
   sent-moves s h =
@@ -331,45 +333,18 @@ module _ (laws : EntityLaws) (old new : WorldState) (sound : IsSound old) where
   pub filled-moves : (s : Side) → Fills s old new → Moves old new
   filled-moves s h =
       let back : way_from (other s) new ≡ way_from (other s) old = back-same s old new (ap (λ x. x.down) h.marks.spares.station) h.marks.spares.link h.marks.up in
-      let e : entity_at s new ≡ entity_at s old = ap (λ x. x.state) h.entity in
-      let this : SideMoves s (other s) old new = record {
-        goes = goes-same (entity_at s old) (entity_at s new) e;
-        way = h.sends.way;
-        texts = [];
-        sent = h.sends.pdus;
-        says = λ p heard first is x c. absurd (none-in x c);
-        more = [];
-        delivered = ap pdus_delivered back ∙ sym (append-nil (pdus_delivered (way_from (other s) old)));
-        kept = λ heard first true_ k. subst (λ (x : EntityState). IsSoundEntity (put_of (seen new)) heard first x) (sym e) k;
-      } in
+      let this : SideMoves s (other s) old new =
+      resting s (other s) old new h.sends.way (h.sends.pdus ∙ append-nil (pdus_sent (way_from s old))) (ap pdus_delivered back) (ap (λ x. x.state) h.entity) in
       moves-kept old new sound (each-side s old new this (unheard s h.marks h.sends.delivered)) h.marks.counts.puts
 
   -- ---- frames
   pub struck-moves : (s : Side) → StrikesFrame s old new → Moves old new
   struck-moves s h =
       let back : way_from (other s) new ≡ way_from (other s) old = back-same s old new (ap (λ x. x.down) h.spares.station) h.spares.link (ap (λ x. x.up) h.station) in
-      let e : entity_at s new ≡ entity_at s old = ap (λ x. x.entity.state) h.station in
-      let f : entity_at (other s) new ≡ entity_at (other s) old = ap (λ x. x.entity.state) h.spares.station in
-      let this : SideMoves s (other s) old new = record {
-        goes = goes-same (entity_at s old) (entity_at s new) e;
-        way = h.sends.way;
-        texts = [];
-        sent = ap (λ ps. pdus_in (busy ps)) h.sends.packets ∙ sym (append-nil (pdus_sent (way_from s old)));
-        says = λ p heard first is x c. absurd (none-in x c);
-        more = [];
-        delivered = ap pdus_delivered back ∙ sym (append-nil (pdus_delivered (way_from (other s) old)));
-        kept = λ heard first true_ k. subst (λ (x : EntityState). IsSoundEntity (put_of (seen new)) heard first x) (sym e) k;
-      } in
-      let that : SideMoves (other s) s old new = record {
-        goes = goes-same (entity_at (other s) old) (entity_at (other s) new) f;
-        way = subst IsOneWay (sym back) (sound (other s)).way;
-        texts = [];
-        sent = ap pdus_sent back ∙ sym (append-nil (pdus_sent (way_from (other s) old)));
-        says = λ p heard first is x c. absurd (none-in x c);
-        more = [];
-        delivered = h.sends.delivered ∙ sym (append-nil (pdus_delivered (way_from s old)));
-        kept = λ heard first true_ k. subst (λ (x : EntityState). IsSoundEntity (put_of (seen new)) heard first x) (sym f) k;
-      } in
+      let this : SideMoves s (other s) old new =
+      resting s (other s) old new h.sends.way (ap (λ ps. pdus_in (busy ps)) h.sends.packets) (ap pdus_delivered back) (ap (λ x. x.entity.state) h.station) in
+      let that : SideMoves (other s) s old new =
+      resting (other s) s old new (subst IsOneWay (sym back) (sound (other s)).way) (ap pdus_sent back) h.sends.delivered (ap (λ x. x.entity.state) h.spares.station) in
       moves-kept old new sound (each-side s old new this that) h.counts.puts
 
   -- these PDUs were heard, in turn
@@ -399,17 +374,8 @@ module _ (laws : EntityLaws) (old new : WorldState) (sound : IsSound old) where
   pub delivered-moves : (s : Side) → DeliversFrame s old new → Moves old new
   delivered-moves s h =
       let back : way_from (other s) new ≡ way_from (other s) old = back-same s old new h.down h.back (ap (λ x. x.up) h.station) in
-      let e : entity_at s new ≡ entity_at s old = ap (λ x. x.entity.state) h.station in
-      let this : SideMoves s (other s) old new = record {
-        goes = goes-same (entity_at s old) (entity_at s new) e;
-        way = h.hears.way;
-        texts = [];
-        sent = ap (λ ps. pdus_in (busy ps)) h.hears.packets ∙ sym (append-nil (pdus_sent (way_from s old)));
-        says = λ p heard first is x c. absurd (none-in x c);
-        more = [];
-        delivered = ap pdus_delivered back ∙ sym (append-nil (pdus_delivered (way_from (other s) old)));
-        kept = λ heard first true_ k. subst (λ (x : EntityState). IsSoundEntity (put_of (seen new)) heard first x) (sym e) k;
-      } in
+      let this : SideMoves s (other s) old new =
+      resting s (other s) old new h.hears.way (ap (λ ps. pdus_in (busy ps)) h.hears.packets) (ap pdus_delivered back) (ap (λ x. x.entity.state) h.station) in
       let that : SideMoves (other s) s old new = record {
         goes = all-goes h.given (station_at (other s) old).entity (station_at (other s) new).entity h.heard;
         way = subst IsOneWay (sym back) (sound (other s)).way;
