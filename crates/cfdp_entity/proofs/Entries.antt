@@ -25,10 +25,10 @@ use Rattle.cfdp_sender.specs.State.{SenderState, opened_sender}
 use Rattle.cfdp_sender.specs.declared.transfer.Transfer.{Transfer}
 use Rattle.cfdp_entity.specs.declared.record.Record.{Record}
 use Rattle.cfdp_entity.specs.declared.record.Record.TheVariants as held
-use Rattle.cfdp_entity.specs.Seen.{Seen, seen, is_due, due_octets, due_len}
+use Rattle.cfdp_entity.specs.Seen.{Seen, seen, is_due, due_octets, due_len, carries_data}
 use Rattle.cfdp_entity.specs.Steps.{After, with_waits, Spoils}
 use Rattle.cfdp_entity.specs.Does.{Does, Keeps}
-use Rattle.cfdp_entity.specs.Table.{Entry, TableState, has_due, step_of, with_record, octets_due, len_due, SpoiledAt}
+use Rattle.cfdp_entity.specs.Table.{Entry, TableState, has_due, step_of, with_record, octets_due, len_due, data_due, SpoiledAt}
 use Rattle.cfdp_entity.specs.Whole.{Staged, entry_seen, entries_seen, state_of, AllReady, IsReadyRecord, IsWhole}
 
 pub same_id-itself : (a b : TransactionId) → a ≡ b → same_id a b ≡ true
@@ -333,6 +333,10 @@ due-nothing staged sources es i none = ap (octets_due sources) (no_entry staged 
 pub len-here : (staged : Staged) (sources : FileMap) (es : List (TransactionId × Record)) (i : ℕ) (id : TransactionId) (r : Record) → slice_get (keys_of es) i ≡ Some id → slice_get (values_of es) i ≡ Some r
     → len_due sources (slice_get (entries_seen staged es) i) ≡ due_len sources (seen (staged id) r)
 len-here staged sources es i id r at is = ap (len_due sources) (seen_at staged es i id r at is)
+
+pub data-here : (staged : Staged) (es : List (TransactionId × Record)) (i : ℕ) (id : TransactionId) (r : Record) → slice_get (keys_of es) i ≡ Some id → slice_get (values_of es) i ≡ Some r
+    → data_due (slice_get (entries_seen staged es) i) ≡ carries_data (seen (staged id) r)
+data-here staged es i id r at is = ap data_due (seen_at staged es i id r at is)
 
 pub len-nothing : (staged : Staged) (sources : FileMap) (es : List (TransactionId × Record)) (i : ℕ) → None ≡ slice_get (keys_of es) i → len_due sources (slice_get (entries_seen staged es) i) ≡ 0
 len-nothing staged sources es i none = ap (len_due sources) (no_entry staged es i none)

@@ -43,7 +43,7 @@ use Rattle.cfdp_entity.specs.declared.call.Call.{Call}
 use Rattle.cfdp_entity.specs.declared.call.Call.TheVariants as call
 use Rattle.cfdp_entity.specs.declared.record.Record.{Record}
 use Rattle.cfdp_entity.specs.declared.record.Record.TheVariants as held
-use Rattle.cfdp_entity.specs.Seen.{Seen, Sends, seen, octets_seen, due_octets, due_len, due_content, addressing_of, octets_of, len_of}
+use Rattle.cfdp_entity.specs.Seen.{Seen, Sends, seen, octets_seen, due_octets, due_len, due_content, addressing_of, octets_of, len_of, carries_by, carries_data}
 use Rattle.cfdp_entity.specs.Seen as seens
 use Rattle.cfdp_entity.specs.Steps.{After, by_sender, by_receiver, no_step, sender_after, receiver_after, hears, calls, called_sender, called_receiver, expires, takes, sender_takes, receiver_takes}
 use Rattle.cfdp_entity.specs.Does.{Does, Keeps}
@@ -339,7 +339,7 @@ module _ (times : Times) (id : TransactionId) (s : Record) (x x_now : SenderStat
   abbrev pub Took : List ℕ → List ℕ → Taken → Type 0
   Took out out_now Nothing = Steps (takes Done times sources files) × Gives (due_octets sources (seen (staged id) s)) (due_len sources (seen (staged id) s)) (Octets 0) out out_now
   Took out out_now (Moved n) = Steps (takes Done times sources files) × Gives (due_octets sources (seen (staged id) s)) (due_len sources (seen (staged id) s)) (Octets n) out out_now
-  Took out out_now SourceFailed = Steps (takes Refused times sources files)
+  Took out out_now SourceFailed = Steps (takes Refused times sources files) × (carries_data (seen (staged id) s) ≡ true)
 
   pub sender-took : (out out_now : List ℕ) (t : Taken) → sender_does.Takes times (octets_in sources x.source) (sender_due x) t x x_now told told_now timers timers_now out out_now → Took out out_now t
   sender-took out out_now t takes_so = by (sender_due x) refl t takes_so
@@ -359,7 +359,10 @@ module _ (times : Times) (id : TransactionId) (s : Record) (x x_now : SenderStat
         sender-sent Done (Some d) d due_is refl h.1,
         (h.0.end ∙ sym (len_is (Some d) due_is), record { front = h.0.front ∙ sym (octets_are (Some d) due_is); behind = h.0.behind }),
       )
-      by (Some d) due_is SourceFailed h = sender-sent Refused (Some d) d due_is refl h.1
+      by (Some d) due_is SourceFailed h = (
+        sender-sent Refused (Some d) d due_is refl h.1,
+        ap (λ (k : Record). carries_data (seen (staged id) k)) is ∙ ap carries_by due_is ∙ h.0,
+      )
       by None due_is (Moved n) h = absurd h
       by None due_is SourceFailed h = absurd h
       by (Some d) due_is Nothing h = absurd h

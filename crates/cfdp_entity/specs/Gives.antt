@@ -2,6 +2,7 @@
 use Rattle.std.specs.Prelude.{◌≡◌, ℕ, List, drop, take}
 use Rattle.cfdp_store.specs.declared.stored.Stored.{Stored}
 use Rattle.cfdp_store.specs.declared.stored.Stored.TheVariants.{Done, Refused}
+use Rattle.cfdp_store.specs.Stores.{Counts}
 use Rattle.cfdp_entity.specs.declared.record.Gave.{Gave}
 use Rattle.cfdp_entity.specs.declared.record.Gave.TheVariants.{Octets, Failed}
 
@@ -9,6 +10,11 @@ use Rattle.cfdp_entity.specs.declared.record.Gave.TheVariants.{Octets, Failed}
 abbrev pub stored_by_gave : Gave → Stored
 stored_by_gave (Octets n) = Done
 stored_by_gave Failed = Refused
+
+-- A step that the outbox refused was counted, and otherwise its failures are as they were.
+abbrev pub CountsOutbox : Stored → (before after : ℕ) → Type 0
+CountsOutbox Done before after = after ≡ before
+CountsOutbox Refused before after = Counts Refused before after
 
 -- So many octets were written over the first of `out`, and the others stay.
 pub record Writes (octets : List ℕ) (n : ℕ) (out_before out_now : List ℕ) : Type 0 where

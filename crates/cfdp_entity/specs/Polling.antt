@@ -1,5 +1,5 @@
 -- What a poll does.
-use Rattle.std.specs.Prelude.{◌≡◌, ◌≤◌, ◌<◌, ℕ, ◌+◌, List, [], ◌∷◌, Option, Some, None}
+use Rattle.std.specs.Prelude.{◌≡◌, ◌≤◌, ◌<◌, ℕ, ◌+◌, true, List, [], ◌∷◌, Option, Some, None}
 use Rattle.cfdp_store.specs.declared.stored.Stored.{Stored}
 use Rattle.cfdp_store.specs.declared.stored.Stored.TheVariants.{Done, Refused}
 use Rattle.cfdp_entity.specs.declared.polled.EntityPolled.{EntityPolled}
@@ -7,7 +7,7 @@ use Rattle.cfdp_entity.specs.declared.polled.EntityPolled.TheVariants.{Moved, No
 use Rattle.cfdp_entity.specs.Entity.{EntityState, Counted}
 use Rattle.cfdp_entity.specs.Gives.{Writes}
 use Rattle.cfdp_entity.specs.Strays.{StrayAck, stray_octets, stray_len}
-use Rattle.cfdp_entity.specs.Table.{next_due, due_at, len_at, taken_at}
+use Rattle.cfdp_entity.specs.Table.{next_due, due_at, len_at, data_at, taken_at}
 
 -- what has the next turn: a stray acknowledgement, with those behind it, or the record at a place
 pub data Turn : Type 0 where
@@ -54,10 +54,11 @@ pub record MovesPdu (n room : ℕ) (old new : EntityState) (out_before out_now :
   pub writes : Writes (turn_octets (turn old) old) n out_before out_now
   pub served : new ≡ served Done (turn old) old
 
--- The outbox failed to give the file data of a PDU that fits. What `out` then holds is left open.
+-- The outbox failed to give the file data of a PDU that fits, that of a sender. What `out` then holds is left open.
 pub record LosesPdu (room : ℕ) (old new : EntityState) : Type 0 where
   pub place : ℕ
   pub is_next : turn old ≡ Place place
+  pub carries : data_at place old.table ≡ true
   pub fits : turn_len (turn old) old ≤ room
   pub served : new ≡ served Refused (turn old) old
 

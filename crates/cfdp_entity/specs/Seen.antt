@@ -1,5 +1,5 @@
 -- What is seen of a record: the machine of its side, and while it receives, what is staged for it.
-use Rattle.std.specs.Prelude.{ℕ, Bool, List, [], is_some, Option, Some, None, unwrap_or, if◌then◌else◌}
+use Rattle.std.specs.Prelude.{ℕ, Bool, false, List, [], is_some, Option, Some, None, unwrap_or, if◌then◌else◌}
 use Rattle.std.specs.FinMap as map
 use Rattle.cfdp_header.specs.Files.{FileMap}
 use Rattle.cfdp_directives.specs.declared.addressing.Addressing.{Addressing}
@@ -66,6 +66,15 @@ due_octets sources s = octets_of (addressing_of s) (due_content sources s)
 
 abbrev pub due_len : FileMap → Seen → ℕ
 due_len sources s = len_of (addressing_of s) (due_content sources s)
+
+abbrev pub carries_by : Option SenderDue → Bool
+carries_by (Some d) = sends.carries d
+carries_by None = false
+
+-- whether the PDU that is due carries octets of a file
+abbrev pub carries_data : Seen → Bool
+carries_data (Sends x) = carries_by (sends.sender_due x)
+carries_data (Receives r m) = false
 
 -- how far a transaction has come
 abbrev pub phase_of : Seen → Phase

@@ -1,5 +1,5 @@
 -- A table of records with their timers: which one is served next, and one step of one record.
-use Rattle.std.specs.Prelude.{◌≡◌, ℕ, ◌+◌, Bool, List, [], ◌∷◌, ◌++◌, drop, position, slice_get, max, Option, Some, None}
+use Rattle.std.specs.Prelude.{◌≡◌, ℕ, ◌+◌, Bool, false, List, [], ◌∷◌, ◌++◌, drop, position, slice_get, max, Option, Some, None}
 use Rattle.std.specs.Option.{option_or, option_map}
 use Rattle.std.specs.Map.{lookup}
 use Rattle.std.specs.FinMap as finmap
@@ -19,7 +19,7 @@ use Rattle.cfdp_timers.specs.Armed.{Armed}
 use Rattle.cfdp_timers.specs.Due.{AreDue, still_armed}
 use Rattle.cfdp_sender.specs.declared.transfer.Transfer.{Transfer}
 use Rattle.cfdp_entity.specs.declared.call.Call.{Call}
-use Rattle.cfdp_entity.specs.Seen.{Seen, is_due, due_octets, due_len, phase_of}
+use Rattle.cfdp_entity.specs.Seen.{Seen, is_due, due_octets, due_len, carries_data, phase_of}
 use Rattle.cfdp_entity.specs.Steps.{After, with_waits, hears, expires, calls, takes, Spoils}
 use Rattle.cfdp_entity.specs.Opening.{puts, opens}
 
@@ -72,6 +72,14 @@ due_at place st = octets_due st.sources (slice_get st.records place)
 
 abbrev pub len_at : ℕ → TableState → ℕ
 len_at place st = len_due st.sources (slice_get st.records place)
+
+abbrev pub data_due : Option Entry → Bool
+data_due None = false
+data_due (Some e) = carries_data e.1
+
+-- whether that PDU carries octets of a file
+abbrev pub data_at : ℕ → TableState → Bool
+data_at place st = data_due (slice_get st.records place)
 
 abbrev pub phase_in : Option Entry → Option Phase
 phase_in (Some e) = Some (phase_of e.1)

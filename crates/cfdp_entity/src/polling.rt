@@ -1,14 +1,14 @@
 // What an entity sends.
-ghost use Rattle.std.specs.Prelude.{◌≡◌, ◌≤◌, ◌<◌, [], length, IfOk, OnErr};
+ghost use Rattle.std.specs.Prelude.{◌≡◌, ◌≤◌, ◌<◌, [], true, length, IfOk, OnErr};
 ghost use Rattle.cfdp_store.specs.declared.stored.Stored.TheVariants as storeds;
-ghost use Rattle.cfdp_store.specs.Stores.{Counts};
+ghost use Rattle.cfdp_entity.specs.declared.record.Gave.TheVariants as gaves;
 ghost use Rattle.cfdp_entity.specs.declared.polled.EntityPolled.TheVariants as answers;
-ghost use Rattle.cfdp_entity.specs.Gives.{Gives, stored_by_gave};
+ghost use Rattle.cfdp_entity.specs.Gives.{Gives, CountsOutbox, stored_by_gave};
 ghost use Rattle.cfdp_entity.specs.Polling.{Polls, Place, served, stored_by_poll};
 ghost use Rattle.cfdp_entity.specs.Sound.{longest_pdu};
 ghost use Rattle.cfdp_entity.specs.Spelled.{FirstIsSpelled, SpellsMoved};
 ghost use Rattle.cfdp_entity.specs.Strays.{first_stray_len};
-ghost use Rattle.cfdp_entity.specs.Table.{due_at, len_at};
+ghost use Rattle.cfdp_entity.specs.Table.{due_at, len_at, data_at};
 
 use crate::entity::Entity;
 use crate::polled::EntityPolled;
@@ -31,7 +31,7 @@ impl<O: Outbox, I: Inbox> Entity<O, I> {
         // Its octets are those of what it says.
         ensures spells { IfOk result (λ answer. SpellsMoved answer self.old.state) }
         ensures roomy { IfOk result (λ answer. answer ≡ answers.Full → room < longest_pdu) }
-        ensures counts { IfOk result (λ answer. Counts (stored_by_poll answer)
+        ensures counts { IfOk result (λ answer. CountsOutbox (stored_by_poll answer)
             self.old.outbox_failures self.new.outbox_failures) }
         ensures err { OnErr result ((self.new ≡ self.old) × (out.new ≡ out.old)) }
         ensures grows { self.old.inbox_failures ≤ self.new.inbox_failures }
@@ -83,7 +83,7 @@ impl<O: Outbox, I: Inbox> Entity<O, I> {
             out.new) }
         ensures spells { IfOk result (λ answer. SpellsMoved answer self.old.state) }
         ensures roomy { IfOk result (λ answer. answer ≡ answers.Full → room < longest_pdu) }
-        ensures counts { IfOk result (λ answer. Counts (stored_by_poll answer)
+        ensures counts { IfOk result (λ answer. CountsOutbox (stored_by_poll answer)
             self.old.outbox_failures self.new.outbox_failures) }
         ensures err { OnErr result ((self.new ≡ self.old) × (out.new ≡ out.old)) }
         ensures grows { self.old.inbox_failures ≤ self.new.inbox_failures }
@@ -108,7 +108,9 @@ impl<O: Outbox, I: Inbox> Entity<O, I> {
             ≡ served (stored_by_gave gave) (Place place) self.old.state) }
         ensures gives { IfOk result (λ gave. Gives (due_at place self.old.state.table)
             (len_at place self.old.state.table) gave out.old out.new) }
-        ensures counts { IfOk result (λ gave. Counts (stored_by_gave gave)
+        ensures data { IfOk result (λ gave. gave ≡ gaves.Failed → data_at place self.old.state.table
+            ≡ true) }
+        ensures counts { IfOk result (λ gave. CountsOutbox (stored_by_gave gave)
             self.old.outbox_failures self.new.outbox_failures) }
         ensures err { OnErr result ((self.new ≡ self.old) × (out.new ≡ out.old)) }
         ensures grows { self.old.inbox_failures ≤ self.new.inbox_failures }

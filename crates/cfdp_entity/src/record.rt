@@ -12,15 +12,16 @@ ghost use Rattle.cfdp_sender.specs.Due.{sender_due};
 ghost use Rattle.cfdp_receiver.specs.State.{IsReady};
 ghost use Rattle.cfdp_receiver.specs.Steps as machine;
 ghost use Rattle.cfdp_receiver.specs.Due.{receiver_due};
+ghost use Rattle.cfdp_entity.specs.declared.record.Gave.TheVariants as gaves;
 ghost use Rattle.cfdp_entity.specs.declared.record.Record.TheVariants as variants;
 ghost use Rattle.cfdp_entity.specs.Calling as calling;
 ghost use Rattle.cfdp_entity.specs.Seen as seens;
-ghost use Rattle.cfdp_entity.specs.Seen.{seen, is_due, due_octets};
+ghost use Rattle.cfdp_entity.specs.Seen.{seen, is_due, due_octets, carries_data};
 ghost use Rattle.cfdp_entity.specs.Steps as steps;
 ghost use Rattle.cfdp_entity.specs.Steps.{hears, expires, takes, sender_after, receiver_after, called_sender, called_receiver};
 ghost use Rattle.cfdp_entity.specs.Does.{Does, Keeps, spare};
 ghost use Rattle.cfdp_entity.specs.Sides.{Receives, ReceiverTook, ReceiverAcks, SenderDoes, SenderKeeps, ReceiverDoes, ReceiverKeeps};
-ghost use Rattle.cfdp_entity.specs.Gives.{Gives, stored_by_gave};
+ghost use Rattle.cfdp_entity.specs.Gives.{Gives, CountsOutbox, stored_by_gave};
 ghost use Rattle.cfdp_entity.specs.Sound.{longest_pdu};
 ghost use Rattle.cfdp_entity.specs.Spelled.{SeenIsSpelled};
 ghost use Rattle.cfdp_entity.specs.Whole.{IsReadyRecord, Staged};
@@ -218,7 +219,9 @@ impl Record {
         ensures gives { Gives (due_octets (O.files outbox.old) (seen
             (I.staged inbox.old id) self.old)) (seens.due_len (O.files outbox.old) (seen
             (I.staged inbox.old id) self.old)) result out.old out.new }
-        ensures counts { Counts (stored_by_gave result) (O.failures outbox.old)
+        ensures data { result ≡ gaves.Failed → carries_data (seen (I.staged inbox.old id) self.old)
+            ≡ true }
+        ensures counts { CountsOutbox (stored_by_gave result) (O.failures outbox.old)
             (O.failures outbox.new) }
         ensures sources { O.files outbox.new ≡ O.files outbox.old }
         ensures ready { IsReadyRecord (I.staged inbox.new) (O.files outbox.new) id self.new }

@@ -11,12 +11,13 @@ ghost use Rattle.cfdp_store.specs.Stores.{Counts};
 ghost use Rattle.cfdp_sender.specs.State.{IsSendable};
 ghost use Rattle.cfdp_sender.specs.Does.{HasFile};
 ghost use Rattle.cfdp_directives.specs.Addressing.{FitsAddressing};
+ghost use Rattle.cfdp_entity.specs.declared.record.Gave.TheVariants as gaves;
 ghost use Rattle.cfdp_entity.specs.Does.{spare};
 ghost use Rattle.cfdp_entity.specs.Opening.{CountsBoth};
-ghost use Rattle.cfdp_entity.specs.Gives.{Gives, stored_by_gave};
+ghost use Rattle.cfdp_entity.specs.Gives.{Gives, CountsOutbox, stored_by_gave};
 ghost use Rattle.cfdp_entity.specs.Sound.{longest_pdu};
 ghost use Rattle.cfdp_entity.specs.Spelled.{EntryIsSpelled};
-ghost use Rattle.cfdp_entity.specs.Table.{heard_at, expired_at, called_at, taken_at, octets_due, len_due, put_in, opened_by, SpoiledAt, phase_in};
+ghost use Rattle.cfdp_entity.specs.Table.{heard_at, expired_at, called_at, taken_at, octets_due, len_due, data_due, put_in, opened_by, SpoiledAt, phase_in};
 ghost use Rattle.cfdp_entity.specs.Calling as calling;
 ghost use Rattle.cfdp_entity.specs.Whole.{IsWhole, Staged, state_of, entries_seen};
 
@@ -217,7 +218,9 @@ pub(crate) fn take_at<O: Outbox, I: Inbox>(
     ensures gives { Gives (octets_due (O.files outbox.old) (slice_get (entries_seen
         (I.staged inbox.old) records.old.entries) place)) (len_due (O.files outbox.old) (slice_get
         (entries_seen (I.staged inbox.old) records.old.entries) place)) result out.old out.new }
-    ensures counts { Counts (stored_by_gave result) (O.failures outbox.old)
+    ensures data { result ≡ gaves.Failed → data_due (slice_get (entries_seen (I.staged inbox.old)
+        records.old.entries) place) ≡ true }
+    ensures counts { CountsOutbox (stored_by_gave result) (O.failures outbox.old)
         (O.failures outbox.new) }
     ensures grows { I.failures inbox.old ≤ I.failures inbox.new }
     ensures whole { IsWhole (I.staged inbox.new) (O.files outbox.new) records.new.entries ready.new

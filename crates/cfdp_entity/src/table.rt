@@ -1,5 +1,5 @@
 // Records with their timers and both stores.
-ghost use Rattle.std.specs.Prelude.{◌≡◌, ◌+◌, ◌≤◌, ◌<◌, ◌++◌, ◌*◌, max, None, Option, drop, length, slice_get, IfOk, IfSome, OnOk, OnErr, is_ok};
+ghost use Rattle.std.specs.Prelude.{◌≡◌, ◌+◌, ◌≤◌, ◌<◌, ◌++◌, ◌*◌, max, true, None, Option, drop, length, slice_get, IfOk, IfSome, OnOk, OnErr, is_ok};
 ghost use Rattle.std.specs.FinMap as map;
 ghost use Rattle.std.specs.Option.{option_map};
 ghost use Rattle.std.specs.List.{IsDistinct};
@@ -11,14 +11,15 @@ ghost use Rattle.cfdp_timers.specs.Due.{AreDue, due_count};
 ghost use Rattle.cfdp_store.specs.Stores.{Counts, failures_after};
 ghost use Rattle.cfdp_sender.specs.State.{IsSendable};
 ghost use Rattle.cfdp_sender.specs.Does.{HasFile};
+ghost use Rattle.cfdp_entity.specs.declared.record.Gave.TheVariants as gaves;
 ghost use Rattle.cfdp_entity.specs.Seen as seens;
 ghost use Rattle.cfdp_entity.specs.Calling as calling;
-ghost use Rattle.cfdp_entity.specs.Gives.{Gives, stored_by_gave};
+ghost use Rattle.cfdp_entity.specs.Gives.{Gives, CountsOutbox, stored_by_gave};
 ghost use Rattle.cfdp_entity.specs.Opening.{CountsBoth};
 ghost use Rattle.cfdp_entity.specs.Sound.{longest_pdu};
 ghost use Rattle.cfdp_entity.specs.Spelled.{EntryIsSpelled};
 ghost use Rattle.cfdp_entity.specs.Table as tables;
-ghost use Rattle.cfdp_entity.specs.Table.{heard_at, expired_at, called_at, taken_at, due_at, len_at, put_in, opened_by, next_due, first_table, all_expired, at_time, Ticks, SpoiledAt, phase_in};
+ghost use Rattle.cfdp_entity.specs.Table.{heard_at, expired_at, called_at, taken_at, due_at, len_at, data_at, put_in, opened_by, next_due, first_table, all_expired, at_time, Ticks, SpoiledAt, phase_in};
 
 use crate::call::Call;
 use crate::error::CallError;
@@ -246,7 +247,8 @@ impl<O: Outbox, I: Inbox> Table<O, I> {
         ensures taken { self.new.state ≡ taken_at (stored_by_gave result) place self.old.state }
         ensures gives { Gives (due_at place self.old.state) (len_at place self.old.state) result
             out.old out.new }
-        ensures counts { Counts (stored_by_gave result) self.old.outbox_failures
+        ensures data { result ≡ gaves.Failed → data_at place self.old.state ≡ true }
+        ensures counts { CountsOutbox (stored_by_gave result) self.old.outbox_failures
             self.new.outbox_failures }
         ensures grows { self.old.inbox_failures ≤ self.new.inbox_failures }
     {

@@ -1,8 +1,8 @@
 // What a station does to several of its parts at once.
 ghost use Rattle.std.specs.Prelude.{◌≡◌, ◌+◌, ◌<◌, ◌≤◌, length, take, IfOk, OnErr};
-ghost use Rattle.cfdp_store.specs.Stores.{Counts};
 ghost use Rattle.mpdu.specs.Feeding.{octets_of_each};
 ghost use Rattle.link_stack.specs.Downward as downward;
+ghost use Rattle.cfdp_entity.specs.Gives.{CountsOutbox};
 ghost use Rattle.cfdp_entity.specs.Polling.{turn};
 ghost use Rattle.cfdp_entity.specs.Sound.{SpellsTurn, longest_pdu};
 ghost use Rattle.cfdp_station.specs.declared.polled.Polled.TheVariants as answers;
@@ -41,7 +41,7 @@ pub(crate) fn move_one<O: Outbox, I: Inbox>(
     ensures roomy { IfOk result (λ answer. answer ≡ answers.Full
         → downward.room down.old < longest_pdu) }
     ensures err { OnErr result ((entity.new ≡ entity.old) × (down.new ≡ down.old)) }
-    ensures counts { IfOk result (λ answer. Counts (stored_by_poll answer)
+    ensures counts { IfOk result (λ answer. CountsOutbox (stored_by_poll answer)
         entity.old.outbox_failures entity.new.outbox_failures) }
     ensures grows { entity.old.inbox_failures ≤ entity.new.inbox_failures }
     ensures most { length down.old.waiting ≤ down.old.capacity + 2047 →

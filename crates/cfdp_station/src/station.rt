@@ -6,10 +6,11 @@ ghost use Rattle.link_stack.specs.Drops.{count_of};
 ghost use Rattle.link_stack.specs.Frames.{AreOfLink};
 ghost use Rattle.link_stack.specs.Upward.{IsUp};
 ghost use Rattle.link_stack.specs.Downward as downward;
-ghost use Rattle.cfdp_store.specs.Stores.{Counts, failures_after};
+ghost use Rattle.cfdp_store.specs.Stores.{failures_after};
 ghost use Rattle.cfdp_entity.specs.Calling.{IsRefusal};
 ghost use Rattle.cfdp_entity.specs.Calls.{IsCalled, call_refusal};
 ghost use Rattle.cfdp_entity.specs.Entity.{first_entity, with_table, phase_told};
+ghost use Rattle.cfdp_entity.specs.Gives.{CountsOutbox};
 ghost use Rattle.cfdp_entity.specs.Polling.{turn};
 ghost use Rattle.cfdp_entity.specs.Putting.{Accepts, put_refusal, IsPutRefusal, stored_by_error, was_answered};
 ghost use Rattle.cfdp_entity.specs.Sound.{SpellsTurn, longest_pdu};
@@ -265,7 +266,7 @@ impl<O: Outbox, I: Inbox> Station<O, I> {
         ensures roomy { IfOk result (λ answer. answer ≡ answers.Full
             → downward.room self.old.down < longest_pdu) }
         ensures err { OnErr result (self.new ≡ self.old) }
-        ensures counts { IfOk result (λ answer. Counts (stored_by_poll answer)
+        ensures counts { IfOk result (λ answer. CountsOutbox (stored_by_poll answer)
             self.old.entity.outbox_failures self.new.entity.outbox_failures) }
         ensures grows { self.old.entity.inbox_failures ≤ self.new.entity.inbox_failures }
         ensures ahead { (frames : ℕ) → HoldsAtMost frames self.old.down →

@@ -1,7 +1,7 @@
-use Rattle.std.proofs.Common.{refl, sym, ap, subst, length, ◌≤◌}
+use Rattle.std.proofs.Common.{◌∙◌, refl, sym, ap, subst, length, ◌≤◌}
 use Rattle.cfdp_timers.specs.Armed.{TimersState}
 use Rattle.cfdp_store.specs.declared.stored.Stored.TheVariants.{Done}
-use Rattle.cfdp_entity.proofs.Entries.{ready_at, state-step, whole-step, due-here, due-nothing, len-here, len-nothing, no_hole, below_flags, nothing}
+use Rattle.cfdp_entity.proofs.Entries.{ready_at, state-step, whole-step, due-here, due-nothing, data-here, len-here, len-nothing, no_hole, below_flags, nothing}
 use Rattle.std.specs.Prelude.{slice_get}
 use Rattle.cfdp_entity.specs.Gives.{stored_by_gave, Gives}
 use Rattle.cfdp_entity.specs.Seen.{seen, due_len}
@@ -42,6 +42,10 @@ returns-in-Some-get_index_mut-clause-whole g c =
 
 pub take-gave-requires-clause-fits : goal.take-gave-requires-clause-fits
 take-gave-requires-clause-fits g c = subst (λ n. n ≤ length c.args.out.now) (len-here (g.I.Inbox.staged c.args.inbox.now) (g.O.Outbox.files c.args.outbox.now) c.args.records.now.entries c.args.place c.in-Some.id c.in-Some-get_index_mut.record.now (sym c.in-Some.ensures) (sym c.in-Some-get_index_mut.ensures.value)) c.requires.fits
+
+pub returns-in-Some-get_index_mut-clause-data : goal.returns-in-Some-get_index_mut-clause-data
+returns-in-Some-get_index_mut-clause-data g c failed =
+    data-here (g.I.Inbox.staged c.args.inbox.now) c.args.records.now.entries c.args.place c.in-Some.id c.in-Some-get_index_mut.record.now (sym c.in-Some.ensures) (sym c.in-Some-get_index_mut.ensures.value) ∙ c.take-gave.ensures.data failed
 
 pub returns-in_default-clause-gives : goal.returns-in_default-clause-gives
 returns-in_default-clause-gives g c = (

@@ -28,13 +28,17 @@ pub returns-in-Moved-clause-ready : goal.returns-in-Moved-clause-ready
 returns-in-Moved-clause-ready g c =
     subst (λ f. IsReadyRecord (g.I.Inbox.staged c.args.inbox.now) f c.args.id (held.Sends c.take_pdu.new.self)) (sym c.in-Moved.ensures.files) (((sender-took c.args.policy.now.times c.args.id c.args.self.now c.in-Sends.sender c.take_pdu.new.self c.in-Sends.is (g.I.Inbox.staged c.args.inbox.now) (g.O.Outbox.files c.args.outbox.now) (g.I.Inbox.published c.args.inbox.now) c.args.told.now.items c.take_pdu.new.told.items c.args.timers.now c.take_pdu.new.timers c.requires.ready c.args.out.now c.take_pdu.new.out (Moved c.in-Moved.octets) c.in-Moved.ensures.takes).0.1))
 
+pub returns-in-SourceFailed-clause-data : goal.returns-in-SourceFailed-clause-data
+returns-in-SourceFailed-clause-data g c failed =
+    (sender-took c.args.policy.now.times c.args.id c.args.self.now c.in-Sends.sender c.take_pdu.new.self c.in-Sends.is (g.I.Inbox.staged c.args.inbox.now) (g.O.Outbox.files c.args.outbox.now) (g.I.Inbox.published c.args.inbox.now) c.args.told.now.items c.take_pdu.new.told.items c.args.timers.now c.take_pdu.new.timers c.requires.ready c.args.out.now c.take_pdu.new.out SourceFailed c.in-SourceFailed.ensures.takes).1
+
 pub returns-in-SourceFailed-clause-does : goal.returns-in-SourceFailed-clause-does
 returns-in-SourceFailed-clause-does g c =
-    (sender-took c.args.policy.now.times c.args.id c.args.self.now c.in-Sends.sender c.take_pdu.new.self c.in-Sends.is (g.I.Inbox.staged c.args.inbox.now) (g.O.Outbox.files c.args.outbox.now) (g.I.Inbox.published c.args.inbox.now) c.args.told.now.items c.take_pdu.new.told.items c.args.timers.now c.take_pdu.new.timers c.requires.ready c.args.out.now c.take_pdu.new.out SourceFailed c.in-SourceFailed.ensures.takes).0
+    (sender-took c.args.policy.now.times c.args.id c.args.self.now c.in-Sends.sender c.take_pdu.new.self c.in-Sends.is (g.I.Inbox.staged c.args.inbox.now) (g.O.Outbox.files c.args.outbox.now) (g.I.Inbox.published c.args.inbox.now) c.args.told.now.items c.take_pdu.new.told.items c.args.timers.now c.take_pdu.new.timers c.requires.ready c.args.out.now c.take_pdu.new.out SourceFailed c.in-SourceFailed.ensures.takes).0.0
 
 pub returns-in-SourceFailed-clause-ready : goal.returns-in-SourceFailed-clause-ready
 returns-in-SourceFailed-clause-ready g c =
-    subst (λ f. IsReadyRecord (g.I.Inbox.staged c.args.inbox.now) f c.args.id (held.Sends c.take_pdu.new.self)) (sym c.in-SourceFailed.ensures.files) (((sender-took c.args.policy.now.times c.args.id c.args.self.now c.in-Sends.sender c.take_pdu.new.self c.in-Sends.is (g.I.Inbox.staged c.args.inbox.now) (g.O.Outbox.files c.args.outbox.now) (g.I.Inbox.published c.args.inbox.now) c.args.told.now.items c.take_pdu.new.told.items c.args.timers.now c.take_pdu.new.timers c.requires.ready c.args.out.now c.take_pdu.new.out SourceFailed c.in-SourceFailed.ensures.takes).1))
+    subst (λ f. IsReadyRecord (g.I.Inbox.staged c.args.inbox.now) f c.args.id (held.Sends c.take_pdu.new.self)) (sym c.in-SourceFailed.ensures.files) (((sender-took c.args.policy.now.times c.args.id c.args.self.now c.in-Sends.sender c.take_pdu.new.self c.in-Sends.is (g.I.Inbox.staged c.args.inbox.now) (g.O.Outbox.files c.args.outbox.now) (g.I.Inbox.published c.args.inbox.now) c.args.told.now.items c.take_pdu.new.told.items c.args.timers.now c.take_pdu.new.timers c.requires.ready c.args.out.now c.take_pdu.new.out SourceFailed c.in-SourceFailed.ensures.takes).0.1))
 
 pub returns-in-Receives-clause-does : goal.returns-in-Receives-clause-does
 returns-in-Receives-clause-does g c =
