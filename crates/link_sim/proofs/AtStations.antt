@@ -1,10 +1,8 @@
 -- What an event does to one station and to what it sent, as the other end sees it.
-use Rattle.std.proofs.Common.{◌≡◌, ℕ, ◌+◌, ◌-◌, ◌%◌, ◌<◌, ◌≤◌, Bool, true, false, ◌||◌, ◌==◌, List, [], ◌∷◌, ◌++◌, length, refl, sym, ap, subst, ◌∙◌, inl, inr, arith, length-append}
-use Rattle.std.proofs.lemmas.Bool.{cases_Bool, cases_lt, le-leb, lt-leb}
-use Rattle.std.proofs.lemmas.List.{append-nil, length-replicate}
+use Rattle.std.proofs.Common.{◌≡◌, ℕ, ◌+◌, ◌-◌, ◌%◌, ◌<◌, Bool, true, false, ◌||◌, ◌==◌, List, [], ◌∷◌, ◌++◌, length, refl, sym, ap, subst, ◌∙◌, inl, inr, arith, length-append}
+use Rattle.std.proofs.lemmas.Bool.{cases_Bool}
+use Rattle.std.proofs.lemmas.List.{append-nil}
 use Rattle.std.proofs.Math.Nat.{mod-eq_of_lt}
-use Rattle.cfd_bits.proofs.Fields.{length-octets}
-use Rattle.space_packet.specs.Packet.{Parts, idle, header_octets}
 use Rattle.mpdu.specs.Packing.{flush_of, idle_packet, idle_len}
 use Rattle.mpdu.specs.Stream.{stream}
 use Rattle.mpdu.proofs.Packed.{idle_len-low}
@@ -23,9 +21,10 @@ use Rattle.link_sim.specs.declared.event.Refusal.TheVariants as refusal
 use Rattle.link_sim.specs.declared.event.AcceptedPut.{AcceptedPut}
 use Rattle.link_sim.specs.FrameLink.{FrameLinkState, oldest}
 use Rattle.link_sim.specs.AtStation.{IsSameLink, IsSameEnd, IsSameMarks, AddsNone, HearsAt, StrikesAt}
-use Rattle.link_sim.specs.OneWay.{OneWayState, IsOneWayOf, IsCarried, SendsMore, SendsNone, HearsMore, one_way, packets_sent}
+use Rattle.link_sim.specs.OneWay.{OneWayState, IsOneWayOf, IsCarried, IsRested, SendsMore, SendsNone, HearsMore, one_way, packets_sent}
 use Rattle.link_sim.specs.World.{WorldState, Strikes, seen_link}
 use Rattle.link_sim.proofs.Carried.{sent_on}
+use Rattle.link_sim.proofs.OnWayRests.{length-idle, idle_len-fills, rests-unflushed, rests-flushed}
 use Rattle.link_sim.proofs.Pulling.{pulled_none}
 use Rattle.link_sim.proofs.Receiving.{delivers, next_frame, strikes}
 use Rattle.link_sim.proofs.Sending.{new_way, way_is}
@@ -39,7 +38,7 @@ first_carried d u k link capacity len valid e down f up new fits =
     let is : IsOneWayOf (one_way d n u) [] = new_way d u link capacity valid e down f up in
     let all : IsCarried d n u = record {
       way = way_is (one_way d n u) [] is;
-      none_waits = omega (arith, ap (λ x. length x.waiting) e, ap (λ x. x.link.zone) e, valid.least_zone);
+      rested = rests-unflushed (one_way d n u) (omega (arith, ap (λ x. length x.waiting) e, ap (λ x. x.link.zone) e, valid.least_zone)) (ap (λ x. x.flushed) e);
       fits = fits;
     } in
     subst (λ (x : FrameLinkState). IsCarried d x u) (sym new) all
@@ -53,7 +52,8 @@ moved_on d e f k m n u pdu is same sent pulled fixed marks waits =
     let l : OneWayState = one_way d k u in
     let more : SendsMore l (one_way e k u) (packet_of d.link d.packet_count pdu ∷ []) (pdu ∷ []) =
     sends l e pdu is.way (sent.sends (packets_sent l) (length k.frames) is.way.sent.made) sent.carries sent.waiting sent.fixed.0 in
-    sent_on d e f k m n u (packet_of d.link d.packet_count pdu ∷ []) (pdu ∷ []) is same more pulled sent.fixed.0 fixed.0 marks.2 waits
+    let rested : IsRested (one_way f n u) = rests-unflushed (one_way f n u) (omega (arith, waits, ap (λ x. x.zone) fixed.0)) (fixed.3 ∙ sent.unflushed) in
+    sent_on d e f k m n u (packet_of d.link d.packet_count pdu ∷ []) (pdu ∷ []) is same more pulled sent.fixed.0 fixed.0 marks.2 (λ x. rested)
 
 -- room was made, a flush filled the begun zone, and frames were made of all whole zones
 pub filled_on : (d e f : LinkSenderState) (k m n : FrameLinkState) (u : LinkReceiverState) → IsCarried d k u → IsSameLink k m → Flushes d e → AddsNone e f m n →
@@ -62,21 +62,9 @@ filled_on d e f k m n u is same sent pulled fixed marks waits =
     let l : OneWayState = one_way d k u in
     let more : SendsMore l (one_way e k u) (flush_of (packing d)) [] =
     flushes l e is.way (sent.sends (packets_sent l) (length k.frames) is.way.sent.made) sent.same (sent.one, sent.idle) sent.waiting sent.fixed.0 in
-    sent_on d e f k m n u (flush_of (packing d)) [] is same more pulled sent.fixed.0 fixed.0 marks.2 waits
-
-length-header : (p : Parts) (n : ℕ) → length (header_octets p n) ≡ 6
-length-header p n = omega (arith, length-append {A = ℕ}, length-octets)
-
-length-idle : (n : ℕ) → 7 ≤ n → length (idle_packet n) ≡ n
-unfolding idle_packet
-length-idle n h =
-    let body : List ℕ = (idle n).body in
-    let all : length (header_octets (idle n) (length body) ++ body) ≡ length (header_octets (idle n) (length body)) + length body = length-append (header_octets (idle n) (length body)) body in
-    let rest : length body ≡ n - 6 = length-replicate (n - 6) 0 in
-    omega (arith, all, rest, length-header (idle n) (length body))
-
-idle_len-fills : (free : ℕ) → free ≤ idle_len free
-idle_len-fills free = elim (cases_lt free 7) [ inl c ↦ rw (lt-leb 7 free c) (omega arith) | inr c ↦ rw (le-leb 7 free c) (omega arith) ]
+    let room : length f.waiting < d.link.zone = omega (arith, waits, ap (λ x. x.zone) sent.fixed.0) in
+    let kept : flush_of (packing d) ≡ [] → f.flushed ≡ d.flushed = λ (x : flush_of (packing d) ≡ []). fixed.3 ∙ ap (λ y. y.flushed) (sent.same x) in
+    sent_on d e f k m n u (flush_of (packing d)) [] is same more pulled sent.fixed.0 fixed.0 marks.2 (λ x. rests-flushed l (one_way f n u) is.way is.rested x refl room kept)
 
 -- a flush that leaves no whole zone added nothing
 pub flushed_none : (d e : LinkSenderState) → Flushes d e → length e.waiting < d.link.zone → flush_of (packing d) ≡ []
@@ -104,15 +92,16 @@ delivered_at d k old new frame is there e taken =
     let after : OneWayState = record l { up = new.up; marks = l.marks ++ true ∷ []; run = 0 } in
     let r : (given : List (List ℕ)) × (taken.pdus ≡ [] ++ given) × HearsMore l after given =
     delivers l new.up [] taken.pdus is.way there (taken.given.next (packets_sent l) is.way.received.read k.run is.way.received.end (next_frame l frame is.way there e)) in
+    let is_rested : IsRested (one_way d (record k { marks = k.marks ++ true ∷ []; run = 0 }) new.up) = record { none_waits = is.rested.none_waits; filled = is.rested.filled } in
     let hears : HearsMore l after taken.pdus = subst (λ x. HearsMore l after x) (sym r.1) r.2 in
-    record { carried = record { way = hears.way; none_waits = is.none_waits; fits = is.fits }; given = taken.pdus; hears = hears; heard = taken.heard }
+    record { carried = record { way = hears.way; rested = is_rested; fits = is.fits }; given = taken.pdus; hears = hears; heard = taken.heard }
 
 -- ---- what is lost
 pub struck_at : (r : Applied) (d : LinkSenderState) (k m : FrameLinkState) (u : LinkReceiverState) → StrikesAt r k m → IsCarried d k u → IsCarried d m u × SendsNone (one_way d k u) (one_way d m u)
 struck_at did.Applied d k m u h is =
     let s : SendsNone (one_way d k u) (one_way d (record k { marks = k.marks ++ false ∷ []; run = k.run + 1 }) u) = strikes (one_way d k u) is.way h.waits h.few in
     subst (λ (x : FrameLinkState). IsCarried d x u × SendsNone (one_way d k u) (one_way d x u)) (sym h.marked)
-    (record { way = s.way; none_waits = is.none_waits; fits = is.fits }, s)
+    (record { way = s.way; rested = record { none_waits = is.rested.none_waits; filled = is.rested.filled }; fits = is.fits }, s)
 struck_at did.Nothing d k m u h is =
     subst (λ (x : FrameLinkState). IsCarried d x u × SendsNone (one_way d k u) (one_way d x u)) (sym h.1) (is, pulled_none (one_way d k u) is.way)
 struck_at (did.Refused (refusal.Put by)) d k m u h is = absurd h

@@ -32,6 +32,7 @@ use Rattle.link_sim.specs.Theorem.{at, put_of, completions_at}
 use Rattle.link_sim.specs.Observed.{seen}
 use Rattle.link_sim.specs.Sound.{IsSound}
 use Rattle.link_sim.proofs.Keeping.{at-done, at-inbox}
+use Rattle.link_sim.proofs.WithinWorld.{first-within}
 use Rattle.link_sim.proofs.Moving.{EntityLaws, Moves, none-in, same-moves, stays-moves, put-moves, called-moves, told-moves, sent-moves, failed-moves, filled-moves, delivered-moves, struck-moves}
 
 -- ---- the first world
@@ -78,6 +79,7 @@ module _ (c : WorldConfig) (outboxes inboxes : FileMap × FileMap) (w : WorldSta
             (law (put_of (seen w)) (pdus_delivered (way_from (other s) w)) (files_at s outboxes) (files_at s inboxes) (config-at s c).entity (config-first s));
         sent = λ text k. absurd (none-in text (subst (λ (l : List (List ℕ)). Contains l text) (ways s).0 k));
         peer = ap (λ (x : EntityState). x.config.peer) e ∙ peers s ∙ sym (ap (λ (x : EntityState). x.config.entity) (entity-first (other s)));
+        within = first-within c outboxes inboxes w is s;
         numbers = λ p k. absurd (none-in p (subst (λ (l : List AcceptedPut). Contains l p) is.puts k));
       }
 

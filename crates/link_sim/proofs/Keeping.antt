@@ -29,6 +29,8 @@ use Rattle.link_sim.specs.World.{WorldState, entity_at, way_from}
 use Rattle.link_sim.specs.Theorem.{at, put_of, completions_at, FoldsAt, CausedAt, ToldAt, TruthAt, HoldsAt}
 use Rattle.link_sim.specs.Observed.{seen}
 use Rattle.link_sim.specs.Sound.{SentTruly, IsSound}
+use Rattle.link_sim.specs.Work.{AreWithin}
+use Rattle.link_sim.specs.WorldWork.{most_offset}
 
 -- ---- two sides
 pub both : (P : Side → Type 0) (s : Side) → P s → P (other s) → (t : Side) → P t
@@ -155,7 +157,7 @@ module _ (grounds : Grounds) where
         ]
 
     -- what comes to a side is true
-    comes-true : (t : Side) (x : List ℕ) → Contains (moves t).more x → ComesTrue (entity_at t old).config.peer (put_of (seen new)) (pdus_delivered (way_from (other t) old) ++ (moves t).more) x
+    pub comes-true : (t : Side) (x : List ℕ) → Contains (moves t).more x → ComesTrue (entity_at t old).config.peer (put_of (seen new)) (pdus_delivered (way_from (other t) old) ++ (moves t).more) x
     comes-true t x c =
         let m = moves t in
         let came : Contains (pdus_delivered (way_from (other t) old) ++ m.more) x = Contains-append_right (pdus_delivered (way_from (other t) old)) m.more x c in
@@ -168,19 +170,20 @@ module _ (grounds : Grounds) where
         }
 
     -- the entity of a side, where more was put and heard but nothing was done
-    entity-then : (t : Side) → IsSoundEntity (put_of (seen new)) (pdus_delivered (way_from (other t) old) ++ (moves t).more) (sound t).first (entity_at t old)
+    pub entity-then : (t : Side) → IsSoundEntity (put_of (seen new)) (pdus_delivered (way_from (other t) old) ++ (moves t).more) (sound t).first (entity_at t old)
     entity-then t = grounds.more (put_of (seen old)) (put_of (seen new)) (pdus_delivered (way_from (other t) old)) (moves t).more (sound t).first (entity_at t old) puts.finds (sound t).entity
 
     entity-now : (t : Side) → IsSoundEntity (put_of (seen new)) (pdus_delivered (way_from (other t) old) ++ (moves t).more) (sound t).first (entity_at t new)
     entity-now t = (moves t).kept (pdus_delivered (way_from (other t) old) ++ (moves t).more) (sound t).first (comes-true t) (entity-then t)
 
-    pub sound-next : IsSound new
-    sound-next t = record {
+    pub sound-next : ((t : Side) → AreWithin most_offset (entity_at t new).table.records) → IsSound new
+    sound-next within t = record {
       way = (moves t).way;
       first = (sound t).first;
       entity = subst (λ (heard : List (List ℕ)). IsSoundEntity (put_of (seen new)) heard (sound t).first (entity_at t new)) (sym (moves t).delivered) (entity-now t);
       sent = sent-truly t;
       peer = ap (λ c. c.peer) (moves t).goes.config ∙ (sound t).peer ∙ sym (ap (λ c. c.entity) (moves (other t)).goes.config);
+      within = within t;
       numbers = puts.numbers t;
     }
 

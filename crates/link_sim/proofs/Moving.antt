@@ -140,10 +140,10 @@ each-side s old new this that =
 
 -- ---- puts that stay
 module _ (old new : WorldState) (sound : IsSound old) (goes : (t : Side) → GoesOn (entity_at t old) (entity_at t new)) where
-  sends-one : SendsSame (seen old).one (seen new).one
+  pub sends-one : SendsSame (seen old).one (seen new).one
   sends-one = let g = goes One in record { entity = ap (λ c. c.entity) g.config; kind = ap (λ c. c.checksum_kind) g.config; sources = g.sources }
 
-  sends-two : SendsSame (seen old).two (seen new).two
+  pub sends-two : SendsSame (seen old).two (seen new).two
   sends-two = let g = goes Two in record { entity = ap (λ c. c.entity) g.config; kind = ap (λ c. c.checksum_kind) g.config; sources = g.sources }
 
   number-kept : (t : Side) (p : AcceptedPut) → Contains old.puts p → p.id.source ≡ (entity_at t new).config.entity → p.id.number < (entity_at t new).next
@@ -186,7 +186,7 @@ same-moves old new sound e =
     subst (λ (w : WorldState). Moves old w) (sym e) (moves-kept old old sound (λ t. still t (other t) old old (sound t).way refl refl refl) refl)
 
 -- ---- the two entities
-apart : (old : WorldState) → IsSound old → (s : Side) → (entity_at s old).config.entity ≡ (entity_at (other s) old).config.entity → ⊥
+pub apart : (old : WorldState) → IsSound old → (s : Side) → (entity_at s old).config.entity ≡ (entity_at (other s) old).config.entity → ⊥
 apart old sound s e = (sound s).entity.config.ids.apart (e ∙ sym (sound s).peer)
 
 side-own : (old : WorldState) → IsSound old → (s : Side) → side_of (entity_at s old).config.entity (seen old) ≡ s
@@ -217,7 +217,7 @@ module _ (laws : EntityLaws) (old new : WorldState) (sound : IsSound old) where
     abbrev p : AcceptedPut
     p = record { id = h.id; source = source; destination = destination }
 
-    goes-at : (t : Side) → GoesOn (entity_at t old) (entity_at t new)
+    pub goes-at : (t : Side) → GoesOn (entity_at t old) (entity_at t new)
     goes-at = both (λ t. GoesOn (entity_at t old) (entity_at t new)) s
         (laws.put_on source destination h.id (entity_at s old) (entity_at s new) h.accepts)
         (goes-same (entity_at (other s) old) (entity_at (other s) new) (ap (λ x. x.entity.state) h.links.spares.station))
@@ -228,7 +228,7 @@ module _ (laws : EntityLaws) (old new : WorldState) (sound : IsSound old) where
     number : h.id.number ≡ (entity_at s old).next
     number = ap (λ (x : TransactionId). x.number) h.accepts.is_next
 
-    fresh : (q : AcceptedPut) → Contains old.puts q → q.id ≡ h.id → ⊥
+    pub fresh : (q : AcceptedPut) → Contains old.puts q → q.id ≡ h.id → ⊥
     fresh q c e =
         let below : q.id.number < (entity_at s old).next = (sound s).numbers q c (ap (λ (x : TransactionId). x.source) e ∙ own) in
         let same : q.id.number ≡ (entity_at s old).next = ap (λ (x : TransactionId). x.number) e ∙ number in
@@ -250,7 +250,7 @@ module _ (laws : EntityLaws) (old new : WorldState) (sound : IsSound old) where
     seen-here One = refl
     seen-here Two = refl
 
-    found-now : put_of (seen new) h.id ≡ Some (next_put source destination (entity_at s old))
+    pub found-now : put_of (seen new) h.id ≡ Some (next_put source destination (entity_at s old))
     found-now =
         let e = entity_at s old in
         let o : List ℕ = in-outbox.0 in

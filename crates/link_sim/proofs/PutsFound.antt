@@ -14,7 +14,7 @@ use Rattle.link_sim.specs.declared.event.AcceptedPut.{AcceptedPut}
 use Rattle.link_sim.specs.Theorem.{StationSeen, WorldSeen, at, accepted_as, side_of, with_octets, put_at, put_by, put_of}
 
 -- ---- among accepted puts
-accepted-id : (puts : List AcceptedPut) (id : TransactionId) (q : AcceptedPut) → accepted_as puts id ≡ Some q → q.id ≡ id
+pub accepted-id : (puts : List AcceptedPut) (id : TransactionId) (q : AcceptedPut) → accepted_as puts id ≡ Some q → q.id ≡ id
 accepted-id [] id q e = absurd cc
 accepted-id (x ∷ puts) id q e =
     elim (same_id x.id id) as (λ b. same_id x.id id ≡ b → (if b then Some x else accepted_as puts id) ≡ Some q → q.id ≡ id) [
@@ -41,7 +41,7 @@ accepted-right (x ∷ ps) qs id e =
     ] e
 
 -- one that is found is among them
-accepted-among : (puts : List AcceptedPut) (id : TransactionId) (q : AcceptedPut) → accepted_as puts id ≡ Some q → Contains puts q
+pub accepted-among : (puts : List AcceptedPut) (id : TransactionId) (q : AcceptedPut) → accepted_as puts id ≡ Some q → Contains puts q
 accepted-among [] id q e = absurd cc
 accepted-among (x ∷ puts) id q e =
     elim (same_id x.id id) as (λ b. (if b then Some x else accepted_as puts id) ≡ Some q → Contains (x ∷ puts) q) [
@@ -59,7 +59,7 @@ found-octets kind q (Some octets) put e =
     let is : record { id = q.id; source = q.source; destination = q.destination; octets = octets; checksum_kind = kind } ≡ put = cc in
     sym (ap (λ (x : Put). x.id) is)
 
-found-by : (w : WorldSeen) (o : Option AcceptedPut) (put : Put) → put_by w o ≡ Some put → (q : AcceptedPut) × ((o ≡ Some q) × (put.id ≡ q.id))
+pub found-by : (w : WorldSeen) (o : Option AcceptedPut) (put : Put) → put_by w o ≡ Some put → (q : AcceptedPut) × ((o ≡ Some q) × (put.id ≡ q.id))
 found-by w None put e = absurd cc
 found-by w (Some q) put e =
     let s : StationSeen = at (side_of q.id.source w) w in

@@ -1,11 +1,13 @@
 -- The receiving end of a direction: a frame is delivered or struck.
-use Rattle.std.proofs.Common.{◌≡◌, ℕ, zero, suc, ◌+◌, ◌*◌, ◌<◌, ◌≤◌, Bool, true, false, List, [], ◌∷◌, ◌++◌, ◌⊎◌, length, take, drop, replicate, get_or, refl, sym, ap, subst, ◌∙◌, inl, inr, arith, length-append}
+use Rattle.std.proofs.Common.{◌≡◌, ℕ, zero, suc, ◌+◌, ◌*◌, ◌<◌, ◌≤◌, ◌==◌, ◌&&◌, not, Bool, true, false, List, [], ◌∷◌, ◌++◌, ◌⊎◌, length, take, drop, replicate, get_or, refl, sym, ap, subst, ◌∙◌, inl, inr, arith, length-append}
+use Rattle.std.specs.List.{list_any}
 use Rattle.std.proofs.lemmas.List.{map-append, append-nil, append_assoc}
 use Rattle.mpdu.specs.Stream.{survivors}
 use Rattle.mpdu.proofs.Struck.{survivors-struck}
 use Rattle.link_stack.specs.Frames.{frame_of, pdus_in}
-use Rattle.link_stack.specs.Drops.{count_of}
-use Rattle.link_stack.specs.Upward.{LinkReceiverState, IsUp, IsNextFrame, TakesNext, TakesNextFront}
+use Rattle.mpdu.specs.Reading.{is_some}
+use Rattle.link_stack.specs.Drops.{count_of, all_counted}
+use Rattle.link_stack.specs.Upward.{LinkReceiverState, IsUp, IsNextFrame, TakesNext, TakesNextFront, zone_drops}
 use Rattle.link_stack.proofs.Grown.{struck_is_missed}
 use Rattle.mpdu.specs.Parts.{IsPartOf, CompletesMore}
 use Rattle.link_sim.specs.OneWay.{OneWayState, packets_sent, IsReceived, IsOneWayOf, IsOneWay, HearsMore, SendsNone, EndsStruck}
@@ -40,6 +42,18 @@ record Hears (up new : LinkReceiverState) (ps : List (List ℕ)) (marks : List B
   pub added : out ≡ old ++ given
   pub part : IsPartOf given more
   pub all : count_of new.drops 11 ≡ 0 → given ≡ more
+  pub clear : list_any not marks ≡ false → count_of new.drops 11 ≡ 0 → new.drops ≡ up.drops
+  pub memory : count_of new.drops 11 ≡ 0 → count_of up.drops 11 ≡ 0
+
+-- where no frame was struck, none was of late
+false-behind : (before : List Bool) (n : ℕ) → list_any not (before ++ replicate n false) ≡ false → n ≡ 0
+false-behind [] zero none = refl
+false-behind [] (suc n) none = absurd cc
+false-behind (true ∷ before) n none = false-behind before n none
+false-behind (false ∷ before) n none = absurd cc
+
+none-struck : (marks : List Bool) (run : ℕ) → EndsStruck marks run → list_any not marks ≡ false → run ≡ 0
+none-struck marks run h none = false-behind h.before run (ap (list_any not) (sym h.joined) ∙ none)
 
 stripped : (xs ys zs : List (List ℕ)) → xs ++ ys ≡ xs ++ zs → ys ≡ zs
 stripped [] ys zs e = e
@@ -74,6 +88,8 @@ heard_next up new ps marks run old out r t =
       added = t.pdus;
       part = part-map (λ p. drop 6 p) t.added m.more m.part;
       all = λ e. ap pdus_in (same e);
+      clear = λ none e. t.drops ∙ ap (λ n. all_counted up.drops (zone_drops (not (n == 0) && is_some up.begun) 0)) (none-struck marks run r.struck none);
+      memory = λ e. sym kept ∙ e;
     }
 
 heard_front : (up new : LinkReceiverState) (ps : List (List ℕ)) (marks : List Bool) (run : ℕ) (old out : List (List ℕ)) →
@@ -97,6 +113,8 @@ heard_front up new ps marks run old out r t =
       added = t.pdus;
       part = part-map (λ p. drop 6 p) (take t.count t.added) m.more few;
       all = λ e. absurd (told e);
+      clear = λ none e. absurd (told e);
+      memory = λ e. absurd (told e);
     }
 
 pub next_frame : (l : OneWayState) (frame : List ℕ) → (is : IsOneWay l) → length l.marks < length l.frames → frame ≡ get_or l.frames (length l.marks) [] → IsNextFrame l.up.link (packets_sent l) is.received.read frame
@@ -129,7 +147,7 @@ delivers l new old out is there taken =
       sent = record { valid = is.sent.valid; made = is.sent.made; frames = is.sent.frames; octets = is.sent.octets; taken = room };
       received = h.received;
     } in
-    let hears : HearsMore l after h.given = record { way = way_is after ps way; packets = refl; more = h.more; delivered = h.delivered; part = h.part; all = h.all } in
+    let hears : HearsMore l after h.given = record { way = way_is after ps way; packets = refl; more = h.more; delivered = h.delivered; part = h.part; all = h.all; clear = h.clear; memory = h.memory } in
     (h.given, h.added, hears)
 
 -- A frame was struck.

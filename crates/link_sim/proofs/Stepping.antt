@@ -3,10 +3,15 @@ use Rattle.std.specs.Prelude.{Result, Ok, Err, IfOk, OnErr}
 use Rattle.std.specs.declared.alloc.AllocError.{AllocError}
 use Rattle.link_sim.specs.declared.event.Event.{Event}
 use Rattle.link_sim.specs.declared.event.Applied.{Applied}
-use Rattle.link_sim.specs.World.{WorldState, Stays, Steps, side_in}
+use Rattle.link_sim.specs.World.{WorldState, FindsNoMemory, Stays, Steps, side_in}
 
 -- what follows of each step, and of none, follows
 pub by-step : (P : WorldState → WorldState → Type 0) (e : Event) (old new : WorldState) → ((did : Applied) → Steps e did old new → P old new) → (Stays (side_in e) old new → P old new) →
-    (r : Result Applied AllocError) → IfOk r (λ did. Steps e did old new) → OnErr r (Stays (side_in e) old new) → P old new
+    (r : Result Applied AllocError) → IfOk r (λ did. Steps e did old new) → OnErr r (FindsNoMemory (side_in e) old new) → P old new
 by-step P e old new step none (Ok did) s k = step did s
-by-step P e old new step none (Err x) s k = none k
+by-step P e old new step none (Err x) s k = none k.stays
+
+-- what follows of each answer follows of the one that came
+pub ok-then : {X E : Type 0} (P Q : X → Type 0) → ((x : X) → P x → Q x) → (r : Result X E) → IfOk r P → IfOk r Q
+ok-then P Q h (Ok x) p = h x p
+ok-then P Q h (Err e) p = p

@@ -1,6 +1,6 @@
 -- What an event does to one station and to the frames that it sent, whatever the end is that
 -- receives them: it belongs to the other station.
-use Rattle.std.specs.Prelude.{◌≡◌, ◌≢◌, ◌⊎◌, ℕ, ◌+◌, ◌<◌, ◌≤◌, ◌++◌, false, List, [], ◌∷◌, length, Result, Ok, Err, alloc_error}
+use Rattle.std.specs.Prelude.{◌≡◌, ◌≢◌, ◌⊎◌, ℕ, ◌+◌, ◌<◌, ◌≤◌, ◌++◌, false, true, List, [], ◌∷◌, length, Result, Ok, Err, alloc_error}
 use Rattle.std.specs.declared.alloc.AllocError.{AllocError}
 use Rattle.cfdp_header.specs.declared.value.TransactionId.{TransactionId}
 use Rattle.mpdu.specs.Packing.{flush_of}
@@ -8,14 +8,16 @@ use Rattle.link_stack.specs.Frames.{packet_of}
 use Rattle.link_stack.specs.Downward.{LinkSenderState, packing}
 use Rattle.link_stack.specs.Upward.{LinkReceiverState}
 use Rattle.cfdp_store.specs.declared.stored.Stored.TheVariants as storeds
+use Rattle.cfdp_store.specs.Stores.{Counts, failures_after}
 use Rattle.cfdp_entity.specs.declared.error.PutError.{PutError}
 use Rattle.cfdp_entity.specs.declared.error.PutError.TheVariants as put_errors
 use Rattle.cfdp_entity.specs.declared.error.CallError.{CallError}
 use Rattle.cfdp_entity.specs.declared.error.CallError.TheVariants as call_errors
-use Rattle.cfdp_entity.specs.Entity.{EntityState}
-use Rattle.cfdp_entity.specs.Polling.{Rests, turn, served}
-use Rattle.cfdp_entity.specs.Putting.{Accepts, IsPutRefusal, put_refusal, stored_by_error}
+use Rattle.cfdp_entity.specs.Entity.{Counted}
+use Rattle.cfdp_entity.specs.Polling.{Place, Rests, turn, served}
+use Rattle.cfdp_entity.specs.Putting.{Accepts, IsPutRefusal, put_refusal, stored_by_error, was_answered}
 use Rattle.cfdp_entity.specs.Sound.{SpellsTurn}
+use Rattle.cfdp_entity.specs.Table.{data_at}
 use Rattle.cfdp_station.specs.Polling.{next_pdu}
 use Rattle.cfdp_station.specs.Station.{StationState}
 use Rattle.cfdp_station.specs.Taking.{HearsAll}
@@ -35,10 +37,10 @@ IsSameLink old new = (new.frames ≡ old.frames) × (new.marks ≡ old.marks) ×
 abbrev pub IsSameMarks : (old new : FrameLinkState) → Type 0
 IsSameMarks old new = (new.marks ≡ old.marks) × (new.run ≡ old.run) × (new.len ≡ old.len)
 
--- The link, the capacity and the count of packets are as they were.
+-- The link, the capacity, the count of packets, and whether a flush came last, are as they were.
 abbrev pub IsSameEnd : (old new : LinkSenderState) → Type 0
 IsSameEnd old new = (new.link ≡ old.link) × (new.capacity ≡ old.capacity)
-    × (new.packet_count ≡ old.packet_count)
+    × (new.packet_count ≡ old.packet_count) × (new.flushed ≡ old.flushed)
 
 -- Nothing of the direction is added to what was sent or delivered.
 abbrev pub AddsNone : (old new : LinkSenderState) → (link link_now : FrameLinkState) → Type 0
@@ -68,23 +70,42 @@ abbrev pub SendsAt : (old new : LinkSenderState) → (link link_now : FrameLinkS
 SendsAt old new link link_now qs texts = (up : LinkReceiverState) → IsCarried old link up
     → SendsMore (one_way old link up) (one_way new link_now up) qs texts
 
+-- ---- failures of the stores
+-- No failure of either store was counted.
+abbrev pub KeepsFailures : (old new : Counted) → Type 0
+KeepsFailures old new =
+    (new.outbox_failures ≡ old.outbox_failures) × (new.inbox_failures ≡ old.inbox_failures)
+
+-- No failure of the outbox was counted; those of the inbox didn't fall.
+abbrev pub KeepsOutbox : (old new : Counted) → Type 0
+KeepsOutbox old new =
+    (new.outbox_failures ≡ old.outbox_failures) × (old.inbox_failures ≤ new.inbox_failures)
+
+-- A put was refused by this cause: a failure of the outbox was counted where that is it.
+abbrev pub CountsPut : PutError → (old new : Counted) → Type 0
+CountsPut by old new =
+    (new.outbox_failures ≡ failures_after old.outbox_failures (was_answered {X = TransactionId} (Err by)))
+    × (new.inbox_failures ≡ old.inbox_failures)
+
 -- ---- calls of the station's user
 -- A put was accepted, and is the last one now.
-pub record TakesPutAt (source destination : List ℕ) (old new : EntityState)
+pub record TakesPutAt (source destination : List ℕ) (old new : Counted)
     (puts puts_now : List AcceptedPut) : Type 0 where
   pub id : TransactionId
-  pub accepts : Accepts source destination id old new
+  pub accepts : Accepts source destination id old.state new.state
+  pub failures : KeepsFailures old new
   pub added : puts_now ≡ puts ++ record { id = id; source = source; destination = destination } ∷ []
 
--- A put was refused by this cause, and nothing changed.
-pub record RefusesPutAt (source destination : List ℕ) (by : PutError) (old new : EntityState)
+-- A put was refused by this cause, and nothing else changed.
+pub record RefusesPutAt (source destination : List ℕ) (by : PutError) (old new : Counted)
     (puts puts_now : List AcceptedPut) : Type 0 where
   pub no_memory : by ≢ put_errors.NoMemory
-  pub cause : IsPutRefusal (put_refusal (stored_by_error by) source destination old) by
-  pub same : new ≡ old
+  pub cause : IsPutRefusal (put_refusal (stored_by_error by) source destination old.state) by
+  pub same : new.state ≡ old.state
+  pub failures : CountsPut by old new
   pub same_puts : puts_now ≡ puts
 
-abbrev pub PutsAt : Applied → (source destination : List ℕ) → (old new : EntityState)
+abbrev pub PutsAt : Applied → (source destination : List ℕ) → (old new : Counted)
     → (puts puts_now : List AcceptedPut) → Type 0
 PutsAt did.Applied source destination old new puts puts_now =
     TakesPutAt source destination old new puts puts_now
@@ -108,11 +129,17 @@ answered (Err call_errors.NoMemory) = Err alloc_error
 pub record SendsOneAt (old new : StationState) (link link_now : FrameLinkState) : Type 0 where
   pub served : new.entity.state ≡ served storeds.Done (turn old.entity.state) old.entity.state
   pub spells : SpellsTurn (turn old.entity.state) old.entity.state
+  pub failures : KeepsOutbox old.entity new.entity
   pub sends : let pdu = next_pdu old.entity.state in SendsAt old.down new.down link link_now
       (packet_of old.down.link old.down.packet_count pdu ∷ []) (pdu ∷ [])
 
--- The outbox failed to give file data: no PDU moved.
+-- The outbox failed to give the file data that were due, and that was counted: no PDU moved.
 pub record FailsAt (old new : StationState) (link link_now : FrameLinkState) : Type 0 where
+  pub place : ℕ
+  pub is_next : turn old.entity.state ≡ Place place
+  pub carries : data_at place old.entity.state.table ≡ true
+  pub counts : Counts storeds.Refused old.entity.outbox_failures new.entity.outbox_failures
+  pub inbox : old.entity.inbox_failures ≤ new.entity.inbox_failures
   pub served : new.entity.state ≡ served storeds.Refused (turn old.entity.state) old.entity.state
   pub down : new.down ≡ old.down
   pub same_link : IsSameLink link link_now

@@ -1,5 +1,6 @@
 -- One direction of a link: what was sent, what became of its frames, and what was delivered.
-use Rattle.std.specs.Prelude.{◌≡◌, ℕ, ◌+◌, ◌<◌, ◌≤◌, ◌⊎◌, Bool, true, false, List, [], ◌∷◌, ◌++◌, length, drop, map, replicate, slice_index_or}
+use Rattle.std.specs.Prelude.{◌≡◌, ℕ, ◌+◌, ◌*◌, ◌<◌, ◌≤◌, ◌⊎◌, Bool, true, false, List, [], ◌∷◌, ◌++◌, length, drop, map, not, replicate, slice_index_or, nat_le, if◌then◌else◌}
+use Rattle.std.specs.List.{list_any}
 use Rattle.aos_frame.specs.Frame.{IsLink}
 use Rattle.mpdu.specs.Stream.{stream, survivors}
 use Rattle.mpdu.specs.Packets.{packets_of, busy}
@@ -44,6 +45,17 @@ pdus_sent w = pdus_in (busy (packets_sent w))
 abbrev pub pdus_delivered : OneWayState → List (List ℕ)
 pdus_delivered w = pdus_in (survivors w.up.link.zone w.marks 0 (packets_sent w))
 
+-- ---- what is on its way
+-- of packets that begin at an octet, in a row, those that end behind a limit
+abbrev pub behind : (limit from : ℕ) → List (List ℕ) → List (List ℕ)
+behind limit from [] = []
+behind limit from (p ∷ ps) =
+    if nat_le (from + length p) limit then behind limit (from + length p) ps else p ∷ ps
+
+-- the PDUs on their way: those of the packets of which an octet is still to be taken, in order
+abbrev pub on_way : OneWayState → List (List ℕ)
+on_way w = pdus_in (busy (behind (length w.marks * w.down.link.zone) 0 (packets_sent w)))
+
 -- ---- what every direction keeps
 -- The end that sends, where its stream is these packets.
 pub record IsSent (w : OneWayState) (ps : List (List ℕ)) : Type 0 where
@@ -78,10 +90,16 @@ pub record IsOneWayOf (w : OneWayState) (ps : List (List ℕ)) : Type 0 where
 abbrev pub IsOneWay : OneWayState → Type 0
 IsOneWay w = IsOneWayOf w (packets_sent w)
 
--- between events: no whole zone waits, and the buffers fit the link's frames
+-- Between events no whole zone waits, and behind a flush nothing but octets of its idle packet.
+pub record IsRested (w : OneWayState) : Type 0 where
+  pub none_waits : length w.down.waiting < w.down.link.zone
+  pub filled : w.down.flushed ≡ true →
+      busy (behind (length w.frames * w.down.link.zone) 0 (packets_sent w)) ≡ []
+
+-- between events; and the buffers fit the link's frames
 pub record IsCarried (down : LinkSenderState) (link : FrameLinkState) (up : LinkReceiverState) : Type 0 where
   pub way : IsOneWay (one_way down link up)
-  pub none_waits : length down.waiting < down.link.zone
+  pub rested : IsRested (one_way down link up)
   pub fits : link.len ≡ 8 + down.link.zone
 
 -- ---- what the steps do
@@ -98,8 +116,8 @@ pub record SendsNone (old new : OneWayState) : Type 0 where
   pub packets : packets_sent new ≡ packets_sent old
   pub delivered : pdus_delivered new ≡ pdus_delivered old
 
--- A frame was delivered: `more` are the PDUs that it delivers, of which `given` were given, in order:
--- all of them, where no drop was counted for want of memory (number 11).
+-- A frame was delivered: `more` are the PDUs that it delivers, of which `given` were given, in
+-- order: all of them, where no drop was counted for want of memory (number 11).
 pub record HearsMore (old new : OneWayState) (given : List (List ℕ)) : Type 0 where
   pub way : IsOneWay new
   pub packets : packets_sent new ≡ packets_sent old
@@ -107,3 +125,8 @@ pub record HearsMore (old new : OneWayState) (given : List (List ℕ)) : Type 0 
   pub delivered : pdus_delivered new ≡ pdus_delivered old ++ more
   pub part : IsPartOf given more
   pub all : count_of new.up.drops 11 ≡ 0 → given ≡ more
+  -- nothing was dropped there, where no frame was lost before either
+  pub clear : list_any not old.marks ≡ false → count_of new.up.drops 11 ≡ 0
+      → new.up.drops ≡ old.up.drops
+  -- a drop that was counted so stays counted
+  pub memory : count_of new.up.drops 11 ≡ 0 → count_of old.up.drops 11 ≡ 0

@@ -1,13 +1,20 @@
 -- What a settled world is, and what ends a settling before.
-use Rattle.std.specs.Prelude.{◌≡◌, ℕ, List, [], codes}
+use Rattle.std.specs.Prelude.{◌≡◌, ◌≢◌, ◌⊎◌, ℕ, ◌-◌, ◌^◌, ◌<◌, List, [], ◌∷◌, get_or, codes}
 use Rattle.mpdu.specs.Packing.{flush_of}
 use Rattle.link_stack.specs.Downward.{packing}
+use Rattle.link_stack.specs.Drops.{count_of}
 use Rattle.cfdp_entity.specs.Polling.{Rests, turn}
+use Rattle.cfdp_station.specs.Station.{StationState}
 use Rattle.link_sim.specs.declared.side.Side.{Side}
+use Rattle.link_sim.specs.declared.event.Event.{Event}
+use Rattle.link_sim.specs.declared.event.Event.TheVariants as event
+use Rattle.link_sim.specs.declared.event.Applied.{Applied}
+use Rattle.link_sim.specs.declared.shortages.Shortages.{Shortages}
 use Rattle.link_sim.specs.declared.settle_error.SettleError.{SettleError}
-use Rattle.link_sim.specs.declared.settle_error.SettleError.TheVariants.{NoMemory, StoreFailed, TableFull, Unfinished}
+use Rattle.link_sim.specs.declared.settle_error.SettleError.TheVariants.{NoMemory, StoreFailed, TableFull}
+use Rattle.link_sim.specs.Clean.{IsClean}
 use Rattle.link_sim.specs.Theorem.{WorldSeen, HoldsAt, Follows}
-use Rattle.link_sim.specs.World.{WorldState, station_at, entity_at, NoneWaits}
+use Rattle.link_sim.specs.World.{WorldState, FindsNoMemory, NoneWaits, Steps, station_at, entity_at, side_in}
 
 -- Nothing is due at either station, no flush would make a frame, and no frame waits.
 pub record IsSettledAt (s : Side) (w : WorldState) : Type 0 where
@@ -28,15 +35,111 @@ pub record LeadsTo (old new : WorldSeen) : Type 0 where
   pub follows : ((s : Side) → HoldsAt s old) → Follows old new
   pub holds : ((s : Side) → HoldsAt s old) → (s : Side) → HoldsAt s new
 
+-- ---- what a settling does
+-- its events
+abbrev pub IsOfSettling : Event → Type 0
+IsOfSettling (event.Poll s) = Unit {0}
+IsOfSettling (event.Flush s) = Unit {0}
+IsOfSettling (event.Deliver s) = Unit {0}
+IsOfSettling _ = ⊥
+
+-- These polls, flushes and deliveries led from the old world to the new one, one after another.
+abbrev pub AreOfSettling : List (Event × Applied) → (old new : WorldState) → Type 0
+AreOfSettling [] old new = new ≡ old
+AreOfSettling (s ∷ steps) old new = (mid : WorldState)
+    × IsOfSettling s.0 × Steps s.0 s.1 old mid × AreOfSettling steps mid new
+
+-- Nothing but such events did: nothing was put, lost or cancelled, and no time was told.
+pub record OnlySettles (old new : WorldState) : Type 0 where
+  pub steps : List (Event × Applied)
+  pub are : AreOfSettling steps old new
+
+-- ---- what ends a settling before
+-- how often a station was short: of memory on its link and at its entity, of its stores, and of room
+-- for a transaction or an acknowledgement
+abbrev pub shortages : StationState → Shortages
+shortages s = record {
+  link_memory = count_of s.up.drops 11;
+  memory = get_or s.entity.state.drops 16 0;
+  outbox = s.entity.outbox_failures;
+  inbox = s.entity.inbox_failures;
+  table = get_or s.entity.state.drops 15 0;
+}
+
+-- The count differs, so it rose, as none falls; or it stands at the greatest value, where one more
+-- wouldn't show, so that is taken for a rise.
+abbrev pub HasRisen : (before after : ℕ) → Type 0
+HasRisen before after = (after ≢ before) ⊎ (after ≡ 2 ^ 64 - 1)
+
+abbrev pub IsSpared : (before after : ℕ) → Type 0
+IsSpared before after = (after ≡ before) × (after < 2 ^ 64 - 1)
+
+-- At a station a count rose that this error tells of.
+abbrev pub RisesAt : SettleError → (before after : Shortages) → Type 0
+RisesAt NoMemory before after =
+    HasRisen before.link_memory after.link_memory ⊎ HasRisen before.memory after.memory
+RisesAt StoreFailed before after =
+    HasRisen before.outbox after.outbox ⊎ HasRisen before.inbox after.inbox
+RisesAt TableFull before after = HasRisen before.table after.table
+
+-- None did.
+abbrev pub KeepsAt : SettleError → (before after : Shortages) → Type 0
+KeepsAt NoMemory before after =
+    IsSpared before.link_memory after.link_memory × IsSpared before.memory after.memory
+KeepsAt StoreFailed before after =
+    IsSpared before.outbox after.outbox × IsSpared before.inbox after.inbox
+KeepsAt TableFull before after = IsSpared before.table after.table
+
+-- those of both stations
+abbrev pub all_shortages : WorldState → Shortages × Shortages
+all_shortages w = (shortages w.one, shortages w.two)
+
+abbrev pub Rises : SettleError → (before after : Shortages × Shortages) → Type 0
+Rises error before after = RisesAt error before.0 after.0 ⊎ RisesAt error before.1 after.1
+
+abbrev pub Keeps : SettleError → (before after : Shortages × Shortages) → Type 0
+Keeps error before after = KeepsAt error before.0 after.0 × KeepsAt error before.1 after.1
+
+-- No count that tells of a shortage differs at either station; and had one risen, it would show.
+pub record KeepsAll (before after : Shortages × Shortages) : Type 0 where
+  pub memory : Keeps NoMemory before after
+  pub stores : Keeps StoreFailed before after
+  pub tables : Keeps TableFull before after
+
+-- A count that this error tells of rose, and none of an error with a lower number.
+abbrev pub RisesFirst : SettleError → (before after : Shortages × Shortages) → Type 0
+RisesFirst NoMemory before after = Rises NoMemory before after
+RisesFirst StoreFailed before after = Rises StoreFailed before after × Keeps NoMemory before after
+RisesFirst TableFull before after =
+    Rises TableFull before after × Keeps StoreFailed before after × Keeps NoMemory before after
+
+-- Polls, flushes and deliveries led from the old world to the new one, nothing was short meanwhile
+-- (no count of it differs, and none falls), and a clean world stayed clean.
+pub record GoesWell (old new : WorldState) : Type 0 where
+  pub only : OnlySettles old new
+  pub spared : KeepsAll (all_shortages old) (all_shortages new)
+  pub clean : IsClean old → IsClean new
+
+-- An event of it ended a settling with this error: that happened in it, or it found no memory.
+abbrev pub Ends : SettleError → Event → (old new : WorldState) → Type 0
+Ends error e old new = IsOfSettling e ×
+    (((d : Applied) × Steps e d old new × RisesFirst error (all_shortages old) (all_shortages new))
+    ⊎ ((error ≡ NoMemory) × FindsNoMemory (side_in e) old new))
+
+-- The last event ended it so, and up to then all went well.
+pub record HasCause (error : SettleError) (old new : WorldState) : Type 0 where
+  pub last : WorldState
+  pub well : (last ≡ old) ⊎ GoesWell old last
+  pub event : Event
+  pub ends : Ends error event last new
+
 -- ---- in reports
 abbrev pub settle_error_number : SettleError → ℕ
 settle_error_number NoMemory = 1
 settle_error_number StoreFailed = 2
 settle_error_number TableFull = 3
-settle_error_number Unfinished = 5
 
 abbrev pub settle_error_name : SettleError → List ℕ
 settle_error_name NoMemory = codes "NoMemory"
 settle_error_name StoreFailed = codes "StoreFailed"
 settle_error_name TableFull = codes "TableFull"
-settle_error_name Unfinished = codes "Unfinished"

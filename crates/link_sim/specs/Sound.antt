@@ -12,7 +12,9 @@ use Rattle.link_sim.specs.Observed.{seen}
 use Rattle.link_sim.specs.OneWay.{IsOneWay, pdus_sent, pdus_delivered}
 use Rattle.link_sim.specs.Sides.{other}
 use Rattle.link_sim.specs.Theorem.{put_of}
+use Rattle.link_sim.specs.Work.{AreWithin}
 use Rattle.link_sim.specs.World.{WorldState, entity_at, way_from}
+use Rattle.link_sim.specs.WorldWork.{most_offset}
 
 -- A PDU that a station sent tells the truth of its puts, and that a file was delivered only where
 -- the station completed it.
@@ -30,6 +32,7 @@ pub record IsSoundAt (s : Side) (w : WorldState) : Type 0 where
       (entity_at s w)
   pub sent : (text : List ℕ) → Contains (pdus_sent (way_from s w)) text → SentTruly s w text
   pub peer : (entity_at s w).config.peer ≡ (entity_at (other s) w).config.entity
+  pub within : AreWithin most_offset (entity_at s w).table.records
   -- each put has a number of its station, below that of the next one
   pub numbers : (p : AcceptedPut) → Contains w.puts p
       → p.id.source ≡ (entity_at s w).config.entity → p.id.number < (entity_at s w).next

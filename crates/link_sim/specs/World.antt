@@ -7,6 +7,7 @@ use Rattle.link_stack.specs.Frames.{packet_of}
 use Rattle.link_stack.specs.Downward.{LinkSenderState, packing}
 use Rattle.link_stack.specs.Upward.{LinkReceiverState}
 use Rattle.cfdp_store.specs.declared.stored.Stored.TheVariants as storeds
+use Rattle.cfdp_store.specs.Stores.{Counts}
 use Rattle.cfdp_entity.specs.declared.call.Call.{Call}
 use Rattle.cfdp_entity.specs.declared.call.Call.TheVariants as calls
 use Rattle.cfdp_entity.specs.declared.error.PutError.{PutError}
@@ -15,10 +16,10 @@ use Rattle.cfdp_entity.specs.declared.error.CallError.{CallError}
 use Rattle.cfdp_entity.specs.declared.error.CallError.TheVariants as call_errors
 use Rattle.cfdp_entity.specs.Calls.{IsCalled, call_refusal}
 use Rattle.cfdp_entity.specs.Entity.{EntityState, with_table, first_entity, raised}
-use Rattle.cfdp_entity.specs.Polling.{Rests, turn, served}
+use Rattle.cfdp_entity.specs.Polling.{Place, Rests, turn, served}
 use Rattle.cfdp_entity.specs.Putting.{Accepts, IsPutRefusal, put_refusal, stored_by_error}
 use Rattle.cfdp_entity.specs.Sound.{SpellsTurn}
-use Rattle.cfdp_entity.specs.Table.{Ticks}
+use Rattle.cfdp_entity.specs.Table.{Ticks, data_at}
 use Rattle.cfdp_station.specs.Polling.{next_pdu}
 use Rattle.cfdp_station.specs.Station.{StationState, KeepsLink, first_down, first_up}
 use Rattle.cfdp_station.specs.Taking.{HearsAll}
@@ -33,6 +34,7 @@ use Rattle.link_sim.specs.declared.event.Refusal.TheVariants as refusal
 use Rattle.link_sim.specs.declared.event.AcceptedPut.{AcceptedPut}
 use Rattle.link_sim.specs.declared.world_config.WorldConfig.{WorldConfig}
 use Rattle.link_sim.specs.FrameLink.{FrameLinkState}
+use Rattle.link_sim.specs.AtStation.{KeepsFailures, KeepsOutbox, CountsPut}
 use Rattle.link_sim.specs.OneWay.{OneWayState, SendsMore, SendsNone, HearsMore}
 use Rattle.link_sim.specs.Sides.{other}
 
@@ -125,11 +127,17 @@ pub record Stays (s : Side) (old new : WorldState) : Type 0 where
   pub links : KeepsLinks s old new
   pub counts : KeepsCounts old new
 
+-- A call found no memory: nothing changed but, at most, how often the inbox of one station failed.
+pub record FindsNoMemory (s : Side) (old new : WorldState) : Type 0 where
+  pub stays : Stays s old new
+  pub failures : KeepsOutbox (station_at s old).entity (station_at s new).entity
+
 -- ---- calls of a station's user
 -- A put was accepted, and is the last one now.
 pub record TakesPut (s : Side) (source destination : List ℕ) (old new : WorldState) : Type 0 where
   pub id : TransactionId
   pub accepts : Accepts source destination id (entity_at s old) (entity_at s new)
+  pub failures : KeepsFailures (station_at s old).entity (station_at s new).entity
   pub links : KeepsLinks s old new
   pub puts : new.puts
       ≡ old.puts ++ record { id = id; source = source; destination = destination } ∷ []
@@ -142,6 +150,7 @@ pub record RefusesPut (s : Side) (source destination : List ℕ) (by : PutError)
   pub cause : IsPutRefusal
       (put_refusal (stored_by_error by) source destination (entity_at s old)) by
   pub stays : Stays s old new
+  pub failures : CountsPut by (station_at s old).entity (station_at s new).entity
 
 abbrev pub Puts : Applied → Side → (source destination : List ℕ) → (old new : WorldState) → Type 0
 Puts did.Applied s source destination old new = TakesPut s source destination old new
@@ -154,6 +163,7 @@ Puts (did.Refused refusal.LossRunTooLong) s source destination old new = ⊥
 -- A call on a transaction was one step of its record.
 pub record StepsAt (s : Side) (c : Call) (id : TransactionId) (old new : WorldState) : Type 0 where
   pub called : IsCalled c id (entity_at s old) (entity_at s new)
+  pub failures : KeepsOutbox (station_at s old).entity (station_at s new).entity
   pub links : KeepsLinks s old new
   pub counts : KeepsCounts old new
 
@@ -175,6 +185,7 @@ Calls (did.Refused refusal.LossRunTooLong) s c id old new = ⊥
 pub record TellsTime (s : Side) (now : ℕ) (old new : WorldState) : Type 0 where
   pub ticked : Ticks now (entity_at s old).table (entity_at s new).table
   pub table : entity_at s new ≡ with_table (entity_at s old) (entity_at s new).table
+  pub failures : KeepsOutbox (station_at s old).entity (station_at s new).entity
   pub links : KeepsLinks s old new
   pub puts : new.puts ≡ old.puts
   pub ticks : new.ticks ≡ raised old.ticks
@@ -192,13 +203,20 @@ pub record KeepsMarks (s : Side) (old new : WorldState) : Type 0 where
 pub record SendsOne (s : Side) (old new : WorldState) : Type 0 where
   pub served : entity_at s new ≡ served storeds.Done (turn (entity_at s old)) (entity_at s old)
   pub spells : SpellsTurn (turn (entity_at s old)) (entity_at s old)
+  pub failures : KeepsOutbox (station_at s old).entity (station_at s new).entity
   pub sends : let down = (station_at s old).down in let pdu = next_pdu (entity_at s old) in
       SendsMore (way_from s old) (way_from s new) (packet_of down.link down.packet_count pdu ∷ [])
       (pdu ∷ [])
   pub marks : KeepsMarks s old new
 
--- The outbox failed to give file data: no PDU moved.
+-- The outbox failed to give the file data that were due, and that was counted: no PDU moved.
 pub record FailsSource (s : Side) (old new : WorldState) : Type 0 where
+  pub place : ℕ
+  pub is_next : turn (entity_at s old) ≡ Place place
+  pub carries : data_at place (entity_at s old).table ≡ true
+  pub failed : Counts storeds.Refused (station_at s old).entity.outbox_failures
+      (station_at s new).entity.outbox_failures
+  pub inbox : (station_at s old).entity.inbox_failures ≤ (station_at s new).entity.inbox_failures
   pub served : entity_at s new ≡ served storeds.Refused (turn (entity_at s old)) (entity_at s old)
   pub links : KeepsLinks s old new
   pub counts : KeepsCounts old new

@@ -1,14 +1,19 @@
 //! What every event keeps of two stations and the frames between them.
-ghost use Rattle.std.specs.Prelude.{◌≡◌};
+ghost use Rattle.std.specs.Prelude.{◌≡◌, ◌<◌, ℕ, List};
 ghost use Rattle.cfdp_entity.specs.Sound.{FindsMore};
 ghost use Rattle.cfdp_directives.specs.Put.{inbox_after};
 ghost use Rattle.cfdp_header.specs.Files.{FileMap};
+ghost use Rattle.link_sim.specs.Clean.{AllComplete, IsClean};
+ghost use Rattle.link_sim.specs.Courses.{KeepsPuts};
 ghost use Rattle.link_sim.specs.Observed.{seen};
-ghost use Rattle.link_sim.specs.OneWay.{IsOneWay};
+ghost use Rattle.link_sim.specs.OneWay.{IsOneWay, IsRested};
+ghost use Rattle.link_sim.specs.Settling.{IsOfSettling, IsSettled, KeepsAll, all_shortages};
 ghost use Rattle.link_sim.specs.Sound.{IsSound};
 ghost use Rattle.link_sim.specs.Theorem.{HoldsAt, FoldsAt, at, put_of, completions_at};
-ghost use Rattle.link_sim.specs.World.{WorldState, IsFirst, Stays, Steps, way_from, files_at};
+ghost use Rattle.link_sim.specs.World.{WorldState, IsFirst, Stays, Steps, TakesPut, way_from, files_at};
 ghost use Rattle.link_sim.specs.WorldConfig.{IsWorldConfig};
+ghost use Rattle.link_sim.specs.WorldWork.{world_work};
+ghost use Rattle.link_sim.specs.declared.event.Applied.TheVariants as dids;
 ghost use Rattle.link_sim.specs.declared.event.Applied.{Applied};
 ghost use Rattle.link_sim.specs.declared.event.Event.{Event};
 ghost use Rattle.link_sim.specs.declared.side.Side.{Side};
@@ -34,10 +39,31 @@ pub(crate) fn events_keep_the_promises()
         → Steps e did old new → FoldsAt t (seen old) (seen new) }
     ensures folds_none { (s : Side) (old new : WorldState) (t : Side) → IsSound old
         → Stays s old new → FoldsAt t (seen old) (seen new) }
+    ensures less { (e : Event) (old new : WorldState) → IsSound old
+        → ((s : Side) → IsRested (way_from s old)) → ((s : Side) → IsRested (way_from s new))
+        → IsOfSettling e → Steps e dids.Applied old new → world_work new < world_work old }
     ensures holds { (w : WorldState) (s : Side) → IsSound w → HoldsAt s (seen w) }
+    ensures puts_first { (c : WorldConfig) (outboxes inboxes : FileMap × FileMap)
+        (w : WorldState) → IsFirst c outboxes inboxes w → KeepsPuts w }
+    ensures puts_kept { (e : Event) (did : Applied) (old new : WorldState) → IsSound old
+        → KeepsPuts old → Steps e did old new → KeepsPuts new }
+    ensures puts_rest { (s : Side) (old new : WorldState) → IsSound old → KeepsPuts old
+        → Stays s old new → KeepsPuts new }
+    ensures clean_first { (c : WorldConfig) (outboxes inboxes : FileMap × FileMap)
+        (w : WorldState) → IsFirst c outboxes inboxes w → IsClean w }
+    ensures clean_put { (s : Side) (source destination : List ℕ) (old new : WorldState)
+        → TakesPut s source destination old new → IsClean old → IsClean new }
+    ensures clean { (e : Event) (old new : WorldState) → IsSound old → KeepsPuts old
+        → IsOfSettling e → Steps e dids.Applied old new
+        → KeepsAll (all_shortages old) (all_shortages new) → IsClean old → IsClean new }
+    ensures completes { (w : WorldState) → IsSound w → KeepsPuts w
+        → ((s : Side) → IsRested (way_from s w)) → IsSettled w → IsClean w → AllComplete w }
 {
     cfdp_entity::an_entity_keeps_the_truth();
     cfdp_entity::an_entity_goes_on();
     cfdp_entity::an_entity_sends_the_truth();
+    cfdp_entity::records_stay_for_good();
+    cfdp_receiver::a_true_file_raises_no_fault();
+    cfdp_receiver::what_is_heard_true_is_kept_true();
     mpdu::a_part_has_no_more();
 }

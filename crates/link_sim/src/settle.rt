@@ -1,65 +1,21 @@
 //! Settling: polls, flushes and deliveries until there is nothing left to do.
-ghost use Rattle.std.specs.Prelude.{◌≡◌, ◌<◌, false, IfOk, OnOk};
+ghost use Rattle.std.specs.Prelude.{◌≡◌, ◌<◌, true, false, IfErr, IfOk, OnOk};
+ghost use Rattle.link_sim.specs.Clean.{AllComplete, IsClean};
 ghost use Rattle.link_sim.specs.Observed.{seen};
-ghost use Rattle.link_sim.specs.Settling.{HasSent, IsSettled, LeadsTo};
+ghost use Rattle.link_sim.specs.Settling.{Ends, GoesWell, HasCause, HasSent, IsOfSettling, IsSettled, LeadsTo, all_shortages};
 ghost use Rattle.link_sim.specs.Theorem.{HoldsAt, Follows};
 ghost use Rattle.link_sim.specs.World.{Steps};
+ghost use Rattle.link_sim.specs.WorldWork.{world_work};
 ghost use Rattle.link_sim.specs.declared.event.Applied.TheVariants as did;
 ghost use Rattle.link_sim.specs.declared.side.Side.{Side};
 
 use crate::event::{Applied, Event};
 use crate::promises::events_keep_the_promises;
 use crate::settle_error::SettleError;
+use crate::shortages::{Shortages, shortage_since};
 use crate::side::Side;
 use crate::world::World;
-use cfdp_station::Station;
 use cfdp_store::{Inbox, Outbox};
-
-/// The most events of one settling.
-const MOST_EVENTS: u32 = 16_777_216;
-
-/// The number under which a station's link, and its entity, count what found no memory, and that of
-/// what found no room in a table.
-const LINK_MEMORY: u8 = 11;
-
-const MEMORY: u8 = 16;
-
-const TABLE_FULL: u8 = 15;
-
-/// How often a station was short of something.
-#[derive(Clone, Copy, PartialEq, Eq)]
-struct Shortages {
-    link_memory: u64,
-    memory: u64,
-    outbox: u64,
-    inbox: u64,
-    table: u64,
-}
-
-impl Shortages {
-    fn of<O: Outbox, I: Inbox>(station: &Station<O, I>) -> Self {
-        Shortages {
-            link_memory: station.link_drops(LINK_MEMORY),
-            memory: station.drops(MEMORY),
-            outbox: station.outbox().failures(),
-            inbox: station.inbox().failures(),
-            table: station.drops(TABLE_FULL),
-        }
-    }
-
-    /// What came since, if anything did: the cause with the lowest number.
-    fn since(&self, before: &Shortages) -> Option<SettleError> {
-        if self.link_memory != before.link_memory || self.memory != before.memory {
-            Some(SettleError::NoMemory)
-        } else if self.outbox != before.outbox || self.inbox != before.inbox {
-            Some(SettleError::StoreFailed)
-        } else if self.table != before.table {
-            Some(SettleError::TableFull)
-        } else {
-            None
-        }
-    }
-}
 
 impl<O: Outbox, I: Inbox> World<O, I> {
     /// Lets both stations send and hear, without any loss, until nothing is due at either, no flush
@@ -72,8 +28,7 @@ impl<O: Outbox, I: Inbox> World<O, I> {
     ///
     /// At the first event in which one of these happened, the one with the lowest number: a call
     /// found no memory or something was dropped for want of it, a store failed, a PDU found a table
-    /// full. And `Unfinished` after 16,777,216 events. The world is as the events up to then left
-    /// it.
+    /// full. The world is as the events up to then left it.
     pub fn settle(&mut self) -> Result<(), SettleError>
         ensures settled { OnOk result (IsSettled self.new) }
         // Puts that were accepted stay what they are, and each inbox was overwritten by the files
@@ -81,15 +36,28 @@ impl<O: Outbox, I: Inbox> World<O, I> {
         ensures follows { Follows (seen self.old) (seen self.new) }
         // Finished once, heard in full, told truly and sent truly.
         ensures holds { (side : Side) → HoldsAt side (seen self.new) }
+        // Nothing was short; an error tells what was in the first event in which anything was.
+        ensures well { OnOk result (GoesWell self.old self.new) }
+        ensures cause { IfErr result (λ error. HasCause error self.old self.new) }
+        // Where the world was clean, every put is complete and closed at both ends.
+        ensures completes { OnOk result (IsClean self.old → AllComplete self.new) }
     {
         self.show_what_holds();
-        let mut left = MOST_EVENTS;
-        while self.settle_round(&mut left)? {}
+        while self.settle_round()? {}
+        self.show_completion();
         Ok(())
     }
 
+    /// Shows that all puts of a clean world are complete once it is settled.
+    fn show_completion(&self)
+        ensures { IsSettled self.now → IsClean self.now → AllComplete self.now }
+    {
+        events_keep_the_promises();
+        self.stations.show_rest();
+    }
+
     /// Shows what holds of every world.
-    fn show_what_holds(&self)
+    pub(crate) fn show_what_holds(&self)
         ensures { (side : Side) → HoldsAt side (seen self.now) }
     {
         events_keep_the_promises();
@@ -97,62 +65,68 @@ impl<O: Outbox, I: Inbox> World<O, I> {
     }
 
     /// One round: says whether anything happened in it.
-    fn settle_round(&mut self, left: &mut u32) -> Result<bool, SettleError>
+    fn settle_round(&mut self) -> Result<bool, SettleError>
         ensures leads { LeadsTo (seen self.old) (seen self.new) }
-        ensures fewer { IfOk result (λ happened. left.new < left.old) }
+        ensures less { IfOk result (λ happened. happened ≡ true → world_work self.new < world_work self.old) }
         ensures settled { IfOk result (λ happened. happened ≡ false → IsSettled self.new) }
+        ensures well { OnOk result (GoesWell self.old self.new) }
+        ensures cause { IfErr result (λ error. HasCause error self.old self.new) }
     {
-        let one = self.send_all(Side::One, left)?;
-        let two = self.send_all(Side::Two, left)?;
-        let from_one = self.repeat(&Event::Deliver(Side::One), left)?;
-        let from_two = self.repeat(&Event::Deliver(Side::Two), left)?;
+        let one = self.send_all(Side::One)?;
+        let two = self.send_all(Side::Two)?;
+        let from_one = self.repeat(&Event::Deliver(Side::One))?;
+        let from_two = self.repeat(&Event::Deliver(Side::Two))?;
         Ok(one || two || from_one || from_two)
     }
 
     /// A station sends all that is due, and its begun frame.
-    fn send_all(&mut self, side: Side, left: &mut u32) -> Result<bool, SettleError>
+    fn send_all(&mut self, side: Side) -> Result<bool, SettleError>
         ensures leads { LeadsTo (seen self.old) (seen self.new) }
-        ensures fewer { IfOk result (λ happened. left.new < left.old) }
+        ensures less { IfOk result (λ happened. happened ≡ true → world_work self.new < world_work self.old) }
         ensures same { IfOk result (λ happened. happened ≡ false → self.new ≡ self.old) }
         ensures sent { IfOk result (λ happened. happened ≡ false → HasSent side self.new) }
+        ensures well { OnOk result (GoesWell self.old self.new) }
+        ensures cause { IfErr result (λ error. HasCause error self.old self.new) }
     {
-        let polled = self.repeat(&Event::Poll(side), left)?;
-        let flushed = self.repeat(&Event::Flush(side), left)?;
+        let polled = self.repeat(&Event::Poll(side))?;
+        let flushed = self.repeat(&Event::Flush(side))?;
         Ok(polled || flushed)
     }
 
     /// Repeats an event until there is nothing to do for it, and says whether it happened at all.
-    fn repeat(&mut self, event: &Event, left: &mut u32) -> Result<bool, SettleError>
+    fn repeat(&mut self, event: &Event) -> Result<bool, SettleError>
+        requires of_it { IsOfSettling event.now }
         ensures leads { LeadsTo (seen self.old) (seen self.new) }
-        ensures fewer { IfOk result (λ happened. left.new < left.old) }
+        ensures less { IfOk result (λ happened. happened ≡ true → world_work self.new < world_work self.old) }
         ensures same { IfOk result (λ happened. happened ≡ false → self.new ≡ self.old) }
         // There is nothing to do for it in the end.
         ensures idle { IfOk result (λ happened. Steps event.now did.Nothing self.new self.new) }
+        ensures well { OnOk result (GoesWell self.old self.new) }
+        ensures cause { IfErr result (λ error. HasCause error self.old self.new) }
     {
         let mut happened = false;
-        while self.settle_by(event, left)? {
+        while self.settle_by(event)? {
             happened = true;
         }
         Ok(happened)
     }
 
     /// One event of a settling: says whether it did anything.
-    fn settle_by(&mut self, event: &Event, left: &mut u32) -> Result<bool, SettleError>
+    fn settle_by(&mut self, event: &Event) -> Result<bool, SettleError>
+        requires of_it { IsOfSettling event.now }
         ensures leads { LeadsTo (seen self.old) (seen self.new) }
-        ensures fewer { IfOk result (λ moved. left.new < left.old) }
+        ensures less { IfOk result (λ moved. moved ≡ true → world_work self.new < world_work self.old) }
         ensures idle { IfOk result (λ moved. moved ≡ false
             → Steps event.now did.Nothing self.old self.new) }
+        // Nothing was short in it; an error tells what was, with the lowest number.
+        ensures well { OnOk result (GoesWell self.old self.new) }
+        ensures ends { IfErr result (λ error. Ends error event.now self.old self.new) }
     {
-        let Some(fewer) = left.checked_sub(1) else {
-            return Err(SettleError::Unfinished);
-        };
-        *left = fewer;
-        let one = Shortages::of(self.station(Side::One));
-        let two = Shortages::of(self.station(Side::Two));
+        let before = self.shortages();
         let Ok(applied) = self.apply(event) else {
             return Err(SettleError::NoMemory);
         };
-        if let Some(error) = self.shortage_since(&one, &two) {
+        if let Some(error) = shortage_since(&before, &self.shortages()) {
             return Err(error);
         }
         match applied {
@@ -161,18 +135,12 @@ impl<O: Outbox, I: Inbox> World<O, I> {
         }
     }
 
-    fn shortage_since(&self, one: &Shortages, two: &Shortages) -> Option<SettleError> {
-        let at_one = Shortages::of(self.station(Side::One)).since(one);
-        let at_two = Shortages::of(self.station(Side::Two)).since(two);
-        match (at_one, at_two) {
-            (None, other) | (other, None) => other,
-            (Some(first), Some(second)) => {
-                if first.number() <= second.number() {
-                    Some(first)
-                } else {
-                    Some(second)
-                }
-            }
-        }
+    /// How often both stations were short of something.
+    fn shortages(&self) -> (Shortages, Shortages)
+        ensures { result ≡ all_shortages self.now }
+    {
+        let one = Shortages::of(self.station(Side::One));
+        let two = Shortages::of(self.station(Side::Two));
+        (one, two)
     }
 }

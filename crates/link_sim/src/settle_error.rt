@@ -16,9 +16,6 @@ pub enum SettleError {
     /// one, was full.
     #[error("TableFull")]
     TableFull,
-    /// 16,777,216 events weren't enough.
-    #[error("Unfinished")]
-    Unfinished,
 }
 
 impl SettleError {
@@ -30,7 +27,6 @@ impl SettleError {
             SettleError::NoMemory => 1,
             SettleError::StoreFailed => 2,
             SettleError::TableFull => 3,
-            SettleError::Unfinished => 5,
         }
     }
 
@@ -42,7 +38,6 @@ impl SettleError {
             SettleError::NoMemory => "NoMemory",
             SettleError::StoreFailed => "StoreFailed",
             SettleError::TableFull => "TableFull",
-            SettleError::Unfinished => "Unfinished",
         }
     }
 }

@@ -7,11 +7,12 @@ ghost use Rattle.cfdp_station.specs.Link.{WaitAtMost};
 ghost use Rattle.cfdp_station.specs.Station.{KeepsLink, KeepsRest};
 ghost use Rattle.link_stack.specs.Downward.{LinkSenderState};
 ghost use Rattle.link_sim.specs.declared.event.Applied.TheVariants as dids;
-ghost use Rattle.link_sim.specs.AtStation.{AddsNone, CarriesOn, FlushesAt, HearsAt, IsReady, IsSameEnd, IsSameMarks, KeepsAt, PollsAt, PutsAt, StrikesAt, answered};
-ghost use Rattle.link_sim.specs.OneWay.{IsCarried, IsOneWay};
+ghost use Rattle.link_sim.specs.AtStation.{AddsNone, CarriesOn, FlushesAt, HearsAt, IsReady, IsSameEnd, IsSameMarks, KeepsAt, KeepsOutbox, PollsAt, PutsAt, StrikesAt, answered};
+ghost use Rattle.link_sim.specs.OneWay.{IsCarried, IsOneWay, IsRested};
 ghost use Rattle.link_sim.specs.World as world;
-ghost use Rattle.link_sim.specs.World.{station_at, link_from, IsFirst, Stays, Steps, side_in};
+ghost use Rattle.link_sim.specs.World.{station_at, link_from, IsFirst, FindsNoMemory, Steps, side_in};
 ghost use Rattle.link_sim.specs.WorldConfig.{IsWorldConfig};
+ghost use Rattle.link_sim.specs.declared.side.Side.{Side};
 ghost use Rattle.link_sim.specs.declared.side.Side.TheVariants as sides;
 
 use crate::event::{AcceptedPut, Applied, Event, Refusal};
@@ -133,10 +134,17 @@ impl<O: Outbox, I: Inbox> TwoStations<O, I> {
         }
     }
 
+    /// Shows what holds of both directions between events.
+    pub(crate) fn show_rest(&self)
+        ensures { (side : Side) → IsRested (world.way_from side self.now) }
+    {
+        let _ = &self.one;
+    }
+
     /// Lets one thing happen, and says what it did.
     pub(crate) fn step(&mut self, event: &Event) -> Result<Applied, AllocError>
         ensures steps { IfOk result (λ did. Steps event.now did self.old self.new) }
-        ensures err { OnErr result (Stays (side_in event.now) self.old self.new) }
+        ensures err { OnErr result (FindsNoMemory (side_in event.now) self.old self.new) }
     {
         match event {
             Event::Put {
@@ -193,7 +201,7 @@ impl<O: Outbox, I: Inbox> TwoStations<O, I> {
     ) -> Result<Applied, AllocError>
         ensures puts { IfOk result (λ did. world.Puts did side source.now destination.now self.old
             self.new) }
-        ensures err { OnErr result (Stays side self.old self.new) }
+        ensures err { OnErr result (FindsNoMemory side self.old self.new) }
     {
         let alloc = self.alloc;
         match side {
@@ -254,7 +262,7 @@ impl<O: Outbox, I: Inbox> TwoStations<O, I> {
     fn tick(&mut self, side: Side, now: u64) -> Result<Applied, AllocError>
         ensures ticks { IfOk result (λ did. world.IsApplied did (world.TellsTime side now self.old
             self.new)) }
-        ensures err { OnErr result (Stays side self.old self.new) }
+        ensures err { OnErr result (FindsNoMemory side self.old self.new) }
     {
         match side {
             Side::One => tick_at(&mut self.one, &mut self.ticks, now),
@@ -283,7 +291,7 @@ fn answer(called: Result<(), CallError>) -> Result<Applied, AllocError>
     }
 }
 
-/// A put at a station. An error leaves all but the outbox's failures as it was.
+/// A put at a station. An error leaves all as it was.
 fn put_at<O: Outbox, I: Inbox>(
     alloc: Global,
     station: &mut Station<O, I>,
@@ -292,8 +300,8 @@ fn put_at<O: Outbox, I: Inbox>(
     destination: &Octets,
 ) -> Result<Applied, AllocError>
     ensures puts { IfOk result (λ did. PutsAt did source.now destination.now
-        station.old.entity.state station.new.entity.state puts.old.items puts.new.items) }
-    ensures err { OnErr result ((station.new.entity.state ≡ station.old.entity.state)
+        station.old.entity station.new.entity puts.old.items puts.new.items) }
+    ensures err { OnErr result ((station.new.entity ≡ station.old.entity)
         × (puts.new.items ≡ puts.old.items)) }
     ensures link { KeepsLink station.old station.new }
 {
@@ -327,6 +335,7 @@ fn tick_at<O: Outbox, I: Inbox>(
         × (ticks.new ≡ raised ticks.old)) }
     ensures err { OnErr result ((station.new.entity.state ≡ station.old.entity.state)
         × (ticks.new ≡ ticks.old)) }
+    ensures failures { KeepsOutbox station.old.entity station.new.entity }
     ensures link { KeepsLink station.old station.new }
 {
     station.tick(now)?;

@@ -1,11 +1,16 @@
 //! A world: two stations over two directions of frames.
-ghost use Rattle.std.specs.Prelude.{◌≡◌, IfOk, OnErr};
+ghost use Rattle.std.specs.Prelude.{◌≡◌, ◌<◌, ℕ, List, IfOk, OnErr};
 ghost use Rattle.cfdp_directives.specs.Put.{inbox_after};
 ghost use Rattle.cfdp_entity.specs.Sound.{FindsMore};
+ghost use Rattle.link_sim.specs.Clean.{IsClean};
 ghost use Rattle.link_sim.specs.Observed.{seen};
+ghost use Rattle.link_sim.specs.Settling.{IsOfSettling, KeepsAll, all_shortages};
 ghost use Rattle.link_sim.specs.Theorem.{HoldsAt, FoldsAt, at, put_of, completions_at};
-ghost use Rattle.link_sim.specs.World.{IsFirst, Stays, Steps, station_at, entity_at, link_from, seen_link, side_in, files_at};
+ghost use Rattle.link_sim.specs.World.{IsFirst, FindsNoMemory, Steps, station_at, entity_at, link_from, seen_link, side_in, files_at};
 ghost use Rattle.link_sim.specs.WorldConfig.{IsWorldConfig};
+ghost use Rattle.link_sim.specs.WorldWork.{world_work};
+ghost use Rattle.link_sim.specs.declared.event.Applied.TheVariants as dids;
+ghost use Rattle.link_sim.specs.declared.event.Event.TheVariants as events;
 ghost use Rattle.link_sim.specs.declared.side.Side.{Side};
 
 use crate::event::{AcceptedPut, Applied, Event};
@@ -39,6 +44,7 @@ impl<O: Outbox, I: Inbox> Model for World<O, I> {
     ghost use Rattle.std.specs.FinMap as finmap;
     ghost use Rattle.std.specs.FinSet as finset;
     ghost use Rattle.cfdp_timers.specs.Armed.{armed_code};
+    ghost use Rattle.link_sim.specs.Courses.{KeepsPuts};
     ghost use Rattle.link_sim.specs.Sound.{IsSound};
     ghost use Rattle.link_sim.specs.World.{WorldState};
 
@@ -48,7 +54,7 @@ impl<O: Outbox, I: Inbox> Model for World<O, I> {
 
     ghost view = { λ w. w.stations };
 
-    ghost invariant = { λ w. IsSound w.stations };
+    ghost invariant = { λ w. IsSound w.stations × KeepsPuts w.stations };
 }
 
 impl<O: Outbox, I: Inbox> World<O, I> {
@@ -73,6 +79,8 @@ impl<O: Outbox, I: Inbox> World<O, I> {
         ensures inboxes { IfOk result (λ w. (side : Side) → (at side (seen w)).inbox
             ≡ inbox_after (put_of (seen w)) (files_at side (I.published inboxes.0, I.published inboxes.1)) (completions_at side (seen w))) }
         ensures holds { IfOk result (λ w. (side : Side) → HoldsAt side (seen w)) }
+        // Nothing went wrong so far.
+        ensures clean { IfOk result (λ w. IsClean w) }
     {
         events_keep_the_promises();
         let stations = TwoStations::new(alloc, config, outboxes, inboxes)?;
@@ -136,7 +144,7 @@ impl<O: Outbox, I: Inbox> World<O, I> {
     pub fn apply(&mut self, event: &Event) -> Result<Applied, AllocError>
         // The event did what it does, by the stations' own steps, and nothing else changed.
         ensures steps { IfOk result (λ did. Steps event.now did self.old self.new) }
-        ensures err { OnErr result (Stays (side_in event.now) self.old self.new) }
+        ensures err { OnErr result (FindsNoMemory (side_in event.now) self.old self.new) }
 
         // A put that was accepted stays what it is.
         ensures puts { FindsMore (put_of (seen self.old)) (put_of (seen self.new)) }
@@ -144,9 +152,23 @@ impl<O: Outbox, I: Inbox> World<O, I> {
         ensures folds { (side : Side) → FoldsAt side (seen self.old) (seen self.new) }
         // Finished once, heard in full, told truly and sent truly.
         ensures holds { (side : Side) → HoldsAt side (seen self.new) }
+        // A poll, a flush and a delivery that did something lower what may still be done.
+        ensures less { IsOfSettling event.now → IfOk result (λ did. did ≡ dids.Applied
+            → world_work self.new < world_work self.old) }
+        // Where nothing was short in it, they leave a clean world clean.
+        ensures clean { IsOfSettling event.now → IfOk result (λ did. did ≡ dids.Applied
+            → KeepsAll (all_shortages self.old) (all_shortages self.new)
+            → IsClean self.old → IsClean self.new) }
+        // A put that is accepted leaves a clean world clean.
+        ensures clean_put { (side : Side) (source destination : List ℕ)
+            → event.now ≡ events.Put side source destination
+            → IfOk result (λ did. did ≡ dids.Applied → IsClean self.old → IsClean self.new) }
     {
         events_keep_the_promises();
-        self.stations.step(event)
+        self.stations.show_rest();
+        let did = self.stations.step(event);
+        self.stations.show_rest();
+        did
     }
 }
 

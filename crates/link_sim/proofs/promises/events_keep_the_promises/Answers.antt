@@ -1,6 +1,14 @@
+use Rattle.link_sim.proofs.CleanEnds.{clean-completes}
+use Rattle.link_sim.proofs.CleanFirst.{first-clean, put-clean}
+use Rattle.link_sim.proofs.CleanFound.{first-found, stays-found, steps-found}
+use Rattle.link_sim.proofs.CleanHears.{HearingLaws}
+use Rattle.link_sim.proofs.CleanSettles.{CleanLaws, settles-clean, spared-at}
+use Rattle.link_sim.proofs.CoursesEvents.{first-courses, steps-courses, stays-courses}
 use Rattle.link_sim.proofs.Keeping.{Grounds, holds, sound-next, folds-next}
 use Rattle.link_sim.proofs.Moving.{EntityLaws, Moves, stays-moves}
 use Rattle.link_sim.proofs.Beginning.{sound-first, inbox-first, event-moves}
+use Rattle.link_sim.proofs.SettlingWork.{event-less}
+use Rattle.link_sim.proofs.WithinWorld.{stays-within, event-within}
 use Rattle.link_sim.proofs.promises.events_keep_the_promises.Goals as goal
 
 pub returns-clause-first : goal.returns-clause-first
@@ -17,13 +25,13 @@ returns-clause-keeps c e did old new sound h =
     let laws : EntityLaws = record { in_whole = c.a_part_has_no_more.ensures; put = kept.put; called = kept.called; ticked = kept.ticked; heard = kept.heard; dropped = kept.dropped; served_by = kept.served; put_on = on.put; called_on = on.called; ticked_on = on.ticked; heard_on = on.heard; dropped_on = on.dropped; served_on = on.served; sends = c.an_entity_sends_the_truth.ensures } in
     let m : Moves old new = event-moves laws old new sound e did h in
     let grounds : Grounds = record { in_whole = c.a_part_has_no_more.ensures; more = kept.more } in
-    sound-next grounds old new sound m.sides m.puts
+    sound-next grounds old new sound m.sides m.puts (event-within old new (λ t. (sound t).entity.config) (λ t. (sound t).within) e did h)
 
 pub returns-clause-stays : goal.returns-clause-stays
 returns-clause-stays c s old new sound h =
     let m : Moves old new = stays-moves s old new sound h in
     let grounds : Grounds = record { in_whole = c.a_part_has_no_more.ensures; more = c.an_entity_keeps_the_truth.ensures.more } in
-    sound-next grounds old new sound m.sides m.puts
+    sound-next grounds old new sound m.sides m.puts (stays-within old new (λ t. (sound t).entity.config) (λ t. (sound t).within) s h)
 
 pub returns-clause-puts : goal.returns-clause-puts
 returns-clause-puts c e did old new sound h =
@@ -52,3 +60,50 @@ pub returns-clause-holds : goal.returns-clause-holds
 returns-clause-holds c w s sound =
     let grounds : Grounds = record { in_whole = c.a_part_has_no_more.ensures; more = c.an_entity_keeps_the_truth.ensures.more } in
     holds grounds w sound s
+
+pub returns-clause-less : goal.returns-clause-less
+returns-clause-less c e old new sound rested rests of_it h = event-less old new sound rested rests e of_it h
+
+pub returns-clause-puts_first : goal.returns-clause-puts_first
+returns-clause-puts_first c config outboxes inboxes w is = record { course = first-courses config outboxes inboxes w is; found = first-found w is.puts }
+
+pub returns-clause-puts_kept : goal.returns-clause-puts_kept
+returns-clause-puts_kept c e did old new sound k h =
+    let kept = c.an_entity_keeps_the_truth.ensures in
+    let on = c.an_entity_goes_on.ensures in
+    let laws : EntityLaws = record { in_whole = c.a_part_has_no_more.ensures; put = kept.put; called = kept.called; ticked = kept.ticked; heard = kept.heard; dropped = kept.dropped; served_by = kept.served; put_on = on.put; called_on = on.called; ticked_on = on.ticked; heard_on = on.heard; dropped_on = on.dropped; served_on = on.served; sends = c.an_entity_sends_the_truth.ensures } in
+    let grounds : Grounds = record { in_whole = c.a_part_has_no_more.ensures; more = kept.more } in
+    record {
+      course = steps-courses laws grounds c.records_stay_for_good.ensures.steps old new sound e did h k.course;
+      found = steps-found laws old new sound e did h k.found;
+    }
+
+pub returns-clause-puts_rest : goal.returns-clause-puts_rest
+returns-clause-puts_rest c s old new sound k h =
+    let kept = c.an_entity_keeps_the_truth.ensures in
+    let on = c.an_entity_goes_on.ensures in
+    let laws : EntityLaws = record { in_whole = c.a_part_has_no_more.ensures; put = kept.put; called = kept.called; ticked = kept.ticked; heard = kept.heard; dropped = kept.dropped; served_by = kept.served; put_on = on.put; called_on = on.called; ticked_on = on.ticked; heard_on = on.heard; dropped_on = on.dropped; served_on = on.served; sends = c.an_entity_sends_the_truth.ensures } in
+    let grounds : Grounds = record { in_whole = c.a_part_has_no_more.ensures; more = kept.more } in
+    record {
+      course = stays-courses laws grounds c.records_stay_for_good.ensures.steps old new sound s h k.course;
+      found = stays-found s old new sound h k.found;
+    }
+
+pub returns-clause-clean_first : goal.returns-clause-clean_first
+returns-clause-clean_first c config outboxes inboxes w is = first-clean config outboxes inboxes w is
+
+pub returns-clause-clean_put : goal.returns-clause-clean_put
+returns-clause-clean_put c s source destination old new h clean = put-clean s source destination old new h clean
+
+pub returns-clause-clean : goal.returns-clause-clean
+returns-clause-clean c e old new sound k of_it h spared clean =
+    let kept = c.an_entity_keeps_the_truth.ensures in
+    let on = c.an_entity_goes_on.ensures in
+    let laws : EntityLaws = record { in_whole = c.a_part_has_no_more.ensures; put = kept.put; called = kept.called; ticked = kept.ticked; heard = kept.heard; dropped = kept.dropped; served_by = kept.served; put_on = on.put; called_on = on.called; ticked_on = on.ticked; heard_on = on.heard; dropped_on = on.dropped; served_on = on.served; sends = c.an_entity_sends_the_truth.ensures } in
+    let grounds : Grounds = record { in_whole = c.a_part_has_no_more.ensures; more = kept.more } in
+    let hearing : HearingLaws = record { faultless = c.a_true_file_raises_no_fault.ensures.none; opened = c.what_is_heard_true_is_kept_true.ensures.opened } in
+    let all : CleanLaws = record { entity = laws; grounds = grounds; hearing = hearing; stays = c.records_stay_for_good.ensures.steps } in
+    settles-clean all e old new of_it h sound k.course (λ t. (sound t).within) (spared-at old new spared) clean
+
+pub returns-clause-completes : goal.returns-clause-completes
+returns-clause-completes c w sound k rested settled clean = clean-completes w sound k.course clean settled rested k.found

@@ -1,8 +1,10 @@
-use Rattle.std.proofs.Common.{◌≡◌, ℕ, List, ap, subst, ◌∙◌, inl}
+use Rattle.std.proofs.Common.{◌≡◌, ◌≤◌, ℕ, List, ap, sym, subst, ◌∙◌, inl}
 use Rattle.link_stack.specs.Upward.{LinkReceiverState}
+use Rattle.cfdp_entity.specs.Entity.{Counted}
+use Rattle.cfdp_entity.specs.Gives.{CountsOutbox}
 use Rattle.cfdp_station.specs.declared.polled.Polled.{Polled}
 use Rattle.cfdp_station.specs.declared.polled.Polled.TheVariants.{Moved}
-use Rattle.cfdp_station.specs.Polling.{next_pdu, Polls}
+use Rattle.cfdp_station.specs.Polling.{next_pdu, Polls, stored_by_poll}
 use Rattle.link_sim.specs.OneWay.{IsCarried}
 use Rattle.link_sim.proofs.AtStations.{moved_on}
 use Rattle.link_sim.proofs.two_stations.poll_at.Goals as goal
@@ -18,6 +20,10 @@ returns-in-Moved-clause-polls g c =
     inl (record {
       served = (let same : c.pull_all.new.station.entity.state ≡ c.poll.new.self.entity.state = (ap (λ x. x.state) p.rest.0) in same ∙ moved.served);
       spells = e.spells c.in-Moved.is;
+      failures = (
+        ap (λ x. x.outbox_failures) p.rest.0 ∙ subst (λ (a : Polled). CountsOutbox (stored_by_poll a) old.entity.outbox_failures c.poll.new.self.entity.outbox_failures) c.in-Moved.is e.counts,
+        subst (λ (x : Counted). old.entity.inbox_failures ≤ x.inbox_failures) (sym p.rest.0) e.grows,
+      );
       sends = λ (up : LinkReceiverState) (is : IsCarried old.down c.args.link.now up).
           (moved_on old.down c.poll.new.self.down c.pull_all.new.station.down c.args.link.now c.make_room.new.self c.pull_all.new.link up pdu is
           c.in_ok-make_room.ensures.kept moved.sent p.way p.fixed p.marks p.all).1;

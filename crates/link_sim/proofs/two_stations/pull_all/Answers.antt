@@ -27,7 +27,7 @@ loop-preserved g c =
           let a : SendsNone (one_way fn.station.now.down fn.link.now up) (one_way c.loop.station.down c.loop.link up) = inv.way up is in
           pulled_more (one_way fn.station.now.down fn.link.now up) (one_way c.loop.station.down c.loop.link up) (one_way c.pull.new.station.down c.pull.new.self up) a (e.way up a.way);
       made = inr made;
-      fixed = (e.fixed.0 ∙ inv.fixed.0, e.fixed.1 ∙ inv.fixed.1, e.fixed.2 ∙ inv.fixed.2);
+      fixed = (e.fixed.0 ∙ inv.fixed.0, e.fixed.1 ∙ inv.fixed.1, e.fixed.2 ∙ inv.fixed.2, e.fixed.3 ∙ inv.fixed.3);
       rest = (e.rest.0 ∙ inv.rest.0, e.rest.1 ∙ inv.rest.1);
       marks = (e.marks.0 ∙ inv.marks.0, e.marks.1 ∙ inv.marks.1, e.marks.2 ∙ inv.marks.2);
     }

@@ -1,10 +1,15 @@
-use Rattle.std.proofs.Common.{subst}
+use Rattle.std.proofs.Common.{◌≡◌, subst}
 use Rattle.cfdp_entity.specs.Sound.{FindsMore}
+use Rattle.std.specs.Prelude.{IfOk}
+use Rattle.link_sim.specs.Clean.{IsClean}
+use Rattle.link_sim.specs.Courses.{KeepsPuts}
 use Rattle.link_sim.specs.Observed.{seen}
+use Rattle.link_sim.specs.Settling.{KeepsAll, all_shortages}
 use Rattle.link_sim.specs.Sound.{IsSound}
 use Rattle.link_sim.specs.Theorem.{FoldsAt, put_of}
-use Rattle.link_sim.specs.World.{WorldState, side_in}
-use Rattle.link_sim.proofs.Stepping.{by-step}
+use Rattle.link_sim.specs.World.{WorldState, Steps, side_in}
+use Rattle.link_sim.specs.declared.event.Applied.TheVariants as dids
+use Rattle.link_sim.proofs.Stepping.{by-step, ok-then}
 use Rattle.link_sim.proofs.world.World.apply.Goals as goal
 
 pub invariant_of-self : goal.invariant_of-self
@@ -12,31 +17,53 @@ invariant_of-self g c =
     let law = c.events_keep_the_promises.ensures in
     let e = c.args.event.now in
     let old : WorldState = c.self.inside.stations in
-    let new : WorldState = c.step.new.self in
-    by-step (λ old new. IsSound new) e old new (λ did s. law.keeps e did old new c.self.invariant s) (λ k. law.stays (side_in e) old new c.self.invariant k) c.step.result c.step.ensures.steps c.step.ensures.err
+    let new : WorldState = c.step-did.new.self in (
+      by-step (λ old new. IsSound new) e old new (λ did s. law.keeps e did old new c.self.invariant.0 s) (λ k. law.stays (side_in e) old new c.self.invariant.0 k) c.step-did.result c.step-did.ensures.steps c.step-did.ensures.err,
+      by-step (λ old new. KeepsPuts new) e old new (λ did s. law.puts_kept e did old new c.self.invariant.0 c.self.invariant.1 s) (λ k. law.puts_rest (side_in e) old new c.self.invariant.0 c.self.invariant.1 k) c.step-did.result c.step-did.ensures.steps c.step-did.ensures.err,
+    )
 
 pub returns-clause-puts : goal.returns-clause-puts
 returns-clause-puts g c =
     let law = c.events_keep_the_promises.ensures in
     let e = c.args.event.now in
     let old : WorldState = c.self.inside.stations in
-    let new : WorldState = c.step.new.self in
+    let new : WorldState = c.step-did.new.self in
     subst (λ (w : WorldState). FindsMore (put_of (seen w)) (put_of (seen new))) c.self.view_is
-    (by-step (λ old new. FindsMore (put_of (seen old)) (put_of (seen new))) e old new (λ did s. law.puts e did old new c.self.invariant s) (λ k. law.puts_stay (side_in e) old new k) c.step.result c.step.ensures.steps c.step.ensures.err)
+    (by-step (λ old new. FindsMore (put_of (seen old)) (put_of (seen new))) e old new (λ did s. law.puts e did old new c.self.invariant.0 s) (λ k. law.puts_stay (side_in e) old new k) c.step-did.result c.step-did.ensures.steps c.step-did.ensures.err)
 
 pub returns-clause-folds : goal.returns-clause-folds
 returns-clause-folds g c t =
     let law = c.events_keep_the_promises.ensures in
     let e = c.args.event.now in
     let old : WorldState = c.self.inside.stations in
-    let new : WorldState = c.step.new.self in
+    let new : WorldState = c.step-did.new.self in
     subst (λ (w : WorldState). FoldsAt t (seen w) (seen new)) c.self.view_is
-    (by-step (λ old new. FoldsAt t (seen old) (seen new)) e old new (λ did s. law.folds e did old new t c.self.invariant s) (λ k. law.folds_none (side_in e) old new t c.self.invariant k) c.step.result c.step.ensures.steps c.step.ensures.err)
+    (by-step (λ old new. FoldsAt t (seen old) (seen new)) e old new (λ did s. law.folds e did old new t c.self.invariant.0 s) (λ k. law.folds_none (side_in e) old new t c.self.invariant.0 k) c.step-did.result c.step-did.ensures.steps c.step-did.ensures.err)
 
 pub returns-clause-holds : goal.returns-clause-holds
 returns-clause-holds g c t =
     let law = c.events_keep_the_promises.ensures in
     let e = c.args.event.now in
     let old : WorldState = c.self.inside.stations in
-    let new : WorldState = c.step.new.self in
-    law.holds new t (by-step (λ old new. IsSound new) e old new (λ did s. law.keeps e did old new c.self.invariant s) (λ k. law.stays (side_in e) old new c.self.invariant k) c.step.result c.step.ensures.steps c.step.ensures.err)
+    let new : WorldState = c.step-did.new.self in
+    law.holds new t (by-step (λ old new. IsSound new) e old new (λ did s. law.keeps e did old new c.self.invariant.0 s) (λ k. law.stays (side_in e) old new c.self.invariant.0 k) c.step-did.result c.step-did.ensures.steps c.step-did.ensures.err)
+
+pub returns-clause-clean : goal.returns-clause-clean
+returns-clause-clean g c of_it =
+    let law = c.events_keep_the_promises.ensures in
+    let e = c.args.event.now in
+    let old : WorldState = c.self.inside.stations in
+    let new : WorldState = c.step-did.new.self in
+    subst (λ (w : WorldState). IfOk c.step-did.result (λ did. did ≡ dids.Applied → KeepsAll (all_shortages w) (all_shortages new) → IsClean w → IsClean new)) c.self.view_is
+    (ok-then (λ did. Steps e did old new) (λ did. did ≡ dids.Applied → KeepsAll (all_shortages old) (all_shortages new) → IsClean old → IsClean new)
+    (λ did s applied spared is. law.clean e old new c.self.invariant.0 c.self.invariant.1 of_it (subst (λ d. Steps e d old new) applied s) spared is) c.step-did.result c.step-did.ensures.steps)
+
+pub returns-clause-clean_put : goal.returns-clause-clean_put
+returns-clause-clean_put g c side source destination is =
+    let law = c.events_keep_the_promises.ensures in
+    let e = c.args.event.now in
+    let old : WorldState = c.self.inside.stations in
+    let new : WorldState = c.step-did.new.self in
+    subst (λ (w : WorldState). IfOk c.step-did.result (λ did. did ≡ dids.Applied → IsClean w → IsClean new)) c.self.view_is
+    (ok-then (λ did. Steps e did old new) (λ did. did ≡ dids.Applied → IsClean old → IsClean new)
+    (λ did s applied clean. law.clean_put side source destination old new (subst (λ x. Steps x dids.Applied old new) is (subst (λ d. Steps e d old new) applied s)) clean) c.step-did.result c.step-did.ensures.steps)

@@ -1,17 +1,70 @@
-use Rattle.std.proofs.Common.{◌≤◌, ◌<◌, arith}
+use Rattle.std.proofs.Common.{◌≡◌, ◌≤◌, ◌<◌, inl, inr, refl, sym, ap, subst, ◌∙◌, arith}
+use Rattle.std.proofs.lemmas.Result.{err_from_is_err_and}
 use Rattle.link_sim.specs.Observed.{seen}
-use Rattle.link_sim.proofs.Folding.{leads-both}
+use Rattle.link_sim.specs.Settling.{HasCause}
+use Rattle.link_sim.specs.World.{WorldState, Steps}
+use Rattle.link_sim.specs.WorldWork.{world_work}
+use Rattle.link_sim.specs.declared.event.Applied.TheVariants as did
+use Rattle.link_sim.specs.declared.settle_error.SettleError.{SettleError}
+use Rattle.link_sim.proofs.Folding.{leads-none, leads-both}
+use Rattle.link_sim.proofs.Causes.{well-then, cause-here, err-then, nothing-same}
 use Rattle.link_sim.proofs.world.World.repeat.Goals as goal
 
-pub returns-in_err-settle_by-clause-leads : goal.returns-in_err-settle_by-clause-leads
-returns-in_err-settle_by-clause-leads g c =
-    leads-both (seen c.args.self.now) (seen c.loop-happened.self) (seen c.settle_by.new.self) c.loop-happened.invariant.0 c.settle_by.ensures.leads
+pub loop-happened-init : goal.loop-happened-init
+loop-happened-init g c = record {
+  leads = leads-none (seen c.args.self.now);
+  most = omega arith;
+  less = λ e. absurd cc;
+  same = λ e. refl;
+  well = inl refl;
+}
 
 pub loop-happened-preserved : goal.loop-happened-preserved
 loop-happened-preserved g c =
-    let low : c.loop-happened.left ≤ c.args.left.now = c.loop-happened.invariant.1 in
-    let fewer : c.settle_by.new.left < c.loop-happened.left = c.in_ok-settle_by.ensures.fewer in (
-      leads-both (seen c.args.self.now) (seen c.loop-happened.self) (seen c.settle_by.new.self) c.loop-happened.invariant.0 c.settle_by.ensures.leads,
-      omega (arith, low, fewer),
-      (λ e. absurd cc),
-    )
+    let i = c.loop-happened.invariant in
+    let most : world_work c.loop-happened.self ≤ world_work c.args.self.now = i.most in
+    let less : world_work c.settle_by.new.self < world_work c.loop-happened.self = c.in_ok-settle_by.ensures.less c.if-branch.true in
+    record {
+      leads = leads-both (seen c.args.self.now) (seen c.loop-happened.self) (seen c.settle_by.new.self) i.leads c.settle_by.ensures.leads;
+      most = omega (arith, most, less);
+      less = λ e. omega (arith, most, less);
+      same = λ e. absurd cc;
+      well = inr (well-then c.args.self.now c.loop-happened.self c.settle_by.new.self i.well c.in_ok-settle_by.ensures.well);
+    }
+
+pub returns-in_err-settle_by-clause-leads : goal.returns-in_err-settle_by-clause-leads
+returns-in_err-settle_by-clause-leads g c =
+    leads-both (seen c.args.self.now) (seen c.loop-happened.self) (seen c.settle_by.new.self) c.loop-happened.invariant.leads c.settle_by.ensures.leads
+
+pub returns-in_err-settle_by-clause-cause : goal.returns-in_err-settle_by-clause-cause
+returns-in_err-settle_by-clause-cause g c =
+    let p = err_from_is_err_and c.from_residual.result c.from_residual.ensures.1 in
+    let e : SettleError = c.in_err-settle_by.field-0.0 in
+    err-then c.from_residual.result (λ error. HasCause error c.args.self.now c.settle_by.new.self) p.0 e p.1 p.2
+    (cause-here e c.args.event.now c.args.self.now c.loop-happened.self c.settle_by.new.self c.loop-happened.invariant.well c.in_err-settle_by.ensures.ends)
+
+pub returns-clause-leads : goal.returns-clause-leads
+returns-clause-leads g c =
+    leads-both (seen c.args.self.now) (seen c.loop-happened.self) (seen c.settle_by.new.self) c.loop-happened.invariant.leads c.settle_by.ensures.leads
+
+pub returns-clause-less : goal.returns-clause-less
+returns-clause-less g c happened =
+    let idle = c.in_ok-settle_by.ensures.idle c.if-branch.false in
+    let same : c.settle_by.new.self ≡ c.loop-happened.self = nothing-same c.args.event.now c.loop-happened.self c.settle_by.new.self c.requires.of_it idle in
+    let less : world_work c.loop-happened.self < world_work c.args.self.now = c.loop-happened.invariant.less happened in
+    let work : world_work c.settle_by.new.self ≡ world_work c.loop-happened.self = ap world_work same in
+    omega (arith, less, work)
+
+pub returns-clause-same : goal.returns-clause-same
+returns-clause-same g c none =
+    let idle = c.in_ok-settle_by.ensures.idle c.if-branch.false in
+    nothing-same c.args.event.now c.loop-happened.self c.settle_by.new.self c.requires.of_it idle ∙ c.loop-happened.invariant.same none
+
+pub returns-clause-idle : goal.returns-clause-idle
+returns-clause-idle g c =
+    let idle = c.in_ok-settle_by.ensures.idle c.if-branch.false in
+    let same : c.settle_by.new.self ≡ c.loop-happened.self = nothing-same c.args.event.now c.loop-happened.self c.settle_by.new.self c.requires.of_it idle in
+    subst (λ (w : WorldState). Steps c.args.event.now did.Nothing w c.settle_by.new.self) (sym same) idle
+
+pub returns-clause-well : goal.returns-clause-well
+returns-clause-well g c = well-then c.args.self.now c.loop-happened.self c.settle_by.new.self c.loop-happened.invariant.well c.in_ok-settle_by.ensures.well

@@ -1,5 +1,11 @@
+use Rattle.std.proofs.Common.{◌<◌, ◌≤◌, ◌||◌, inr, arith}
+use Rattle.std.proofs.lemmas.Result.{err_from_is_err_and}
 use Rattle.link_sim.specs.Observed.{seen}
+use Rattle.link_sim.specs.Settling.{GoesWell, HasCause}
+use Rattle.link_sim.specs.WorldWork.{world_work}
+use Rattle.link_sim.specs.declared.settle_error.SettleError.{SettleError}
 use Rattle.link_sim.proofs.Folding.{leads-both}
+use Rattle.link_sim.proofs.Causes.{Lowers, lowers-most, lowers-both, any-true, well-both, cause-then, err-then, round-settled}
 use Rattle.link_sim.proofs.world.World.settle_round.Goals as goal
 
 pub returns-in_err-two-clause-leads : goal.returns-in_err-two-clause-leads
@@ -23,3 +29,58 @@ returns-then-from_one-clause-leads g c =
     (leads-both (seen c.args.self.now) (seen c.send_all-2.new.self) (seen c.repeat.new.self)
     (leads-both (seen c.args.self.now) (seen c.send_all.new.self) (seen c.send_all-2.new.self) c.send_all.ensures.leads c.send_all-2.ensures.leads) c.repeat.ensures.leads)
     c.repeat-2.ensures.leads
+
+pub returns-in_err-two-clause-cause : goal.returns-in_err-two-clause-cause
+returns-in_err-two-clause-cause g c =
+    let p = err_from_is_err_and c.from_residual-in_err-two.result c.from_residual-in_err-two.ensures.1 in
+    let e : SettleError = c.in_err-two.field-0.0 in
+    err-then c.from_residual-in_err-two.result (λ error. HasCause error c.args.self.now c.send_all-2.new.self) p.0 e p.1 p.2
+    (cause-then e c.args.self.now c.send_all.new.self c.send_all-2.new.self (inr c.in_ok-one.ensures.well) c.in_err-two.ensures.cause)
+
+pub returns-in_err-from_one-clause-cause : goal.returns-in_err-from_one-clause-cause
+returns-in_err-from_one-clause-cause g c =
+    let p = err_from_is_err_and c.from_residual-in_err-from_one.result c.from_residual-in_err-from_one.ensures.1 in
+    let e : SettleError = c.in_err-from_one.field-0.0 in
+    let well : GoesWell c.args.self.now c.send_all-2.new.self = well-both c.args.self.now c.send_all.new.self c.send_all-2.new.self c.in_ok-one.ensures.well c.in_ok-two.ensures.well in
+    err-then c.from_residual-in_err-from_one.result (λ error. HasCause error c.args.self.now c.repeat.new.self) p.0 e p.1 p.2
+    (cause-then e c.args.self.now c.send_all-2.new.self c.repeat.new.self (inr well) c.in_err-from_one.ensures.cause)
+
+pub returns-in_err-from_two-clause-cause : goal.returns-in_err-from_two-clause-cause
+returns-in_err-from_two-clause-cause g c =
+    let p = err_from_is_err_and c.from_residual-in_err-from_two.result c.from_residual-in_err-from_two.ensures.1 in
+    let e : SettleError = c.in_err-from_two.field-0.0 in
+    let well : GoesWell c.args.self.now c.repeat.new.self =
+    well-both c.args.self.now c.send_all-2.new.self c.repeat.new.self (well-both c.args.self.now c.send_all.new.self c.send_all-2.new.self c.in_ok-one.ensures.well c.in_ok-two.ensures.well) c.in_ok-from_one.ensures.well in
+    err-then c.from_residual-in_err-from_two.result (λ error. HasCause error c.args.self.now c.repeat-2.new.self) p.0 e p.1 p.2
+    (cause-then e c.args.self.now c.repeat.new.self c.repeat-2.new.self (inr well) c.in_err-from_two.ensures.cause)
+
+pub returns-then-from_one-clause-well : goal.returns-then-from_one-clause-well
+returns-then-from_one-clause-well g c =
+    let two : GoesWell c.args.self.now c.send_all-2.new.self = well-both c.args.self.now c.send_all.new.self c.send_all-2.new.self c.in_ok-one.ensures.well c.in_ok-two.ensures.well in
+    let three : GoesWell c.args.self.now c.repeat.new.self = well-both c.args.self.now c.send_all-2.new.self c.repeat.new.self two c.in_ok-from_one.ensures.well in
+    well-both c.args.self.now c.repeat.new.self c.repeat-2.new.self three c.in_ok-from_two.ensures.well
+
+pub returns-then-from_one-clause-less : goal.returns-then-from_one-clause-less
+returns-then-from_one-clause-less g c happened =
+    let two : Lowers (c.in_ok-one.one || c.in_ok-two.two) c.args.self.now c.send_all-2.new.self =
+    lowers-both c.in_ok-one.one c.in_ok-two.two c.args.self.now c.send_all.new.self c.send_all-2.new.self (c.in_ok-one.ensures.less, c.in_ok-one.ensures.same) (c.in_ok-two.ensures.less, c.in_ok-two.ensures.same) in
+    let three : Lowers ((c.in_ok-one.one || c.in_ok-two.two) || c.in_ok-from_one.from_one) c.args.self.now c.repeat.new.self =
+    lowers-both (c.in_ok-one.one || c.in_ok-two.two) c.in_ok-from_one.from_one c.args.self.now c.send_all-2.new.self c.repeat.new.self two (c.in_ok-from_one.ensures.less, c.in_ok-from_one.ensures.same) in
+    let less : world_work c.repeat.new.self < world_work c.args.self.now = three.0 (any-true c.in_ok-one.one c.in_ok-two.two c.in_ok-from_one.from_one c.if-from_one.either) in
+    let most : world_work c.repeat-2.new.self ≤ world_work c.repeat.new.self = lowers-most c.in_ok-from_two.from_two c.repeat.new.self c.repeat-2.new.self (c.in_ok-from_two.ensures.less, c.in_ok-from_two.ensures.same) in
+    omega (arith, less, most)
+
+pub returns-else-from_one-clause-less : goal.returns-else-from_one-clause-less
+returns-else-from_one-clause-less g c happened =
+    let one : world_work c.send_all.new.self ≤ world_work c.args.self.now = lowers-most c.in_ok-one.one c.args.self.now c.send_all.new.self (c.in_ok-one.ensures.less, c.in_ok-one.ensures.same) in
+    let two : world_work c.send_all-2.new.self ≤ world_work c.send_all.new.self = lowers-most c.in_ok-two.two c.send_all.new.self c.send_all-2.new.self (c.in_ok-two.ensures.less, c.in_ok-two.ensures.same) in
+    let three : world_work c.repeat.new.self ≤ world_work c.send_all-2.new.self = lowers-most c.in_ok-from_one.from_one c.send_all-2.new.self c.repeat.new.self (c.in_ok-from_one.ensures.less, c.in_ok-from_one.ensures.same) in
+    let less : world_work c.repeat-2.new.self < world_work c.repeat.new.self = c.in_ok-from_two.ensures.less happened in
+    omega (arith, one, two, three, less)
+
+pub returns-else-from_one-clause-settled : goal.returns-else-from_one-clause-settled
+returns-else-from_one-clause-settled g c none =
+    let n = c.if-from_one.false in
+    round-settled c.args.self.now c.send_all.new.self c.send_all-2.new.self c.repeat.new.self c.repeat-2.new.self
+    (c.in_ok-one.ensures.same n.0) (c.in_ok-two.ensures.same n.1) (c.in_ok-from_one.ensures.same n.2) (c.in_ok-from_two.ensures.same none)
+    (c.in_ok-one.ensures.sent n.0) (c.in_ok-two.ensures.sent n.1) c.in_ok-from_one.ensures.idle c.in_ok-from_two.ensures.idle

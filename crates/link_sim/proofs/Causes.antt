@@ -1,0 +1,145 @@
+-- That nothing was short, and what ended a settling, over several events.
+use Rattle.std.proofs.Common.{◌≡◌, ◌⊎◌, ◌<◌, ◌≤◌, ◌||◌, ℕ, Bool, true, false, List, [], ◌∷◌, ◌++◌, Result, Err, refl, sym, ap, subst, ◌∙◌, inl, inr, arith}
+use Rattle.std.specs.Prelude.{IfErr}
+use Rattle.cfdp_entity.specs.Entity.{EntityState}
+use Rattle.cfdp_entity.specs.Polling.{Rests, turn}
+use Rattle.link_sim.specs.declared.event.Event.{Event}
+use Rattle.link_sim.specs.declared.event.Event.TheVariants as event
+use Rattle.link_sim.specs.declared.event.Applied.{Applied}
+use Rattle.link_sim.specs.declared.event.Applied.TheVariants as did
+use Rattle.link_sim.specs.declared.event.Refusal.{Refusal}
+use Rattle.link_sim.specs.declared.settle_error.SettleError.{SettleError}
+use Rattle.link_sim.specs.declared.settle_error.SettleError.TheVariants.{NoMemory, StoreFailed, TableFull}
+use Rattle.link_sim.specs.declared.shortages.Shortages.{Shortages}
+use Rattle.link_sim.specs.Settling.{IsOfSettling, AreOfSettling, OnlySettles, KeepsAll, IsSettled, IsSettledAt, HasSent, IsSpared, KeepsAt, Keeps, GoesWell, Ends, HasCause, all_shortages}
+use Rattle.link_sim.specs.World.{WorldState, NoneWaits, Flushes, Steps, entity_at}
+use Rattle.link_sim.specs.WorldWork.{world_work}
+use Rattle.link_sim.specs.declared.side.Side.{Side}
+use Rattle.link_sim.specs.declared.side.Side.TheVariants.{One, Two}
+use Rattle.link_sim.proofs.Keeping.{each}
+
+spared-both : (a b c : ℕ) → IsSpared a b → IsSpared b c → IsSpared a c
+spared-both a b c one two = (two.0 ∙ one.0, two.1)
+
+keeps-at-both : (e : SettleError) (a b c : Shortages) → KeepsAt e a b → KeepsAt e b c → KeepsAt e a c
+keeps-at-both NoMemory a b c one two = (spared-both a.link_memory b.link_memory c.link_memory one.0 two.0, spared-both a.memory b.memory c.memory one.1 two.1)
+keeps-at-both StoreFailed a b c one two = (spared-both a.outbox b.outbox c.outbox one.0 two.0, spared-both a.inbox b.inbox c.inbox one.1 two.1)
+keeps-at-both TableFull a b c one two = spared-both a.table b.table c.table one two
+
+keeps-both : (e : SettleError) (a b c : Shortages × Shortages) → Keeps e a b → Keeps e b c → Keeps e a c
+keeps-both e a b c one two = (keeps-at-both e a.0 b.0 c.0 one.0 two.0, keeps-at-both e a.1 b.1 c.1 one.1 two.1)
+
+spared-all : (x y z : Shortages × Shortages) → KeepsAll x y → KeepsAll y z → KeepsAll x z
+spared-all x y z one two = record {
+  memory = keeps-both NoMemory x y z one.memory two.memory;
+  stores = keeps-both StoreFailed x y z one.stores two.stores;
+  tables = keeps-both TableFull x y z one.tables two.tables;
+}
+
+-- ---- events of a settling, one behind the other
+pub only-one : (e : Event) (d : Applied) (old new : WorldState) → IsOfSettling e → Steps e d old new → OnlySettles old new
+only-one e d old new of_it s = record { steps = (e, d) ∷ []; are = (new, of_it, s, refl) }
+
+steps-both : (first more : List (Event × Applied)) (a b c : WorldState) → AreOfSettling first a b → AreOfSettling more b c → AreOfSettling (first ++ more) a c
+steps-both [] more a b c is run = subst (λ (w : WorldState). AreOfSettling more w c) is run
+steps-both (s ∷ first) more a b c run rest = (run.0, run.1, run.2, steps-both first more run.0 b c run.3 rest)
+
+only-both : (a b c : WorldState) → OnlySettles a b → OnlySettles b c → OnlySettles a c
+only-both a b c r s = record { steps = r.steps ++ s.steps; are = steps-both r.steps s.steps a b c r.are s.are }
+
+pub well-both : (a b c : WorldState) → GoesWell a b → GoesWell b c → GoesWell a c
+well-both a b c one two = record {
+  only = only-both a b c one.only two.only;
+  spared = spared-all (all_shortages a) (all_shortages b) (all_shortages c) one.spared two.spared;
+  clean = λ is. two.clean (one.clean is);
+}
+
+-- Nothing was short up to now: nothing happened, or all went well.
+abbrev pub WellSoFar : (old new : WorldState) → Type 0
+WellSoFar old new = (new ≡ old) ⊎ GoesWell old new
+
+pub well-then : (a b c : WorldState) → WellSoFar a b → GoesWell b c → GoesWell a c
+well-then a b c (inl e) two = subst (λ (w : WorldState). GoesWell w c) e two
+well-then a b c (inr one) two = well-both a b c one two
+
+far-then : (a b c : WorldState) → WellSoFar a b → WellSoFar b c → WellSoFar a c
+far-then a b c one (inl e) = subst (λ (w : WorldState). WellSoFar a w) (sym e) one
+far-then a b c one (inr two) = inr (well-then a b c one two)
+
+-- the event that ends it
+pub cause-here : (error : SettleError) (e : Event) (a b c : WorldState) → WellSoFar a b → Ends error e b c → HasCause error a c
+cause-here error e a b c well ends = record { last = b; well = well; event = e; ends = ends }
+
+pub cause-then : (error : SettleError) (a b c : WorldState) → WellSoFar a b → HasCause error b c → HasCause error a c
+cause-then error a b c well cause = record { last = cause.last; well = far-then a b cause.last well cause.well; event = cause.event; ends = cause.ends }
+
+-- Poll, flush and delivery are never refused.
+pub not-refused : (e : Event) (by : Refusal) (old new : WorldState) → IsOfSettling e → Steps e (did.Refused by) old new → ⊥
+not-refused (event.Poll s) by old new of_it h = h
+not-refused (event.Flush s) by old new of_it h = h
+not-refused (event.Deliver s) by old new of_it h = h
+not-refused (event.Put s source destination) by old new of_it h = of_it
+not-refused (event.Cancel s id) by old new of_it h = of_it
+not-refused (event.Suspend s id) by old new of_it h = of_it
+not-refused (event.Resume s id) by old new of_it h = of_it
+not-refused (event.Prompt s id keep_alive) by old new of_it h = of_it
+not-refused (event.Tick s now) by old new of_it h = of_it
+not-refused (event.Strike s) by old new of_it h = of_it
+
+-- what did nothing leaves all as it was
+pub nothing-same : (e : Event) (old new : WorldState) → IsOfSettling e → Steps e did.Nothing old new → new ≡ old
+nothing-same (event.Poll s) old new of_it h = h.1
+nothing-same (event.Flush s) old new of_it h = h.1
+nothing-same (event.Deliver s) old new of_it h = h.1
+nothing-same (event.Put s source destination) old new of_it h = absurd of_it
+nothing-same (event.Cancel s id) old new of_it h = absurd of_it
+nothing-same (event.Suspend s id) old new of_it h = absurd of_it
+nothing-same (event.Resume s id) old new of_it h = absurd of_it
+nothing-same (event.Prompt s id keep_alive) old new of_it h = absurd of_it
+nothing-same (event.Tick s now) old new of_it h = absurd of_it
+nothing-same (event.Strike s) old new of_it h = absurd of_it
+
+-- an error that is handed up
+pub err-then : {X : Type 0} (r : Result X SettleError) (P : SettleError → Type 0) (y e : SettleError) → r ≡ Err y → y ≡ e → P e → IfErr r P
+err-then {X = X} r P y e is same h = subst (λ (x : Result X SettleError). IfErr x P) (sym is) (subst P (sym same) h)
+
+-- ---- what is left
+-- What happened lowered it, and else nothing changed.
+abbrev pub Lowers : Bool → (old new : WorldState) → Type 0
+Lowers happened old new = (happened ≡ true → world_work new < world_work old) × (happened ≡ false → new ≡ old)
+
+pub lowers-most : (b : Bool) (old new : WorldState) → Lowers b old new → world_work new ≤ world_work old
+lowers-most true old new h = let l : world_work new < world_work old = h.0 refl in omega (arith, l)
+lowers-most false old new h = let same : world_work new ≡ world_work old = ap world_work (h.1 refl) in omega (arith, same)
+
+pub lowers-both : (a b : Bool) (x y z : WorldState) → Lowers a x y → Lowers b y z → Lowers (a || b) x z
+lowers-both true b x y z one two =
+    let l : world_work y < world_work x = one.0 refl in
+    let m : world_work z ≤ world_work y = lowers-most b y z two in
+    ((λ e. omega (arith, l, m)), (λ e. absurd cc))
+lowers-both false b x y z one two = subst (λ (w : WorldState). Lowers b w z) (one.1 refl) two
+
+pub any-true : (a b c : Bool) → (a ≡ true) ⊎ ((a ≡ false) × (b ≡ true)) ⊎ ((a ≡ false) × (b ≡ false) × (c ≡ true)) → ((a || b) || c) ≡ true
+any-true true b c e = refl
+any-true false true c e = refl
+any-true false false true e = refl
+any-true false false false (inl e) = absurd cc
+any-true false false false (inr (inl e)) = absurd (let w : false ≡ true = e.1 in cc)
+any-true false false false (inr (inr e)) = absurd (let w : false ≡ true = e.2 in cc)
+
+-- a round in which nothing happened
+pub round-settled : (a b c d e : WorldState) → b ≡ a → c ≡ b → d ≡ c → e ≡ d → HasSent One b → HasSent Two c → Steps (event.Deliver One) did.Nothing d d → Steps (event.Deliver Two) did.Nothing e e → IsSettled e
+round-settled a b c d e ab bc cd de one two from_one from_two =
+    let eb : e ≡ b = de ∙ cd ∙ bc in
+    let ec : e ≡ c = de ∙ cd in
+    let sent_one : HasSent One e = subst (λ (w : WorldState). HasSent One w) (sym eb) one in
+    let sent_two : HasSent Two e = subst (λ (w : WorldState). HasSent Two w) (sym ec) two in
+    let none_one : NoneWaits One e = subst (λ (w : WorldState). NoneWaits One w) (sym de) from_one.0 in
+    each (λ (s : Side). IsSettledAt s e)
+    (record { rests = sent_one.0; filled = sent_one.1; none_waits = none_one })
+    (record { rests = sent_two.0; filled = sent_two.1; none_waits = from_two.0 })
+
+-- a flush leaves an entity as it was, also one of which nothing is due
+pub flushed-rests : (moved : Bool) (s : Side) (old new : WorldState) → (moved ≡ true → Flushes did.Applied s old new) → (moved ≡ false → Flushes did.Nothing s old new) → turn (entity_at s old) ≡ Rests → turn (entity_at s new) ≡ Rests
+flushed-rests true s old new applied idle h = subst (λ (e : EntityState). turn e ≡ Rests) (sym (ap (λ x. x.state) (applied refl).0.entity)) h
+flushed-rests false s old new applied idle h = subst (λ (w : WorldState). turn (entity_at s w) ≡ Rests) (sym (idle refl).1) h

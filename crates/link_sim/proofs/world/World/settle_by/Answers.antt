@@ -1,0 +1,29 @@
+use Rattle.std.proofs.Common.{◌≡◌, inl, inr, subst}
+use Rattle.link_sim.specs.Settling.{IsOfSettling, KeepsAll, all_shortages}
+use Rattle.link_sim.specs.World.{WorldState, Steps}
+use Rattle.link_sim.specs.declared.event.Applied.TheVariants as did
+use Rattle.link_sim.specs.declared.event.Event.{Event}
+use Rattle.link_sim.proofs.Causes.{not-refused, only-one}
+use Rattle.link_sim.proofs.world.World.settle_by.Goals as goal
+
+pub returns-in-Applied : goal.returns-in-Applied
+returns-in-Applied g c =
+    let e : Event = c.args.event.now in
+    let old : WorldState = c.args.self.now in
+    let new : WorldState = c.apply.new.self in
+    let of_it : IsOfSettling e = c.requires.of_it in
+    let step = c.in-Ok.ensures.steps in
+    let applied : c.in-Ok.applied ≡ did.Applied = elim c.in-Applied.is [
+      | inl is ↦ is
+      | inr r ↦ absurd (not-refused e r.0 old new of_it (subst (λ d. Steps e d old new) r.1 step))
+    ] in
+    let told : KeepsAll c.shortages-before.result c.shortages.result = c.shortage_since.ensures.well c.in_default-shortage_since.is in
+    let spared : KeepsAll (all_shortages old) (all_shortages new) =
+    subst (λ x. KeepsAll x (all_shortages new)) c.shortages-before.ensures (subst (λ x. KeepsAll c.shortages-before.result x) c.shortages.ensures told) in
+    record {
+      leads = record { follows = λ _. record { puts = c.apply.ensures.puts; folds = c.apply.ensures.folds }; holds = λ _. c.apply.ensures.holds };
+      less = λ _. c.in-Ok.ensures.less of_it applied;
+      idle = λ e. absurd cc;
+      well = record { only = only-one e c.in-Ok.applied old new of_it step; spared = spared; clean = c.in-Ok.ensures.clean of_it applied spared };
+      ends = tt;
+    }

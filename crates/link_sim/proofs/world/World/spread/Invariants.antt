@@ -1,0 +1,10 @@
+use Rattle.link_sim.specs.Observed.{seen}
+use Rattle.link_sim.specs.Settling.{LeadsTo}
+use Rattle.link_sim.specs.WorldWork.{world_work}
+use Rattle.link_sim.proofs.world.World.spread.Given as goal
+
+abbrev pub invariant-loop-self : goal.invariant-loop-self
+invariant-loop-self g l = LeadsTo (seen l.initial.self) (seen l.self)
+
+abbrev pub decreases-loop-self : goal.decreases-loop-self
+decreases-loop-self g l = world_work l.self

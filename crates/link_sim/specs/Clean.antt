@@ -1,0 +1,59 @@
+-- When nothing went wrong in a world, and when a put is complete.
+use Rattle.std.specs.Prelude.{◌≡◌, ℕ, not, Bool, true, false, Some, Contains}
+use Rattle.std.specs.List.{list_any}
+use Rattle.cfdp_directives.specs.Completions.{IsToldComplete}
+use Rattle.cfdp_directives.specs.declared.phase.Phase.TheVariants.{Closed}
+use Rattle.cfdp_sender.specs.declared.phase.SenderPhase.{SenderPhase}
+use Rattle.cfdp_sender.specs.declared.phase.SenderPhase.TheVariants as sending
+use Rattle.cfdp_entity.specs.Entity.{EntityState, phase_told}
+use Rattle.cfdp_entity.specs.Seen.{Sends, Receives}
+use Rattle.cfdp_entity.specs.Table.{Entry}
+use Rattle.link_stack.specs.Drops.{count_of}
+use Rattle.link_sim.specs.Between.{HasHeardAll}
+use Rattle.link_sim.specs.Exchange.{is_bad}
+use Rattle.link_sim.specs.Observed.{seen}
+use Rattle.link_sim.specs.Sides.{other}
+use Rattle.link_sim.specs.Theorem.{completions_at, side_of}
+use Rattle.link_sim.specs.World.{WorldState, entity_at, link_from, station_at}
+use Rattle.link_sim.specs.declared.event.AcceptedPut.{AcceptedPut}
+use Rattle.link_sim.specs.declared.side.Side.{Side}
+
+-- ---- nothing went wrong
+abbrev pub is_cancelling_in : SenderPhase → Bool
+is_cancelling_in sending.Sending = false
+is_cancelling_in sending.Cancelling = true
+is_cancelling_in sending.Closed = false
+
+-- a sender that was told to give up, and isn't closed yet
+abbrev pub is_cancelling : Entry → Bool
+is_cancelling (id, Sends x) = is_cancelling_in x.phase
+is_cancelling (id, Receives r m) = false
+
+-- An entity told nothing bad, cancels nothing, and dropped no PDU but of a transaction that has no
+-- record and that opens none, as a Prompt that comes ahead of its Metadata.
+pub record IsCleanEntity (e : EntityState) : Type 0 where
+  pub told : list_any is_bad e.table.told ≡ false
+  pub uncancelled : list_any is_cancelling e.table.records ≡ false
+  pub heard : HasHeardAll e
+
+-- So it is at a station, no frame that it sent was lost, and its link dropped nothing.
+pub record IsCleanAt (s : Side) (w : WorldState) : Type 0 where
+  pub entity : IsCleanEntity (entity_at s w)
+  pub none_lost : list_any not (link_from s w).marks ≡ false
+  pub read : (n : ℕ) → count_of (station_at s w).up.drops n ≡ 0
+
+abbrev pub IsClean : WorldState → Type 0
+IsClean w = (s : Side) → IsCleanAt s w
+
+-- ---- a put is complete
+-- The other station indicated it complete, its own one was told so, and both records are closed.
+pub record IsCompleteAt (s : Side) (p : AcceptedPut) (w : WorldState) : Type 0 where
+  pub completed : Contains (completions_at (other s) (seen w)) p.id
+  pub told : IsToldComplete (entity_at s w).config.entity (entity_at s w).table.told p.id
+  pub closed : phase_told p.id (entity_at s w).table ≡ Some Closed
+  pub closed_there : phase_told p.id (entity_at (other s) w).table ≡ Some Closed
+
+-- Every accepted put is complete, at the station that made it and at the other one.
+abbrev pub AllComplete : WorldState → Type 0
+AllComplete w =
+    (p : AcceptedPut) → Contains w.puts p → IsCompleteAt (side_of p.id.source (seen w)) p w

@@ -1,0 +1,79 @@
+//! Sending all that is due at one station.
+ghost use Rattle.std.specs.Prelude.{◌≡◌, ◌<◌, ◌≤◌, true, false, IfOk, OnOk};
+ghost use Rattle.cfdp_entity.specs.Polling.{Rests, turn};
+ghost use Rattle.link_sim.specs.Observed.{seen};
+ghost use Rattle.link_sim.specs.Settling.{IsOfSettling, LeadsTo};
+ghost use Rattle.link_sim.specs.Theorem.{HoldsAt, Follows};
+ghost use Rattle.link_sim.specs.World.{Steps, entity_at};
+ghost use Rattle.link_sim.specs.WorldWork.{world_work};
+ghost use Rattle.link_sim.specs.declared.event.Applied.TheVariants as did;
+ghost use Rattle.link_sim.specs.declared.side.Side.{Side};
+
+use crate::event::{Applied, Event};
+use crate::side::Side;
+use crate::world::World;
+use cfdp_store::{Inbox, Outbox};
+use std::alloc::AllocError;
+
+impl<O: Outbox, I: Inbox> World<O, I> {
+    /// Polls a station until nothing is due there, and flushes it after each PDU.
+    ///
+    /// # Errors
+    ///
+    /// `AllocError` only where the memory for an event was refused: that one didn't happen.
+    pub fn spread(&mut self, side: Side) -> Result<(), AllocError>
+        ensures rests { OnOk result (turn (entity_at side self.new) ≡ Rests) }
+        // As for `settle`: puts and inboxes follow, and the promises hold.
+        ensures follows { Follows (seen self.old) (seen self.new) }
+        ensures holds { (s : Side) → HoldsAt s (seen self.new) }
+    {
+        self.show_what_holds();
+        while self.does(&Event::Poll(side))? {
+            let _flushed = self.does(&Event::Flush(side))?;
+        }
+        Ok(())
+    }
+
+    /// Polls a station until nothing is due there, and flushes it once.
+    ///
+    /// # Errors
+    ///
+    /// `AllocError` only where the memory for an event was refused: that one didn't happen.
+    pub fn burst(&mut self, side: Side) -> Result<(), AllocError>
+        ensures rests { OnOk result (turn (entity_at side self.new) ≡ Rests) }
+        ensures follows { Follows (seen self.old) (seen self.new) }
+        ensures holds { (s : Side) → HoldsAt s (seen self.new) }
+    {
+        self.show_what_holds();
+        self.poll_all(side)?;
+        let _flushed = self.does(&Event::Flush(side))?;
+        Ok(())
+    }
+
+    /// Polls a station until nothing is due there.
+    fn poll_all(&mut self, side: Side) -> Result<(), AllocError>
+        ensures leads { LeadsTo (seen self.old) (seen self.new) }
+        ensures rests { OnOk result (turn (entity_at side self.new) ≡ Rests) }
+    {
+        while self.does(&Event::Poll(side))? {}
+        Ok(())
+    }
+
+    /// One event of these: says whether it did anything.
+    fn does(&mut self, event: &Event) -> Result<bool, AllocError>
+        requires of_it { IsOfSettling event.now }
+        ensures leads { LeadsTo (seen self.old) (seen self.new) }
+        ensures less { IfOk result (λ moved. moved ≡ true
+            → world_work self.new < world_work self.old) }
+        ensures most { OnOk result (world_work self.new ≤ world_work self.old) }
+        ensures applied { IfOk result (λ moved. moved ≡ true
+            → Steps event.now did.Applied self.old self.new) }
+        ensures idle { IfOk result (λ moved. moved ≡ false
+            → Steps event.now did.Nothing self.old self.new) }
+    {
+        match self.apply(event)? {
+            Applied::Nothing => Ok(false),
+            Applied::Applied | Applied::Refused(_) => Ok(true),
+        }
+    }
+}
