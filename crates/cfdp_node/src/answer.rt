@@ -3,7 +3,7 @@ use std::alloc::AllocError;
 use std::fmt;
 
 /// Why a command didn't do its work, or not all of it. The report tells it.
-#[derive(Clone, Copy, Debug, PartialEq, Eq)]
+#[derive(Clone, Copy)]
 pub enum Answer {
     /// There was nothing to do.
     Nothing,

@@ -8,7 +8,7 @@ use std::alloc::{AllocError, Global};
 use std::{env, io};
 
 /// What the words behind the program's name ask for.
-#[derive(Clone, Copy, Debug, PartialEq, Eq)]
+#[derive(Clone, Copy)]
 pub enum Request {
     /// To run a script, and to say why a bad one is bad if `explain` is true.
     Sim { explain: bool },
@@ -69,7 +69,7 @@ puts were completed. A command that could not do its work is told as
   line N NoSuchFile     or Name, TooLarge, TableFull, NumbersSpent: a put refused
   line N Unknown        or WrongSide, AlreadyClosed, AlreadySo: a call refused
   line N LossRunTooLong too many frames lost in a row
-  line N NoMemory       or StoreFailed, TableFull, Unfinished: it ended early
+  line N NoMemory       or StoreFailed, TableFull: it ended early
 
 Exit status: 0 all puts completed, 1 some not, 2 bad script or arguments,
 3 a failed read, write or store, or no memory (told on standard error).
@@ -167,7 +167,11 @@ fn grammar<'a>(alloc: Global) -> Result<Command<'a>, AllocError> {
             "Runs a script of two stations, read from standard input, and reports on standard output",
         )
         .after_help(SIM_HELP)
-        .arg(explain_argument(alloc))?;
+        .arg(flag(
+            alloc,
+            "explain",
+            "Says why a bad line is bad, on a second line of standard error",
+        ))?;
     let dump = Command::new(alloc, "dump")
         .about("Tells what lines spell, read from standard input, on standard output")
         .after_help(DUMP_HELP)
@@ -179,23 +183,17 @@ fn grammar<'a>(alloc: Global) -> Result<Command<'a>, AllocError> {
         .after_help(
             "'cfdp_node sim --help' shows the commands of a script, 'cfdp_node dump --help' the lines of a dump.",
         )
-        .arg(version_argument(alloc))?
+        .arg(flag(alloc, "version", "Prints the version"))?
         .arg_required_else_help(true)
         .subcommand(sim)?
         .subcommand(dump)
 }
 
-fn version_argument<'a>(alloc: Global) -> Arg<'a> {
-    Arg::new(alloc, "version")
-        .long("version")
-        .help("Prints the version")
-        .action(ArgAction::SetTrue)
-}
-
-fn explain_argument<'a>(alloc: Global) -> Arg<'a> {
-    Arg::new(alloc, "explain")
-        .long("explain")
-        .help("Says why a bad line is bad, on a second line of standard error")
+/// An argument that is there or not.
+fn flag<'a>(alloc: Global, name: &'a str, help: &'a str) -> Arg<'a> {
+    Arg::new(alloc, name)
+        .long(name)
+        .help(help)
         .action(ArgAction::SetTrue)
 }
 

@@ -12,7 +12,7 @@ pub const MAX_LINE: usize = 4096;
 pub const MAX_FILL: u64 = 1_048_576;
 
 /// One line of a script.
-#[derive(Clone, Copy, Debug)]
+#[derive(Clone, Copy)]
 pub enum Line<'a> {
     /// `set KEY N`.
     Set(Setting, u64),
@@ -23,7 +23,7 @@ pub enum Line<'a> {
 }
 
 /// A file that a script puts into a station's outbox.
-#[derive(Clone, Copy, Debug)]
+#[derive(Clone, Copy)]
 pub struct FileLine<'a> {
     pub at: Side,
     pub name: &'a [u8],
@@ -31,7 +31,7 @@ pub struct FileLine<'a> {
 }
 
 /// What is in a file that a script makes.
-#[derive(Clone, Copy, Debug)]
+#[derive(Clone, Copy)]
 pub enum Contents<'a> {
     /// These octets.
     Text(&'a [u8]),
@@ -40,7 +40,7 @@ pub enum Contents<'a> {
 }
 
 /// A command of a script: what happens to the stations and the link.
-#[derive(Clone, Copy, Debug)]
+#[derive(Clone, Copy)]
 pub enum Command<'a> {
     /// `put S SRC DST`: the station is asked to send a file.
     Put {
@@ -74,7 +74,7 @@ pub enum Command<'a> {
 }
 
 /// Why a line of a script is bad.
-#[derive(Clone, Copy, Debug, PartialEq, Eq)]
+#[derive(Clone, Copy)]
 pub enum LineError {
     /// It has more than `MAX_LINE` octets.
     TooLong,
@@ -182,52 +182,84 @@ fn fill_line<'a>(mut words: Words<'a>) -> Result<Line<'a>, LineError> {
     Ok(Line::File(FileLine { at, name, contents }))
 }
 
+/// What a command does, but for its words. Each has a station as the first of them.
+#[derive(Clone, Copy)]
+enum Verb {
+    Put,
+    Call(Call),
+    Prompt,
+    Poll,
+    Flush,
+    Tick,
+    Spread,
+    Burst,
+    Deliver,
+    Strike,
+}
+
+/// The commands, but for `settle`.
+const VERBS: [(&str, Verb); 12] = [
+    ("put", Verb::Put),
+    ("cancel", Verb::Call(Call::Cancel)),
+    ("suspend", Verb::Call(Call::Suspend)),
+    ("resume", Verb::Call(Call::Resume)),
+    ("prompt", Verb::Prompt),
+    ("poll", Verb::Poll),
+    ("flush", Verb::Flush),
+    ("tick", Verb::Tick),
+    ("spread", Verb::Spread),
+    ("burst", Verb::Burst),
+    ("deliver", Verb::Deliver),
+    ("strike", Verb::Strike),
+];
+
 fn parse_command<'a>(name: &[u8], mut words: Words<'a>) -> Result<Command<'a>, LineError> {
-    let command = match name {
-        b"put" => Command::Put {
-            at: parse_station(words.take_word()?)?,
-            source: words.take_word()?,
-            destination: words.take_word()?,
-        },
-        b"cancel" => parse_call(&mut words, Call::Cancel)?,
-        b"suspend" => parse_call(&mut words, Call::Suspend)?,
-        b"resume" => parse_call(&mut words, Call::Resume)?,
-        b"prompt" => parse_prompt(&mut words)?,
-        b"poll" => Command::Poll(parse_station(words.take_word()?)?),
-        b"flush" => Command::Flush(parse_station(words.take_word()?)?),
-        b"tick" => Command::Tick(
-            parse_station(words.take_word()?)?,
-            parse_value(words.take_word()?)?,
-        ),
-        b"spread" => Command::Spread(parse_station(words.take_word()?)?),
-        b"burst" => Command::Burst(parse_station(words.take_word()?)?),
-        b"deliver" => Command::Deliver(parse_station(words.take_word()?)?, repeats(&mut words)?),
-        b"strike" => Command::Strike(parse_station(words.take_word()?)?, repeats(&mut words)?),
-        b"settle" => Command::Settle,
-        _ => return Err(LineError::UnknownCommand),
+    let command = if name == b"settle".as_slice() {
+        Command::Settle
+    } else {
+        let verb = look_up(VERBS.as_slice(), name).ok_or(LineError::UnknownCommand)?;
+        let at = parse_station(words.take_word()?)?;
+        parse_event(verb, at, &mut words)?
     };
     words.end()?;
     Ok(command)
 }
 
-/// A call on a transaction, by the next two words.
-fn parse_call<'a>(words: &mut Words<'_>, call: Call) -> Result<Command<'a>, LineError> {
-    let at = parse_station(words.take_word()?)?;
-    let id = parse_id(words.take_word()?)?;
-    Ok(Command::Call { at, id, call })
+/// What a command of this station does, by the words behind the station.
+fn parse_event<'a>(verb: Verb, at: Side, words: &mut Words<'a>) -> Result<Command<'a>, LineError> {
+    Ok(match verb {
+        Verb::Put => Command::Put {
+            at,
+            source: words.take_word()?,
+            destination: words.take_word()?,
+        },
+        Verb::Call(call) => Command::Call {
+            at,
+            id: parse_id(words.take_word()?)?,
+            call,
+        },
+        Verb::Prompt => Command::Call {
+            at,
+            id: parse_id(words.take_word()?)?,
+            call: parse_prompt(words.take_word()?)?,
+        },
+        Verb::Poll => Command::Poll(at),
+        Verb::Flush => Command::Flush(at),
+        Verb::Tick => Command::Tick(at, parse_value(words.take_word()?)?),
+        Verb::Spread => Command::Spread(at),
+        Verb::Burst => Command::Burst(at),
+        Verb::Deliver => Command::Deliver(at, repeats(words)?),
+        Verb::Strike => Command::Strike(at, repeats(words)?),
+    })
 }
 
-/// A prompt, by the next three words.
-fn parse_prompt<'a>(words: &mut Words<'_>) -> Result<Command<'a>, LineError> {
-    let at = parse_station(words.take_word()?)?;
-    let id = parse_id(words.take_word()?)?;
-    let keep_alive = match words.take_word()? {
-        b"nak" => false,
-        b"keep" => true,
-        _ => return Err(LineError::UnknownPrompt),
-    };
-    let call = Call::Prompt(keep_alive);
-    Ok(Command::Call { at, id, call })
+/// What a prompt asks for.
+fn parse_prompt(word: &[u8]) -> Result<Call, LineError> {
+    match word {
+        b"nak" => Ok(Call::Prompt(false)),
+        b"keep" => Ok(Call::Prompt(true)),
+        _ => Err(LineError::UnknownPrompt),
+    }
 }
 
 /// How often an event is to happen: the next word, or once where there is none.
@@ -245,10 +277,10 @@ fn parse_value(word: &[u8]) -> Result<u64, LineError> {
 
 fn parse_id(word: &[u8]) -> Result<TransactionId, LineError> {
     let (source, number) = cut_at_first(word, b':');
-    match (
-        parse_number(source),
-        number.and_then(|digits| parse_number(digits)),
-    ) {
+    let Some(number) = number else {
+        return Err(LineError::BadId);
+    };
+    match (parse_number(source), parse_number(number)) {
         (Some(source), Some(number)) => Ok(TransactionId { source, number }),
         _ => Err(LineError::BadId),
     }
@@ -263,23 +295,35 @@ fn parse_station(word: &[u8]) -> Result<Side, LineError> {
 }
 
 fn parse_setting(word: &[u8]) -> Result<Setting, LineError> {
-    match word {
-        b"zone" => Ok(Setting::Zone),
-        b"segment" => Ok(Setting::Segment),
-        b"id_width" => Ok(Setting::IdWidth),
-        b"number_width" => Ok(Setting::NumberWidth),
-        b"first_number" => Ok(Setting::FirstNumber),
-        b"checksum" => Ok(Setting::Checksum),
-        b"eof_limit" => Ok(Setting::EofLimit),
-        b"nak_limit" => Ok(Setting::NakLimit),
-        b"finished_limit" => Ok(Setting::FinishedLimit),
-        b"eof_time" => Ok(Setting::EofTime),
-        b"nak_time" => Ok(Setting::NakTime),
-        b"finished_time" => Ok(Setting::FinishedTime),
-        b"inactivity_time" => Ok(Setting::InactivityTime),
-        b"on_ack_limit" => Ok(Setting::OnAckLimit),
-        b"on_nak_limit" => Ok(Setting::OnNakLimit),
-        b"on_inactivity" => Ok(Setting::OnInactivity),
-        _ => Err(LineError::UnknownKey),
-    }
+    look_up(SETTINGS.as_slice(), word).ok_or(LineError::UnknownKey)
 }
+
+/// What stands beside this word in a table.
+fn look_up<T: Copy>(table: &[(&str, T)], word: &[u8]) -> Option<T> {
+    for (key, value) in table {
+        if key.as_bytes() == word {
+            return Some(*value);
+        }
+    }
+    None
+}
+
+/// The keys of `set`.
+const SETTINGS: [(&str, Setting); 16] = [
+    ("zone", Setting::Zone),
+    ("segment", Setting::Segment),
+    ("id_width", Setting::IdWidth),
+    ("number_width", Setting::NumberWidth),
+    ("first_number", Setting::FirstNumber),
+    ("checksum", Setting::Checksum),
+    ("eof_limit", Setting::EofLimit),
+    ("nak_limit", Setting::NakLimit),
+    ("finished_limit", Setting::FinishedLimit),
+    ("eof_time", Setting::EofTime),
+    ("nak_time", Setting::NakTime),
+    ("finished_time", Setting::FinishedTime),
+    ("inactivity_time", Setting::InactivityTime),
+    ("on_ack_limit", Setting::OnAckLimit),
+    ("on_nak_limit", Setting::OnNakLimit),
+    ("on_inactivity", Setting::OnInactivity),
+];

@@ -21,7 +21,7 @@ use std::io;
 use std::io::{BufWriter, Read, Write};
 
 /// What the lines of a dump are to spell.
-#[derive(Clone, Copy, Debug, PartialEq, Eq)]
+#[derive(Clone, Copy)]
 pub enum DumpKind {
     /// PDUs.
     Pdus,

@@ -118,7 +118,7 @@ impl fmt::Display for Ranges<'_> {
 
 /// A number as eight upper-case hexadecimal digits.
 #[derive(Clone, Copy)]
-struct HexNumber(u32);
+pub struct HexNumber(pub u32);
 
 impl fmt::Display for HexNumber {
     ghost output = { λ number. Some (hex_number_text number.0) };

@@ -1,7 +1,6 @@
 ghost use Rattle.std.specs.Prelude.{◌≤◌};
 
 use crate::dump::{DumpKind, run_dump};
-use crate::exit::Exit;
 use std::alloc::Global;
 use std::io;
 use std::process::Abort;
@@ -22,7 +21,7 @@ fn check_dump(
     let ended = run_dump(alloc, kind, zone, text.as_bytes(), &mut written);
     let told = String::from_utf8(written).expect(rt, "the dump is text");
     assert_eq!(rt; told.as_str(), lines, "the dump of {text}");
-    assert_eq!(rt; ended, Exit::Complete, "the end of {text}");
+    assert_eq!(rt; ended.status(), 0, "the end of {text}");
     Ok(())
 }
 

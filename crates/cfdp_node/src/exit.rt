@@ -1,7 +1,7 @@
 use crate::script::BadLine;
 
 /// How a run of the program ended.
-#[derive(Clone, Copy, Debug, PartialEq, Eq)]
+#[derive(Clone, Copy)]
 pub enum Exit {
     /// Every put was completed, or every line of a dump was written.
     Complete,
@@ -14,7 +14,7 @@ pub enum Exit {
 }
 
 /// What failed where a run could not be done.
-#[derive(Clone, Copy, Debug, PartialEq, Eq)]
+#[derive(Clone, Copy)]
 pub enum Fault {
     /// The input can't be read.
     Unreadable,

@@ -1,16 +1,11 @@
-ghost use Rattle.std.specs.Prelude.{◌<◌, OnOk};
-
 use crate::answer::Answer;
 use crate::command::Command;
 use crate::simulation::Simulation;
 use cfdp_directives::Octets;
 use cfdp_entity::Call;
 use cfdp_header::TransactionId;
-use link_sim::{Applied, Event, SettleError, Side};
+use link_sim::{Applied, Event, Side};
 use std::alloc::Global;
-
-/// The most events of one `spread` or `burst`.
-const MOST_EVENTS: u32 = 16_777_216;
 
 /// Does what a command says.
 ///
@@ -41,11 +36,14 @@ pub fn perform(
         Command::Poll(side) => once(simulation, &Event::Poll(side)),
         Command::Flush(side) => once(simulation, &Event::Flush(side)),
         Command::Tick(at, now) => once(simulation, &Event::Tick { at, now }),
-        Command::Spread(side) => spread(simulation, side),
-        Command::Burst(side) => burst(simulation, side),
+        Command::Spread(side) => Ok(simulation.spread(side)?),
+        Command::Burst(side) => Ok(simulation.burst(side)?),
         Command::Deliver(side, count) => repeat(simulation, &Event::Deliver(side), count),
         Command::Strike(side, count) => repeat(simulation, &Event::Strike(side), count),
-        Command::Settle => simulation.settle().map_err(|error| Answer::Ended(error)),
+        Command::Settle => match simulation.settle() {
+            Ok(()) => Ok(()),
+            Err(error) => Err(Answer::Ended(error)),
+        },
     }
 }
 
@@ -80,35 +78,5 @@ fn repeat(simulation: &mut Simulation, event: &Event, count: u64) -> Result<(), 
     for _ in 0..count {
         once(simulation, event)?;
     }
-    Ok(())
-}
-
-/// The same, where only so many events are left to a command. It is Unfinished without one.
-fn happens_within(
-    simulation: &mut Simulation,
-    event: &Event,
-    left: &mut u32,
-) -> Result<bool, Answer>
-    ensures { OnOk result (left.new < left.old) }
-{
-    let Some(fewer) = left.checked_sub(1) else {
-        return Err(Answer::Ended(SettleError::Unfinished));
-    };
-    *left = fewer;
-    happens(simulation, event)
-}
-
-fn spread(simulation: &mut Simulation, side: Side) -> Result<(), Answer> {
-    let mut left = MOST_EVENTS;
-    while happens_within(simulation, &Event::Poll(side), &mut left)? {
-        let _ = happens_within(simulation, &Event::Flush(side), &mut left)?;
-    }
-    Ok(())
-}
-
-fn burst(simulation: &mut Simulation, side: Side) -> Result<(), Answer> {
-    let mut left = MOST_EVENTS;
-    while happens_within(simulation, &Event::Poll(side), &mut left)? {}
-    let _ = happens_within(simulation, &Event::Flush(side), &mut left)?;
     Ok(())
 }

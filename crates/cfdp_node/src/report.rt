@@ -4,6 +4,7 @@ ghost use Rattle.std.specs.List.{flat_map};
 ghost use Rattle.cfdp_node.specs.Report.{indication_line, indication_text, told_text};
 
 use crate::answer::Answer;
+use crate::dump_line::HexNumber;
 use crate::name::Name;
 use crate::script::Step;
 use crate::simulation::Simulation;
@@ -15,7 +16,7 @@ use std::io::Write;
 use std::{fmt, io};
 
 /// How many puts a script has, and how many of them were completed.
-#[derive(Clone, Copy, Debug, PartialEq, Eq)]
+#[derive(Clone, Copy)]
 pub struct Tally {
     /// Those that were completed, by what their sender was told.
     pub complete: usize,
@@ -129,17 +130,16 @@ impl fmt::Display for ToldWords<'_> {
 
 fn write_inbox(out: &mut impl Write, station: u8, inbox: &Files) -> io::Result<()> {
     for (name, octets) in inbox.entries().iter() {
-        let mut checksum = Checksum::new();
-        checksum.add(0, octets.as_slice());
-        writeln!(
-            out,
-            "inbox {station} {} {} {:08X}",
-            Name(name.as_slice()),
-            octets.len(),
-            checksum.value()
-        )?;
+        write_file(out, station, name.as_slice(), octets.as_slice())?;
     }
     Ok(())
+}
+
+fn write_file(out: &mut impl Write, station: u8, name: &[u8], octets: &[u8]) -> io::Result<()> {
+    let mut checksum = Checksum::new();
+    checksum.add(0, octets);
+    let (name, sum) = (Name(name), HexNumber(checksum.value()));
+    writeln!(out, "inbox {station} {name} {} {sum}", octets.len())
 }
 
 /// How many of the accepted puts were completed: those of which their sender was told so, once each.

@@ -81,7 +81,7 @@ complete 1 of 1
     },
     // Three puts, both ways at once.
     Row {
-        script: "fill 1 a 5000 00\nfill 2 b 1 FF\nput 1 a a\nput 2 b b\nput 1 a c\nsettle\n",
+        script: "fill 1 a 1048576 00\nfill 2 b 1 FF\nput 1 a a\nput 2 b b\nput 1 a c\nsettle\n",
         status: 0,
         report: "\
 1 transaction 1:1
@@ -95,16 +95,16 @@ complete 1 of 1
 1 finished 1:2 0 complete retained
 2 transaction 2:1
 2 eof-sent 2:1
-2 metadata 1:1 a a 5000
-2 metadata 1:2 a c 5000
+2 metadata 1:1 a a 1048576
+2 metadata 1:2 a c 1048576
 2 eof-recv 1:1
 2 finished 1:1 0 complete retained
 2 eof-recv 1:2
 2 finished 1:2 0 complete retained
 2 finished 2:1 0 complete retained
 inbox 1 b 1 FF000000
-inbox 2 a 5000 00000000
-inbox 2 c 5000 00000000
+inbox 2 a 1048576 00000000
+inbox 2 c 1048576 00000000
 complete 3 of 3
 ",
     },
@@ -126,7 +126,7 @@ complete 3 of 3
 ];
 
 /// With frames lost, and with time.
-pub const LOSSES: [Row; 9] = [
+pub const LOSSES: [Row; 10] = [
     // The file data are lost, and asked for.
     Row {
         script: "file 1 a.txt hello\nput 1 a.txt b.txt\nspread 1\ndeliver 1\nstrike 1\nsettle\n",
@@ -169,9 +169,14 @@ inbox 2 c.txt 3 6F6E6500
 complete 2 of 2
 ",
     },
-    // The EOF is sent twice.
+    // The EOF is sent twice, before the first is heard and after all was told.
     Row {
-        script: "file 1 a.txt hello\nput 1 a.txt b.txt\nspread 1\ntick 1 10\nspread 1\nsettle\n",
+        script: "file 1 a.txt hello\nput 1 a.txt b.txt\nspread 1\ntick 1 10\nsettle\n",
+        status: 0,
+        report: HELLO,
+    },
+    Row {
+        script: "file 1 a.txt hello\nput 1 a.txt b.txt\nspread 1\ndeliver 1 3\nspread 2\ntick 1 10\nspread 1\ndeliver 1\nsettle\n",
         status: 0,
         report: HELLO,
     },

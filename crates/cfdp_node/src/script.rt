@@ -19,14 +19,14 @@ pub struct Script<'a> {
 }
 
 /// A command and the number of its line. The first line is 1.
-#[derive(Clone, Copy, Debug)]
+#[derive(Clone, Copy)]
 pub struct Step<'a> {
     pub line: usize,
     pub command: Command<'a>,
 }
 
 /// A bad line of a script, by its number. The first line is 1.
-#[derive(Clone, Copy, Debug, PartialEq, Eq)]
+#[derive(Clone, Copy)]
 pub struct BadLine {
     pub line: usize,
     pub error: LineError,

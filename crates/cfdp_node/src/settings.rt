@@ -8,7 +8,7 @@ use cfdp_station::{LinkConfig, StationConfig};
 use link_sim::{Side, WorldConfig};
 
 /// What a script's `set` sets, for both stations.
-#[derive(Clone, Copy, Debug, PartialEq, Eq)]
+#[derive(Clone, Copy)]
 pub enum Setting {
     /// Octets of a frame's packet zone.
     Zone,
@@ -45,7 +45,7 @@ pub enum Setting {
 }
 
 /// The values that a script has set so far, in range or not.
-#[derive(Clone, Copy, Debug, PartialEq, Eq)]
+#[derive(Clone, Copy)]
 pub struct Settings {
     pub zone: u64,
     pub segment: u64,

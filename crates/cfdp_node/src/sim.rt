@@ -107,7 +107,7 @@ impl Run {
         let answers = self.answers.as_slice();
         write_report(out, steps, answers, &self.simulation, tally)?;
         out.flush()?;
-        Ok(if answers.iter().any(|answer| is_device_fault(*answer)) {
+        Ok(if has_device_fault(answers) {
             Exit::Device(Fault::NoMemory)
         } else if tally.complete == tally.asked {
             Exit::Complete
@@ -118,11 +118,15 @@ impl Run {
 }
 
 /// Whether a command failed for want of memory, or a store failed.
-fn is_device_fault(answer: Option<Answer>) -> bool {
-    match answer {
-        Some(answer) => answer.is_device_fault(),
-        None => false,
+fn has_device_fault(answers: &[Option<Answer>]) -> bool {
+    for answer in answers {
+        if let Some(answer) = answer
+            && answer.is_device_fault()
+        {
+            return true;
+        }
     }
+    false
 }
 
 /// How many of the commands are puts.

@@ -6,7 +6,7 @@ ghost use Rattle.link_sim.specs.WorldConfig.{IsWorldConfig};
 
 use cfdp_directives::Indication;
 use cfdp_store::{Files, MemoryInbox, MemoryOutbox};
-use link_sim::{AcceptedPut, Applied, Event, SettleError, Side, World, WorldConfig};
+use link_sim::{Applied, Event, SettleError, Side, World, WorldConfig};
 use std::alloc::{AllocError, Global};
 use std::marker::Model;
 
@@ -53,6 +53,24 @@ impl Simulation {
         self.world.apply(event)
     }
 
+    /// Polls a station until nothing is due there, and flushes it after each PDU.
+    ///
+    /// # Errors
+    ///
+    /// `AllocError` where there is no memory for an event.
+    pub fn spread(&mut self, side: Side) -> Result<(), AllocError> {
+        self.world.spread(side)
+    }
+
+    /// Polls a station until nothing is due there, and flushes it once.
+    ///
+    /// # Errors
+    ///
+    /// `AllocError` where there is no memory for an event.
+    pub fn burst(&mut self, side: Side) -> Result<(), AllocError> {
+        self.world.burst(side)
+    }
+
     /// Polls, flushes and delivers until nothing is due at either station and no frame waits.
     ///
     /// # Errors
@@ -60,11 +78,6 @@ impl Simulation {
     /// What ended it before that.
     pub fn settle(&mut self) -> Result<(), SettleError> {
         self.world.settle()
-    }
-
-    /// The puts that were accepted, in order.
-    pub fn puts(&self) -> &[AcceptedPut] {
-        self.world.puts()
     }
 
     /// What this station told its user, in order.

@@ -3,7 +3,7 @@ use crate::dump::{DumpKind, run_dump};
 use crate::exit::{Exit, Fault};
 use crate::number::{parse_hex_octet, parse_number};
 use crate::rows::{CALLS, HELLO, LOSSES, PLAIN};
-use crate::script::{BadLine, Script};
+use crate::script::Script;
 use crate::sim::run_sim;
 use std::alloc::{AllocError, Global};
 use std::io;
@@ -38,7 +38,7 @@ fn each_script_prints_its_report(rt: HostRuntime) -> Result<(), Fail> {
 
 /// Which PDUs of a put arrive: those of the file, the two answers to it, and the last
 /// acknowledgement.
-#[derive(Clone, Copy, Debug)]
+#[derive(Clone, Copy)]
 struct Arrivals {
     metadata: bool,
     data: bool,
@@ -249,11 +249,8 @@ fn explains_a_bad_line(rt: HostRuntime) -> Result<(), Fail> {
         ("set segment 0\n", 1, LineError::BadConfiguration),
     ] {
         let exit = run_sim(alloc, script.as_bytes(), Full { room: 0 });
-        assert_eq!(rt;
-            exit,
-            Exit::BadScript(BadLine { line, error }),
-            "at {script}"
-        );
+        assert_eq!(rt; bad_line(exit), line, "at {script}");
+        assert_eq!(rt; bad_error(exit), error as u8, "at {script}");
         assert!(rt; !error.reason().is_empty());
     }
     Ok(())
@@ -289,7 +286,7 @@ fn a_report_that_failed_is_not_written_again(rt: HostRuntime) -> Result<(), Fail
         taken: 0,
     };
     let exit = run_sim(rt.alloc(), b"settle\n".as_slice(), &mut writer);
-    assert_eq!(rt; exit, Exit::Device(Fault::Unwritable));
+    assert_eq!(rt; fault(exit), Fault::Unwritable as u8);
     assert_eq!(rt; writer.taken, 0);
     Ok(())
 }
@@ -299,6 +296,34 @@ fn bad_line(exit: Exit) -> usize {
     match exit {
         Exit::BadScript(bad) => bad.line,
         _ => 0,
+    }
+}
+
+/// What is wrong with the bad line that ended a run, 255 where none did.
+fn bad_error(exit: Exit) -> u8 {
+    match exit {
+        Exit::BadScript(bad) => bad.error as u8,
+        _ => 255,
+    }
+}
+
+/// Of a run that was complete.
+const COMPLETE: u8 = 254;
+
+/// What failed in a run, `COMPLETE` where it was complete, and 255 where it ended otherwise.
+fn fault(exit: Exit) -> u8 {
+    match exit {
+        Exit::Device(fault) => fault as u8,
+        Exit::Complete => COMPLETE,
+        _ => 255,
+    }
+}
+
+/// What is wrong with a line, 255 where nothing is.
+fn line_error(line: &[u8]) -> u8 {
+    match parse_line(line) {
+        Ok(_) => 255,
+        Err(error) => error as u8,
     }
 }
 
@@ -319,11 +344,11 @@ fn names_what_is_wrong(rt: HostRuntime) -> Result<(), Fail> {
         ("file 1 a \u{e9}", LineError::NotAscii),
     ];
     for (line, error) in lines {
-        assert_eq!(rt; parse_line(line.as_bytes()).err(), Some(error), "at {line}");
+        assert_eq!(rt; line_error(line.as_bytes()), error as u8, "at {line}");
     }
     let mut long = vec![in rt.alloc(); b'x'; 4097]?;
     long.as_mut_slice()[..9].copy_from_slice(b"file 1 a ");
-    assert_eq!(rt; parse_line(long.as_slice()).err(), Some(LineError::TooLong));
+    assert_eq!(rt; line_error(long.as_slice()), LineError::TooLong as u8);
     assert!(rt; parse_line(&long[1..]).is_err());
     assert_eq!(rt; MAX_FILL, 1_048_576);
     Ok(())
@@ -422,14 +447,10 @@ impl Write for Full {
 #[test]
 fn ends_at_bad_readers(rt: HostRuntime) -> Result<(), Fail> {
     let alloc = rt.alloc();
-    assert_eq!(rt;
-        run_sim(alloc, Endless, Full { room: 0 }),
-        Exit::Device(Fault::TooLong)
-    );
-    assert_eq!(rt;
-        run_sim(alloc, Interrupted, Full { room: 0 }),
-        Exit::Device(Fault::TooLong)
-    );
+    let exit = run_sim(alloc, Endless, Full { room: 0 });
+    assert_eq!(rt; fault(exit), Fault::TooLong as u8);
+    let exit = run_sim(alloc, Interrupted, Full { room: 0 });
+    assert_eq!(rt; fault(exit), Fault::TooLong as u8);
     let rest = b"settle\n".as_slice();
     for fails in [false, true] {
         let reader = OneByOne {
@@ -438,12 +459,13 @@ fn ends_at_bad_readers(rt: HostRuntime) -> Result<(), Fail> {
             was_interrupted: false,
             fails,
         };
-        let exit = if fails {
-            Exit::Device(Fault::Unreadable)
+        let expected = if fails {
+            Fault::Unreadable as u8
         } else {
-            Exit::Complete
+            COMPLETE
         };
-        assert_eq!(rt; run_sim(alloc, reader, Full { room: 99 }), exit);
+        let exit = run_sim(alloc, reader, Full { room: 99 });
+        assert_eq!(rt; fault(exit), expected);
     }
     Ok(())
 }
@@ -453,16 +475,11 @@ fn ends_at_bad_writers(rt: HostRuntime) -> Result<(), Fail> {
     let alloc = rt.alloc();
     let script = "file 1 a.txt hello\nput 1 a.txt b.txt\nsettle\n".as_bytes();
     for room in [0, 1, HELLO.len() - 1] {
-        assert_eq!(rt;
-            run_sim(alloc, script, Full { room }),
-            Exit::Device(Fault::Unwritable),
-            "at {room}"
-        );
+        let exit = run_sim(alloc, script, Full { room });
+        assert_eq!(rt; fault(exit), Fault::Unwritable as u8, "at {room}");
     }
-    assert_eq!(rt;
-        run_sim(alloc, script, Full { room: HELLO.len() }),
-        Exit::Complete
-    );
+    let exit = run_sim(alloc, script, Full { room: HELLO.len() });
+    assert_eq!(rt; fault(exit), COMPLETE);
     Ok(())
 }
 
@@ -472,13 +489,13 @@ fn dumps_end_at_bad_readers_and_writers(rt: HostRuntime) -> Result<(), Fail> {
     let rest = b"20000A1300010000000100020400D7656C6C00000005\n".as_slice();
     let told = "eof 1:1 0 D7656C6C 5\n";
     for room in [0, 1, told.len() - 1, told.len()] {
-        let exit = if room < told.len() {
-            Exit::Device(Fault::Unwritable)
+        let expected = if room < told.len() {
+            Fault::Unwritable as u8
         } else {
-            Exit::Complete
+            COMPLETE
         };
-        let ended = run_dump(alloc, DumpKind::Pdus, 256, rest, Full { room });
-        assert_eq!(rt; ended, exit, "at {room}");
+        let exit = run_dump(alloc, DumpKind::Pdus, 256, rest, Full { room });
+        assert_eq!(rt; fault(exit), expected, "at {room}");
     }
     for fails in [false, true] {
         let reader = OneByOne {
@@ -487,16 +504,16 @@ fn dumps_end_at_bad_readers_and_writers(rt: HostRuntime) -> Result<(), Fail> {
             was_interrupted: false,
             fails,
         };
-        let exit = if fails {
-            Exit::Device(Fault::Unreadable)
+        let expected = if fails {
+            Fault::Unreadable as u8
         } else {
-            Exit::Complete
+            COMPLETE
         };
-        let ended = run_dump(alloc, DumpKind::Pdus, 256, reader, Full { room: 99 });
-        assert_eq!(rt; ended, exit);
+        let exit = run_dump(alloc, DumpKind::Pdus, 256, reader, Full { room: 99 });
+        assert_eq!(rt; fault(exit), expected);
     }
-    let ended = run_dump(alloc, DumpKind::Frames, 16, Endless, Full { room: 99 });
-    assert_eq!(rt; ended, Exit::Device(Fault::TooLong));
+    let exit = run_dump(alloc, DumpKind::Frames, 16, Endless, Full { room: 99 });
+    assert_eq!(rt; fault(exit), Fault::TooLong as u8);
     Ok(())
 }
 
@@ -505,26 +522,23 @@ fn reads_long_scripts(rt: HostRuntime) -> Result<(), Fail> {
     let alloc = rt.alloc();
     // As long as a script may be, and one octet longer.
     let mut text = vec![in alloc; b'\n'; 1_048_576]?;
-    assert_eq!(rt;
-        run_sim(alloc, text.as_slice(), Full { room: 99 }),
-        Exit::Complete
-    );
+    let exit = run_sim(alloc, text.as_slice(), Full { room: 99 });
+    assert_eq!(rt; fault(exit), COMPLETE);
     let reader = OneByOne {
         rest: text.as_slice(),
         interrupts: false,
         was_interrupted: false,
         fails: false,
     };
-    assert_eq!(rt; run_sim(alloc, reader, Full { room: 99 }), Exit::Complete);
+    let exit = run_sim(alloc, reader, Full { room: 99 });
+    assert_eq!(rt; fault(exit), COMPLETE);
     let at = text.len() - 1;
     text.as_mut_slice()[at] = b'x';
     let exit = run_sim(alloc, text.as_slice(), Full { room: 0 });
     assert_eq!(rt; bad_line(exit), 1_048_576);
     text.push(b'\n')?;
-    assert_eq!(rt;
-        run_sim(alloc, text.as_slice(), Full { room: 0 }),
-        Exit::Device(Fault::TooLong)
-    );
+    let exit = run_sim(alloc, text.as_slice(), Full { room: 0 });
+    assert_eq!(rt; fault(exit), Fault::TooLong as u8);
     Ok(())
 }
 
