@@ -1,4 +1,4 @@
--- Octets that spell a PDU have no fault, and spell no other.
+-- Exported: octets that spell a PDU have no fault, and spell no other.
 use Rattle.std.proofs.Common.{◌≡◌, ℕ, ◌+◌, ◌-◌, ◌%◌, Bool, true, false, ltb, eqb, List, ◌++◌, length, take, drop, Some, None, Result, Ok, Err, refl, sym, ap, subst, ◌∙◌, arith, length-append, length-drop}
 use Rattle.std.specs.Prelude.{IfOk, IsOkAnd}
 use Rattle.std.specs.Result.{result_err}

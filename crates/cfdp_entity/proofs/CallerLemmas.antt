@@ -1,4 +1,5 @@
--- What the layer above cites: a step changes the record of one transaction and no other, seen by look-ups.
+-- Exported: what the layer above cites: a step changes the record of one transaction and no other,
+-- seen by look-ups.
 use Rattle.std.proofs.Common.{arith, ◌<◌, ◌+◌, length, get_or, drop, position, ◌≡◌, ℕ, zero, suc, Bool, true, false, cond, ◌&&◌, ◌==◌, List, [], ◌∷◌, ◌++◌, slice_get, Option, Some, None, refl, sym, ap, ◌∙◌}
 use Rattle.std.specs.List.{IsDistinct}
 use Rattle.std.specs.Map.{keys_of}

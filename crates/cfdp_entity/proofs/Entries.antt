@@ -1,4 +1,4 @@
--- What a step of the record at a place does to the entries.
+-- Exported: what a step of the record at a place does to the entries.
 use Rattle.std.proofs.Common.{◌<◌, arith, length-append, ◌≡◌, ◌≢◌, ℕ, zero, suc, ◌≤◌, Bool, true, false, ◌&&◌, ◌==◌, List, [], ◌∷◌, ◌++◌, map, length, cond, slice_get, Some, None, Result, Ok, Err, IfOk, OnErr, refl, sym, ap, subst, ◌∙◌}
 use Rattle.std.specs.Prelude.{IsSome, unwrap_or}
 use Rattle.std.specs.FinMap.{empty, get}

@@ -1,4 +1,4 @@
--- A record that is as it was is one that found no memory.
+-- Exported: a record that is as it was is one that found no memory.
 use Rattle.std.proofs.Common.{◌≡◌, ℕ, zero, suc, List, [], ◌∷◌, slice_get, Option, Some, None, Result, Ok, Err, OnErr, refl, sym, ap, subst, true}
 use Rattle.indexmap.specs.IndexMap.{set_value_at}
 use Rattle.cfdp_directives.specs.Content.{Content, FileData, Metadata, Eof, Finished, Ack, Nak, Prompt, KeepAlive}

@@ -1,4 +1,4 @@
--- What holds of a PDU that is due, and that it can be written.
+-- Exported: what holds of a PDU that is due, and that it can be written.
 use Rattle.std.proofs.Common.{◌≡◌, ℕ, zero, suc, ◌+◌, ◌-◌, ◌^◌, ◌<◌, ◌≤◌, ◌||◌, not, min, Bool, true, false, List, [], ◌∷◌, length, take, drop, Option, Some, None, IfSome, nat_lt, if◌then◌else◌, lit<, refl, sym, ap, subst, ◌∙◌, arith, ◌==◌, add-zero, ◌⊎◌, inl, inr}
 use Rattle.std.specs.Cmp.{nat_cmp_total}
 use Rattle.std.specs.FinSet as set

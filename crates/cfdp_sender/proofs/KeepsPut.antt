@@ -1,4 +1,4 @@
--- A sender goes on sending its put, whatever happens to it.
+-- Exported: a sender goes on sending its put, whatever happens to it.
 use Rattle.std.proofs.Common.{◌≡◌, ℕ, ◌-◌, ◌≤◌, ◌==◌, ◌&&◌, min, nat_lt, Bool, true, false, List, [], ◌∷◌, take, drop, length, Option, Some, None, if◌then◌else◌, refl, sym, ap, subst, ◌∙◌, arith}
 use Rattle.std.specs.FinSet as set
 use Rattle.cfdp_extents.specs.Offsets.{range}

@@ -1,3 +1,4 @@
+-- Exported: one zone of a stream, and the packets in it.
 use Rattle.std.proofs.Common.{◌≡◌, ℕ, ◌+◌, ◌-◌, ◌*◌, ◌<◌, ◌≤◌, Bool, true, false, not, ◌&&◌, nat_lt, nat_le, List, [], ◌∷◌, ◌++◌, length, take, drop, refl, sym, ap, ◌∙◌, inl, inr, arith, length-append, length-take}
 use Rattle.std.proofs.lemmas.Bool.{lt-ltb, le-ltb, le-leb, lt-leb, eq-eqb, cases_lt, cases_Bool}
 use Rattle.std.proofs.lemmas.List.{take-append-le, length-take-le, take-take, drop_all, drop-take, take-append-drop, drop-drop}
