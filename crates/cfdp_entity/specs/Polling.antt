@@ -54,7 +54,8 @@ pub record MovesPdu (n room : ℕ) (old new : EntityState) (out_before out_now :
   pub writes : Writes (turn_octets (turn old) old) n out_before out_now
   pub served : new ≡ served Done (turn old) old
 
--- The outbox failed to give the file data of a PDU that fits, that of a sender. What `out` then holds is left open.
+-- The outbox failed to give the file data of a PDU that fits, that of a sender. What `out` then
+-- holds is left open.
 pub record LosesPdu (room : ℕ) (old new : EntityState) : Type 0 where
   pub place : ℕ
   pub is_next : turn old ≡ Place place

@@ -66,8 +66,8 @@ shortages s = record {
   table = get_or s.entity.state.drops 15 0;
 }
 
--- The count differs, so it rose, as none falls; or it stands at the greatest value, where one more
--- wouldn't show, so that is taken for a rise.
+-- The count differs; or it stands at the greatest value, where one more wouldn't show, so that is
+-- taken for a rise.
 abbrev pub HasRisen : (before after : ℕ) → Type 0
 HasRisen before after = (after ≢ before) ⊎ (after ≡ 2 ^ 64 - 1)
 
@@ -113,8 +113,8 @@ RisesFirst StoreFailed before after = Rises StoreFailed before after × Keeps No
 RisesFirst TableFull before after =
     Rises TableFull before after × Keeps StoreFailed before after × Keeps NoMemory before after
 
--- Polls, flushes and deliveries led from the old world to the new one, nothing was short meanwhile
--- (no count of it differs, and none falls), and a clean world stayed clean.
+-- Polls, flushes and deliveries led from the old world to the new one, no count of a shortage differs
+-- at the end, and a clean world stayed clean.
 pub record GoesWell (old new : WorldState) : Type 0 where
   pub only : OnlySettles old new
   pub spared : KeepsAll (all_shortages old) (all_shortages new)
