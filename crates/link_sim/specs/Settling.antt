@@ -55,8 +55,8 @@ pub record OnlySettles (old new : WorldState) : Type 0 where
   pub are : AreOfSettling steps old new
 
 -- ---- what ends a settling before
--- how often a station was short: of memory on its link and at its entity, of its stores, and of room
--- for a transaction or an acknowledgement
+-- how often a station was short: of memory on its link and at its entity, of its stores, and of
+-- room for a transaction or an acknowledgement
 abbrev pub shortages : StationState → Shortages
 shortages s = record {
   link_memory = count_of s.up.drops 11;
@@ -113,8 +113,8 @@ RisesFirst StoreFailed before after = Rises StoreFailed before after × Keeps No
 RisesFirst TableFull before after =
     Rises TableFull before after × Keeps StoreFailed before after × Keeps NoMemory before after
 
--- Polls, flushes and deliveries led from the old world to the new one, no count of a shortage differs
--- at the end, and a clean world stayed clean.
+-- Polls, flushes and deliveries led from the old world to the new one, no count of a shortage
+-- differs at the end, and a clean world stayed clean.
 pub record GoesWell (old new : WorldState) : Type 0 where
   pub only : OnlySettles old new
   pub spared : KeepsAll (all_shortages old) (all_shortages new)
