@@ -7,3 +7,6 @@ pub mod Distinct
 pub mod Firing
 pub mod CallerLemmas
 pub mod Waited
+pub mod LeastOther
+pub mod Firsts
+pub mod Replaced

@@ -84,34 +84,25 @@ get-with_timer armed t (Some at) u = map.get-insert timer_total armed t at u
 
 -- what two lists of entries answer, of which the second has d with one deadline changed at a transaction
 module _ (es fs : List (TransactionId × Deadlines)) (id : TransactionId) (kind : Kind) (d w : Deadlines) (o : Option ℕ)
-    (apart : IsDistinct (eq_by_cmp id_cmp) (keys_of es)) (apart' : IsDistinct (eq_by_cmp id_cmp) (keys_of fs)) (had : lookup ((eq-value).it id) es ≡ Some d)
-    (is : w ≡ with_deadline d kind o) (now : (q : TransactionId) → lookup ((eq-value).it q) fs ≡ cond ((eq-value).it id q) (Some w) (lookup ((eq-value).it q) es)) where
-  pub get-written : (t : Timer) → map.get (armed_of fs) t ≡ cond (eq_by_cmp timer_cmp t (id, kind)) o (map.get (armed_of es) t)
+    (apart : IsDistinct (eq_by_cmp id_cmp) (keys_of es)) (apart' : IsDistinct (eq_by_cmp id_cmp) (keys_of fs)) (had : lookup (eq_by_cmp id_cmp id) es ≡ Some d)
+    (is : w ≡ with_deadline d kind o) (now : (q : TransactionId) → lookup (eq_by_cmp id_cmp q) fs ≡ cond (eq_by_cmp id_cmp id q) (Some w) (lookup (eq_by_cmp id_cmp q) es)) where
+  get-written : (t : Timer) → map.get (armed_of fs) t ≡ cond (eq_by_cmp timer_cmp t (id, kind)) o (map.get (armed_of es) t)
   get-written t =
       let at : Option Deadlines → Option ℕ = option_and_then (λ w. deadline_at w t.1) in
       let old : map.get (armed_of es) t ≡ at (lookup (eq_by_cmp id_cmp t.0) es) = get-armed_of es t.0 t.1 apart in
-      let found : at (Some d) ≡ at (lookup (eq_by_cmp id_cmp id) es) = ap at (sym had ∙ by_id es id) in
-      get-armed_of fs t.0 t.1 apart' ∙ ap at (sym (by_id fs t.0) ∙ now t.0)
-      ∙ ap (λ b. at (cond b (Some w) (lookup ((eq-value).it t.0) es))) (id_eq id t.0 ∙ id_laws.symm id t.0)
-      ∙ elim (eq_by_cmp id_cmp t.0 id) as (λ b. at (cond b (Some w) (lookup ((eq-value).it t.0) es)) ≡ cond b (deadline_at w t.1) (at (lookup (eq_by_cmp id_cmp t.0) es))) [
+      let found : at (Some d) ≡ at (lookup (eq_by_cmp id_cmp id) es) = ap at (sym had) in
+      get-armed_of fs t.0 t.1 apart' ∙ ap at (now t.0) ∙ ap (λ b. at (cond b (Some w) (lookup (eq_by_cmp id_cmp t.0) es))) (id_laws.symm id t.0)
+      ∙ elim (eq_by_cmp id_cmp t.0 id) as (λ b. at (cond b (Some w) (lookup (eq_by_cmp id_cmp t.0) es)) ≡ cond b (deadline_at w t.1) (at (lookup (eq_by_cmp id_cmp t.0) es))) [
         | true ↦ refl
-        | false ↦ ap at (by_id es t.0)
+        | false ↦ refl
       ]
       ∙ split_tie (id_cmp t.0 id) (nat_cmp (kind_place t.1) (kind_place kind)) o (at (lookup (eq_by_cmp id_cmp t.0) es)) (deadline_at w t.1)
       (λ tie. ap (cond (is_eq (nat_cmp (kind_place t.1) (kind_place kind))) o) (ap (λ i. at (lookup (eq_by_cmp id_cmp i) es)) (id_cmp-IsAntisymmetric t.0 id tie) ∙ sym found)
       ∙ sym (ap (λ v. deadline_at v t.1) is ∙ written d kind o t.1))
       ∙ ap (cond (eq_by_cmp timer_cmp t (id, kind)) o) (sym old)
 
-  module _ (time : ℕ) (same : keys_of fs ≡ keys_of es) where
-    roomy_stays : roomy_of fs ≡ roomy_of es
-    unfolding roomy_of
-    roomy_stays = ap (λ l. set.from_list l) same
-
-    pub state_of-written : state_of time fs ≡ record { time = time; roomy = roomy_of es; armed = with_timer (armed_of es) (id, kind) o }
-    state_of-written =
-        let armed : armed_of fs ≡ with_timer (armed_of es) (id, kind) o = map.same_map timer_total same_timer _ _ (λ t.
-        get-written t ∙ sym (get-with_timer (armed_of es) (id, kind) o t)) in
-        λ i. record { time = time; roomy = roomy_stays i; armed = armed i }
+  pub armed_of-written : armed_of fs ≡ with_timer (armed_of es) (id, kind) o
+  armed_of-written = map.same_map timer_total same_timer _ _ (λ t. get-written t ∙ sym (get-with_timer (armed_of es) (id, kind) o t))
 
 -- clearing a timer of a transaction that has no room changes nothing
 pub remove-absent : (es : List (TransactionId × Deadlines)) (id : TransactionId) (kind : Kind) → IsDistinct (eq_by_cmp id_cmp) (keys_of es)
@@ -128,6 +119,14 @@ pub with_timer-absent : (es : List (TransactionId × Deadlines)) (id : Transacti
     → lookup ((eq-value).it id) es ≡ None → (IsSome o → set.contains (roomy_of es) id ≡ true) → with_timer (armed_of es) (id, kind) o ≡ armed_of es
 with_timer-absent es id kind None apart none room = remove-absent es id kind apart none
 with_timer-absent es id kind (Some at) apart none room = absurd (true≢false (sym (room refl) ∙ sym (has-room es id) ∙ ap is_some none))
+
+-- the state, where the transactions are the same
+pub state_of-written : (time : ℕ) (es fs : List (TransactionId × Deadlines)) (armed : Armed) → keys_of fs ≡ keys_of es → armed_of fs ≡ armed
+    → state_of time fs ≡ record { time = time; roomy = roomy_of es; armed = armed }
+unfolding roomy_of
+state_of-written time es fs armed same is =
+    let roomy : roomy_of fs ≡ roomy_of es = ap (λ l. set.from_list l) same in
+    λ i. record { time = time; roomy = roomy i; armed = is i }
 
 -- the entry of a new transaction
 pub state_of-pushed : (time : ℕ) (es fs : List (TransactionId × Deadlines)) (id : TransactionId) (d : Deadlines)

@@ -1,7 +1,7 @@
 -- Proof-only: how the armed timers are kept. Each transaction that has room has four deadlines, by
 -- kind.
-use Rattle.std.specs.Prelude.{ℕ, Option, None, Some, List, [], ◌∷◌, ◌++◌, filter, nat_le, min}
-use Rattle.std.specs.Map.{keys_of}
+use Rattle.std.specs.Prelude.{◌≡◌, ℕ, Option, None, Some, List, [], ◌∷◌, ◌++◌, filter, map, get_or, take, drop, nat_le, min}
+use Rattle.std.specs.Map.{keys_of, values_of}
 use Rattle.std.specs.FinMap.{from_entries}
 use Rattle.std.specs.FinSet.{FinSet, from_list}
 use Rattle.cfdp_header.specs.declared.value.TransactionId.{TransactionId}
@@ -24,6 +24,14 @@ with_deadline d EofAck at = record d { eof_ack = at }
 with_deadline d Nak at = record d { nak = at }
 with_deadline d FinishedAck at = record d { finished_ack = at }
 with_deadline d Inactivity at = record d { inactivity = at }
+
+-- no timer is armed
+abbrev pub no_deadlines : Deadlines
+no_deadlines = record { eof_ack = None; nak = None; finished_ack = None; inactivity = None }
+
+-- the deadlines of the transaction at a place
+abbrev pub deadlines_in : List (TransactionId × Deadlines) → ℕ → Deadlines
+deadlines_in es place = get_or (values_of es) place no_deadlines
 
 -- a timer with its deadline, if it is armed
 abbrev pub alarm_if : TransactionId → Kind → Option ℕ → List (Timer × ℕ)
@@ -60,6 +68,24 @@ earlier (Some x) (Some y) = Some (min x y)
 unfoldable pub earliest : List (Timer × ℕ) → Option ℕ
 earliest [] = None
 earliest (e ∷ es) = earlier (Some e.1) (earliest es)
+
+-- the earliest of several deadlines
+unfoldable pub earliest_of : List (Option ℕ) → Option ℕ
+earliest_of [] = None
+earliest_of (o ∷ os) = earlier o (earliest_of os)
+
+-- the earliest of each block of so many deadlines
+unfoldable pub AreFirsts : ℕ → (each firsts : List (Option ℕ)) → Type 0
+AreFirsts n each [] = each ≡ []
+AreFirsts n each (first ∷ firsts) =
+    (first ≡ earliest_of (take n each)) × AreFirsts n (drop n each) firsts
+
+-- the earliest deadline of a transaction but Inactivity's, and that of each
+abbrev pub other_of : Deadlines → Option ℕ
+other_of d = earlier d.eof_ack (earlier d.nak d.finished_ack)
+
+unfoldable pub others_of : List (TransactionId × Deadlines) → List (Option ℕ)
+others_of es = map (λ e. other_of e.1) es
 
 -- the transactions that have room, and the armed timers
 unfoldable pub roomy_of : List (TransactionId × Deadlines) → FinSet id_cmp

@@ -4,7 +4,7 @@ ghost use Rattle.std.specs.Option.{option_map_or};
 ghost use Rattle.cfdp_header.specs.declared.value.TransactionId.{TransactionId};
 ghost use Rattle.cfdp_timers.specs.declared.kind.Kind.{Kind};
 ghost use Rattle.cfdp_timers.specs.Entries as kept;
-ghost use Rattle.cfdp_timers.specs.Entries.{deadline_at, with_deadline, alarm_if, alarms_of, entry_of};
+ghost use Rattle.cfdp_timers.specs.Entries.{deadline_at, with_deadline, alarm_if, alarms_of, entry_of, other_of};
 
 use crate::Kind;
 use crate::alarm::Alarm;
@@ -98,6 +98,13 @@ impl Deadlines {
     {
         let others = earlier(self.nak, earlier(self.finished_ack, self.inactivity));
         earlier(self.eof_ack, others)
+    }
+
+    // The earliest deadline but Inactivity's.
+    pub(crate) fn other(&self) -> Option<u64>
+        ensures { result ≡ other_of self.now }
+    {
+        earlier(self.eof_ack, earlier(self.nak, self.finished_ack))
     }
 
     // How many timers are due.

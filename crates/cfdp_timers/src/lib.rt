@@ -12,7 +12,9 @@
 #![tactic(auto)]
 
 mod alarm;
+mod blocks;
 mod deadlines;
+mod entries;
 mod kind;
 mod laws;
 #[cfg(test)]

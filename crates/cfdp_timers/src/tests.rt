@@ -87,3 +87,22 @@ fn arm_two(timers: &mut Timers, a: TransactionId, b: TransactionId) -> Result<()
     timers.arm(a, Kind::Nak, 7);
     Ok(())
 }
+
+#[test]
+fn the_next_deadline_leaves_inactivity_out(rt: HostRuntime) -> Result<(), Fail> {
+    let (first, second) = (id(1, 1), id(1, 2));
+    let mut timers = Timers::new(rt.alloc());
+    assert_eq!(rt; timers.next_but_inactivity(), None);
+    timers.room(first)?;
+    timers.room(second)?;
+    assert!(rt; timers.has_room(first));
+    assert!(rt; timers.has_room(second));
+    timers.arm(first, Kind::Inactivity, 3);
+    assert_eq!(rt; timers.next_but_inactivity(), None);
+    timers.arm(first, Kind::Nak, 9);
+    timers.arm(second, Kind::EofAck, 7);
+    assert_eq!(rt; timers.next_but_inactivity(), Some(7));
+    timers.clear(second, Kind::EofAck);
+    assert_eq!(rt; timers.next_but_inactivity(), Some(9));
+    Ok(())
+}

@@ -9,13 +9,15 @@ ghost use Rattle.cfdp_timers.specs.declared.kind.Kind.{Kind};
 ghost use Rattle.cfdp_timers.specs.Order.{Timer, timer_cmp};
 ghost use Rattle.cfdp_timers.specs.Armed.{deadline_of, with_timer};
 ghost use Rattle.cfdp_timers.specs.Due.{AreDue, IsLeast, due_count, still_armed};
+ghost use Rattle.cfdp_timers.specs.ButInactivity.{OnlyInactivity, IsLeastOther};
 ghost use Rattle.cfdp_timers.specs.Entries.{timer_of, deadline_at};
 ghost use Rattle.cfdp_timers.specs.Waits.{deadline_after, with_wait, waited};
 
-use crate::Kind;
 use crate::alarm::{Alarm, timers_of};
+use crate::blocks::Blocks;
 use crate::deadlines::{Deadlines, earlier};
 use crate::wait::{Wait, Waits};
+use crate::{Kind, entries};
 use cfdp_header::TransactionId;
 use indexmap::IndexMap;
 use std::alloc::{AllocError, Global};
@@ -30,18 +32,20 @@ const MOST_TRANSACTIONS: usize = 1 << 59;
 #[derive(Debug, Drop)]
 pub struct Timers {
     entries: IndexMap<TransactionId, Deadlines>,
+    // By place, the earliest deadline but Inactivity's.
+    others: Blocks,
     time: u64,
     alloc: Global,
 }
 
 impl Model for Timers {
-    ghost use Rattle.std.specs.Prelude.{◌≤◌, ◌^◌, length};
+    ghost use Rattle.std.specs.Prelude.{◌≡◌, ◌≤◌, ◌^◌, length};
     ghost use Rattle.std.specs.List.{IsDistinct};
     ghost use Rattle.std.specs.Map.{keys_of};
     ghost use Rattle.std.specs.Ordering.{eq_by_cmp};
     ghost use Rattle.cfdp_header.specs.Ids.{id_cmp};
     ghost use Rattle.cfdp_timers.specs.Armed.{TimersState, timers_code};
-    ghost use Rattle.cfdp_timers.specs.Entries.{state_of};
+    ghost use Rattle.cfdp_timers.specs.Entries.{state_of, others_of};
 
     ghost Value = { TimersState };
 
@@ -50,7 +54,8 @@ impl Model for Timers {
     ghost view = { λ t. state_of t.time t.entries.entries };
 
     ghost invariant = { λ t. IsDistinct (eq_by_cmp id_cmp) (keys_of t.entries.entries)
-        × (length t.entries.entries ≤ 2 ^ 59) };
+        × (length t.entries.entries ≤ 2 ^ 59)
+        × (t.others ≡ others_of t.entries.entries) };
 }
 
 impl Timers {
@@ -62,6 +67,7 @@ impl Timers {
     {
         Timers {
             entries: IndexMap::new(alloc),
+            others: Blocks::new(alloc),
             time: 0,
             alloc,
         }
@@ -117,7 +123,7 @@ impl Timers {
         if self.entries.len() >= MOST_TRANSACTIONS {
             return Err(AllocError);
         }
-        self.entries.insert(id, Deadlines::NONE)?;
+        entries::add(&mut self.entries, &mut self.others, id)?;
         Ok(())
     }
 
@@ -150,6 +156,15 @@ impl Timers {
             earliest = earlier(earliest, deadlines.next());
         }
         earliest
+    }
+
+    /// The earliest deadline of the armed timers but those of kind Inactivity; `None` where no other
+    /// is armed.
+    pub fn next_but_inactivity(&self) -> Option<u64>
+        ensures { MatchOption result (OnlyInactivity self.now.armed)
+            (λ deadline. IsLeastOther self.now.armed deadline) }
+    {
+        self.others.earliest()
     }
 
     /// How many timers `fire` would give at that time.
@@ -240,9 +255,7 @@ impl Timers {
         requires { IsSome deadline → set.contains self.old.roomy id ≡ true }
         ensures { self.new ≡ record self.old { armed = with_timer self.old.armed (id, kind) deadline } }
     {
-        if let Some(deadlines) = self.entries.get_mut(&id) {
-            deadlines.set(kind, deadline);
-        }
+        entries::set_deadline(&mut self.entries, &mut self.others, id, kind, deadline);
     }
 
     // The timers that are due, as they fire.

@@ -1,0 +1,13 @@
+use Rattle.std.proofs.Common.{Result, Ok, Err, IsOk, OnOk, ◌∙◌}
+use Rattle.indexmap.proofs.CallerLemmas.{insert_entry-new}
+use Rattle.cfdp_header.specs.Ids.{same_id}
+use Rattle.cfdp_timers.specs.Entries.{no_deadlines}
+use Rattle.cfdp_timers.proofs.entries.insert.Goals as goal
+
+ok_so : {T E : Type 0} {P : Type 0} (r : Result T E) → IsOk r → OnOk r P → P
+ok_so (Ok x) is h = h
+ok_so (Err e) is h = absurd (cc)
+
+pub returns-clause-added : goal.returns-clause-added
+returns-clause-added c =
+    ok_so c.insert.result (c.insert.ensures.succeeds c.requires.room) c.insert.ensures.entries ∙ insert_entry-new same_id c.args.entries.now c.args.id no_deadlines c.requires.absent

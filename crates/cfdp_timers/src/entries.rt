@@ -1,0 +1,105 @@
+// The deadlines of each transaction, and beside them, by place, the earliest but Inactivity's.
+ghost use Rattle.std.specs.Prelude.{◌≡◌, ◌<◌, ◌++◌, [], ◌∷◌, true, None, IsSome, OnOk, OnErr, length, get_or, slice_set};
+ghost use Rattle.std.specs.List.{IsDistinct};
+ghost use Rattle.std.specs.Map.{keys_of};
+ghost use Rattle.std.specs.FinSet as set;
+ghost use Rattle.std.specs.Ordering.{eq_by_cmp};
+ghost use Rattle.indexmap.specs.IndexMap.{get, spare, set_value_at};
+ghost use Rattle.cfdp_header.specs.Ids.{id_cmp, same_id};
+ghost use Rattle.cfdp_timers.specs.declared.kind.Kind.TheVariants.{Inactivity};
+ghost use Rattle.cfdp_timers.specs.Armed.{with_timer};
+ghost use Rattle.cfdp_timers.specs.Entries.{no_deadlines, deadlines_in, with_deadline, other_of, others_of, roomy_of, armed_of};
+
+use crate::Kind;
+use crate::blocks::Blocks;
+use crate::deadlines::Deadlines;
+use cfdp_header::TransactionId;
+use indexmap::IndexMap;
+use std::alloc::AllocError;
+
+/// Adds a transaction, with no timer armed.
+pub(crate) fn add(
+    entries: &mut IndexMap<TransactionId, Deadlines>,
+    others: &mut Blocks,
+    id: TransactionId,
+) -> Result<(), AllocError>
+    requires absent { get same_id entries.old id ≡ None }
+    requires others { others.old ≡ others_of entries.old.entries }
+    ensures added { OnOk result (entries.new.entries
+        ≡ entries.old.entries ++ (id, no_deadlines) ∷ []) }
+    ensures err { OnErr result (entries.new.entries ≡ entries.old.entries) }
+    ensures distinct { IsDistinct (eq_by_cmp id_cmp) (keys_of entries.new.entries) }
+    ensures others { others.new ≡ others_of entries.new.entries }
+{
+    entries.reserve(1)?;
+    others.push()?;
+    insert(entries, id);
+    Ok(())
+}
+
+// Room was made for it.
+fn insert(entries: &mut IndexMap<TransactionId, Deadlines>, id: TransactionId)
+    requires absent { get same_id entries.old id ≡ None }
+    requires room { 0 < spare entries.old }
+    ensures added { entries.new.entries ≡ entries.old.entries ++ (id, no_deadlines) ∷ [] }
+    ensures distinct { IsDistinct (eq_by_cmp id_cmp) (keys_of entries.new.entries) }
+{
+    let _ = entries.insert(id, Deadlines::NONE);
+}
+
+/// Arms or clears a timer of a transaction, if it has an entry.
+pub(crate) fn set_deadline(
+    entries: &mut IndexMap<TransactionId, Deadlines>,
+    others: &mut Blocks,
+    id: TransactionId,
+    kind: Kind,
+    deadline: Option<u64>,
+)
+    requires distinct { IsDistinct (eq_by_cmp id_cmp) (keys_of entries.old.entries) }
+    requires others { others.old ≡ others_of entries.old.entries }
+    requires room { IsSome deadline → set.contains (roomy_of entries.old.entries) id ≡ true }
+    ensures keys { keys_of entries.new.entries ≡ keys_of entries.old.entries }
+    ensures armed { armed_of entries.new.entries
+        ≡ with_timer (armed_of entries.old.entries) (id, kind) deadline }
+    ensures others { others.new ≡ others_of entries.new.entries }
+{
+    let Some(place) = entries.get_index_of(&id) else {
+        return;
+    };
+    let other = write(entries, place, kind, deadline);
+    set_other(others, place, kind, other);
+}
+
+// Sets one deadline of the entry at a place. Answers its earliest but Inactivity's.
+fn write(
+    entries: &mut IndexMap<TransactionId, Deadlines>,
+    place: usize,
+    kind: Kind,
+    deadline: Option<u64>,
+) -> Option<u64>
+    requires within { place < length entries.old.entries }
+    ensures entries { entries.new.entries ≡ set_value_at entries.old.entries place
+        (with_deadline (deadlines_in entries.old.entries place) kind deadline) }
+    ensures other { result ≡ other_of (with_deadline (deadlines_in entries.old.entries place)
+        kind deadline) }
+{
+    match entries.get_index_mut(place) {
+        Some(deadlines) => {
+            deadlines.set(kind, deadline);
+            deadlines.other()
+        }
+        None => None,
+    }
+}
+
+// A deadline of Inactivity changes nothing here.
+fn set_other(others: &mut Blocks, place: usize, kind: Kind, other: Option<u64>)
+    requires within { place < length others.old }
+    requires same { kind ≡ Inactivity → get_or others.old place None ≡ other }
+    ensures { others.new ≡ slice_set others.old place other }
+{
+    match kind {
+        Kind::EofAck | Kind::Nak | Kind::FinishedAck => others.set(place, other),
+        Kind::Inactivity => {}
+    }
+}
