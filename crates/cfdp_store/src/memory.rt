@@ -154,7 +154,7 @@ impl MemoryInbox {
             Some(pieces) => pieces,
             None => Pieces::new(self.alloc),
         };
-        let octets = pieces.front(size)?;
+        let octets = pieces.into_front(size)?;
         self.files
             .insert(Vec::from_slice(self.alloc, name)?, octets)
     }

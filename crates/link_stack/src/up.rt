@@ -114,7 +114,8 @@ fn drop_header(packet: &mut Vec<u8>)
     requires { 6 ≤ length packet.old.items }
     ensures { packet.new.items ≡ drop 6 packet.old.items }
 {
-    packet.drain(..header::HEADER_LEN);
+    packet.copy_within(header::HEADER_LEN.., 0);
+    packet.truncate(packet.len() - header::HEADER_LEN);
 }
 
 /// Makes the packet at a place its PDU, or takes it out and counts why it carries none. Answers the
