@@ -223,7 +223,7 @@ key-at [] place e at = absurd cc
 key-at (x ∷ xs) zero e at = let is : x ≡ e = cc in ap (λ (y : Entry). Some y.0) is
 key-at (x ∷ xs) (suc n) e at = key-at xs n e at
 
-set-itself : (xs : List Entry) (place : ℕ) (e : Entry) → slice_get xs place ≡ Some e → set_value_at xs place e.1 ≡ xs
+pub set-itself : (xs : List Entry) (place : ℕ) (e : Entry) → slice_get xs place ≡ Some e → set_value_at xs place e.1 ≡ xs
 set-itself [] place e at = absurd cc
 set-itself (x ∷ xs) zero e at = let is : x ≡ e = cc in ap (λ (y : Entry). (x.0, y.1) ∷ xs) (sym is)
 set-itself (x ∷ xs) (suc n) e at = ap (λ l. x ∷ l) (set-itself xs n e at)

@@ -1,9 +1,12 @@
+mod Bits
 mod Firsts
+mod Flags
 pub mod Openings
 pub mod Histories
 pub mod Truths
 pub mod Sendings
 pub mod Tellings
+pub mod Timing
 pub mod Sounds
 pub mod Growing
 pub mod Speaking
@@ -18,3 +21,4 @@ pub mod Sparing
 pub mod Spelled
 pub mod Turns
 pub mod CallerLemmas
+mod LongFiles

@@ -34,7 +34,8 @@ use Rattle.cfdp_entity.specs.Sound.{IsSound, FindsById, next_put, ComesTrue}
 use Rattle.cfdp_entity.specs.Table.{Entry, TableState, Ticks, place_of, heard_at, taken_at, opened_by, put_in, at_time, all_expired, most_records}
 use Rattle.cfdp_entity.specs.Telling.{TellsNoMore, HearsDelivered}
 use Rattle.cfdp_entity.specs.Truth.{IsTrueOf, TellsTruth, IsTrueTable}
-use Rattle.cfdp_entity.proofs.CallerLemmas.{same_id-true}
+use Rattle.cfdp_entity.specs.Timed.{AreTimed}
+use Rattle.cfdp_entity.proofs.Timing.{policy-step, IsForReceiver, key-there, step-timed, push-timed, ticked-timed, spoiled-timed, hears-set, calls-set, takes-set, puts-set, opens-set}
 
 -- the laws of a table's steps
 pub record TableLaws : Type 0 where
@@ -44,17 +45,6 @@ pub record TableLaws : Type 0 where
   pub sends : (put_of : TransactionId → Option Put) (s : TableStep) (st : TableState) → MayHappen s st → FindsPut put_of s st → SendsTruth put_of st → SendsTruth put_of (table_step s st)
   pub tells : (own : ℕ) (put_of : TransactionId → Option Put) (heard : List (List ℕ)) (first : FileMap) (s : TableStep) (st : TableState) → MayHappen s st → TellsTruth own put_of heard s st → HearsDelivered heard s st
       → IsTrueTable own put_of heard first st → TellsNoMore own heard st → TellsNoMore own heard (table_step s st)
-
--- the entry at a place
-slice-or : (xs : List Entry) (n : ℕ) (d e : Entry) → slice_get xs n ≡ Some e → get_or xs n d ≡ e
-slice-or [] n d e at = absurd cc
-slice-or (x ∷ xs) zero d e at = let is : x ≡ e = cc in is
-slice-or (x ∷ xs) (suc n) d e at = slice-or xs n d e at
-
-key-there : (id : TransactionId) (records : List Entry) (place : ℕ) (e : Entry) → place_of id records ≡ Some place → slice_get records place ≡ Some e → id ≡ e.0
-key-there id records place e is at =
-    let found : same_id id (get_or records place e).0 ≡ true = (position-Some (λ (d : Entry). same_id id d.0) records place e is).1 in
-    same_id-true id e.0 (ap (λ (d : Entry). same_id id d.0) (sym (slice-or records place e e at)) ∙ found)
 
 same-put : (p q : Put) → Some p ≡ Some q → p ≡ q
 same-put p q is = cc
@@ -80,6 +70,8 @@ module _ (put_of : TransactionId → Option Put) (heard : List (List ℕ)) (firs
         knows = subst (λ (p : EntityConfig × TableState). IsTrueTable p.0.entity put_of heard first p.1) (λ i. (c i, t i)) s.knows;
         sends = subst (SendsTruth put_of) t s.sends;
         tells = subst (λ (p : EntityConfig × TableState). TellsNoMore p.0.entity heard p.1) (λ i. (c i, t i)) s.tells;
+        timed = subst AreTimed t s.timed;
+        policy = ap (λ (st : TableState). st.policy) table ∙ s.policy ∙ ap (λ (x : EntityConfig). x.policy) c;
       }
 
   -- ---- a PDU that comes
@@ -102,13 +94,15 @@ module _ (put_of : TransactionId → Option Put) (heard : List (List ℕ)) (firs
 
   module _ (laws : TableLaws) where
     sound-step : (e : EntityState) (s : TableStep) → MayHappen s e.table → TellsTruth e.config.entity put_of heard s e.table → FindsPut put_of s e.table → HearsDelivered heard s e.table
-        → IsSound put_of heard first e → IsSound put_of heard first (with_table e (table_step s e.table))
-    sound-step e s may truth finds d k = record {
+        → AreTimed (table_step s e.table) → IsSound put_of heard first e → IsSound put_of heard first (with_table e (table_step s e.table))
+    sound-step e s may truth finds d timed k = record {
       config = k.config;
       once = laws.once s e.table may k.once;
       knows = laws.knows e.config.entity put_of heard first s e.table may truth k.knows;
       sends = laws.sends put_of s e.table may finds k.sends;
       tells = laws.tells e.config.entity put_of heard first s e.table may truth d k.knows k.tells;
+      timed = timed;
+      policy = policy-step s e.table ∙ k.policy;
     }
 
     pub sound-put : (source destination : List ℕ) (id : TransactionId) (old new : EntityState) → Accepts source destination id old new → put_of id ≡ Some (next_put source destination old) → IsSound put_of heard first old → IsSound put_of heard first new
@@ -117,7 +111,7 @@ module _ (put_of : TransactionId → Option Put) (heard : List (List ℕ)) (firs
         let fresh : place_of (next_id old) old.table.records ≡ None = subst (λ i. place_of i old.table.records ≡ None) a.is_next a.fresh in
         let named : put_of (next_id old) ≡ Some (next_put source destination old) = subst (λ i. put_of i ≡ Some (next_put source destination old)) a.is_next finds in
         sound-like (with_table old (put_in t old.table)) new (ap (λ (e : EntityState). e.config) a.opened) (ap (λ (e : EntityState). e.table) a.opened)
-        (sound-step old (Puts t) fresh refl (k.config.sending.some, refl, named) tt k)
+        (sound-step old (Puts t) fresh refl (k.config.sending.some, refl, named) tt (push-timed t.addressing.id _ old.table fresh (puts-set old.table.files t) k.timed) k)
 
     pub sound-called : (c : Call) (id : TransactionId) (old new : EntityState) → IsCalled c id old new → IsSound put_of heard first old → IsSound put_of heard first new
     sound-called c id old new h k =
@@ -125,16 +119,29 @@ module _ (put_of : TransactionId → Option Put) (heard : List (List ℕ)) (firs
       where
         by : (o : Option ℕ) → IsSound put_of heard first (with_table old (called_in c o old.table))
         by None = k
-        by (Some place) = sound-step old (Calls place c) tt tt tt tt k
+        by (Some place) = sound-step old (Calls place c) tt tt tt tt
+            (step-timed _ place old.table k.once.distinct (λ e at. calls-set old.table.policy.times old.table.files c e.1) k.timed) k
 
     pub sound-ticked : (now : ℕ) (old new : EntityState) → Ticks now old.table new.table → new ≡ with_table old new.table → IsSound put_of heard first old → IsSound put_of heard first new
     sound-ticked now old new t same k =
         let told : EntityState = with_table old (at_time now old.table) in
-        sound-like (with_table told (all_expired t.fired told.table)) new (ap (λ (e : EntityState). e.config) same) t.ticked (sound-step told (Fires t.fired) tt tt tt tt (sound-step old (Tells now) tt tt tt tt k))
+        let fired : TableState = all_expired t.fired told.table in
+        let own : ℕ = old.config.entity in
+        let knows : IsTrueTable own put_of heard first told.table = laws.knows own put_of heard first (Tells now) old.table tt tt k.knows in
+        sound-like (with_table told fired) new (ap (λ (e : EntityState). e.config) same) t.ticked (record {
+          config = k.config;
+          once = laws.once (Fires t.fired) told.table tt (laws.once (Tells now) old.table tt k.once);
+          knows = laws.knows own put_of heard first (Fires t.fired) told.table tt tt knows;
+          sends = laws.sends put_of (Fires t.fired) told.table tt tt (laws.sends put_of (Tells now) old.table tt tt k.sends);
+          tells = laws.tells own put_of heard first (Fires t.fired) told.table tt tt tt knows (laws.tells own put_of heard first (Tells now) old.table tt tt tt k.knows k.tells);
+          timed = ticked-timed now old.table fired k.once.distinct (record { fired = t.fired; are = t.are; ticked = refl }) k.timed;
+          policy = policy-step (Fires t.fired) told.table ∙ k.policy;
+        })
 
     pub sound-served : (stored : Stored) (t : Turn) (e : EntityState) → IsSound put_of heard first e → IsSound put_of heard first (served stored t e)
     sound-served stored (Stray s strays) e k = sound-like e (served stored (Stray s strays) e) refl refl k
-    sound-served stored (Place place) e k = sound-like (with_table e (taken_at stored place e.table)) (served stored (Place place) e) refl refl (sound-step e (Takes stored place) tt tt tt tt k)
+    sound-served stored (Place place) e k = sound-like (with_table e (taken_at stored place e.table)) (served stored (Place place) e) refl refl (sound-step e (Takes stored place) tt tt tt tt
+        (step-timed _ place e.table k.once.distinct (λ d at. takes-set stored e.table.policy.times e.table.sources e.table.files d.1) k.timed) k)
     sound-served stored Rests e k = k
 
     -- ---- a PDU that is taken
@@ -144,22 +151,24 @@ module _ (put_of : TransactionId → Option Put) (heard : List (List ℕ)) (firs
           let truth : IsTrueOf put_of heard h.id v = true-of by_id old.state.config.peer pdu comes.among h v s (comes.says h v s) in
           sound-like (with_table old.state (heard_at t.stored place v old.state.table)) new.state (ap (λ (e : EntityState). e.config) t.steps) (ap (λ (e : EntityState). e.table) t.steps)
           (sound-step old.state (Hears t.stored place v) tt (λ e at. subst (λ i. IsTrueOf put_of heard i v) (key-there h.id old.state.table.records place e is at) truth) tt
-          (λ e at tlvs says. some-pdu by_id old.state.config.peer pdu comes.among h (SaysComplete e.0) v s (key-there h.id old.state.table.records place e is at, (tlvs, says))) k)
+          (λ e at tlvs says. some-pdu by_id old.state.config.peer pdu comes.among h (SaysComplete e.0) v s (key-there h.id old.state.table.records place e is at, (tlvs, says)))
+          (step-timed _ place old.state.table k.once.distinct (λ e at. hears-set t.stored old.state.table.policy.times old.state.table.files v e.1) k.timed) k)
 
-      opened : (v : Content) → SpellsPdu h v pdu → place_of h.id old.state.table.records ≡ None → IsOfPut old.state.config.peer put_of h.id v → TakesPdu (if nat_lt (length old.state.table.records) most_records then routes.Opens else routes.Drops drops.TableFull) h v old new → IsSound put_of heard first new.state
-      opened v s none put taken =
+      opened : (v : Content) → IsForReceiver v → SpellsPdu h v pdu → place_of h.id old.state.table.records ≡ None → IsOfPut old.state.config.peer put_of h.id v → TakesPdu (if nat_lt (length old.state.table.records) most_records then routes.Opens else routes.Drops drops.TableFull) h v old new → IsSound put_of heard first new.state
+      opened v for_it s none put taken =
           let o : OpensOne (addressing_of h) v old new = taken-if (nat_lt (length old.state.table.records) most_records) drops.TableFull routes.Opens h v old new taken in
           let truth : IsTrueOf put_of heard h.id v = true-of by_id old.state.config.peer pdu comes.among h v s (comes.says h v s) in
           let some : IsSome (put_of h.id) = subst IsSome (sym put.1.1) refl in
           let not_own : h.id.source ≡ old.state.config.entity → ⊥ = λ own. k.config.ids.apart (sym own ∙ put.1.0) in
           sound-like (with_table old.state (opened_by o.begun o.stored (addressing_of h) v old.state.table)) new.state (ap (λ (e : EntityState). e.config) o.opens) (ap (λ (e : EntityState). e.table) o.opens)
-          (sound-step old.state (Opens o.begun o.stored (addressing_of h) v) none (not_own, (some, truth)) tt tt k)
+          (sound-step old.state (Opens o.begun o.stored (addressing_of h) v) none (not_own, (some, truth)) tt tt
+          (push-timed h.id _ old.state.table none (opens-set o.begun o.stored old.state.table.policy.times old.state.table.files v (addressing_of h) for_it) k.timed) k)
 
       by-place : (o : Option ℕ) (v : Content) → SpellsPdu h v pdu → place_of h.id old.state.table.records ≡ o → TakesPdu (route_by o h v old.state) h v old new → IsSound put_of heard first new.state
       by-place (Some place) v s is t = stepped place v s is t
-      by-place None (FileData offset bytes) s is t = opened (FileData offset bytes) s is (comes.says h (FileData offset bytes) s) t
-      by-place None (Metadata kind size source destination options) s is t = opened (Metadata kind size source destination options) s is (comes.says h (Metadata kind size source destination options) s) t
-      by-place None (Eof condition checksum size tlvs) s is t = opened (Eof condition checksum size tlvs) s is (comes.says h (Eof condition checksum size tlvs) s) t
+      by-place None (FileData offset bytes) s is t = opened (FileData offset bytes) tt s is (comes.says h (FileData offset bytes) s) t
+      by-place None (Metadata kind size source destination options) s is t = opened (Metadata kind size source destination options) tt s is (comes.says h (Metadata kind size source destination options) s) t
+      by-place None (Eof condition checksum size tlvs) s is t = opened (Eof condition checksum size tlvs) tt s is (comes.says h (Eof condition checksum size tlvs) s) t
       by-place None (Finished condition delivery status tlvs) s is t =
           let q = taken-if _ drops.TableFull (routes.Queues (record { addressing = addressing_of h; condition = condition })) h (Finished condition delivery status tlvs) old new t in
           sound-like old.state new.state (ap (λ (c : Counted). c.state.config) q) (ap (λ (c : Counted). c.state.table) q) k
@@ -187,7 +196,8 @@ module _ (put_of : TransactionId → Option Put) (heard : List (List ℕ)) (firs
     dropped-by (routes.Steps place) by v old new t k =
         let f = t.1 in
         sound-like (with_table old.state (table_step (Spoils place v f.spoiled.seen) old.state.table)) new.state (ap (λ (e : EntityState). e.config) f.counted) f.spoiled.table
-        (sound-step old.state (Spoils place v f.spoiled.seen) f.spoiled.spoils tt tt tt k)
+        (sound-step old.state (Spoils place v f.spoiled.seen) f.spoiled.spoils tt tt tt
+        (spoiled-timed place v f.spoiled.seen old.state.table k.once.distinct f.spoiled.spoils k.timed) k)
     dropped-by routes.Opens by v old new t k = sound-like old.state new.state (ap (λ (e : EntityState). e.config) t.1) (ap (λ (e : EntityState). e.table) t.1) k
     dropped-by (routes.Queues s) by v old new t k = absurd t
 

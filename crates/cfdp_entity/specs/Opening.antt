@@ -1,5 +1,5 @@
 -- How a put or a PDU opens a record.
-use Rattle.std.specs.Prelude.{ℕ, ◌==◌, [], ◌∷◌, Option, Some, None, if◌then◌else◌}
+use Rattle.std.specs.Prelude.{◌≡◌, ℕ, ◌==◌, [], ◌∷◌, Option, Some, None, if◌then◌else◌}
 use Rattle.std.specs.FinMap as map
 use Rattle.cfdp_header.specs.Files.{FileMap}
 use Rattle.cfdp_directives.specs.declared.addressing.Addressing.{Addressing}
@@ -56,3 +56,10 @@ opens begun stored times files v a = opens_by (closing v) begun stored times fil
 -- Both answers of the inbox were counted.
 abbrev pub CountsBoth : (begun stored : Stored) → (before after : ℕ) → Type 0
 CountsBoth begun stored before after = Counts begun before after × Counts stored before after
+
+-- What the inbox is not asked counts as done: an EOF with an error asks nothing of it, and a PDU
+-- whose transaction it refuses to begin asks no more.
+abbrev pub AsksInOrder : (closes : Option ℕ) → (begun stored : Stored) → Type 0
+AsksInOrder (Some condition) begun stored = (begun ≡ Done) × (stored ≡ Done)
+AsksInOrder None Done stored = Unit {0}
+AsksInOrder None Refused stored = stored ≡ Done

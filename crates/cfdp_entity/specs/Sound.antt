@@ -26,10 +26,12 @@ use Rattle.cfdp_entity.specs.Sending.{SendsTruth}
 use Rattle.cfdp_entity.specs.Strays.{stray_says, stray_octets}
 use Rattle.cfdp_entity.specs.Table.{Entry}
 use Rattle.cfdp_entity.specs.Telling.{TellsNoMore}
+use Rattle.cfdp_entity.specs.Timed.{AreTimed}
 use Rattle.cfdp_entity.specs.Truth.{IsTrueTable}
 
--- Each transaction is finished once, each record knows and sends the truth of its put, and no more
--- is told of a transaction than was indicated or heard.
+-- Each transaction is finished once, each record knows and sends the truth of its put, no more is
+-- told of a transaction than was indicated or heard, the timers that are armed are those that records
+-- wait for, and the table does as it is configured.
 pub record IsSound (put_of : TransactionId → Option Put) (heard : List (List ℕ)) (first : FileMap)
     (e : EntityState) : Type 0 where
   pub config : IsConfig e.config
@@ -37,6 +39,8 @@ pub record IsSound (put_of : TransactionId → Option Put) (heard : List (List �
   pub knows : IsTrueTable e.config.entity put_of heard first e.table
   pub sends : SendsTruth put_of e.table
   pub tells : TellsNoMore e.config.entity heard e.table
+  pub timed : AreTimed e.table
+  pub policy : e.table.policy ≡ e.config.policy
 
 -- More puts are found, and those found before are as they were.
 abbrev pub FindsMore : (before after : TransactionId → Option Put) → Type 0

@@ -1,4 +1,5 @@
-ghost use Rattle.std.specs.Prelude.{◌≡◌, length, get_or, IfOk, None};
+ghost use Rattle.std.specs.Prelude.{◌≡◌, length, get_or, IfOk, MatchOption, None};
+ghost use Rattle.cfdp_timers.specs.ButInactivity.{OnlyInactivity, IsLeastOther};
 ghost use Rattle.cfdp_entity.specs.Config.{IsConfig};
 ghost use Rattle.cfdp_entity.specs.Entity.{first_entity, phase_told, dropped};
 
@@ -115,6 +116,15 @@ impl<O: Outbox, I: Inbox> Entity<O, I> {
             Some(count) => *count,
             None => 0,
         }
+    }
+
+    /// The earliest deadline of the armed timers but those of kind Inactivity; `None` where no other
+    /// is armed.
+    pub fn next_deadline(&self) -> Option<u64>
+        ensures { MatchOption result (OnlyInactivity self.now.state.table.armed)
+            (λ deadline. IsLeastOther self.now.state.table.armed deadline) }
+    {
+        self.table.next_deadline()
     }
 
     /// What was indicated, in order, from the first indication on.

@@ -1,5 +1,5 @@
 // A PDU of a transaction that has no record opens one.
-ghost use Rattle.std.specs.Prelude.{◌≡◌, ◌+◌, ◌≤◌, true, IfOk, OnOk, OnErr};
+ghost use Rattle.std.specs.Prelude.{◌≡◌, ◌+◌, ◌≤◌, true, None, IfOk, OnOk, OnErr};
 ghost use Rattle.std.specs.FinSet as set;
 ghost use Rattle.cfdp_header.specs.Files.{FileMap};
 ghost use Rattle.cfdp_header.specs.declared.value.TransactionId.{TransactionId};
@@ -9,7 +9,7 @@ ghost use Rattle.cfdp_store.specs.Staged.{OthersKeep};
 ghost use Rattle.cfdp_entity.specs.declared.record.Record.TheVariants as variants;
 ghost use Rattle.cfdp_entity.specs.Seen.{seen};
 ghost use Rattle.cfdp_entity.specs.Opening as openings;
-ghost use Rattle.cfdp_entity.specs.Opening.{begins, opens, CountsBoth};
+ghost use Rattle.cfdp_entity.specs.Opening.{begins, opens, AsksInOrder, CountsBoth};
 ghost use Rattle.cfdp_entity.specs.Does.{Does, OpensNone, spare};
 ghost use Rattle.cfdp_entity.specs.Whole.{IsReadyRecord};
 
@@ -80,6 +80,8 @@ pub(crate) fn open_heard<I: Inbox>(
     ensures others { OthersKeep addressing.id (I.staged inbox.old) (I.staged inbox.new) }
     ensures counts { IfOk result (λ o. CountsBoth o.1.begun o.1.stored (I.failures inbox.old)
         (I.failures inbox.new)) }
+    ensures asks { IfOk result (λ o. AsksInOrder (openings.closing (view pdu.now)) o.1.begun
+        o.1.stored) }
     ensures grows { I.failures inbox.old ≤ I.failures inbox.new }
 {
     match closing(pdu) {
@@ -125,6 +127,7 @@ fn begin<I: Inbox>(
     ensures others { OthersKeep addressing.id (I.staged inbox.old) (I.staged inbox.new) }
     ensures counts { IfOk result (λ o. CountsBoth o.1.begun o.1.stored (I.failures inbox.old)
         (I.failures inbox.new)) }
+    ensures asks { IfOk result (λ o. AsksInOrder None o.1.begun o.1.stored) }
     ensures grows { I.failures inbox.old ≤ I.failures inbox.new }
 {
     let (mut receiver, begun) = Receiver::open(alloc, addressing, timers, told, inbox)?;

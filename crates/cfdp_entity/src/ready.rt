@@ -1,62 +1,63 @@
-ghost use Rattle.std.specs.Prelude.{◌≡◌, ◌+◌, ◌*◌, ◌/◌, ◌%◌, ◌<◌, ◌≤◌, [], ◌∷◌, ◌++◌, ℕ, true, false, drop, get_or, length, position, IfSome, IfOk, slice_set};
+ghost use Rattle.std.specs.Prelude.{◌≡◌, ◌≢◌, ◌+◌, ◌++◌, ◌∷◌, ◌<◌, ◌≤◌, ℕ, [], None, cond, drop, length, position, IfSome, IfOk, slice_set};
+ghost use Rattle.std.specs.Int.{bit_at};
 ghost use Rattle.std.specs.Option.{option_map};
-ghost use Rattle.cfdp_entity.specs.Ready.{next_true, Marks as IsMarked};
+ghost use Rattle.cfdp_entity.specs.Ready.{next_true};
 
 use std::alloc::{AllocError, Global};
 use std::marker::Model;
 
-const PLACES: usize = 4096;
+const BITS: usize = 64;
 
-const BLOCK: usize = 64;
-
-/// Which places have something due. There is room for 4,096 places from the start.
+/// Which places have something due, of at most 4,096. All its memory is taken at the start.
 #[derive(Debug, Drop)]
 pub struct Ready {
-    flags: Vec<bool>,
-    // Whether a block of 64 places may have one that is set.
-    blocks: Vec<bool>,
+    len: usize,
+    // A bit for each of 64 places. Bits of places that are not there are clear.
+    words: Vec<u64>,
+    // A bit for each word: whether it has one that is set.
+    some: u64,
 }
 
 impl Model for Ready {
-    ghost use Rattle.std.specs.Prelude.{◌≡◌, Bool, List, ◌≤◌, length, vec_capacity};
-    ghost use Rattle.cfdp_entity.specs.Ready.{Marks as IsMarked};
+    ghost use Rattle.std.specs.Prelude.{Bool, List};
+    ghost use Rattle.cfdp_entity.specs.Ready.{flags_in, IsIndexed};
 
     ghost Value = { List Bool };
 
-    ghost view = { λ m. m.flags.items };
+    ghost view = { λ m. flags_in m.len m.words.items };
 
-    ghost invariant = { λ m. (4096 ≤ vec_capacity m.flags) × (length m.flags.items ≤ 4096) × (length m.blocks.items ≡ 64) × IsMarked m.flags.items m.blocks.items };
+    ghost invariant = { λ m. IsIndexed m.len m.words.items m.some };
 }
 
 impl Ready {
     pub fn new(alloc: Global) -> Result<Self, AllocError>
         ensures { IfOk result (λ r. r ≡ []) }
     {
-        let mut flags = Vec::new(alloc);
-        flags.reserve(PLACES)?;
-        let blocks = Vec::from_array(alloc, [false; 64])?;
-        Ok(Ready { flags, blocks })
+        let words = Vec::from_array(alloc, [0; BITS])?;
+        Ok(Ready {
+            len: 0,
+            words,
+            some: 0,
+        })
     }
 
     pub fn push(&mut self, due: bool)
         requires room { length self.old < 4096 }
         ensures { self.new ≡ self.old ++ due ∷ [] }
     {
-        let place = self.flags.len();
-        let _ = self.flags.push(due);
-        if due {
-            self.blocks[place / BLOCK] = true;
-        }
+        let place = self.len;
+        self.len += 1;
+        self.set(place, due);
     }
 
     pub fn set(&mut self, place: usize, due: bool)
         requires within { place < length self.old }
         ensures { self.new ≡ slice_set self.old place due }
     {
-        self.flags[place] = due;
-        let block = place / BLOCK;
-        let some = due || any_from(self.flags.as_slice(), block * BLOCK);
-        self.blocks[block] = some;
+        let word = place / BITS;
+        let flags = with_bit(self.words[word], place % BITS, due);
+        self.words[word] = flags;
+        self.some = with_bit(self.some, word, flags != 0);
     }
 
     /// The first place from one on that has something due, and else the first of all.
@@ -64,49 +65,73 @@ impl Ready {
         ensures next { result ≡ next_true from self.now }
         ensures within { IfSome result (λ place. place < length self.now) }
     {
-        let flags = self.flags.as_slice();
-        let blocks = self.blocks.as_slice();
-        match first_from(flags, blocks, from) {
+        match self.first_from(from) {
             Some(place) => Some(place),
-            None => first_from(flags, blocks, 0),
+            None => self.first_from(0),
+        }
+    }
+
+    // The first place from one on that is set: in its own word, and else in the next one that has
+    // any.
+    fn first_from(&self, from: usize) -> Option<usize>
+        ensures first { result
+            ≡ option_map (λ i. from + i) (position (λ b. b) (drop from self.now)) }
+        ensures within { IfSome result (λ place. place < length self.now) }
+    {
+        if self.some == 0 {
+            return None;
+        }
+        if self.len <= from {
+            return None;
+        }
+        let word = from / BITS;
+        if let Some(bit) = first_bit(self.words[word], from % BITS) {
+            return Some(BITS * word + bit);
+        }
+        match first_bit(self.some, word + 1) {
+            Some(next) => Some(BITS * next + lowest_bit(self.words[next])),
+            None => None,
         }
     }
 }
 
-// The first place from one on that is set. A block without a mark is passed over.
-fn first_from(flags: &[bool], blocks: &[bool], from: usize) -> Option<usize>
-    requires marked { IsMarked flags.now blocks.now }
-    requires blocks { length flags.now ≤ 64 * length blocks.now }
-    requires few { length flags.now ≤ 4096 }
-    ensures first { result ≡ option_map (λ i. from + i) (position (λ b. b) (drop from flags.now)) }
-    ensures within { IfSome result (λ place. place < length flags.now) }
+// The word with one bit set or cleared.
+fn with_bit(word: u64, bit: usize, on: bool) -> u64
+    requires { bit < 64 }
+    ensures here { bit_at result bit ≡ cond on 1 0 }
+    ensures others { (i : ℕ) → i < 64 → i ≢ bit → bit_at result i ≡ bit_at word i }
 {
-    let mut place = from;
-    while place < flags.len() {
-        if place % BLOCK == 0 && !blocks[place / BLOCK] {
-            place += BLOCK;
-        } else if flags[place] {
-            return Some(place);
-        } else {
-            place += 1;
-        }
+    if on {
+        word | (1 << bit)
+    } else {
+        word & !(1 << bit)
     }
-    None
 }
 
-// Whether one of the 64 places from one on is set.
-fn any_from(flags: &[bool], from: usize) -> bool
-    requires few { length flags.now ≤ 4096 }
-    requires within { from ≤ 4096 }
-    ensures { result ≡ false → (k : ℕ) → from ≤ k → k < from + 64 → get_or flags.now k false
-        ≡ false }
+// The lowest bit that is set.
+fn lowest_bit(word: u64) -> usize
+    requires { 0 < word }
+    ensures within { result < 64 }
+    ensures here { bit_at word result ≡ 1 }
+    ensures before { (i : ℕ) → i < result → bit_at word i ≡ 0 }
 {
-    let mut place = from;
-    while place < from + BLOCK && place < flags.len() {
-        if flags[place] {
-            return true;
-        }
-        place += 1;
+    word.trailing_zeros() as usize
+}
+
+// The first bit from one on that is set.
+fn first_bit(word: u64, from: usize) -> Option<usize>
+    ensures within { IfSome result (λ bit. (from ≤ bit) × (bit < 64)) }
+    ensures here { IfSome result (λ bit. bit_at word bit ≡ 1) }
+    ensures before { IfSome result (λ bit. (i : ℕ) → from ≤ i → i < bit → bit_at word i ≡ 0) }
+    ensures none { result ≡ None → (i : ℕ) → from ≤ i → i < 64 → bit_at word i ≡ 0 }
+{
+    if BITS <= from {
+        return None;
     }
-    false
+    let rest = word >> from;
+    if rest == 0 {
+        None
+    } else {
+        Some(from + lowest_bit(rest))
+    }
 }

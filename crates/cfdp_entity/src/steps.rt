@@ -13,7 +13,7 @@ ghost use Rattle.cfdp_sender.specs.Does.{HasFile};
 ghost use Rattle.cfdp_directives.specs.Addressing.{FitsAddressing};
 ghost use Rattle.cfdp_entity.specs.declared.record.Gave.TheVariants as gaves;
 ghost use Rattle.cfdp_entity.specs.Does.{spare};
-ghost use Rattle.cfdp_entity.specs.Opening.{CountsBoth};
+ghost use Rattle.cfdp_entity.specs.Opening.{closing, AsksInOrder, CountsBoth};
 ghost use Rattle.cfdp_entity.specs.Gives.{Gives, CountsOutbox, stored_by_gave};
 ghost use Rattle.cfdp_entity.specs.Sound.{longest_pdu};
 ghost use Rattle.cfdp_entity.specs.Spelled.{EntryIsSpelled};
@@ -325,6 +325,7 @@ pub(crate) fn open_record<O: Outbox, I: Inbox>(
         ≡ state_of (I.staged inbox.old) (I.published inbox.old) (O.files outbox.now) policy.now records.old.entries timers.old told.old.items) }
     ensures counts { IfOk result (λ o. CountsBoth o.begun o.stored (I.failures inbox.old)
         (I.failures inbox.new)) }
+    ensures asks { IfOk result (λ o. AsksInOrder (closing (view pdu.now)) o.begun o.stored) }
     ensures grows { I.failures inbox.old ≤ I.failures inbox.new }
     ensures whole { IsWhole (I.staged inbox.new) (O.files outbox.now) records.new.entries ready.new
         timers.new }

@@ -1,5 +1,5 @@
 // Records with their timers and both stores.
-ghost use Rattle.std.specs.Prelude.{◌≡◌, ◌+◌, ◌≤◌, ◌<◌, ◌++◌, ◌*◌, max, true, None, Option, drop, length, slice_get, IfOk, IfSome, OnOk, OnErr, is_ok};
+ghost use Rattle.std.specs.Prelude.{◌≡◌, ◌+◌, ◌≤◌, ◌<◌, ◌++◌, ◌*◌, max, true, None, Option, drop, length, slice_get, IfOk, IfSome, MatchOption, OnOk, OnErr, is_ok};
 ghost use Rattle.std.specs.FinMap as map;
 ghost use Rattle.std.specs.Option.{option_map};
 ghost use Rattle.std.specs.List.{IsDistinct};
@@ -8,6 +8,7 @@ ghost use Rattle.cfdp_header.specs.Ids.{same_id};
 ghost use Rattle.cfdp_directives.specs.Addressing.{FitsAddressing};
 ghost use Rattle.cfdp_directives.specs.Content.{view};
 ghost use Rattle.cfdp_timers.specs.Due.{AreDue, due_count};
+ghost use Rattle.cfdp_timers.specs.ButInactivity.{OnlyInactivity, IsLeastOther};
 ghost use Rattle.cfdp_store.specs.Stores.{Counts, failures_after};
 ghost use Rattle.cfdp_sender.specs.State.{IsSendable};
 ghost use Rattle.cfdp_sender.specs.Does.{HasFile};
@@ -15,7 +16,7 @@ ghost use Rattle.cfdp_entity.specs.declared.record.Gave.TheVariants as gaves;
 ghost use Rattle.cfdp_entity.specs.Seen as seens;
 ghost use Rattle.cfdp_entity.specs.Calling as calling;
 ghost use Rattle.cfdp_entity.specs.Gives.{Gives, CountsOutbox, stored_by_gave};
-ghost use Rattle.cfdp_entity.specs.Opening.{CountsBoth};
+ghost use Rattle.cfdp_entity.specs.Opening.{closing, AsksInOrder, CountsBoth};
 ghost use Rattle.cfdp_entity.specs.Sound.{longest_pdu};
 ghost use Rattle.cfdp_entity.specs.Spelled.{EntryIsSpelled};
 ghost use Rattle.cfdp_entity.specs.Table as tables;
@@ -300,6 +301,7 @@ impl<O: Outbox, I: Inbox> Table<O, I> {
         ensures err { OnErr result (self.new.state ≡ self.old.state) }
         ensures counts { IfOk result (λ o. CountsBoth o.begun o.stored self.old.inbox_failures
             self.new.inbox_failures) }
+        ensures asks { IfOk result (λ o. AsksInOrder (closing (view pdu.now)) o.begun o.stored) }
         ensures grows { self.old.inbox_failures ≤ self.new.inbox_failures }
         ensures outbox { self.new.outbox_failures ≡ self.old.outbox_failures }
     {
@@ -315,6 +317,14 @@ impl<O: Outbox, I: Inbox> Table<O, I> {
             addressing,
             pdu,
         )
+    }
+
+    /// The earliest deadline of the armed timers but those of kind Inactivity.
+    pub fn next_deadline(&self) -> Option<u64>
+        ensures { MatchOption result (OnlyInactivity self.now.state.armed)
+            (λ deadline. IsLeastOther self.now.state.armed deadline) }
+    {
+        self.timers.next_but_inactivity()
     }
 
     /// Tells the time: the timers that are due fire, one after another.

@@ -1,6 +1,7 @@
 use Rattle.cfdp_directives.specs.Faults.{pdu_fault}
 use Rattle.cfdp_entity.specs.Polling.{turn}
 use Rattle.cfdp_entity.proofs.Sounds.{TableLaws, sound-put, sound-called, sound-ticked, sound-heard, sound-dropped, sound-served}
+use Rattle.cfdp_entity.proofs.Timing.{first-timed}
 use Rattle.cfdp_entity.proofs.laws.an_entity_keeps_the_truth.Goals as goal
 
 pub returns-clause-first : goal.returns-clause-first
@@ -10,6 +11,8 @@ returns-clause-first c put_of heard sources files config is = record {
   knows = c.a_table_keeps_the_truth.ensures.first config.entity put_of heard sources files config.policy;
   sends = c.a_table_sends_the_truth.ensures.first put_of sources files config.policy;
   tells = c.a_table_tells_no_more.ensures.first config.entity heard sources files config.policy;
+  timed = first-timed sources files config.policy;
+  policy = λ i. config.policy;
 }
 
 pub returns-clause-more : goal.returns-clause-more
@@ -19,6 +22,8 @@ returns-clause-more c put_of puts_then heard more first e grows k = record {
   knows = c.a_table_keeps_the_truth.ensures.more e.config.entity put_of puts_then heard more first e.table grows k.knows;
   sends = c.a_table_sends_the_truth.ensures.more put_of puts_then e.table grows k.sends;
   tells = c.a_table_tells_no_more.ensures.more e.config.entity heard more e.table k.tells;
+  timed = k.timed;
+  policy = k.policy;
 }
 
 pub returns-clause-put : goal.returns-clause-put

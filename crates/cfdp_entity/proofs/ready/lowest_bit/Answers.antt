@@ -1,0 +1,9 @@
+use Rattle.std.proofs.Common.{w64}
+use Rattle.std.proofs.lemmas.Nat.Bits.{bit_at-trailing_zeros}
+use Rattle.cfdp_entity.proofs.ready.lowest_bit.Goals as goal
+
+pub returns-clause-here : goal.returns-clause-here
+returns-clause-here c = (bit_at-trailing_zeros w64 c.args.word c.requires c.ranges.word.fits).1
+
+pub returns-clause-before : goal.returns-clause-before
+returns-clause-before c = (bit_at-trailing_zeros w64 c.args.word c.requires c.ranges.word.fits).2
