@@ -1,11 +1,12 @@
 //! An entity over both directions of a link.
-ghost use Rattle.std.specs.Prelude.{◌≡◌, ℕ, ◌+◌, ◌*◌, ◌<◌, ◌≤◌, ◌↔◌, List, [], true, false, length, get_or, IfOk, IfErr, OnOk, OnErr};
+ghost use Rattle.std.specs.Prelude.{◌≡◌, ℕ, ◌+◌, ◌*◌, ◌<◌, ◌≤◌, ◌↔◌, List, [], true, false, length, get_or, IfOk, IfErr, MatchOption, OnOk, OnErr};
 ghost use Rattle.mpdu.specs.Stream.{ArePackets};
 ghost use Rattle.link_stack.specs.Downward.{IsDown};
 ghost use Rattle.link_stack.specs.Drops.{count_of};
 ghost use Rattle.link_stack.specs.Frames.{AreOfLink};
 ghost use Rattle.link_stack.specs.Upward.{IsUp};
 ghost use Rattle.link_stack.specs.Downward as downward;
+ghost use Rattle.cfdp_timers.specs.ButInactivity.{OnlyInactivity, IsLeastOther};
 ghost use Rattle.cfdp_store.specs.Stores.{failures_after};
 ghost use Rattle.cfdp_entity.specs.Calling.{IsRefusal};
 ghost use Rattle.cfdp_entity.specs.Calls.{IsCalled, call_refusal};
@@ -88,6 +89,8 @@ impl<O: Outbox, I: Inbox> Station<O, I> {
         requires { IsStationConfig config }
         ensures entity { IfOk result (λ s. s.entity.state ≡ first_entity (O.files outbox)
             (I.published inbox) config.entity) }
+        ensures inbox { IfOk result (λ s. s.entity.inbox_failures ≡ I.failures inbox) }
+        ensures outbox { IfOk result (λ s. s.entity.outbox_failures ≡ O.failures outbox) }
         ensures down { IfOk result (λ s. s.down
             ≡ first_down config.down config.capacity) }
         ensures up { IfOk result (λ s. s.up ≡ first_up config.up) }
@@ -224,6 +227,15 @@ impl<O: Outbox, I: Inbox> Station<O, I> {
         ensures { result ≡ count_of self.now.up.drops number }
     {
         self.up.drops(number)
+    }
+
+    /// The earliest deadline of the armed timers but those of kind Inactivity; `None` where no other
+    /// is armed.
+    pub fn next_deadline(&self) -> Option<u64>
+        ensures { MatchOption result (OnlyInactivity self.now.entity.state.table.armed)
+            (λ deadline. IsLeastOther self.now.entity.state.table.armed deadline) }
+    {
+        self.entity.next_deadline()
     }
 
     /// What was indicated, in order, from the first indication on.
