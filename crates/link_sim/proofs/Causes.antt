@@ -11,22 +11,23 @@ use Rattle.link_sim.specs.declared.event.Refusal.{Refusal}
 use Rattle.link_sim.specs.declared.settle_error.SettleError.{SettleError}
 use Rattle.link_sim.specs.declared.settle_error.SettleError.TheVariants.{NoMemory, StoreFailed, TableFull}
 use Rattle.link_sim.specs.declared.shortages.Shortages.{Shortages}
-use Rattle.link_sim.specs.Settling.{IsOfSettling, AreOfSettling, OnlySettles, KeepsAll, IsSettled, IsSettledAt, HasSent, IsSpared, KeepsAt, Keeps, GoesWell, Ends, HasCause, all_shortages}
+use Rattle.link_sim.specs.Settling.{IsOfSettling, AreOfSettling, AreInOrder, SettlesFrom, behind, KeepsAll, IsSettled, IsSettledAt, HasSent, IsSpared, CountsStayAt, CountsStay, GoesWellFrom, Ends, HasCauseFrom, all_shortages}
 use Rattle.link_sim.specs.World.{WorldState, NoneWaits, Flushes, Steps, entity_at}
 use Rattle.link_sim.specs.WorldWork.{world_work}
 use Rattle.link_sim.specs.declared.side.Side.{Side}
 use Rattle.link_sim.specs.declared.side.Side.TheVariants.{One, Two}
 use Rattle.link_sim.proofs.Keeping.{each}
+use Rattle.link_sim.proofs.Along.{along-both}
 
 spared-both : (a b c : ℕ) → IsSpared a b → IsSpared b c → IsSpared a c
 spared-both a b c one two = (two.0 ∙ one.0, two.1)
 
-keeps-at-both : (e : SettleError) (a b c : Shortages) → KeepsAt e a b → KeepsAt e b c → KeepsAt e a c
+keeps-at-both : (e : SettleError) (a b c : Shortages) → CountsStayAt e a b → CountsStayAt e b c → CountsStayAt e a c
 keeps-at-both NoMemory a b c one two = (spared-both a.link_memory b.link_memory c.link_memory one.0 two.0, spared-both a.memory b.memory c.memory one.1 two.1)
 keeps-at-both StoreFailed a b c one two = (spared-both a.outbox b.outbox c.outbox one.0 two.0, spared-both a.inbox b.inbox c.inbox one.1 two.1)
 keeps-at-both TableFull a b c one two = spared-both a.table b.table c.table one two
 
-keeps-both : (e : SettleError) (a b c : Shortages × Shortages) → Keeps e a b → Keeps e b c → Keeps e a c
+keeps-both : (e : SettleError) (a b c : Shortages × Shortages) → CountsStay e a b → CountsStay e b c → CountsStay e a c
 keeps-both e a b c one two = (keeps-at-both e a.0 b.0 c.0 one.0 two.0, keeps-at-both e a.1 b.1 c.1 one.1 two.1)
 
 spared-all : (x y z : Shortages × Shortages) → KeepsAll x y → KeepsAll y z → KeepsAll x z
@@ -37,41 +38,50 @@ spared-all x y z one two = record {
 }
 
 -- ---- events of a settling, one behind the other
-pub only-one : (e : Event) (d : Applied) (old new : WorldState) → IsOfSettling e → Steps e d old new → OnlySettles old new
-only-one e d old new of_it s = record { steps = (e, d) ∷ []; are = (new, of_it, s, refl) }
+pub only-one : (e : Event) (d : Applied) (old new : WorldState) → IsOfSettling e → Steps e d old new → SettlesFrom e (behind e d) old new
+only-one e d old new of_it s = record { steps = (e, d) ∷ []; are = (new, of_it, s, refl); in_order = (refl, refl) }
 
 steps-both : (first more : List (Event × Applied)) (a b c : WorldState) → AreOfSettling first a b → AreOfSettling more b c → AreOfSettling (first ++ more) a c
 steps-both [] more a b c is run = subst (λ (w : WorldState). AreOfSettling more w c) is run
 steps-both (s ∷ first) more a b c run rest = (run.0, run.1, run.2, steps-both first more run.0 b c run.3 rest)
 
-only-both : (a b c : WorldState) → OnlySettles a b → OnlySettles b c → OnlySettles a c
-only-both a b c r s = record { steps = r.steps ++ s.steps; are = steps-both r.steps s.steps a b c r.are s.are }
+order-both : (first more : List (Event × Applied)) (from mid upto : Event) → AreInOrder from mid first → AreInOrder mid upto more → AreInOrder from upto (first ++ more)
+order-both [] more from mid upto is order = subst (λ (e : Event). AreInOrder e upto more) is order
+order-both (s ∷ first) more from mid upto order rest = (order.0, order-both first more (behind s.0 s.1) mid upto order.1 rest)
 
-pub well-both : (a b c : WorldState) → GoesWell a b → GoesWell b c → GoesWell a c
-well-both a b c one two = record {
-  only = only-both a b c one.only two.only;
+only-both : (from mid upto : Event) (a b c : WorldState) → SettlesFrom from mid a b → SettlesFrom mid upto b c → SettlesFrom from upto a c
+only-both from mid upto a b c r s = record {
+  steps = r.steps ++ s.steps;
+  are = steps-both r.steps s.steps a b c r.are s.are;
+  in_order = order-both r.steps s.steps from mid upto r.in_order s.in_order;
+}
+
+pub well-both : (from mid upto : Event) (a b c : WorldState) → GoesWellFrom from mid a b → GoesWellFrom mid upto b c → GoesWellFrom from upto a c
+well-both from mid upto a b c one two = record {
+  only = only-both from mid upto a b c one.only two.only;
   spared = spared-all (all_shortages a) (all_shortages b) (all_shortages c) one.spared two.spared;
   clean = λ is. two.clean (one.clean is);
+  runs = along-both a b c one.runs two.runs;
 }
 
 -- Nothing was short up to now: nothing happened, or all went well.
-abbrev pub WellSoFar : (old new : WorldState) → Type 0
-WellSoFar old new = (new ≡ old) ⊎ GoesWell old new
+abbrev pub WellSoFar : (from upto : Event) (old new : WorldState) → Type 0
+WellSoFar from upto old new = ((new ≡ old) × (upto ≡ from)) ⊎ GoesWellFrom from upto old new
 
-pub well-then : (a b c : WorldState) → WellSoFar a b → GoesWell b c → GoesWell a c
-well-then a b c (inl e) two = subst (λ (w : WorldState). GoesWell w c) e two
-well-then a b c (inr one) two = well-both a b c one two
+pub well-then : (from mid upto : Event) (a b c : WorldState) → WellSoFar from mid a b → GoesWellFrom mid upto b c → GoesWellFrom from upto a c
+well-then from mid upto a b c (inl e) two = subst (λ (w : WorldState). GoesWellFrom from upto w c) e.0 (subst (λ (g : Event). GoesWellFrom g upto b c) e.1 two)
+well-then from mid upto a b c (inr one) two = well-both from mid upto a b c one two
 
-far-then : (a b c : WorldState) → WellSoFar a b → WellSoFar b c → WellSoFar a c
-far-then a b c one (inl e) = subst (λ (w : WorldState). WellSoFar a w) (sym e) one
-far-then a b c one (inr two) = inr (well-then a b c one two)
+far-then : (from mid upto : Event) (a b c : WorldState) → WellSoFar from mid a b → WellSoFar mid upto b c → WellSoFar from upto a c
+far-then from mid upto a b c one (inl e) = subst (λ (w : WorldState). WellSoFar from upto a w) (sym e.0) (subst (λ (g : Event). WellSoFar from g a b) (sym e.1) one)
+far-then from mid upto a b c one (inr two) = inr (well-then from mid upto a b c one two)
 
 -- the event that ends it
-pub cause-here : (error : SettleError) (e : Event) (a b c : WorldState) → WellSoFar a b → Ends error e b c → HasCause error a c
-cause-here error e a b c well ends = record { last = b; well = well; event = e; ends = ends }
+pub cause-here : (error : SettleError) (from e : Event) (a b c : WorldState) → WellSoFar from e a b → Ends error e b c → HasCauseFrom from error a c
+cause-here error from e a b c well ends = record { last = b; event = e; well = well; ends = ends }
 
-pub cause-then : (error : SettleError) (a b c : WorldState) → WellSoFar a b → HasCause error b c → HasCause error a c
-cause-then error a b c well cause = record { last = cause.last; well = far-then a b cause.last well cause.well; event = cause.event; ends = cause.ends }
+pub cause-then : (error : SettleError) (from mid : Event) (a b c : WorldState) → WellSoFar from mid a b → HasCauseFrom mid error b c → HasCauseFrom from error a c
+cause-then error from mid a b c well cause = record { last = cause.last; event = cause.event; well = far-then from mid cause.event a b cause.last well cause.well; ends = cause.ends }
 
 -- Poll, flush and delivery are never refused.
 pub not-refused : (e : Event) (by : Refusal) (old new : WorldState) → IsOfSettling e → Steps e (did.Refused by) old new → ⊥

@@ -19,6 +19,7 @@ use Rattle.cfdp_directives.specs.Codes.{no_error}
 use Rattle.cfdp_directives.specs.Completions.{is_complete, completion, completions}
 use Rattle.cfdp_directives.specs.Put.{Put}
 use Rattle.cfdp_directives.proofs.Puts.{Contains-append_left, Contains-append_right}
+use Rattle.cfdp_sender.specs.declared.phase.SenderPhase.TheVariants as sending
 use Rattle.cfdp_sender.specs.Due.{sender_due}
 use Rattle.cfdp_sender.specs.Inputs.{IsSenderOf}
 use Rattle.cfdp_sender.specs.State.{SenderState}
@@ -75,11 +76,11 @@ rests-at e is n d at =
     let none : next_due e.cursor e.table.records ≡ None = turn-none e.strays (next_due e.cursor e.table.records) is in
     ap has_due (sym (slice-or e.table.records n d d at)) ∙ nothing-due e.cursor e.table.records none n d (inside-of e.table.records n d at)
 
-none-of : {X : Type 0} (o : Option X) → is_some o ≡ false → o ≡ None
+pub none-of : {X : Type 0} (o : Option X) → is_some o ≡ false → o ≡ None
 none-of None is = refl
 none-of (Some x) is = absurd cc
 
-rests-of : (e : EntityState) → turn e ≡ Rests → (id : TransactionId) (s : Seen) (there : StandsAt id e.table.records s) → has_due (there.entry.0, s) ≡ false
+pub rests-of : (e : EntityState) → turn e ≡ Rests → (id : TransactionId) (s : Seen) (there : StandsAt id e.table.records s) → has_due (there.entry.0, s) ≡ false
 rests-of e is id s there = subst (λ (q : Seen). has_due (there.entry.0, q) ≡ false) there.is (rests-at e is there.place there.entry there.at)
 
 -- ---- how far a transaction has come
@@ -101,10 +102,10 @@ phase-by id st s apart found (Some place) at =
     let is : e.0.1 ≡ s = cc in
     ap phase_in e.1 ∙ ap (λ (q : Seen). Some (phase_of q)) is
 
-phase-is : (id : TransactionId) (st : TableState) (s : Seen) → IsDistinct same_id (keys_of st.records) → record_of id st.records ≡ Some s → phase_told id st ≡ Some (phase_of s)
+pub phase-is : (id : TransactionId) (st : TableState) (s : Seen) → IsDistinct same_id (keys_of st.records) → record_of id st.records ≡ Some s → phase_told id st ≡ Some (phase_of s)
 phase-is id st s apart found = phase-by id st s apart found (place_of id st.records) refl
 
-closed-receiver : (p : ReceiverPhase) → is_closed_in p ≡ true → p ≡ receiving.Closed
+pub closed-receiver : (p : ReceiverPhase) → is_closed_in p ≡ true → p ≡ receiving.Closed
 closed-receiver receiving.Receiving is = absurd cc
 closed-receiver receiving.Finishing is = absurd cc
 closed-receiver receiving.Closed is = refl
@@ -139,7 +140,7 @@ tells-is id (indication.Progress of octets) is = absurd cc
 behind : {X : Type 0} (y : X) (xs : List X) (x : X) → Contains xs x → Contains (y ∷ xs) x
 behind y xs x c = (suc c.0, (let k = c.0 in let low : k < length xs = c.1 in omega arith), c.2)
 
-told-complete : (id : TransactionId) (told : List Indication) → one_tells (tells_complete id) told ≡ true → Contains told (indication.Finished id no_error Complete Retained)
+pub told-complete : (id : TransactionId) (told : List Indication) → one_tells (tells_complete id) told ≡ true → Contains told (indication.Finished id no_error Complete Retained)
 told-complete id [] is = absurd cc
 told-complete id (i ∷ told) is = elim (cases_Bool (tells_complete id i)) [
   | inl yes_ ↦ (0, omega arith, tells-is id i yes_)
@@ -150,7 +151,7 @@ told-complete id (i ∷ told) is = elim (cases_Bool (tells_complete id i)) [
     none-first false b none h = h
     none-first true b none h = absurd cc
 
-completed-there : (own : ℕ) (id : TransactionId) (told : List Indication) → (id.source == own) ≡ false → Contains told (indication.Finished id no_error Complete Retained) → Contains (completions own told) id
+pub completed-there : (own : ℕ) (id : TransactionId) (told : List Indication) → (id.source == own) ≡ false → Contains told (indication.Finished id no_error Complete Retained) → Contains (completions own told) id
 completed-there own id [] apart c = absurd (let k = c.0 in let low : k < 0 = c.1 in omega arith)
 completed-there own id (i ∷ told) apart (zero, low, is) =
     let one : completion own (indication.Finished id no_error Complete Retained) ≡ id ∷ [] = ap (λ b. if not b then id ∷ [] else []) apart in
@@ -160,7 +161,7 @@ completed-there own id (i ∷ told) apart (suc k, low, is) =
     Contains-append_right (completion own i) (completions own told) id (completed-there own id told apart (k, omega (arith, low), is))
 
 -- ---- a put
-no-pdus : (pdus : List Pdu) → AreSpelled [] pdus → pdus ≡ []
+pub no-pdus : (pdus : List Pdu) → AreSpelled [] pdus → pdus ≡ []
 no-pdus [] s = refl
 no-pdus (p ∷ pdus) s = absurd s
 
@@ -168,9 +169,37 @@ module _ (w : WorldState) (sound : IsSound w) where
   apart : (s : Side) → (entity_at s w).config.entity ≢ (entity_at (other s) w).config.entity
   apart s is = (sound s).entity.config.ids.apart (is ∙ sym (sound s).peer)
 
-  side-is : (s : Side) (source : ℕ) → source ≡ (entity_at s w).config.entity → side_of source (seen w) ≡ s
+  pub side-is : (s : Side) (source : ℕ) → source ≡ (entity_at s w).config.entity → side_of source (seen w) ≡ s
   side-is One source own = ap (λ b. if b then One else Two) (eq-eqb source w.one.entity.state.config.entity own)
   side-is Two source own = ap (λ b. if b then One else Two) (ne_eqb source w.one.entity.state.config.entity (λ e. apart Two (sym own ∙ e)))
+
+  -- a put whose sender and receiver are closed, where both users were told that it is complete
+  module _ (s : Side) (p : AcceptedPut) (put : Put) (id : put.id ≡ p.id) (made : put.id.source ≡ (entity_at s w).config.entity) (x : SenderState) (o : Option ReceiverState)
+      (is_sender : record_of put.id (entity_at s w).table.records ≡ Some (Sends x)) (is_receiver : IsReceiverIn (record_of put.id (entity_at (other s) w).table.records) o)
+      (closed : x.phase ≡ sending.Closed) (closed_there : maybe is_closed o ≡ true) (tells : one_tells (tells_complete put.id) (entity_at s w).table.told ≡ true) (tells_there : one_tells (tells_complete put.id) (entity_at (other s) w).table.told ≡ true) where
+    pub complete-at : IsCompleteAt s p w
+    complete-at =
+        let mine : EntityState = entity_at s w in
+        let theirs : EntityState = entity_at (other s) w in
+        let told_there : Contains theirs.table.told (indication.Finished put.id no_error Complete Retained) = told-complete put.id theirs.table.told tells_there in
+        let not_own : (put.id.source == theirs.config.entity) ≡ false = ne_eqb put.id.source theirs.config.entity (λ e. apart s (sym made ∙ e)) in
+        let complete : Contains (done (other s) w) put.id = completed-there theirs.config.entity put.id theirs.table.told not_own told_there in
+        let told : Contains mine.table.told (indication.Finished put.id no_error Complete Retained) = told-complete put.id mine.table.told tells in
+        let phase : phase_told put.id mine.table ≡ Some (phase_of (Sends x)) = phase-is put.id mine.table (Sends x) (sound s).entity.once.distinct is_sender in
+        record {
+          completed = subst (λ (i : TransactionId). Contains (completions_at (other s) (seen w)) i) id (subst (λ (l : List TransactionId). Contains l put.id) (sym (at-done (other s) w)) complete);
+          told = (ap (λ (i : TransactionId). i.source) (sym id) ∙ made, subst (λ (i : TransactionId). Contains mine.table.told (indication.Finished i no_error Complete Retained)) id told);
+          closed = ap (λ i. phase_told i mine.table) (sym id) ∙ phase ∙ ap (λ q. Some (phase_of (Sends (record x { phase = q })))) closed;
+          closed_there = ap (λ i. phase_told i theirs.table) (sym id) ∙ closed-there o (record_of put.id theirs.table.records) refl is_receiver closed_there;
+        }
+      where
+        closed-there : (o : Option ReceiverState) (q : Option Seen) → record_of put.id (entity_at (other s) w).table.records ≡ q → IsReceiverIn q o → maybe is_closed o ≡ true → phase_told put.id (entity_at (other s) w).table ≡ Some phases.Closed
+        closed-there None q at is closed = absurd cc
+        closed-there (Some r) None at is closed = absurd is
+        closed-there (Some r) (Some (Sends y)) at is closed = absurd is
+        closed-there (Some r) (Some (Receives t m)) at is closed =
+            let phase : t.phase ≡ receiving.Closed = ap (λ (z : ReceiverState). z.phase) (sym is) ∙ closed-receiver r.phase closed in
+            phase-is put.id (entity_at (other s) w).table (Receives t m) (sound (other s)).entity.once.distinct at ∙ ap (λ q. Some (phase_of (Receives (record t { phase = q }) m))) phase
 
   module _ (course : KeepCourse w) (clean : IsClean w) (settled : IsSettled w) (rested : (s : Side) → IsRested (way_from s w)) where
     at-side : (s : Side) (p : AcceptedPut) (put : Put) → put_of (seen w) p.id ≡ Some put → put.id ≡ p.id → p.id.source ≡ (entity_at s w).config.entity → IsCompleteAt s p w
@@ -195,17 +224,7 @@ module _ (w : WorldState) (sound : IsSound w) where
         let of : IsSenderOf put x = subst (λ (q : Put). IsSenderOf q x) same sends.sender in
         let quiet : sender_due x ≡ None = none-of (sender_due x) (rests-of mine (settled s).rests put.id (Sends x) stands) in
         let ends = completes put x o.receiver (one_tells (tells_complete put.id) mine.table.told) (one_tells (tells_complete put.id) theirs.table.told) of sends.in_file o.course quiet (rests-there o.receiver o.is_receiver) in
-        let told_there : Contains theirs.table.told (indication.Finished put.id no_error Complete Retained) = told-complete put.id theirs.table.told ends.1.1.1 in
-        let not_own : (put.id.source == theirs.config.entity) ≡ false = ne_eqb put.id.source theirs.config.entity (λ e. apart s (sym made ∙ e)) in
-        let complete : Contains (done (other s) w) put.id = completed-there theirs.config.entity put.id theirs.table.told not_own told_there in
-        let told : Contains mine.table.told (indication.Finished put.id no_error Complete Retained) = told-complete put.id mine.table.told ends.1.1.0 in
-        let phase : phase_told put.id mine.table ≡ Some (phase_of (Sends x)) = phase-is put.id mine.table (Sends x) (sound s).entity.once.distinct o.is_sender in
-        record {
-          completed = subst (λ (i : TransactionId). Contains (completions_at (other s) (seen w)) i) id (subst (λ (l : List TransactionId). Contains l put.id) (sym (at-done (other s) w)) complete);
-          told = (own, subst (λ (i : TransactionId). Contains mine.table.told (indication.Finished i no_error Complete Retained)) id told);
-          closed = ap (λ i. phase_told i mine.table) (sym id) ∙ phase ∙ ap (λ q. Some (phase_of (Sends (record x { phase = q })))) ends.0;
-          closed_there = ap (λ i. phase_told i theirs.table) (sym id) ∙ closed-there o.receiver (record_of put.id theirs.table.records) refl o.is_receiver ends.1.0;
-        }
+        complete-at s p put id made x o.receiver o.is_sender o.is_receiver ends.0 ends.1.0 ends.1.1.0 ends.1.1.1
       where
         rests-by : (o : Option ReceiverState) (q : Option Seen) → record_of put.id (entity_at (other s) w).table.records ≡ q → IsReceiverIn q o → NothingDue o
         rests-by None q at is = tt
@@ -217,14 +236,6 @@ module _ (w : WorldState) (sound : IsSound w) where
 
         rests-there : (o : Option ReceiverState) → IsReceiverIn (record_of put.id (entity_at (other s) w).table.records) o → NothingDue o
         rests-there o is = rests-by o (record_of put.id (entity_at (other s) w).table.records) refl is
-
-        closed-there : (o : Option ReceiverState) (q : Option Seen) → record_of put.id (entity_at (other s) w).table.records ≡ q → IsReceiverIn q o → maybe is_closed o ≡ true → phase_told put.id (entity_at (other s) w).table ≡ Some phases.Closed
-        closed-there None q at is closed = absurd cc
-        closed-there (Some r) None at is closed = absurd is
-        closed-there (Some r) (Some (Sends y)) at is closed = absurd is
-        closed-there (Some r) (Some (Receives t m)) at is closed =
-            let phase : t.phase ≡ receiving.Closed = ap (λ (z : ReceiverState). z.phase) (sym is) ∙ closed-receiver r.phase closed in
-            phase-is put.id (entity_at (other s) w).table (Receives t m) (sound (other s)).entity.once.distinct at ∙ ap (λ q. Some (phase_of (Receives (record t { phase = q }) m))) phase
 
     pub clean-completes : ((p : AcceptedPut) → Contains w.puts p → IsFound w p) → AllComplete w
     clean-completes founds p among =

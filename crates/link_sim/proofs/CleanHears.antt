@@ -147,7 +147,7 @@ back-none (Metadata kind size source destination options) m files r t = absurd t
 back-none (Eof condition checksum size tlvs) m files r t = absurd t
 back-none (Prompt keep_alive) m files r t = absurd t
 
-forth-some : (put : Put) (v : Content) (m : OctetMap) (files : FileMap) (r : ReceiverState) → IsTrueForth put v → receiver_after Done v m files r ≡ Some (receiver_hears Done v m files r)
+pub forth-some : (put : Put) (v : Content) (m : OctetMap) (files : FileMap) (r : ReceiverState) → IsTrueForth put v → receiver_after Done v m files r ≡ Some (receiver_hears Done v m files r)
 forth-some put (FileData offset bytes) m files r t = refl
 forth-some put (Metadata kind size source destination options) m files r t = refl
 forth-some put (Eof condition checksum size tlvs) m files r t = refl
@@ -158,7 +158,7 @@ forth-some put (Finished condition delivery status tlvs) m files r t = absurd t
 forth-some put (Nak start end pairs) m files r t = absurd t
 forth-some put (KeepAlive progress) m files r t = absurd t
 
-begins-within : (put : Put) (v : Content) → IsTrueForth put v → BeginsWithin put (Hears v)
+pub begins-within : (put : Put) (v : Content) → IsTrueForth put v → BeginsWithin put (Hears v)
 begins-within put (FileData offset bytes) t = omega (arith, t)
 begins-within put (Metadata kind size source destination options) t = tt
 begins-within put (Eof condition checksum size tlvs) t = tt
@@ -168,7 +168,7 @@ begins-within put (Finished condition delivery status tlvs) t = tt
 begins-within put (Nak start end pairs) t = tt
 begins-within put (KeepAlive progress) t = tt
 
-closing-none : (put : Put) (v : Content) → IsTrueForth put v → closing v ≡ None
+pub closing-none : (put : Put) (v : Content) → IsTrueForth put v → closing v ≡ None
 closing-none put (FileData offset bytes) t = refl
 closing-none put (Metadata kind size source destination options) t = refl
 closing-none put (Eof condition checksum size tlvs) t = ap error_of t.0
@@ -204,6 +204,11 @@ pub key-there : (id : TransactionId) (records : List Entry) (place : ℕ) (e : E
 key-there id records place e is at =
     let found : same_id id (get_or records place e).0 ≡ true = (position-Some (λ (d : Entry). same_id id d.0) records place e is).1 in
     same_id-true id e.0 (ap (λ (d : Entry). same_id id d.0) (sym (slice-or records place e e at)) ∙ found)
+
+-- a call of the inbox that failed would show
+pub was-done : (s : Stored) (before after : ℕ) → Counts s before after → after ≡ before → before < 2 ^ 64 - 1 → s ≡ Done
+was-done Done before after c same low = refl
+was-done Refused before after c same low = absurd (let more : before < after = c.1 low in omega (arith, more, same))
 
 -- An entity's table is clean still, and no more was dropped but of three causes.
 pub record HearsClean (old new : EntityState) : Type 0 where
@@ -242,10 +247,6 @@ module _ (laws : HearingLaws) (put_of : TransactionId → Option Put) (heard : L
   -- ---- one PDU
   clean-table : (old new : EntityState) (t : TableState) → new.table ≡ t → new.drops ≡ old.drops → IsCleanTable t → HearsClean old new
   clean-table old new t is same k = record { table = subst IsCleanTable (sym is) k; drops = λ n a b c. ap (λ l. get_or l n 0) same }
-
-  was-done : (s : Stored) (before after : ℕ) → Counts s before after → after ≡ before → before < 2 ^ 64 - 1 → s ≡ Done
-  was-done Done before after c same low = refl
-  was-done Refused before after c same low = absurd (let more : before < after = c.1 low in omega (arith, more, same))
 
   others-stay : (by : EntityDrop) (xs : List ℕ) (n : ℕ) → (drop_number by ≡ 14) ⊎ ((drop_number by ≡ 15) ⊎ (drop_number by ≡ 16)) → n ≢ 14 → n ≢ 15 → n ≢ 16 → get_or (counted by xs) n 0 ≡ get_or xs n 0
   others-stay by xs n kinds a b c = get_or-set_other xs (drop_number by) n (raised (get_or xs (drop_number by) 0)) 0 (apart kinds)
@@ -323,7 +324,7 @@ module _ (laws : HearingLaws) (put_of : TransactionId → Option Put) (heard : L
     heard-clean (inr (inr (inr s))) = spoiled s
 
 -- No failure of the inbox is taken back.
-counts-grow : (s : Stored) (before after : ℕ) → Counts s before after → before ≤ after
+pub counts-grow : (s : Stored) (before after : ℕ) → Counts s before after → before ≤ after
 counts-grow Done before after c = c
 counts-grow Refused before after c = c.0
 

@@ -1,16 +1,14 @@
 -- What a clean world says of its puts: each stays on the course of a link without losses, so each PDU on its
 -- way says the truth of one.
-use Rattle.std.proofs.Common.{◌≡◌, ℕ, zero, suc, ◌<◌, ◌≤◌, ◌==◌, not, cond, Bool, true, false, List, [], ◌∷◌, ◌++◌, length, slice_get, Option, Some, None, ◌⊎◌, inl, inr, refl, sym, ap, subst, ◌∙◌, if◌then◌else◌, arith}
+use Rattle.std.proofs.Common.{◌≡◌, ℕ, zero, suc, ◌<◌, ◌≤◌, cond, true, false, List, [], ◌∷◌, ◌++◌, length, slice_get, Option, Some, None, ◌⊎◌, inl, inr, refl, sym, ap, subst, ◌∙◌, if◌then◌else◌, arith}
 use Rattle.std.specs.Prelude.{Contains, IsSome}
 use Rattle.std.specs.FinMap.{get}
 use Rattle.std.specs.List.{list_any}
-use Rattle.std.proofs.lemmas.Bool.{cases_Bool, or_parts, or_from, false_from_ne_true, false≢true}
+use Rattle.std.proofs.lemmas.Bool.{cases_Bool, or_parts}
 use Rattle.cfdp_header.specs.declared.value.Header.{Header}
 use Rattle.cfdp_header.specs.declared.value.TransactionId.{TransactionId}
 use Rattle.cfdp_header.specs.Ids.{same_id}
 use Rattle.cfdp_header.proofs.Ids.{same_id-itself}
-use Rattle.cfdp_directives.specs.declared.indication.Indication.{Indication}
-use Rattle.cfdp_directives.specs.declared.indication.Indication.TheVariants as indication
 use Rattle.cfdp_directives.specs.Codes.{modular, null}
 use Rattle.cfdp_directives.specs.Content.{Content, FileData, Metadata, Eof, Finished, Ack, Nak, Prompt, KeepAlive}
 use Rattle.cfdp_directives.specs.Direction.{goes_toward_sender}
@@ -44,17 +42,12 @@ use Rattle.link_sim.specs.World.{WorldState, entity_at, way_from}
 use Rattle.link_sim.specs.WorldWork.{most_offset}
 use Rattle.link_sim.proofs.CleanHears.{IsFine, not-cancelling}
 use Rattle.link_sim.proofs.Keeping.{other-other}
-use Rattle.link_sim.proofs.LiftRoutes.{and-parts, directed-own, directed-peer}
+use Rattle.link_sim.proofs.LiftRoutes.{directed-own, directed-peer}
+use Rattle.link_sim.proofs.NotBad.{none-weaker, spoils-bad, pauses-bad}
 use Rattle.link_sim.proofs.PutsFound.{puts-by-id}
 use Rattle.link_sim.proofs.WorkWithin.{within-at}
 
 -- ---- lists
-pub none-weaker : {X : Type 0} (p q : X → Bool) → ((x : X) → q x ≡ true → p x ≡ true) → (xs : List X) → list_any p xs ≡ false → list_any q xs ≡ false
-none-weaker p q so [] none = refl
-none-weaker p q so (x ∷ xs) none =
-    let parts = or_parts (p x) (list_any p xs) none in
-    or_from (q x) (list_any q xs) (false_from_ne_true (q x) (λ is. false≢true (sym parts.0 ∙ so x is))) (none-weaker p q so xs parts.1)
-
 pub all-from : {X : Type 0} (Is : X → Type 0) (xs : List X) → ((n : ℕ) (x : X) → slice_get xs n ≡ Some x → Is x) → AllTrue Is xs
 all-from Is [] each = tt
 all-from Is (x ∷ xs) each = (each 0 x refl, all-from Is xs (λ n y at. each (suc n) y at))
@@ -119,30 +112,6 @@ stands-at id (e ∷ es) s found =
     ] refl found
 
 -- ---- an entity that is clean is unspoiled
-spoils-bad : (id : TransactionId) (i : Indication) → spoils id i ≡ true → is_bad i ≡ true
-spoils-bad id (indication.Fault of condition) is = refl
-spoils-bad id (indication.Suspended of condition) is = refl
-spoils-bad id (indication.Abandoned of condition) is = refl
-spoils-bad id (indication.Finished of condition delivery status) is = (and-parts (same_id id of) (not (condition == 0)) is).1
-spoils-bad id (indication.Transaction of) is = absurd cc
-spoils-bad id (indication.EofSent of) is = absurd cc
-spoils-bad id (indication.MetadataRecv of source destination size) is = absurd cc
-spoils-bad id (indication.EofRecv of) is = absurd cc
-spoils-bad id (indication.Resumed of) is = absurd cc
-spoils-bad id (indication.Progress of octets) is = absurd cc
-
-pauses-bad : (id : TransactionId) (i : Indication) → pauses id i ≡ true → is_bad i ≡ true
-pauses-bad id (indication.Suspended of condition) is = refl
-pauses-bad id (indication.Fault of condition) is = refl
-pauses-bad id (indication.Abandoned of condition) is = refl
-pauses-bad id (indication.Finished of condition delivery status) is = absurd cc
-pauses-bad id (indication.Transaction of) is = absurd cc
-pauses-bad id (indication.EofSent of) is = absurd cc
-pauses-bad id (indication.MetadataRecv of source destination size) is = absurd cc
-pauses-bad id (indication.EofRecv of) is = absurd cc
-pauses-bad id (indication.Resumed of) is = absurd cc
-pauses-bad id (indication.Progress of octets) is = absurd cc
-
 uncancelled-seen : (id : TransactionId) (s : Seen) → is_cancelling (id, s) ≡ false → IsUncancelled (Some s)
 uncancelled-seen id (Sends x) none = not-cancelling x.phase none
 uncancelled-seen id (Receives r m) none = tt

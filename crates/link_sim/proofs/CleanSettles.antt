@@ -146,7 +146,7 @@ filled-clean s old new clean h =
 
 -- ---- a delivery
 -- of the PDUs sent some are delivered
-part-delivered : (w : OneWayState) → IsPartOf (pdus_delivered w) (pdus_sent w)
+pub part-delivered : (w : OneWayState) → IsPartOf (pdus_delivered w) (pdus_sent w)
 part-delivered w =
     let z = w.up.link.zone in
     part-map (λ p. drop 6 p) (survivors z w.marks 0 (packets_sent w)) (busy (packets_sent w)) (survivors-busy z w.marks 0 (packets_sent w))

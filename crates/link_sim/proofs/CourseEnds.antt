@@ -65,14 +65,14 @@ sender-none x active e = from x.ack_due (sym (ap (λ b. if b then None else send
 -- what a sender that sends has done then
 pub record HasSent (x : SenderState) : Type 0 where
   pub metadata : owes_metadata x ≡ false
-  pub asked : (n : ℕ) → owes_octet n x ≡ false
+  pub asked : 1 ≤ x.segment → (n : ℕ) → owes_octet n x ≡ false
   pub all : x.size ≤ x.sent
   pub taken : x.eof_taken ≡ true
   pub due : x.eof_due ≡ false
 
-module _ (x : SenderState) (some : 1 ≤ x.segment) where
-  none-asked : front_of x.asked x.segment ≡ None → (n : ℕ) → owes_octet n x ≡ false
-  none-asked e n = elim (front-none x.asked x.segment e) [
+module _ (x : SenderState) where
+  none-asked : front_of x.asked x.segment ≡ None → 1 ≤ x.segment → (n : ℕ) → owes_octet n x ≡ false
+  none-asked e some n = elim (front-none x.asked x.segment e) [
     | inl nothing ↦ absurd (omega (arith, nothing, some))
     | inr empty ↦ ap (λ s. set.contains s n) empty ∙ set.contains-empty nat_cmp n
   ]
@@ -150,7 +150,7 @@ never-some : (o : Option ℕ) (n : ℕ) → o ≡ Some n → o ≡ None → ⊥
 never-some o n e f = false≢true (sym (ap is_some f) ∙ ap is_some e)
 
 -- all of a file that is known is whole
-whole : (put : Put) (metadata : Option FileInfo) (ending : Option Ending) (held : Offsets) → is_some metadata ≡ true → is_some ending ≡ true → IfSome ending (λ e. e.size ≡ length put.octets)
+pub whole : (put : Put) (metadata : Option FileInfo) (ending : Option Ending) (held : Offsets) → is_some metadata ≡ true → is_some ending ≡ true → IfSome ending (λ e. e.size ≡ length put.octets)
     → ((n : ℕ) → n < length put.octets → set.contains held n ≡ true) → is_whole metadata ending held ≡ true
 whole put (Some info) (Some ending) held m e size all =
     set.contains-is_subset nat_cmp_total (range 0 ending.size) held (λ n h. let low : n < ending.size = below n h in let same : ending.size ≡ length put.octets = size in all n (omega (arith, low, same)))
@@ -163,7 +163,7 @@ whole put (Some info) None held m e size all = absurd (false≢true e)
 module _ (put : Put) (x : SenderState) (o : Option ReceiverState) (b c : Bool) (some : 1 ≤ x.segment)
     (t : IsTrueBetween put x o [] [] b c) (awake : IsActive x o) (quiet_sender : sender_due x ≡ None) (nothing : NothingDue o) where
   sent : x.phase ≡ sending.Sending → HasSent x
-  sent is = has-sent x some awake.sender is quiet_sender
+  sent is = has-sent x awake.sender is quiet_sender
 
   no-eof : x.phase ≡ sending.Sending → EofComes x o [] [] → ⊥
   no-eof is (inl not_taken) = both_ways x.eof_taken not_taken (sent is).taken
@@ -223,7 +223,7 @@ module _ (put : Put) (x : SenderState) (o : Option ReceiverState) (b c : Bool) (
         where
           octet : (n : ℕ) → n < length put.octets → set.contains r.held n ≡ true
           octet n below =
-              let known : maybe (holds n) o ≡ true = come-known (owes_octet n) (brings n) (holds n) (names n) (AsksFrom n) x o (no-eof sends) ((sent sends).asked n) (no-from n o refl) (f.octets n below) in
+              let known : maybe (holds n) o ≡ true = come-known (owes_octet n) (brings n) (holds n) (names n) (AsksFrom n) x o (no-eof sends) ((sent sends).asked some n) (no-from n o refl) (f.octets n below) in
               sym (ap (λ p. once_ended p (set.contains r.held n)) phase) ∙ sym (ap (maybe (holds n)) is) ∙ known
       from Finishing phase = ap (λ p. once_ended p false) phase
       from Closed phase = ap (λ p. once_ended p false) phase

@@ -35,7 +35,7 @@ use Rattle.link_sim.proofs.CourseHeard.{hears-advances}
 use Rattle.link_sim.proofs.CourseDoes.{takes-course, expires-course, called-course}
 
 -- a PDU that a receiver hears
-after-is : (stored : Stored) (v : Content) (m : OctetMap) (files : FileMap) (r : ReceiverState) (a : ReceiverAfter) → receiver_after stored v m files r ≡ Some a → a ≡ receiver_hears stored v m files r
+pub after-is : (stored : Stored) (v : Content) (m : OctetMap) (files : FileMap) (r : ReceiverState) (a : ReceiverAfter) → receiver_after stored v m files r ≡ Some a → a ≡ receiver_hears stored v m files r
 after-is stored (Metadata checksum_kind size source destination options) m files r a is = cc
 after-is stored (FileData offset bytes) m files r a is = cc
 after-is stored (Eof condition checksum size tlvs) m files r a is = cc

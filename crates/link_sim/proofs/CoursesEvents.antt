@@ -141,7 +141,7 @@ module _ (c : WorldConfig) (outboxes inboxes : FileMap × FileMap) (w : WorldSta
       }
 
 -- ---- two entities
-are-peers : (w : WorldState) → IsSound w → (s : Side) → ArePeers (entity_at s w) (entity_at (other s) w)
+pub are-peers : (w : WorldState) → IsSound w → (s : Side) → ArePeers (entity_at s w) (entity_at (other s) w)
 are-peers w sound s = record {
   of_mine = (sound s).peer;
   of_theirs = subst (λ (u : Side). (entity_at (other s) w).config.peer ≡ (entity_at u w).config.entity) (other-other s) (sound (other s)).peer;

@@ -73,10 +73,10 @@ carries-there e place id s carries at = by s (ap data_due (sym at) ∙ carries)
 apart-ids : (a b : TransactionId) → (a.source ≡ b.source → ⊥) → same_id a b ≡ false
 apart-ids a b apart = false_from_ne_true (same_id a b) (λ is. apart (ap (λ (i : TransactionId). i.source) (same_id-true a b is)))
 
-end-differs : (id : TransactionId) (pdus : List Pdu) (p : Pdu) (k : TransactionId) → p.0.id ≡ k → same_id id k ≡ false → of_id id (pdus ++ p ∷ []) ≡ of_id id pdus
+pub end-differs : (id : TransactionId) (pdus : List Pdu) (p : Pdu) (k : TransactionId) → p.0.id ≡ k → same_id id k ≡ false → of_id id (pdus ++ p ∷ []) ≡ of_id id pdus
 end-differs id pdus p k is differs = end-other id pdus p (ap (same_id id) is ∙ differs)
 
-end-is : (id : TransactionId) (pdus : List Pdu) (p : Pdu) → p.0.id ≡ id → of_id id pdus ++ p.1 ∷ [] ≡ of_id id (pdus ++ p ∷ [])
+pub end-is : (id : TransactionId) (pdus : List Pdu) (p : Pdu) → p.0.id ≡ id → of_id id pdus ++ p.1 ∷ [] ≡ of_id id (pdus ++ p ∷ [])
 end-is id pdus p is = sym (end-own id pdus p (same_id-itself id p.0.id (sym is)))
 
 module _ (laws : CourseLaws) (lossless : Bool) (put : Put) where

@@ -56,7 +56,7 @@ pub no-place : (id : TransactionId) (xs : List Entry) (place : ℕ) → place_of
 no-place id [] place is none = absurd cc
 no-place id (x ∷ xs) place is none = in-length (x ∷ xs) place (position-Some (λ (d : Entry). same_id id d.0) (x ∷ xs) place x is).0 none
 
-differs-too : (id h k : TransactionId) → h ≡ k → same_id id k ≡ false → same_id id h ≡ false
+pub differs-too : (id h k : TransactionId) → h ≡ k → same_id id k ≡ false → same_id id h ≡ false
 differs-too id h k is apart = ap (same_id id) is ∙ apart
 
 module _ (laws : CourseLaws) (put : Put) (put_of : TransactionId → Option Put) (found : put_of put.id ≡ Some put) (h : Header) (v : Content) (old new : Counted) (order : IsInOrder put_of old.state.table) (kinds : length old.state.drops ≡ 18) where

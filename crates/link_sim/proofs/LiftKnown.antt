@@ -1,11 +1,11 @@
 -- What is known of a transaction stays so, whatever happens to the entities and to what is on its
 -- way between them.
-use Rattle.std.proofs.Common.{◌≡◌, ℕ, zero, suc, ◌^◌, ◌==◌, ◌&&◌, ◌||◌, not, cond, Bool, true, false, List, [], ◌∷◌, ◌++◌, length, slice_get, Option, Some, None, ◌⊎◌, inl, inr, refl, sym, ap, subst, ◌∙◌, arith}
+use Rattle.std.proofs.Common.{◌≡◌, ℕ, zero, suc, ◌+◌, ◌<◌, ◌≤◌, ◌^◌, ◌==◌, ◌&&◌, ◌||◌, not, cond, Bool, true, false, List, [], ◌∷◌, ◌++◌, length, slice_get, Option, Some, None, ◌⊎◌, inl, inr, refl, sym, ap, subst, ◌∙◌, arith, length-append}
 use Rattle.std.specs.Prelude.{IsSome, nat_lt, nat_le, if◌then◌else◌}
 use Rattle.std.specs.FinMap.{empty, get}
 use Rattle.std.specs.Option.{option_or}
 use Rattle.std.specs.Bool.{beq}
-use Rattle.std.proofs.lemmas.Bool.{eq-eqb, ne_eqb}
+use Rattle.std.proofs.lemmas.Bool.{eq-eqb, leb-false, ne_eqb}
 use Rattle.cfdp_header.specs.declared.value.Header.{Header}
 use Rattle.cfdp_header.specs.declared.value.TransactionId.{TransactionId}
 use Rattle.cfdp_header.specs.Files.{FileMap}
@@ -198,6 +198,7 @@ module _ (put_of : TransactionId → Option Put) (old new theirs : EntityState) 
   known-on c k = record {
     sends = λ id some own. sending-kept id old.table.records new.table.records c.records.kept (k.sends id some (own ∙ ap (λ (g : EntityConfig). g.entity) c.config));
     with_peer = subst (λ g. AllWithPeer g new.table.records) (sym c.config) (peers-kept old.config old.table.records new.table.records c.records k.with_peer);
+    few = subst (λ n. n ≤ most_records) (sym c.records.long) k.few;
     none_stray = c.strays ∙ k.none_stray;
     directed = k.directed;
   }
@@ -206,6 +207,7 @@ module _ (put_of : TransactionId → Option Put) (old new theirs : EntityState) 
   known-there same k = record {
     sends = k.sends;
     with_peer = k.with_peer;
+    few = k.few;
     none_stray = k.none_stray;
     directed = directed-so put_of put_of old new (λ id put is. is) same back k.directed;
   }
@@ -216,7 +218,7 @@ module _ (put_of : TransactionId → Option Put) (old new theirs : EntityState) 
 -- ---- what is on its way
 module _ (put_of : TransactionId → Option Put) (mine theirs : EntityState) where
   pub known-with : (forth pdus : List Pdu) → AllTrue (IsDirected put_of theirs) pdus → IsKnown put_of mine theirs forth → IsKnown put_of mine theirs pdus
-  known-with forth pdus d k = record { sends = k.sends; with_peer = k.with_peer; none_stray = k.none_stray; directed = d }
+  known-with forth pdus d k = record { sends = k.sends; with_peer = k.with_peer; few = k.few; none_stray = k.none_stray; directed = d }
 
   -- one is lost, or a front of them is, or all but a part of a front
   pub lost-known : (before : List Pdu) (p : Pdu) (after back : List Pdu) → AreKnown put_of mine theirs (before ++ p ∷ after) back → AreKnown put_of mine theirs (before ++ after) back
@@ -233,6 +235,7 @@ module _ (put_of : TransactionId → Option Put) (mine theirs : EntityState) whe
   first-known none empty_ strays = record {
     sends = λ id some own. absurd (none id some);
     with_peer = subst (AllWithPeer mine.config) (sym empty_) (λ place e at. absurd cc);
+    few = subst (λ (xs : List Entry). length xs ≤ most_records) (sym empty_) (omega arith);
     none_stray = strays;
     directed = tt;
   }
@@ -387,13 +390,26 @@ put-named source destination e allowed =
     let two = and-parts (nat_le 1 (length destination)) (nat_le (length destination) 255) names.1 in
     both-false (length source == 0) (length destination == 0) (not-empty (length source) one.0) (not-empty (length destination) two.0)
 
+-- and found room in the table
+room-by : (a b : Bool) (x y : Option PutError) → option_or (if not a then Some put_errors.Name else if b then Some put_errors.TableFull else x) y ≡ None → b ≡ false
+room-by true true x y is = absurd cc
+room-by true false x y is = refl
+room-by false b x y is = absurd cc
+
+put-room : (source destination : List ℕ) (e : EntityState) → put_refusal Done source destination e ≡ None → length e.table.records < most_records
+put-room source destination e allowed =
+    leb-false most_records (length e.table.records)
+    (room-by (are_names source destination) (nat_le most_records (length e.table.records))
+    (if not (nat_lt e.next (256 ^ e.config.number_width)) then Some put_errors.NumbersSpent else None) (asked Done (get e.table.sources source)) allowed)
+
 -- ---- a record more
 module _ (put_of puts_then : TransactionId → Option Put) (more : FindsMore put_of puts_then) (old new theirs : EntityState) (forth : List Pdu) (id : TransactionId) (s : Seen) where
-  known-more : new.config ≡ old.config → new.strays ≡ old.strays → new.table.records ≡ old.table.records ++ (id, s) ∷ [] → IsWithPeer old.config s
+  known-more : new.config ≡ old.config → new.strays ≡ old.strays → new.table.records ≡ old.table.records ++ (id, s) ∷ [] → length old.table.records < most_records → IsWithPeer old.config s
       → ((q : TransactionId) → IsSome (puts_then q) → q.source ≡ old.config.entity → IsSending (record_of q (old.table.records ++ (id, s) ∷ []))) → IsKnown put_of old theirs forth → IsKnown puts_then new theirs forth
-  known-more config strays records peer sends k = record {
+  known-more config strays records room peer sends k = record {
     sends = λ q some own. subst (λ xs. IsSending (record_of q xs)) (sym records) (sends q some (own ∙ ap (λ (g : EntityConfig). g.entity) config));
     with_peer = subst (λ g. AllWithPeer g new.table.records) (sym config) (subst (AllWithPeer old.config) (sym records) (peers-push old.config old.table.records id s k.with_peer peer));
+    few = (let l : length new.table.records ≡ length old.table.records + 1 = ap length records ∙ length-append old.table.records ((id, s) ∷ []) in omega (arith, l, room));
     none_stray = strays ∙ k.none_stray;
     directed = directed-so put_of puts_then theirs theirs more refl forth k.directed;
   }
@@ -421,6 +437,7 @@ module _ (put_of puts_then : TransactionId → Option Put) (source destination :
       | inr before ↦ k.sends q before own
     ];
     with_peer = k.with_peer;
+    few = k.few;
     none_stray = k.none_stray;
     directed = directed-so put_of puts_then old new adds.more (ap (λ (e : EntityState). e.config) a.opened) back k.directed;
   }
@@ -429,7 +446,7 @@ module _ (put_of puts_then : TransactionId → Option Put) (source destination :
   puts-known k =
       let t : Transfer = next_transfer source destination (length (octets_in old.table.sources source)) old in (
         known-more put_of puts_then adds.more old new theirs forth (next_id old) (Sends (opened_sender t)) (ap (λ (e : EntityState). e.config) a.opened) (ap (λ (e : EntityState). e.strays) a.opened)
-            (ap (λ (e : EntityState). e.table.records) a.opened) (refl, put-named source destination old a.allowed) (put-sends k.0) k.0,
+            (ap (λ (e : EntityState). e.table.records) a.opened) (put-room source destination old a.allowed) (refl, put-named source destination old a.allowed) (put-sends k.0) k.0,
         put-there k.1,
       )
 
@@ -515,7 +532,7 @@ module _ (stays : (old new : TableState) → Leads old new → KeepsRecords old.
   receiver-peer c a (Sends x) is source destination = absurd is
 
   module _ (put_of : TransactionId → Option Put) (theirs : EntityState) (forth back : List Pdu) (h : Header) (v : Content) (old new : Counted) where
-    stepped-on : StepsRecord h v old new → Continues old.state new.state
+    pub stepped-on : StepsRecord h v old new → Continues old.state new.state
     stepped-on s =
         let stored = s.steps.stored in
         continues-to old.state new.state (heard_at stored s.place v old.state.table) s.steps.steps
@@ -524,7 +541,7 @@ module _ (stays : (old new : TableState) → Leads old new → KeepsRecords old.
     dropped-on : DropsNew h v old new → Continues old.state new.state
     dropped-on d = subst (Continues old.state) (sym d.is) (record { config = refl; strays = refl; records = keeps-none old.state.table.records })
 
-    spoiled-on : SpoilsRecord h v old new → Continues old.state new.state
+    pub spoiled-on : SpoilsRecord h v old new → Continues old.state new.state
     spoiled-on s =
         let f = s.finds in
         record {
@@ -545,7 +562,7 @@ module _ (stays : (old new : TableState) → Leads old new → KeepsRecords old.
         let s : Seen = (opens begun stored old.state.table.policy.times old.state.table.files v a).seen in
         let is : new.state ≡ with_table old.state t = o.opens.opens in
         let peer = directed-peer put_of old.state h v d o.down in
-        known-more put_of put_of (λ id put found. found) old.state new.state theirs forth a.id s (ap (λ (e : EntityState). e.config) is) (ap (λ (e : EntityState). e.strays) is) (ap (λ (e : EntityState). e.table.records) is)
+        known-more put_of put_of (λ id put found. found) old.state new.state theirs forth a.id s (ap (λ (e : EntityState). e.config) is) (ap (λ (e : EntityState). e.strays) is) (ap (λ (e : EntityState). e.table.records) is) o.room
         (receiver-peer old.state.config a s (opened-of begun stored v a old.state.table) peer.0 peer.1)
         (λ q some own. sending-kept q old.state.table.records (old.state.table.records ++ (a.id, s) ∷ []) (keeps-push old.state.table.records ((a.id, s) ∷ [])) (k.sends q some own)) k
 
@@ -582,6 +599,7 @@ same-known put_of puts_then mine theirs forth back more fewer k = (one mine thei
     one a b pdus known = record {
       sends = λ id found own. known.sends id (some id (puts_then id) refl found) own;
       with_peer = known.with_peer;
+      few = known.few;
       none_stray = known.none_stray;
       directed = directed-so put_of puts_then b b more refl pdus known.directed;
     }

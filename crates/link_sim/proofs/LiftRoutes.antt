@@ -3,7 +3,7 @@
 use Rattle.std.proofs.Common.{◌≡◌, ◌≢◌, ℕ, ◌<◌, ◌≤◌, ◌==◌, ◌&&◌, Bool, true, false, List, length, Option, Some, None, ◌⊎◌, inl, inr, refl, ap, subst, ◌∙◌, arith}
 use Rattle.std.specs.Prelude.{nat_lt, if◌then◌else◌}
 use Rattle.std.specs.Bool.{beq}
-use Rattle.std.proofs.lemmas.Bool.{eqb-true}
+use Rattle.std.proofs.lemmas.Bool.{eqb-true, ltb-true, ltb-false}
 use Rattle.cfdp_header.specs.declared.value.Header.{Header}
 use Rattle.cfdp_header.specs.declared.value.TransactionId.{TransactionId}
 use Rattle.cfdp_directives.specs.declared.codes.Acknowledged.TheVariants as acknowledged
@@ -65,17 +65,20 @@ pub record StepsRecord (h : Header) (v : Content) (old new : Counted) : Type 0 w
 -- It opened a record.
 pub record OpensRecord (h : Header) (v : Content) (old new : Counted) : Type 0 where
   pub none : place_of h.id old.state.table.records ≡ None
+  pub room : length old.state.table.records < most_records
   pub opening : opening_work v ≢ 0
   pub down : goes_toward_sender v ≡ false
   pub opens : OpensOne (addressing_in h) v old new
 
--- It was dropped, where its transaction has no record: if none is opened for it that is cause 14.
+-- It was dropped, where its transaction has no record: if none is opened for it that is cause 14, and by cause 15
+-- only where the table is full.
 pub record DropsNew (h : Header) (v : Content) (old new : Counted) : Type 0 where
   pub none : place_of h.id old.state.table.records ≡ None
   pub by : EntityDrop
   pub low : drop_number by < 18
   pub opening : (opening_work v ≡ 0) ⊎ (drop_number by ≢ 14)
   pub kinds : (drop_number by ≡ 14) ⊎ ((drop_number by ≡ 15) ⊎ (drop_number by ≡ 16))
+  pub full : drop_number by ≡ 15 → most_records ≤ length old.state.table.records
   pub is : new.state ≡ dropped by old.state
   pub grows : old.inbox_failures ≤ new.inbox_failures
 
@@ -89,9 +92,9 @@ abbrev pub HeardSo : Header → Content → (old new : Counted) → Type 0
 HeardSo h v old new = StepsRecord h v old new ⊎ (OpensRecord h v old new ⊎ (DropsNew h v old new ⊎ SpoilsRecord h v old new))
 
 module _ (h : Header) (old new : Counted) (none : place_of h.id old.state.table.records ≡ None) where
-  pub unheard : (v : Content) (by : EntityDrop) → drop_number by < 18 → (opening_work v ≡ 0) ⊎ (drop_number by ≢ 14) → (drop_number by ≡ 14) ⊎ ((drop_number by ≡ 15) ⊎ (drop_number by ≡ 16)) → new.state ≡ dropped by old.state →
-      old.inbox_failures ≤ new.inbox_failures → HeardSo h v old new
-  unheard v by low opening kinds is grows = inr (inr (inl (record { none = none; by = by; low = low; opening = opening; kinds = kinds; is = is; grows = grows })))
+  pub unheard : (v : Content) (by : EntityDrop) → drop_number by < 18 → (opening_work v ≡ 0) ⊎ (drop_number by ≢ 14) → (drop_number by ≡ 14) ⊎ ((drop_number by ≡ 15) ⊎ (drop_number by ≡ 16)) →
+      (drop_number by ≡ 15 → most_records ≤ length old.state.table.records) → new.state ≡ dropped by old.state → old.inbox_failures ≤ new.inbox_failures → HeardSo h v old new
+  unheard v by low opening kinds full is grows = inr (inr (inl (record { none = none; by = by; low = low; opening = opening; kinds = kinds; full = full; is = is; grows = grows })))
 
   same-inbox : (e : EntityState) → new ≡ record old { state = e } → old.inbox_failures ≤ new.inbox_failures
   same-inbox e is = let same : new.inbox_failures ≡ old.inbox_failures = ap (λ (c : Counted). c.inbox_failures) is in omega (arith, same)
@@ -101,7 +104,7 @@ module _ (h : Header) (old new : Counted) (none : place_of h.id old.state.table.
     open-takes : (b : Bool) → nat_lt (length old.state.table.records) most_records ≡ b → Takes (opens_record old.state) h v old new → HeardSo h v old new
     open-takes true is t =
         let f : Takes (opens_record old.state) h v old new → OpensOne (addressing_in h) v old new = rw is (λ o. o) in
-        inr (inl (record { none = none; opening = opening; down = down; opens = f t }))
+        inr (inl (record { none = none; room = ltb-true (length old.state.table.records) most_records is; opening = opening; down = down; opens = f t }))
     open-takes false is t =
         let f : Takes (opens_record old.state) h v old new → ⊥ = rw is (λ o. o) in
         absurd (f t)
@@ -109,10 +112,10 @@ module _ (h : Header) (old new : Counted) (none : place_of h.id old.state.table.
     open-drops : (b : Bool) (by : EntityDrop) → nat_lt (length old.state.table.records) most_records ≡ b → DropsBy (opens_record old.state) by v old new → HeardSo h v old new
     open-drops true by is t =
         let f : DropsBy (opens_record old.state) by v old new → (new.state ≡ dropped drops.NoMemory old.state) × (old.inbox_failures ≤ new.inbox_failures) = rw is (λ o. (o.1, o.2)) in
-        unheard v drops.NoMemory (omega arith) (inr (λ h. omega (arith, h))) (inr (inr refl)) (f t).0 (f t).1
+        unheard v drops.NoMemory (omega arith) (inr (λ h. omega (arith, h))) (inr (inr refl)) (λ h. omega (arith, h)) (f t).0 (f t).1
     open-drops false by is t =
         let f : DropsBy (opens_record old.state) by v old new → (new ≡ record old { state = dropped drops.TableFull old.state }) = rw is (λ o. o.1) in
-        unheard v drops.TableFull (omega arith) (inr (λ h. omega (arith, h))) (inr (inl refl)) (ap (λ (c : Counted). c.state) (f t)) (same-inbox (dropped drops.TableFull old.state) (f t))
+        unheard v drops.TableFull (omega arith) (inr (λ h. omega (arith, h))) (inr (inl refl)) (λ h. ltb-false (length old.state.table.records) most_records is) (ap (λ (c : Counted). c.state) (f t)) (same-inbox (dropped drops.TableFull old.state) (f t))
 
     pub open-heard : Takes (opens_record old.state) h v old new ⊎ ((by : EntityDrop) × DropsBy (opens_record old.state) by v old new) → HeardSo h v old new
     open-heard (inl t) = open-takes (nat_lt (length old.state.table.records) most_records) refl t
@@ -121,7 +124,7 @@ module _ (h : Header) (old new : Counted) (none : place_of h.id old.state.table.
   -- one that opens none
   pub lost-heard : (v : Content) → opening_work v ≡ 0 → ⊥ ⊎ ((by : EntityDrop) × ((by ≡ drops.Unknown) × (new ≡ record old { state = dropped drops.Unknown old.state }))) → HeardSo h v old new
   lost-heard v opening (inl t) = absurd t
-  lost-heard v opening (inr d) = unheard v drops.Unknown (omega arith) (inl opening) (inl refl) (ap (λ (c : Counted). c.state) d.1.1) (same-inbox (dropped drops.Unknown old.state) d.1.1)
+  lost-heard v opening (inr d) = unheard v drops.Unknown (omega arith) (inl opening) (inl refl) (λ h. omega (arith, h)) (ap (λ (c : Counted). c.state) d.1.1) (same-inbox (dropped drops.Unknown old.state) d.1.1)
 
   pub new-heard : (v : Content) → (goes_toward_sender v ≡ true → ⊥) → Takes (route_by None h v old.state) h v old new ⊎ ((by : EntityDrop) × DropsBy (route_by None h v old.state) by v old new) → HeardSo h v old new
   new-heard (FileData offset bytes) own t = open-heard (FileData offset bytes) (λ e. omega (arith, e)) refl t

@@ -17,11 +17,11 @@ use Rattle.link_sim.proofs.Sending.{taken_inside, pdus_more}
 use Rattle.link_sim.proofs.OnWayRests.{same-link, sent-octets}
 use Rattle.link_sim.proofs.OnWayLists.{behind-append, behind-none, behind-ended, ended, Ends, ends, all_ended}
 
-stripped : (xs ys zs : List (List ℕ)) → xs ++ ys ≡ xs ++ zs → ys ≡ zs
+pub stripped : (xs ys zs : List (List ℕ)) → xs ++ ys ≡ xs ++ zs → ys ≡ zs
 stripped [] ys zs e = e
 stripped (x ∷ xs) ys zs e = stripped xs ys zs (let f : x ∷ (xs ++ ys) ≡ x ∷ (xs ++ zs) = e in cc)
 
-packets-behind : (ps qs : List (List ℕ)) → ArePackets (ps ++ qs) → ArePackets qs
+pub packets-behind : (ps qs : List (List ℕ)) → ArePackets (ps ++ qs) → ArePackets qs
 packets-behind [] qs h = h
 packets-behind (p ∷ ps) qs h = packets-behind ps qs h.1
 

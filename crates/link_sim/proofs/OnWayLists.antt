@@ -63,12 +63,12 @@ keep-busy false true p l k part = part-behind l p k part
 keep-busy true false p l k part = part
 keep-busy true true p l k part = inl (refl, part)
 
-keep-append : (k : Bool) (p : List ℕ) (l m : List (List ℕ)) → keep k p (l ++ m) ≡ keep k p l ++ m
+pub keep-append : (k : Bool) (p : List ℕ) (l m : List (List ℕ)) → keep k p (l ++ m) ≡ keep k p l ++ m
 keep-append true p l m = refl
 keep-append false p l m = refl
 
 -- of packets of which the first ends behind the marks none survives
-none_yet : (z : ℕ) (marks : List Bool) (a : ℕ) (p : List ℕ) (ps : List (List ℕ)) → ArePackets ps → length marks * z < a + length p → survivors z marks a (p ∷ ps) ≡ []
+pub none_yet : (z : ℕ) (marks : List Bool) (a : ℕ) (p : List ℕ) (ps : List (List ℕ)) → ArePackets ps → length marks * z < a + length p → survivors z marks a (p ∷ ps) ≡ []
 none_yet z marks a p ps h lt =
     let no : arrived z 0 marks a (a + length p) ≡ false = arrived-past z 0 marks a (a + length p) (omega arith) in
     keep_false (arrived z 0 marks a (a + length p)) p (survivors z marks (a + length p) ps) no ∙ survivors-behind z marks (a + length p) ps h (omega arith)

@@ -1,16 +1,20 @@
 -- The receiving end of a direction: a frame is delivered or struck.
-use Rattle.std.proofs.Common.{◌≡◌, ℕ, zero, suc, ◌+◌, ◌*◌, ◌<◌, ◌≤◌, ◌==◌, ◌&&◌, not, Bool, true, false, List, [], ◌∷◌, ◌++◌, ◌⊎◌, length, take, drop, replicate, get_or, refl, sym, ap, subst, ◌∙◌, inl, inr, arith, length-append}
+use Rattle.std.proofs.Common.{◌≡◌, ℕ, zero, suc, ◌+◌, ◌-◌, ◌*◌, ◌^◌, ◌<◌, ◌≤◌, ◌==◌, ◌&&◌, not, Bool, true, false, List, [], ◌∷◌, ◌++◌, ◌⊎◌, length, take, drop, replicate, get_or, refl, sym, ap, subst, ◌∙◌, inl, inr, arith, length-append, get_or-set_same}
 use Rattle.std.specs.List.{list_any}
 use Rattle.std.proofs.lemmas.List.{map-append, append-nil, append_assoc}
-use Rattle.mpdu.specs.Stream.{survivors}
+use Rattle.mpdu.specs.Packets.{busy}
+use Rattle.mpdu.specs.Stream.{survivors, begun}
 use Rattle.mpdu.proofs.Struck.{survivors-struck}
 use Rattle.link_stack.specs.Frames.{frame_of, pdus_in}
-use Rattle.mpdu.specs.Reading.{is_some}
-use Rattle.link_stack.specs.Drops.{count_of, all_counted}
+use Rattle.mpdu.specs.Reading.{held_at, is_some}
+use Rattle.link_stack.specs.Drops.{count_of, all_counted, raised}
+use Rattle.link_stack.specs.Drops as link_drops
+use Rattle.link_stack.specs.declared.drops.LinkDrop.TheVariants.{NoMemory}
 use Rattle.link_stack.specs.Upward.{LinkReceiverState, IsUp, IsNextFrame, TakesNext, TakesNextFront, zone_drops}
 use Rattle.link_stack.proofs.Grown.{struck_is_missed}
 use Rattle.mpdu.specs.Parts.{IsPartOf, CompletesMore}
-use Rattle.link_sim.specs.OneWay.{OneWayState, packets_sent, IsReceived, IsOneWayOf, IsOneWay, HearsMore, SendsNone, EndsStruck}
+use Rattle.link_sim.specs.OneWay.{OneWayState, packets_sent, unbroken, IsReceived, IsOneWayOf, IsOneWay, HearsMore, SendsNone, EndsStruck}
+use Rattle.link_sim.proofs.Arriving.{Lands, lands}
 use Rattle.mpdu.proofs.Parts.{among-length, among-push, part-map, part-take, part-part}
 use Rattle.mpdu.proofs.Fewer.{next_completes}
 use Rattle.link_sim.proofs.Sending.{frame_inside, way_is}
@@ -33,8 +37,22 @@ ends_struck marks run h = record {
   end = h.end;
 }
 
+-- a drop that was counted for want of memory would show
+counted-shows : (counts new : List ℕ) → length counts ≡ 11 → new ≡ link_drops.counted counts NoMemory → count_of new 11 ≡ count_of counts 11 → count_of new 11 < 2 ^ 64 - 1 → ⊥
+unfolding link_drops.counted
+counted-shows counts new long is same low =
+    let n : ℕ = get_or counts 10 0 in
+    let room : 10 < length counts = omega (arith, long) in
+    let now : count_of new 11 ≡ raised n = ap (λ l. count_of l 11) is ∙ get_or-set_same counts 10 (raised n) 0 room in
+    let then : count_of counts 11 ≡ n = refl in
+    omega (arith, now, then, same, low)
+
+-- what will arrive at an end, behind these marks
+abbrev arrives : LinkReceiverState → List (List ℕ) → List Bool → ℕ → List (List ℕ)
+arrives up ps marks run = pdus_in (busy (unbroken (length marks * up.link.zone) 0 (held_at (run == 0) up.begun) ps))
+
 -- What comes of a frame that is taken.
-record Hears (up new : LinkReceiverState) (ps : List (List ℕ)) (marks : List Bool) (old out : List (List ℕ)) : Type 0 where
+record Hears (up new : LinkReceiverState) (ps : List (List ℕ)) (marks : List Bool) (run : ℕ) (old out : List (List ℕ)) : Type 0 where
   pub received : IsReceived new ps (marks ++ true ∷ []) 0
   pub more : List (List ℕ)
   pub delivered : pdus_in (survivors new.link.zone (marks ++ true ∷ []) 0 ps) ≡ pdus_in (survivors up.link.zone marks 0 ps) ++ more
@@ -42,6 +60,7 @@ record Hears (up new : LinkReceiverState) (ps : List (List ℕ)) (marks : List B
   pub added : out ≡ old ++ given
   pub part : IsPartOf given more
   pub all : count_of new.drops 11 ≡ 0 → given ≡ more
+  pub lands : count_of new.drops 11 ≡ count_of up.drops 11 → count_of new.drops 11 < 2 ^ 64 - 1 → arrives up ps marks run ≡ given ++ arrives new ps (marks ++ true ∷ []) 0
   pub clear : list_any not marks ≡ false → count_of new.drops 11 ≡ 0 → new.drops ≡ up.drops
   pub memory : count_of new.drops 11 ≡ 0 → count_of up.drops 11 ≡ 0
 
@@ -64,9 +83,29 @@ grown : (up new : LinkReceiverState) (ps : List (List ℕ)) (marks : List Bool) 
 grown up new ps marks added link m =
     ap (λ k. pdus_in (survivors k.zone (marks ++ true ∷ []) 0 ps)) link ∙ ap pdus_in m.completed ∙ pdus-append (survivors up.link.zone marks 0 ps) m.more
 
-heard_next : (up new : LinkReceiverState) (ps : List (List ℕ)) (marks : List Bool) (run : ℕ) (old out : List (List ℕ)) →
-    (r : IsReceived up ps marks run) → TakesNext up new ps r.read run old out → Hears up new ps marks old out
-heard_next up new ps marks run old out r t =
+-- The PDUs of the packets that it completes are the first of those that were to arrive.
+next-lands : (up new : LinkReceiverState) (ps : List (List ℕ)) (marks : List Bool) (run : ℕ) (old out : List (List ℕ)) → 0 < up.link.zone →
+    (r : IsReceived up ps marks run) → (t : TakesNext up new ps r.read run old out) → arrives up ps marks run ≡ pdus_in t.added ++ arrives new ps (marks ++ true ∷ []) 0
+next-lands up new ps marks run old out pos r t =
+    let z : ℕ = up.link.zone in
+    let read1 : List Bool = r.read ++ true ∷ [] in
+    let l : Lands z r.read 0 ps = lands z r.read 0 ps pos r.end.packets_whole in
+    let long : length r.read ≡ length marks = among-length r.read marks r.among in
+    let long_then : length read1 ≡ length (marks ++ true ∷ []) = length-append r.read (true ∷ []) ∙ ap (λ n. n + 1) long ∙ sym (length-append marks (true ∷ [])) in
+    let zone : new.link.zone ≡ z = ap (λ k. k.zone) t.link in
+    let done : l.done ≡ t.added = stripped (survivors z r.read 0 ps) l.done t.added (sym l.completed ∙ t.completed) in
+    let before : arrives up ps marks run ≡ pdus_in (busy (unbroken (length r.read * z) 0 (begun z r.read 0 ps) ps)) =
+    ap (λ n. pdus_in (busy (unbroken (n * z) 0 (held_at (run == 0) up.begun) ps))) (sym long) ∙ ap (λ h. pdus_in (busy (unbroken (length r.read * z) 0 h ps))) r.end.as_left in
+    let after : arrives new ps (marks ++ true ∷ []) 0 ≡ pdus_in (busy (unbroken (length read1 * z) 0 (begun z read1 0 ps) ps)) =
+    ap (λ n. pdus_in (busy (unbroken (n * new.link.zone) 0 (held_at (0 == 0) new.begun) ps))) (sym long_then)
+    ∙ ap (λ h. pdus_in (busy (unbroken (length read1 * new.link.zone) 0 h ps))) t.after.as_left
+    ∙ ap (λ k. pdus_in (busy (unbroken (length read1 * k) 0 (begun k read1 0 ps) ps))) zone in
+    before ∙ ap pdus_in l.lands ∙ pdus-append l.done (busy (unbroken (length read1 * z) 0 (begun z read1 0 ps) ps))
+    ∙ ap (λ d. pdus_in d ++ pdus_in (busy (unbroken (length read1 * z) 0 (begun z read1 0 ps) ps))) done ∙ ap (λ x. pdus_in t.added ++ x) (sym after)
+
+heard_next : (up new : LinkReceiverState) (ps : List (List ℕ)) (marks : List Bool) (run : ℕ) (old out : List (List ℕ)) → 0 < up.link.zone →
+    (r : IsReceived up ps marks run) → TakesNext up new ps r.read run old out → Hears up new ps marks run old out
+heard_next up new ps marks run old out pos r t =
     let z : ℕ = up.link.zone in
     let m : CompletesMore z marks ps t.added = next_completes z r.read marks ps t.added r.end.packets_whole r.among t.completed in
     let kept : count_of new.drops 11 ≡ count_of up.drops 11 = t.memory in
@@ -88,12 +127,13 @@ heard_next up new ps marks run old out r t =
       added = t.pdus;
       part = part-map (λ p. drop 6 p) t.added m.more m.part;
       all = λ e. ap pdus_in (same e);
+      lands = λ _ _. next-lands up new ps marks run old out pos r t;
       clear = λ none e. t.drops ∙ ap (λ n. all_counted up.drops (zone_drops (not (n == 0) && is_some up.begun) 0)) (none-struck marks run r.struck none);
       memory = λ e. sym kept ∙ e;
     }
 
 heard_front : (up new : LinkReceiverState) (ps : List (List ℕ)) (marks : List Bool) (run : ℕ) (old out : List (List ℕ)) →
-    (r : IsReceived up ps marks run) → TakesNextFront up new ps r.read old out → Hears up new ps marks old out
+    (r : IsReceived up ps marks run) → TakesNextFront up new ps r.read old out → Hears up new ps marks run old out
 heard_front up new ps marks run old out r t =
     let z : ℕ = up.link.zone in
     let m : CompletesMore z marks ps t.added = next_completes z r.read marks ps t.added r.end.packets_whole r.among t.completed in
@@ -113,6 +153,7 @@ heard_front up new ps marks run old out r t =
       added = t.pdus;
       part = part-map (λ p. drop 6 p) (take t.count t.added) m.more few;
       all = λ e. absurd (told e);
+      lands = λ e low. absurd (counted-shows up.drops new.drops r.end.counts t.drops e low);
       clear = λ none e. absurd (told e);
       memory = λ e. absurd (told e);
     }
@@ -137,8 +178,9 @@ delivers l new old out is there taken =
     let ps : List (List ℕ) = packets_sent l in
     let after : OneWayState = record l { up = new; marks = l.marks ++ true ∷ []; run = 0 } in
     let link : new.link ≡ l.up.link = elim taken [ inl t ↦ t.link | inr t ↦ t.link ] in
-    let h : Hears l.up new ps l.marks old out = elim taken [
-      | inl t ↦ heard_next l.up new ps l.marks l.run old out is.received t
+    let pos : 0 < l.up.link.zone = omega (arith, ap (λ x. x.zone) is.same_link, is.sent.valid.least_zone) in
+    let h : Hears l.up new ps l.marks l.run old out = elim taken [
+      | inl t ↦ heard_next l.up new ps l.marks l.run old out pos is.received t
       | inr t ↦ heard_front l.up new ps l.marks l.run old out is.received t
     ] in
     let room : length (l.marks ++ true ∷ []) ≤ length l.frames = omega (arith, length-append l.marks (true ∷ [])) in
@@ -147,7 +189,20 @@ delivers l new old out is there taken =
       sent = record { valid = is.sent.valid; made = is.sent.made; frames = is.sent.frames; octets = is.sent.octets; taken = room };
       received = h.received;
     } in
-    let hears : HearsMore l after h.given = record { way = way_is after ps way; packets = refl; more = h.more; delivered = h.delivered; part = h.part; all = h.all; clear = h.clear; memory = h.memory } in
+    let zone : l.up.link.zone ≡ l.down.link.zone = ap (λ x. x.zone) is.same_link in
+    let zone_then : new.link.zone ≡ l.down.link.zone = ap (λ x. x.zone) link ∙ zone in
+    let hears : HearsMore l after h.given = record {
+      way = way_is after ps way;
+      packets = refl;
+      more = h.more;
+      delivered = h.delivered;
+      part = h.part;
+      all = h.all;
+      lands = λ same low. ap (λ z. pdus_in (busy (unbroken (length l.marks * z) 0 (held_at (l.run == 0) l.up.begun) ps))) (sym zone) ∙ h.lands same low
+          ∙ ap (λ z. h.given ++ pdus_in (busy (unbroken (length (l.marks ++ true ∷ []) * z) 0 (held_at (0 == 0) new.begun) ps))) zone_then;
+      clear = h.clear;
+      memory = h.memory;
+    } in
     (h.given, h.added, hears)
 
 -- A frame was struck.

@@ -1,7 +1,7 @@
 -- Proof-only: what is known of a transaction is of an accepted put. `put_of` finds the put of a
 -- transaction, `mine` is an entity, `theirs` the other one, `forth` the PDUs on their way from the
 -- first one.
-use Rattle.std.specs.Prelude.{◌≡◌, ◌≢◌, ◌⊎◌, ℕ, ◌==◌, ◌||◌, true, false, List, [], length, slice_get, Option, Some, IsSome}
+use Rattle.std.specs.Prelude.{◌≡◌, ◌≢◌, ◌⊎◌, ℕ, ◌≤◌, ◌==◌, ◌||◌, true, false, List, [], length, slice_get, Option, Some, IsSome}
 use Rattle.cfdp_header.specs.declared.value.TransactionId.{TransactionId}
 use Rattle.cfdp_directives.specs.Direction.{direction_fits, is_for}
 use Rattle.cfdp_directives.specs.Put.{Put}
@@ -10,7 +10,7 @@ use Rattle.cfdp_entity.specs.Entity.{EntityState}
 use Rattle.cfdp_entity.specs.Hearing.{names_no_file}
 use Rattle.cfdp_entity.specs.Seen.{Seen, Sends, Receives}
 use Rattle.cfdp_entity.specs.Sound.{FindsMore}
-use Rattle.cfdp_entity.specs.Table.{Entry, record_of}
+use Rattle.cfdp_entity.specs.Table.{Entry, record_of, most_records}
 use Rattle.link_sim.specs.Between.{Pdu}
 use Rattle.link_sim.specs.Exchange.{AllTrue}
 
@@ -34,15 +34,16 @@ IsWithPeer c (Sends x) = (x.addressing.destination ≡ c.peer)
 IsWithPeer c (Receives r m) = (r.addressing.id.source ≡ c.peer)
     × (r.addressing.destination ≡ c.entity)
 
--- Each put of the entity has its record, each record is one with the peer, no acknowledgement waits
--- that is of a transaction without a record, and each PDU on its way is for the other entity, and of
--- an accepted put.
+-- Each put of the entity has its record, each record is one with the peer, there are no more than a
+-- table may have, no acknowledgement waits that is of a transaction without a record, and each PDU
+-- on its way is for the other entity, and of an accepted put.
 pub record IsKnown (put_of : TransactionId → Option Put) (mine theirs : EntityState)
     (forth : List Pdu) : Type 0 where
   pub sends : (id : TransactionId) → IsSome (put_of id) → id.source ≡ mine.config.entity
       → IsSending (record_of id mine.table.records)
   pub with_peer : (place : ℕ) (e : Entry) → slice_get mine.table.records place ≡ Some e
       → IsWithPeer mine.config e.1
+  pub few : length mine.table.records ≤ most_records
   pub none_stray : mine.strays ≡ []
   pub directed : AllTrue (IsDirected put_of theirs) forth
 

@@ -1,10 +1,11 @@
 -- One direction of a link: what was sent, what became of its frames, and what was delivered.
-use Rattle.std.specs.Prelude.{◌≡◌, ℕ, ◌+◌, ◌*◌, ◌<◌, ◌≤◌, ◌⊎◌, Bool, true, false, List, [], ◌∷◌, ◌++◌, length, drop, map, not, replicate, slice_index_or, nat_le, if◌then◌else◌}
+use Rattle.std.specs.Prelude.{◌≡◌, ℕ, ◌+◌, ◌-◌, ◌*◌, ◌^◌, ◌<◌, ◌≤◌, ◌⊎◌, ◌==◌, ◌&&◌, Bool, true, false, List, [], ◌∷◌, ◌++◌, length, drop, map, not, replicate, slice_index_or, nat_le, nat_lt, if◌then◌else◌}
 use Rattle.std.specs.List.{list_any}
 use Rattle.aos_frame.specs.Frame.{IsLink}
 use Rattle.mpdu.specs.Stream.{stream, survivors}
 use Rattle.mpdu.specs.Packets.{packets_of, busy}
 use Rattle.mpdu.specs.Parts.{IsPartOf, AreAmong}
+use Rattle.mpdu.specs.Reading.{held_at}
 use Rattle.link_stack.specs.Frames.{frame_of, pdus_in}
 use Rattle.link_stack.specs.Drops.{count_of}
 use Rattle.link_stack.specs.Downward.{LinkSenderState, IsDown}
@@ -55,6 +56,20 @@ behind limit from (p ∷ ps) =
 -- the PDUs on their way: those of the packets of which an octet is still to be taken, in order
 abbrev pub on_way : OneWayState → List (List ℕ)
 on_way w = pdus_in (busy (behind (length w.marks * w.down.link.zone) 0 (packets_sent w)))
+
+-- ---- what will arrive, where no more is lost
+-- of packets that begin at an octet, in a row, those that end behind a limit: but where nothing is
+-- held of the one that the limit cuts, only those behind it
+abbrev pub unbroken : (limit from : ℕ) → (held : List ℕ) → List (List ℕ) → List (List ℕ)
+unbroken limit from held [] = []
+unbroken limit from held (p ∷ ps) =
+    if nat_le (from + length p) limit then unbroken limit (from + length p) held ps
+    else if nat_lt from limit && nat_le (length held) 0 then ps else p ∷ ps
+
+-- the PDUs on their way but for the first one, where the front of its packet was lost
+abbrev pub arriving : OneWayState → List (List ℕ)
+arriving w = pdus_in (busy (unbroken (length w.marks * w.down.link.zone) 0
+    (held_at (w.run == 0) w.up.begun) (packets_sent w)))
 
 -- ---- what every direction keeps
 -- The end that sends, where its stream is these packets.
@@ -125,6 +140,9 @@ pub record HearsMore (old new : OneWayState) (given : List (List ℕ)) : Type 0 
   pub delivered : pdus_delivered new ≡ pdus_delivered old ++ more
   pub part : IsPartOf given more
   pub all : count_of new.up.drops 11 ≡ 0 → given ≡ more
+  -- where no such drop was counted now, they are the first of those that were to arrive
+  pub lands : count_of new.up.drops 11 ≡ count_of old.up.drops 11
+      → count_of new.up.drops 11 < 2 ^ 64 - 1 → arriving old ≡ given ++ arriving new
   -- nothing was dropped there, where no frame was lost before either
   pub clear : list_any not old.marks ≡ false → count_of new.up.drops 11 ≡ 0
       → new.up.drops ≡ old.up.drops

@@ -1,19 +1,23 @@
 -- What a settled world is, and what ends a settling before.
-use Rattle.std.specs.Prelude.{◌≡◌, ◌≢◌, ◌⊎◌, ℕ, ◌-◌, ◌^◌, ◌<◌, List, [], ◌∷◌, get_or, codes}
+use Rattle.std.specs.Prelude.{◌≡◌, ◌≢◌, ◌⊎◌, ℕ, ◌-◌, ◌^◌, ◌<◌, List, [], ◌∷◌, length, get_or, codes}
 use Rattle.mpdu.specs.Packing.{flush_of}
 use Rattle.link_stack.specs.Downward.{packing}
 use Rattle.link_stack.specs.Drops.{count_of}
 use Rattle.cfdp_entity.specs.Polling.{Rests, turn}
+use Rattle.cfdp_entity.specs.Table.{most_records}
 use Rattle.cfdp_station.specs.Station.{StationState}
 use Rattle.link_sim.specs.declared.side.Side.{Side}
+use Rattle.link_sim.specs.declared.side.Side.TheVariants.{One, Two}
 use Rattle.link_sim.specs.declared.event.Event.{Event}
 use Rattle.link_sim.specs.declared.event.Event.TheVariants as event
 use Rattle.link_sim.specs.declared.event.Applied.{Applied}
+use Rattle.link_sim.specs.declared.event.Applied.TheVariants as did
 use Rattle.link_sim.specs.declared.shortages.Shortages.{Shortages}
 use Rattle.link_sim.specs.declared.settle_error.SettleError.{SettleError}
 use Rattle.link_sim.specs.declared.settle_error.SettleError.TheVariants.{NoMemory, StoreFailed, TableFull}
 use Rattle.link_sim.specs.Clean.{IsClean}
 use Rattle.link_sim.specs.Theorem.{WorldSeen, HoldsAt, Follows}
+use Rattle.link_sim.specs.Tracks.{RunsAlong}
 use Rattle.link_sim.specs.World.{WorldState, FindsNoMemory, NoneWaits, Steps, station_at, entity_at, side_in}
 
 -- Nothing is due at either station, no flush would make a frame, and no frame waits.
@@ -43,16 +47,46 @@ IsOfSettling (event.Flush s) = Unit {0}
 IsOfSettling (event.Deliver s) = Unit {0}
 IsOfSettling _ = ⊥
 
+-- In a round the first station polls and flushes, then the second one, and what waits of the first
+-- is delivered, and then of the second. Behind that comes the next round.
+abbrev pub next_of : Event → Event
+next_of (event.Poll s) = event.Flush s
+next_of (event.Flush One) = event.Poll Two
+next_of (event.Flush Two) = event.Deliver One
+next_of (event.Deliver One) = event.Deliver Two
+next_of (event.Deliver Two) = event.Poll One
+next_of e = e
+
+-- what comes behind an event: the same once more where it did something, and else the next one
+abbrev pub behind : Event → Applied → Event
+behind e did.Nothing = next_of e
+behind e _ = e
+
+-- These events come in that order from one on, each with what it did; then `upto` is the next.
+abbrev pub AreInOrder : (from upto : Event) → List (Event × Applied) → Type 0
+AreInOrder from upto [] = upto ≡ from
+AreInOrder from upto (s ∷ steps) = (s.0 ≡ from) × AreInOrder (behind s.0 s.1) upto steps
+
 -- These polls, flushes and deliveries led from the old world to the new one, one after another.
 abbrev pub AreOfSettling : List (Event × Applied) → (old new : WorldState) → Type 0
 AreOfSettling [] old new = new ≡ old
 AreOfSettling (s ∷ steps) old new = (mid : WorldState)
     × IsOfSettling s.0 × Steps s.0 s.1 old mid × AreOfSettling steps mid new
 
--- Nothing but such events did: nothing was put, lost or cancelled, and no time was told.
-pub record OnlySettles (old new : WorldState) : Type 0 where
+-- Nothing but such events did, in order from one up to another: nothing was put, lost or cancelled,
+-- and no time was told.
+pub record SettlesFrom (from upto : Event) (old new : WorldState) : Type 0 where
   pub steps : List (Event × Applied)
   pub are : AreOfSettling steps old new
+  pub in_order : AreInOrder from upto steps
+
+-- the first event of a round
+abbrev pub first_event : Event
+first_event = event.Poll One
+
+-- Such events did, in whole rounds.
+abbrev pub OnlySettles : (old new : WorldState) → Type 0
+OnlySettles old new = SettlesFrom first_event first_event old new
 
 -- ---- what ends a settling before
 -- how often a station was short: of memory on its link and at its entity, of its stores, and of
@@ -83,12 +117,12 @@ RisesAt StoreFailed before after =
 RisesAt TableFull before after = HasRisen before.table after.table
 
 -- None did.
-abbrev pub KeepsAt : SettleError → (before after : Shortages) → Type 0
-KeepsAt NoMemory before after =
+abbrev pub CountsStayAt : SettleError → (before after : Shortages) → Type 0
+CountsStayAt NoMemory before after =
     IsSpared before.link_memory after.link_memory × IsSpared before.memory after.memory
-KeepsAt StoreFailed before after =
+CountsStayAt StoreFailed before after =
     IsSpared before.outbox after.outbox × IsSpared before.inbox after.inbox
-KeepsAt TableFull before after = IsSpared before.table after.table
+CountsStayAt TableFull before after = IsSpared before.table after.table
 
 -- those of both stations
 abbrev pub all_shortages : WorldState → Shortages × Shortages
@@ -97,41 +131,65 @@ all_shortages w = (shortages w.one, shortages w.two)
 abbrev pub Rises : SettleError → (before after : Shortages × Shortages) → Type 0
 Rises error before after = RisesAt error before.0 after.0 ⊎ RisesAt error before.1 after.1
 
-abbrev pub Keeps : SettleError → (before after : Shortages × Shortages) → Type 0
-Keeps error before after = KeepsAt error before.0 after.0 × KeepsAt error before.1 after.1
+abbrev pub CountsStay : SettleError → (before after : Shortages × Shortages) → Type 0
+CountsStay error before after =
+    CountsStayAt error before.0 after.0 × CountsStayAt error before.1 after.1
 
 -- No count that tells of a shortage differs at either station; and had one risen, it would show.
 pub record KeepsAll (before after : Shortages × Shortages) : Type 0 where
-  pub memory : Keeps NoMemory before after
-  pub stores : Keeps StoreFailed before after
-  pub tables : Keeps TableFull before after
+  pub memory : CountsStay NoMemory before after
+  pub stores : CountsStay StoreFailed before after
+  pub tables : CountsStay TableFull before after
 
 -- A count that this error tells of rose, and none of an error with a lower number.
 abbrev pub RisesFirst : SettleError → (before after : Shortages × Shortages) → Type 0
 RisesFirst NoMemory before after = Rises NoMemory before after
-RisesFirst StoreFailed before after = Rises StoreFailed before after × Keeps NoMemory before after
+RisesFirst StoreFailed before after =
+    Rises StoreFailed before after × CountsStay NoMemory before after
 RisesFirst TableFull before after =
-    Rises TableFull before after × Keeps StoreFailed before after × Keeps NoMemory before after
+    Rises TableFull before after × CountsStay StoreFailed before after
+    × CountsStay NoMemory before after
 
--- Polls, flushes and deliveries led from the old world to the new one, no count of a shortage
--- differs at the end, and a clean world stayed clean.
-pub record GoesWell (old new : WorldState) : Type 0 where
-  pub only : OnlySettles old new
+-- ---- a table that is full
+-- how often a station found no room for a transaction or an acknowledgement
+abbrev pub no_room : Side → WorldState → ℕ
+no_room s w = get_or (entity_at s w).drops 15 0
+
+-- Where that differs, the table of the station has all the records that it may have: 4,096.
+abbrev pub DropsWhereFull : (old new : WorldState) → Type 0
+DropsWhereFull old new = (s : Side) → no_room s new ≢ no_room s old
+    → length (entity_at s new).table.records ≡ most_records
+
+-- ---- how a settling goes
+-- Polls, flushes and deliveries led in order from the old world to the new one, no count of a
+-- shortage differs at the end, a clean world stayed clean, and each transaction made a run of its
+-- own.
+pub record GoesWellFrom (from upto : Event) (old new : WorldState) : Type 0 where
+  pub only : SettlesFrom from upto old new
   pub spared : KeepsAll (all_shortages old) (all_shortages new)
   pub clean : IsClean old → IsClean new
+  pub runs : RunsAlong old new
+
+abbrev pub GoesWell : (old new : WorldState) → Type 0
+GoesWell old new = GoesWellFrom first_event first_event old new
 
 -- An event of it ended a settling with this error: that happened in it, or it found no memory.
+-- Where a PDU found no room in it, the table there is full.
 abbrev pub Ends : SettleError → Event → (old new : WorldState) → Type 0
 Ends error e old new = IsOfSettling e ×
     (((d : Applied) × Steps e d old new × RisesFirst error (all_shortages old) (all_shortages new))
     ⊎ ((error ≡ NoMemory) × FindsNoMemory (side_in e) old new))
+    × DropsWhereFull old new
 
--- The last event ended it so, and up to then all went well.
-pub record HasCause (error : SettleError) (old new : WorldState) : Type 0 where
+-- The event whose turn it was ended it so, and up to then all went well.
+pub record HasCauseFrom (from : Event) (error : SettleError) (old new : WorldState) : Type 0 where
   pub last : WorldState
-  pub well : (last ≡ old) ⊎ GoesWell old last
   pub event : Event
+  pub well : ((last ≡ old) × (event ≡ from)) ⊎ GoesWellFrom from event old last
   pub ends : Ends error event last new
+
+abbrev pub HasCause : SettleError → (old new : WorldState) → Type 0
+HasCause error old new = HasCauseFrom first_event error old new
 
 -- ---- in reports
 abbrev pub settle_error_number : SettleError → ℕ

@@ -7,10 +7,12 @@ ghost use Rattle.link_sim.specs.Clean.{AllComplete, IsClean};
 ghost use Rattle.link_sim.specs.Courses.{KeepsPuts};
 ghost use Rattle.link_sim.specs.Observed.{seen};
 ghost use Rattle.link_sim.specs.OneWay.{IsOneWay, IsRested};
-ghost use Rattle.link_sim.specs.Settling.{IsOfSettling, IsSettled, KeepsAll, all_shortages};
+ghost use Rattle.link_sim.specs.Settling.{DropsWhereFull, IsOfSettling, IsSettled, KeepsAll, all_shortages};
 ghost use Rattle.link_sim.specs.Sound.{IsSound};
+ghost use Rattle.link_sim.specs.Exchanges.{ExpiresOn};
+ghost use Rattle.link_sim.specs.Tracks.{KeepsPutsOf, RunsAlong};
 ghost use Rattle.link_sim.specs.Theorem.{HoldsAt, FoldsAt, at, put_of, completions_at};
-ghost use Rattle.link_sim.specs.World.{WorldState, IsFirst, Stays, Steps, TakesPut, way_from, files_at};
+ghost use Rattle.link_sim.specs.World.{WorldState, IsFirst, Stays, Steps, TakesPut, TellsTime, way_from, files_at};
 ghost use Rattle.link_sim.specs.WorldConfig.{IsWorldConfig};
 ghost use Rattle.link_sim.specs.WorldWork.{world_work};
 ghost use Rattle.link_sim.specs.declared.event.Applied.TheVariants as dids;
@@ -56,6 +58,15 @@ pub(crate) fn events_keep_the_promises()
     ensures clean { (e : Event) (old new : WorldState) → IsSound old → KeepsPuts old
         → IsOfSettling e → Steps e dids.Applied old new
         → KeepsAll (all_shortages old) (all_shortages new) → IsClean old → IsClean new }
+    ensures runs { (e : Event) (old new : WorldState) → IsSound old → KeepsPuts old
+        → IsOfSettling e → Steps e dids.Applied old new
+        → KeepsAll (all_shortages old) (all_shortages new) → RunsAlong old new }
+    ensures tells { (s : Side) (now : ℕ) (old new : WorldState) → IsSound old
+        → TellsTime s now old new → ExpiresOn s now old new × KeepsPutsOf old new }
+    ensures full { (e : Event) (did : Applied) (old new : WorldState) → IsSound old → KeepsPuts old
+        → Steps e did old new → DropsWhereFull old new }
+    ensures full_none { (s : Side) (old new : WorldState) → Stays s old new
+        → DropsWhereFull old new }
     ensures completes { (w : WorldState) → IsSound w → KeepsPuts w
         → ((s : Side) → IsRested (way_from s w)) → IsSettled w → IsClean w → AllComplete w }
 {

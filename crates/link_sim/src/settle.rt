@@ -2,11 +2,12 @@
 ghost use Rattle.std.specs.Prelude.{◌≡◌, ◌<◌, true, false, IfErr, IfOk, OnOk};
 ghost use Rattle.link_sim.specs.Clean.{AllComplete, IsClean};
 ghost use Rattle.link_sim.specs.Observed.{seen};
-ghost use Rattle.link_sim.specs.Settling.{Ends, GoesWell, HasCause, HasSent, IsOfSettling, IsSettled, LeadsTo, all_shortages};
+ghost use Rattle.link_sim.specs.Settling.{Ends, GoesWell, GoesWellFrom, HasCause, HasCauseFrom, HasSent, IsOfSettling, IsSettled, LeadsTo, all_shortages, next_of};
 ghost use Rattle.link_sim.specs.Theorem.{HoldsAt, Follows};
 ghost use Rattle.link_sim.specs.World.{Steps};
 ghost use Rattle.link_sim.specs.WorldWork.{world_work};
 ghost use Rattle.link_sim.specs.declared.event.Applied.TheVariants as did;
+ghost use Rattle.link_sim.specs.declared.event.Event.TheVariants as events;
 ghost use Rattle.link_sim.specs.declared.side.Side.{Side};
 
 use crate::event::{Applied, Event};
@@ -36,7 +37,8 @@ impl<O: Outbox, I: Inbox> World<O, I> {
         ensures follows { Follows (seen self.old) (seen self.new) }
         // Finished once, heard in full, told truly and sent truly.
         ensures holds { (side : Side) → HoldsAt side (seen self.new) }
-        // Nothing was short; an error tells what was in the first event in which anything was.
+        // Nothing was short; an error tells what was in the first event in which anything was. The
+        // events came in the order of rounds.
         ensures well { OnOk result (GoesWell self.old self.new) }
         ensures cause { IfErr result (λ error. HasCause error self.old self.new) }
         // Where the world was clean, every put is complete and closed at both ends.
@@ -67,7 +69,8 @@ impl<O: Outbox, I: Inbox> World<O, I> {
     /// One round: says whether anything happened in it.
     fn settle_round(&mut self) -> Result<bool, SettleError>
         ensures leads { LeadsTo (seen self.old) (seen self.new) }
-        ensures less { IfOk result (λ happened. happened ≡ true → world_work self.new < world_work self.old) }
+        ensures less { IfOk result (λ happened. happened ≡ true
+            → world_work self.new < world_work self.old) }
         ensures settled { IfOk result (λ happened. happened ≡ false → IsSettled self.new) }
         ensures well { OnOk result (GoesWell self.old self.new) }
         ensures cause { IfErr result (λ error. HasCause error self.old self.new) }
@@ -82,11 +85,14 @@ impl<O: Outbox, I: Inbox> World<O, I> {
     /// A station sends all that is due, and its begun frame.
     fn send_all(&mut self, side: Side) -> Result<bool, SettleError>
         ensures leads { LeadsTo (seen self.old) (seen self.new) }
-        ensures less { IfOk result (λ happened. happened ≡ true → world_work self.new < world_work self.old) }
+        ensures less { IfOk result (λ happened. happened ≡ true
+            → world_work self.new < world_work self.old) }
         ensures same { IfOk result (λ happened. happened ≡ false → self.new ≡ self.old) }
         ensures sent { IfOk result (λ happened. happened ≡ false → HasSent side self.new) }
-        ensures well { OnOk result (GoesWell self.old self.new) }
-        ensures cause { IfErr result (λ error. HasCause error self.old self.new) }
+        ensures well { OnOk result (GoesWellFrom (events.Poll side)
+            (next_of (events.Flush side)) self.old self.new) }
+        ensures cause { IfErr result (λ error. HasCauseFrom (events.Poll side) error
+            self.old self.new) }
     {
         let polled = self.repeat(&Event::Poll(side))?;
         let flushed = self.repeat(&Event::Flush(side))?;
@@ -97,12 +103,13 @@ impl<O: Outbox, I: Inbox> World<O, I> {
     fn repeat(&mut self, event: &Event) -> Result<bool, SettleError>
         requires of_it { IsOfSettling event.now }
         ensures leads { LeadsTo (seen self.old) (seen self.new) }
-        ensures less { IfOk result (λ happened. happened ≡ true → world_work self.new < world_work self.old) }
+        ensures less { IfOk result (λ happened. happened ≡ true
+            → world_work self.new < world_work self.old) }
         ensures same { IfOk result (λ happened. happened ≡ false → self.new ≡ self.old) }
         // There is nothing to do for it in the end.
         ensures idle { IfOk result (λ happened. Steps event.now did.Nothing self.new self.new) }
-        ensures well { OnOk result (GoesWell self.old self.new) }
-        ensures cause { IfErr result (λ error. HasCause error self.old self.new) }
+        ensures well { OnOk result (GoesWellFrom event.now (next_of event.now) self.old self.new) }
+        ensures cause { IfErr result (λ error. HasCauseFrom event.now error self.old self.new) }
     {
         let mut happened = false;
         while self.settle_by(event)? {
@@ -115,11 +122,15 @@ impl<O: Outbox, I: Inbox> World<O, I> {
     fn settle_by(&mut self, event: &Event) -> Result<bool, SettleError>
         requires of_it { IsOfSettling event.now }
         ensures leads { LeadsTo (seen self.old) (seen self.new) }
-        ensures less { IfOk result (λ moved. moved ≡ true → world_work self.new < world_work self.old) }
+        ensures less { IfOk result (λ moved. moved ≡ true
+            → world_work self.new < world_work self.old) }
         ensures idle { IfOk result (λ moved. moved ≡ false
             → Steps event.now did.Nothing self.old self.new) }
         // Nothing was short in it; an error tells what was, with the lowest number.
-        ensures well { OnOk result (GoesWell self.old self.new) }
+        ensures well { IfOk result (λ moved. moved ≡ true
+            → GoesWellFrom event.now event.now self.old self.new) }
+        ensures well_last { IfOk result (λ moved. moved ≡ false
+            → GoesWellFrom event.now (next_of event.now) self.old self.new) }
         ensures ends { IfErr result (λ error. Ends error event.now self.old self.new) }
     {
         let before = self.shortages();
@@ -136,7 +147,7 @@ impl<O: Outbox, I: Inbox> World<O, I> {
     }
 
     /// How often both stations were short of something.
-    fn shortages(&self) -> (Shortages, Shortages)
+    pub(crate) fn shortages(&self) -> (Shortages, Shortages)
         ensures { result ≡ all_shortages self.now }
     {
         let one = Shortages::of(self.station(Side::One));

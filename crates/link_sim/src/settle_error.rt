@@ -12,8 +12,7 @@ pub enum SettleError {
     /// A store failed.
     #[error("StoreFailed")]
     StoreFailed,
-    /// A PDU was dropped because a table of transactions, or the queue of acknowledgements without
-    /// one, was full.
+    /// A PDU was dropped because a table of transactions was full.
     #[error("TableFull")]
     TableFull,
 }

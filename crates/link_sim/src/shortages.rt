@@ -1,6 +1,6 @@
 //! How often a station was short of memory, of its stores, or of room in a table.
 ghost use Rattle.std.specs.Prelude.{◌≡◌, None, true, false, IfSome};
-ghost use Rattle.link_sim.specs.Settling.{HasRisen, IsSpared, Keeps, KeepsAll, KeepsAt, Rises, RisesAt, RisesFirst, shortages};
+ghost use Rattle.link_sim.specs.Settling.{CountsStay, CountsStayAt, HasRisen, IsSpared, KeepsAll, Rises, RisesAt, RisesFirst, shortages};
 
 use crate::settle_error::SettleError;
 use cfdp_station::Station;
@@ -40,7 +40,7 @@ impl Shortages {
     /// Whether what this error tells of happened since.
     pub(crate) fn shows(&self, error: SettleError, before: &Shortages) -> bool
         ensures rises { result ≡ true → RisesAt error before.now self.now }
-        ensures keeps { result ≡ false → KeepsAt error before.now self.now }
+        ensures keeps { result ≡ false → CountsStayAt error before.now self.now }
     {
         match error {
             SettleError::NoMemory => {
@@ -88,7 +88,7 @@ fn either_shows(
     now: &(Shortages, Shortages),
 ) -> bool
     ensures rises { result ≡ true → Rises error before.now now.now }
-    ensures keeps { result ≡ false → Keeps error before.now now.now }
+    ensures keeps { result ≡ false → CountsStay error before.now now.now }
 {
     now.0.shows(error, &before.0) || now.1.shows(error, &before.1)
 }

@@ -3,9 +3,11 @@ ghost use Rattle.std.specs.Prelude.{◌≡◌, ◌<◌, ℕ, List, IfOk, OnErr};
 ghost use Rattle.cfdp_directives.specs.Put.{inbox_after};
 ghost use Rattle.cfdp_entity.specs.Sound.{FindsMore};
 ghost use Rattle.link_sim.specs.Clean.{IsClean};
+ghost use Rattle.link_sim.specs.Exchanges.{ExpiresOn};
 ghost use Rattle.link_sim.specs.Observed.{seen};
-ghost use Rattle.link_sim.specs.Settling.{IsOfSettling, KeepsAll, all_shortages};
+ghost use Rattle.link_sim.specs.Settling.{DropsWhereFull, IsOfSettling, KeepsAll, all_shortages};
 ghost use Rattle.link_sim.specs.Theorem.{HoldsAt, FoldsAt, at, put_of, completions_at};
+ghost use Rattle.link_sim.specs.Tracks.{KeepsPutsOf, RunsAlong};
 ghost use Rattle.link_sim.specs.World.{IsFirst, FindsNoMemory, Steps, station_at, entity_at, link_from, seen_link, side_in, files_at};
 ghost use Rattle.link_sim.specs.WorldConfig.{IsWorldConfig};
 ghost use Rattle.link_sim.specs.WorldWork.{world_work};
@@ -159,6 +161,16 @@ impl<O: Outbox, I: Inbox> World<O, I> {
         ensures clean { IsOfSettling event.now → IfOk result (λ did. did ≡ dids.Applied
             → KeepsAll (all_shortages self.old) (all_shortages self.new)
             → IsClean self.old → IsClean self.new) }
+        // Where a station found no room for a PDU, its table is full.
+        ensures full { DropsWhereFull self.old self.new }
+        // Where nothing was short in it, each transaction made a run of its own.
+        ensures runs { IsOfSettling event.now → IfOk result (λ did. did ≡ dids.Applied
+            → KeepsAll (all_shortages self.old) (all_shortages self.new)
+            → RunsAlong self.old self.new) }
+        // Where the time is told, timers expire that were waited for, and puts stay.
+        ensures tells { (side : Side) (now : ℕ) → event.now ≡ events.Tick side now
+            → IfOk result (λ did. ExpiresOn side now self.old self.new
+            × KeepsPutsOf self.old self.new) }
         // A put that is accepted leaves a clean world clean.
         ensures clean_put { (side : Side) (source destination : List ℕ)
             → event.now ≡ events.Put side source destination

@@ -1,9 +1,15 @@
+use Rattle.link_sim.specs.declared.event.Applied.TheVariants as dids
+use Rattle.link_sim.specs.declared.event.Event.TheVariants as event
+use Rattle.link_sim.proofs.Along.{puts-kept-of, puts-same, settling-puts}
+use Rattle.link_sim.proofs.ExpiresOn.{expires-on}
+use Rattle.link_sim.proofs.RunsWorld.{settles-run}
 use Rattle.link_sim.proofs.CleanEnds.{clean-completes}
 use Rattle.link_sim.proofs.CleanFirst.{first-clean, put-clean}
 use Rattle.link_sim.proofs.CleanFound.{first-found, stays-found, steps-found}
 use Rattle.link_sim.proofs.CleanHears.{HearingLaws}
 use Rattle.link_sim.proofs.CleanSettles.{CleanLaws, settles-clean, spared-at}
 use Rattle.link_sim.proofs.CoursesEvents.{first-courses, steps-courses, stays-courses}
+use Rattle.link_sim.proofs.FullTables.{event-full, stays-full}
 use Rattle.link_sim.proofs.Keeping.{Grounds, holds, sound-next, folds-next}
 use Rattle.link_sim.proofs.Moving.{EntityLaws, Moves, stays-moves}
 use Rattle.link_sim.proofs.Beginning.{sound-first, inbox-first, event-moves}
@@ -107,3 +113,33 @@ returns-clause-clean c e old new sound k of_it h spared clean =
 
 pub returns-clause-completes : goal.returns-clause-completes
 returns-clause-completes c w sound k rested settled clean = clean-completes w sound k.course clean settled rested k.found
+
+pub returns-clause-full : goal.returns-clause-full
+returns-clause-full c e did old new sound k h =
+    let kept = c.an_entity_keeps_the_truth.ensures in
+    let on = c.an_entity_goes_on.ensures in
+    let laws : EntityLaws = record { in_whole = c.a_part_has_no_more.ensures; put = kept.put; called = kept.called; ticked = kept.ticked; heard = kept.heard; dropped = kept.dropped; served_by = kept.served; put_on = on.put; called_on = on.called; ticked_on = on.ticked; heard_on = on.heard; dropped_on = on.dropped; served_on = on.served; sends = c.an_entity_sends_the_truth.ensures } in
+    let grounds : Grounds = record { in_whole = c.a_part_has_no_more.ensures; more = kept.more } in
+    event-full c.records_stay_for_good.ensures.steps old new sound k.course (steps-courses laws grounds c.records_stay_for_good.ensures.steps old new sound e did h k.course) e did h
+
+pub returns-clause-full_none : goal.returns-clause-full_none
+returns-clause-full_none c s old new h = stays-full s old new h
+
+pub returns-clause-runs : goal.returns-clause-runs
+returns-clause-runs c e old new sound k of_it h spared =
+    let kept = c.an_entity_keeps_the_truth.ensures in
+    let on = c.an_entity_goes_on.ensures in
+    let laws : EntityLaws = record { in_whole = c.a_part_has_no_more.ensures; put = kept.put; called = kept.called; ticked = kept.ticked; heard = kept.heard; dropped = kept.dropped; served_by = kept.served; put_on = on.put; called_on = on.called; ticked_on = on.ticked; heard_on = on.heard; dropped_on = on.dropped; served_on = on.served; sends = c.an_entity_sends_the_truth.ensures } in
+    let grounds : Grounds = record { in_whole = c.a_part_has_no_more.ensures; more = kept.more } in
+    let hearing : HearingLaws = record { faultless = c.a_true_file_raises_no_fault.ensures.none; opened = c.what_is_heard_true_is_kept_true.ensures.opened } in
+    let all : CleanLaws = record { entity = laws; grounds = grounds; hearing = hearing; stays = c.records_stay_for_good.ensures.steps } in
+    let m : Moves old new = event-moves laws old new sound e dids.Applied h in
+    record { keeps = puts-kept-of laws old new sound m (settling-puts e old new of_it h); runs = settles-run all e dids.Applied old new of_it h spared sound k }
+
+pub returns-clause-tells : goal.returns-clause-tells
+returns-clause-tells c s now old new sound h =
+    let kept = c.an_entity_keeps_the_truth.ensures in
+    let on = c.an_entity_goes_on.ensures in
+    let laws : EntityLaws = record { in_whole = c.a_part_has_no_more.ensures; put = kept.put; called = kept.called; ticked = kept.ticked; heard = kept.heard; dropped = kept.dropped; served_by = kept.served; put_on = on.put; called_on = on.called; ticked_on = on.ticked; heard_on = on.heard; dropped_on = on.dropped; served_on = on.served; sends = c.an_entity_sends_the_truth.ensures } in
+    let m : Moves old new = event-moves laws old new sound (event.Tick s now) dids.Applied h in
+    (expires-on c.records_stay_for_good.ensures.steps s now old new sound h (puts-same laws old new sound m h.puts), puts-kept-of laws old new sound m h.puts)

@@ -3,11 +3,14 @@ use Rattle.cfdp_entity.specs.Sound.{FindsMore}
 use Rattle.std.specs.Prelude.{IfOk}
 use Rattle.link_sim.specs.Clean.{IsClean}
 use Rattle.link_sim.specs.Courses.{KeepsPuts}
+use Rattle.link_sim.specs.Exchanges.{ExpiresOn}
 use Rattle.link_sim.specs.Observed.{seen}
-use Rattle.link_sim.specs.Settling.{KeepsAll, all_shortages}
+use Rattle.link_sim.specs.Settling.{DropsWhereFull, KeepsAll, all_shortages}
 use Rattle.link_sim.specs.Sound.{IsSound}
 use Rattle.link_sim.specs.Theorem.{FoldsAt, put_of}
+use Rattle.link_sim.specs.Tracks.{KeepsPutsOf, RunsAlong}
 use Rattle.link_sim.specs.World.{WorldState, Steps, side_in}
+use Rattle.link_sim.proofs.Along.{told-time}
 use Rattle.link_sim.specs.declared.event.Applied.TheVariants as dids
 use Rattle.link_sim.proofs.Stepping.{by-step, ok-then}
 use Rattle.link_sim.proofs.world.World.apply.Goals as goal
@@ -67,3 +70,32 @@ returns-clause-clean_put g c side source destination is =
     subst (λ (w : WorldState). IfOk c.step-did.result (λ did. did ≡ dids.Applied → IsClean w → IsClean new)) c.self.view_is
     (ok-then (λ did. Steps e did old new) (λ did. did ≡ dids.Applied → IsClean old → IsClean new)
     (λ did s applied clean. law.clean_put side source destination old new (subst (λ x. Steps x dids.Applied old new) is (subst (λ d. Steps e d old new) applied s)) clean) c.step-did.result c.step-did.ensures.steps)
+
+pub returns-clause-full : goal.returns-clause-full
+returns-clause-full g c =
+    let law = c.events_keep_the_promises.ensures in
+    let e = c.args.event.now in
+    let old : WorldState = c.self.inside.stations in
+    let new : WorldState = c.step-did.new.self in
+    subst (λ (w : WorldState). DropsWhereFull w new) c.self.view_is
+    (by-step (λ old new. DropsWhereFull old new) e old new (λ did s. law.full e did old new c.self.invariant.0 c.self.invariant.1 s) (λ k. law.full_none (side_in e) old new k) c.step-did.result c.step-did.ensures.steps c.step-did.ensures.err)
+
+pub returns-clause-runs : goal.returns-clause-runs
+returns-clause-runs g c of_it =
+    let law = c.events_keep_the_promises.ensures in
+    let e = c.args.event.now in
+    let old : WorldState = c.self.inside.stations in
+    let new : WorldState = c.step-did.new.self in
+    subst (λ (w : WorldState). IfOk c.step-did.result (λ did. did ≡ dids.Applied → KeepsAll (all_shortages w) (all_shortages new) → RunsAlong w new)) c.self.view_is
+    (ok-then (λ did. Steps e did old new) (λ did. did ≡ dids.Applied → KeepsAll (all_shortages old) (all_shortages new) → RunsAlong old new)
+    (λ did s applied spared. law.runs e old new c.self.invariant.0 c.self.invariant.1 of_it (subst (λ d. Steps e d old new) applied s) spared) c.step-did.result c.step-did.ensures.steps)
+
+pub returns-clause-tells : goal.returns-clause-tells
+returns-clause-tells g c side now is =
+    let law = c.events_keep_the_promises.ensures in
+    let e = c.args.event.now in
+    let old : WorldState = c.self.inside.stations in
+    let new : WorldState = c.step-did.new.self in
+    subst (λ (w : WorldState). IfOk c.step-did.result (λ did. ExpiresOn side now w new × KeepsPutsOf w new)) c.self.view_is
+    (ok-then (λ did. Steps e did old new) (λ did. ExpiresOn side now old new × KeepsPutsOf old new)
+    (λ did s. law.tells side now old new c.self.invariant.0 (told-time side now did old new (subst (λ x. Steps x did old new) is s))) c.step-did.result c.step-did.ensures.steps)

@@ -1,7 +1,7 @@
 use Rattle.std.proofs.Common.{◌≡◌, ◌≤◌, ◌<◌, inl, inr, refl, sym, ap, subst, ◌∙◌, arith}
 use Rattle.std.proofs.lemmas.Result.{err_from_is_err_and}
 use Rattle.link_sim.specs.Observed.{seen}
-use Rattle.link_sim.specs.Settling.{HasCause}
+use Rattle.link_sim.specs.Settling.{HasCauseFrom, next_of}
 use Rattle.link_sim.specs.World.{WorldState, Steps}
 use Rattle.link_sim.specs.WorldWork.{world_work}
 use Rattle.link_sim.specs.declared.event.Applied.TheVariants as did
@@ -16,7 +16,7 @@ loop-happened-init g c = record {
   most = omega arith;
   less = λ e. absurd cc;
   same = λ e. refl;
-  well = inl refl;
+  well = inl (refl, refl);
 }
 
 pub loop-happened-preserved : goal.loop-happened-preserved
@@ -29,7 +29,7 @@ loop-happened-preserved g c =
       most = omega (arith, most, less);
       less = λ e. omega (arith, most, less);
       same = λ e. absurd cc;
-      well = inr (well-then c.args.self.now c.loop-happened.self c.settle_by.new.self i.well c.in_ok-settle_by.ensures.well);
+      well = inr (well-then c.args.event.now c.args.event.now c.args.event.now c.args.self.now c.loop-happened.self c.settle_by.new.self i.well (c.in_ok-settle_by.ensures.well c.if-branch.true));
     }
 
 pub returns-in_err-settle_by-clause-leads : goal.returns-in_err-settle_by-clause-leads
@@ -40,8 +40,8 @@ pub returns-in_err-settle_by-clause-cause : goal.returns-in_err-settle_by-clause
 returns-in_err-settle_by-clause-cause g c =
     let p = err_from_is_err_and c.from_residual.result c.from_residual.ensures.1 in
     let e : SettleError = c.in_err-settle_by.field-0.0 in
-    err-then c.from_residual.result (λ error. HasCause error c.args.self.now c.settle_by.new.self) p.0 e p.1 p.2
-    (cause-here e c.args.event.now c.args.self.now c.loop-happened.self c.settle_by.new.self c.loop-happened.invariant.well c.in_err-settle_by.ensures.ends)
+    err-then c.from_residual.result (λ error. HasCauseFrom c.args.event.now error c.args.self.now c.settle_by.new.self) p.0 e p.1 p.2
+    (cause-here e c.args.event.now c.args.event.now c.args.self.now c.loop-happened.self c.settle_by.new.self c.loop-happened.invariant.well c.in_err-settle_by.ensures.ends)
 
 pub returns-clause-leads : goal.returns-clause-leads
 returns-clause-leads g c =
@@ -67,4 +67,4 @@ returns-clause-idle g c =
     subst (λ (w : WorldState). Steps c.args.event.now did.Nothing w c.settle_by.new.self) (sym same) idle
 
 pub returns-clause-well : goal.returns-clause-well
-returns-clause-well g c = well-then c.args.self.now c.loop-happened.self c.settle_by.new.self c.loop-happened.invariant.well c.in_ok-settle_by.ensures.well
+returns-clause-well g c = well-then c.args.event.now c.args.event.now (next_of c.args.event.now) c.args.self.now c.loop-happened.self c.settle_by.new.self c.loop-happened.invariant.well (c.in_ok-settle_by.ensures.well_last c.if-branch.false)

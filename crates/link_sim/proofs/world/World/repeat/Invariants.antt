@@ -11,7 +11,7 @@ invariant-loop-happened g l = record {
   most : world_work l.self ≤ world_work l.initial.self;
   less : l.happened ≡ true → world_work l.self < world_work l.initial.self;
   same : l.happened ≡ false → l.self ≡ l.initial.self;
-  well : WellSoFar l.initial.self l.self;
+  well : WellSoFar l.event l.event l.initial.self l.self;
 }
 
 abbrev pub decreases-loop-happened : goal.decreases-loop-happened

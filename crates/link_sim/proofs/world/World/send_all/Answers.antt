@@ -1,7 +1,8 @@
 use Rattle.std.proofs.Common.{◌<◌, ◌≤◌, inr, ap, ◌≡◌, arith}
 use Rattle.std.proofs.lemmas.Result.{err_from_is_err_and}
 use Rattle.link_sim.specs.Observed.{seen}
-use Rattle.link_sim.specs.Settling.{HasCause}
+use Rattle.link_sim.specs.Settling.{HasCauseFrom, next_of}
+use Rattle.link_sim.specs.declared.event.Event.TheVariants as event
 use Rattle.link_sim.specs.WorldWork.{world_work}
 use Rattle.link_sim.specs.declared.settle_error.SettleError.{SettleError}
 use Rattle.link_sim.proofs.Folding.{leads-both}
@@ -15,8 +16,8 @@ pub returns-in_err-flushed-clause-cause : goal.returns-in_err-flushed-clause-cau
 returns-in_err-flushed-clause-cause g c =
     let p = err_from_is_err_and c.from_residual-in_err-flushed.result c.from_residual-in_err-flushed.ensures.1 in
     let e : SettleError = c.in_err-flushed.field-0.0 in
-    err-then c.from_residual-in_err-flushed.result (λ error. HasCause error c.args.self.now c.repeat-2.new.self) p.0 e p.1 p.2
-    (cause-then e c.args.self.now c.repeat.new.self c.repeat-2.new.self (inr c.in_ok-polled.ensures.well) c.in_err-flushed.ensures.cause)
+    err-then c.from_residual-in_err-flushed.result (λ error. HasCauseFrom (event.Poll c.args.side) error c.args.self.now c.repeat-2.new.self) p.0 e p.1 p.2
+    (cause-then e (event.Poll c.args.side) (event.Flush c.args.side) c.args.self.now c.repeat.new.self c.repeat-2.new.self (inr c.in_ok-polled.ensures.well) c.in_err-flushed.ensures.cause)
 
 pub returns-then-polled-clause-leads : goal.returns-then-polled-clause-leads
 returns-then-polled-clause-leads g c = leads-both (seen c.args.self.now) (seen c.repeat.new.self) (seen c.repeat-2.new.self) c.repeat.ensures.leads c.repeat-2.ensures.leads
@@ -34,4 +35,7 @@ returns-else-polled-clause-less g c happened =
     omega (arith, less, same)
 
 pub returns-then-polled-clause-well : goal.returns-then-polled-clause-well
-returns-then-polled-clause-well g c = well-both c.args.self.now c.repeat.new.self c.repeat-2.new.self c.in_ok-polled.ensures.well c.in_ok-flushed.ensures.well
+returns-then-polled-clause-well g c = well-both (event.Poll c.args.side) (event.Flush c.args.side) (next_of (event.Flush c.args.side)) c.args.self.now c.repeat.new.self c.repeat-2.new.self c.in_ok-polled.ensures.well c.in_ok-flushed.ensures.well
+
+pub returns-else-polled-clause-well : goal.returns-else-polled-clause-well
+returns-else-polled-clause-well g c = well-both (event.Poll c.args.side) (event.Flush c.args.side) (next_of (event.Flush c.args.side)) c.args.self.now c.repeat.new.self c.repeat-2.new.self c.in_ok-polled.ensures.well c.in_ok-flushed.ensures.well

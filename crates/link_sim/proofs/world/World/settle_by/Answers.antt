@@ -1,9 +1,12 @@
-use Rattle.std.proofs.Common.{◌≡◌, inl, inr, subst}
+use Rattle.std.proofs.Common.{◌≡◌, inl, inr, sym, subst}
+use Rattle.link_sim.specs.Clean.{IsClean}
 use Rattle.link_sim.specs.Settling.{IsOfSettling, KeepsAll, all_shortages}
 use Rattle.link_sim.specs.World.{WorldState, Steps}
 use Rattle.link_sim.specs.declared.event.Applied.TheVariants as did
 use Rattle.link_sim.specs.declared.event.Event.{Event}
-use Rattle.link_sim.proofs.Causes.{not-refused, only-one}
+use Rattle.link_sim.specs.Tracks.{RunsAlong}
+use Rattle.link_sim.proofs.Along.{along-same}
+use Rattle.link_sim.proofs.Causes.{not-refused, nothing-same, only-one}
 use Rattle.link_sim.proofs.world.World.settle_by.Goals as goal
 
 pub returns-in-Applied : goal.returns-in-Applied
@@ -24,6 +27,20 @@ returns-in-Applied g c =
       leads = record { follows = λ _. record { puts = c.apply.ensures.puts; folds = c.apply.ensures.folds }; holds = λ _. c.apply.ensures.holds };
       less = λ _. c.in-Ok.ensures.less of_it applied;
       idle = λ e. absurd cc;
-      well = record { only = only-one e c.in-Ok.applied old new of_it step; spared = spared; clean = c.in-Ok.ensures.clean of_it applied spared };
+      well = λ moved. record { only = only-one e did.Applied old new of_it (subst (λ d. Steps e d old new) applied step); spared = spared; clean = c.in-Ok.ensures.clean of_it applied spared; runs = c.in-Ok.ensures.runs of_it applied spared };
+      well_last = λ e. absurd cc;
       ends = tt;
     }
+
+pub returns-in-Nothing-clause-well_last : goal.returns-in-Nothing-clause-well_last
+returns-in-Nothing-clause-well_last g c moved =
+    let e : Event = c.args.event.now in
+    let old : WorldState = c.args.self.now in
+    let new : WorldState = c.apply.new.self in
+    let of_it : IsOfSettling e = c.requires.of_it in
+    let step : Steps e did.Nothing old new = subst (λ d. Steps e d old new) c.in-Nothing.is c.in-Ok.ensures.steps in
+    let same : new ≡ old = nothing-same e old new of_it step in
+    let told : KeepsAll c.shortages-before.result c.shortages.result = c.shortage_since.ensures.well c.in_default-shortage_since.is in
+    let spared : KeepsAll (all_shortages old) (all_shortages new) =
+    subst (λ x. KeepsAll x (all_shortages new)) c.shortages-before.ensures (subst (λ x. KeepsAll c.shortages-before.result x) c.shortages.ensures told) in
+    record { only = only-one e did.Nothing old new of_it step; spared = spared; clean = λ is. subst (λ (w : WorldState). IsClean w) (sym same) is; runs = subst (λ (w : WorldState). RunsAlong old w) (sym same) (along-same old) }

@@ -1,0 +1,15 @@
+use Rattle.std.proofs.Common.{subst}
+use Rattle.cfdp_directives.specs.Put.{Put}
+use Rattle.link_sim.specs.Exchanges.{HasExchange}
+use Rattle.link_sim.specs.Runs.{Exchange}
+use Rattle.link_sim.specs.Settling.{IsSettled}
+use Rattle.link_sim.specs.Stages.{IsAtRest}
+use Rattle.link_sim.specs.World.{WorldState}
+use Rattle.link_sim.specs.declared.side.Side.{Side}
+use Rattle.link_sim.proofs.ExchangesEnds.{settled-rests}
+use Rattle.link_sim.proofs.world.World.show_rest.Goals as goal
+
+pub returns : goal.returns
+returns g c =
+    subst (λ (w : WorldState). IsSettled w → (s : Side) (put : Put) (e : Exchange) → HasExchange s put w e → IsAtRest e) c.self.view_is
+    (λ settled s put e has. settled-rests s put c.self.inside.stations c.self.invariant.0 e has settled c.show_rest.ensures)

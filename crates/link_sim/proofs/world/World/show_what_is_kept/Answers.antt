@@ -1,0 +1,8 @@
+use Rattle.std.proofs.Common.{subst}
+use Rattle.link_sim.specs.Courses.{KeepsPuts}
+use Rattle.link_sim.specs.Sound.{IsSound}
+use Rattle.link_sim.specs.World.{WorldState}
+use Rattle.link_sim.proofs.world.World.show_what_is_kept.Goals as goal
+
+pub returns : goal.returns
+returns g c = subst (λ (w : WorldState). IsSound w × KeepsPuts w) c.self.view_is (c.self.invariant.0, c.self.invariant.1)

@@ -1,0 +1,124 @@
+-- What a recovered world is, what a recovery does, and what ends it before.
+use Rattle.std.specs.Prelude.{◌≡◌, ◌⊎◌, ◌≤◌, ◌^◌, ◌+◌, ◌-◌, ℕ, List, [], ◌∷◌, length, min, max, codes}
+use Rattle.cfdp_timers.specs.Armed.{Armed}
+use Rattle.cfdp_timers.specs.ButInactivity.{OnlyInactivity, IsLeastOther}
+use Rattle.link_sim.specs.declared.side.Side.{Side}
+use Rattle.link_sim.specs.declared.side.Side.TheVariants.{One, Two}
+use Rattle.link_sim.specs.declared.event.Event.TheVariants as event
+use Rattle.link_sim.specs.declared.event.Applied.TheVariants as did
+use Rattle.link_sim.specs.declared.settle_error.SettleError.{SettleError}
+use Rattle.link_sim.specs.declared.settle_error.SettleError.TheVariants.{NoMemory}
+use Rattle.link_sim.specs.declared.recover_error.RecoverError.{RecoverError}
+use Rattle.link_sim.specs.declared.recover_error.RecoverError.TheVariants.{Settle, StillArmed}
+use Rattle.link_sim.specs.Settling.{IsSettled, KeepsAll, GoesWell, HasCause, RisesFirst, all_shortages, settle_error_number, settle_error_name}
+use Rattle.link_sim.specs.Exchanges.{ExpiresOn}
+use Rattle.link_sim.specs.Tracks.{Advances, AllStand, KeepsPutsOf}
+use Rattle.link_sim.specs.Waiting.{AllWait, IgnoreInactivity}
+use Rattle.link_sim.specs.World.{WorldState, FindsNoMemory, Steps, entity_at}
+
+-- ---- timers
+-- the timers that are armed at a station
+abbrev pub armed_at : Side → WorldState → Armed
+armed_at s w = (entity_at s w).table.armed
+
+-- All is settled, and at neither station a timer is armed but those of Inactivity.
+pub record IsRecovered (w : WorldState) : Type 0 where
+  pub settled : IsSettled w
+  pub only_inactivity : (s : Side) → OnlyInactivity (armed_at s w)
+
+-- The station that is told the time next, and which: the earliest deadline of its timers, those of
+-- Inactivity apart. The second station is told only where the first one has no such timer.
+abbrev pub IsNext : Side → ℕ → WorldState → Type 0
+IsNext One now w = IsLeastOther (armed_at One w) now
+IsNext Two now w = OnlyInactivity (armed_at One w) × IsLeastOther (armed_at Two w) now
+
+-- ---- what a recovery does
+-- A station was told the time that is next, and nothing was short in that: timers expired that were
+-- waited for.
+pub record TellsNext (s : Side) (now : ℕ) (old new : WorldState) : Type 0 where
+  pub next : IsNext s now old
+  pub ticks : Steps (event.Tick s now) did.Applied old new
+  pub spared : KeepsAll (all_shortages old) (all_shortages new)
+  pub expires : ExpiresOn s now old new
+  pub keeps : KeepsPutsOf old new
+
+-- where which time was told, the world then, and the world once it was settled again
+pub record Round : Type 0 where
+  pub side : Side
+  pub now : ℕ
+  pub ticked : WorldState
+  pub settled : WorldState
+
+-- In a settled world a station was told its next time, and all was settled again. Where inactivity is
+-- ignored, that brings each transaction on that stood.
+pub record IsRound (old : WorldState) (r : Round) : Type 0 where
+  pub rests : IsSettled old
+  pub tells : TellsNext r.side r.now old r.ticked
+  pub settles : GoesWell r.ticked r.settled
+  pub settled : IsSettled r.settled
+  pub advances : IgnoreInactivity old → Advances old r.settled
+
+-- These rounds led from the old world to the new one, one after another.
+abbrev pub AreRounds : List Round → (old new : WorldState) → Type 0
+AreRounds [] old new = new ≡ old
+AreRounds (r ∷ rounds) old new = IsRound old r × AreRounds rounds r.settled new
+
+abbrev pub most_rounds : ℕ
+most_rounds = 24576
+
+-- All was settled, and so many rounds followed; nothing else happened, and nothing was short. Where
+-- all that was unfinished waited, it stood after the first settling.
+pub record Recovers (old new : WorldState) : Type 0 where
+  pub first : WorldState
+  pub settles : GoesWell old first
+  pub settled : IsSettled first
+  pub stands : AllWait old → AllStand old first
+  pub rounds : List Round
+  pub are : AreRounds rounds first new
+  pub few : length rounds ≤ most_rounds
+
+-- ---- what ends a recovery before
+-- a count raised so often; it stays at the greatest value
+abbrev pub raised_by : ℕ → ℕ → ℕ
+raised_by n count = max count (min (count + n) (2 ^ 64 - 1))
+
+-- As many rounds as there may be went by, each of which told the time once, and a timer other than
+-- Inactivity is armed still.
+pub record StaysArmed (old new : WorldState) : Type 0 where
+  pub run : Recovers old new
+  pub all : length run.rounds ≡ most_rounds
+  pub ticks : new.ticks ≡ raised_by most_rounds old.ticks
+  pub settled : IsSettled new
+  pub armed : (s : Side) × (deadline : ℕ) × IsLeastOther (armed_at s new) deadline
+
+-- To tell a station the time ended it with this error: that happened then, or no memory was found.
+abbrev pub TickEnds : SettleError → Side → ℕ → (old new : WorldState) → Type 0
+TickEnds error s now old new =
+    (Steps (event.Tick s now) did.Applied old new × RisesFirst error (all_shortages old) (all_shortages new))
+    ⊎ ((error ≡ NoMemory) × FindsNoMemory s old new)
+
+-- A round ended with this error: when the next time was told, or in the settling behind that.
+pub record RoundEnds (error : SettleError) (old new : WorldState) : Type 0 where
+  pub side : Side
+  pub now : ℕ
+  pub next : IsNext side now old
+  pub ends : TickEnds error side now old new
+      ⊎ ((ticked : WorldState) × TellsNext side now old ticked × HasCause error ticked new)
+
+-- A recovery ended with this error: the first settling did, or a round behind those that went well.
+abbrev pub HasEnded : SettleError → (old new : WorldState) → Type 0
+HasEnded error old new =
+    HasCause error old new ⊎ ((last : WorldState) × Recovers old last × RoundEnds error last new)
+
+abbrev pub EndsBy : RecoverError → (old new : WorldState) → Type 0
+EndsBy (Settle error) old new = HasEnded error old new
+EndsBy StillArmed old new = StaysArmed old new
+
+-- ---- in reports
+abbrev pub recover_error_number : RecoverError → ℕ
+recover_error_number (Settle error) = settle_error_number error
+recover_error_number StillArmed = 4
+
+abbrev pub recover_error_name : RecoverError → List ℕ
+recover_error_name (Settle error) = settle_error_name error
+recover_error_name StillArmed = codes "StillArmed"
