@@ -1,4 +1,4 @@
-use link_sim::{Refusal, SettleError};
+use link_sim::{RecoverError, Refusal, SettleError};
 use std::alloc::AllocError;
 use std::fmt;
 
@@ -10,14 +10,17 @@ pub enum Answer {
     /// It was refused.
     Refused(Refusal),
     /// It ended before all was done.
-    Ended(SettleError),
+    Ended(RecoverError),
 }
 
 impl Answer {
     /// Whether memory or a store failed, for which the program's exit status is 3.
     pub fn is_device_fault(self) -> bool {
         match self {
-            Answer::Ended(SettleError::NoMemory | SettleError::StoreFailed) => true,
+            Answer::Ended(RecoverError::Settle(error)) => match error {
+                SettleError::NoMemory | SettleError::StoreFailed => true,
+                SettleError::TableFull => false,
+            },
             _ => false,
         }
     }
@@ -25,13 +28,14 @@ impl Answer {
 
 impl From<AllocError> for Answer {
     ghost use Rattle.std.specs.Prelude.{◌≡◌};
+    ghost use Rattle.link_sim.specs.declared.recover_error.RecoverError.TheVariants.{Settle};
     ghost use Rattle.link_sim.specs.declared.settle_error.SettleError.TheVariants.{NoMemory};
     ghost use Rattle.cfdp_node.specs.declared.answer.Answer.TheVariants.{Ended};
 
-    ghost from_gives = { λ _ answer. answer ≡ Ended NoMemory };
+    ghost from_gives = { λ _ answer. answer ≡ Ended (Settle NoMemory) };
 
     fn from(_error: AllocError) -> Answer {
-        Answer::Ended(SettleError::NoMemory)
+        Answer::Ended(RecoverError::Settle(SettleError::NoMemory))
     }
 }
 

@@ -47,6 +47,8 @@ Then, what happens:
   deliver S [N]         the N oldest frames that S sent arrive (default 1)
   strike S [N]          the N oldest frames that S sent are lost (default 1)
   settle                both poll and flush and all arrives, until nothing is due
+  recover               settle, then tick the station whose timer is next, again
+                        and again, until no timer but for inactivity is left
 
 Settings, with their defaults:
   zone 256              octets of a frame's packet zone, 16 to 2040
@@ -70,6 +72,7 @@ puts were completed. A command that could not do its work is told as
   line N Unknown        or WrongSide, AlreadyClosed, AlreadySo: a call refused
   line N LossRunTooLong too many frames lost in a row
   line N NoMemory       or StoreFailed, TableFull: it ended early
+  line N StillArmed     after 24576 ticks of recover a timer is left
 
 Exit status: 0 all puts completed, 1 some not, 2 bad script or arguments,
 3 a failed read, write or store, or no memory (told on standard error).

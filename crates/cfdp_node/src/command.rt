@@ -71,6 +71,9 @@ pub enum Command<'a> {
     Strike(Side, u64),
     /// `settle`: polls, flushes and delivers until nothing is due and nothing waits.
     Settle,
+    /// `recover`: settles, and tells stations the time and settles again, until no timer is armed
+    /// but those of Inactivity.
+    Recover,
 }
 
 /// Why a line of a script is bad.
@@ -197,7 +200,7 @@ enum Verb {
     Strike,
 }
 
-/// The commands, but for `settle`.
+/// The commands, but for `settle` and `recover`.
 const VERBS: [(&str, Verb); 12] = [
     ("put", Verb::Put),
     ("cancel", Verb::Call(Call::Cancel)),
@@ -216,6 +219,8 @@ const VERBS: [(&str, Verb); 12] = [
 fn parse_command<'a>(name: &[u8], mut words: Words<'a>) -> Result<Command<'a>, LineError> {
     let command = if name == b"settle".as_slice() {
         Command::Settle
+    } else if name == b"recover".as_slice() {
+        Command::Recover
     } else {
         let verb = look_up(VERBS.as_slice(), name).ok_or(LineError::UnknownCommand)?;
         let at = parse_station(words.take_word()?)?;

@@ -1,10 +1,10 @@
 use crate::answer::Answer;
 use crate::command::Command;
-use crate::simulation::Simulation;
+use crate::simulation::Stations;
 use cfdp_directives::Octets;
 use cfdp_entity::Call;
 use cfdp_header::TransactionId;
-use link_sim::{Applied, Event, Side};
+use link_sim::{Applied, Event, RecoverError, Side};
 use std::alloc::Global;
 
 /// Does what a command says.
@@ -12,9 +12,9 @@ use std::alloc::Global;
 /// # Errors
 ///
 /// The first answer that isn't the work done. It ends the command.
-pub fn perform(
+pub fn perform<S: Stations>(
     alloc: Global,
-    simulation: &mut Simulation,
+    stations: &mut S,
     command: &Command,
 ) -> Result<(), Answer> {
     match *command {
@@ -30,17 +30,21 @@ pub fn perform(
                 source,
                 destination,
             };
-            once(simulation, &event)
+            once(stations, &event)
         }
-        Command::Call { at, id, call } => once(simulation, &call_event(at, id, call)),
-        Command::Poll(side) => once(simulation, &Event::Poll(side)),
-        Command::Flush(side) => once(simulation, &Event::Flush(side)),
-        Command::Tick(at, now) => once(simulation, &Event::Tick { at, now }),
-        Command::Spread(side) => Ok(simulation.spread(side)?),
-        Command::Burst(side) => Ok(simulation.burst(side)?),
-        Command::Deliver(side, count) => repeat(simulation, &Event::Deliver(side), count),
-        Command::Strike(side, count) => repeat(simulation, &Event::Strike(side), count),
-        Command::Settle => match simulation.settle() {
+        Command::Call { at, id, call } => once(stations, &call_event(at, id, call)),
+        Command::Poll(side) => once(stations, &Event::Poll(side)),
+        Command::Flush(side) => once(stations, &Event::Flush(side)),
+        Command::Tick(at, now) => once(stations, &Event::Tick { at, now }),
+        Command::Spread(side) => Ok(stations.spread(side)?),
+        Command::Burst(side) => Ok(stations.burst(side)?),
+        Command::Deliver(side, count) => repeat(stations, &Event::Deliver(side), count),
+        Command::Strike(side, count) => repeat(stations, &Event::Strike(side), count),
+        Command::Settle => match stations.settle() {
+            Ok(()) => Ok(()),
+            Err(error) => Err(Answer::Ended(RecoverError::Settle(error))),
+        },
+        Command::Recover => match stations.recover() {
             Ok(()) => Ok(()),
             Err(error) => Err(Answer::Ended(error)),
         },
@@ -58,25 +62,25 @@ fn call_event(at: Side, id: TransactionId, call: Call) -> Event {
 }
 
 /// Applies an event. Answers whether there was something to do.
-fn happens(simulation: &mut Simulation, event: &Event) -> Result<bool, Answer> {
-    match simulation.apply(event)? {
+fn happens<S: Stations>(stations: &mut S, event: &Event) -> Result<bool, Answer> {
+    match stations.apply(event)? {
         Applied::Applied => Ok(true),
         Applied::Nothing => Ok(false),
         Applied::Refused(refusal) => Err(Answer::Refused(refusal)),
     }
 }
 
-fn once(simulation: &mut Simulation, event: &Event) -> Result<(), Answer> {
-    if happens(simulation, event)? {
+fn once<S: Stations>(stations: &mut S, event: &Event) -> Result<(), Answer> {
+    if happens(stations, event)? {
         Ok(())
     } else {
         Err(Answer::Nothing)
     }
 }
 
-fn repeat(simulation: &mut Simulation, event: &Event, count: u64) -> Result<(), Answer> {
+fn repeat<S: Stations>(stations: &mut S, event: &Event, count: u64) -> Result<(), Answer> {
     for _ in 0..count {
-        once(simulation, event)?;
+        once(stations, event)?;
     }
     Ok(())
 }

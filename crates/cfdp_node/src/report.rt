@@ -7,7 +7,7 @@ use crate::answer::Answer;
 use crate::dump_line::HexNumber;
 use crate::name::Name;
 use crate::script::Step;
-use crate::simulation::Simulation;
+use crate::simulation::Stations;
 use crate::wording::{Id, delivery_word, status_word};
 use cfdp_directives::{Checksum, Delivery, FileStatus, Indication};
 use cfdp_store::Files;
@@ -30,11 +30,11 @@ pub struct Tally {
 /// # Errors
 ///
 /// That of the writer.
-pub fn write_report(
+pub fn write_report<S: Stations>(
     out: &mut impl Write,
     steps: &[Step],
     answers: &[Option<Answer>],
-    simulation: &Simulation,
+    stations: &S,
     tally: Tally,
 ) -> io::Result<()> {
     for (step, answer) in steps.iter().zip(answers) {
@@ -42,10 +42,10 @@ pub fn write_report(
             writeln!(out, "line {} {answer}", step.line)?;
         }
     }
-    write_indications(out, 1, simulation.indications(Side::One))?;
-    write_indications(out, 2, simulation.indications(Side::Two))?;
-    write_inbox(out, 1, simulation.inbox(Side::One))?;
-    write_inbox(out, 2, simulation.inbox(Side::Two))?;
+    write_indications(out, 1, stations.indications(Side::One))?;
+    write_indications(out, 2, stations.indications(Side::Two))?;
+    write_inbox(out, 1, stations.inbox(Side::One))?;
+    write_inbox(out, 2, stations.inbox(Side::Two))?;
     writeln!(out, "complete {} of {}", tally.complete, tally.asked)
 }
 
@@ -143,14 +143,14 @@ fn write_file(out: &mut impl Write, station: u8, name: &[u8], octets: &[u8]) -> 
 }
 
 /// How many of the accepted puts were completed: those of which their sender was told so, once each.
-pub fn completed_puts(simulation: &Simulation) -> usize {
-    told_complete(simulation, Side::One).saturating_add(told_complete(simulation, Side::Two))
+pub fn completed_puts<S: Stations>(stations: &S) -> usize {
+    told_complete(stations, Side::One).saturating_add(told_complete(stations, Side::Two))
 }
 
 /// Of how many of its own transactions a station was told that they are over with no error, with
 /// the file complete and retained.
-fn told_complete(simulation: &Simulation, sender: Side) -> usize {
-    simulation
+fn told_complete<S: Stations>(stations: &S, sender: Side) -> usize {
+    stations
         .indications(sender)
         .iter()
         .filter(|indication| match indication {

@@ -261,6 +261,31 @@ complete 1 of 1
     },
 ];
 
+/// Where no frame is lost any more, and timers bring the rest.
+pub const RECOVERIES: [Row; 2] = [
+    // All is lost. The EOF is sent again, and tells what to ask for.
+    Row {
+        script: "set on_inactivity 2\nfile 1 a.txt hello\nput 1 a.txt b.txt\nspread 1\nstrike 1 3\nrecover\n",
+        status: 0,
+        report: "\
+1 transaction 1:1
+1 eof-sent 1:1
+1 finished 1:1 0 complete retained
+2 eof-recv 1:1
+2 metadata 1:1 a.txt b.txt 5
+2 finished 1:1 0 complete retained
+inbox 2 b.txt 5 D7656C6C
+complete 1 of 1
+",
+    },
+    // The Finished is lost, and sent again.
+    Row {
+        script: "set on_inactivity 2\nfile 1 a.txt hello\nput 1 a.txt b.txt\nspread 1\ndeliver 1 3\nspread 2\ndeliver 2\nstrike 2\nrecover\n",
+        status: 0,
+        report: HELLO,
+    },
+];
+
 /// With what users ask, and with what a station does about a fault.
 pub const CALLS: [Row; 10] = [
     Row {

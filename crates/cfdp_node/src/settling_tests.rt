@@ -1,4 +1,5 @@
-// That scripts without losses settle complete, and that full stations are told.
+// That scripts without losses settle complete, and that full stations and timers that are left are
+// told.
 use crate::exit::Exit;
 use crate::sim::run_sim;
 use std::alloc::{AllocError, Global};
@@ -43,10 +44,19 @@ const LINES: [&str; 20] = [
 ];
 
 /// The number behind this one in a row of numbers that looks random.
-fn next_random(number: u64) -> u64 {
+pub fn next_random(number: u64) -> u64 {
     number
         .wrapping_mul(6_364_136_223_846_793_005)
         .wrapping_add(1_442_695_040_888_963_407)
+}
+
+/// The station that such a number chooses.
+pub fn station_of(number: u64) -> char {
+    if number < 0x8000_0000_0000_0000 {
+        '1'
+    } else {
+        '2'
+    }
 }
 
 /// Adds forty lines, chosen by a number, and a tick behind each. Answers how many are puts.
@@ -58,19 +68,15 @@ fn add_lines(script: &mut String, seed: u64) -> Result<u64, AllocError> {
         let place = (number >> 33) as usize % LINES.len();
         script.push_str(LINES[place])?;
         puts = puts.wrapping_add(u64::from(place < 4));
-        add_tick(script, number, step)?;
+        add_tick(script, number, step.wrapping_mul(10))?;
     }
     Ok(puts)
 }
 
-/// Tells a station that chance chooses a time of its steps.
-fn add_tick(script: &mut String, number: u64, step: u64) -> Result<(), AllocError> {
-    let station = if number < 0x8000_0000_0000_0000 {
-        '1'
-    } else {
-        '2'
-    };
-    write!(script, "tick {station} {step}0\n")
+/// Tells a station that chance chooses a time.
+pub fn add_tick(script: &mut String, number: u64, now: u64) -> Result<(), AllocError> {
+    let station = station_of(number);
+    write!(script, "tick {station} {now}\n")
 }
 
 /// What a script reports, and how it ends.
@@ -83,17 +89,15 @@ fn report_of(rt: &impl Abort, alloc: Global, script: &str) -> (String, Exit) {
     )
 }
 
-/// Runs the script of a seed.
-fn check_seed(rt: &impl Abort, alloc: Global, seed: u64) -> Result<(), Fail> {
-    let mut script = String::from_str(alloc, SETUP)?;
-    let puts = add_lines(&mut script, seed)?;
-    script.push_str("settle\n")?;
-    let (report, exit) = report_of(rt, alloc, script.as_str());
+/// Runs a script, all of whose puts are completed, and that leaves no timer that it must not.
+pub fn check_complete(rt: &impl Abort, alloc: Global, script: &str, puts: u64) -> Result<(), Fail> {
+    let (report, exit) = report_of(rt, alloc, script);
     let end = format!(in alloc; "complete {puts} of {puts}\n")?;
     assert!(rt;
         report.as_str().ends_with(end.as_str()) && exit.status() == 0,
         "{end} isn't the end of {report}"
     );
+    assert!(rt; !report.as_str().contains("StillArmed"), "a timer is left");
     Ok(())
 }
 
@@ -101,7 +105,10 @@ fn check_seed(rt: &impl Abort, alloc: Global, seed: u64) -> Result<(), Fail> {
 fn random_scripts_without_losses_settle_complete(rt: HostRuntime) -> Result<(), Fail> {
     let alloc = rt.alloc();
     for seed in 0u64..20 {
-        check_seed(&rt, alloc, seed)?;
+        let mut script = String::from_str(alloc, SETUP)?;
+        let puts = add_lines(&mut script, seed)?;
+        script.push_str("settle\n")?;
+        check_complete(&rt, alloc, script.as_str(), puts)?;
     }
     Ok(())
 }
@@ -128,4 +135,26 @@ fn full_tables_are_told(rt: HostRuntime) -> Result<(), Fail> {
         "the front isn't {front}"
     );
     Ok(())
+}
+
+// The suspended receiver acknowledges nothing, and the sender repeats its EOF for ever.
+#[test]
+fn a_timer_that_is_left_is_told(rt: HostRuntime) {
+    let script = "\
+set on_ack_limit 2
+set on_inactivity 2
+file 1 a.txt hello
+put 1 a.txt b.txt
+spread 1
+deliver 1
+strike 1
+suspend 2 1:1
+recover
+";
+    let (report, exit) = report_of(&rt, rt.alloc(), script);
+    let front = "line 9 StillArmed\n1 transaction 1:1\n1 eof-sent 1:1\n1 fault 1:1 1\n";
+    assert!(rt;
+        report.as_str().starts_with(front) && exit.status() == 1,
+        "the front isn't {front}"
+    );
 }

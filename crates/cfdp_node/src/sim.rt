@@ -7,7 +7,7 @@ use crate::input::{read_fault, read_script};
 use crate::perform::perform;
 use crate::report::{Tally, completed_puts, write_report};
 use crate::script::{Script, Step};
-use crate::simulation::Simulation;
+use crate::simulation::{Simulation, Stations};
 use cfdp_store::Files;
 use link_sim::{Side, WorldConfig};
 use std::alloc::{AllocError, Global};
@@ -41,36 +41,54 @@ fn run_script<W: Write + Drop>(
 ) -> Exit
     requires { IsWorldConfig config }
 {
-    match Run::new(alloc, config, script) {
-        Ok(mut run) => run.to_end(alloc, script.steps.as_slice(), writer),
+    match simulation(alloc, config, script.files.as_slice()) {
+        Ok(simulation) => run_steps(alloc, simulation, script.steps.as_slice(), writer),
+        Err(AllocError) => Exit::Device(Fault::NoMemoryAtStart),
+    }
+}
+
+/// The stations of a script, before its first command.
+fn simulation(
+    alloc: Global,
+    config: WorldConfig,
+    files: &[FileLine],
+) -> Result<Simulation, AllocError>
+    requires { IsWorldConfig config }
+{
+    let outboxes = outboxes(alloc, files)?;
+    Simulation::new(alloc, config, outboxes)
+}
+
+/// Does all commands at these stations, and writes the report.
+fn run_steps<S: Stations, W: Write + Drop>(
+    alloc: Global,
+    stations: S,
+    steps: &[Step],
+    writer: W,
+) -> Exit {
+    match Run::new(alloc, stations, steps.len()) {
+        Ok(mut run) => run.to_end(alloc, steps, writer),
         Err(AllocError) => Exit::Device(Fault::NoMemoryAtStart),
     }
 }
 
 /// A script under way: its stations, and what each of its commands answered.
 #[derive(Drop)]
-struct Run {
-    simulation: Simulation,
+struct Run<S: Stations> {
+    stations: S,
     // a place for each command, in order
     answers: Vec<Option<Answer>>,
 }
 
-impl Run {
-    /// The stations of the script, before its first command.
+impl<S: Stations> Run<S> {
+    /// These stations, before the first of so many commands.
     ///
     /// # Errors
     ///
-    /// `AllocError` where there is no memory for them, or for the answers.
-    fn new(alloc: Global, config: WorldConfig, script: &Script) -> Result<Run, AllocError>
-        requires { IsWorldConfig config }
-    {
-        let outboxes = outboxes(alloc, script.files.as_slice())?;
-        let answers = vec![in alloc; None; script.steps.len()]?;
-        let simulation = Simulation::new(alloc, config, outboxes)?;
-        Ok(Run {
-            simulation,
-            answers,
-        })
+    /// `AllocError` where there is no memory for the answers.
+    fn new(alloc: Global, stations: S, commands: usize) -> Result<Run<S>, AllocError> {
+        let answers = vec![in alloc; None; commands]?;
+        Ok(Run { stations, answers })
     }
 
     /// Does all commands, and writes the report, whose buffer is there before the first command.
@@ -90,7 +108,7 @@ impl Run {
     /// Does all commands in turn, and keeps what each answered in its place.
     fn perform_all(&mut self, alloc: Global, steps: &[Step]) {
         for (step, answer) in steps.iter().zip(self.answers.iter_mut()) {
-            *answer = perform(alloc, &mut self.simulation, &step.command).err();
+            *answer = perform(alloc, &mut self.stations, &step.command).err();
         }
     }
 
@@ -101,11 +119,11 @@ impl Run {
     /// That of the writer.
     fn report<W: Write>(&self, steps: &[Step], out: &mut W) -> io::Result<Exit> {
         let tally = Tally {
-            complete: completed_puts(&self.simulation),
+            complete: completed_puts(&self.stations),
             asked: asked_puts(steps),
         };
         let answers = self.answers.as_slice();
-        write_report(out, steps, answers, &self.simulation, tally)?;
+        write_report(out, steps, answers, &self.stations, tally)?;
         out.flush()?;
         Ok(if has_device_fault(answers) {
             Exit::Device(Fault::NoMemory)

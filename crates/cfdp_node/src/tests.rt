@@ -2,7 +2,7 @@ use crate::command::{LineError, MAX_FILL, parse_line};
 use crate::dump::{DumpKind, run_dump};
 use crate::exit::{Exit, Fault};
 use crate::number::{parse_hex_octet, parse_number};
-use crate::rows::{CALLS, HELLO, LOSSES, PLAIN};
+use crate::rows::{CALLS, HELLO, LOSSES, PLAIN, RECOVERIES};
 use crate::script::Script;
 use crate::sim::run_sim;
 use std::alloc::{AllocError, Global};
@@ -30,8 +30,10 @@ fn check_run(
 #[test]
 fn each_script_prints_its_report(rt: HostRuntime) -> Result<(), Fail> {
     let alloc = rt.alloc();
-    for row in PLAIN.iter().chain(LOSSES.iter()).chain(CALLS.iter()) {
-        check_run(&rt, alloc, row.script, row.status, row.report)?;
+    for rows in [PLAIN.as_slice(), &LOSSES, &CALLS, &RECOVERIES] {
+        for row in rows {
+            check_run(&rt, alloc, row.script, row.status, row.report)?;
+        }
     }
     Ok(())
 }
@@ -201,7 +203,7 @@ fn names_the_first_bad_line(rt: HostRuntime) -> Result<(), Fail> {
         ("prompt 1 1:1\n", 1),
         ("prompt 1 1:1 NAK\n", 1),
         ("prompt 1 1:1 keep 1\n", 1),
-        ("recover\n", 1),
+        ("recover 1\n", 1),
         // The order of lines.
         ("poll 1\n\n#\nset segment 5\n", 4),
         ("poll 1\nfile 1 a x\n", 2),
