@@ -66,40 +66,40 @@ pub(crate) fn set_deadline(
     let Some(place) = entries.get_index_of(&id) else {
         return;
     };
-    let other = write(entries, place, kind, deadline);
-    set_other(others, place, kind, other);
+    let deadlines = write(entries, place, kind, deadline);
+    set_other(others, place, kind, &deadlines);
 }
 
-// Sets one deadline of the entry at a place. Answers its earliest but Inactivity's.
+// Sets one deadline of the entry at a place. Answers all that it has then.
 fn write(
     entries: &mut IndexMap<TransactionId, Deadlines>,
     place: usize,
     kind: Kind,
     deadline: Option<u64>,
-) -> Option<u64>
+) -> Deadlines
     requires within { place < length entries.old.entries }
     ensures entries { entries.new.entries ≡ set_value_at entries.old.entries place
         (with_deadline (deadlines_in entries.old.entries place) kind deadline) }
-    ensures other { result ≡ other_of (with_deadline (deadlines_in entries.old.entries place)
-        kind deadline) }
+    ensures deadlines { result
+        ≡ with_deadline (deadlines_in entries.old.entries place) kind deadline }
 {
     match entries.get_index_mut(place) {
         Some(deadlines) => {
             deadlines.set(kind, deadline);
-            deadlines.other()
+            *deadlines
         }
-        None => None,
+        None => Deadlines::NONE,
     }
 }
 
-// A deadline of Inactivity changes nothing here.
-fn set_other(others: &mut Blocks, place: usize, kind: Kind, other: Option<u64>)
+// A deadline of Inactivity changes nothing here, so the others aren't looked at.
+fn set_other(others: &mut Blocks, place: usize, kind: Kind, deadlines: &Deadlines)
     requires within { place < length others.old }
-    requires same { kind ≡ Inactivity → get_or others.old place None ≡ other }
-    ensures { others.new ≡ slice_set others.old place other }
+    requires same { kind ≡ Inactivity → get_or others.old place None ≡ other_of deadlines.now }
+    ensures { others.new ≡ slice_set others.old place (other_of deadlines.now) }
 {
     match kind {
-        Kind::EofAck | Kind::Nak | Kind::FinishedAck => others.set(place, other),
+        Kind::EofAck | Kind::Nak | Kind::FinishedAck => others.set(place, deadlines.other()),
         Kind::Inactivity => {}
     }
 }

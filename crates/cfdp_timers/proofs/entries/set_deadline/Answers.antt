@@ -32,23 +32,23 @@ set_other-requires c =
     record {
       within = omega (arith, many, below);
       same = λ is.
-          ap (λ l. get_or l place None) c.requires.others ∙ others_of-at es place c.args.id d at ∙ sym (c.write-other.ensures.other ∙ ap (λ k. other_of (with_deadline d k c.args.deadline)) is);
+          ap (λ l. get_or l place None) c.requires.others ∙ others_of-at es place c.args.id d at ∙ sym (ap other_of c.write-deadlines.ensures.deadlines ∙ ap (λ k. other_of (with_deadline d k c.args.deadline)) is);
     }
 
 pub returns : goal.returns
 returns c =
     let es = c.args.entries.now.entries in
-    let fs = c.write-other.new.entries.entries in
+    let fs = c.write-deadlines.new.entries.entries in
     let place = c.in-Some.place in
     let d = deadlines_in es place in
     let w = with_deadline d c.args.kind c.args.deadline in
     let at : slice_get es place ≡ Some (c.args.id, d) = found-entry es c.args.id place (sym c.in-Some.ensures.index) in
-    let keys : keys_of fs ≡ keys_of es = ap keys_of c.write-other.ensures.entries ∙ keys-replaced es place w in
+    let keys : keys_of fs ≡ keys_of es = ap keys_of c.write-deadlines.ensures.entries ∙ keys-replaced es place w in
     let had : lookup (eq_by_cmp id_cmp c.args.id) es ≡ Some d = lookup_from_place id_laws es place c.args.id d c.requires.distinct at in
     record {
       keys = keys;
       armed = armed_of-written es fs c.args.id c.args.kind d w c.args.deadline c.requires.distinct (subst (λ ks. IsDistinct (eq_by_cmp id_cmp) ks) (sym keys) c.requires.distinct) had refl
-          (λ q. ap (lookup (eq_by_cmp id_cmp q)) c.write-other.ensures.entries ∙ lookup-replaced es place c.args.id d w q c.requires.distinct at);
-      others = c.set_other.ensures ∙ ap (λ l. set l place c.write-other.result) c.requires.others ∙ ap (set (others_of es) place) c.write-other.ensures.other
-          ∙ sym (ap others_of c.write-other.ensures.entries ∙ others_of-replaced es place w);
+          (λ q. ap (lookup (eq_by_cmp id_cmp q)) c.write-deadlines.ensures.entries ∙ lookup-replaced es place c.args.id d w q c.requires.distinct at);
+      others = c.set_other.ensures ∙ ap (λ l. set l place (other_of c.write-deadlines.result)) c.requires.others ∙ ap (λ w. set (others_of es) place (other_of w)) c.write-deadlines.ensures.deadlines
+          ∙ sym (ap others_of c.write-deadlines.ensures.entries ∙ others_of-replaced es place w);
     }
