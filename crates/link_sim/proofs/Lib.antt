@@ -98,3 +98,4 @@ pub mod ExchangesEnds
 pub mod StagesOwing
 pub mod StagesRoundsThere
 pub mod NotBad
+mod Sendings

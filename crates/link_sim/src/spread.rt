@@ -1,10 +1,11 @@
 //! Sending all that is due at one station.
-ghost use Rattle.std.specs.Prelude.{◌≡◌, ◌<◌, ◌≤◌, true, false, IfOk, OnOk};
+ghost use Rattle.std.specs.Prelude.{◌≡◌, ◌<◌, ◌≤◌, true, false, IfOk, OnErr, OnOk};
 ghost use Rattle.cfdp_entity.specs.Polling.{Rests, turn};
 ghost use Rattle.link_sim.specs.Observed.{seen};
 ghost use Rattle.link_sim.specs.Settling.{IsOfSettling, LeadsTo};
+ghost use Rattle.link_sim.specs.Spreading.{BurstFindsNoMemory, Bursts, PollFindsNoMemory, PollsAll, SpreadFindsNoMemory, Spreads};
 ghost use Rattle.link_sim.specs.Theorem.{HoldsAt, Follows};
-ghost use Rattle.link_sim.specs.World.{Steps, entity_at};
+ghost use Rattle.link_sim.specs.World.{FindsNoMemory, Steps, entity_at, side_in};
 ghost use Rattle.link_sim.specs.WorldWork.{world_work};
 ghost use Rattle.link_sim.specs.declared.event.Applied.TheVariants as did;
 ghost use Rattle.link_sim.specs.declared.side.Side.{Side};
@@ -26,6 +27,9 @@ impl<O: Outbox, I: Inbox> World<O, I> {
         // As for `settle`: puts and inboxes follow, and the promises hold.
         ensures follows { Follows (seen self.old) (seen self.new) }
         ensures holds { (s : Side) → HoldsAt s (seen self.new) }
+        // Nothing but these events did, in this order.
+        ensures spreads { OnOk result (Spreads side self.old self.new) }
+        ensures lacks { OnErr result (SpreadFindsNoMemory side self.old self.new) }
     {
         self.show_what_holds();
         while self.does(&Event::Poll(side))? {
@@ -43,6 +47,9 @@ impl<O: Outbox, I: Inbox> World<O, I> {
         ensures rests { OnOk result (turn (entity_at side self.new) ≡ Rests) }
         ensures follows { Follows (seen self.old) (seen self.new) }
         ensures holds { (s : Side) → HoldsAt s (seen self.new) }
+        // Nothing but these events did, in this order.
+        ensures bursts { OnOk result (Bursts side self.old self.new) }
+        ensures lacks { OnErr result (BurstFindsNoMemory side self.old self.new) }
     {
         self.show_what_holds();
         self.poll_all(side)?;
@@ -54,6 +61,8 @@ impl<O: Outbox, I: Inbox> World<O, I> {
     fn poll_all(&mut self, side: Side) -> Result<(), AllocError>
         ensures leads { LeadsTo (seen self.old) (seen self.new) }
         ensures rests { OnOk result (turn (entity_at side self.new) ≡ Rests) }
+        ensures polls { OnOk result (PollsAll side self.old self.new) }
+        ensures lacks { OnErr result (PollFindsNoMemory side self.old self.new) }
     {
         while self.does(&Event::Poll(side))? {}
         Ok(())
@@ -70,6 +79,7 @@ impl<O: Outbox, I: Inbox> World<O, I> {
             → Steps event.now did.Applied self.old self.new) }
         ensures idle { IfOk result (λ moved. moved ≡ false
             → Steps event.now did.Nothing self.old self.new) }
+        ensures lacks { OnErr result (FindsNoMemory (side_in event.now) self.old self.new) }
     {
         match self.apply(event)? {
             Applied::Nothing => Ok(false),

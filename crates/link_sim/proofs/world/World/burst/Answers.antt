@@ -1,6 +1,7 @@
 use Rattle.link_sim.specs.Observed.{seen}
 use Rattle.link_sim.proofs.Folding.{leads-both}
 use Rattle.link_sim.proofs.Causes.{flushed-rests}
+use Rattle.link_sim.proofs.Sendings.{burst_lacks_flush, burst_lacks_poll, bursts, on_err}
 use Rattle.link_sim.proofs.world.World.burst.Goals as goal
 
 pub returns-clause-rests : goal.returns-clause-rests
@@ -21,3 +22,17 @@ returns-clause-follows g c = (leads-both (seen c.args.self.now) (seen c.poll_all
 
 pub returns-clause-holds : goal.returns-clause-holds
 returns-clause-holds g c = (leads-both (seen c.args.self.now) (seen c.poll_all.new.self) (seen c.does.new.self) c.poll_all.ensures.leads c.does.ensures.leads).holds c.show_what_holds.ensures
+
+pub returns-clause-bursts : goal.returns-clause-bursts
+returns-clause-bursts g c =
+    bursts c.args.side c.in_ok-_flushed._flushed c.args.self.now c.poll_all.new.self c.does.new.self c.in_ok-poll_all.ensures.polls
+    c.in_ok-_flushed.ensures.applied c.in_ok-_flushed.ensures.idle
+
+pub returns-in_err-poll_all-clause-lacks : goal.returns-in_err-poll_all-clause-lacks
+returns-in_err-poll_all-clause-lacks g c =
+    on_err c.from_residual.result _ (burst_lacks_poll c.args.side c.args.self.now c.poll_all.new.self c.in_err-poll_all.ensures.lacks)
+
+pub returns-in_err-_flushed-clause-lacks : goal.returns-in_err-_flushed-clause-lacks
+returns-in_err-_flushed-clause-lacks g c =
+    on_err c.from_residual-in_err-_flushed.result _
+    (burst_lacks_flush c.args.side c.args.self.now c.poll_all.new.self c.does.new.self c.in_ok-poll_all.ensures.polls c.in_err-_flushed.ensures.lacks)

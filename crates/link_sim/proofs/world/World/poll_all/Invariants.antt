@@ -1,10 +1,14 @@
 use Rattle.link_sim.specs.Observed.{seen}
 use Rattle.link_sim.specs.Settling.{LeadsTo}
 use Rattle.link_sim.specs.WorldWork.{world_work}
+use Rattle.link_sim.proofs.Sendings.{PolledSoFar}
 use Rattle.link_sim.proofs.world.World.poll_all.Given as goal
 
 abbrev pub invariant-loop : goal.invariant-loop
-invariant-loop g l = LeadsTo (seen l.initial.self) (seen l.self)
+invariant-loop g l = record {
+  leads : LeadsTo (seen l.initial.self) (seen l.self);
+  polled : PolledSoFar l.side l.initial.self l.self;
+}
 
 abbrev pub decreases-loop : goal.decreases-loop
 decreases-loop g l = world_work l.self
