@@ -3,7 +3,7 @@ use Rattle.std.proofs.Common.{◌≡◌, ◌≢◌, ◌<◌, ℕ, ◌==◌, fals
 use Rattle.std.proofs.lemmas.List.{append_assoc}
 use Rattle.std.specs.List.{All, AllZip, flat_map}
 use Rattle.std.specs.Result.{OnOk}
-use Rattle.std.specs.Io.KnownBytes.{Appends}
+use Rattle.std.specs.Io.KnownBytes.{Appends, Keeps}
 use Rattle.std.proofs.lemmas.List.Elements.{All-head, All-tail}
 use Rattle.std.proofs.lemmas.List.{flat_map_more}
 use Rattle.std.proofs.lemmas.Bool.{ne_eqb}
@@ -96,3 +96,24 @@ front-all P text rest old new end all =
 pub line_is_written : {E : Type 0} (P : List ℕ → Type 0) (r : Result (Unit {0}) E) (text : List ℕ) (old new : Option (List ℕ)) → P text → OnOk r (Appends old new (as_line text)) → OnOk r (WritesLine P old new)
 line_is_written P (Ok x) text old new such written = record { text = text; such = such; written = written }
 line_is_written P (Err e) text old new such written = tt
+
+-- a flush keeps what was written
+Appends-kept : (a b c : Option (List ℕ)) (bs : List ℕ) → Appends a b bs → Keeps b c → Appends a c bs
+Appends-kept None b c bs p k = tt
+Appends-kept (Some x) None c bs p k = absurd p
+Appends-kept (Some x) (Some y) None bs p k = absurd k
+Appends-kept (Some x) (Some y) (Some z) bs p k = k ∙ p
+
+pub all_flushed : {E : Type 0} (P : List ℕ → List ℕ → Type 0) (r : Result (Unit {0}) E) (ls : List (List ℕ)) (old mid new : Option (List ℕ))
+    → WritesLines P ls old mid → Keeps mid new → OnOk r (WritesLines P ls old new)
+all_flushed P (Ok x) ls old mid new all kept = record {
+  texts = all.texts;
+  each = all.each;
+  written = Appends-kept old mid new (flat_map as_line all.texts) all.written kept;
+}
+all_flushed P (Err e) ls old mid new all kept = tt
+
+-- what a call writes stands behind what was written before
+pub appends_behind : {E : Type 0} (r : Result (Unit {0}) E) (a b c : Option (List ℕ)) (bs cs : List ℕ) → Appends a b bs → OnOk r (Appends b c cs) → OnOk r (Appends a c (bs ++ cs))
+appends_behind (Ok x) a b c bs cs p q = Appends-trans a b c bs cs p q
+appends_behind (Err e) a b c bs cs p q = tt

@@ -1,5 +1,5 @@
 -- What the program's `dump` prints.
-use Rattle.std.specs.Prelude.{◌≡◌, ◌⊎◌, ℕ, ◌-◌, ◌==◌, true, List, [], ◌∷◌, ◌++◌, codes, decimal, drop, length, replicate, if◌then◌else◌, Option, Some, MatchOption}
+use Rattle.std.specs.Prelude.{◌≡◌, ◌⊎◌, ⊤, ℕ, ◌-◌, ◌/◌, ◌%◌, ◌==◌, Bool, true, List, [], ◌∷◌, ◌++◌, codes, decimal, drop, length, replicate, if◌then◌else◌, Option, None, Some, IfSome, MatchOption}
 use Rattle.std.specs.List.{flat_map, AllZip}
 use Rattle.std.specs.Result.{result_ok}
 use Rattle.std.specs.Io.KnownBytes.{Appends}
@@ -14,14 +14,19 @@ use Rattle.cfdp_directives.specs.declared.pdu.Pdu.TheVariants as pdu
 use Rattle.cfdp_directives.specs.Faults.{pdu_fault}
 use Rattle.cfdp_directives.specs.Content.{view}
 use Rattle.cfdp_directives.specs.Grammar.{SpellsPdu}
+use Rattle.cfdp_directives.specs.Tlv.{Tlv, location_of}
 use Rattle.aos_frame.specs.declared.header.FrameHeader.{FrameHeader}
 use Rattle.aos_frame.specs.declared.error.FrameError.{FrameError}
 use Rattle.aos_frame.specs.Frame.{SpellsFrame, frame_fault, own_link}
 use Rattle.mpdu.specs.MpduHeader.{pointer_of}
+use Rattle.cfdp_node.specs.declared.arguments.DumpRequest.{DumpRequest}
 use Rattle.cfdp_node.specs.declared.dump.DumpKind.{DumpKind}
 use Rattle.cfdp_node.specs.declared.dump.DumpKind.TheVariants.{Pdus, Frames}
 use Rattle.cfdp_node.specs.declared.refusal.Refusal.TheVariants.{Hex, Pdu, Frame}
-use Rattle.cfdp_node.specs.Name.{printed_octet}
+use Rattle.cfdp_node.specs.declared.exit.Exit.{Exit}
+use Rattle.cfdp_node.specs.declared.exit.Exit.TheVariants.{Complete, Device}
+use Rattle.cfdp_node.specs.declared.exit.Fault.TheVariants.{NoMemory, Unwritable}
+use Rattle.cfdp_node.specs.Name.{hex_digit, printed_octet}
 use Rattle.cfdp_node.specs.Refusal.{refusal_text}
 use Rattle.cfdp_node.specs.Wording.{id_text, delivery_word, status_word}
 
@@ -65,6 +70,43 @@ fields_text (pdu.KeepAlive progress) = decimal progress
 abbrev pub pdu_text : TransactionId → pdus.Pdu → List ℕ
 pdu_text id p = pdu_word p ++ codes " " ++ id_text id ++ codes " " ++ fields_text p
 
+-- ---- what a long line has behind that
+
+-- the options of a PDU: Metadata (CCSDS 727.0-B-5, 5.2.5), EOF (5.2.2) and Finished (5.2.3) may
+-- have some
+abbrev pub options_of : pdus.Pdu → List Tlv
+options_of (pdu.Metadata kind size source destination options) = options
+options_of (pdu.Eof condition checksum size tlvs) = tlvs
+options_of (pdu.Finished condition delivery status tlvs) = tlvs
+options_of _ = []
+
+-- an octet as two upper-case hexadecimal digits
+abbrev pub hex_octet_text : ℕ → List ℕ
+hex_octet_text octet = hex_digit (octet / 16) ∷ hex_digit (octet % 16) ∷ []
+
+-- an option (5.1.9): its type, and its value
+abbrev pub option_text : Tlv → List ℕ
+option_text t = codes " tlv " ++ hex_octet_text t.kind ++ codes ":" ++ flat_map hex_octet_text t.value
+
+-- the entity at which a fault was found (5.4.6), where one is named
+abbrev pub location_text : Option ℕ → List ℕ
+location_text None = []
+location_text (Some entity) = codes " fault-location " ++ decimal entity
+
+-- the end of the transaction that a PDU goes to (5.1, table 5-1, direction)
+abbrev pub end_word : Bool → List ℕ
+end_word toward_sender = if toward_sender then codes "sender" else codes "receiver"
+
+-- where the PDU goes, which entity receives the file, and the options
+abbrev pub long_text : Header → pdus.Pdu → List ℕ
+long_text h p =
+    codes " toward " ++ end_word h.toward_sender ++ codes " destination " ++ decimal h.destination
+    ++ location_text (location_of (options_of p)) ++ flat_map option_text (options_of p)
+
+-- the line of a PDU, which may be a long one
+abbrev pub pdu_line : Bool → Header → pdus.Pdu → List ℕ
+pdu_line long h p = if long then pdu_text h.id p ++ long_text h p else pdu_text h.id p
+
 -- a frame with this header and first header pointer
 abbrev pub frame_text : FrameHeader → ℕ → List ℕ
 frame_text h pointer =
@@ -81,11 +123,11 @@ lines [] = []
 lines (octet ∷ rest) = if octet == 10 then [] ∷ lines rest else onto_first_line octet (lines rest)
 
 -- The octets are a PDU, and this text says which.
-pub record TellsPdu (octets text : List ℕ) : Type 0 where
+pub record TellsPdu (long : Bool) (octets text : List ℕ) : Type 0 where
   pub header : Header
   pub says : pdus.Pdu
   pub spelled : SpellsPdu header (view says) octets
-  pub words : text ≡ pdu_text header.id says
+  pub words : text ≡ pdu_line long header says
 
 -- The octets are no PDU, and this text says why.
 pub record TellsPduFault (octets text : List ℕ) : Type 0 where
@@ -106,18 +148,26 @@ pub record TellsFrameFault (zone : ℕ) (octets text : List ℕ) : Type 0 where
   pub fault : frame_fault octets (own_link octets zone) ≡ Some error
   pub words : text ≡ refusal_text (Frame error)
 
--- This text is written for these octets.
-abbrev pub TellsOctets : DumpKind → ℕ → List ℕ → List ℕ → Type 0
-TellsOctets Pdus zone octets text = TellsPdu octets text ⊎ TellsPduFault octets text
-TellsOctets Frames zone octets text = TellsFrame zone octets text ⊎ TellsFrameFault zone octets text
+-- This text is written for these octets, as a PDU.
+abbrev pub TellsAsPdu : Bool → List ℕ → List ℕ → Type 0
+TellsAsPdu long octets text = TellsPdu long octets text ⊎ TellsPduFault octets text
+
+-- The same, as a frame.
+abbrev pub TellsAsFrame : ℕ → List ℕ → List ℕ → Type 0
+TellsAsFrame zone octets text = TellsFrame zone octets text ⊎ TellsFrameFault zone octets text
+
+abbrev pub TellsAs : DumpKind → (long : Bool) → (zone : ℕ) → List ℕ → List ℕ → Type 0
+TellsAs Pdus long zone = TellsAsPdu long
+TellsAs Frames long zone = TellsAsFrame zone
 
 -- the octets that a line's pairs of hexadecimal digits spell, in either case
 abbrev pub hex_octets : List ℕ → Option (List ℕ)
 hex_octets line = result_ok (decode_of line)
 
 -- This text is written for this line.
-abbrev pub TellsLine : DumpKind → ℕ → List ℕ → List ℕ → Type 0
-TellsLine kind zone line text = MatchOption (hex_octets line) (text ≡ refusal_text Hex) (λ octets. TellsOctets kind zone octets text)
+abbrev pub TellsLine : DumpRequest → List ℕ → List ℕ → Type 0
+TellsLine request line text =
+    MatchOption (hex_octets line) (text ≡ refusal_text Hex) (λ octets. TellsAs request.kind request.long request.zone octets text)
 
 -- a text as a line
 abbrev pub as_line : List ℕ → List ℕ
@@ -134,3 +184,13 @@ pub record WritesLines (P : List ℕ → List ℕ → Type 0) (lines_read : List
   pub texts : List (List ℕ)
   pub each : AllZip P lines_read texts
   pub written : Appends old new (flat_map as_line texts)
+
+-- How a dump ends, by what the reader has left and what the writer holds before and after. Complete
+-- says that each line was told, and the writer itself has the words. Where the lines couldn't be
+-- read, nothing is written.
+abbrev pub EndsDump : DumpRequest → (left old new : Option (List ℕ)) → Exit → Type 0
+EndsDump request left old new Complete = IfSome left (λ text. WritesLines (TellsLine request) (lines text) old new)
+EndsDump request left old new (Device Unwritable) = ⊤
+EndsDump request left old new (Device NoMemory) = ⊤
+EndsDump request left old new (Device fault) = new ≡ old
+EndsDump request left old new _ = ⊥

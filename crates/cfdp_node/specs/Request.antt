@@ -1,9 +1,130 @@
-use Rattle.std.specs.Prelude.{◌≤◌, ⊤}
+-- What a command line asks for. Its first word is the program's name.
+use Rattle.std.specs.Prelude.{◌≡◌, ◌≤◌, ⊤, ℕ, Bool, true, false, List, [], ◌∷◌, codes, Option, Some, None, is_some, option_map, option_and_then, if◌then◌else◌}
+use Rattle.std.specs.Option.{option_map_or}
+use Rattle.std.specs.Str.{bytes_eq}
+use Rattle.std.specs.Str.Parse.{digits_value, without_leading_plus}
+use Rattle.clap.specs.ValueTests.{is_unsigned_in}
+use Rattle.clap.specs.Faults.{fault_of}
+use Rattle.clap.specs.Kinds.{Kinds, or_else}
+use Rattle.clap.specs.Matches.{found_of}
+use Rattle.clap.specs.Simple.{App, app_of, new_app, new_rule, on_top, subcommand_of, with_rule, with_subcommand}
+use Rattle.clap.specs.Walk.{Row, Rule, Text, first_of, rows_of}
+use Rattle.clap.specs.declared.builder.action.ArgAction.TheVariants.{SetTrue}
+use Rattle.clap.specs.declared.builder.command.Command.{Command}
+use Rattle.clap.specs.declared.builder.command.Command.TheViews.{out-Command}
+use Rattle.clap.specs.declared.builder.value_parser.ValueParser.TheVariants.{Unsigned}
+use Rattle.clap.specs.declared.error.kind.ErrorKind.{ErrorKind}
+use Rattle.clap.specs.declared.error.kind.ErrorKind.TheVariants.{DisplayHelp, DisplayVersion, InvalidValue, OutOfMemory}
+use Rattle.clap.specs.declared.parser.matches.ArgMatches.{ArgMatches}
 use Rattle.cfdp_node.specs.declared.arguments.Request.{Request}
-use Rattle.cfdp_node.specs.declared.arguments.Request.TheVariants.{Sim, Dump, Answered}
+use Rattle.cfdp_node.specs.declared.arguments.Request.TheVariants.{Sim, Dump, Version}
+use Rattle.cfdp_node.specs.declared.dump.DumpKind.{DumpKind}
+use Rattle.cfdp_node.specs.declared.dump.DumpKind.TheVariants.{Pdus, Frames}
+
+-- ---- the grammar
+
+-- a flag, which is there or not
+abbrev pub flag_rule : Text → Rule
+flag_rule name = record (new_rule name) { long = Some name; action = Some SetTrue }
+
+-- a file for the capture
+abbrev pub pcap_rule : Rule
+pcap_rule = record (new_rule (codes "pcap")) { long = Some (codes "pcap"); value_names = 1 }
+
+-- what the lines are, which has to be said
+abbrev pub kind_rule : Rule
+kind_rule = record (new_rule (codes "kind")) { value_names = 1; required = true }
+
+-- the octets of a packet zone: 16 to 2,040, and 256 where none are given
+abbrev pub zone_rule : Rule
+zone_rule = record (new_rule (codes "zone")) {
+  long = Some (codes "zone");
+  value_names = 1;
+  defaults = codes "256" ∷ [];
+  parser = Some (Unsigned 16 2040);
+}
+
+abbrev pub sim_app : App
+sim_app = with_rule (with_rule (with_rule (new_app (codes "sim")) (flag_rule (codes "explain"))) (flag_rule (codes "trace"))) pcap_rule
+
+abbrev pub dump_app : App
+dump_app = with_rule (with_rule (with_rule (new_app (codes "dump")) kind_rule) zone_rule) (flag_rule (codes "long"))
+
+-- the program alone, which shows its help where it gets no word
+abbrev pub top_app : App
+top_app = with_rule (on_top (λ s. record s { arg_required_else_help = true }) (new_app (codes "cfdp_node"))) (flag_rule (codes "version"))
+
+abbrev pub program_app : App
+program_app = with_subcommand (with_subcommand top_app sim_app.top) dump_app.top
+
+-- The command is the one of this grammar.
+abbrev pub IsCommand : App → Command → Type 0
+IsCommand app c = (app_of c ≡ app) × ((out-Command c).has_globals ≡ false)
+
+-- ---- what is asked for
+
+-- To run a script, and how; to tell lines, and how; or the version.
+pub data Asked : Type 0 where
+  sim : (explain trace : Bool) → (pcap : Option Text) → Asked
+  dump : (kind : DumpKind) → (zone : ℕ) → (long : Bool) → Asked
+  version : Asked
+
+-- what a subcommand's words gave for the argument of this name
+abbrev pub word_of : Text → ArgMatches → Option Text
+word_of name m = first_of name (rows_of (found_of m))
+
+abbrev pub is_given : Text → List Row → Bool
+is_given name rows = option_map_or (λ word. bytes_eq word (codes "true")) (first_of name rows) false
+
+-- what a word says of the kind of the lines
+abbrev pub kind_of_word : Text → Option DumpKind
+kind_of_word word =
+    if bytes_eq word (codes "pdus") then Some Pdus else (if bytes_eq word (codes "frames") then Some Frames else None)
+
+-- the number of octets that decimal digits spell, which a plus sign may begin
+abbrev pub zone_of_word : Text → Option ℕ
+zone_of_word word = if is_unsigned_in 16 2040 word then Some (digits_value 10 (without_leading_plus word)) else None
+
+abbrev pub sim_of : List Row → Asked
+sim_of rows = sim (is_given (codes "explain") rows) (is_given (codes "trace") rows) (first_of (codes "pcap") rows)
+
+abbrev pub dump_of : List Row → Option Asked
+dump_of rows = option_and_then (λ kind. option_map (λ zone. dump kind zone (is_given (codes "long") rows))
+    (option_and_then zone_of_word (first_of (codes "zone") rows)))
+    (option_and_then kind_of_word (first_of (codes "kind") rows))
+
+-- what a subcommand of this name asks for, by what its words gave
+abbrev pub asked_by : Option (Text × List Row) → Option Asked
+asked_by None = Some version
+asked_by (Some found) =
+    if bytes_eq found.0 (codes "sim") then Some (sim_of found.1)
+    else (if bytes_eq found.0 (codes "dump") then dump_of found.1 else None)
+
+-- what words that fit the grammar ask for
+abbrev pub asked_of : List Text → Option Asked
+asked_of words = asked_by (subcommand_of program_app words)
+
+-- Why words are not done: help was asked for, or they don't fit the grammar, or the kind of the
+-- lines is none. Words that are done have no such reason.
+abbrev pub refusals : List Text → Kinds
+refusals words = or_else (fault_of program_app words) (if is_some (asked_of words) then [] else InvalidValue ∷ [])
+
+-- ---- what the program makes of it
+
+abbrev pub asked : Request → Asked
+asked (Sim request) = sim request.explain request.trace (option_map (λ file. file.bytes.items) request.pcap)
+asked (Dump request) = dump request.kind request.zone request.long
+asked Version = version
 
 -- A packet zone that is asked for has a length that it may have.
 abbrev pub HasZone : Request → Type 0
-HasZone (Sim explain) = ⊤
-HasZone (Dump kind zone) = (16 ≤ zone) × (zone ≤ 2040)
-HasZone (Answered status) = ⊤
+HasZone (Sim request) = ⊤
+HasZone (Dump request) = (16 ≤ request.zone) × (request.zone ≤ 2040)
+HasZone Version = ⊤
+
+-- the exit status of the process where its arguments are not done
+abbrev pub refusal_status : ErrorKind → ℕ
+refusal_status DisplayHelp = 0
+refusal_status DisplayVersion = 0
+refusal_status OutOfMemory = 3
+refusal_status mistake = 2

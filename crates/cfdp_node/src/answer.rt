@@ -1,5 +1,7 @@
+ghost use Rattle.std.specs.Prelude.{◌≡◌, Some};
+ghost use Rattle.cfdp_node.specs.Answers.{answer_name};
+
 use link_sim::{RecoverError, Refusal, SettleError};
-use std::alloc::AllocError;
 use std::fmt;
 
 /// Why a command didn't do its work, or not all of it. The report tells it.
@@ -13,11 +15,21 @@ pub enum Answer {
     Ended(RecoverError),
 }
 
-impl Answer {
-    /// Whether memory or a store failed, for which the program's exit status is 3.
-    pub fn is_device_fault(self) -> bool {
-        match self {
-            Answer::Ended(RecoverError::Settle(error)) => match error {
+/// A command that was done, or tried, by its line.
+#[derive(Clone, Copy)]
+pub struct Answered {
+    pub line: usize,
+    /// What it answered, where it wasn't done, or not to its end.
+    pub answer: Option<Answer>,
+}
+
+impl Answered {
+    /// Whether memory or a store failed in it.
+    pub fn is_device_fault(self) -> bool
+        ensures { result ≡ Rattle.cfdp_node.specs.Answers.is_device_fault self.answer }
+    {
+        match self.answer {
+            Some(Answer::Ended(RecoverError::Settle(error))) => match error {
                 SettleError::NoMemory | SettleError::StoreFailed => true,
                 SettleError::TableFull => false,
             },
@@ -26,27 +38,23 @@ impl Answer {
     }
 }
 
-impl From<AllocError> for Answer {
-    ghost use Rattle.std.specs.Prelude.{◌≡◌};
-    ghost use Rattle.link_sim.specs.declared.recover_error.RecoverError.TheVariants.{Settle};
-    ghost use Rattle.link_sim.specs.declared.settle_error.SettleError.TheVariants.{NoMemory};
-    ghost use Rattle.cfdp_node.specs.declared.answer.Answer.TheVariants.{Ended};
-
-    ghost from_gives = { λ _ answer. answer ≡ Ended (Settle NoMemory) };
-
-    fn from(_error: AllocError) -> Answer {
-        Answer::Ended(RecoverError::Settle(SettleError::NoMemory))
-    }
+impl Answer {
+    /// There was no memory for an event.
+    pub const NO_MEMORY: Answer = Answer::Ended(RecoverError::Settle(SettleError::NoMemory));
 }
 
 impl fmt::Display for Answer {
+    ghost output = { λ answer. Some (answer_name answer) };
+
     fn fmt<W: fmt::Write>(&self, f: &mut fmt::Formatter<W>) -> fmt::Result {
         write!(f, "{}", self.name())
     }
 }
 
 impl Answer {
-    fn name(self) -> &'static str {
+    fn name(self) -> &'static str
+        ensures { result.now ≡ answer_name self }
+    {
         match self {
             Answer::Nothing => "Nothing",
             Answer::Refused(Refusal::Put(error)) => error.name(),

@@ -1,5 +1,12 @@
-ghost use Rattle.std.specs.Prelude.{◌≢◌, Bool, IfOk, IfSome};
-ghost use Rattle.cfdp_node.specs.Request.{HasZone};
+ghost use Rattle.std.specs.Prelude.{◌≡◌, ◌⊎◌, ◌≤◌, false, map, IfOk, IfSome, Some, option_map};
+ghost use Rattle.clap.specs.Kinds.{FailsBy};
+ghost use Rattle.clap.specs.Faults.{fault_of};
+ghost use Rattle.clap.specs.Matches.{found_of};
+ghost use Rattle.clap.specs.Values.{kind_of};
+ghost use Rattle.clap.specs.Walk.{first_of, rows_of, rule_of};
+ghost use Rattle.clap.specs.Simple.{subcommand_rows_of};
+ghost use Rattle.cfdp_node.specs.Request.{HasZone, IsCommand, asked, asked_by, asked_of, dump_app, dump_of, flag_rule, kind_of_word, kind_rule, pcap_rule, program_app, refusal_status, refusals, sim_app, sim_of, top_app, zone_of_word, zone_rule};
+ghost use Rattle.cfdp_node.specs.Request as requests;
 
 use crate::dump::DumpKind;
 use clap::error::ErrorKind;
@@ -8,14 +15,36 @@ use std::alloc::{AllocError, Global};
 use std::{env, io};
 
 /// What the words behind the program's name ask for.
-#[derive(Clone, Copy)]
+#[derive(Drop)]
 pub enum Request {
-    /// To run a script, and to say why a bad one is bad if `explain` is true.
-    Sim { explain: bool },
-    /// To tell what lines spell. Frames have packet zones of so many octets: 16 to 2,040.
-    Dump { kind: DumpKind, zone: u16 },
-    /// Nothing more: help, the version or a mistake was printed. The process ends with this status.
-    Answered(u8),
+    /// To run a script.
+    Sim(SimRequest),
+    /// To tell what lines spell.
+    Dump(DumpRequest),
+    /// To print the version.
+    Version,
+}
+
+/// How a script is to be run.
+#[derive(Drop)]
+pub struct SimRequest {
+    /// Whether to say why a bad script is bad.
+    pub explain: bool,
+    /// Whether to tell each frame and PDU on standard error, in the order of events.
+    pub trace: bool,
+    /// The file that the PDUs of both directions go to, as a capture.
+    pub pcap: Option<String>,
+}
+
+/// What lines are to be told.
+#[derive(Clone, Copy)]
+pub struct DumpRequest {
+    /// What the lines are.
+    pub kind: DumpKind,
+    /// The octets of a frame's packet zone, 16 to 2,040.
+    pub zone: u16,
+    /// Whether to tell also what a short line leaves out.
+    pub long: bool,
 }
 
 const VERSION: &str = "0.1.0";
@@ -74,6 +103,13 @@ puts were completed. A command that could not do its work is told as
   line N NoMemory       or StoreFailed, TableFull: it ended early
   line N StillArmed     after 24576 ticks of recover a timer is left
 
+With --trace, a line for each frame and PDU that passes, on standard error: the
+number of the event, the station, what it did (sends; takes a frame or hears a
+PDU, which arrive; loses a frame that it sent), and the line of a dump.
+With --pcap FILE, the PDUs that are sent go to FILE for Wireshark, with the
+number of the event as time. There, in Preferences, Protocols, DLT_USER, User 0
+(DLT=147) is to have the payload dissector cfdp.
+
 Exit status: 0 all puts completed, 1 some not, 2 bad script or arguments,
 3 a failed read, write or store, or no memory (told on standard error).
 
@@ -94,6 +130,11 @@ Output: a line for each; ID is the source and the number of the transaction.
   keepalive ID N
   frame SPACECRAFT CHANNEL COUNT POINTER
   error N NAME                      why it is none
+With --long the line of a PDU goes on; that of a frame stays as it is:
+  toward receiver destination N     or sender; N is the entity that receives the
+                                    file, whichever way the PDU goes
+  fault-location N                  the entity that a fault location names
+  tlv TT:VV..                       each option, type and value in hexadecimal
 Errors of any line: 0 Hex (no such digits).
 Errors of PDUs: 1 Short, 2 Version, 3 CrcPresent, 4 Length, 5 Unacknowledged,
 6 LargeFile, 7 Directive, 8 Truncated, 9 Trailing, 10 Tlv, 11 Condition.
@@ -105,67 +146,186 @@ write, or no memory (told on standard error).
 Example, which prints 'eof 1:1 0 D7656C6C 5':
   echo 20000A1300010000000100020400D7656C6C00000005 | cfdp_node dump pdus";
 
-/// Reads the process's arguments. Help goes to standard output, a mistake to standard error.
-pub fn read(rt: &HostRuntime) -> Request
-    ensures { HasZone result }
+/// Reads the process's arguments.
+///
+/// # Errors
+///
+/// The status with which the process ends, where there is nothing to do: help, which went to
+/// standard output, or a mistake, which was told on standard error.
+pub fn read(rt: &HostRuntime) -> Result<Request, u8>
+    ensures { IfOk result HasZone }
 {
     let words: Vec<String> = match env::args(rt) {
         Ok(args) => match args.collect(rt.alloc()) {
             Ok(words) => words,
-            Err(AllocError) => return Request::Answered(NO_MEMORY),
+            Err(AllocError) => return Err(NO_MEMORY),
         },
-        Err(error) => return Request::Answered(unread_status(rt, &error)),
+        Err(error) => return Err(unread_status(rt, &error)),
     };
     match parse(rt.alloc(), words.as_slice()) {
-        Ok(Some(request)) => request,
-        Ok(None) => Request::Answered(version_status(rt)),
-        Err(error) => Request::Answered(answered(rt, &error)),
+        Ok(request) => Ok(request),
+        Err(error) => Err(answered(rt, &error)),
     }
 }
 
-/// Prints the version.
-fn version_status(rt: &HostRuntime) -> u8 {
+/// Prints the version, and gives the status of the process.
+pub fn version_status(rt: &HostRuntime) -> u8 {
     match println!(rt; "cfdp_node {VERSION}") {
         Ok(()) => 0,
         Err(_) => NO_MEMORY,
     }
 }
 
-/// What these words ask for, `None` being the version. The first word is the program's name.
-fn parse<'a>(alloc: Global, words: &'a [String]) -> Result<Option<Request>, Error>
-    ensures { IfOk result (λ request. IfSome request HasZone) }
+/// What these words ask for. The first is the program's name.
+///
+/// # Errors
+///
+/// The help that they ask for, their mistake, or `OutOfMemory`.
+pub fn parse<'a>(alloc: Global, words: &'a [String]) -> Result<Request, Error>
+    ensures asked { IfOk result (λ request. asked_of (map (λ word. word.bytes.items) words.now)
+        ≡ Some (asked request)) }
+    ensures refused { FailsBy (refusals (map (λ word. word.bytes.items) words.now)) result }
+    ensures zone { IfOk result HasZone }
 {
-    let matches = grammar(alloc)?.try_get_matches_from(words)?;
+    let mut command = grammar(alloc)?;
+    match matched(alloc, &mut command, words)? {
+        Some(request) => Ok(request),
+        None => Err(command.error(ErrorKind::InvalidValue, "KIND is pdus or frames")?),
+    }
+}
+
+/// What these words ask for by the program's grammar, `None` where KIND is no kind.
+///
+/// # Errors
+///
+/// What the grammar refuses, help, or `OutOfMemory`.
+fn matched<'a>(
+    alloc: Global,
+    command: &mut Command<'a>,
+    words: &'a [String],
+) -> Result<Option<Request>, Error>
+    requires { IsCommand program_app command.old }
+    ensures asked { IfOk result (λ found. option_map asked found
+        ≡ asked_of (map (λ word. word.bytes.items) words.now)) }
+    ensures refused { FailsBy (fault_of program_app (map (λ word. word.bytes.items) words.now))
+        result }
+    ensures zone { IfOk result (λ found. IfSome found HasZone) }
+{
+    let matches = command.try_get_matches_from_mut(words)?;
+    Ok(requested(alloc, &matches)?)
+}
+
+/// What the words that were found ask for, `None` where KIND is no kind.
+fn requested(alloc: Global, matches: &ArgMatches<'_>) -> Result<Option<Request>, AllocError>
+    ensures asked { IfOk result (λ found. option_map asked found
+        ≡ asked_by (subcommand_rows_of matches.now)) }
+    ensures zone { IfOk result (λ found. IfSome found HasZone) }
+{
     match matches.subcommand() {
-        Some(("dump", arguments)) => Ok(Some(dump_request(arguments))),
-        Some((_, arguments)) => Ok(Some(Request::Sim {
-            explain: arguments.get_flag("explain"),
-        })),
-        None if matches.get_flag("version") => Ok(None),
-        None => Ok(Some(Request::Answered(MISTAKE))),
+        Some(("sim", arguments)) => Ok(Some(Request::Sim(sim_request(alloc, arguments)?))),
+        Some(("dump", arguments)) => Ok(dump_request(arguments).map(Request::Dump)),
+        Some(_) => Ok(None),
+        None => Ok(Some(Request::Version)),
     }
 }
 
-/// What the words behind `dump` ask for. The parser has refused all others.
-fn dump_request(arguments: &ArgMatches<'_>) -> Request
-    ensures dumps { (explain : Bool) → result ≢ Request.Sim explain }
-    ensures zone { HasZone result }
+/// What the words behind `sim` ask for.
+fn sim_request(alloc: Global, arguments: &ArgMatches<'_>) -> Result<SimRequest, AllocError>
+    ensures { IfOk result (λ request. asked (Request.Sim request)
+        ≡ sim_of (rows_of (found_of arguments.now))) }
 {
-    let kind = match arguments.get_str("kind") {
-        Some("frames") => DumpKind::Frames,
-        _ => DumpKind::Pdus,
+    let pcap = match word_of(arguments, "pcap") {
+        Some(file) => Some(String::from_str(alloc, file)?),
+        None => None,
     };
-    match arguments.get_one::<u64>("zone") {
-        Some(zone) if (16..=2040).contains(&zone) => Request::Dump {
-            kind,
-            zone: zone as u16,
-        },
-        _ => Request::Answered(MISTAKE),
+    Ok(SimRequest {
+        explain: is_given(arguments, "explain"),
+        trace: is_given(arguments, "trace"),
+        pcap,
+    })
+}
+
+/// What the words behind `dump` ask for, `None` where KIND is no kind.
+fn dump_request(arguments: &ArgMatches<'_>) -> Option<DumpRequest>
+    ensures asked { option_map (λ request. asked (Request.Dump request)) result
+        ≡ dump_of (rows_of (found_of arguments.now)) }
+    ensures zone { IfSome result (λ request. (16 ≤ request.zone) × (request.zone ≤ 2040)) }
+{
+    let kind = dump_kind(word_of(arguments, "kind")?)?;
+    let zone = zone_octets(word_of(arguments, "zone")?)?;
+    let long = is_given(arguments, "long");
+    Some(DumpRequest { kind, zone, long })
+}
+
+/// The word that was found for this argument, or stands for it where none is given.
+fn word_of<'a>(arguments: &ArgMatches<'a>, name: &str) -> Option<&'a str>
+    ensures { option_map (λ word. word.now) result
+        ≡ first_of name.now (rows_of (found_of arguments.now)) }
+{
+    arguments.get_str(name)
+}
+
+/// Whether a flag was found.
+fn is_given(arguments: &ArgMatches<'_>, name: &str) -> bool
+    ensures { result ≡ requests.is_given name.now (rows_of (found_of arguments.now)) }
+{
+    match word_of(arguments, name) {
+        Some(word) => word == "true",
+        None => false,
     }
 }
 
-fn grammar<'a>(alloc: Global) -> Result<Command<'a>, AllocError> {
-    let sim = Command::new(alloc, "sim")
+/// What this word says of the kind of the lines.
+fn dump_kind(word: &str) -> Option<DumpKind>
+    ensures { result ≡ kind_of_word word.now }
+{
+    if word == "pdus" {
+        Some(DumpKind::Pdus)
+    } else if word == "frames" {
+        Some(DumpKind::Frames)
+    } else {
+        None
+    }
+}
+
+/// The octets of a packet zone that this word says, if they are 16 to 2,040.
+fn zone_octets(word: &str) -> Option<u16>
+    ensures zone { result ≡ zone_of_word word.now }
+    ensures range { IfSome result (λ zone. (16 ≤ zone) × (zone ≤ 2040)) }
+{
+    match word.parse::<u16>() {
+        Ok(zone) if 16 <= zone && zone <= 2040 => Some(zone),
+        _ => None,
+    }
+}
+
+/// The grammar of command lines.
+fn grammar<'a>(alloc: Global) -> Result<Command<'a>, AllocError>
+    ensures { IfOk result (IsCommand program_app) }
+{
+    let top = top_command(alloc)?;
+    let sim = sim_command(alloc)?;
+    let dump = dump_command(alloc)?;
+    top.subcommand(sim)?.subcommand(dump)
+}
+
+fn top_command<'a>(alloc: Global) -> Result<Command<'a>, AllocError>
+    ensures { IfOk result (IsCommand top_app) }
+{
+    Command::new(alloc, "cfdp_node")
+        .bin_name("cfdp_node")?
+        .about("Sends files between two simulated stations by the CCSDS File Delivery Protocol")
+        .after_help(
+            "'cfdp_node sim --help' shows the commands of a script, 'cfdp_node dump --help' the lines of a dump.",
+        )
+        .arg_required_else_help(true)
+        .arg(flag(alloc, "version", "Prints the version"))
+}
+
+fn sim_command<'a>(alloc: Global) -> Result<Command<'a>, AllocError>
+    ensures { IfOk result (IsCommand sim_app) }
+{
+    Command::new(alloc, "sim")
         .about(
             "Runs a script of two stations, read from standard input, and reports on standard output",
         )
@@ -174,41 +334,61 @@ fn grammar<'a>(alloc: Global) -> Result<Command<'a>, AllocError> {
             alloc,
             "explain",
             "Says why a bad line is bad, on a second line of standard error",
-        ))?;
-    let dump = Command::new(alloc, "dump")
+        ))?
+        .arg(flag(
+            alloc,
+            "trace",
+            "Tells each frame and PDU on standard error, in the order of events",
+        ))?
+        .arg(pcap_argument(alloc))
+}
+
+fn dump_command<'a>(alloc: Global) -> Result<Command<'a>, AllocError>
+    ensures { IfOk result (IsCommand dump_app) }
+{
+    Command::new(alloc, "dump")
         .about("Tells what lines spell, read from standard input, on standard output")
         .after_help(DUMP_HELP)
         .arg(kind_argument(alloc))?
-        .arg(zone_argument(alloc))?;
-    Command::new(alloc, "cfdp_node")
-        .bin_name("cfdp_node")?
-        .about("Sends files between two simulated stations by the CCSDS File Delivery Protocol")
-        .after_help(
-            "'cfdp_node sim --help' shows the commands of a script, 'cfdp_node dump --help' the lines of a dump.",
-        )
-        .arg(flag(alloc, "version", "Prints the version"))?
-        .arg_required_else_help(true)
-        .subcommand(sim)?
-        .subcommand(dump)
+        .arg(zone_argument(alloc))?
+        .arg(flag(
+            alloc,
+            "long",
+            "Tells also direction, destination, fault location and options of a PDU",
+        ))
 }
 
 /// An argument that is there or not.
-fn flag<'a>(alloc: Global, name: &'a str, help: &'a str) -> Arg<'a> {
+fn flag<'a>(alloc: Global, name: &'a str, help: &'a str) -> Arg<'a>
+    ensures { (rule_of result ≡ flag_rule name.now) × (result.global ≡ false) }
+{
     Arg::new(alloc, name)
         .long(name)
         .help(help)
         .action(ArgAction::SetTrue)
 }
 
-fn kind_argument<'a>(alloc: Global) -> Arg<'a> {
-    Arg::new(alloc, "kind")
-        .value_name("KIND")
-        .help("What the lines are")
-        .required(true)
-        .value_parser(["pdus", "frames"].as_slice())
+fn pcap_argument<'a>(alloc: Global) -> Arg<'a>
+    ensures { (rule_of result ≡ pcap_rule) × (result.global ≡ false) }
+{
+    Arg::new(alloc, "pcap")
+        .long("pcap")
+        .value_name("FILE")
+        .help("Writes the PDUs of both directions to FILE, as a capture")
 }
 
-fn zone_argument<'a>(alloc: Global) -> Arg<'a> {
+fn kind_argument<'a>(alloc: Global) -> Arg<'a>
+    ensures { (rule_of result ≡ kind_rule) × (result.global ≡ false) }
+{
+    Arg::new(alloc, "kind")
+        .value_name("KIND")
+        .help("What the lines are: pdus or frames")
+        .required(true)
+}
+
+fn zone_argument<'a>(alloc: Global) -> Arg<'a>
+    ensures { (rule_of result ≡ zone_rule) × (result.global ≡ false) }
+{
     Arg::new(alloc, "zone")
         .long("zone")
         .value_name("Z")
@@ -217,8 +397,12 @@ fn zone_argument<'a>(alloc: Global) -> Arg<'a> {
         .default_value("256")
 }
 
-/// Prints what the parser has to say, and gives the status that goes with it.
-fn answered(rt: &HostRuntime, error: &Error) -> u8 {
+/// Prints what the parser has to say, and gives the status that goes with it, which is that of
+/// memory too where help can't be printed.
+fn answered(rt: &HostRuntime, error: &Error) -> u8
+    ensures { (result ≡ refusal_status (kind_of error.now))
+        ⊎ (refusal_status (kind_of error.now) ≡ 0) × (result ≡ NO_MEMORY) }
+{
     if error.kind() == ErrorKind::OutOfMemory {
         return NO_MEMORY;
     }

@@ -1,15 +1,15 @@
 //! What lines of hexadecimal digits spell.
-ghost use Rattle.std.specs.Prelude.{◌≡◌, ◌≢◌, ◌⊎◌, ◌<◌, ◌≤◌, ◌∷◌, drop, length, IfOk, IfSome, OnOk};
+ghost use Rattle.std.specs.Prelude.{◌≡◌, ◌≢◌, ◌<◌, ◌≤◌, ◌∷◌, drop, length, IfOk, OnOk};
 ghost use Rattle.std.specs.Result.{result_err};
 ghost use Rattle.std.specs.Option.{option_map};
 ghost use Rattle.aos_frame.specs.Frame.{SpellsFrame, frame_fault, own_link};
 ghost use Rattle.mpdu.specs.MpduHeader.{pointer_of};
-ghost use Rattle.cfdp_node.specs.Dump.{hex_octets, TellsOctets, TellsLine, WritesLine, WritesLines};
+ghost use Rattle.cfdp_node.specs.Dump.{EndsDump, hex_octets, TellsAsFrame, TellsAsPdu, TellsLine, WritesLine, WritesLines};
 ghost use Rattle.cfdp_node.specs.Dump as dumps;
-ghost use Rattle.cfdp_node.specs.declared.exit.Fault.{Fault};
 
-use crate::dump_line::{FrameLine, PduLine};
-use crate::exit::{Exit, Fault};
+use crate::arguments::DumpRequest;
+use crate::dump_line::{DumpedPdu, FrameLine};
+use crate::exit::Exit;
 use crate::input::{read_fault, read_script, write_fault};
 use crate::refusal::Refusal;
 use crate::words::cut_at_first;
@@ -18,7 +18,7 @@ use hex::FromHexError;
 use mpdu::read_pointer;
 use std::alloc::{AllocError, Global};
 use std::io;
-use std::io::{BufWriter, Read, Write};
+use std::io::{Read, Write};
 
 /// What the lines of a dump are to spell.
 #[derive(Clone, Copy)]
@@ -32,81 +32,53 @@ pub enum DumpKind {
 /// Reads lines of hexadecimal digits to their end, and writes for each a line that says what it
 /// spells. Lines end with a line feed, which the last needs not; an empty line is no octets.
 ///
-/// Frames have packet zones of `zone` octets, 16 to 2,040, and are told whatever their spacecraft
-/// and channel. Of PDUs `zone` says nothing.
+/// Frames have packet zones of `zone` octets and are told whatever their spacecraft and channel. Of
+/// PDUs `zone` says nothing, and of frames `long` doesn't.
 ///
-/// The answer is `Complete` whatever the lines say, and `Device` where they couldn't be read, as
-/// `read_script` says, where a line couldn't be written, or where there was no memory. Nothing is
-/// written unless all was read, and nothing is written twice.
-pub fn run_dump<R: Read + Drop, W: Write + Drop>(
+/// The answer is `Complete` whatever the lines say, once the writer is flushed. It is `Device`
+/// where they couldn't be read, as `read_script` says, where a line couldn't be written, or where
+/// there was no memory. Nothing is written unless all was read, and nothing is written twice.
+pub fn run_dump<R: Read + Drop, W: Write>(
     alloc: Global,
-    kind: DumpKind,
-    zone: u16,
-    reader: R,
-    writer: W,
-) -> Exit
-    requires { (16 ≤ zone) × (zone ≤ 2040) }
-    ensures { (result ≡ Exit.Complete) ⊎ ((fault : Fault) × (result ≡ Exit.Device fault)) }
-{
-    let Ok(mut out) = BufWriter::new(alloc, writer) else {
-        return Exit::Device(Fault::NoMemoryAtStart);
-    };
-    let fault = match dump_all(alloc, kind, zone, reader, &mut out) {
-        Err(fault) => fault,
-        Ok(()) if out.flush().is_ok() => return Exit::Complete,
-        Ok(()) => Fault::Unwritable,
-    };
-    // What is still in the buffer is let go: a `BufWriter` would write it once more.
-    let _ = out.into_parts();
-    Exit::Device(fault)
-}
-
-/// Writes a line for each line that the reader gives.
-///
-/// # Errors
-///
-/// What of reading failed, after which nothing is written, or what of writing.
-fn dump_all<R: Read + Drop, W: Write>(
-    alloc: Global,
-    kind: DumpKind,
-    zone: u16,
+    request: DumpRequest,
     reader: R,
     out: &mut W,
-) -> Result<(), Fault>
-    ensures { OnOk result (IfSome (R.remaining reader)
-        (λ text. WritesLines (TellsLine kind zone) (dumps.lines text) (W.contents out.old) (W.contents out.new))) }
+) -> Exit
+    requires { (16 ≤ request.zone) × (request.zone ≤ 2040) }
+    ensures { EndsDump request (R.remaining reader) (W.contents out.old) (W.contents out.new)
+        result }
 {
     let text = match read_script(alloc, reader) {
         Ok(text) => text,
-        Err(error) => return Err(read_fault(&error)),
+        Err(error) => return Exit::Device(read_fault(&error)),
     };
-    match write_dump(alloc, kind, zone, text.as_slice(), out) {
-        Ok(()) => Ok(()),
-        Err(error) => Err(write_fault(&error)),
+    match write_dump(alloc, request, text.as_slice(), out) {
+        Ok(()) => Exit::Complete,
+        Err(error) => Exit::Device(write_fault(&error)),
     }
 }
 
-/// Writes a line for each line of the text.
+/// Writes a line for each line of the text, and flushes the writer.
 ///
 /// # Errors
 ///
 /// That of the writer, or `OutOfMemory`.
 fn write_dump<W: Write>(
     alloc: Global,
-    kind: DumpKind,
-    zone: u16,
+    request: DumpRequest,
     text: &[u8],
     out: &mut W,
 ) -> io::Result<()>
-    ensures { OnOk result (WritesLines (TellsLine kind zone) (dumps.lines text.now) (W.contents out.old) (W.contents out.new)) }
+    ensures { OnOk result (WritesLines (TellsLine request) (dumps.lines text.now)
+        (W.contents out.old) (W.contents out.new)) }
 {
     let mut rest = text;
     while !rest.is_empty() {
         let (line, behind) = cut_line(rest);
-        write_line(alloc, kind, zone, line, out)?;
+        write_line(alloc, request, line, out)?;
         rest = behind;
     }
-    Ok(())
+    out.flush()
 }
 
 /// The first line of a text, without its line feed, and the text behind it.
@@ -129,19 +101,19 @@ fn cut_line(text: &[u8]) -> (&[u8], &[u8])
 /// That of the writer, or `OutOfMemory`.
 fn write_line<W: Write>(
     alloc: Global,
-    kind: DumpKind,
-    zone: u16,
+    request: DumpRequest,
     line: &[u8],
     out: &mut W,
 ) -> io::Result<()>
-    ensures { OnOk result (WritesLine (TellsLine kind zone line.now) (W.contents out.old) (W.contents out.new)) }
+    ensures { OnOk result (WritesLine (TellsLine request line.now)
+        (W.contents out.old) (W.contents out.new)) }
 {
     let Some(octets) = parse_hex_line(alloc, line)? else {
         return writeln!(out, "{}", Refusal::Hex);
     };
-    match kind {
-        DumpKind::Pdus => write_pdu(octets.as_slice(), out),
-        DumpKind::Frames => write_frame(octets.as_slice(), zone, out),
+    match request.kind {
+        DumpKind::Pdus => write_pdu(octets.as_slice(), request.long, out),
+        DumpKind::Frames => write_frame(octets.as_slice(), request.zone, out),
     }
 }
 
@@ -160,16 +132,18 @@ fn parse_hex_line(alloc: Global, line: &[u8]) -> Result<Option<Vec<u8>>, AllocEr
 }
 
 /// Writes which PDU the octets are, or why they are none.
-fn write_pdu<W: Write>(octets: &[u8], out: &mut W) -> io::Result<()>
-    ensures { OnOk result (WritesLine (TellsOctets DumpKind.Pdus 0 octets.now) (W.contents out.old) (W.contents out.new)) }
+pub fn write_pdu<W: Write>(octets: &[u8], long: bool, out: &mut W) -> io::Result<()>
+    ensures { OnOk result (WritesLine (TellsAsPdu long octets.now)
+        (W.contents out.old) (W.contents out.new)) }
 {
     match cfdp_directives::decode(octets) {
         Ok((header, pdu)) => writeln!(
             out,
             "{}",
-            PduLine {
-                id: header.id,
-                pdu: &pdu
+            DumpedPdu {
+                header,
+                pdu: &pdu,
+                long
             }
         ),
         Err(error) => writeln!(out, "{}", Refusal::Pdu(error)),
@@ -177,8 +151,9 @@ fn write_pdu<W: Write>(octets: &[u8], out: &mut W) -> io::Result<()>
 }
 
 /// Writes which frame the octets are, or why they are none.
-fn write_frame<W: Write>(octets: &[u8], zone: u16, out: &mut W) -> io::Result<()>
-    ensures { OnOk result (WritesLine (TellsOctets DumpKind.Frames zone octets.now) (W.contents out.old) (W.contents out.new)) }
+pub fn write_frame<W: Write>(octets: &[u8], zone: u16, out: &mut W) -> io::Result<()>
+    ensures { OnOk result (WritesLine (TellsAsFrame zone octets.now)
+        (W.contents out.old) (W.contents out.new)) }
 {
     match read_frame(octets, zone) {
         Ok(frame) => writeln!(out, "{frame}"),

@@ -1,24 +1,43 @@
-ghost use Rattle.std.specs.Prelude.{◌≤◌};
+ghost use Rattle.std.specs.Prelude.{◌≡◌, ◌≤◌};
 
+use crate::arguments::DumpRequest;
 use crate::dump::{DumpKind, run_dump};
 use std::alloc::Global;
 use std::io;
+use std::io::BufWriter;
 use std::process::Abort;
 use std::test::Fail;
+
+/// PDUs in short lines; zones are of frames alone.
+pub const PDUS: DumpRequest = DumpRequest {
+    kind: DumpKind::Pdus,
+    zone: 256,
+    long: false,
+};
+
+/// Frames with packet zones of so many octets.
+fn frames(zone: u16) -> DumpRequest
+    ensures { result.zone ≡ zone }
+{
+    DumpRequest {
+        kind: DumpKind::Frames,
+        zone,
+        long: false,
+    }
+}
 
 /// Dumps a text that is to give this one.
 fn check_dump(
     rt: &impl Abort,
     alloc: Global,
-    kind: DumpKind,
-    zone: u16,
+    request: DumpRequest,
     text: &str,
     lines: &str,
 ) -> io::Result<()>
-    requires { (16 ≤ zone) × (zone ≤ 2040) }
+    requires { (16 ≤ request.zone) × (request.zone ≤ 2040) }
 {
     let mut written = Vec::new(alloc);
-    let ended = run_dump(alloc, kind, zone, text.as_bytes(), &mut written);
+    let ended = run_dump(alloc, request, text.as_bytes(), &mut written);
     let told = String::from_utf8(written).expect(rt, "the dump is text");
     assert_eq!(rt; told.as_str(), lines, "the dump of {text}");
     assert_eq!(rt; ended.status(), 0, "the end of {text}");
@@ -98,7 +117,55 @@ error 9 Trailing
 error 10 Tlv
 error 11 Condition
 ";
-    Ok(check_dump(&rt, rt.alloc(), DumpKind::Pdus, 256, text, lines)?)
+    Ok(check_dump(&rt, rt.alloc(), PDUS, text, lines)?)
+}
+
+#[test]
+fn tells_long_lines(rt: HostRuntime) -> Result<(), Fail> {
+    // With no option, with one, with two, with fault locations of two octets and of none.
+    let text = "\
+20001213000100000001000207000000000505612E74787405622E747874
+20001613000100000001000207000000000505612E74787405622E7478740202AABB
+20001713000100000001000207000000000505612E74787405622E74787402010a0500
+3000091300010000000100020000000068656C6C6F
+20000A1300010000000100020400D7656C6C00000005
+20000E13000100000001000204F068656C6C0000000406020001
+280006130001000000010002054506020002
+28000413000100000001000205450600
+28000300010102064001
+280019130001000000010002080000000000000005000000000000000000000000000005
+2800191300010000000100020800000000000003E8000000C80000012C00000258000002BC
+280009130001000000010002080000000000000005
+2000021300010000000100020980
+2800051300010000000100020C00000064
+280003130001000000010002064001zz
+";
+    let lines = "\
+metadata 1:1 0 5 a.txt b.txt toward receiver destination 2
+metadata 1:1 0 5 a.txt b.txt toward receiver destination 2 tlv 02:AABB
+metadata 1:1 0 5 a.txt b.txt toward receiver destination 2 tlv 02:0A tlv 05:
+data 1:1 0 5 toward receiver destination 2
+eof 1:1 0 D7656C6C 5 toward receiver destination 2
+eof 1:1 15 68656C6C 4 toward receiver destination 2 fault-location 1 tlv 06:0001
+finished 1:1 4 incomplete rejected toward sender destination 2 fault-location 2 tlv 06:0002
+finished 1:1 4 incomplete rejected toward sender destination 2 tlv 06:
+ack 1:1 4 0 1 toward sender destination 2
+error 4 Length
+nak 1:1 0 1000 200-300 600-700 toward sender destination 2
+nak 1:1 0 5 toward sender destination 2
+prompt 1:1 keep toward receiver destination 2
+keepalive 1:1 100 toward sender destination 2
+error 0 Hex
+";
+    let request = DumpRequest { long: true, ..PDUS };
+    check_dump(&rt, rt.alloc(), request, text, lines)?;
+    // A frame has no long line.
+    let frame = "4A850000000007FF00000000000000000000000000000000";
+    let request = DumpRequest {
+        long: true,
+        ..frames(16)
+    };
+    Ok(check_dump(&rt, rt.alloc(), request, frame, "frame 42 5 0 2047\n")?)
 }
 
 #[test]
@@ -137,13 +204,12 @@ error 0 Hex
 error 0 Hex
 ack 1:1 4 0 1
 ";
-    check_dump(&rt, alloc, DumpKind::Pdus, 256, text, lines)?;
-    check_dump(&rt, alloc, DumpKind::Pdus, 16, "", "")?;
+    check_dump(&rt, alloc, PDUS, text, lines)?;
+    check_dump(&rt, alloc, PDUS, "", "")?;
     check_dump(
         &rt,
         alloc,
-        DumpKind::Pdus,
-        2040,
+        PDUS,
         "\n\n\r\n",
         "error 1 Short\nerror 1 Short\nerror 0 Hex\n",
     )?;
@@ -184,7 +250,7 @@ error 1 Length
 error 1 Length
 error 0 Hex
 ";
-    check_dump(&rt, alloc, DumpKind::Frames, 16, sixteen, lines)?;
+    check_dump(&rt, alloc, frames(16), sixteen, lines)?;
     let two = "\
 4A850000000000000064C000001D20001213000100000001000207000000000505612E7478740562
 4A850000010000042E74787407FFC000001500000000000000000000000000000000000000000000
@@ -192,6 +258,23 @@ error 0 Hex
 4A
 ";
     let lines = "frame 42 5 0 0\nframe 42 5 1 4\nerror 1 Length\nerror 1 Length\n";
-    check_dump(&rt, alloc, DumpKind::Frames, 32, two, lines)?;
+    check_dump(&rt, alloc, frames(32), two, lines)?;
+    Ok(())
+}
+
+#[test]
+fn writes_behind_a_buffer(rt: HostRuntime) -> Result<(), Fail> {
+    let alloc = rt.alloc();
+    let mut out = BufWriter::new(alloc, Vec::new(alloc))?;
+    let ended = run_dump(alloc, PDUS, "zz".as_bytes(), &mut out);
+    let (written, left) = out.into_parts();
+    let told = String::from_utf8(written).expect(&rt, "the dump is text");
+    assert_eq!(rt;
+        told.as_str(),
+        "error 0 Hex\n",
+        "what came through the buffer"
+    );
+    assert_eq!(rt; left.len(), 0, "what is left in it");
+    assert_eq!(rt; ended.status(), 0, "the end");
     Ok(())
 }

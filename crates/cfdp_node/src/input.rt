@@ -1,4 +1,5 @@
-ghost use Rattle.std.specs.Prelude.{◌≡◌, ◌≤◌, IfOk, IfSome, vec_len};
+ghost use Rattle.std.specs.Prelude.{◌≡◌, ◌⊎◌, ◌≤◌, IfOk, IfSome, vec_len};
+ghost use Rattle.cfdp_node.specs.Simulated.{IsOfReading};
 
 use crate::exit::Fault;
 use std::alloc::Global;
@@ -44,7 +45,9 @@ pub fn read_script<R: Read + Drop>(alloc: Global, mut reader: R) -> io::Result<V
 }
 
 /// What failed where the input was not read to its end.
-pub fn read_fault(error: &io::Error) -> Fault {
+pub fn read_fault(error: &io::Error) -> Fault
+    ensures { IsOfReading result }
+{
     match error.kind() {
         ErrorKind::OutOfMemory => Fault::NoMemoryAtStart,
         ErrorKind::FileTooLarge => Fault::TooLong,
@@ -53,7 +56,9 @@ pub fn read_fault(error: &io::Error) -> Fault {
 }
 
 /// What failed where the output was not written to its end.
-pub fn write_fault(error: &io::Error) -> Fault {
+pub fn write_fault(error: &io::Error) -> Fault
+    ensures { (result ≡ Fault.NoMemory) ⊎ (result ≡ Fault.Unwritable) }
+{
     match error.kind() {
         ErrorKind::OutOfMemory => Fault::NoMemory,
         _ => Fault::Unwritable,

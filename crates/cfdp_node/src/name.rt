@@ -46,7 +46,7 @@ fn is_plain(octet: u8) -> bool
 }
 
 /// The upper-case hexadecimal digit of a value.
-fn hex_digit(value: u8) -> char
+pub fn hex_digit(value: u8) -> char
     requires { value < 16 }
     ensures { result ≡ Rattle.cfdp_node.specs.Name.hex_digit value }
 {

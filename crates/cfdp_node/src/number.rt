@@ -1,12 +1,12 @@
 // Numbers in the words of a script.
-ghost use Rattle.std.specs.Prelude.{◌≡◌, ◌^◌, ◌<◌, ◌↔◌, length, IsSome, IfSome};
+ghost use Rattle.std.specs.Prelude.{◌≡◌, ◌<◌, ◌↔◌, length, IsSome, IfSome};
 ghost use Rattle.std.specs.Char.{digit_value};
-ghost use Rattle.std.specs.Str.Parse.{AllDigits, IsNumeral, digits_value};
+ghost use Rattle.std.specs.Str.Parse.{AllDigits, digits_value};
+ghost use Rattle.cfdp_node.specs.Numbers.{number_of};
 
 /// The number that decimal digits spell, below 2^64. Zeros may stand in front.
 pub fn parse_number(word: &[u8]) -> Option<u64>
-    ensures some { IsSome result ↔ (IsNumeral 10 word.now × (digits_value 10 word.now < 2 ^ 64)) }
-    ensures value { IfSome result (λ number. number ≡ digits_value 10 word.now) }
+    ensures { result ≡ number_of word.now }
 {
     if word.is_empty() {
         return None;

@@ -1,86 +1,59 @@
+ghost use Rattle.link_sim.specs.declared.event.Event.{Event};
+ghost use Rattle.cfdp_node.specs.Run.{HappensOften, HappensOnce, Performs};
+
 use crate::answer::Answer;
 use crate::command::Command;
-use crate::simulation::Stations;
-use cfdp_directives::Octets;
-use cfdp_entity::Call;
-use cfdp_header::TransactionId;
-use link_sim::{Applied, Event, RecoverError, Side};
-use std::alloc::Global;
+use crate::stations::Stations;
+use link_sim::{Applied, Event, RecoverError};
+use std::alloc::AllocError;
 
-/// Does what a command says.
-///
-/// # Errors
-///
-/// The first answer that isn't the work done. It ends the command.
-pub fn perform<S: Stations>(
-    alloc: Global,
-    stations: &mut S,
-    command: &Command,
-) -> Result<(), Answer> {
-    match *command {
-        Command::Put {
-            at,
-            source,
-            destination,
-        } => {
-            let source = Octets::copied(alloc, source)?;
-            let destination = Octets::copied(alloc, destination)?;
-            let event = Event::Put {
-                at,
-                source,
-                destination,
-            };
-            once(stations, &event)
-        }
-        Command::Call { at, id, call } => once(stations, &call_event(at, id, call)),
-        Command::Poll(side) => once(stations, &Event::Poll(side)),
-        Command::Flush(side) => once(stations, &Event::Flush(side)),
-        Command::Tick(at, now) => once(stations, &Event::Tick { at, now }),
-        Command::Spread(side) => Ok(stations.spread(side)?),
-        Command::Burst(side) => Ok(stations.burst(side)?),
-        Command::Deliver(side, count) => repeat(stations, &Event::Deliver(side), count),
-        Command::Strike(side, count) => repeat(stations, &Event::Strike(side), count),
+/// Does what a command says. Answers why it was not done, or not to its end: the first answer of an
+/// event that isn't that it happened ends the command.
+pub fn perform<S: Stations>(stations: &mut S, command: &Command) -> Option<Answer>
+    ensures { Performs command.now result (S.world stations.old) (S.world stations.new) }
+{
+    match command {
+        Command::Once(event) => once(stations, event),
+        Command::Repeat(event, count) => repeat(stations, event, *count),
+        Command::Spread(side) => match stations.spread(*side) {
+            Ok(()) => None,
+            Err(AllocError) => Some(Answer::NO_MEMORY),
+        },
+        Command::Burst(side) => match stations.burst(*side) {
+            Ok(()) => None,
+            Err(AllocError) => Some(Answer::NO_MEMORY),
+        },
         Command::Settle => match stations.settle() {
-            Ok(()) => Ok(()),
-            Err(error) => Err(Answer::Ended(RecoverError::Settle(error))),
+            Ok(()) => None,
+            Err(error) => Some(Answer::Ended(RecoverError::Settle(error))),
         },
         Command::Recover => match stations.recover() {
-            Ok(()) => Ok(()),
-            Err(error) => Err(Answer::Ended(error)),
+            Ok(()) => None,
+            Err(error) => Some(Answer::Ended(error)),
         },
     }
 }
 
-/// A call of a station's user on a transaction.
-fn call_event(at: Side, id: TransactionId, call: Call) -> Event {
-    match call {
-        Call::Cancel => Event::Cancel { at, id },
-        Call::Suspend => Event::Suspend { at, id },
-        Call::Resume => Event::Resume { at, id },
-        Call::Prompt(keep_alive) => Event::Prompt { at, id, keep_alive },
+/// Lets an event happen. Answers why it didn't.
+fn once<S: Stations>(stations: &mut S, event: &Event) -> Option<Answer>
+    ensures { HappensOnce event.now result (S.world stations.old) (S.world stations.new) }
+{
+    match stations.apply(event) {
+        Ok(Applied::Applied) => None,
+        Ok(Applied::Nothing) => Some(Answer::Nothing),
+        Ok(Applied::Refused(refusal)) => Some(Answer::Refused(refusal)),
+        Err(AllocError) => Some(Answer::NO_MEMORY),
     }
 }
 
-/// Applies an event. Answers whether there was something to do.
-fn happens<S: Stations>(stations: &mut S, event: &Event) -> Result<bool, Answer> {
-    match stations.apply(event)? {
-        Applied::Applied => Ok(true),
-        Applied::Nothing => Ok(false),
-        Applied::Refused(refusal) => Err(Answer::Refused(refusal)),
-    }
-}
-
-fn once<S: Stations>(stations: &mut S, event: &Event) -> Result<(), Answer> {
-    if happens(stations, event)? {
-        Ok(())
-    } else {
-        Err(Answer::Nothing)
-    }
-}
-
-fn repeat<S: Stations>(stations: &mut S, event: &Event, count: u64) -> Result<(), Answer> {
+/// Lets an event happen so many times. Answers why it didn't.
+fn repeat<S: Stations>(stations: &mut S, event: &Event, count: u64) -> Option<Answer>
+    ensures { HappensOften event.now count result (S.world stations.old) (S.world stations.new) }
+{
     for _ in 0..count {
-        once(stations, event)?;
+        if let Some(answer) = once(stations, event) {
+            return Some(answer);
+        }
     }
-    Ok(())
+    None
 }

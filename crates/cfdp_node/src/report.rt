@@ -1,17 +1,25 @@
-ghost use Rattle.std.specs.Prelude.{Some, OnOk};
+ghost use Rattle.std.specs.BTreeMap.{IsOrdered};
+ghost use Rattle.std.specs.Cmp.Lexicographic.{slice_cmp};
+ghost use Rattle.std.specs.FinMap.{entries};
 ghost use Rattle.std.specs.Io.KnownBytes.{Appends};
 ghost use Rattle.std.specs.List.{flat_map};
-ghost use Rattle.cfdp_node.specs.Report.{indication_line, indication_text, told_text};
+ghost use Rattle.std.specs.Ordering.{nat_cmp};
+ghost use Rattle.std.specs.Prelude.{◌≡◌, ◌≤◌, Some, OnOk, count_by, map};
+ghost use Rattle.cfdp_directives.specs.Checksum.{modular_checksum};
+ghost use Rattle.cfdp_node.specs.Run as runs;
+ghost use Rattle.cfdp_node.specs.Report.{answer_line, inbox_line, indication_line, indication_text, is_own_completion, puts_asked, puts_completed, report_text, told_text};
 
-use crate::answer::Answer;
+use crate::answer::Answered;
+use crate::command::Command;
 use crate::dump_line::HexNumber;
 use crate::name::Name;
 use crate::script::Step;
-use crate::simulation::Stations;
+use crate::stations::Stations;
 use crate::wording::{Id, delivery_word, status_word};
 use cfdp_directives::{Checksum, Delivery, FileStatus, Indication};
 use cfdp_store::Files;
-use link_sim::Side;
+use link_sim::{Event, Side};
+use std::collections::BTreeMap;
 use std::io::Write;
 use std::{fmt, io};
 
@@ -19,9 +27,22 @@ use std::{fmt, io};
 #[derive(Clone, Copy)]
 pub struct Tally {
     /// Those that were completed, by what their sender was told.
-    pub complete: usize,
+    pub complete: u128,
     /// All of them, refused ones too.
     pub asked: usize,
+}
+
+impl Tally {
+    /// The count of puts after a script, and of those that were completed.
+    pub fn of<S: Stations>(stations: &S, steps: &[Step]) -> Tally
+        ensures complete { result.complete ≡ puts_completed (S.world stations.now) }
+        ensures asked { result.asked ≡ puts_asked steps.now }
+    {
+        Tally {
+            complete: completed_puts(stations),
+            asked: asked_puts(steps),
+        }
+    }
 }
 
 /// Writes the report of a run: what each command answered, what each station indicated, the files
@@ -30,18 +51,17 @@ pub struct Tally {
 /// # Errors
 ///
 /// That of the writer.
-pub fn write_report<S: Stations>(
-    out: &mut impl Write,
-    steps: &[Step],
-    answers: &[Option<Answer>],
+pub fn write_report<S: Stations, W: Write>(
+    out: &mut W,
+    answered: &[Answered],
     stations: &S,
     tally: Tally,
-) -> io::Result<()> {
-    for (step, answer) in steps.iter().zip(answers) {
-        if let Some(answer) = answer {
-            writeln!(out, "line {} {answer}", step.line)?;
-        }
-    }
+) -> io::Result<()>
+    requires { tally.complete ≡ puts_completed (S.world stations.now) }
+    ensures { OnOk result (Appends (W.contents out.old) (W.contents out.new)
+        (report_text tally.asked answered.now (S.world stations.now))) }
+{
+    write_answers(out, answered)?;
     write_indications(out, 1, stations.indications(Side::One))?;
     write_indications(out, 2, stations.indications(Side::Two))?;
     write_inbox(out, 1, stations.inbox(Side::One))?;
@@ -49,7 +69,28 @@ pub fn write_report<S: Stations>(
     writeln!(out, "complete {} of {}", tally.complete, tally.asked)
 }
 
-fn write_indications<W: Write>(out: &mut W, station: u8, all: &[Indication]) -> io::Result<()>
+/// Writes a line for each command that has an answer.
+fn write_answers<W: Write>(out: &mut W, answered: &[Answered]) -> io::Result<()>
+    ensures { OnOk result (Appends (W.contents out.old) (W.contents out.new)
+        (flat_map answer_line answered.now)) }
+{
+    for done in answered {
+        write_answer(out, *done)?;
+    }
+    Ok(())
+}
+
+/// Writes the line of a command, where it has an answer.
+fn write_answer<W: Write>(out: &mut W, done: Answered) -> io::Result<()>
+    ensures { OnOk result (Appends (W.contents out.old) (W.contents out.new) (answer_line done)) }
+{
+    match done.answer {
+        Some(answer) => writeln!(out, "line {} {answer}", done.line),
+        None => Ok(()),
+    }
+}
+
+pub fn write_indications<W: Write>(out: &mut W, station: u8, all: &[Indication]) -> io::Result<()>
     ensures { OnOk result (Appends (W.contents out.old) (W.contents out.new)
         (flat_map (indication_line station) all.now)) }
 {
@@ -128,44 +169,103 @@ impl fmt::Display for ToldWords<'_> {
     }
 }
 
-fn write_inbox(out: &mut impl Write, station: u8, inbox: &Files) -> io::Result<()> {
-    for (name, octets) in inbox.entries().iter() {
+/// Writes a line for each file of an inbox, in ascending order of their names.
+pub fn write_inbox<W: Write>(out: &mut W, station: u8, inbox: &Files) -> io::Result<()>
+    ensures { OnOk result (Appends (W.contents out.old) (W.contents out.new)
+        (flat_map (inbox_line station) (entries inbox.now))) }
+{
+    write_files(out, station, inbox.entries())
+}
+
+/// Writes a line for each of these files.
+fn write_files<W: Write>(
+    out: &mut W,
+    station: u8,
+    files: &BTreeMap<Vec<u8>, Vec<u8>>,
+) -> io::Result<()>
+    ensures written { OnOk result (Appends (W.contents out.old) (W.contents out.new)
+        (flat_map (inbox_line station) (map (λ e. (e.0.items, e.1.items)) files.now.entries))) }
+    ensures ordered { IsOrdered (λ a b. slice_cmp nat_cmp a.items b.items) files.now }
+{
+    for (name, octets) in files.iter() {
         write_file(out, station, name.as_slice(), octets.as_slice())?;
     }
     Ok(())
 }
 
-fn write_file(out: &mut impl Write, station: u8, name: &[u8], octets: &[u8]) -> io::Result<()> {
-    let mut checksum = Checksum::new();
-    checksum.add(0, octets);
-    let (name, sum) = (Name(name), HexNumber(checksum.value()));
+/// Writes the line of a file.
+fn write_file<W: Write>(out: &mut W, station: u8, name: &[u8], octets: &[u8]) -> io::Result<()>
+    ensures { OnOk result (Appends (W.contents out.old) (W.contents out.new)
+        (inbox_line station (name.now, octets.now))) }
+{
+    let (name, sum) = (Name(name), HexNumber(checksum(octets)));
     writeln!(out, "inbox {station} {name} {} {sum}", octets.len())
 }
 
-/// How many of the accepted puts were completed: those of which their sender was told so, once each.
-pub fn completed_puts<S: Stations>(stations: &S) -> usize {
-    told_complete(stations, Side::One).saturating_add(told_complete(stations, Side::Two))
+/// The modular checksum of a file.
+#[tactic(auto, using(cfdp_directives::proofs::Sums::whole_words))]
+fn checksum(octets: &[u8]) -> u32
+    ensures { result ≡ modular_checksum octets.now }
+{
+    let mut checksum = Checksum::new();
+    checksum.add(0, octets);
+    checksum.value()
 }
 
-/// Of how many of its own transactions a station was told that they are over with no error, with
-/// the file complete and retained.
-fn told_complete<S: Stations>(stations: &S, sender: Side) -> usize {
-    stations
-        .indications(sender)
-        .iter()
-        .filter(|indication| match indication {
-            Indication::Finished {
-                id,
-                condition,
-                delivery,
-                status,
-            } => {
-                id.source == sender.entity()
-                    && condition.code() == 0
-                    && *delivery == Delivery::Complete
-                    && *status == FileStatus::Retained
-            }
-            _ => false,
-        })
+/// How many of the accepted puts were completed: those of which their sender was told so.
+fn completed_puts<S: Stations>(stations: &S) -> u128
+    ensures { result ≡ puts_completed (S.world stations.now) }
+{
+    // Two counts of elements may have no `usize` as their sum, as far as the prover knows.
+    let one = own_completions(1, stations.indications(Side::One));
+    let two = own_completions(2, stations.indications(Side::Two));
+    one as u128 + two as u128
+}
+
+/// Of how many of its own transactions a station was told that its file was delivered.
+fn own_completions(station: u64, told: &[Indication]) -> usize
+    ensures { result ≡ count_by (is_own_completion station) told.now }
+{
+    told.iter()
+        .filter(|indication| completes_own(station, indication))
         .count()
+}
+
+/// Whether a station is told by this that a transaction of its own is over with no error, with the
+/// file complete and retained.
+fn completes_own(station: u64, told: &Indication) -> bool
+    ensures { result ≡ is_own_completion station told.now }
+{
+    match told {
+        Indication::Finished {
+            id,
+            condition,
+            delivery: Delivery::Complete,
+            status: FileStatus::Retained,
+        } => condition.code() == 0 && id.source == station,
+        _ => false,
+    }
+}
+
+/// How many of the commands are puts.
+fn asked_puts(steps: &[Step]) -> usize
+    ensures { result ≡ puts_asked steps.now }
+{
+    let mut count = 0;
+    for step in steps {
+        count += puts_in(step);
+    }
+    count
+}
+
+/// How many files a command asks a station to send: one or none.
+#[tactic(auto, unfolding(crate::specs::Run::puts_in))]
+fn puts_in(step: &Step) -> usize
+    ensures same { result ≡ runs.puts_in step.now }
+    ensures one { result ≤ 1 }
+{
+    match &step.command {
+        Command::Once(Event::Put { .. }) => 1,
+        _ => 0,
+    }
 }

@@ -1,28 +1,33 @@
-ghost use Rattle.std.specs.Prelude.{◌≤◌, length, IfOk};
+ghost use Rattle.std.specs.Prelude.{◌≡◌, ◌≤◌, None, Some, length, option_map, IfOk, IfErr, OnOk};
 ghost use Rattle.link_sim.specs.WorldConfig.{IsWorldConfig};
+ghost use Rattle.cfdp_node.specs.Settings.{world_of};
+ghost use Rattle.cfdp_node.specs.Words.{parts};
+ghost use Rattle.cfdp_node.specs.Script as scripts;
+ghost use Rattle.cfdp_node.specs.Script.{files_of, steps_of, settings_of, line_of, numbered, IsFirst};
+ghost use Rattle.cfdp_node.specs.Gathering.{gathered, noted, taken, read_into, gather};
 
-use crate::command::{Command, FileLine, Line, LineError, parse_line};
+use crate::command::{Command, FileLine, Line, LineError, Unread, parse_line};
 use crate::input::MAX_SCRIPT;
-use crate::settings::Settings;
+use crate::settings::{Setting, Settings};
 use crate::words::cut_at_first;
 use link_sim::WorldConfig;
 use std::alloc::{AllocError, Global};
 
 /// A script, read to its end.
 #[derive(Drop)]
-pub struct Script<'a> {
-    pub files: Vec<FileLine<'a>>,
-    pub steps: Vec<Step<'a>>,
+pub struct Script {
+    pub files: Vec<FileLine>,
+    pub steps: Vec<Step>,
     settings: Settings,
     last_set: usize,
     first_bad: Option<BadLine>,
 }
 
 /// A command and the number of its line. The first line is 1.
-#[derive(Clone, Copy)]
-pub struct Step<'a> {
+#[derive(Drop)]
+pub struct Step {
     pub line: usize,
-    pub command: Command<'a>,
+    pub command: Command,
 }
 
 /// A bad line of a script, by its number. The first line is 1.
@@ -32,14 +37,20 @@ pub struct BadLine {
     pub error: LineError,
 }
 
-impl<'a> Script<'a> {
+impl Script {
     /// Reads all lines of this text.
     ///
     /// # Errors
     ///
     /// `AllocError` where there is no memory. `config` tells whether a line is bad.
-    pub fn parse(alloc: Global, text: &'a [u8]) -> Result<Script<'a>, AllocError>
+    pub fn parse(alloc: Global, text: &[u8]) -> Result<Script, AllocError>
         requires { length text.now ≤ MAX_SCRIPT }
+        ensures files { IfOk result (λ script. script.files.items ≡ files_of text.now) }
+        ensures steps { IfOk result (λ script. script.steps.items ≡ steps_of text.now) }
+        ensures settings { IfOk result (λ script. script.settings ≡ settings_of text.now) }
+        ensures last { IfOk result (λ script. script.last_set ≡ scripts.last_set text.now) }
+        ensures misread { IfOk result (λ script. option_map (λ bad. bad.line) script.first_bad
+            ≡ scripts.first_misread text.now) }
     {
         let mut script = Script {
             files: Vec::new(alloc),
@@ -48,42 +59,90 @@ impl<'a> Script<'a> {
             last_set: 0,
             first_bad: None,
         };
-        script.take_lines(text)?;
+        script.take_lines(alloc, text)?;
         Ok(script)
     }
 
-    fn take_lines(&mut self, text: &'a [u8]) -> Result<(), AllocError>
+    fn take_lines(&mut self, alloc: Global, text: &[u8]) -> Result<(), AllocError>
         requires { length text.now ≤ MAX_SCRIPT }
+        ensures { OnOk result (gathered self.new
+            ≡ gather (gathered self.old) (numbered 1 (parts 10 text.now))) }
     {
         let mut line = 0;
         let mut rest = Some(text);
         while let Some(lines) = rest {
             line += 1;
             let (first, behind) = cut_at_first(lines, b'\n');
-            if !first.is_empty() && first[0] != b'#' {
-                self.take_line(line, first)?;
-            }
+            self.take_line(alloc, line, first)?;
             rest = behind;
         }
         Ok(())
     }
 
-    fn take_line(&mut self, line: usize, text: &'a [u8]) -> Result<(), AllocError> {
-        match parse_line(text) {
-            Ok(Line::Command(command)) => self.steps.push(Step { line, command })?,
-            Ok(_) if !self.steps.is_empty() => self.note(line, LineError::TooLate),
-            Ok(Line::File(file)) => self.files.push(file)?,
-            Ok(Line::Set(setting, value)) => {
-                self.settings.set(setting, value);
-                self.last_set = line;
+    fn take_line(&mut self, alloc: Global, line: usize, text: &[u8]) -> Result<(), AllocError>
+        ensures { OnOk result (gathered self.new ≡ read_into (gathered self.old) line text.now) }
+    {
+        if is_skipped(text) {
+            return Ok(());
+        }
+        match parse_line(alloc, text) {
+            Ok(meant) => self.take(line, meant),
+            Err(Unread::NoMemory) => Err(AllocError),
+            Err(Unread::Bad(error)) => {
+                self.note(line, explained(text, error));
+                Ok(())
             }
-            Err(_) if text.ends_with(b"\r") => self.note(line, LineError::CarriageReturn),
-            Err(error) => self.note(line, error),
+        }
+    }
+
+    fn take(&mut self, line: usize, meant: Line) -> Result<(), AllocError>
+        ensures { OnOk result (gathered self.new ≡ taken (gathered self.old) line (Some meant)) }
+    {
+        match meant {
+            Line::Command(command) => self.take_command(line, command),
+            Line::File(file) => self.take_file(line, file),
+            Line::Set(setting, value) => {
+                self.take_set(line, setting, value);
+                Ok(())
+            }
+        }
+    }
+
+    fn take_command(&mut self, line: usize, command: Command) -> Result<(), AllocError>
+        ensures { OnOk result (gathered self.new
+            ≡ taken (gathered self.old) line (Some (Line.Command command))) }
+    {
+        self.steps.push(Step { line, command })?;
+        Ok(())
+    }
+
+    fn take_file(&mut self, line: usize, file: FileLine) -> Result<(), AllocError>
+        ensures { OnOk result (gathered self.new
+            ≡ taken (gathered self.old) line (Some (Line.File file))) }
+    {
+        if self.steps.is_empty() {
+            self.files.push(file)?;
+        } else {
+            self.note(line, LineError::TooLate);
         }
         Ok(())
     }
 
-    fn note(&mut self, line: usize, error: LineError) {
+    fn take_set(&mut self, line: usize, setting: Setting, value: u64)
+        ensures { gathered self.new ≡ taken (gathered self.old) line (Some (Line.Set setting value)) }
+    {
+        if self.steps.is_empty() {
+            self.settings.set(setting, value);
+            self.last_set = line;
+        } else {
+            self.note(line, LineError::TooLate);
+        }
+    }
+
+    /// Keeps which line is the first that is misread.
+    fn note(&mut self, line: usize, error: LineError)
+        ensures { gathered self.new ≡ noted (gathered self.old) line }
+    {
         if self.first_bad.is_none() {
             self.first_bad = Some(BadLine { line, error });
         }
@@ -95,7 +154,12 @@ impl<'a> Script<'a> {
     ///
     /// The first bad line. One that leaves a configuration that isn't valid is the last `set`.
     pub fn config(&self) -> Result<WorldConfig, BadLine>
-        ensures { IfOk result IsWorldConfig }
+        ensures valid { IfOk result IsWorldConfig }
+        ensures same { IfOk result (λ config. config ≡ world_of self.now.settings) }
+        ensures good { OnOk result (IsFirst (option_map (λ bad. bad.line) self.now.first_bad)
+            self.now.last_set self.now.settings None) }
+        ensures bad { IfErr result (λ told. IsFirst (option_map (λ bad. bad.line) self.now.first_bad)
+            self.now.last_set self.now.settings (Some told.line)) }
     {
         let Some(config) = self.settings.config() else {
             return Err(self.bad_configuration());
@@ -107,7 +171,10 @@ impl<'a> Script<'a> {
     }
 
     /// The first bad line, where the last `set` is one.
-    fn bad_configuration(&self) -> BadLine {
+    fn bad_configuration(&self) -> BadLine
+        ensures { result.line ≡ scripts.earlier (option_map (λ bad. bad.line) self.now.first_bad)
+            self.now.last_set }
+    {
         let line = self.last_set;
         match self.first_bad {
             Some(bad) if bad.line < line => bad,
@@ -116,5 +183,21 @@ impl<'a> Script<'a> {
                 error: LineError::BadConfiguration,
             },
         }
+    }
+}
+
+/// Whether a line has no meaning of its own: it is empty, or begins with `#`.
+fn is_skipped(line: &[u8]) -> bool
+    ensures { result ≡ scripts.is_skipped line.now }
+{
+    line.is_empty() || line[0] == b'#'
+}
+
+/// Why a line is bad, where it was read as far as this fault.
+fn explained(line: &[u8], error: LineError) -> LineError {
+    if line.ends_with(b"\r") {
+        LineError::CarriageReturn
+    } else {
+        error
     }
 }

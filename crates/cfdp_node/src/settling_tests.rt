@@ -80,7 +80,7 @@ pub fn add_tick(script: &mut String, number: u64, now: u64) -> Result<(), AllocE
 }
 
 /// What a script reports, and how it ends.
-fn report_of(rt: &impl Abort, alloc: Global, script: &str) -> (String, Exit) {
+pub fn report_of(rt: &impl Abort, alloc: Global, script: &str) -> (String, Exit) {
     let mut written = Vec::new(alloc);
     let exit = run_sim(alloc, script.as_bytes(), &mut written);
     (

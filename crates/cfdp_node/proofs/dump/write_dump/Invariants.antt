@@ -6,7 +6,7 @@ use Rattle.cfdp_node.proofs.dump.write_dump.Given as goal
 -- the lines in front of what is left are told
 abbrev pub invariant-loop-rest : goal.invariant-loop-rest
 invariant-loop-rest g l =
-    WritesFront (TellsLine l.kind l.zone) l.text l.rest (g.W.Write.contents l.initial.out) (g.W.Write.contents l.out)
+    WritesFront (TellsLine l.request) l.text l.rest (g.W.Write.contents l.initial.out) (g.W.Write.contents l.out)
 
 -- what is left gets shorter
 abbrev pub decreases-loop-rest : goal.decreases-loop-rest

@@ -8,4 +8,4 @@ use Rattle.cfdp_node.proofs.dump.write_line.Goals as goal
 pub returns-in_default : goal.returns-in_default
 returns-in_default g c =
     let none : None ≡ hex_octets c.args.line.now = rw c.in_default.is at c.in_ok-octets.ensures in
-    line_is_written (TellsLine c.args.kind c.args.zone c.args.line.now) _ (refusal_text Hex) _ _ (rw (← none) refl) c.writeln.ensures.bytes
+    line_is_written (TellsLine c.args.request c.args.line.now) _ (refusal_text Hex) _ _ (rw (← none) refl) c.writeln.ensures.bytes

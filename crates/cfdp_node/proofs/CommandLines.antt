@@ -1,0 +1,82 @@
+-- What command lines ask for, worked out: rows of the definitions in specs/Request.
+use Rattle.std.proofs.Common.{◌≡◌, true, false, List, [], ◌∷◌, codes, None, Some, refl}
+use Rattle.clap.specs.Walk.{Text}
+use Rattle.clap.specs.declared.error.kind.ErrorKind.TheVariants.{DisplayHelp, DisplayHelpOnMissingArgumentOrSubcommand, InvalidValue, MissingRequiredArgument, UnknownArgument, ValueValidation}
+use Rattle.clap.proofs.OnLiterals.{clap_on_literals}
+use Rattle.cfdp_node.specs.Request.{asked_of, dump, refusals, sim, version}
+use Rattle.cfdp_node.specs.declared.dump.DumpKind.TheVariants.{Pdus, Frames}
+
+-- words behind the program's name
+abbrev line : List Text → List Text
+line words = codes "cfdp_node" ∷ words
+
+-- ---- sim
+
+plain_sim : (refusals (line (codes "sim" ∷ [])) ≡ []) × (asked_of (line (codes "sim" ∷ [])) ≡ Some (sim false false None))
+unfolding clap_on_literals
+plain_sim = (refl, refl)
+
+explained : (refusals (line (codes "sim" ∷ codes "--explain" ∷ [])) ≡ [])
+    × (asked_of (line (codes "sim" ∷ codes "--explain" ∷ [])) ≡ Some (sim true false None))
+unfolding clap_on_literals
+explained = (refl, refl)
+
+traced : (refusals (line (codes "sim" ∷ codes "--pcap" ∷ codes "a" ∷ codes "--trace" ∷ [])) ≡ [])
+    × (asked_of (line (codes "sim" ∷ codes "--pcap" ∷ codes "a" ∷ codes "--trace" ∷ [])) ≡ Some (sim false true (Some (codes "a"))))
+unfolding clap_on_literals
+traced = (refl, refl)
+
+-- ---- dump
+
+plain_pdus : (refusals (line (codes "dump" ∷ codes "pdus" ∷ [])) ≡ []) × (asked_of (line (codes "dump" ∷ codes "pdus" ∷ [])) ≡ Some (dump Pdus 256 false))
+unfolding clap_on_literals
+plain_pdus = (refl, refl)
+
+plain_frames : (refusals (line (codes "dump" ∷ codes "frames" ∷ [])) ≡ [])
+    × (asked_of (line (codes "dump" ∷ codes "frames" ∷ [])) ≡ Some (dump Frames 256 false))
+unfolding clap_on_literals
+plain_frames = (refl, refl)
+
+zoned_frames : (refusals (line (codes "dump" ∷ codes "frames" ∷ codes "--zone" ∷ codes "300" ∷ [])) ≡ [])
+    × (asked_of (line (codes "dump" ∷ codes "frames" ∷ codes "--zone" ∷ codes "300" ∷ [])) ≡ Some (dump Frames 300 false))
+unfolding clap_on_literals
+zoned_frames = (refl, refl)
+
+long_pdus : (refusals (line (codes "dump" ∷ codes "--long" ∷ codes "pdus" ∷ [])) ≡ [])
+    × (asked_of (line (codes "dump" ∷ codes "--long" ∷ codes "pdus" ∷ [])) ≡ Some (dump Pdus 256 true))
+unfolding clap_on_literals
+long_pdus = (refl, refl)
+
+-- ---- the program alone, and mistakes
+
+alone : refusals (line []) ≡ DisplayHelpOnMissingArgumentOrSubcommand ∷ []
+unfolding clap_on_literals
+alone = refl
+
+only_version : (refusals (line (codes "--version" ∷ [])) ≡ []) × (asked_of (line (codes "--version" ∷ [])) ≡ Some version)
+unfolding clap_on_literals
+only_version = (refl, refl)
+
+helped : refusals (line (codes "dump" ∷ codes "--help" ∷ [])) ≡ DisplayHelp ∷ []
+unfolding clap_on_literals
+helped = refl
+
+no_kind : refusals (line (codes "dump" ∷ [])) ≡ MissingRequiredArgument ∷ []
+unfolding clap_on_literals
+no_kind = refl
+
+other_kind : refusals (line (codes "dump" ∷ codes "pdu" ∷ [])) ≡ InvalidValue ∷ []
+unfolding clap_on_literals
+other_kind = refl
+
+small_zone : refusals (line (codes "dump" ∷ codes "frames" ∷ codes "--zone" ∷ codes "15" ∷ [])) ≡ ValueValidation ∷ []
+unfolding clap_on_literals
+small_zone = refl
+
+large_zone : refusals (line (codes "dump" ∷ codes "frames" ∷ codes "--zone" ∷ codes "2041" ∷ [])) ≡ ValueValidation ∷ []
+unfolding clap_on_literals
+large_zone = refl
+
+flag_of_another : refusals (line (codes "sim" ∷ codes "--long" ∷ [])) ≡ UnknownArgument ∷ []
+unfolding clap_on_literals
+flag_of_another = refl

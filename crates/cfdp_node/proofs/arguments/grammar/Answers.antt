@@ -1,0 +1,9 @@
+use Rattle.std.proofs.lemmas.Result.{IfOk-weaker}
+use Rattle.cfdp_node.proofs.CommandWords.{joined}
+use Rattle.cfdp_node.proofs.arguments.grammar.Goals as goal
+
+pub returns : goal.returns
+returns c =
+    IfOk-weaker c.subcommand-2.result _ _
+    (λ all two. joined c.in_ok-top.top c.in_ok-sim.sim c.in_ok-dump.dump c.in_ok-subcommand.field-0 all c.in_ok-top.ensures c.in_ok-sim.ensures c.in_ok-dump.ensures c.in_ok-subcommand.ensures two)
+    c.subcommand-2.ensures
