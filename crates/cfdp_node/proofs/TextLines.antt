@@ -4,24 +4,16 @@ use Rattle.std.proofs.lemmas.List.{append_assoc}
 use Rattle.std.specs.List.{All, AllZip, flat_map}
 use Rattle.std.specs.Result.{OnOk}
 use Rattle.std.specs.Io.KnownBytes.{Appends, Keeps}
+use Rattle.std.proofs.KnownBytes.{Appends-kept, Appends-nil, Appends-trans}
 use Rattle.std.proofs.lemmas.List.Elements.{All-head, All-tail}
 use Rattle.std.proofs.lemmas.List.{flat_map_more}
 use Rattle.std.proofs.lemmas.Bool.{ne_eqb}
-use Rattle.cfdp_node.specs.Dump.{lines, onto_first_line, as_line, WritesLine, WritesLines}
-
-Appends-nil : (a : Option (List ℕ)) → Appends a a []
-Appends-nil None = tt
-Appends-nil (Some x) = sym (append-nil x)
-
-Appends-trans : (a b c : Option (List ℕ)) (bs cs : List ℕ) → Appends a b bs → Appends b c cs → Appends a c (bs ++ cs)
-Appends-trans None b c bs cs p q = tt
-Appends-trans (Some x) None c bs cs p q = absurd p
-Appends-trans (Some x) (Some y) None bs cs p q = absurd q
-Appends-trans (Some x) (Some y) (Some z) bs cs p q = q ∙ ap (λ l. l ++ cs) p ∙ append_assoc x bs cs
+use Rattle.cfdp_node.specs.Dump.{lines, as_line, WritesLine, WritesLines}
+use Rattle.cfdp_node.specs.Words.{onto_first}
 
 -- a line ends at its line feed
 lines-ended : (line rest : List ℕ) → All (λ octet. octet ≢ 10) line → lines (line ++ 10 ∷ rest) ≡ line ∷ lines rest
-unfolding lines onto_first_line
+unfolding lines onto_first
 lines-ended [] rest none = refl
 lines-ended (octet ∷ line) rest none =
     let more = lines-ended line rest (All-tail (λ x. x ≢ 10) octet line none) in
@@ -30,7 +22,7 @@ lines-ended (octet ∷ line) rest none =
 
 -- the last line may lack one
 lines-last : (octet : ℕ) (line : List ℕ) → All (λ x. x ≢ 10) (octet ∷ line) → lines (octet ∷ line) ≡ (octet ∷ line) ∷ []
-unfolding lines onto_first_line
+unfolding lines onto_first
 lines-last octet [] none =
     let other : (octet == 10) ≡ false = ne_eqb octet 10 (All-head (λ x. x ≢ 10) octet [] none) in
     rw other refl
@@ -97,21 +89,13 @@ pub line_is_written : {E : Type 0} (P : List ℕ → Type 0) (r : Result (Unit {
 line_is_written P (Ok x) text old new such written = record { text = text; such = such; written = written }
 line_is_written P (Err e) text old new such written = tt
 
--- a flush keeps what was written
-Appends-kept : (a b c : Option (List ℕ)) (bs : List ℕ) → Appends a b bs → Keeps b c → Appends a c bs
-Appends-kept None b c bs p k = tt
-Appends-kept (Some x) None c bs p k = absurd p
-Appends-kept (Some x) (Some y) None bs p k = absurd k
-Appends-kept (Some x) (Some y) (Some z) bs p k = k ∙ p
-
-pub all_flushed : {E : Type 0} (P : List ℕ → List ℕ → Type 0) (r : Result (Unit {0}) E) (ls : List (List ℕ)) (old mid new : Option (List ℕ))
-    → WritesLines P ls old mid → Keeps mid new → OnOk r (WritesLines P ls old new)
-all_flushed P (Ok x) ls old mid new all kept = record {
+-- lines that were written stay so where what the writer holds is kept
+pub lines_kept : (P : List ℕ → List ℕ → Type 0) (ls : List (List ℕ)) (old mid new : Option (List ℕ)) → WritesLines P ls old mid → Keeps mid new → WritesLines P ls old new
+lines_kept P ls old mid new all kept = record {
   texts = all.texts;
   each = all.each;
   written = Appends-kept old mid new (flat_map as_line all.texts) all.written kept;
 }
-all_flushed P (Err e) ls old mid new all kept = tt
 
 -- what a call writes stands behind what was written before
 pub appends_behind : {E : Type 0} (r : Result (Unit {0}) E) (a b c : Option (List ℕ)) (bs cs : List ℕ) → Appends a b bs → OnOk r (Appends b c cs) → OnOk r (Appends a c (bs ++ cs))

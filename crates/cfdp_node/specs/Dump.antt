@@ -2,7 +2,7 @@
 use Rattle.std.specs.Prelude.{◌≡◌, ◌⊎◌, ⊤, ℕ, ◌-◌, ◌/◌, ◌%◌, ◌==◌, Bool, true, List, [], ◌∷◌, ◌++◌, codes, decimal, drop, length, replicate, if◌then◌else◌, Option, None, Some, IfSome, MatchOption}
 use Rattle.std.specs.List.{flat_map, AllZip}
 use Rattle.std.specs.Result.{result_ok}
-use Rattle.std.specs.Io.KnownBytes.{Appends}
+use Rattle.std.specs.Io.KnownBytes.{Appends, Keeps}
 use Rattle.std.specs.Fmt.{digits}
 use Rattle.hex.specs.Hex.{decode_of}
 use Rattle.cfdp_header.specs.declared.value.Header.{Header}
@@ -29,6 +29,7 @@ use Rattle.cfdp_node.specs.declared.exit.Fault.TheVariants.{NoMemory, Unwritable
 use Rattle.cfdp_node.specs.Name.{hex_digit, printed_octet}
 use Rattle.cfdp_node.specs.Refusal.{refusal_text}
 use Rattle.cfdp_node.specs.Wording.{id_text, delivery_word, status_word}
+use Rattle.cfdp_node.specs.Words.{onto_first}
 
 -- a number as eight upper-case hexadecimal digits
 abbrev pub hex_number_text : ℕ → List ℕ
@@ -112,15 +113,10 @@ abbrev pub frame_text : FrameHeader → ℕ → List ℕ
 frame_text h pointer =
     codes "frame " ++ decimal h.spacecraft ++ codes " " ++ decimal h.channel ++ codes " " ++ decimal h.count ++ codes " " ++ decimal pointer
 
--- an octet in front of the first line
-unfoldable pub onto_first_line : ℕ → List (List ℕ) → List (List ℕ)
-onto_first_line octet [] = (octet ∷ []) ∷ []
-onto_first_line octet (line ∷ rest) = (octet ∷ line) ∷ rest
-
 -- the lines of a text: each ends with a line feed, which the last needs not
 unfoldable pub lines : List ℕ → List (List ℕ)
 lines [] = []
-lines (octet ∷ rest) = if octet == 10 then [] ∷ lines rest else onto_first_line octet (lines rest)
+lines (octet ∷ rest) = if octet == 10 then [] ∷ lines rest else onto_first octet (lines rest)
 
 -- The octets are a PDU, and this text says which.
 pub record TellsPdu (long : Bool) (octets text : List ℕ) : Type 0 where
@@ -186,11 +182,10 @@ pub record WritesLines (P : List ℕ → List ℕ → Type 0) (lines_read : List
   pub written : Appends old new (flat_map as_line texts)
 
 -- How a dump ends, by what the reader has left and what the writer holds before and after. Complete
--- says that each line was told, and the writer itself has the words. Where the lines couldn't be
--- read, nothing is written.
+-- says that each line was told. Where the lines couldn't be read, nothing is written.
 abbrev pub EndsDump : DumpRequest → (left old new : Option (List ℕ)) → Exit → Type 0
 EndsDump request left old new Complete = IfSome left (λ text. WritesLines (TellsLine request) (lines text) old new)
 EndsDump request left old new (Device Unwritable) = ⊤
 EndsDump request left old new (Device NoMemory) = ⊤
-EndsDump request left old new (Device fault) = new ≡ old
+EndsDump request left old new (Device fault) = Keeps old new
 EndsDump request left old new _ = ⊥

@@ -1,11 +1,13 @@
 //! What lines of hexadecimal digits spell.
 ghost use Rattle.std.specs.Prelude.{◌≡◌, ◌≢◌, ◌<◌, ◌≤◌, ◌∷◌, drop, length, IfOk, OnOk};
+ghost use Rattle.std.specs.Io.Buffered.{writer_buffer, writer_contents};
 ghost use Rattle.std.specs.Result.{result_err};
 ghost use Rattle.std.specs.Option.{option_map};
 ghost use Rattle.aos_frame.specs.Frame.{SpellsFrame, frame_fault, own_link};
 ghost use Rattle.mpdu.specs.MpduHeader.{pointer_of};
 ghost use Rattle.cfdp_node.specs.Dump.{EndsDump, hex_octets, TellsAsFrame, TellsAsPdu, TellsLine, WritesLine, WritesLines};
 ghost use Rattle.cfdp_node.specs.Dump as dumps;
+ghost use Rattle.cfdp_node.specs.Exit.{IsFlushedAt};
 
 use crate::arguments::DumpRequest;
 use crate::dump_line::{DumpedPdu, FrameLine};
@@ -18,7 +20,7 @@ use hex::FromHexError;
 use mpdu::read_pointer;
 use std::alloc::{AllocError, Global};
 use std::io;
-use std::io::{Read, Write};
+use std::io::{BufWriter, Read, Write};
 
 /// What the lines of a dump are to spell.
 #[derive(Clone, Copy)]
@@ -35,10 +37,25 @@ pub enum DumpKind {
 /// Frames have packet zones of `zone` octets and are told whatever their spacecraft and channel. Of
 /// PDUs `zone` says nothing, and of frames `long` doesn't.
 ///
-/// The answer is `Complete` whatever the lines say, once the writer is flushed. It is `Device`
+/// The answer is `Complete` whatever the lines say, once all have left the buffer. It is `Device`
 /// where they couldn't be read, as `read_script` says, where a line couldn't be written, or where
 /// there was no memory. Nothing is written unless all was read, and nothing is written twice.
-pub fn run_dump<R: Read + Drop, W: Write>(
+pub fn run_dump<R: Read + Drop, W: Write + Drop>(
+    alloc: Global,
+    request: DumpRequest,
+    reader: R,
+    out: &mut BufWriter<W>,
+) -> Exit
+    requires { (16 ≤ request.zone) × (request.zone ≤ 2040) }
+    ensures told { EndsDump request (R.remaining reader) (writer_contents W.contents out.old)
+        (writer_contents W.contents out.new) result }
+    ensures flushed { IsFlushedAt result (writer_buffer out.new) }
+{
+    dump_lines(alloc, request, reader, out).flushed(out)
+}
+
+/// Reads lines, and writes for each what it spells, as [`run_dump`] does. The writer isn't flushed.
+pub fn dump_lines<R: Read + Drop, W: Write>(
     alloc: Global,
     request: DumpRequest,
     reader: R,
@@ -58,7 +75,7 @@ pub fn run_dump<R: Read + Drop, W: Write>(
     }
 }
 
-/// Writes a line for each line of the text, and flushes the writer.
+/// Writes a line for each line of the text.
 ///
 /// # Errors
 ///
@@ -78,7 +95,7 @@ fn write_dump<W: Write>(
         write_line(alloc, request, line, out)?;
         rest = behind;
     }
-    out.flush()
+    Ok(())
 }
 
 /// The first line of a text, without its line feed, and the text behind it.

@@ -1,7 +1,7 @@
 ghost use Rattle.std.specs.Prelude.{◌≡◌, ◌≤◌};
 
 use crate::arguments::DumpRequest;
-use crate::dump::{DumpKind, run_dump};
+use crate::dump::{DumpKind, dump_lines, run_dump};
 use std::alloc::Global;
 use std::io;
 use std::io::BufWriter;
@@ -37,7 +37,7 @@ fn check_dump(
     requires { (16 ≤ request.zone) × (request.zone ≤ 2040) }
 {
     let mut written = Vec::new(alloc);
-    let ended = run_dump(alloc, request, text.as_bytes(), &mut written);
+    let ended = dump_lines(alloc, request, text.as_bytes(), &mut written);
     let told = String::from_utf8(written).expect(rt, "the dump is text");
     assert_eq!(rt; told.as_str(), lines, "the dump of {text}");
     assert_eq!(rt; ended.status(), 0, "the end of {text}");

@@ -1,4 +1,5 @@
 use crate::script::BadLine;
+use std::io::{BufWriter, Write};
 
 /// How a run of the program ended.
 #[derive(Clone, Copy)]
@@ -29,8 +30,11 @@ pub enum Fault {
 }
 
 impl Exit {
-    ghost use Rattle.std.specs.Prelude.{◌≡◌};
-    ghost use Rattle.cfdp_node.specs.Exit.{exit_status};
+    ghost use Rattle.std.specs.Prelude.{◌≡◌, ◌⊎◌};
+    ghost use Rattle.std.specs.Io.Buffered.{writer_buffer, writer_contents};
+    ghost use Rattle.std.specs.Io.KnownBytes.{Keeps};
+    ghost use Rattle.cfdp_node.specs.Exit as exits;
+    ghost use Rattle.cfdp_node.specs.Exit.{exit_status, IsFlushedAt};
 
     /// The exit status of the process: 0 to 3.
     pub fn status(self) -> u8
@@ -41,6 +45,37 @@ impl Exit {
             Exit::Incomplete => 1,
             Exit::BadScript(_) => 2,
             Exit::Device(_) => 3,
+        }
+    }
+
+    /// This end, once its report has left the buffer.
+    ///
+    /// It is `Device` where the report can't be written out. Without a report nothing is written.
+    pub fn flushed<W: Write + Drop>(self, out: &mut BufWriter<W>) -> Exit
+        ensures kept { Keeps (writer_contents W.contents out.old)
+            (writer_contents W.contents out.new) }
+        ensures answer { (result ≡ self) ⊎ (result ≡ Exit.Device Fault.Unwritable) }
+        ensures flushed { IsFlushedAt result (writer_buffer out.new) }
+    {
+        if !self.has_report() {
+            return self;
+        }
+        match out.flush() {
+            Ok(()) => self,
+            Err(_) => Exit::Device(Fault::Unwritable),
+        }
+    }
+
+    /// Whether a run that ended so wrote a report.
+    fn has_report(self) -> bool
+        ensures { result ≡ exits.has_report self }
+    {
+        match self {
+            Exit::Complete | Exit::Incomplete | Exit::Device(Fault::NoMemory) => true,
+            Exit::BadScript(_)
+            | Exit::Device(
+                Fault::Unreadable | Fault::TooLong | Fault::Unwritable | Fault::NoMemoryAtStart,
+            ) => false,
         }
     }
 }

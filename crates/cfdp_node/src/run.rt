@@ -18,7 +18,7 @@ use std::io;
 use std::io::Write;
 
 /// Does all commands at these stations, and writes the report. There is memory for what they answer
-/// before the first of them, or none is done.
+/// before the first of them, or none is done. The writer isn't flushed.
 pub fn run_steps<S: Stations, W: Write>(
     alloc: Global,
     mut stations: S,
@@ -69,7 +69,6 @@ fn report<S: Stations, W: Write>(
 {
     let tally = Tally::of(stations, steps);
     write_report(out, answered, stations, tally)?;
-    out.flush()?;
     Ok(exit(answered, tally))
 }
 

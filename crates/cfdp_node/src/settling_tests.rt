@@ -3,6 +3,7 @@
 use crate::exit::Exit;
 use crate::sim::run_sim;
 use std::alloc::{AllocError, Global};
+use std::io::BufWriter;
 use std::process::Abort;
 use std::test::Fail;
 
@@ -81,12 +82,12 @@ pub fn add_tick(script: &mut String, number: u64, now: u64) -> Result<(), AllocE
 
 /// What a script reports, and how it ends.
 pub fn report_of(rt: &impl Abort, alloc: Global, script: &str) -> (String, Exit) {
-    let mut written = Vec::new(alloc);
-    let exit = run_sim(alloc, script.as_bytes(), &mut written);
-    (
-        String::from_utf8(written).expect(rt, "the report is text"),
-        exit,
-    )
+    let mut out = BufWriter::new(alloc, Vec::new(alloc)).expect(rt, "there is a buffer");
+    let exit = run_sim(alloc, script.as_bytes(), &mut out);
+    // What still waits in the buffer is let go.
+    let (written, _) = out.into_parts();
+    let report = String::from_utf8(written).expect(rt, "the report is text");
+    (report, exit)
 }
 
 /// Runs a script, all of whose puts are completed, and that leaves no timer that it must not.

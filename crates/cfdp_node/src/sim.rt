@@ -1,5 +1,7 @@
 //! A script, from its text to its report.
+ghost use Rattle.std.specs.Io.Buffered.{writer_buffer, writer_contents};
 ghost use Rattle.std.specs.Prelude.{◌≤◌, IfSome, length};
+ghost use Rattle.cfdp_node.specs.Exit.{IsFlushedAt};
 ghost use Rattle.link_sim.specs.WorldConfig.{IsWorldConfig};
 ghost use Rattle.cfdp_node.specs.Simulated.{EndsFrom, EndsScript, IsSilentAt};
 
@@ -11,14 +13,29 @@ use crate::run::run_steps;
 use crate::script::{Script, Step};
 use link_sim::{MemoryWorld, WorldConfig};
 use std::alloc::Global;
-use std::io::{Read, Write};
+use std::io::{BufWriter, Read, Write};
 
-/// Reads a script, runs it and writes its report.
+/// Reads a script, runs it and writes its report, which has left the buffer then.
 ///
 /// Nothing is written unless the whole script was read, is good, and there is memory for all that
 /// stands before its first command. From then on a want of memory is told in the report, and the
 /// answer is `Device` too. A report that can't be written to its end is not begun again.
-pub fn run_sim<R: Read + Drop, W: Write>(alloc: Global, reader: R, out: &mut W) -> Exit
+pub fn run_sim<R: Read + Drop, W: Write + Drop>(
+    alloc: Global,
+    reader: R,
+    out: &mut BufWriter<W>,
+) -> Exit
+    ensures script { IfSome (R.remaining reader) (λ text. EndsScript result text
+        (writer_contents W.contents out.old) (writer_contents W.contents out.new)) }
+    ensures silent { IsSilentAt result (writer_contents W.contents out.old)
+        (writer_contents W.contents out.new) }
+    ensures flushed { IsFlushedAt result (writer_buffer out.new) }
+{
+    run_script(alloc, reader, out).flushed(out)
+}
+
+/// Reads a script, runs it and writes its report. The writer isn't flushed.
+pub fn run_script<R: Read + Drop, W: Write>(alloc: Global, reader: R, out: &mut W) -> Exit
     ensures script { IfSome (R.remaining reader)
         (λ text. EndsScript result text (W.contents out.old) (W.contents out.new)) }
     ensures silent { IsSilentAt result (W.contents out.old) (W.contents out.new) }

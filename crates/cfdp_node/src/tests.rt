@@ -1,9 +1,9 @@
-use crate::dump::run_dump;
+use crate::dump::dump_lines;
 use crate::dump_tests::PDUS;
 use crate::exit::{Exit, Fault};
 use crate::scripts::{BAD, CALLS, LOSSES, PLAIN, RECOVERIES};
 use crate::settling_tests::report_of;
-use crate::sim::run_sim;
+use crate::sim::run_script;
 use std::alloc::Global;
 use std::io;
 use std::io::{ErrorKind, Read, Write};
@@ -42,7 +42,7 @@ fn play_line(
 
 /// Runs a script, which is empty then, and writes its report and how it ended.
 fn run_row(alloc: Global, script: &mut Vec<u8>, written: &mut Vec<u8>) -> io::Result<()> {
-    let exit = run_sim(alloc, script.as_slice(), &mut *written);
+    let exit = run_script(alloc, script.as_slice(), &mut *written);
     script.clear();
     if let Exit::BadScript(bad) = exit {
         writeln!(written, "line {}: bad script", bad.line)?;
@@ -90,7 +90,7 @@ fn a_report_that_failed_is_not_written_again(rt: HostRuntime) -> Result<(), Fail
         failed: false,
         taken: 0,
     };
-    let exit = run_sim(rt.alloc(), b"settle\n".as_slice(), &mut writer);
+    let exit = run_script(rt.alloc(), b"settle\n".as_slice(), &mut writer);
     assert_eq!(rt; fault(exit), Fault::Unwritable as u8);
     assert_eq!(rt; writer.taken, 0);
     Ok(())
@@ -189,15 +189,15 @@ impl Write for Full {
 }
 
 // The ends of runs over a writer that takes so many octets. They have no clause, so that those of
-// `run_sim` and `run_dump` stand in no goal of the tests.
+// `run_script` and `dump_lines` stand in no goal of the tests.
 fn simulated<R: Read + Drop>(alloc: Global, reader: R, room: usize) -> Exit {
     let mut out = Full { room };
-    run_sim(alloc, reader, &mut out)
+    run_script(alloc, reader, &mut out)
 }
 
 fn dumped<R: Read + Drop>(alloc: Global, reader: R, room: usize) -> Exit {
     let mut out = Full { room };
-    run_dump(alloc, PDUS, reader, &mut out)
+    dump_lines(alloc, PDUS, reader, &mut out)
 }
 
 #[test]
@@ -271,7 +271,7 @@ fn dumps_end_at_bad_readers_and_writers(rt: HostRuntime) -> Result<(), Fail> {
         assert_eq!(rt; fault(exit), expected);
     }
     let mut out = Full { room: 99 };
-    let exit = run_dump(alloc, PDUS, Endless, &mut out);
+    let exit = dump_lines(alloc, PDUS, Endless, &mut out);
     assert_eq!(rt; fault(exit), Fault::TooLong as u8);
     assert_eq!(rt; out.room, 99, "nothing is written of what is too long");
     Ok(())

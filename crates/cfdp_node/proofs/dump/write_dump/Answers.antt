@@ -1,5 +1,5 @@
 use Rattle.std.proofs.Common.{rules, arith}
-use Rattle.cfdp_node.proofs.TextLines.{front-none, front-more, front-all, all_flushed}
+use Rattle.cfdp_node.proofs.TextLines.{front-none, front-more, front-all}
 use Rattle.cfdp_node.proofs.dump.write_dump.Goals as goal
 
 pub loop-rest-init : goal.loop-rest-init
@@ -10,4 +10,4 @@ loop-rest-preserved g c =
     front-more _ _ _ _ _ _ _ _ c.cut_line.ensures.lines c.loop-rest.invariant c.in_ok-write_line.ensures
 
 pub returns : goal.returns
-returns g c = all_flushed _ _ _ _ _ _ (front-all _ _ _ _ _ (search (rules, arith)) c.loop-rest.invariant) c.flush.ensures.bytes
+returns g c = front-all _ _ _ _ _ (search (rules, arith)) c.loop-rest.invariant
