@@ -47,55 +47,75 @@ cut_at_end (octet ∷ text) line rest some whole none end =
     let one = lines-last octet text (subst (All (λ x. x ≢ 10)) whole none) in
     rw (lines-empty rest end, whole) one
 
+-- ---- one line for each
+module _ {A : Type 0} (P : A → List ℕ → Type 0) where
+  -- nothing is written yet
+  pub lines-none : (out : Option (List ℕ)) → WritesLines P [] out out
+  lines-none out = record { texts = []; each = tt; written = Appends-nil out }
+
+  -- one more pair
+  AllZip-more : (xs : List A) (ys : List (List ℕ)) (x : A) (y : List ℕ) → AllZip P xs ys → P x y → AllZip P (xs ++ x ∷ []) (ys ++ y ∷ [])
+  AllZip-more [] [] x y all one = (one, tt)
+  AllZip-more [] (b ∷ ys) x y all one = absurd all
+  AllZip-more (a ∷ xs) [] x y all one = absurd all
+  AllZip-more (a ∷ xs) (b ∷ ys) x y all one = (all.0, AllZip-more xs ys x y all.1 one)
+
+  -- one more line is written
+  pub lines-more : (xs : List A) (x : A) (old mid new : Option (List ℕ)) → WritesLines P xs old mid → WritesLine (P x) mid new → WritesLines P (xs ++ x ∷ []) old new
+  lines-more xs x old mid new before one = record {
+    texts = before.texts ++ one.text ∷ [];
+    each = AllZip-more xs before.texts x one.text before.each one.such;
+    written = subst (Appends old new) (flat_map_more as_line [] before.texts one.text)
+        (Appends-trans old mid new (flat_map as_line before.texts) (as_line one.text) before.written one.written);
+  }
+
+  -- lines that were written stay so where what the writer holds is kept
+  pub lines_kept : (xs : List A) (old mid new : Option (List ℕ)) → WritesLines P xs old mid → Keeps mid new → WritesLines P xs old new
+  lines_kept xs old mid new all kept = record {
+    texts = all.texts;
+    each = all.each;
+    written = Appends-kept old mid new (flat_map as_line all.texts) all.written kept;
+  }
+
+-- ---- the lines of a text, front first
 -- For the lines in front of the rest one line each was written.
 pub record WritesFront (P : List ℕ → List ℕ → Type 0) (text rest : List ℕ) (old new : Option (List ℕ)) : Type 0 where
   pub front : List (List ℕ)
-  pub texts : List (List ℕ)
   pub cut : lines text ≡ front ++ lines rest
-  pub each : AllZip P front texts
-  pub written : Appends old new (flat_map as_line texts)
+  pub told : WritesLines P front old new
 
--- nothing is written yet
 pub front-none : (P : List ℕ → List ℕ → Type 0) (text : List ℕ) (out : Option (List ℕ)) → WritesFront P text text out out
-front-none P text out = record { front = []; texts = []; cut = refl; each = tt; written = Appends-nil out }
+front-none P text out = record { front = []; cut = refl; told = lines-none P out }
 
--- one more pair
-AllZip-more : {A B : Type 0} (R : A → B → Type 0) (xs : List A) (ys : List B) (x : A) (y : B) → AllZip R xs ys → R x y → AllZip R (xs ++ x ∷ []) (ys ++ y ∷ [])
-AllZip-more R [] [] x y all one = (one, tt)
-AllZip-more R [] (b ∷ ys) x y all one = absurd all
-AllZip-more R (a ∷ xs) [] x y all one = absurd all
-AllZip-more R (a ∷ xs) (b ∷ ys) x y all one = (all.0, AllZip-more R xs ys x y all.1 one)
-
--- one more line is written
 pub front-more : (P : List ℕ → List ℕ → Type 0) (text old_rest line rest : List ℕ) (old mid new : Option (List ℕ))
     → lines old_rest ≡ line ∷ lines rest → WritesFront P text old_rest old mid → WritesLine (P line) mid new → WritesFront P text rest old new
 front-more P text old_rest line rest old mid new cut before one = record {
   front = before.front ++ line ∷ [];
-  texts = before.texts ++ one.text ∷ [];
   cut = before.cut ∙ ap (λ l. before.front ++ l) cut ∙ sym (append_assoc before.front (line ∷ []) (lines rest));
-  each = AllZip-more P before.front before.texts line one.text before.each one.such;
-  written = subst (Appends old new) (flat_map_more as_line [] before.texts one.text)
-      (Appends-trans old mid new (flat_map as_line before.texts) (as_line one.text) before.written one.written);
+  told = lines-more P before.front line old mid new before.told one;
 }
 
 -- no line is left
 pub front-all : (P : List ℕ → List ℕ → Type 0) (text rest : List ℕ) (old new : Option (List ℕ)) → length rest ≡ 0 → WritesFront P text rest old new → WritesLines P (lines text) old new
 front-all P text rest old new end all =
     let whole : lines text ≡ all.front = all.cut ∙ ap (λ l. all.front ++ l) (lines-empty rest end) ∙ append-nil all.front in
-    record { texts = all.texts; each = subst (λ l. AllZip P l all.texts) (sym whole) all.each; written = all.written }
+    subst (λ l. WritesLines P l old new) (sym whole) all.told
 
+-- ---- one line
 -- what is written is one line
 pub line_is_written : {E : Type 0} (P : List ℕ → Type 0) (r : Result (Unit {0}) E) (text : List ℕ) (old new : Option (List ℕ)) → P text → OnOk r (Appends old new (as_line text)) → OnOk r (WritesLine P old new)
 line_is_written P (Ok x) text old new such written = record { text = text; such = such; written = written }
 line_is_written P (Err e) text old new such written = tt
 
--- lines that were written stay so where what the writer holds is kept
-pub lines_kept : (P : List ℕ → List ℕ → Type 0) (ls : List (List ℕ)) (old mid new : Option (List ℕ)) → WritesLines P ls old mid → Keeps mid new → WritesLines P ls old new
-lines_kept P ls old mid new all kept = record {
-  texts = all.texts;
-  each = all.each;
-  written = Appends-kept old mid new (flat_map as_line all.texts) all.written kept;
+-- a line whose front was written before
+pub line_behind : {E : Type 0} (P : List ℕ → Type 0) (Q : List ℕ → Type 0) (r : Result (Unit {0}) E) (front : List ℕ) (old mid new : Option (List ℕ))
+    → ((words : List ℕ) → P words → Q (front ++ words)) → Appends old mid front → OnOk r (WritesLine P mid new) → OnOk r (WritesLine Q old new)
+line_behind P Q (Ok x) front old mid new such before line = record {
+  text = front ++ line.text;
+  such = such line.text line.such;
+  written = subst (Appends old new) (sym (append_assoc front line.text (10 ∷ []))) (Appends-trans old mid new front (as_line line.text) before line.written);
 }
+line_behind P Q (Err e) front old mid new such before line = tt
 
 -- what a call writes stands behind what was written before
 pub appends_behind : {E : Type 0} (r : Result (Unit {0}) E) (a b c : Option (List ℕ)) (bs cs : List ℕ) → Appends a b bs → OnOk r (Appends b c cs) → OnOk r (Appends a c (bs ++ cs))

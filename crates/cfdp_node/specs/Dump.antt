@@ -175,10 +175,10 @@ pub record WritesLine (P : List ℕ → Type 0) (old new : Option (List ℕ)) : 
   pub such : P text
   pub written : Appends old new (as_line text)
 
--- For each of these lines one line was written, whose text belongs to it.
-pub record WritesLines (P : List ℕ → List ℕ → Type 0) (lines_read : List (List ℕ)) (old new : Option (List ℕ)) : Type 0 where
+-- For each of these one line was written, in order, whose text belongs to it.
+pub record WritesLines {A : Type 0} (P : A → List ℕ → Type 0) (told : List A) (old new : Option (List ℕ)) : Type 0 where
   pub texts : List (List ℕ)
-  pub each : AllZip P lines_read texts
+  pub each : AllZip P told texts
   pub written : Appends old new (flat_map as_line texts)
 
 -- How a dump ends, by what the reader has left and what the writer holds before and after. Complete

@@ -16,3 +16,4 @@ pub mod Words
 pub mod Script
 pub mod Gathering
 pub mod Capture
+pub mod Trace

@@ -43,7 +43,7 @@ fn show_seen(rt: &HostRuntime, request: &SimRequest, seen: &Seen) -> u8 {
 /// Writes all that was seen to standard error.
 fn show_trace(rt: &HostRuntime, seen: &Seen) -> io::Result<()> {
     let mut text = Vec::new(rt.alloc());
-    write_trace(&mut text, seen)?;
+    write_trace(&mut text, seen.zone, seen.sightings.as_slice())?;
     rt.stderr().write_all(text.as_slice())
 }
 

@@ -58,7 +58,7 @@ const SEEN: &str = "\
 fn trace_of(rt: &impl Abort, alloc: Global, script: &str) -> io::Result<String> {
     let mut text = Vec::new(alloc);
     if let Some(seen) = watch(alloc, script.as_bytes())? {
-        write_trace(&mut text, &seen)?;
+        write_trace(&mut text, seen.zone, seen.sightings.as_slice())?;
     }
     Ok(String::from_utf8(text).expect(rt, "a trace is text"))
 }
