@@ -14,6 +14,12 @@ use std::marker::Model;
 /// Octets of the longest packet.
 const MAX_PACKET: usize = 65_542;
 
+/// Octets of the longest packet that is copied at once.
+const AT_ONCE: usize = 4_096;
+
+/// Octets of a piece in which a longer one is copied.
+const PIECE: usize = 2_048;
+
 /// What was out of order in a zone: a packet that was cut off, or headers that are none.
 #[derive(Clone, Copy, Debug, PartialEq, Eq)]
 pub struct Notes {
@@ -42,6 +48,21 @@ struct Front {
     bad: bool,
 }
 
+/// A copy of a long packet, which goes piece by piece: one copy of all of it takes longer.
+#[inline(never)]
+fn copied(alloc: Global, packet: &[u8]) -> Result<Vec<u8>, AllocError>
+    ensures { IfOk result (λ v. v.items ≡ packet.now) }
+{
+    let mut copy = Vec::with_capacity(alloc, packet.len())?;
+    let mut rest = packet;
+    while !rest.is_empty() {
+        let (piece, behind) = rest.split_at(rest.len().min(PIECE));
+        copy.extend_from_slice(piece)?;
+        rest = behind;
+    }
+    Ok(copy)
+}
+
 /// Appends a packet that isn't idle.
 fn emit(alloc: Global, packet: &[u8], out: &mut Vec<Vec<u8>>) -> Result<(), AllocError>
     requires { 6 ≤ length packet.now }
@@ -50,7 +71,12 @@ fn emit(alloc: Global, packet: &[u8], out: &mut Vec<Vec<u8>>) -> Result<(), Allo
     ensures err { OnErr result (octets_of_each out.new.items ≡ octets_of_each out.old.items) }
 {
     if !has_idle_apid(packet) {
-        out.push(Vec::from_slice(alloc, packet)?)?;
+        let copy = if packet.len() > AT_ONCE {
+            copied(alloc, packet)?
+        } else {
+            Vec::from_slice(alloc, packet)?
+        };
+        out.push(copy)?;
     }
     Ok(())
 }
