@@ -1,10 +1,10 @@
 -- How a zone is read behind the begun packet.
-use Rattle.std.proofs.Common.{◌≡◌, ℕ, zero, suc, ◌+◌, ◌-◌, ◌<◌, ◌≤◌, ◌⊎◌, Bool, true, false, ◌&&◌, ◌==◌, not, min, List, [], ◌∷◌, ◌++◌, length, take, drop, refl, sym, ap, subst, ◌∙◌, inl, inr, arith, length-append, append_assoc}
+use Rattle.std.proofs.Common.{◌≡◌, ℕ, zero, suc, ◌+◌, ◌-◌, ◌<◌, ◌≤◌, ◌⊎◌, Bool, true, false, ◌&&◌, ◌==◌, not, nat_lt, min, List, [], ◌∷◌, ◌++◌, length, take, drop, refl, sym, ap, subst, ◌∙◌, inl, inr, arith, length-append, append_assoc}
 use Rattle.std.proofs.Math.Seq.{take-add, take-append-add}
 use Rattle.std.proofs.lemmas.Bool.{lt-ltb, le-ltb, cases_lt}
 use Rattle.std.proofs.lemmas.List.{take_at, drop_at, take-append-le, take-append-drop, drop_all, append-nil, length-take-le}
 use Rattle.mpdu.specs.Stream.{keep, header_len, header_ok, is_idle}
-use Rattle.mpdu.specs.Reading.{emit, scan, goes_on, turns_bad, to_read, pointer_after}
+use Rattle.mpdu.specs.Reading.{emit, scan, step, goes_on, turns_bad, to_read, pointer_after}
 use Rattle.mpdu.specs.Joining.{IsBegun, IsWhole, IsCut, Heads, IsSplit}
 use Rattle.mpdu.proofs.Scan.{header_len-same, header_ok-same, header_len-long, header_len-short, scan_short, scan_held, scan_next}
 use Rattle.mpdu.proofs.Fronts.{keep-back}
@@ -135,20 +135,31 @@ begun_less held octets front begun is =
     omega (arith, begun c, ap header_len same) in
     elim (cases_lt (length held) 6) [ inl c ↦ omega (arith, header_len-long front) | inr c ↦ long c ]
 
+-- Its header is whole then, and tells what it told before.
+pub last_size : (held octets front last : List ℕ) (end : ℕ) → 6 ≤ length octets → front ≡ held ++ take (6 - length held) octets →
+    last ≡ front ++ take (end - (6 - length held)) (drop (6 - length held) octets) → last ≡ held ++ take end octets → end ≤ length octets →
+    (6 ≤ length last) × (take 6 last ≡ take 6 front) × (header_len last ≡ header_len front) × (length last ≡ length held + end)
+last_size held octets front last end room is more all within =
+    let long : 6 ≤ length front = (same_head held octets front room is).0 in
+    let tail : List ℕ = take (end - (6 - length held)) (drop (6 - length held) octets) in
+    let six : take 6 last ≡ take 6 front = ap (λ l. take 6 l) more ∙ take-append-le 6 front tail long in (
+      omega (arith, ap length more, length-append front tail),
+      six,
+      header_len-same last front six,
+      ap length all ∙ length-append held (take end octets) ∙ ap (λ n. length held + n) (length-take-le end octets within),
+    )
+
 -- It is whole then, or the zone ends in it.
 pub heads_are : (held octets front last : List ℕ) (end : ℕ) → 6 ≤ length octets → IsBegun held → front ≡ held ++ take (6 - length held) octets → header_ok front ≡ true →
     last ≡ front ++ take (end - (6 - length held)) (drop (6 - length held) octets) → last ≡ held ++ take end octets → end ≤ length octets →
     ((end ≡ header_len front - length held) ⊎ ((end ≡ length octets) × (length octets < header_len front - length held))) →
     Heads last (drop end octets)
 heads_are held octets front last end room begun is ok more all within ends =
-    let head = same_head held octets front room is in
-    let long : 6 ≤ length front = head.0 in
-    let tail : List ℕ = take (end - (6 - length held)) (drop (6 - length held) octets) in
-    let six : take 6 last ≡ take 6 front = ap (λ l. take 6 l) more ∙ take-append-le 6 front tail long in
-    let ok2 : header_ok last ≡ true = header_ok-same last front six ∙ ok in
-    let len2 : header_len last ≡ header_len front = header_len-same last front six in
-    let size : length last ≡ length held + end = ap length all ∙ length-append held (take end octets) ∙ ap (λ n. length held + n) (length-take-le end octets within) in
-    let longer : 6 ≤ length last = omega (arith, ap length more, length-append front tail) in
+    let sizes = last_size held octets front last end room is more all within in
+    let longer : 6 ≤ length last = sizes.0 in
+    let ok2 : header_ok last ≡ true = header_ok-same last front (sizes.1) ∙ ok in
+    let len2 : header_len last ≡ header_len front = sizes.2 in
+    let size : length last ≡ length held + end = sizes.3 in
     let less : length held < header_len front = begun_less held octets front begun is in
     elim ends [
       | inl e ↦ inr (inl (record { long = longer; version = ok2; size = omega arith }))
@@ -165,6 +176,32 @@ reads_at z at held octets off = rw off refl
 pub both_first : (a b : Bool) → (a && b) ≡ true → a ≡ true
 both_first true b h = refl
 both_first false b h = h
+
+-- What a zone gives that the begun packet takes all of, and more.
+pub record IsPast (z at : ℕ) (held octets : List ℕ) : Type 0 where
+  pub on : goes_on z held at octets ≡ true
+  pub good : turns_bad held octets ≡ false
+  pub read : step z held at octets ≡ record { begun = held ++ octets; out = []; bad = false }
+  pub begun : IsBegun (held ++ octets)
+
+pub past : (z at : ℕ) (held octets : List ℕ) → z ≡ length octets → 6 ≤ length octets → 6 ≤ length held → header_ok held ≡ true → at ≡ 2047 →
+    length held + z < header_len held → IsPast z at held octets
+past z at held octets size room long ok none more =
+    let k : 6 - length held ≡ 0 = omega arith in
+    let is : held ≡ held ++ take (6 - length held) octets = sym (ap (λ n. held ++ take n octets) k ∙ append-nil held) in
+    let far : nat_lt (header_len held - length held) z ≡ false = le-ltb (header_len held - length held) z (omega arith) in
+    let on : goes_on z held at octets ≡ true = goes_on_is z at held octets held (omega arith) room is ∙ rw (ok, far, none) refl in
+    let six : take 6 (held ++ octets) ≡ take 6 held = take-append-le 6 held octets long in
+    let all : length (held ++ octets) ≡ length held + length octets = length-append held octets in
+    let len : header_len (held ++ octets) ≡ header_len held = header_len-same (held ++ octets) held six in
+    let less : length (held ++ octets) < header_len (held ++ octets) = omega arith in
+    let ok2 : header_ok (held ++ octets) ≡ true = header_ok-same (held ++ octets) held six ∙ ok in
+    record {
+      on = on;
+      good = turns_bad_is held octets held (omega arith) room is ∙ ap not ok;
+      read = ap (λ l. scan (length l) l) (reads_on z at held octets on) ∙ scan_held (held ++ octets) (omega arith) ok2 less;
+      begun = λ c. less;
+    }
 
 -- What was told of the begun packet is how it stands at the zone.
 pub told_is : (z at : ℕ) (held octets front seen : List ℕ) (k n : ℕ) (r : Bool) → 0 < length held → 6 ≤ length octets →

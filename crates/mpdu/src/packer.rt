@@ -63,34 +63,66 @@ fn next_in_front(front: &[u8], first: usize, size: usize) -> usize
     at
 }
 
-/// The first start at `size` or behind it, going by the headers from the start `first`.
-fn next_first(octets: &HeapCircularBuffer<u8>, first: usize, size: usize) -> usize
+/// The first start at `size` or behind it, going by the headers from the start `first`, also where
+/// they lie at both ends of the ring. This is rare, so it stands apart.
+#[inline(never)]
+fn next_around(octets: &HeapCircularBuffer<u8>, first: usize, size: usize) -> usize
     requires { size ≤ 2040 }
     ensures { result ≡ skip size size first octets.now.items }
 {
-    let (front, _) = octets.as_slices();
-    let mut at = next_in_front(front, first, size);
+    let mut at = first;
     while at < size && at + HEADER_LEN <= octets.len() {
         at += packet_len_at(octets, at);
     }
     at
 }
 
-/// Moves the first octets out, as many as `out` has.
-fn take_into(octets: &mut HeapCircularBuffer<u8>, out: &mut [u8])
-    requires { length out.old ≤ length octets.old.items }
-    ensures out { out.new ≡ take (length out.old) octets.old.items }
-    ensures rest { octets.new
-        ≡ buffer (drop (length out.old) octets.old.items) octets.old.capacity }
+/// The first start at `size` or behind it, going by the headers from the start `first`; `front` is
+/// what lies in one piece.
+fn next_first(octets: &HeapCircularBuffer<u8>, front: &[u8], first: usize, size: usize) -> usize
+    requires near { size ≤ 2040 }
+    requires front { (behind : List ℕ) × (front.now ++ behind ≡ octets.now.items) }
+    ensures { result ≡ skip size size first octets.now.items }
 {
-    let (front, _) = octets.as_slices();
-    if front.len() < out.len() {
-        let _ = octets.read_into(out);
-        return;
+    if first >= size {
+        return first;
     }
+    let at = next_in_front(front, first, size);
+    if at < size && at + HEADER_LEN <= octets.len() {
+        return next_around(octets, at, size);
+    }
+    at
+}
+
+/// Copies octets that lie in two pieces, as many as `out` has. This is rare, so it stands apart.
+#[inline(never)]
+fn copy_both(front: &[u8], behind: &[u8], out: &mut [u8])
+    requires more { length front.now ≤ length out.old }
+    requires all { length out.old ≤ length front.now + length behind.now }
+    ensures { out.new ≡ take (length out.old) (front.now ++ behind.now) }
+{
+    let (left, right) = out.split_at_mut(front.len());
+    left.copy_from_slice(front);
+    right.copy_from_slice(&behind[..right.len()]);
+}
+
+/// Copies the first octets, as many as `out` has, and answers the first start behind them, going by
+/// the headers from the start `first`.
+fn copy_zone(octets: &HeapCircularBuffer<u8>, first: usize, out: &mut [u8]) -> usize
+    requires near { length out.old ≤ 2040 }
+    requires inside { length out.old ≤ length octets.now.items }
+    ensures next { result
+        ≡ skip (length out.old) (length out.old) first octets.now.items }
+    ensures out { out.new ≡ take (length out.old) octets.now.items }
+{
+    let (front, behind) = octets.as_slices();
     // Mostly they lie in one piece: one copy is then faster than two, one of them of nothing.
-    out.copy_from_slice(&front[..out.len()]);
-    octets.truncate_front(octets.len() - out.len());
+    if front.len() < out.len() {
+        copy_both(front, behind, out);
+    } else {
+        out.copy_from_slice(&front[..out.len()]);
+    }
+    next_first(octets, front, first, out.len())
 }
 
 /// Writes an idle packet of `len` octets behind what is there, where there is room for it.
@@ -244,9 +276,9 @@ impl Packer {
         } else {
             NO_START
         };
-        let next = next_first(&self.waiting, self.first, self.size);
+        let next = copy_zone(&self.waiting, self.first, out);
         self.first = next.saturating_sub(self.size);
-        take_into(&mut self.waiting, out);
+        self.waiting.truncate_front(self.waiting.len() - self.size);
         pointer
     }
 

@@ -1,5 +1,5 @@
 //! Packets out of zones.
-ghost use Rattle.std.specs.Prelude.{◌≡◌, ◌≢◌, ℕ, ◌+◌, ◌-◌, ◌≤◌, ◌==◌, ◌&&◌, ◌++◌, List, Bool, [], false, not, length, take, drop, IfOk, OnOk, OnErr, vec_capacity};
+ghost use Rattle.std.specs.Prelude.{◌≡◌, ◌≢◌, ℕ, ◌+◌, ◌-◌, ◌<◌, ◌≤◌, ◌==◌, ◌&&◌, ◌++◌, List, Bool, [], ◌∷◌, false, true, not, length, take, drop, IfOk, OnOk, OnErr, vec_capacity};
 ghost use Rattle.mpdu.specs.Stream.{keep, is_idle, header_ok, header_len};
 ghost use Rattle.mpdu.specs.Reading.{scan, step, reading, to_read, goes_on, turns_bad, pointer_after, held_at, is_some, resync, bad_count};
 ghost use Rattle.mpdu.specs.Joining.{IsBegun, Heads, IsSplit};
@@ -37,6 +37,8 @@ pub struct Notes {
 struct Joined {
     goes_on: bool,
     bad: bool,
+    // whether it ends in the zone
+    whole: bool,
     // where in the zone the packets behind it are read
     from: usize,
 }
@@ -48,8 +50,7 @@ struct Front {
     bad: bool,
 }
 
-/// A copy of a long packet, which goes piece by piece: one copy of all of it takes longer.
-#[inline(never)]
+/// A copy of a long packet, made piece by piece: one copy of all of it takes longer.
 fn copied(alloc: Global, packet: &[u8]) -> Result<Vec<u8>, AllocError>
     ensures { IfOk result (λ v. v.items ≡ packet.now) }
 {
@@ -63,6 +64,17 @@ fn copied(alloc: Global, packet: &[u8]) -> Result<Vec<u8>, AllocError>
     Ok(copy)
 }
 
+/// Appends a long packet. It stands apart, so that the short ones pay nothing for it.
+#[inline(never)]
+fn append_long(alloc: Global, packet: &[u8], out: &mut Vec<Vec<u8>>) -> Result<(), AllocError>
+    ensures ok { OnOk result (octets_of_each out.new.items ≡ octets_of_each out.old.items
+        ++ packet.now ∷ []) }
+    ensures err { OnErr result (octets_of_each out.new.items ≡ octets_of_each out.old.items) }
+{
+    out.push(copied(alloc, packet)?)?;
+    Ok(())
+}
+
 /// Appends a packet that isn't idle.
 fn emit(alloc: Global, packet: &[u8], out: &mut Vec<Vec<u8>>) -> Result<(), AllocError>
     requires { 6 ≤ length packet.now }
@@ -70,14 +82,13 @@ fn emit(alloc: Global, packet: &[u8], out: &mut Vec<Vec<u8>>) -> Result<(), Allo
         ++ keep (not (is_idle packet.now)) packet.now []) }
     ensures err { OnErr result (octets_of_each out.new.items ≡ octets_of_each out.old.items) }
 {
-    if !has_idle_apid(packet) {
-        let copy = if packet.len() > AT_ONCE {
-            copied(alloc, packet)?
-        } else {
-            Vec::from_slice(alloc, packet)?
-        };
-        out.push(copy)?;
+    if has_idle_apid(packet) {
+        return Ok(());
     }
+    if packet.len() > AT_ONCE {
+        return append_long(alloc, packet, out);
+    }
+    out.push(Vec::from_slice(alloc, packet)?)?;
     Ok(())
 }
 
@@ -151,6 +162,10 @@ fn join(held: &mut Vec<u8>, pointer: usize, zone: &[u8]) -> Joined
     ensures read { held.new.items ++ drop result.from zone.now
         ≡ to_read (length zone.now) held.old.items pointer zone.now }
     ensures heads { Heads held.new.items (drop result.from zone.now) }
+    ensures whole { result.whole ≡ true → (6 ≤ length held.new.items)
+        × (header_len held.new.items ≡ length held.new.items) }
+    ensures other { result.whole ≡ false → 6 ≤ length held.new.items → header_len held.new.items
+        ≢ length held.new.items }
     ensures capacity { vec_capacity held.old ≤ vec_capacity held.new }
 {
     let start = pointer.min(zone.len());
@@ -158,6 +173,7 @@ fn join(held: &mut Vec<u8>, pointer: usize, zone: &[u8]) -> Joined
         return Joined {
             goes_on: false,
             bad: false,
+            whole: false,
             from: start,
         };
     }
@@ -170,30 +186,57 @@ fn join(held: &mut Vec<u8>, pointer: usize, zone: &[u8]) -> Joined
         return Joined {
             goes_on: false,
             bad,
+            whole: false,
             from: start,
         };
     }
-    let end = (packet_len(held) - before).min(zone.len());
+    let wants = packet_len(held) - before;
+    let end = wants.min(zone.len());
     append(held, &zone[header..end]);
     Joined {
         goes_on: true,
         bad: false,
+        whole: wants <= zone.len(),
         from: end,
     }
 }
 
 /// Hands out the packet that is held, where it is whole.
-fn finish(alloc: Global, held: &mut Vec<u8>, out: &mut Vec<Vec<u8>>) -> Result<(), AllocError>
+fn finish(
+    alloc: Global,
+    held: &mut Vec<u8>,
+    whole: bool,
+    out: &mut Vec<Vec<u8>>,
+) -> Result<(), AllocError>
+    requires whole { whole ≡ true → (6 ≤ length held.old.items)
+        × (header_len held.old.items ≡ length held.old.items) }
+    requires other { whole ≡ false → 6 ≤ length held.old.items → header_len held.old.items
+        ≢ length held.old.items }
     ensures ok { (rest : List ℕ) → Heads held.old.items rest →
         OnOk result (IsSplit (held.old.items ++ rest) rest held.new.items (octets_of_each out.old.items) (octets_of_each out.new.items)) }
     ensures err { OnErr result (octets_of_each out.new.items ≡ octets_of_each out.old.items) }
     ensures capacity { vec_capacity held.old ≤ vec_capacity held.new }
 {
-    if held.len() >= HEADER_LEN && packet_len(held) == held.len() {
+    if whole {
         emit(alloc, held, out)?;
         held.clear();
     }
     Ok(())
+}
+
+/// Whether the packet that is begun takes all of a zone of `zone` octets, and more.
+fn goes_past(held: &[u8], pointer: usize, zone: usize) -> bool
+    ensures long { result ≡ true → 6 ≤ length held.now }
+    ensures version { result ≡ true → header_ok held.now ≡ true }
+    ensures none { result ≡ true → pointer ≡ 2047 }
+    ensures more { result ≡ true → length held.now + zone < header_len held.now }
+    ensures not_past { result ≡ false → pointer ≡ 2047 → 6 ≤ length held.now → header_ok held.now
+        ≡ true → header_len held.now ≤ length held.now + zone }
+{
+    pointer == 2047
+        && held.len() >= HEADER_LEN
+        && has_good_version(held)
+        && zone < packet_len(held).saturating_sub(held.len())
 }
 
 /// Takes the whole packets off what is read of a zone behind what is held, and tells whether a bad
@@ -223,8 +266,19 @@ fn read_behind(
     ensures begun { OnOk result (IsBegun held.new.items) }
     ensures capacity { vec_capacity held.old ≤ vec_capacity held.new }
 {
+    // Of a long packet's zones these are the most, and there is no more to read in them.
+    if goes_past(held, pointer, zone.len()) {
+        append(held, zone);
+        let joined = Joined {
+            goes_on: true,
+            bad: false,
+            whole: false,
+            from: zone.len(),
+        };
+        return Ok((joined, false));
+    }
     let joined = join(held, pointer, zone);
-    finish(alloc, held, out)?;
+    finish(alloc, held, joined.whole, out)?;
     let rest = &zone[joined.from..];
     let front = cut(alloc, rest, out)?;
     append(held, &rest[front.end..]);

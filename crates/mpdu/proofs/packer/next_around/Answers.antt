@@ -1,7 +1,7 @@
 use Rattle.std.proofs.Common.{◌+◌, sym, ap, ◌∙◌, arith}
 use Rattle.mpdu.specs.Packing.{skip}
 use Rattle.mpdu.proofs.Packed.{skip_more}
-use Rattle.mpdu.proofs.packer.next_first.Goals as goal
+use Rattle.mpdu.proofs.packer.next_around.Goals as goal
 
 pub loop-at-preserved : goal.loop-at-preserved
 loop-at-preserved c =
