@@ -4,6 +4,7 @@ mod Flags
 pub mod Openings
 pub mod Histories
 pub mod Truths
+pub mod Amongst
 pub mod Sendings
 pub mod Tellings
 pub mod Timing

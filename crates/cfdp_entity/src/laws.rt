@@ -1,6 +1,6 @@
 //! Laws of a table's steps, each the contract of a function that does nothing. `table_step` is one
 //! function for every step, which computes to the one that a call's contract names.
-ghost use Rattle.std.specs.Prelude.{◌≡◌, ◌≢◌, ◌++◌, ℕ, ◌≤◌, false, List, slice_get, Option, Some};
+ghost use Rattle.std.specs.Prelude.{◌≡◌, ◌≢◌, ◌++◌, ℕ, ◌≤◌, false, List, slice_get, Option, Some, Contains};
 ghost use Rattle.cfdp_header.specs.declared.value.TransactionId.{TransactionId};
 ghost use Rattle.cfdp_header.specs.Files.{FileMap};
 ghost use Rattle.cfdp_header.specs.Ids.{same_id};
@@ -118,6 +118,10 @@ pub fn a_table_keeps_the_truth()
         ((id : TransactionId) (put : Put) → put_of id ≡ Some put → puts_then id ≡ Some put)
         → IsTrueTable own put_of heard first st
         → IsTrueTable own puts_then (heard ++ more) first st }
+    ensures among { (own : ℕ) (put_of : TransactionId → Option Put)
+        (heard others : List (List ℕ)) (first : FileMap) (st : TableState) →
+        ((text : List ℕ) → Contains heard text → Contains others text)
+        → IsTrueTable own put_of heard first st → IsTrueTable own put_of others first st }
 {
     a_transaction_is_finished_once();
     an_opening_may_finish();
@@ -162,6 +166,9 @@ pub fn a_table_tells_no_more()
         → TellsNoMore own heard (table_step s st) }
     ensures more { (own : ℕ) (heard more : List (List ℕ)) (st : TableState) →
         TellsNoMore own heard st → TellsNoMore own (heard ++ more) st }
+    ensures among { (own : ℕ) (heard others : List (List ℕ)) (st : TableState) →
+        ((text : List ℕ) → Contains heard text → Contains others text)
+        → TellsNoMore own heard st → TellsNoMore own others st }
 {
     a_table_keeps_the_truth();
     a_transaction_is_finished_once();
@@ -180,6 +187,11 @@ pub fn an_entity_keeps_the_truth()
     ensures more { (put_of puts_then : TransactionId → Option Put) (heard more : List (List ℕ))
         (first : FileMap) (e : EntityState) → FindsMore put_of puts_then
         → IsSound put_of heard first e → IsSound puts_then (heard ++ more) first e }
+    // The order in which the PDUs came doesn't matter, nor does it harm that more came.
+    ensures among { (put_of : TransactionId → Option Put) (heard others : List (List ℕ))
+        (first : FileMap) (e : EntityState) →
+        ((text : List ℕ) → Contains heard text → Contains others text)
+        → IsSound put_of heard first e → IsSound put_of others first e }
     ensures put { (put_of : TransactionId → Option Put) (heard : List (List ℕ)) (first : FileMap)
         (source destination : List ℕ) (id : TransactionId) (old new : EntityState) →
         Accepts source destination id old new

@@ -8,6 +8,7 @@ pub mod FactsAsks
 pub mod Sums
 pub mod SoundSteps
 pub mod SoundHears
+pub mod Among
 pub mod SoundLaws
 pub mod Held
 pub mod StagedLemmas

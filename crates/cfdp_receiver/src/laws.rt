@@ -273,6 +273,9 @@ pub fn what_is_heard_true_is_kept_true()
 pub fn more_is_heard()
     ensures more { (put : Put) (heard more : List (List ℕ)) (r : ReceiverState) (m : OctetMap) →
         Sound put heard r m → Sound put (heard ++ more) r m }
+    ensures among { (put : Put) (heard others : List (List ℕ)) (r : ReceiverState) (m : OctetMap) →
+        ((text : List ℕ) → Contains heard text → Contains others text)
+        → Sound put heard r m → Sound put others r m }
     ensures last { (put : Put) (heard : List (List ℕ)) (text : List ℕ) (h : Header)
         (v : Content) → SpellsPdu h v text → h.id ≡ put.id → IsTruthful put v
         → IsAmong put (heard ++ text ∷ []) v }

@@ -70,6 +70,10 @@ pub mod CoursesLost
 pub mod CoursesHeard
 pub mod CoursesKept
 pub mod CoursesEvents
+pub mod Swapping
+pub mod LanesKept
+pub mod OtherLane
+pub mod LanesArrive
 pub mod StagesKeep
 pub mod StagesRest
 pub mod StagesRuns

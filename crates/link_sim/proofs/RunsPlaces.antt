@@ -1,6 +1,6 @@
 -- The run of its own that a put makes where one of the two entities makes a step of the record at a
 -- place.
-use Rattle.std.proofs.Common.{◌≡◌, ℕ, zero, suc, Bool, true, false, List, [], ◌++◌, append-nil, Option, Some, None, inr, refl, sym, ap, subst, ◌∙◌}
+use Rattle.std.proofs.Common.{◌≡◌, ℕ, zero, suc, Bool, true, false, List, [], ◌++◌, append-nil, Option, Some, None, inl, inr, refl, sym, ap, subst, ◌∙◌}
 use Rattle.std.specs.List.{IsDistinct}
 use Rattle.std.specs.Map.{keys_of}
 use Rattle.std.specs.Prelude.{slice_get}
@@ -24,6 +24,8 @@ use Rattle.link_sim.specs.Exchanges.{IsExchange}
 use Rattle.link_sim.specs.Runs.{Exchange, Runs, Settles, TellsMore, told_then}
 use Rattle.link_sim.proofs.LiftCoursePut.{at-own}
 use Rattle.link_sim.proofs.LiftCourseViews.{some-same, told-more}
+use Rattle.link_sim.specs.Swapped.{IsSwapped}
+use Rattle.link_sim.proofs.Swapping.{swapped-of}
 
 -- ---- runs, one behind the other
 pub runs-both : (n m : ℕ) (put : Put) (a b c : Exchange) → Runs n put a b → Runs m put b c → (k : ℕ) × Runs k put a c
@@ -99,7 +101,16 @@ module _ (put : Put) where
         } in
         one-step (view x o mine theirs forth back) (made x o (of_id put.id forth) (of_id put.id back) b1 c1)
         (record { is_sender = same ∙ is; is_receiver = subst (λ p. IsReceiverIn p o) (sym same_there) there; is_forth = f; is_back = k; is_told = refl; is_told_there = refl })
-        (inr (inr (inr (inr (inr (inr (inr (inr more)))))))))
+        (inr (inr (inr (inr (inr (inr (inr (inr (inr more))))))))))
+
+-- one lane overtakes the other: each put makes that one step
+pub goes-overtaken : (put : Put) (mine theirs : EntityState) (forth back forth1 back1 : List Pdu) → IsSwapped forth forth1 → IsSwapped back back1 → Goes put mine theirs forth back mine theirs forth1 back1
+goes-overtaken put mine theirs forth back forth1 back1 f k = goes-by put mine theirs forth back mine theirs forth1 back1 (λ x o is there.
+    let b : Bool = one_tells (tells_complete put.id) mine.table.told in
+    let c : Bool = one_tells (tells_complete put.id) theirs.table.told in
+    one-step put mine theirs forth back mine theirs forth1 back1 (view put x o mine theirs forth back) (made x o (of_id put.id forth1) (of_id put.id back1) b c)
+    (record { is_sender = is; is_receiver = there; is_forth = refl; is_back = refl; is_told = refl; is_told_there = refl })
+    (inr (inr (inr (inr (inr (inr (inr (inr (inl (record { forth = of_id put.id forth1; back = of_id put.id back1; swaps = swapped-of put.id forth forth1 f; swaps_back = swapped-of put.id back back1 k; is = refl })))))))))))
 
 -- ---- a step of a record, as far as the put is concerned
 -- of its sender

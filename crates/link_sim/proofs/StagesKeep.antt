@@ -257,7 +257,8 @@ settles-keep put a b (inr (inr (inr (inr (inr (inr (inl s))))))) = subst (Exchan
   receiver = subst (λ o. StaysReceiver o (Some s.receiver)) (sym s.none) tt;
 })
 settles-keep put a b (inr (inr (inr (inr (inr (inr (inr (inl s)))))))) = subst (ExchangeKeeps a) (sym s.is) (record { sender = itself-keeps a.sender; receiver = same-receiver a.receiver })
-settles-keep put a b (inr (inr (inr (inr (inr (inr (inr (inr s)))))))) = subst (ExchangeKeeps a) (sym s.is) (record { sender = itself-keeps a.sender; receiver = same-receiver a.receiver })
+settles-keep put a b (inr (inr (inr (inr (inr (inr (inr (inr (inl s))))))))) = subst (ExchangeKeeps a) (sym s.is) (record { sender = itself-keeps a.sender; receiver = same-receiver a.receiver })
+settles-keep put a b (inr (inr (inr (inr (inr (inr (inr (inr (inr s))))))))) = subst (ExchangeKeeps a) (sym s.is) (record { sender = itself-keeps a.sender; receiver = same-receiver a.receiver })
 
 pub runs-keep : (n : ℕ) (put : Put) (a b : Exchange) → Runs n put a b → ExchangeKeeps a b
 unfolding Runs

@@ -21,6 +21,8 @@ use Rattle.link_sim.specs.Runs.{Exchange, TellsMore, Settles, Runs}
 use Rattle.link_sim.specs.Stages.{NothingDue, IsAtRest, IsCompleteExchange, IsOverAt, IsOver, is_answered_in, is_answered}
 use Rattle.link_sim.specs.Work.{opening_work}
 use Rattle.link_sim.proofs.CourseLists.{true-sent}
+use Rattle.link_sim.specs.Swapped.{IsSwapped}
+use Rattle.link_sim.proofs.Swapping.{swapped-all, swapped-nil}
 use Rattle.link_sim.proofs.StagesKeep.{ExchangeKeeps, StaysReceiver, settles-keep, closed-is}
 
 not-both : {X : Type 0} (o : Option X) (x : X) → o ≡ None → o ≡ Some x → ⊥
@@ -39,7 +41,15 @@ rests put a b r (inr (inr (inr (inr (inl s))))) = absurd (no-front a.forth s.res
 rests put a b r (inr (inr (inr (inr (inr (inl s)))))) = absurd (no-front a.forth s.rest s.heard r.forth s.front)
 rests put a b r (inr (inr (inr (inr (inr (inr (inl s))))))) = absurd (no-front a.forth s.rest s.heard r.forth s.front)
 rests put a b r (inr (inr (inr (inr (inr (inr (inr (inl s)))))))) = absurd (no-front a.forth s.rest s.heard r.forth s.front)
-rests put a b r (inr (inr (inr (inr (inr (inr (inr (inr s)))))))) = s
+rests put a b r (inr (inr (inr (inr (inr (inr (inr (inr (inl s))))))))) = record {
+  told = a.told;
+  told_there = a.told_there;
+  stays = λ h. h;
+  stays_there = λ h. h;
+  is = s.is ∙ ap (λ l. record a { forth = l; back = s.back }) (swapped-nil s.forth (subst (λ l. IsSwapped l s.forth) r.forth s.swaps) ∙ sym r.forth)
+      ∙ ap (λ l. record a { back = l }) (swapped-nil s.back (subst (λ l. IsSwapped l s.back) r.back s.swaps_back) ∙ sym r.back);
+}
+rests put a b r (inr (inr (inr (inr (inr (inr (inr (inr (inr s))))))))) = s
 
 pub tells-then : (a b c : Exchange) → TellsMore a b → TellsMore b c → TellsMore a c
 tells-then a b c s t = record {
@@ -68,7 +78,7 @@ runs-then m (suc n) put a b c first last = let before = runs-then m n put a b la
 
 pub tells-run : (n : ℕ) (put : Put) (a b c : Exchange) → TellsMore a b → Runs n put b c → (steps : ℕ) × Runs steps put a c
 unfolding Runs
-tells-run n put a b c t runs = runs-then 1 n put a b c (a, (refl, inr (inr (inr (inr (inr (inr (inr (inr t))))))))) runs
+tells-run n put a b c t runs = runs-then 1 n put a b c (a, (refl, inr (inr (inr (inr (inr (inr (inr (inr (inr t)))))))))) runs
 
 -- ---- what is over
 -- a closed sender sends an ACK alone
@@ -101,7 +111,8 @@ module _ (put : Put) (a b : Exchange) (over : a.sender.phase ≡ sending.Closed)
   none-over (inr (inr (inr (inr (inr (inl s)))))) = absurd (not-both a.receiver s.receiver none s.is_receiver)
   none-over (inr (inr (inr (inr (inr (inr (inl s))))))) = absurd (s.opening (front-opens s.rest s.heard s.front).0)
   none-over (inr (inr (inr (inr (inr (inr (inr (inl s)))))))) = subst OverAt (sym s.is) (none-at s.rest (front-opens s.rest s.heard s.front).1)
-  none-over (inr (inr (inr (inr (inr (inr (inr (inr s)))))))) = subst OverAt (sym s.is) (none-at a.forth unopened)
+  none-over (inr (inr (inr (inr (inr (inr (inr (inr (inl s))))))))) = subst OverAt (sym s.is) (none-at s.forth (swapped-all (λ v. opening_work v ≡ 0) a.forth s.forth s.swaps unopened))
+  none-over (inr (inr (inr (inr (inr (inr (inr (inr (inr s))))))))) = subst OverAt (sym s.is) (none-at a.forth unopened)
 
 over-step : (put : Put) (a b : Exchange) → IsOver a → Settles put a b → IsOver b
 over-step put a b over s = record { sender = keeps.sender.closed over.sender; receiver = by a.receiver refl keeps.receiver over.receiver }

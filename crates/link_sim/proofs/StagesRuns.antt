@@ -21,13 +21,14 @@ use Rattle.cfdp_entity.specs.Seen.{Seen, Receives}
 use Rattle.cfdp_entity.specs.Steps.{After, sender_after, receiver_after}
 use Rattle.link_sim.specs.Course.{IsCourse}
 use Rattle.link_sim.specs.Exchange.{IsTrueForth, IsTrueBack, is_bad}
-use Rattle.link_sim.specs.Runs.{Exchange, SenderSends, SenderHears, SenderPasses, ReceiverTakes, ReceiverHears, ReceiverPasses, ReceiverOpens, GoesUnheard, TellsMore, Settles, Runs}
+use Rattle.link_sim.specs.Runs.{Exchange, SenderSends, SenderHears, SenderPasses, ReceiverTakes, ReceiverHears, ReceiverPasses, ReceiverOpens, GoesUnheard, Overtakes, TellsMore, Settles, Runs}
 use Rattle.link_sim.specs.Work.{opening_work}
 use Rattle.link_sim.proofs.CourseAll.{course-laws}
 use Rattle.link_sim.proofs.CourseLaws.{CourseLaws, told_with}
 use Rattle.link_sim.proofs.CourseReceives.{after-is}
 use Rattle.link_sim.proofs.NotBad.{tells-well}
 use Rattle.link_sim.proofs.StagesKeep.{ExchangeKeeps, runs-keep}
+use Rattle.link_sim.proofs.Swapping.{swapped-course}
 use Rattle.link_sim.proofs.WellHeard.{sends-well, hears-back-well, hears-well}
 
 -- ---- a record that a true PDU opens
@@ -181,6 +182,9 @@ module _ (put : Put) (awake acks files ends : Bool) where
         (subst (λ o. IsCourse put awake acks files ends a.sender o s.rest a.back a.told a.told_there) (sym s.none)
         (laws.none_hears put awake acks files ends a.sender [] s.rest a.back s.heard a.told a.told_there s.opens_none (with-both None (s.heard ∷ s.rest) s.none s.front)))
 
+    overtakes : Overtakes a b → Course b
+    overtakes s = subst Course (sym s.is) (swapped-course put a.sender a.receiver a.forth s.forth a.back s.back a.told a.told_there s.swaps s.swaps_back awake acks files ends h)
+
     tells : TellsMore a b → Course b
     tells s = subst Course (sym s.is)
         (laws.told_more put awake acks files ends a.sender a.receiver a.forth a.back a.told s.told a.told_there s.told_there s.stays s.stays_there h)
@@ -194,7 +198,8 @@ module _ (put : Put) (awake acks files ends : Bool) where
     settles-course (inr (inr (inr (inr (inr (inl s)))))) = ignores s
     settles-course (inr (inr (inr (inr (inr (inr (inl s))))))) = opens-one s
     settles-course (inr (inr (inr (inr (inr (inr (inr (inl s)))))))) = unheard s
-    settles-course (inr (inr (inr (inr (inr (inr (inr (inr s)))))))) = tells s
+    settles-course (inr (inr (inr (inr (inr (inr (inr (inr (inl s))))))))) = overtakes s
+    settles-course (inr (inr (inr (inr (inr (inr (inr (inr (inr s))))))))) = tells s
 
 pub runs-course : (n : ℕ) (put : Put) (awake acks files ends : Bool) (a b : Exchange) → a.sender.size ≡ length put.octets
     → IsCourse put awake acks files ends a.sender a.receiver a.forth a.back a.told a.told_there → Runs n put a b

@@ -42,6 +42,7 @@ use Rattle.link_sim.proofs.CourseTruth.{as-opened}
 use Rattle.link_sim.proofs.NotBad.{tells-well}
 use Rattle.link_sim.proofs.StagesEnds.{course-completes}
 use Rattle.link_sim.proofs.StagesKeep.{ExchangeKeeps, runs-keep}
+use Rattle.link_sim.proofs.Swapping.{swapped-says}
 use Rattle.link_sim.proofs.StagesRuns.{CourseIn, heard-good, opened-by, OpensWell, opened-well, runs-course}
 
 -- ---- an EOF comes, or none does
@@ -241,7 +242,11 @@ module _ (put : Put) (a b : Exchange) (c : CourseIn put false false false false 
   settles-unheard (inr (inr (inr (inr (inr (inl s)))))) = subst Unheard (sym s.is) (record { eof = rest-eof s.rest s.heard s.front; unknown = u.unknown })
   settles-unheard (inr (inr (inr (inr (inr (inr (inl s))))))) = subst Unheard (sym s.is) (record { eof = rest-eof s.rest s.heard s.front; unknown = opens-unknown s })
   settles-unheard (inr (inr (inr (inr (inr (inr (inr (inl s)))))))) = subst Unheard (sym s.is) (record { eof = rest-eof s.rest s.heard s.front; unknown = u.unknown })
-  settles-unheard (inr (inr (inr (inr (inr (inr (inr (inr s)))))))) = subst Unheard (sym s.is) (record { eof = u.eof; unknown = u.unknown })
+  settles-unheard (inr (inr (inr (inr (inr (inr (inr (inr (inl s))))))))) = subst Unheard (sym s.is) (record {
+    eof = record { taken = u.eof.taken; undue = u.eof.undue; none_forth = swapped-says is_eof a.forth s.forth s.swaps ∙ u.eof.none_forth };
+    unknown = u.unknown;
+  })
+  settles-unheard (inr (inr (inr (inr (inr (inr (inr (inr (inr s))))))))) = subst Unheard (sym s.is) (record { eof = u.eof; unknown = u.unknown })
 
 runs-unheard : (n : ℕ) (put : Put) (a b : Exchange) → a.sender.size ≡ length put.octets → CourseIn put false false false false a → Unheard a → Runs n put a b → Unheard b
 unfolding Runs

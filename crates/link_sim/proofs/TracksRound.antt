@@ -60,7 +60,7 @@ runs-behind zero put a b c step runs = (a, (refl, subst (λ e. Settles put a e) 
 runs-behind (suc n) put a b c step r = (r.0, (runs-behind n put a b r.0 step r.1.0, r.1.1))
 
 told-behind : (n : ℕ) (put : Put) (a b c : Exchange) → TellsMore a b → Runs n put b c → Runs (suc n) put a c
-told-behind n put a b c more runs = runs-behind n put a b c (inr (inr (inr (inr (inr (inr (inr (inr more)))))))) runs
+told-behind n put a b c more runs = runs-behind n put a b c (inr (inr (inr (inr (inr (inr (inr (inr (inr more))))))))) runs
 
 -- ---- what waits for what
 none-in : (ks : List Kind) → ((k : Kind) → Contains ks k → ⊥) → ks ≡ []

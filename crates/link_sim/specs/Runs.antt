@@ -27,6 +27,7 @@ use Rattle.cfdp_entity.specs.Opening.{opens}
 use Rattle.cfdp_entity.specs.Seen.{Receives}
 use Rattle.cfdp_entity.specs.Steps.{sender_after, receiver_after}
 use Rattle.link_sim.specs.Exchange.{IsTrueForth, tells_complete, one_tells}
+use Rattle.link_sim.specs.Swapped.{IsSwapped}
 use Rattle.link_sim.specs.Work.{opening_work}
 
 -- One transaction: its sender, its receiver or none yet, the PDUs on their way to the receiver and
@@ -155,6 +156,14 @@ pub record GoesUnheard (old new : Exchange) : Type 0 where
   pub opens_none : opening_work heard ≡ 0
   pub is : new ≡ record old { forth = rest }
 
+-- on the way to the receiver, or back, one lane overtakes the other
+pub record Overtakes (old new : Exchange) : Type 0 where
+  pub forth : List Content
+  pub back : List Content
+  pub swaps : IsSwapped old.forth forth
+  pub swaps_back : IsSwapped old.back back
+  pub is : new ≡ record old { forth = forth; back = back }
+
 -- more was told, of whatever transaction
 pub record TellsMore (old new : Exchange) : Type 0 where
   pub told : Bool
@@ -167,7 +176,8 @@ abbrev pub Settles : Put → (old new : Exchange) → Type 0
 Settles put old new =
     SenderSends put old new ⊎ (SenderHears put old new ⊎ (SenderPasses old new
     ⊎ (ReceiverTakes put old new ⊎ (ReceiverHears put old new ⊎ (ReceiverPasses old new
-    ⊎ (ReceiverOpens put old new ⊎ (GoesUnheard old new ⊎ TellsMore old new)))))))
+    ⊎ (ReceiverOpens put old new ⊎ (GoesUnheard old new ⊎ (Overtakes old new
+    ⊎ TellsMore old new))))))))
 
 -- so many of them, one after another
 unfoldable pub Runs : ℕ → Put → (old new : Exchange) → Type 0

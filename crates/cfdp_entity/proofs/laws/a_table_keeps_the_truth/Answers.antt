@@ -2,6 +2,7 @@ use Rattle.std.proofs.Common.{refl}
 use Rattle.cfdp_entity.specs.Table.{first_table}
 use Rattle.cfdp_entity.proofs.Histories.{Machines}
 use Rattle.cfdp_entity.proofs.Truths.{TrueReceiver, true-first, true-step, true-more}
+use Rattle.cfdp_entity.proofs.Amongst.{true-among}
 use Rattle.cfdp_entity.proofs.laws.a_table_keeps_the_truth.Goals as goal
 
 pub returns-clause-first : goal.returns-clause-first
@@ -18,3 +19,7 @@ returns-clause-step c own put_of heard first s st may tells t =
 pub returns-clause-more : goal.returns-clause-more
 returns-clause-more c own put_of puts_then heard more first st grows t =
     true-more own put_of puts_then grows heard more (λ put r m s. c.more_is_heard.ensures.more put heard more r m s) first st t
+
+pub returns-clause-among : goal.returns-clause-among
+returns-clause-among c own put_of heard others first st among t =
+    true-among own put_of heard others among (λ put r m s. c.more_is_heard.ensures.among put heard others r m among s) first st t

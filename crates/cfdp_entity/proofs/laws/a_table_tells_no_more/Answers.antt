@@ -2,6 +2,7 @@ use Rattle.std.proofs.Common.{refl}
 use Rattle.cfdp_entity.specs.Table.{first_table}
 use Rattle.cfdp_entity.proofs.Histories.{Machines}
 use Rattle.cfdp_entity.proofs.Tellings.{Tellers, tells-first, tells-step, tells-more}
+use Rattle.cfdp_entity.proofs.Amongst.{tells-among}
 use Rattle.cfdp_entity.proofs.laws.a_table_tells_no_more.Goals as goal
 
 pub returns-clause-first : goal.returns-clause-first
@@ -17,3 +18,6 @@ returns-clause-step c own put_of heard first s st may tells d k t =
 
 pub returns-clause-more : goal.returns-clause-more
 returns-clause-more c own heard more st t = tells-more own heard more st t
+
+pub returns-clause-among : goal.returns-clause-among
+returns-clause-among c own heard others st among t = tells-among own heard others st among t

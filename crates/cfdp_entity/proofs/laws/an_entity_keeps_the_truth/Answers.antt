@@ -26,6 +26,17 @@ returns-clause-more c put_of puts_then heard more first e grows k = record {
   policy = k.policy;
 }
 
+pub returns-clause-among : goal.returns-clause-among
+returns-clause-among c put_of heard others first e among k = record {
+  config = k.config;
+  once = k.once;
+  knows = c.a_table_keeps_the_truth.ensures.among e.config.entity put_of heard others first e.table among k.knows;
+  sends = k.sends;
+  tells = c.a_table_tells_no_more.ensures.among e.config.entity heard others e.table among k.tells;
+  timed = k.timed;
+  policy = k.policy;
+}
+
 pub returns-clause-put : goal.returns-clause-put
 returns-clause-put c put_of heard first source destination id old new a finds k =
     let laws : TableLaws = record { once = c.a_table_finishes_a_transaction_once.ensures.step; knows = c.a_table_keeps_the_truth.ensures.step; sends = c.a_table_sends_the_truth.ensures.step; tells = c.a_table_tells_no_more.ensures.step } in
