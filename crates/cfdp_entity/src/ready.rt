@@ -9,7 +9,7 @@ use std::marker::Model;
 const BITS: usize = 64;
 
 /// Which places have something due, of at most 4,096. All its memory is taken at the start.
-#[derive(Debug, Drop)]
+#[derive(Drop)]
 pub struct Ready {
     len: usize,
     // A bit for each of 64 places. Bits of places that are not there are clear.

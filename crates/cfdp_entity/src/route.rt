@@ -2,7 +2,7 @@ use crate::error::EntityDrop;
 use crate::stray::Stray;
 
 /// Where a PDU goes that was heard.
-#[derive(Debug, Drop)]
+#[derive(Drop)]
 pub(crate) enum Route {
     /// It is dropped.
     Drops(EntityDrop),

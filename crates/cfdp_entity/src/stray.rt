@@ -12,7 +12,7 @@ use cfdp_header::Header;
 use std::marker::Model;
 
 /// The ACK of a Finished whose transaction has no record here.
-#[derive(Debug, Drop)]
+#[derive(Drop)]
 pub struct Stray {
     addressing: Addressing,
     condition: Condition,

@@ -12,7 +12,7 @@ use cfdp_extents::Gaps;
 const MOST_PAIRS: usize = 32;
 
 /// What one NAK asks for, of all that is missing.
-#[derive(Clone, Copy, Debug)]
+#[derive(Clone, Copy)]
 pub(crate) struct Asked {
     pub(crate) pairs: [(u64, u64); 32],
     // How many of them count.

@@ -2,6 +2,7 @@
 ghost use Rattle.std.specs.Prelude.{◌≡◌, ◌<◌, ℕ, List, IfOk, OnErr};
 ghost use Rattle.cfdp_directives.specs.Put.{inbox_after};
 ghost use Rattle.cfdp_entity.specs.Sound.{FindsMore};
+ghost use Rattle.cfdp_header.specs.Files.{FileMap};
 ghost use Rattle.link_sim.specs.Clean.{IsClean};
 ghost use Rattle.link_sim.specs.Exchanges.{ExpiresOn};
 ghost use Rattle.link_sim.specs.Observed.{seen};
@@ -205,8 +206,23 @@ pub fn run<O: Outbox, I: Inbox>(
     ensures holds { IfOk result (λ w. (side : Side) → HoldsAt side (seen w)) }
 {
     let mut world = World::new(alloc, config, outboxes, inboxes)?;
+    apply_all(&mut world, events)?;
+    Ok(world)
+}
+
+/// Makes these events happen, in turn.
+fn apply_all<O: Outbox, I: Inbox>(
+    world: &mut World<O, I>,
+    events: &[Event],
+) -> Result<(), AllocError>
+    ensures { IfOk result (λ _. (side : Side) → (first : FileMap) → HoldsAt side (seen world.old)
+        → (at side (seen world.old)).inbox
+        ≡ inbox_after (put_of (seen world.old)) first (completions_at side (seen world.old))
+        → HoldsAt side (seen world.new) × ((at side (seen world.new)).inbox
+        ≡ inbox_after (put_of (seen world.new)) first (completions_at side (seen world.new)))) }
+{
     for event in events {
         let _ = world.apply(event)?;
     }
-    Ok(world)
+    Ok(())
 }
