@@ -30,8 +30,6 @@ mod count;
 mod error;
 mod header;
 mod laws;
-#[cfg(test)]
-mod tests;
 
 use cfd_bits::{get, put_uint};
 pub use config::LinkConfig;

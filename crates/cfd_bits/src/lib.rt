@@ -10,8 +10,6 @@ ghost use Rattle.std.specs.Prelude.{◌≡◌, ℕ, ◌+◌, ◌-◌, ◌*◌, �
 ghost use Rattle.cfd_bits.specs.Field.{field, octets, SameOutside};
 
 mod laws;
-#[cfg(test)]
-mod tests;
 
 pub use laws::{a_field_is_its_bits, octets_read_are_written, what_is_written_is_read};
 

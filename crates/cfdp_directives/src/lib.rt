@@ -65,8 +65,3 @@ pub use telling::{Outcome, another_try, tell, tell_fault};
 pub use tlv::Tlvs;
 pub use tlv_iter::TlvIter;
 pub use writing::{can_write, encode};
-
-#[cfg(test)]
-mod protocol_tests;
-#[cfg(test)]
-mod tests;

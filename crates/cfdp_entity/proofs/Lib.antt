@@ -22,4 +22,3 @@ pub mod Sparing
 pub mod Spelled
 pub mod Turns
 pub mod CallerLemmas
-mod LongFiles

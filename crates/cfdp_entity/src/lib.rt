@@ -3,8 +3,6 @@
 //! tells it the time, it hears PDUs, and PDUs are taken from it.
 #![tactic(auto)]
 
-#[cfg(test)]
-mod bench;
 mod call;
 mod calls;
 mod config;
@@ -22,8 +20,6 @@ mod route;
 mod steps;
 mod stray;
 mod table;
-#[cfg(test)]
-mod tests;
 
 pub use call::Call;
 pub use config::EntityConfig;

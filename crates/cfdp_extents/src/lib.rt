@@ -14,8 +14,6 @@ mod extents;
 mod gaps;
 mod laws;
 mod search;
-#[cfg(test)]
-mod tests;
 mod whole;
 
 pub use extents::Extents;

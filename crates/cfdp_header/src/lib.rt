@@ -143,6 +143,3 @@ pub fn written_header_is_read()
 pub fn a_header_read_can_be_written()
     ensures { (h : Header) (text : List ℕ) → SpellsHeader h text → FitsHeader h }
 {}
-
-#[cfg(test)]
-mod tests;

@@ -6,8 +6,6 @@ ghost use Rattle.link_sim.specs.WorldConfig.{IsWorldConfig};
 use crate::command::Command;
 use crate::input::MAX_SCRIPT;
 use crate::outboxes::outboxes;
-#[cfg(test)]
-use crate::report::{write_inbox, write_indications};
 use crate::script::{Script, Step};
 use crate::sighting::{Log, Sighting};
 use crate::watch::Watch;
@@ -17,8 +15,6 @@ use cfdp_store::{Files, Inbox, MemoryInbox, MemoryOutbox, Outbox};
 use link_sim::{Applied, Event, MemoryWorld, Side, WorldConfig};
 use link_stack::LinkDrop;
 use std::alloc::{AllocError, Global};
-#[cfg(test)]
-use std::io;
 use std::marker::Model;
 
 /// The most times that `recover` tells a station the time, as `World::recover` does.
@@ -75,35 +71,6 @@ fn sightings_of(
 /// Lets a value go, of whatever type: callers that own a world needn't look into it.
 fn let_go<T: Drop>(_value: T) {}
 
-/// Writes what the stations of a script told and received where its run is watched.
-#[cfg(test)]
-pub fn write_left(alloc: Global, text: &[u8], out: &mut Vec<u8>) -> io::Result<()> {
-    if text.len() > MAX_SCRIPT {
-        return Ok(());
-    }
-    let script = Script::parse(alloc, text)?;
-    match script.config() {
-        Ok(config) => write_left_from(alloc, config, &script, out),
-        Err(_) => Ok(()),
-    }
-}
-
-#[cfg(test)]
-fn write_left_from(
-    alloc: Global,
-    config: WorldConfig,
-    script: &Script,
-    out: &mut Vec<u8>,
-) -> io::Result<()>
-    requires { IsWorldConfig config }
-{
-    let outboxes = outboxes(alloc, script.files.as_slice())?;
-    let mut watched = Watched::new(alloc, config, outboxes)?;
-    let written = watched.write_left(script.steps.as_slice(), out);
-    let_go(watched);
-    written
-}
-
 /// Two stations and the link between them. After each event it is noted what passed.
 #[derive(Drop)]
 struct Watched {
@@ -156,16 +123,6 @@ impl Watched {
     fn sightings(&mut self, steps: &[Step]) -> Result<Vec<Sighting>, AllocError> {
         self.perform_all(steps);
         self.log.take()
-    }
-
-    /// Does all commands in turn, and writes what the stations told and received.
-    #[cfg(test)]
-    fn write_left(&mut self, steps: &[Step], out: &mut Vec<u8>) -> io::Result<()> {
-        self.perform_all(steps);
-        write_indications(out, 1, self.world.indications(Side::One))?;
-        write_indications(out, 2, self.world.indications(Side::Two))?;
-        write_inbox(out, 1, self.world.received(Side::One))?;
-        write_inbox(out, 2, self.world.received(Side::Two))
     }
 
     /// Does all commands in turn.

@@ -19,16 +19,12 @@ mod due;
 mod ending;
 mod hearing;
 mod laws;
-#[cfg(test)]
-mod lone;
 mod missing;
 mod opening;
 mod receiver;
 mod sending;
 mod staging;
 mod state;
-#[cfg(test)]
-mod tests;
 mod waiting;
 
 pub use due::Due;

@@ -9,5 +9,4 @@ pub mod KeepsPut
 pub mod Ends
 pub mod Told
 pub mod Waiting
-pub mod Ready
 pub mod Rows

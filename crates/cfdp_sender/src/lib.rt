@@ -12,8 +12,6 @@
 //! ```
 #![tactic(auto)]
 
-#[cfg(test)]
-mod bench;
 mod calls;
 mod due;
 mod expiry;
@@ -23,8 +21,6 @@ mod phase;
 mod sender;
 mod taken;
 mod taking;
-#[cfg(test)]
-mod tests;
 mod transfer;
 
 pub use due::SenderDue;

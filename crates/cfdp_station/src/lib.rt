@@ -17,8 +17,6 @@
 //! ```
 #![tactic(auto)]
 
-#[cfg(test)]
-mod bench;
 mod config;
 mod moving;
 mod polled;

@@ -14,8 +14,6 @@
 //! ```
 #![tactic(auto)]
 
-#[cfg(test)]
-mod counting;
 mod error;
 mod files;
 mod fuse;
@@ -25,8 +23,6 @@ mod memory;
 mod outbox;
 mod pieces;
 mod stored;
-#[cfg(test)]
-mod tests;
 
 pub use error::StoreError;
 pub use files::Files;

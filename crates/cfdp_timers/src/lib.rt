@@ -17,8 +17,6 @@ mod deadlines;
 mod entries;
 mod kind;
 mod laws;
-#[cfg(test)]
-mod tests;
 mod timers;
 mod wait;
 

@@ -28,8 +28,6 @@ mod laws;
 mod mpdu_header;
 mod packer;
 mod reassembler;
-#[cfg(test)]
-mod tests;
 
 pub use carrying::{are_few_in_a_row, carry};
 pub use header::{are_packets, is_packet};

@@ -24,8 +24,6 @@ mod error;
 pub mod header;
 mod laws;
 mod packet;
-#[cfg(test)]
-mod tests;
 
 use cfd_bits::{put_bytes, put_uint};
 pub use count::{Counter, SEQUENCE_COUNTS, Watch};
