@@ -3,10 +3,13 @@ use Rattle.std.proofs.Common.{◌≡◌, ◌⊎◌, ℕ, List, Option, None, Som
 use Rattle.std.specs.FinMap.{empty}
 use Rattle.std.specs.Io.KnownBytes.{Keeps}
 use Rattle.std.proofs.KnownBytes.{Keeps-refl}
+use Rattle.cfdp_header.specs.Files.{FileMap}
+use Rattle.link_sim.specs.Running.{KeepsPromises, Led}
 use Rattle.link_sim.specs.World.{WorldState, IsFirst}
 use Rattle.link_sim.specs.declared.side.Side.TheVariants.{One, Two}
 use Rattle.link_sim.specs.declared.world_config.WorldConfig.{WorldConfig}
-use Rattle.cfdp_node.specs.Ending.{EndsRun}
+use Rattle.cfdp_node.specs.Ending.{EndsRun, RunsAll}
+use Rattle.cfdp_node.proofs.Leads.{runs_lead}
 use Rattle.cfdp_node.specs.Outboxes.{outbox_of}
 use Rattle.cfdp_node.specs.Script as scripts
 use Rattle.cfdp_node.specs.Script.{IsFirstBad, files_of, settings_of, steps_of}
@@ -45,15 +48,26 @@ noted_of_text text wrong last s first w l e is =
     (subst (λ x. scripts.IsFirst wrong x (settings_of text) first) l (subst (λ x. scripts.IsFirst wrong last x first) e is))
 
 -- ---- where the commands ran
-module _ (text : List ℕ) (old new : Option (List ℕ)) where
+-- what is promised of all that any calls make of a first world
+abbrev pub Promises : WorldConfig → Type 0
+Promises config = (outboxes inboxes : FileMap × FileMap) (first now : WorldState)
+    → IsFirst config outboxes inboxes first → Led first now → KeepsPromises inboxes now
+
+module _ (text : List ℕ) (old new : Option (List ℕ)) (law : Promises (world_of (settings_of text))) where
+  -- the world that the commands left
+  kept_to_end : (exit : Exit) (first : WorldState)
+      → IsFirst (world_of (settings_of text)) (outbox_of One (files_of text), outbox_of Two (files_of text)) (empty, empty) first
+      → (ran : RunsAll (steps_of text) first exit old new) → KeepsPromises (empty, empty) ran.last
+  kept_to_end exit first starts ran = law _ _ first ran.last starts (runs_lead (steps_of text) ran.answered first ran.last ran.runs)
+
   -- what starts here and ran so, ended the script so
   run_to_end : (exit : Exit) (first : WorldState) → IsFirstBad text None
       → IsFirst (world_of (settings_of text)) (outbox_of One (files_of text), outbox_of Two (files_of text)) (empty, empty) first
       → EndsRun exit (steps_of text) first old new → EndsScript exit text old new
-  run_to_end Complete first good starts ran = record { good = good; first = first; starts = starts; ran = ran }
-  run_to_end Incomplete first good starts ran = record { good = good; first = first; starts = starts; ran = ran }
+  run_to_end Complete first good starts ran = record { good = good; first = first; starts = starts; ran = ran; promised = kept_to_end _ first starts ran }
+  run_to_end Incomplete first good starts ran = record { good = good; first = first; starts = starts; ran = ran; promised = kept_to_end _ first starts ran }
   run_to_end (BadScript bad) first good starts ran = absurd ran
-  run_to_end (Device NoMemory) first good starts ran = record { good = good; first = first; starts = starts; ran = ran }
+  run_to_end (Device NoMemory) first good starts ran = record { good = good; first = first; starts = starts; ran = ran; promised = kept_to_end _ first starts ran }
   run_to_end (Device NoMemoryAtStart) first good starts ran = tt
   run_to_end (Device Unwritable) first good starts ran = tt
   run_to_end (Device Unreadable) first good starts ran = tt
@@ -84,11 +98,12 @@ module _ (text : List ℕ) (old new : Option (List ℕ)) where
 
 -- a script that was read as it is, and whose commands ended so
 pub read_commands_end : (text : List ℕ) (old new : Option (List ℕ)) (exit : Exit) (config : WorldConfig) (files : List FileLine) (steps : List Step)
-    → config ≡ world_of (settings_of text) → files ≡ files_of text → steps ≡ steps_of text → IsFirstBad text None
+    → Promises config → config ≡ world_of (settings_of text) → files ≡ files_of text → steps ≡ steps_of text → IsFirstBad text None
     → EndsFrom exit config files steps old new → EndsScript exit text old new × IsSilentAt exit old new
-read_commands_end text old new exit config files steps c f s good ends =
-    let same : EndsFromText text old new exit = rw (c, f, s) at ends in
-    (commands_end text old new exit good same, commands_silent text old new exit same)
+read_commands_end text old new exit config files steps law c f s good ends =
+    let promises : Promises (world_of (settings_of text)) = subst Promises c law in
+    let same : EndsFromText text old new promises exit = rw (c, f, s) at ends in
+    (commands_end text old new promises exit good same, commands_silent text old new promises exit same)
 
 -- ---- a text that is known where what the reader has is known
 pub known_text : (remaining : Option (List ℕ)) (text : List ℕ) (P : List ℕ → Type 0) → IfSome remaining (λ all. text ≡ all) → P text → IfSome remaining P

@@ -23,7 +23,7 @@ either_end : (P : Exit → Type 0) (exit ended : Exit) → P exit → P (Device 
 either_end P exit ended same failed = ⊎_elim (λ e. subst P (sym e) same) (λ e. subst P (sym e) failed)
 
 module _ (old mid new : Option (List ℕ)) (kept : Keeps mid new) where
-  run_kept : (steps : List Step) (first : WorldState) (exit : Exit) → RunsAll steps first exit old mid → RunsAll steps first exit old new
+  abbrev run_kept : (steps : List Step) (first : WorldState) (exit : Exit) → RunsAll steps first exit old mid → RunsAll steps first exit old new
   run_kept steps first exit all = record {
     answered = all.answered;
     last = all.last;
@@ -33,7 +33,7 @@ module _ (old mid new : Option (List ℕ)) (kept : Keeps mid new) where
   }
 
   to_end_kept : (text : List ℕ) (exit : Exit) → RunsToEnd text exit old mid → RunsToEnd text exit old new
-  to_end_kept text exit to = record { good = to.good; first = to.first; starts = to.starts; ran = run_kept (steps_of text) to.first exit to.ran }
+  to_end_kept text exit to = record { good = to.good; first = to.first; starts = to.starts; ran = run_kept (steps_of text) to.first exit to.ran; promised = to.promised }
 
   script_kept : (text : List ℕ) (exit : Exit) → EndsScript exit text old mid → EndsScript exit text old new
   script_kept text Complete ends = to_end_kept text Complete ends

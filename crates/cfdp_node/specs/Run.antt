@@ -5,7 +5,7 @@ use Rattle.cfdp_header.specs.Files.{FileMap}
 use Rattle.link_sim.specs.Recovering.{EndsBy, IsRecovered, Recovers}
 use Rattle.link_sim.specs.Settling.{GoesWell, HasCause, IsSettled}
 use Rattle.link_sim.specs.Spreading.{BurstFindsNoMemory, Bursts, SpreadFindsNoMemory, Spreads, Times}
-use Rattle.link_sim.specs.World.{WorldState, FindsNoMemory, Steps, entity_at, side_in}
+use Rattle.link_sim.specs.World.{WorldState, FindsNoMemory, Steps, WantsMemory, entity_at, side_in}
 use Rattle.link_sim.specs.declared.event.Applied.TheVariants as did
 use Rattle.link_sim.specs.declared.event.Event.{Event}
 use Rattle.link_sim.specs.declared.event.Event.TheVariants as event
@@ -39,7 +39,8 @@ abbrev pub HappensOnce : Event → Option Answer → (old new : WorldState) → 
 HappensOnce e None old new = Steps e did.Applied old new
 HappensOnce e (Some Nothing) old new = Steps e did.Nothing old new
 HappensOnce e (Some (Refused by)) old new = Steps e (did.Refused by) old new
-HappensOnce e (Some (Ended error)) old new = ForMemory error (FindsNoMemory (side_in e) old new)
+HappensOnce e (Some (Ended error)) old new =
+    ForMemory error (WantsMemory e × FindsNoMemory (side_in e) old new)
 
 -- It happened so many times; or less often, and then came the answer, which isn't that it happened.
 abbrev pub HappensOften : Event → ℕ → Option Answer → (old new : WorldState) → Type 0

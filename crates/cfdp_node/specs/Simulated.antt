@@ -2,6 +2,7 @@
 use Rattle.std.specs.Prelude.{◌≡◌, ◌⊎◌, ℕ, List, Option, None, Some, ⊤}
 use Rattle.std.specs.FinMap.{empty}
 use Rattle.std.specs.Io.KnownBytes.{Keeps}
+use Rattle.link_sim.specs.Running.{KeepsPromises}
 use Rattle.link_sim.specs.World.{WorldState, IsFirst}
 use Rattle.link_sim.specs.declared.side.Side.TheVariants.{One, Two}
 use Rattle.link_sim.specs.declared.world_config.WorldConfig.{WorldConfig}
@@ -17,13 +18,16 @@ use Rattle.cfdp_node.specs.declared.exit.Fault.TheVariants.{Unreadable, TooLong,
 use Rattle.cfdp_node.specs.declared.script.Step.{Step}
 
 -- The script is good. From the first world of its settings and its files its commands ran to the
--- last of them, and what was written is the report of the world that they left.
+-- last of them, and what was written is the report of the world that they left. In that world each
+-- inbox holds the files of the puts whose completions were told there, one written over the other
+-- in their order, and nothing else.
 pub record RunsToEnd (text : List ℕ) (exit : Exit) (old new : Option (List ℕ)) : Type 0 where
   pub good : IsFirstBad text None
   pub first : WorldState
   pub starts : IsFirst (world_of (settings_of text))
       (outbox_of One (files_of text), outbox_of Two (files_of text)) (empty, empty) first
   pub ran : RunsAll (steps_of text) first exit old new
+  pub promised : KeepsPromises (empty, empty) ran.last
 
 -- The program ended so at a script.
 abbrev pub EndsScript : Exit → List ℕ → (old new : Option (List ℕ)) → Type 0

@@ -3,8 +3,7 @@ ghost use Rattle.cfdp_node.specs.Run.{HappensOften, HappensOnce, Performs};
 
 use crate::answer::Answer;
 use crate::command::Command;
-use crate::stations::Stations;
-use link_sim::{Applied, Event, RecoverError};
+use link_sim::{Applied, Event, RecoverError, Stations};
 use std::alloc::AllocError;
 
 /// Does what a command says. Answers why it was not done, or not to its end: the first answer of an

@@ -14,11 +14,10 @@ use crate::command::Command;
 use crate::dump_line::HexNumber;
 use crate::name::Name;
 use crate::script::Step;
-use crate::stations::Stations;
 use crate::wording::{Id, delivery_word, status_word};
 use cfdp_directives::{Checksum, Delivery, FileStatus, Indication};
 use cfdp_store::Files;
-use link_sim::{Event, Side};
+use link_sim::{Event, Side, Stations};
 use std::collections::BTreeMap;
 use std::io::Write;
 use std::{fmt, io};
@@ -64,8 +63,8 @@ pub fn write_report<S: Stations, W: Write>(
     write_answers(out, answered)?;
     write_indications(out, 1, stations.indications(Side::One))?;
     write_indications(out, 2, stations.indications(Side::Two))?;
-    write_inbox(out, 1, stations.inbox(Side::One))?;
-    write_inbox(out, 2, stations.inbox(Side::Two))?;
+    write_inbox(out, 1, stations.received(Side::One))?;
+    write_inbox(out, 2, stations.received(Side::Two))?;
     writeln!(out, "complete {} of {}", tally.complete, tally.asked)
 }
 

@@ -12,7 +12,7 @@ use crate::exit::{Exit, Fault};
 use crate::perform::perform;
 use crate::report::{Tally, write_report};
 use crate::script::Step;
-use crate::stations::Stations;
+use link_sim::Stations;
 use std::alloc::Global;
 use std::io;
 use std::io::Write;
@@ -39,7 +39,7 @@ pub fn run_steps<S: Stations, W: Write>(
 }
 
 /// Does all commands in turn, and keeps what each answered.
-fn perform_all<S: Stations>(stations: &mut S, steps: &[Step], answered: &mut Vec<Answered>)
+pub fn perform_all<S: Stations>(stations: &mut S, steps: &[Step], answered: &mut Vec<Answered>)
     requires none { answered.old.items ≡ [] }
     requires room { length steps.now ≤ vec_capacity answered.old }
     ensures { Runs steps.now answered.new.items (S.world stations.old) (S.world stations.new) }

@@ -11,7 +11,7 @@ use crate::input::{MAX_SCRIPT, read_fault, read_script};
 use crate::outboxes::outboxes;
 use crate::run::run_steps;
 use crate::script::{Script, Step};
-use link_sim::{MemoryWorld, WorldConfig};
+use link_sim::{MemoryWorld, WorldConfig, worlds_keep_the_promises};
 use std::alloc::Global;
 use std::io::{BufWriter, Read, Write};
 
@@ -52,6 +52,7 @@ fn run_text<W: Write>(alloc: Global, text: &[u8], out: &mut W) -> Exit
     ensures script { EndsScript result text.now (W.contents out.old) (W.contents out.new) }
     ensures silent { IsSilentAt result (W.contents out.old) (W.contents out.new) }
 {
+    worlds_keep_the_promises();
     let Ok(script) = Script::parse(alloc, text) else {
         return Exit::Device(Fault::NoMemoryAtStart);
     };
@@ -78,7 +79,7 @@ fn run_commands<W: Write>(
     let Ok(outboxes) = outboxes(alloc, files) else {
         return Exit::Device(Fault::NoMemoryAtStart);
     };
-    let Ok(world) = MemoryWorld::new(alloc, config, outboxes) else {
+    let Ok(world) = MemoryWorld::new(alloc, config, outboxes, ()) else {
         return Exit::Device(Fault::NoMemoryAtStart);
     };
     run_steps(alloc, world, steps, out)

@@ -12,7 +12,7 @@ use Rattle.link_sim.specs.declared.settle_error.SettleError.{SettleError}
 use Rattle.link_sim.specs.declared.settle_error.SettleError.TheVariants.{NoMemory, StoreFailed, TableFull}
 use Rattle.link_sim.specs.declared.shortages.Shortages.{Shortages}
 use Rattle.link_sim.specs.Settling.{IsOfSettling, AreOfSettling, AreInOrder, SettlesFrom, behind, KeepsAll, IsSettled, IsSettledAt, HasSent, IsSpared, CountsStayAt, CountsStay, GoesWellFrom, Ends, HasCauseFrom, all_shortages}
-use Rattle.link_sim.specs.World.{WorldState, NoneWaits, Flushes, Steps, entity_at}
+use Rattle.link_sim.specs.World.{WorldState, NoneWaits, NoneWhole, Flushes, Steps, entity_at}
 use Rattle.link_sim.specs.WorldWork.{world_work}
 use Rattle.link_sim.specs.declared.side.Side.{Side}
 use Rattle.link_sim.specs.declared.side.Side.TheVariants.{One, Two}
@@ -138,16 +138,16 @@ any-true false false false (inr (inl e)) = absurd (let w : false ≡ true = e.1 
 any-true false false false (inr (inr e)) = absurd (let w : false ≡ true = e.2 in cc)
 
 -- a round in which nothing happened
-pub round-settled : (a b c d e : WorldState) → b ≡ a → c ≡ b → d ≡ c → e ≡ d → HasSent One b → HasSent Two c → Steps (event.Deliver One) did.Nothing d d → Steps (event.Deliver Two) did.Nothing e e → IsSettled e
-round-settled a b c d e ab bc cd de one two from_one from_two =
+pub round-settled : (a b c d e : WorldState) → b ≡ a → c ≡ b → d ≡ c → e ≡ d → HasSent One b → HasSent Two c → Steps (event.Deliver One) did.Nothing d d → Steps (event.Deliver Two) did.Nothing e e → ((s : Side) → NoneWhole s e) → IsSettled e
+round-settled a b c d e ab bc cd de one two from_one from_two whole =
     let eb : e ≡ b = de ∙ cd ∙ bc in
     let ec : e ≡ c = de ∙ cd in
     let sent_one : HasSent One e = subst (λ (w : WorldState). HasSent One w) (sym eb) one in
     let sent_two : HasSent Two e = subst (λ (w : WorldState). HasSent Two w) (sym ec) two in
     let none_one : NoneWaits One e = subst (λ (w : WorldState). NoneWaits One w) (sym de) from_one.0 in
     each (λ (s : Side). IsSettledAt s e)
-    (record { rests = sent_one.0; filled = sent_one.1; none_waits = none_one })
-    (record { rests = sent_two.0; filled = sent_two.1; none_waits = from_two.0 })
+    (record { rests = sent_one.0; none_whole = whole One; filled = sent_one.1; none_waits = none_one })
+    (record { rests = sent_two.0; none_whole = whole Two; filled = sent_two.1; none_waits = from_two.0 })
 
 -- a flush leaves an entity as it was, also one of which nothing is due
 pub flushed-rests : (moved : Bool) (s : Side) (old new : WorldState) → (moved ≡ true → Flushes did.Applied s old new) → (moved ≡ false → Flushes did.Nothing s old new) → turn (entity_at s old) ≡ Rests → turn (entity_at s new) ≡ Rests

@@ -11,6 +11,10 @@ pub mod Moving
 pub mod Beginning
 pub mod Stepping
 pub mod Folding
+pub mod Happening
+pub mod FirstWays
+pub mod Leading
+pub mod FilesKept
 pub mod CourseLaws
 pub mod CourseSteps
 pub mod CourseGains

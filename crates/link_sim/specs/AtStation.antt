@@ -132,6 +132,7 @@ pub record SendsOneAt (old new : StationState) (link link_now : FrameLinkState) 
   pub failures : KeepsOutbox old.entity new.entity
   pub sends : let pdu = next_pdu old.entity.state in SendsAt old.down new.down link link_now
       (packet_of old.down.link old.down.packet_count pdu ∷ []) (pdu ∷ [])
+  pub none_whole : length new.down.waiting < new.down.link.zone
 
 -- The outbox failed to give the file data that were due, and that was counted: no PDU moved.
 pub record FailsAt (old new : StationState) (link link_now : FrameLinkState) : Type 0 where
@@ -157,6 +158,7 @@ pub record FillsAt (old new : StationState) (link link_now : FrameLinkState) : T
   pub entity : new.entity ≡ old.entity
   pub sends : SendsAt old.down new.down link link_now (flush_of (packing old.down)) []
   pub most : length (flush_of (packing old.down)) ≤ 1
+  pub none_whole : length new.down.waiting < new.down.link.zone
   pub more : length link.frames < length link_now.frames
 
 abbrev pub FlushesAt : Applied → (old new : StationState) → (link link_now : FrameLinkState)

@@ -18,11 +18,13 @@ use Rattle.link_sim.specs.declared.settle_error.SettleError.TheVariants.{NoMemor
 use Rattle.link_sim.specs.Clean.{IsClean}
 use Rattle.link_sim.specs.Theorem.{WorldSeen, HoldsAt, Follows}
 use Rattle.link_sim.specs.Tracks.{RunsAlong}
-use Rattle.link_sim.specs.World.{WorldState, FindsNoMemory, NoneWaits, Steps, station_at, entity_at, side_in}
+use Rattle.link_sim.specs.World.{WorldState, FindsNoMemory, NoneWaits, NoneWhole, Steps, WantsMemory, station_at, entity_at, side_in}
 
--- Nothing is due at either station, no flush would make a frame, and no frame waits.
+-- Nothing is due at either station, no whole zone waits there, no flush would make a frame, and no
+-- frame waits.
 pub record IsSettledAt (s : Side) (w : WorldState) : Type 0 where
   pub rests : turn (entity_at s w) ≡ Rests
+  pub none_whole : NoneWhole s w
   pub filled : flush_of (packing (station_at s w).down) ≡ []
   pub none_waits : NoneWaits s w
 
@@ -178,7 +180,7 @@ GoesWell old new = GoesWellFrom first_event first_event old new
 abbrev pub Ends : SettleError → Event → (old new : WorldState) → Type 0
 Ends error e old new = IsOfSettling e ×
     (((d : Applied) × Steps e d old new × RisesFirst error (all_shortages old) (all_shortages new))
-    ⊎ ((error ≡ NoMemory) × FindsNoMemory (side_in e) old new))
+    ⊎ ((error ≡ NoMemory) × WantsMemory e × FindsNoMemory (side_in e) old new))
     × DropsWhereFull old new
 
 -- The event whose turn it was ended it so, and up to then all went well.

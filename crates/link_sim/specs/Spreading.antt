@@ -11,6 +11,10 @@ abbrev pub Times : (WorldState → WorldState → Type 0) → ℕ → (old new :
 Times Step zero old new = new ≡ old
 Times Step (suc count) old new = (mid : WorldState) × Times Step count old mid × Step mid new
 
+-- That step any number of times, one after another.
+abbrev pub Many : (WorldState → WorldState → Type 0) → (old new : WorldState) → Type 0
+Many Step old new = (count : ℕ) × Times Step count old new
+
 -- A poll did something, or found nothing due.
 abbrev pub PollMoves : Side → (old new : WorldState) → Type 0
 PollMoves s old new = Steps (event.Poll s) did.Applied old new

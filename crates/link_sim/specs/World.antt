@@ -127,6 +127,10 @@ pub record Stays (s : Side) (old new : WorldState) : Type 0 where
   pub links : KeepsLinks s old new
   pub counts : KeepsCounts old new
 
+-- Less than a zone waits of what a station sent: every whole one is on the link, as a frame.
+abbrev pub NoneWhole : Side → WorldState → Type 0
+NoneWhole s w = length (station_at s w).down.waiting < (station_at s w).down.link.zone
+
 -- A call found no memory: nothing changed but, at most, how often the inbox of one station failed.
 pub record FindsNoMemory (s : Side) (old new : WorldState) : Type 0 where
   pub stays : Stays s old new
@@ -207,6 +211,7 @@ pub record SendsOne (s : Side) (old new : WorldState) : Type 0 where
   pub sends : let down = (station_at s old).down in let pdu = next_pdu (entity_at s old) in
       SendsMore (way_from s old) (way_from s new) (packet_of down.link down.packet_count pdu ∷ [])
       (pdu ∷ [])
+  pub none_whole : NoneWhole s new
   pub marks : KeepsMarks s old new
 
 -- The outbox failed to give the file data that were due, and that was counted: no PDU moved.
@@ -232,6 +237,7 @@ pub record Fills (s : Side) (old new : WorldState) : Type 0 where
   pub sends : SendsMore (way_from s old) (way_from s new)
       (flush_of (packing (station_at s old).down)) []
   pub most : length (flush_of (packing (station_at s old).down)) ≤ 1
+  pub none_whole : NoneWhole s new
   pub marks : KeepsMarks s old new
 
 abbrev pub Flushes : Applied → Side → (old new : WorldState) → Type 0
@@ -321,3 +327,19 @@ side_in (event.Flush s) = s
 side_in (event.Tick s now) = s
 side_in (event.Deliver s) = s
 side_in (event.Strike s) = s
+
+-- The event needs memory: to take a frame off the link needs none.
+abbrev pub WantsMemory : Event → Type 0
+WantsMemory (event.Deliver s) = ⊥
+WantsMemory (event.Strike s) = ⊥
+WantsMemory _ = Unit {0}
+
+-- ---- what is published
+-- the files that a station received and published
+abbrev pub published_at : Side → WorldState → FileMap
+published_at s w = (entity_at s w).table.files
+
+-- The event may publish a file at this station: a frame of the other one reaches it.
+abbrev pub PublishesAt : Side → Event → Type 0
+PublishesAt s (event.Deliver from) = s ≡ other from
+PublishesAt s _ = ⊥

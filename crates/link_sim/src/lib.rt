@@ -15,7 +15,9 @@ mod settle_error;
 mod shortages;
 mod side;
 mod spread;
+mod stations;
 mod two_stations;
+mod witness;
 mod world;
 mod world_config;
 
@@ -24,9 +26,12 @@ pub use frame_link::FrameLink;
 pub use loss_run::LossRun;
 pub use mark::{Loss, Mark};
 pub use memory_world::MemoryWorld;
+pub use promises::worlds_keep_the_promises;
 pub use recover_error::RecoverError;
 pub use settle_error::SettleError;
 pub use side::Side;
+pub use stations::Stations;
+pub use witness::Witness;
 pub use world::{World, run};
 pub use world_config::WorldConfig;
 

@@ -1,23 +1,18 @@
 //! A world over stores in memory, for callers that only say what happened in it.
 ghost use Rattle.std.specs.FinMap as map;
-ghost use Rattle.std.specs.Prelude.{◌≡◌, ◌<◌, IfErr, IfOk, OnErr, OnOk};
-ghost use Rattle.link_sim.specs.Recovering.{EndsBy, IsRecovered, Recovers};
-ghost use Rattle.link_sim.specs.Settling.{GoesWell, HasCause, IsOfSettling, IsSettled};
-ghost use Rattle.link_sim.specs.Spreading.{BurstFindsNoMemory, Bursts, SpreadFindsNoMemory, Spreads};
-ghost use Rattle.link_sim.specs.World.{IsFirst, FindsNoMemory, Steps, entity_at, link_from, seen_link, side_in, station_at};
+ghost use Rattle.std.specs.Prelude.{IfOk};
+ghost use Rattle.link_sim.specs.World.{IsFirst};
 ghost use Rattle.link_sim.specs.WorldConfig.{IsWorldConfig};
-ghost use Rattle.link_sim.specs.WorldWork.{world_work};
-ghost use Rattle.link_sim.specs.declared.event.Applied.TheVariants as dids;
 
 use crate::event::{Applied, Event};
-use crate::frame_link::FrameLink;
 use crate::recover_error::RecoverError;
 use crate::settle_error::SettleError;
 use crate::side::Side;
+use crate::stations::Stations;
+use crate::witness::Witness;
 use crate::world::World;
 use crate::world_config::WorldConfig;
 use cfdp_directives::Indication;
-use cfdp_station::Station;
 use cfdp_store::{Files, MemoryInbox, MemoryOutbox};
 use std::alloc::{AllocError, Global};
 use std::marker::Model;
@@ -25,11 +20,11 @@ use std::marker::Model;
 /// A [`World`] over stores in memory. Its contracts say what each call did; what the world promises
 /// besides is said there alone, so that it stands in no goal of a caller here.
 #[derive(Drop)]
-pub struct MemoryWorld {
-    world: World<MemoryOutbox, MemoryInbox>,
+pub struct MemoryWorld<W: Witness = ()> {
+    world: World<MemoryOutbox, MemoryInbox, W>,
 }
 
-impl Model for MemoryWorld {
+impl<W: Witness> Model for MemoryWorld<W> {
     ghost use Rattle.std.specs.Coded.{codes, coded_ℕ, coded_list, coded×};
     ghost use Rattle.std.specs.Ordering.{nat_cmp};
     ghost use Rattle.std.specs.Cmp.Lexicographic.{slice_cmp};
@@ -45,9 +40,9 @@ impl Model for MemoryWorld {
     ghost view = { λ w. w.world };
 }
 
-impl MemoryWorld {
+impl<W: Witness> MemoryWorld<W> {
     /// Two stations in which nothing happened yet, with these files to send, those of the first
-    /// station first, and empty inboxes.
+    /// station first, and empty inboxes. The witness sees what happens from then on.
     ///
     /// # Errors
     ///
@@ -56,6 +51,7 @@ impl MemoryWorld {
         alloc: Global,
         config: WorldConfig,
         outboxes: (Files, Files),
+        witness: W,
     ) -> Result<Self, AllocError>
         requires { IsWorldConfig config }
         ensures { IfOk result (IsFirst config (outboxes.0, outboxes.1) (map.empty, map.empty)) }
@@ -63,101 +59,45 @@ impl MemoryWorld {
         let one = MemoryOutbox::with_files(outboxes.0);
         let two = MemoryOutbox::with_files(outboxes.1);
         let inboxes = (MemoryInbox::new(alloc), MemoryInbox::new(alloc));
-        let world = World::new(alloc, config, (one, two), inboxes)?;
+        let world = World::new(alloc, config, (one, two), inboxes, witness)?;
         Ok(MemoryWorld { world })
     }
 
-    /// Lets one thing happen, and says what it did.
-    ///
-    /// # Errors
-    ///
-    /// `AllocError` only where the memory for it was refused: nothing happened then.
-    pub fn apply(&mut self, event: &Event) -> Result<Applied, AllocError>
-        ensures did { IfOk result (λ did. Steps event.now did self.old self.new) }
-        ensures lacks { OnErr result (FindsNoMemory (side_in event.now) self.old self.new) }
-        // A poll, a flush and a delivery that did something lower what may still be done.
-        ensures less { IsOfSettling event.now → IfOk result (λ did. did ≡ dids.Applied
-            → world_work self.new < world_work self.old) }
-    {
+    /// The witness, which the world lets go with all else.
+    pub fn into_witness(self) -> W {
+        let MemoryWorld { world } = self;
+        world.into_witness()
+    }
+}
+
+impl<W: Witness> Stations for MemoryWorld<W> {
+    ghost world = { λ w. w };
+
+    fn apply(&mut self, event: &Event) -> Result<Applied, AllocError> {
         self.world.apply(event)
     }
 
-    /// Polls a station until nothing is due there, and flushes it after each PDU.
-    ///
-    /// # Errors
-    ///
-    /// `AllocError` only where the memory for an event was refused: that one didn't happen.
-    pub fn spread(&mut self, side: Side) -> Result<(), AllocError>
-        ensures spreads { OnOk result (Spreads side self.old self.new) }
-        ensures lacks { OnErr result (SpreadFindsNoMemory side self.old self.new) }
-    {
+    fn spread(&mut self, side: Side) -> Result<(), AllocError> {
         self.world.spread(side)
     }
 
-    /// Polls a station until nothing is due there, and flushes it once.
-    ///
-    /// # Errors
-    ///
-    /// `AllocError` only where the memory for an event was refused: that one didn't happen.
-    pub fn burst(&mut self, side: Side) -> Result<(), AllocError>
-        ensures bursts { OnOk result (Bursts side self.old self.new) }
-        ensures lacks { OnErr result (BurstFindsNoMemory side self.old self.new) }
-    {
+    fn burst(&mut self, side: Side) -> Result<(), AllocError> {
         self.world.burst(side)
     }
 
-    /// Polls, flushes and delivers until nothing is due at either station and no frame waits.
-    ///
-    /// # Errors
-    ///
-    /// Those of [`World::settle`].
-    pub fn settle(&mut self) -> Result<(), SettleError>
-        ensures well { OnOk result (GoesWell self.old self.new) }
-        ensures settled { OnOk result (IsSettled self.new) }
-        ensures cause { IfErr result (λ error. HasCause error self.old self.new) }
-    {
+    fn settle(&mut self) -> Result<(), SettleError> {
         self.world.settle()
     }
 
-    /// Settles, and tells stations the time and settles again, until no timer is armed but those of
-    /// Inactivity.
-    ///
-    /// # Errors
-    ///
-    /// Those of [`World::recover`].
-    pub fn recover(&mut self) -> Result<(), RecoverError>
-        ensures well { OnOk result (Recovers self.old self.new) }
-        ensures recovered { OnOk result (IsRecovered self.new) }
-        ensures cause { IfErr result (λ error. EndsBy error self.old self.new) }
-    {
+    fn recover(&mut self) -> Result<(), RecoverError> {
         self.world.recover()
     }
 
-    /// What a station told its user, in order.
-    pub fn indications(&self, side: Side) -> &[Indication]
-        ensures { result.now ≡ (entity_at side self.now).table.told }
-    {
+    fn indications(&self, side: Side) -> &[Indication] {
         self.world.indications(side)
     }
 
-    /// The files that a station received.
-    pub fn received(&self, side: Side) -> &Files
-        ensures { result.now ≡ (entity_at side self.now).table.files }
-    {
+    fn received(&self, side: Side) -> &Files {
         self.world.inbox(side).published()
-    }
-
-    /// A station, lent.
-    pub fn station(&self, side: Side) -> &Station<MemoryOutbox, MemoryInbox>
-        ensures { result.now ≡ station_at side self.now }
-    {
-        self.world.station(side)
-    }
-
-    /// The frames that a station sent, with their marks, lent.
-    pub fn frames(&self, side: Side) -> &FrameLink
-        ensures { seen_link result.now ≡ link_from side self.now }
-    {
-        self.world.frames(side)
     }
 }

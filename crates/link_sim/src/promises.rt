@@ -7,6 +7,7 @@ ghost use Rattle.link_sim.specs.Clean.{AllComplete, IsClean};
 ghost use Rattle.link_sim.specs.Courses.{KeepsPuts};
 ghost use Rattle.link_sim.specs.Observed.{seen};
 ghost use Rattle.link_sim.specs.OneWay.{IsOneWay, IsRested};
+ghost use Rattle.link_sim.specs.Running.{KeepsPromises, Led};
 ghost use Rattle.link_sim.specs.Settling.{DropsWhereFull, IsOfSettling, IsSettled, KeepsAll, all_shortages};
 ghost use Rattle.link_sim.specs.Sound.{IsSound};
 ghost use Rattle.link_sim.specs.Exchanges.{ExpiresOn};
@@ -20,6 +21,15 @@ ghost use Rattle.link_sim.specs.declared.event.Applied.{Applied};
 ghost use Rattle.link_sim.specs.declared.event.Event.{Event};
 ghost use Rattle.link_sim.specs.declared.side.Side.{Side};
 ghost use Rattle.link_sim.specs.declared.world_config.WorldConfig.{WorldConfig};
+
+/// Whatever calls are made on two stations from their start on, the promises hold of them.
+pub fn worlds_keep_the_promises()
+    ensures { (c : WorldConfig) (outboxes inboxes : FileMap × FileMap) (first now : WorldState)
+        → IsWorldConfig c → IsFirst c outboxes inboxes first → Led first now
+        → KeepsPromises inboxes now }
+{
+    events_keep_the_promises();
+}
 
 /// What every world keeps holds of a new one and after each event, and the promises follow from it.
 pub(crate) fn events_keep_the_promises()

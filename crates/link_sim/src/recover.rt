@@ -21,13 +21,14 @@ use crate::recover_error::RecoverError;
 use crate::settle_error::SettleError;
 use crate::shortages::shortage_since;
 use crate::side::Side;
+use crate::witness::Witness;
 use crate::world::World;
 use cfdp_store::{Inbox, Outbox};
 
 /// The most rounds of a recovery: three for each record that two full tables hold.
 const MOST_ROUNDS: u32 = 24_576;
 
-impl<O: Outbox, I: Inbox> World<O, I> {
+impl<O: Outbox, I: Inbox, W: Witness> World<O, I, W> {
     /// Lets both stations make up for what was lost, without any further loss, until at neither a
     /// timer is armed but those of Inactivity.
     ///
@@ -117,7 +118,7 @@ impl<O: Outbox, I: Inbox> World<O, I> {
         ensures ends { IfErr result (λ error. TickEnds error side now self.old self.new) }
     {
         let before = self.shortages();
-        let Ok(_applied) = self.apply(&Event::Tick { at: side, now }) else {
+        let Ok(_applied) = self.happen(&Event::Tick { at: side, now }) else {
             return Err(SettleError::NoMemory);
         };
         if let Some(error) = shortage_since(&before, &self.shortages()) {

@@ -4,7 +4,7 @@ ghost use Rattle.link_sim.specs.Clean.{AllComplete, IsClean};
 ghost use Rattle.link_sim.specs.Observed.{seen};
 ghost use Rattle.link_sim.specs.Settling.{Ends, GoesWell, GoesWellFrom, HasCause, HasCauseFrom, HasSent, IsOfSettling, IsSettled, LeadsTo, all_shortages, next_of};
 ghost use Rattle.link_sim.specs.Theorem.{HoldsAt, Follows};
-ghost use Rattle.link_sim.specs.World.{Steps};
+ghost use Rattle.link_sim.specs.World.{NoneWhole, Steps};
 ghost use Rattle.link_sim.specs.WorldWork.{world_work};
 ghost use Rattle.link_sim.specs.declared.event.Applied.TheVariants as did;
 ghost use Rattle.link_sim.specs.declared.event.Event.TheVariants as events;
@@ -15,10 +15,11 @@ use crate::promises::events_keep_the_promises;
 use crate::settle_error::SettleError;
 use crate::shortages::{Shortages, shortage_since};
 use crate::side::Side;
+use crate::witness::Witness;
 use crate::world::World;
 use cfdp_store::{Inbox, Outbox};
 
-impl<O: Outbox, I: Inbox> World<O, I> {
+impl<O: Outbox, I: Inbox, W: Witness> World<O, I, W> {
     /// Lets both stations send and hear, without any loss, until nothing is due at either, no flush
     /// would make a frame, and no frame waits.
     ///
@@ -66,6 +67,13 @@ impl<O: Outbox, I: Inbox> World<O, I> {
         let _ = &self.stations;
     }
 
+    /// Shows that all whole zones are on the link.
+    fn show_none_whole(&self)
+        ensures { (s : Side) → NoneWhole s self.now }
+    {
+        self.stations.show_rest();
+    }
+
     /// One round: says whether anything happened in it.
     fn settle_round(&mut self) -> Result<bool, SettleError>
         ensures leads { LeadsTo (seen self.old) (seen self.new) }
@@ -79,6 +87,7 @@ impl<O: Outbox, I: Inbox> World<O, I> {
         let two = self.send_all(Side::Two)?;
         let from_one = self.repeat(&Event::Deliver(Side::One))?;
         let from_two = self.repeat(&Event::Deliver(Side::Two))?;
+        self.show_none_whole();
         Ok(one || two || from_one || from_two)
     }
 
@@ -134,7 +143,7 @@ impl<O: Outbox, I: Inbox> World<O, I> {
         ensures ends { IfErr result (λ error. Ends error event.now self.old self.new) }
     {
         let before = self.shortages();
-        let Ok(applied) = self.apply(event) else {
+        let Ok(applied) = self.happen(event) else {
             return Err(SettleError::NoMemory);
         };
         if let Some(error) = shortage_since(&before, &self.shortages()) {

@@ -12,11 +12,12 @@ ghost use Rattle.link_sim.specs.declared.side.Side.{Side};
 
 use crate::event::{Applied, Event};
 use crate::side::Side;
+use crate::witness::Witness;
 use crate::world::World;
 use cfdp_store::{Inbox, Outbox};
 use std::alloc::AllocError;
 
-impl<O: Outbox, I: Inbox> World<O, I> {
+impl<O: Outbox, I: Inbox, W: Witness> World<O, I, W> {
     /// Polls a station until nothing is due there, and flushes it after each PDU.
     ///
     /// # Errors
@@ -81,7 +82,7 @@ impl<O: Outbox, I: Inbox> World<O, I> {
             → Steps event.now did.Nothing self.old self.new) }
         ensures lacks { OnErr result (FindsNoMemory (side_in event.now) self.old self.new) }
     {
-        match self.apply(event)? {
+        match self.happen(event)? {
             Applied::Nothing => Ok(false),
             Applied::Applied | Applied::Refused(_) => Ok(true),
         }

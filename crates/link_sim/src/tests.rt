@@ -44,7 +44,7 @@ fn station(entity: u64, peer: u64, down: LinkConfig, up: LinkConfig) -> StationC
             id_width: 2,
             number_width: 4,
             first_number: 1,
-            segment: 1024,
+            segment: 16,
             checksum_kind: ChecksumKind::MODULAR,
             policy: Policy::default(),
         },
@@ -61,9 +61,18 @@ fn config() -> WorldConfig {
     }
 }
 
-/// These octets, of which nothing more is known: so those of a file stand in no goal.
+/// These octets, of which nothing more is known: so those of a name stand in no goal.
 fn owned(alloc: Global, octets: &[u8]) -> Result<Vec<u8>, AllocError> {
     Vec::from_slice(alloc, octets)
+}
+
+/// The file that is sent: ten segments, no two octets alike.
+fn ten_segments(alloc: Global) -> Result<Vec<u8>, AllocError> {
+    let mut octets = Vec::new(alloc);
+    for octet in 0..160u8 {
+        octets.push(octet)?;
+    }
+    Ok(octets)
 }
 
 /// An outbox with one file.
@@ -75,25 +84,31 @@ fn outbox_of(alloc: Global, name: Vec<u8>, octets: Vec<u8>) -> Result<MemoryOutb
 
 fn outbox(alloc: Global) -> Result<MemoryOutbox, AllocError> {
     let name = owned(alloc, b"a.txt")?;
-    let octets = owned(alloc, b"hello")?;
-    outbox_of(alloc, name, octets)
+    outbox_of(alloc, name, ten_segments(alloc)?)
 }
 
-/// A put at the first station, sent in one frame that is delivered.
-fn events(alloc: Global) -> Result<[Event; 6], AllocError> {
-    let put = Event::Put {
+/// A put at the first station.
+fn put(alloc: Global) -> Result<Event, AllocError> {
+    Ok(Event::Put {
         at: Side::One,
         source: Octets::copied(alloc, b"a.txt")?,
         destination: Octets::copied(alloc, b"b.txt")?,
-    };
-    Ok([
-        put,
-        Event::Poll(Side::One),
-        Event::Poll(Side::One),
-        Event::Poll(Side::One),
-        Event::Flush(Side::One),
-        Event::Deliver(Side::One),
-    ])
+    })
+}
+
+/// The file goes out with a frame for each PDU: Metadata, ten segments and EOF. The third segment
+/// and the seventh are lost, and then all is settled. Says whether it went well.
+fn loses_two(world: &mut MemoryWorld) -> Result<bool, AllocError> {
+    world.spread(Side::One)?;
+    for place in 0..12u8 {
+        let event = if place == 3 || place == 7 {
+            Event::Strike(Side::One)
+        } else {
+            Event::Deliver(Side::One)
+        };
+        let _ = world.apply(&event)?;
+    }
+    Ok(world.settle().is_ok())
 }
 
 /// The frames that were delivered in a world to the second station.
@@ -108,24 +123,40 @@ fn recorded(world: &MemoryWorld, alloc: Global) -> Result<Vec<Vec<u8>>, AllocErr
     Ok(frames)
 }
 
-/// A world in which the first station sends `hello`; `None` where it can't be set up so.
+/// How many frames were lost in a world on their way to the second station.
+fn lost(world: &MemoryWorld) -> usize {
+    let sent = world.frames(Side::One);
+    let mut count = 0usize;
+    for place in 0..sent.frames().len() {
+        if sent.mark(place) == Some(Mark::Struck) {
+            count = count.saturating_add(1);
+        }
+    }
+    count
+}
+
+/// A world in which the first station has a put of the file; `None` where it can't be set up so.
 fn world(alloc: Global) -> Result<Option<MemoryWorld>, AllocError> {
     let config = config();
     if !config.is_valid() {
         return Ok(None);
     }
-    let events = events(alloc)?;
+    let events = [put(alloc)?];
     let outboxes = (outbox(alloc)?, MemoryOutbox::new(alloc));
     let inboxes = (MemoryInbox::new(alloc), MemoryInbox::new(alloc));
     Ok(Some(run(alloc, config, outboxes, inboxes, &events)?))
 }
 
-/// The frames that were delivered there to the second station; none where there is no world.
-fn delivered(alloc: Global) -> Result<Vec<Vec<u8>>, AllocError> {
-    match world(alloc)? {
-        Some(world) => recorded(&world, alloc),
-        None => Ok(Vec::new(alloc)),
+/// How many frames were lost there, and those that were delivered to the second station; none where
+/// there is no world, or settling it goes wrong.
+fn delivered(alloc: Global) -> Result<(usize, Vec<Vec<u8>>), AllocError> {
+    if let Some(mut world) = world(alloc)?
+        && loses_two(&mut world)?
+    {
+        let frames = recorded(&world, alloc)?;
+        return Ok((lost(&world), frames));
     }
+    Ok((0, Vec::new(alloc)))
 }
 
 /// A second station of its own; `None` where it can't be set up so.
@@ -145,32 +176,35 @@ fn take_all(station: &mut MemoryStation, frames: &[Vec<u8>]) {
     }
 }
 
-/// Whether a station has published `hello`.
-fn has_hello(station: &MemoryStation) -> bool {
-    station.inbox().published().octets(b"b.txt") == b"hello".as_slice()
+/// Whether a station has published the file.
+fn has_file(station: &MemoryStation, octets: &[u8]) -> bool {
+    station.inbox().published().octets(b"b.txt") == octets
 }
 
-/// Whether a station of its own that takes these frames publishes `hello`.
+/// Whether a station of its own that takes these frames publishes the file.
 fn publishes(alloc: Global, frames: &[Vec<u8>]) -> Result<bool, AllocError> {
+    let octets = ten_segments(alloc)?;
     match fresh(alloc)? {
         Some(mut station) => {
             take_all(&mut station, frames);
-            Ok(has_hello(&station))
+            Ok(has_file(&station, &octets))
         }
         None => Ok(false),
     }
 }
 
-/// Whether the frames delivered in a world carry the file to a station of its own.
-fn carries(alloc: Global) -> Result<bool, AllocError> {
-    let frames = delivered(alloc)?;
-    publishes(alloc, &frames)
+/// How many frames were lost in a world, and whether those that were delivered there carry the file
+/// to a station of its own.
+fn carries(alloc: Global) -> Result<(usize, bool), AllocError> {
+    let (lost, frames) = delivered(alloc)?;
+    Ok((lost, publishes(alloc, &frames)?))
 }
 
-// The file is in the frames themselves: a station that takes those of a world publishes it.
+// The file is in the frames themselves, with what was asked for again: a station that takes those
+// that were delivered publishes it.
 #[test]
 fn recorded_frames_carry_the_file(rt: HostRuntime) -> Result<(), AllocError> {
     let carried = carries(rt.alloc())?;
-    assert!(rt; carried);
+    assert_eq!(rt; carried, (2, true));
     Ok(())
 }

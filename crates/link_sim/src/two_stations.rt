@@ -145,6 +145,7 @@ impl<O: Outbox, I: Inbox> TwoStations<O, I> {
     pub(crate) fn step(&mut self, event: &Event) -> Result<Applied, AllocError>
         ensures steps { IfOk result (λ did. Steps event.now did self.old self.new) }
         ensures err { OnErr result (FindsNoMemory (side_in event.now) self.old self.new) }
+        ensures lacks { OnErr result (world.WantsMemory event.now) }
     {
         match event {
             Event::Put {

@@ -1,15 +1,16 @@
 //! A world: two stations over two directions of frames.
-ghost use Rattle.std.specs.Prelude.{◌≡◌, ◌<◌, ℕ, List, IfOk, OnErr};
+ghost use Rattle.std.specs.Prelude.{◌≡◌, ◌⊎◌, ◌<◌, ℕ, List, IfOk, OnErr};
 ghost use Rattle.cfdp_directives.specs.Put.{inbox_after};
 ghost use Rattle.cfdp_entity.specs.Sound.{FindsMore};
 ghost use Rattle.cfdp_header.specs.Files.{FileMap};
 ghost use Rattle.link_sim.specs.Clean.{IsClean};
 ghost use Rattle.link_sim.specs.Exchanges.{ExpiresOn};
 ghost use Rattle.link_sim.specs.Observed.{seen};
+ghost use Rattle.link_sim.specs.Running.{Happens, Ran};
 ghost use Rattle.link_sim.specs.Settling.{DropsWhereFull, IsOfSettling, KeepsAll, all_shortages};
 ghost use Rattle.link_sim.specs.Theorem.{HoldsAt, FoldsAt, at, put_of, completions_at};
 ghost use Rattle.link_sim.specs.Tracks.{KeepsPutsOf, RunsAlong};
-ghost use Rattle.link_sim.specs.World.{IsFirst, FindsNoMemory, Steps, station_at, entity_at, link_from, seen_link, side_in, files_at};
+ghost use Rattle.link_sim.specs.World.{IsFirst, FindsNoMemory, PublishesAt, Steps, WantsMemory, published_at, station_at, entity_at, link_from, seen_link, side_in, files_at};
 ghost use Rattle.link_sim.specs.WorldConfig.{IsWorldConfig};
 ghost use Rattle.link_sim.specs.WorldWork.{world_work};
 ghost use Rattle.link_sim.specs.declared.event.Applied.TheVariants as dids;
@@ -21,6 +22,7 @@ use crate::frame_link::FrameLink;
 use crate::promises::events_keep_the_promises;
 use crate::side::Side;
 use crate::two_stations::TwoStations;
+use crate::witness::Witness;
 use crate::world_config::WorldConfig;
 use cfdp_directives::Indication;
 use cfdp_station::Station;
@@ -35,12 +37,15 @@ use std::marker::Model;
 /// the completed puts make of it, no transaction is indicated finished twice, and a sender is told
 /// complete only of a put that the other station completed. The contracts of [`new`](Self::new),
 /// [`apply`](Self::apply) and [`run`] say so.
+///
+/// Its witness looks on: each event that happens in a call of the world is shown to it.
 #[derive(Drop)]
-pub struct World<O: Outbox, I: Inbox> {
+pub struct World<O: Outbox, I: Inbox, W: Witness = ()> {
     pub(crate) stations: TwoStations<O, I>,
+    witness: W,
 }
 
-impl<O: Outbox, I: Inbox> Model for World<O, I> {
+impl<O: Outbox, I: Inbox, W: Witness> Model for World<O, I, W> {
     ghost use Rattle.std.specs.Coded.{codes, coded_ℕ, coded_list, coded×};
     ghost use Rattle.std.specs.Ordering.{nat_cmp};
     ghost use Rattle.std.specs.Cmp.Lexicographic.{slice_cmp};
@@ -60,9 +65,9 @@ impl<O: Outbox, I: Inbox> Model for World<O, I> {
     ghost invariant = { λ w. IsSound w.stations × KeepsPuts w.stations };
 }
 
-impl<O: Outbox, I: Inbox> World<O, I> {
+impl<O: Outbox, I: Inbox, W: Witness> World<O, I, W> {
     /// Two stations in which nothing happened yet, over these stores: those of the first station
-    /// stand first.
+    /// stand first. The witness sees what happens from then on; `()` is one that looks at nothing.
     ///
     /// # Errors
     ///
@@ -72,6 +77,7 @@ impl<O: Outbox, I: Inbox> World<O, I> {
         config: WorldConfig,
         outboxes: (O, O),
         inboxes: (I, I),
+        witness: W,
     ) -> Result<Self, AllocError>
         requires { IsWorldConfig config }
         ensures first { IfOk result (IsFirst config (O.files outboxes.0, O.files outboxes.1)
@@ -87,7 +93,14 @@ impl<O: Outbox, I: Inbox> World<O, I> {
     {
         events_keep_the_promises();
         let stations = TwoStations::new(alloc, config, outboxes, inboxes)?;
-        Ok(World { stations })
+        Ok(World { stations, witness })
+    }
+
+    /// The witness, which the world lets go with all else.
+    pub fn into_witness(self) -> W {
+        let World { stations, witness } = self;
+        let _ = stations;
+        witness
     }
 
     /// The puts that were accepted, in order.
@@ -143,22 +156,54 @@ impl<O: Outbox, I: Inbox> World<O, I> {
     ///
     /// # Errors
     ///
-    /// `AllocError` only where the memory for it was refused: nothing happened then.
+    /// `AllocError` only where the memory for it was refused: nothing happened then. The arrival
+    /// and the loss of a frame need none.
     pub fn apply(&mut self, event: &Event) -> Result<Applied, AllocError>
         // The event did what it does, by the stations' own steps, and nothing else changed.
         ensures steps { IfOk result (λ did. Steps event.now did self.old self.new) }
         ensures err { OnErr result (FindsNoMemory (side_in event.now) self.old self.new) }
+        ensures lacks { OnErr result (WantsMemory event.now) }
 
         // A put that was accepted stays what it is.
         ensures puts { FindsMore (put_of (seen self.old)) (put_of (seen self.new)) }
         // Each inbox was overwritten by the files of the puts that were completed in this call.
         ensures folds { (side : Side) → FoldsAt side (seen self.old) (seen self.new) }
+        // What a station published changes in no event but a delivery to it.
+        ensures published { (side : Side) → PublishesAt side event.now
+            ⊎ (published_at side self.new ≡ published_at side self.old) }
+        // Finished once, heard in full, told truly and sent truly.
+        ensures holds { (side : Side) → HoldsAt side (seen self.new) }
+        // A poll, a flush and a delivery in which nothing was short leave a clean world clean.
+        ensures clean { IsOfSettling event.now → IfOk result (λ did. did ≡ dids.Applied
+            → KeepsAll (all_shortages self.old) (all_shortages self.new)
+            → IsClean self.old → IsClean self.new) }
+        // A put that is accepted leaves a clean world clean.
+        ensures clean_put { (side : Side) (source destination : List ℕ)
+            → event.now ≡ events.Put side source destination
+            → IfOk result (λ did. did ≡ dids.Applied → IsClean self.old → IsClean self.new) }
+    {
+        self.happen(event)
+    }
+
+    /// As `apply`, for calls here that rest on more than it promises.
+    pub(crate) fn happen(&mut self, event: &Event) -> Result<Applied, AllocError>
+        // The event did what it does, by the stations' own steps, and nothing else changed.
+        ensures steps { IfOk result (λ did. Steps event.now did self.old self.new) }
+        ensures err { OnErr result (FindsNoMemory (side_in event.now) self.old self.new) }
+        ensures lacks { OnErr result (WantsMemory event.now) }
+        // A put that was accepted stays what it is.
+        ensures puts { FindsMore (put_of (seen self.old)) (put_of (seen self.new)) }
+        // Each inbox was overwritten by the files of the puts that were completed in this call.
+        ensures folds { (side : Side) → FoldsAt side (seen self.old) (seen self.new) }
+        // What a station published changes in no event but a delivery to it.
+        ensures published { (side : Side) → PublishesAt side event.now
+            ⊎ (published_at side self.new ≡ published_at side self.old) }
         // Finished once, heard in full, told truly and sent truly.
         ensures holds { (side : Side) → HoldsAt side (seen self.new) }
         // A poll, a flush and a delivery that did something lower what may still be done.
         ensures less { IsOfSettling event.now → IfOk result (λ did. did ≡ dids.Applied
             → world_work self.new < world_work self.old) }
-        // Where nothing was short in it, they leave a clean world clean.
+        // A poll, a flush and a delivery in which nothing was short leave a clean world clean.
         ensures clean { IsOfSettling event.now → IfOk result (λ did. did ≡ dids.Applied
             → KeepsAll (all_shortages self.old) (all_shortages self.new)
             → IsClean self.old → IsClean self.new) }
@@ -181,6 +226,9 @@ impl<O: Outbox, I: Inbox> World<O, I> {
         self.stations.show_rest();
         let did = self.stations.step(event);
         self.stations.show_rest();
+        let from_one = self.stations.frames(Side::One);
+        let from_two = self.stations.frames(Side::Two);
+        self.witness.saw(from_one, from_two);
         did
     }
 }
@@ -204,8 +252,11 @@ pub fn run<O: Outbox, I: Inbox>(
         ≡ inbox_after (put_of (seen w)) (files_at side (I.published inboxes.0, I.published inboxes.1)) (completions_at side (seen w))) }
     // Finished once, heard in full, told truly and sent truly.
     ensures holds { IfOk result (λ w. (side : Side) → HoldsAt side (seen w)) }
+    // From a first world each of the events happened, in order, and nothing else.
+    ensures ran { IfOk result (λ w. Ran config (O.files outboxes.0, O.files outboxes.1)
+        (I.published inboxes.0, I.published inboxes.1) events.now w) }
 {
-    let mut world = World::new(alloc, config, outboxes, inboxes)?;
+    let mut world = World::new(alloc, config, outboxes, inboxes, ())?;
     apply_all(&mut world, events)?;
     Ok(world)
 }
@@ -215,11 +266,12 @@ fn apply_all<O: Outbox, I: Inbox>(
     world: &mut World<O, I>,
     events: &[Event],
 ) -> Result<(), AllocError>
-    ensures { IfOk result (λ _. (side : Side) → (first : FileMap) → HoldsAt side (seen world.old)
+    ensures keeps { IfOk result (λ _. (side : Side) → (first : FileMap) → HoldsAt side (seen world.old)
         → (at side (seen world.old)).inbox
         ≡ inbox_after (put_of (seen world.old)) first (completions_at side (seen world.old))
         → HoldsAt side (seen world.new) × ((at side (seen world.new)).inbox
         ≡ inbox_after (put_of (seen world.new)) first (completions_at side (seen world.new)))) }
+    ensures ran { IfOk result (λ _. Happens events.now world.old world.new) }
 {
     for event in events {
         let _ = world.apply(event)?;

@@ -23,6 +23,7 @@ returns-then-before-frames-clause-flushes g c =
           (filled_on old.down c.flush.new.self.down c.pull_all.new.station.down c.args.link.now c.make_room.new.self c.pull_all.new.link up is
           c.in_ok-make_room.ensures.kept e.flushed p.way p.fixed p.marks p.all).1;
       most = e.flushed.one;
+      none_whole = (let zone = ap (λ x. x.zone) p.fixed.0 in omega (arith, p.all, zone));
       more = omega (arith, before, after, c.if-before-frames.true);
     }
 

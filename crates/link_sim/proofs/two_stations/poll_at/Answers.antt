@@ -1,4 +1,4 @@
-use Rattle.std.proofs.Common.{◌≡◌, ◌≤◌, ℕ, List, ap, sym, subst, ◌∙◌, inl}
+use Rattle.std.proofs.Common.{◌≡◌, ◌≤◌, ℕ, List, ap, sym, subst, ◌∙◌, inl, arith}
 use Rattle.link_stack.specs.Upward.{LinkReceiverState}
 use Rattle.cfdp_entity.specs.Entity.{Counted}
 use Rattle.cfdp_entity.specs.Gives.{CountsOutbox}
@@ -27,6 +27,7 @@ returns-in-Moved-clause-polls g c =
       sends = λ (up : LinkReceiverState) (is : IsCarried old.down c.args.link.now up).
           (moved_on old.down c.poll.new.self.down c.pull_all.new.station.down c.args.link.now c.make_room.new.self c.pull_all.new.link up pdu is
           c.in_ok-make_room.ensures.kept moved.sent p.way p.fixed p.marks p.all).1;
+      none_whole = (let zone = ap (λ x. x.zone) p.fixed.0 in omega (arith, p.all, zone));
     })
 
 pub returns-in-Moved-clause-carried : goal.returns-in-Moved-clause-carried

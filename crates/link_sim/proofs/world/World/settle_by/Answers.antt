@@ -13,7 +13,7 @@ pub returns-in-Applied : goal.returns-in-Applied
 returns-in-Applied g c =
     let e : Event = c.args.event.now in
     let old : WorldState = c.args.self.now in
-    let new : WorldState = c.apply.new.self in
+    let new : WorldState = c.happen.new.self in
     let of_it : IsOfSettling e = c.requires.of_it in
     let step = c.in-Ok.ensures.steps in
     let applied : c.in-Ok.applied ≡ did.Applied = elim c.in-Applied.is [
@@ -24,7 +24,7 @@ returns-in-Applied g c =
     let spared : KeepsAll (all_shortages old) (all_shortages new) =
     subst (λ x. KeepsAll x (all_shortages new)) c.shortages-before.ensures (subst (λ x. KeepsAll c.shortages-before.result x) c.shortages.ensures told) in
     record {
-      leads = record { follows = λ _. record { puts = c.apply.ensures.puts; folds = c.apply.ensures.folds }; holds = λ _. c.apply.ensures.holds };
+      leads = record { follows = λ _. record { puts = c.happen.ensures.puts; folds = c.happen.ensures.folds }; holds = λ _. c.happen.ensures.holds };
       less = λ _. c.in-Ok.ensures.less of_it applied;
       idle = λ e. absurd cc;
       well = λ moved. record { only = only-one e did.Applied old new of_it (subst (λ d. Steps e d old new) applied step); spared = spared; clean = c.in-Ok.ensures.clean of_it applied spared; runs = c.in-Ok.ensures.runs of_it applied spared };
@@ -36,7 +36,7 @@ pub returns-in-Nothing-clause-well_last : goal.returns-in-Nothing-clause-well_la
 returns-in-Nothing-clause-well_last g c moved =
     let e : Event = c.args.event.now in
     let old : WorldState = c.args.self.now in
-    let new : WorldState = c.apply.new.self in
+    let new : WorldState = c.happen.new.self in
     let of_it : IsOfSettling e = c.requires.of_it in
     let step : Steps e did.Nothing old new = subst (λ d. Steps e d old new) c.in-Nothing.is c.in-Ok.ensures.steps in
     let same : new ≡ old = nothing-same e old new of_it step in

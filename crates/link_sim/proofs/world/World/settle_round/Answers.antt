@@ -85,7 +85,7 @@ returns-else-from_one-clause-settled g c none =
     let n = c.if-from_one.false in
     round-settled c.args.self.now c.send_all.new.self c.send_all-2.new.self c.repeat.new.self c.repeat-2.new.self
     (c.in_ok-one.ensures.same n.0) (c.in_ok-two.ensures.same n.1) (c.in_ok-from_one.ensures.same n.2) (c.in_ok-from_two.ensures.same none)
-    (c.in_ok-one.ensures.sent n.0) (c.in_ok-two.ensures.sent n.1) c.in_ok-from_one.ensures.idle c.in_ok-from_two.ensures.idle
+    (c.in_ok-one.ensures.sent n.0) (c.in_ok-two.ensures.sent n.1) c.in_ok-from_one.ensures.idle c.in_ok-from_two.ensures.idle c.show_none_whole.ensures
 
 pub returns-else-from_one-clause-well : goal.returns-else-from_one-clause-well
 returns-else-from_one-clause-well g c =

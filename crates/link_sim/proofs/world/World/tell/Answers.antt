@@ -7,7 +7,7 @@ use Rattle.link_sim.proofs.world.World.tell.Goals as goal
 pub returns-clause-tells : goal.returns-clause-tells
 returns-clause-tells g c =
     let old : WorldState = c.args.self.now in
-    let new : WorldState = c.apply.new.self in
+    let new : WorldState = c.happen.new.self in
     let told : KeepsAll c.shortages-before.result c.shortages.result = c.shortage_since.ensures.well c.in_default-shortage_since.is in
     let spared : KeepsAll (all_shortages old) (all_shortages new) =
     subst (λ x. KeepsAll x (all_shortages new)) c.shortages-before.ensures (subst (λ x. KeepsAll c.shortages-before.result x) c.shortages.ensures told) in

@@ -1,4 +1,4 @@
-use Rattle.std.proofs.Common.{◌≡◌, subst}
+use Rattle.std.proofs.Common.{◌≡◌, ◌⊎◌, inr, subst}
 use Rattle.cfdp_entity.specs.Sound.{FindsMore}
 use Rattle.std.specs.Prelude.{IfOk}
 use Rattle.link_sim.specs.Clean.{IsClean}
@@ -9,11 +9,12 @@ use Rattle.link_sim.specs.Settling.{DropsWhereFull, KeepsAll, all_shortages}
 use Rattle.link_sim.specs.Sound.{IsSound}
 use Rattle.link_sim.specs.Theorem.{FoldsAt, put_of}
 use Rattle.link_sim.specs.Tracks.{KeepsPutsOf, RunsAlong}
-use Rattle.link_sim.specs.World.{WorldState, Steps, side_in}
+use Rattle.link_sim.specs.World.{WorldState, PublishesAt, Steps, published_at, side_in}
 use Rattle.link_sim.proofs.Along.{told-time}
+use Rattle.link_sim.proofs.FilesKept.{event-files, stays-files}
 use Rattle.link_sim.specs.declared.event.Applied.TheVariants as dids
 use Rattle.link_sim.proofs.Stepping.{by-step, ok-then}
-use Rattle.link_sim.proofs.world.World.apply.Goals as goal
+use Rattle.link_sim.proofs.world.World.happen.Goals as goal
 
 pub invariant_of-self : goal.invariant_of-self
 invariant_of-self g c =
@@ -99,3 +100,11 @@ returns-clause-tells g c side now is =
     subst (λ (w : WorldState). IfOk c.step-did.result (λ did. ExpiresOn side now w new × KeepsPutsOf w new)) c.self.view_is
     (ok-then (λ did. Steps e did old new) (λ did. ExpiresOn side now old new × KeepsPutsOf old new)
     (λ did s. law.tells side now old new c.self.invariant.0 (told-time side now did old new (subst (λ x. Steps x did old new) is s))) c.step-did.result c.step-did.ensures.steps)
+
+pub returns-clause-published : goal.returns-clause-published
+returns-clause-published g c t =
+    let e = c.args.event.now in
+    let old : WorldState = c.self.inside.stations in
+    let new : WorldState = c.step-did.new.self in
+    subst (λ (w : WorldState). PublishesAt t e ⊎ (published_at t new ≡ published_at t w)) c.self.view_is
+    (by-step (λ old new. PublishesAt t e ⊎ (published_at t new ≡ published_at t old)) e old new (λ did s. event-files t old new e did s) (λ k. inr (stays-files (side_in e) t old new k)) c.step-did.result c.step-did.ensures.steps c.step-did.ensures.err)

@@ -1,40 +1,42 @@
-//! The two stations of a script, behind calls whose contracts say no more than the program needs.
+//! Two stations, behind calls whose contracts say what each call did and no more.
 //!
-//! What `link_sim` proves of its world, the delivery theorem first, holds for whatever a script
-//! does. The program rests on none of it, so none of it stands in the goals of functions that take
-//! any `Stations`.
+//! What is promised of a world, the delivery theorem first, holds whatever is done by these calls.
+//! It stands in no goal of functions that take any `Stations`.
 ghost use Rattle.std.specs.Prelude.{◌≡◌, IfErr, IfOk, OnErr, OnOk};
 ghost use Rattle.link_sim.specs.Recovering.{EndsBy, IsRecovered, Recovers};
 ghost use Rattle.link_sim.specs.Settling.{GoesWell, HasCause, IsSettled};
 ghost use Rattle.link_sim.specs.Spreading.{BurstFindsNoMemory, Bursts, SpreadFindsNoMemory, Spreads};
-ghost use Rattle.link_sim.specs.World.{WorldState, FindsNoMemory, Steps, side_in};
-ghost use Rattle.cfdp_node.specs.Run.{received, told};
+ghost use Rattle.link_sim.specs.World.{WorldState, FindsNoMemory, Steps, WantsMemory, entity_at, side_in};
 
+use crate::event::{Applied, Event};
+use crate::recover_error::RecoverError;
+use crate::settle_error::SettleError;
+use crate::side::Side;
 use cfdp_directives::Indication;
 use cfdp_store::Files;
-use link_sim::{Applied, Event, RecoverError, SettleError, Side};
 use std::alloc::AllocError;
 
-/// Two stations and the link between them, as a script drives them.
+/// Two stations and the link between them, as a script or another user drives them.
 pub trait Stations: Drop {
     /// Both stations, and the frames between them.
     ghost world: { Self → WorldState };
 
-    /// Makes an event happen.
+    /// Lets one thing happen, and says what it did.
     ///
     /// # Errors
     ///
-    /// `AllocError` where there is no memory for it. Nothing has happened then.
+    /// `AllocError` only where the memory for it was refused: nothing happened then.
     fn apply(&mut self, event: &Event) -> Result<Applied, AllocError>
         ensures did { IfOk result (λ did. Steps event.now did (world self.old) (world self.new)) }
         ensures err { OnErr result
-            (FindsNoMemory (side_in event.now) (world self.old) (world self.new)) };
+            (FindsNoMemory (side_in event.now) (world self.old) (world self.new)) }
+        ensures lacks { OnErr result (WantsMemory event.now) };
 
     /// Polls a station until nothing is due there, and flushes it after each PDU.
     ///
     /// # Errors
     ///
-    /// `AllocError` where there is no memory for an event.
+    /// `AllocError` only where the memory for an event was refused: that one didn't happen.
     fn spread(&mut self, side: Side) -> Result<(), AllocError>
         ensures ok { OnOk result (Spreads side (world self.old) (world self.new)) }
         ensures err { OnErr result (SpreadFindsNoMemory side (world self.old) (world self.new)) };
@@ -43,7 +45,7 @@ pub trait Stations: Drop {
     ///
     /// # Errors
     ///
-    /// `AllocError` where there is no memory for an event.
+    /// `AllocError` only where the memory for an event was refused: that one didn't happen.
     fn burst(&mut self, side: Side) -> Result<(), AllocError>
         ensures ok { OnOk result (Bursts side (world self.old) (world self.new)) }
         ensures err { OnErr result (BurstFindsNoMemory side (world self.old) (world self.new)) };
@@ -52,7 +54,7 @@ pub trait Stations: Drop {
     ///
     /// # Errors
     ///
-    /// What ended it before that.
+    /// Those of [`World::settle`](crate::World::settle).
     fn settle(&mut self) -> Result<(), SettleError>
         ensures well { OnOk result (GoesWell (world self.old) (world self.new)) }
         ensures settled { OnOk result (IsSettled (world self.new)) }
@@ -63,17 +65,17 @@ pub trait Stations: Drop {
     ///
     /// # Errors
     ///
-    /// What ended it before that.
+    /// Those of [`World::recover`](crate::World::recover).
     fn recover(&mut self) -> Result<(), RecoverError>
         ensures well { OnOk result (Recovers (world self.old) (world self.new)) }
         ensures recovered { OnOk result (IsRecovered (world self.new)) }
         ensures cause { IfErr result (λ error. EndsBy error (world self.old) (world self.new)) };
 
-    /// What this station told its user, in order.
+    /// What a station told its user, in order.
     fn indications(&self, side: Side) -> &[Indication]
-        ensures { result.now ≡ told side (world self.now) };
+        ensures { result.now ≡ (entity_at side (world self.now)).table.told };
 
-    /// The files that this station received.
-    fn inbox(&self, side: Side) -> &Files
-        ensures { result.now ≡ received side (world self.now) };
+    /// The files that a station received.
+    fn received(&self, side: Side) -> &Files
+        ensures { result.now ≡ (entity_at side (world self.now)).table.files };
 }
