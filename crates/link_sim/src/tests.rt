@@ -147,16 +147,22 @@ fn world(alloc: Global) -> Result<Option<MemoryWorld>, AllocError> {
     Ok(Some(run(alloc, config, outboxes, inboxes, &events)?))
 }
 
-/// How many frames were lost there, and those that were delivered to the second station; none where
-/// there is no world, or settling it goes wrong.
-fn delivered(alloc: Global) -> Result<(usize, Vec<Vec<u8>>), AllocError> {
-    if let Some(mut world) = world(alloc)?
-        && loses_two(&mut world)?
-    {
-        let frames = recorded(&world, alloc)?;
-        return Ok((lost(&world), frames));
+/// How many frames are lost there, and those that are delivered to the second station; none where
+/// settling goes wrong.
+fn sent(world: &mut MemoryWorld, alloc: Global) -> Result<(usize, Vec<Vec<u8>>), AllocError> {
+    if !loses_two(world)? {
+        return Ok((0, Vec::new(alloc)));
     }
-    Ok((0, Vec::new(alloc)))
+    let frames = recorded(world, alloc)?;
+    Ok((lost(world), frames))
+}
+
+/// The same; none where there is no world.
+fn delivered(alloc: Global) -> Result<(usize, Vec<Vec<u8>>), AllocError> {
+    match world(alloc)? {
+        Some(mut world) => sent(&mut world, alloc),
+        None => Ok((0, Vec::new(alloc))),
+    }
 }
 
 /// A second station of its own; `None` where it can't be set up so.
