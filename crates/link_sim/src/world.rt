@@ -99,7 +99,7 @@ impl<O: Outbox, I: Inbox, W: Witness> World<O, I, W> {
     /// The witness, which the world lets go with all else.
     pub fn into_witness(self) -> W {
         let World { stations, witness } = self;
-        let _ = stations;
+        let_go(stations);
         witness
     }
 
@@ -232,6 +232,9 @@ impl<O: Outbox, I: Inbox, W: Witness> World<O, I, W> {
         did
     }
 }
+
+/// Lets a value go, of whatever type: here no more need be known of it.
+fn let_go<T: Drop>(_value: T) {}
 
 /// Makes these events happen, in turn, in a new world.
 ///
