@@ -171,6 +171,7 @@ part_taken up new ps marks missed frame old out some is r t =
       };
       added = packets;
       completed = r.given;
+      some = t.some;
       count = n;
       pdus = t.pdus ∙ ap (λ l. old ++ l) (pdus-all up.link (take n packets) ours);
       drops = lost;

@@ -52,10 +52,10 @@ fed_long (Err x) first old new packets e all all_of front = subst AreLong (sym (
 
 -- a zone that found no memory
 pub takes_front : {A E : Type 0} (fed : Result A E) (up new : LinkReceiverState) (first : ℕ) (old mid out : List (List ℕ)) (read : FrameRead) (noted : List ℕ) → new.link ≡ up.link → new.last ≡ read.last → is_ok fed ≡ false → first ≡ length old →
-    OnErr fed ((n : ℕ) × (mid ≡ old ++ take n read.packets)) → OnErr fed (new.begun ≡ []) → OnErr fed (noted ≡ counted up.drops NoMemory) →
+    OnErr fed ((n : ℕ) × (mid ≡ old ++ take n read.packets)) → OnErr fed (1 ≤ length read.packets) → OnErr fed (new.begun ≡ []) → OnErr fed (noted ≡ counted up.drops NoMemory) →
     new.drops ≡ all_counted noted (drops_of up.link (drop first mid)) → out ≡ take first mid ++ pdus_of up.link (drop first mid) → TakesFront read up new old out
-takes_front (Ok x) up new first old mid out read noted link last none e front begun told drops pdus = absurd cc
-takes_front (Err x) up new first old mid out read noted link last none e front begun told drops pdus =
+takes_front (Ok x) up new first old mid out read noted link last none e front some begun told drops pdus = absurd cc
+takes_front (Err x) up new first old mid out read noted link last none e front some begun told drops pdus =
     let n : ℕ = front.0 in
     let behind : drop first mid ≡ take n read.packets = ap (λ l. drop first l) front.1 ∙ drop_at old (take n read.packets) first (sym e) in
     let before : take first mid ≡ old = ap (λ l. take first l) front.1 ∙ take_at old (take n read.packets) first (sym e) in
@@ -64,6 +64,7 @@ takes_front (Err x) up new first old mid out read noted link last none e front b
       last = last;
       count = n;
       begun = begun;
+      some = some;
       drops = drops ∙ ap (λ l. all_counted l (drops_of up.link (drop first mid))) told ∙ ap (λ l. all_counted (counted up.drops NoMemory) (drops_of up.link l)) behind;
       pdus = pdus ∙ ap (λ l. l ++ pdus_of up.link (drop first mid)) before ∙ ap (λ l. old ++ pdus_of up.link l) behind;
     }
@@ -75,6 +76,7 @@ front_again read same up mid new old out e link drops t =
       link = t.link ∙ link;
       last = t.last;
       begun = t.begun;
+      some = t.some;
       count = t.count;
       drops = t.drops ∙ ap (λ l. all_counted (counted l NoMemory) (drops_of mid.link (take t.count read.packets))) drops ∙ ap (λ l. all_counted (counted up.drops NoMemory) (drops_of l (take t.count read.packets))) link;
       pdus = t.pdus ∙ ap (λ l. old ++ pdus_of l (take t.count read.packets)) link;

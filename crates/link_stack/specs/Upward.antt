@@ -101,12 +101,13 @@ pub record Takes (read : FrameRead) (up new : LinkReceiverState) (old out : List
   pub drops : new.drops ≡ all_counted (all_counted up.drops read.told) (drops_of up.link read.packets)
   pub pdus : out ≡ old ++ pdus_of up.link read.packets
 
--- A front of it was taken, and nothing is held: there was no memory for the rest, and NoMemory was
--- counted in the place of what the zone tells.
+-- A front of it was taken, and nothing is held: there was no memory to hand out a packet that the zone
+-- completes, and NoMemory was counted in the place of what the zone tells.
 pub record TakesFront (read : FrameRead) (up new : LinkReceiverState) (old out : List (List ℕ)) : Type 0 where
   pub link : new.link ≡ up.link
   pub last : new.last ≡ read.last
   pub begun : new.begun ≡ []
+  pub some : 1 ≤ length read.packets
   pub count : ℕ
   pub drops : new.drops ≡ all_counted (counted up.drops NoMemory) (drops_of up.link (take count read.packets))
   pub pdus : out ≡ old ++ pdus_of up.link (take count read.packets)
@@ -138,12 +139,13 @@ pub record TakesNext (up new : LinkReceiverState) (ps : List (List ℕ)) (marks 
   pub link : new.link ≡ up.link
   pub memory : count_of new.drops 11 ≡ count_of up.drops 11
 
--- A front of those PDUs was appended, since there was no memory for more, and the end is as if the
--- frame had been struck.
+-- A front of those PDUs was appended, since there was no memory for one of them, and the end is as if
+-- the frame had been struck.
 pub record TakesNextFront (up new : LinkReceiverState) (ps : List (List ℕ)) (marks : List Bool) (old out : List (List ℕ)) : Type 0 where
   pub after : IsUp new ps (marks ++ false ∷ []) 0
   pub added : List (List ℕ)
   pub completed : survivors up.link.zone (marks ++ true ∷ []) 0 ps ≡ survivors up.link.zone marks 0 ps ++ added
+  pub some : 1 ≤ length added
   pub count : ℕ
   pub pdus : out ≡ old ++ pdus_in (take count added)
   pub drops : new.drops ≡ counted up.drops NoMemory

@@ -281,9 +281,10 @@ impl Up {
     /// than `000`, and an `OtherApid` or else a `Segmented` for each whole packet that isn't idle
     /// and carries no PDU of the link.
     ///
-    /// Where a growth was refused, `NoMemory` is counted in the place of what the zone tells: a
-    /// front of its PDUs was appended, the begun packet and the rest of the zone are discarded, and
-    /// the next zone is read from its pointer, as if this frame had been lost.
+    /// Where a growth was refused, at a zone that completes a packet, `NoMemory` is counted in the
+    /// place of what the zone tells: a front of its PDUs was appended, the begun packet and the
+    /// rest of the zone are discarded, and the next zone is read from its pointer, as if this frame
+    /// had been lost.
     pub fn take(&mut self, frame: &[u8], out: &mut Vec<Vec<u8>>)
         // What any frame does.
         ensures takes { Takes (frame_read self.old frame.now) self.old self.new (octets_of_each out.old.items) (octets_of_each out.new.items)

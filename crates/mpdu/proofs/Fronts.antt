@@ -28,3 +28,12 @@ cut_more xs before all now then long ok room is more =
     let r : Read = scan (length (drop (header_len xs) xs)) (drop (header_len xs) xs) in
     is ∙ ap (λ x. now ++ x.out) (scan_next xs long ok room) ∙ ap (λ l. now ++ l) (keep-back (not (is_idle p)) p r.out)
     ∙ sym (append_assoc now (keep (not (is_idle p)) p []) r.out) ∙ ap (λ l. l ++ r.out) (sym more)
+
+-- a packet in front that isn't idle is handed out
+pub hands_first : (xs : List ℕ) → 6 ≤ length xs → header_ok xs ≡ true → header_len xs ≤ length xs → is_idle (take (header_len xs) xs) ≡ false →
+    1 ≤ length (scan (length xs) xs).out
+hands_first xs long ok room busy =
+    let p : List ℕ = take (header_len xs) xs in
+    let r : Read = scan (length (drop (header_len xs) xs)) (drop (header_len xs) xs) in
+    let out : (scan (length xs) xs).out ≡ p ∷ r.out = ap (λ x. x.out) (scan_next xs long ok room) ∙ ap (λ b. keep (not b) p r.out) busy in
+    omega (arith, ap length out)

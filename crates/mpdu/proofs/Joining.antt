@@ -234,3 +234,20 @@ some_of (suc n) m is some = omega arith
 
 pub min_is : (m n e : ℕ) → e ≡ min m n → (e ≡ m) ⊎ ((e ≡ n) × (n < m))
 min_is m n e is = elim (cases_lt n m) [ inl c ↦ inr (omega arith, c) | inr c ↦ inl (omega arith) ]
+
+-- what is handed out behind what is held is handed out of all
+pub hands_behind : (text all rest part held : List ℕ) (before between : List (List ℕ)) → all ≡ text → part ≡ rest → IsSplit all rest held before between →
+    1 ≤ length (scan (length part) part).out → 1 ≤ length (scan (length text) text).out
+hands_behind text all rest part held before between is same s some =
+    let out = ap length (ap (λ l. (scan (length l) l).out) (sym is) ∙ s.out ∙ ap (λ l. s.given ++ (scan (length l) l).out) (sym same)) in
+    omega (arith, out, some, length-append s.given (scan (length part) part).out)
+
+-- a whole packet that is held, and isn't idle, is handed out
+pub hands_whole : (text xs rest : List ℕ) → 6 ≤ length xs → header_len xs ≡ length xs → Heads xs rest → is_idle xs ≡ false → xs ++ rest ≡ text →
+    1 ≤ length (scan (length text) text).out
+hands_whole text xs rest long size heads busy is =
+    let kept : [] ++ keep (not (is_idle xs)) xs [] ≡ xs ∷ [] = ap (λ b. keep (not b) xs []) busy in
+    let s : IsSplit (xs ++ rest) rest [] [] ([] ++ keep (not (is_idle xs)) xs []) = finished xs rest [] ([] ++ keep (not (is_idle xs)) xs []) long size heads refl in
+    let given : s.given ≡ xs ∷ [] = sym s.appended ∙ kept in
+    let out = ap length (ap (λ l. (scan (length l) l).out) (sym is) ∙ s.out ∙ ap (λ l. l ++ (scan (length rest) rest).out) given) in
+    omega (arith, out)

@@ -81,6 +81,7 @@ fn emit(alloc: Global, packet: &[u8], out: &mut Vec<Vec<u8>>) -> Result<(), Allo
     ensures ok { OnOk result (octets_of_each out.new.items ≡ octets_of_each out.old.items
         ++ keep (not (is_idle packet.now)) packet.now []) }
     ensures err { OnErr result (octets_of_each out.new.items ≡ octets_of_each out.old.items) }
+    ensures hands { OnErr result (is_idle packet.now ≡ false) }
 {
     if has_idle_apid(packet) {
         return Ok(());
@@ -103,6 +104,7 @@ fn cut(alloc: Global, bytes: &[u8], out: &mut Vec<Vec<u8>>) -> Result<Front, All
     ensures err { OnErr result ((n : ℕ)
         × (octets_of_each out.new.items ≡ octets_of_each out.old.items
         ++ take n (scan (length bytes.now) bytes.now).out)) }
+    ensures hands { OnErr result (1 ≤ length (scan (length bytes.now) bytes.now).out) }
 {
     let mut rest = bytes;
     while rest.len() >= HEADER_LEN {
@@ -215,6 +217,7 @@ fn finish(
     ensures ok { (rest : List ℕ) → Heads held.old.items rest →
         OnOk result (IsSplit (held.old.items ++ rest) rest held.new.items (octets_of_each out.old.items) (octets_of_each out.new.items)) }
     ensures err { OnErr result (octets_of_each out.new.items ≡ octets_of_each out.old.items) }
+    ensures hands { OnErr result ((whole ≡ true) × (is_idle held.old.items ≡ false)) }
     ensures capacity { vec_capacity held.old ≤ vec_capacity held.new }
 {
     if whole {
@@ -263,6 +266,8 @@ fn read_behind(
     ensures err { OnErr result ((n : ℕ)
         × (octets_of_each out.new.items ≡ octets_of_each out.old.items
         ++ take n (step (length zone.now) held.old.items pointer zone.now).out)) }
+    ensures hands { OnErr result
+        (1 ≤ length (step (length zone.now) held.old.items pointer zone.now).out) }
     ensures begun { OnOk result (IsBegun held.new.items) }
     ensures capacity { vec_capacity held.old ≤ vec_capacity held.new }
 {
@@ -346,6 +351,8 @@ impl Reassembler {
         ensures err { OnErr result ((n : ℕ)
             × (octets_of_each out.new.items ≡ octets_of_each out.old.items
             ++ take n (reading self.old follows pointer zone.now).out)) }
+        ensures hands { OnErr result
+            (1 ≤ length (reading self.old follows pointer zone.now).out) }
         ensures err_held { OnErr result (self.new ≡ []) }
     {
         let had = !self.begun.is_empty();
@@ -375,9 +382,9 @@ impl Reassembler {
     /// with another version than `000` the rest of the zone is discarded, save
     /// where it is the begun packet's: then reading goes on at the pointer.
     ///
-    /// `AllocError` comes only where a growth was refused: a front of the packets that would have
-    /// come was appended then, the begun packet and the rest of the zone are discarded, and the
-    /// next zone is read from its pointer.
+    /// `AllocError` comes only where a growth was refused, at a zone that completes a packet: a front
+    /// of the packets that would have come was appended then, the begun packet and the rest of the
+    /// zone are discarded, and the next zone is read from its pointer.
     pub fn feed(
         &mut self,
         pointer: u16,
@@ -412,6 +419,9 @@ impl Reassembler {
         ensures front { OnErr result ((n : ℕ)
             × (octets_of_each out.new.items ≡ octets_of_each out.old.items
             ++ take n (reading self.old follows pointer zone.now).out)) }
+        // Only a packet that is handed out takes memory.
+        ensures hands { OnErr result
+            (1 ≤ length (reading self.old follows pointer zone.now).out) }
         ensures resync { IfOk result (λ n. n.resync
             ≡ resync (length zone.now) self.old follows pointer zone.now) }
         ensures bad { IfOk result (λ n. n.bad

@@ -5,7 +5,7 @@ use Rattle.mpdu.specs.Stream.{keep, header_len, header_ok, is_idle}
 use Rattle.mpdu.specs.Reading.{scan}
 use Rattle.mpdu.specs.Feeding.{octets_of_each}
 use Rattle.mpdu.proofs.Scan.{scan_short, scan_bad, scan_held, scan_next}
-use Rattle.mpdu.proofs.Fronts.{front_of, cut_more}
+use Rattle.mpdu.proofs.Fronts.{front_of, cut_more, hands_first}
 use Rattle.mpdu.proofs.reassembler.cut.Goals as goal
 
 pub returns-then-not-has_good_version-clause-held : goal.returns-then-not-has_good_version-clause-held
@@ -31,6 +31,19 @@ returns-in_err-emit-clause-err c =
     let n : (k : ℕ) × (octets_of_each c.loop-rest.out.items ≡ octets_of_each c.args.out.now.items ++ take k (scan (length c.args.bytes.now) c.args.bytes.now).out) = front_of (octets_of_each c.args.out.now.items) (scan (length c.args.bytes.now) c.args.bytes.now).out (octets_of_each c.loop-rest.out.items) (scan (length c.loop-rest.rest.now) c.loop-rest.rest.now).out c.loop-rest.invariant.grown c.loop-rest.invariant.out in
     let p = err_from_is_err_and c.from_residual.result c.from_residual.ensures.1 in
     rw (p.1) (n.0, none ∙ n.1)
+
+pub returns-in_err-emit-clause-hands : goal.returns-in_err-emit-clause-hands
+returns-in_err-emit-clause-hands c =
+    let xs : List ℕ = c.loop-rest.rest.now in
+    let ok : header_ok xs ≡ true = sym c.has_good_version.ensures ∙ c.if-not-has_good_version.false in
+    let len : c.packet_len-len.result ≡ header_len xs = c.packet_len-len.ensures.told in
+    let room : header_len xs ≤ length xs = omega arith in
+    let first : c.split_at.result.0.now ≡ take (header_len xs) xs = c.split_at.ensures.front ∙ ap (λ n. take n xs) len in
+    let busy : is_idle (take (header_len xs) xs) ≡ false = ap is_idle (sym first) ∙ c.in_err-emit.ensures.hands in
+    let some : 1 ≤ length (scan (length xs) xs).out = hands_first xs c.loop-rest-test.true ok room busy in
+    let all = ap length c.loop-rest.invariant.out in
+    let p = err_from_is_err_and c.from_residual.result c.from_residual.ensures.1 in
+    rw (p.1) (omega (arith, some, all, c.loop-rest.invariant.grown, length-append (octets_of_each c.args.out.now.items) (scan (length c.args.bytes.now) c.args.bytes.now).out, length-append (octets_of_each c.loop-rest.out.items) (scan (length xs) xs).out))
 
 pub loop-rest-preserved : goal.loop-rest-preserved
 loop-rest-preserved c =

@@ -4,7 +4,7 @@ use Rattle.std.proofs.lemmas.Result.{err_from_is_err_and}
 use Rattle.mpdu.specs.Reading.{to_read, step, scan}
 use Rattle.mpdu.specs.Feeding.{octets_of_each}
 use Rattle.mpdu.specs.Joining.{IsSplit, IsBegun}
-use Rattle.mpdu.proofs.Joining.{IsPast, past, read_front, read_begun, scan_begun, begun-short}
+use Rattle.mpdu.proofs.Joining.{IsPast, past, hands_behind, hands_whole, read_front, read_begun, scan_begun, begun-short}
 use Rattle.mpdu.proofs.Scan.{header_len-short}
 use Rattle.mpdu.proofs.reassembler.read_behind.Goals.{After-append, After-append-2}
 use Rattle.mpdu.proofs.reassembler.read_behind.Goals as goal
@@ -48,6 +48,21 @@ returns-in_err-front-clause-err c =
     let s : IsSplit (c.join-joined.new.held.items ++ rest) rest c.finish.new.held.items (octets_of_each c.args.out.now.items) (octets_of_each c.finish.new.out.items) = c.in_ok-finish.ensures.ok rest c.join-joined.ensures.heads in
     let p = err_from_is_err_and c.from_residual-in_err-front.result c.from_residual-in_err-front.ensures.1 in
     rw (p.1) (read_front (to_read (length c.args.zone.now) c.args.held.now.items c.args.pointer c.args.zone.now) (c.join-joined.new.held.items ++ rest) rest (take (length c.args.zone.now - c.join-joined.result.from) rest) c.finish.new.held.items (octets_of_each c.args.out.now.items) (octets_of_each c.finish.new.out.items) (octets_of_each c.cut.new.out.items) (c.in_err-front.ensures.err.0) c.join-joined.ensures.read (take_rest c.args.zone.now c.join-joined.result.from) s (c.in_err-front.ensures.err.1))
+
+pub returns-in_err-front-clause-hands : goal.returns-in_err-front-clause-hands
+returns-in_err-front-clause-hands c =
+    let rest : List ℕ = drop c.join-joined.result.from c.args.zone.now in
+    let s : IsSplit (c.join-joined.new.held.items ++ rest) rest c.finish.new.held.items (octets_of_each c.args.out.now.items) (octets_of_each c.finish.new.out.items) = c.in_ok-finish.ensures.ok rest c.join-joined.ensures.heads in
+    let p = err_from_is_err_and c.from_residual-in_err-front.result c.from_residual-in_err-front.ensures.1 in
+    rw (p.1) (hands_behind (to_read (length c.args.zone.now) c.args.held.now.items c.args.pointer c.args.zone.now) (c.join-joined.new.held.items ++ rest) rest (take (length c.args.zone.now - c.join-joined.result.from) rest) c.finish.new.held.items (octets_of_each c.args.out.now.items) (octets_of_each c.finish.new.out.items) c.join-joined.ensures.read (take_rest c.args.zone.now c.join-joined.result.from) s c.in_err-front.ensures.hands)
+
+pub returns-in_err-finish-clause-hands : goal.returns-in_err-finish-clause-hands
+returns-in_err-finish-clause-hands c =
+    let rest : List ℕ = drop c.join-joined.result.from c.args.zone.now in
+    let held : List ℕ = c.join-joined.new.held.items in
+    let whole = c.join-joined.ensures.whole c.in_err-finish.ensures.hands.0 in
+    let p = err_from_is_err_and c.from_residual.result c.from_residual.ensures.1 in
+    rw (p.1) (hands_whole (to_read (length c.args.zone.now) c.args.held.now.items c.args.pointer c.args.zone.now) held rest whole.0 whole.1 c.join-joined.ensures.heads c.in_err-finish.ensures.hands.1 c.join-joined.ensures.read)
 
 -- what is left
 left_is : (c : goal.After-append-arg-3-1) → c.finish.new.held.items ++ drop c.in_ok-front.front.end (take (length c.args.zone.now - c.join-joined.result.from) (drop c.join-joined.result.from c.args.zone.now))
