@@ -1,3 +1,4 @@
 mod FileLemmas
 mod Octets
 mod PieceLemmas
+pub mod FolderLemmas

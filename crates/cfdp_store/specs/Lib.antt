@@ -1,5 +1,6 @@
 pub mod Calls
 pub mod Files
+pub mod Folder
 pub mod Fuse
 pub mod Memory
 pub mod Pieces

@@ -1,5 +1,5 @@
 //! Where the files to be sent lie, and where received files are staged and published: the two
-//! traits, stores in memory, and stores that fail from a chosen call on.
+//! traits, stores in memory and in folders, and stores that fail from a chosen call on.
 //!
 //! A received file is staged as its octets come, in any order, and is there for others once it is
 //! published:
@@ -16,6 +16,8 @@
 
 mod error;
 mod files;
+mod folder;
+mod folder_error;
 mod fuse;
 mod inbox;
 mod laws;
@@ -26,6 +28,8 @@ mod stored;
 
 pub use error::StoreError;
 pub use files::Files;
+pub use folder::{FolderInbox, FolderOutbox, is_folder_name};
+pub use folder_error::FolderError;
 pub use fuse::{FuseInbox, FuseOutbox};
 pub use inbox::Inbox;
 pub use laws::{front_is_what_stands, written_octets_cover, written_octets_stand};

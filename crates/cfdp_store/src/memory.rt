@@ -1,4 +1,4 @@
-ghost use Rattle.std.specs.Prelude.{◌≡◌, Some, None, false, IsSome, OnErr, OnOk};
+ghost use Rattle.std.specs.Prelude.{◌≡◌, Some, None, false, IsSome, IfOk, OnErr, OnOk};
 ghost use Rattle.std.specs.FinMap as map;
 ghost use Rattle.cfdp_header.specs.declared.value.TransactionId.{TransactionId};
 ghost use Rattle.cfdp_store.specs.Stores.{failures_after};
@@ -140,6 +140,20 @@ impl MemoryInbox {
     {
         self.failed = self.failed.saturating_add(1);
         StoreError::NoMemory
+    }
+
+    /// Takes out the first `size` octets staged for a transaction, and lets the others go.
+    pub(crate) fn take_front(&mut self, id: TransactionId, size: u64) -> Result<Vec<u8>, AllocError>
+        ensures octets { IfOk result (λ octets. octets.items
+            ≡ front (staged_for (octets_for self.old.staged) id) size) }
+        ensures staged { octets_for self.new.staged id ≡ None }
+        ensures others { OthersKeep id (octets_for self.old.staged) (octets_for self.new.staged) }
+        ensures rest { (self.new.files ≡ self.old.files) × (self.new.failed ≡ self.old.failed) }
+    {
+        match self.staged.remove(&id) {
+            Some(pieces) => pieces.into_front(size),
+            None => Pieces::new(self.alloc).into_front(size),
+        }
     }
 
     fn try_publish(&mut self, id: TransactionId, name: &[u8], size: u64) -> Result<(), AllocError>

@@ -1,0 +1,59 @@
+-- Files in folders: their names, the one that is loaded, those that were received.
+use Rattle.std.specs.Prelude.{◌≡◌, ◌≢◌, ◌⊎◌, ◌↔◌, ◌≤◌, ℕ, List, [], ◌∷◌, All, Err, IsOk, IsOkUnless, length}
+use Rattle.std.specs.FinMap.{empty, insert}
+use Rattle.std.specs.declared.io.ErrorKind.TheVariants.{OutOfMemory}
+use Rattle.cfdp_header.specs.Files.{FileMap}
+use Rattle.cfdp_store.specs.Calls.{InboxCall, Begin, Write, Publish, Discard}
+use Rattle.cfdp_store.specs.declared.error.StoreError.{StoreError}
+use Rattle.cfdp_store.specs.declared.error.StoreError.TheVariants as refusal
+use Rattle.cfdp_store.specs.declared.folder.Received.{Received}
+use Rattle.cfdp_store.specs.declared.folder_error.FolderError.{FolderError}
+use Rattle.cfdp_store.specs.declared.folder_error.FolderError.TheVariants.{Name, System}
+
+-- ---- names
+
+-- one of A-Z, a-z, 0-9, point, underscore and dash
+abbrev pub IsNameOctet : ℕ → Type 0
+IsNameOctet c = (65 ≤ c × c ≤ 90) ⊎ (97 ≤ c × c ≤ 122) ⊎ (48 ≤ c × c ≤ 57)
+    ⊎ (c ≡ 46) ⊎ (c ≡ 95) ⊎ (c ≡ 45)
+
+-- it doesn't begin with a point, and isn't empty
+abbrev pub BeginsWell : List ℕ → Type 0
+BeginsWell [] = ⊥
+BeginsWell (c ∷ cs) = c ≢ 46
+
+-- A file in a folder may have this name. So it has no separator and names nothing outside of it.
+pub record IsFolderName (name : List ℕ) : Type 0 where
+  pub begins : BeginsWell name
+  pub most : length name ≤ 64
+  pub octets : All IsNameOctet name
+
+-- how a store answers where a file can't be read or written for this
+abbrev pub refusal_of : FolderError → StoreError
+refusal_of Name = refusal.Name
+refusal_of (System OutOfMemory) = refusal.NoMemory
+refusal_of _ = refusal.Device
+
+-- The call failed for a name exactly where a file in a folder can't have that name. Octets are
+-- staged in memory.
+abbrev pub AnswersNames : InboxCall → Type 0
+AnswersNames (Begin id answer) = IsOkUnless answer refusal.NoMemory
+AnswersNames (Write id offset octets answer) = IsOkUnless answer refusal.NoMemory
+AnswersNames (Publish id name size answer) =
+    (answer ≡ Err refusal.Name) ↔ (IsFolderName name → ⊥)
+AnswersNames (Discard id answer) = IsOk answer
+
+-- ---- files
+
+-- No file, or one of this name with at most so many octets.
+abbrev pub HasAtMost : List ℕ → ℕ → FileMap → Type 0
+HasAtMost name most files = (files ≡ empty)
+    ⊎ ((octets : List ℕ) × (length octets ≤ most) × (files ≡ insert empty name octets))
+
+-- the files once these were received, in turn
+unfoldable pub after_received : FileMap → List Received → FileMap
+after_received files [] = files
+after_received files (r ∷ rs) = after_received (insert files r.name.items r.octets.items) rs
+
+abbrev pub published_of : List Received → FileMap
+published_of rs = after_received empty rs
