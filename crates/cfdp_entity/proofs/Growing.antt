@@ -121,7 +121,7 @@ dropped-by (routes.Steps place) by v old new t =
     let next : new.state.next ≡ old.state.next = ap (λ (e : EntityState). e.next) f.counted in
     goes old.state new.state (table_step (Spoils place v f.spoiled.seen) old.state.table) (grows-step (Spoils place v f.spoiled.seen) old.state.table) f.spoiled.table (ap (λ (e : EntityState). e.config) f.counted) (omega (arith, next))
 dropped-by routes.Opens by v old new t =
-    stays old.state new.state (ap (λ (e : EntityState). e.table) t.1) (ap (λ (e : EntityState). e.config) t.1) (ap (λ (e : EntityState). e.next) t.1)
+    stays old.state new.state (ap (λ (c : Counted). c.state.table) t.1) (ap (λ (c : Counted). c.state.config) t.1) (ap (λ (c : Counted). c.state.next) t.1)
 dropped-by (routes.Queues s) by v old new t = absurd t
 
 pub dropped-goes : (o : Option PduError) (pdu : List ℕ) (by : EntityDrop) (old new : Counted) → DropsOctets o pdu by old new → GoesOn old.state new.state

@@ -48,6 +48,7 @@ use Rattle.cfdp_entity.specs.History.{TableStep, Hears, Spoils, Expires, Calls, 
 use Rattle.cfdp_entity.proofs.Entries.{keys_set}
 use Rattle.cfdp_entity.proofs.Places.{position-none}
 use Rattle.cfdp_entity.proofs.CallerLemmas.{same_id-true, same_id-symm, step-own, step-other, push-own, push-other}
+use Rattle.cfdp_entity.proofs.Sparing.{spoils-receives}
 
 -- ---- the laws of both machines
 pub record Machines : Type 0 where
@@ -170,7 +171,7 @@ module _ (laws : Machines) where
     same-so s t is = subst (λ u. Behaves s (no_step files u)) (sym is) (rests files s)
 
     pub spoils-so : (v : Content) (s t : Seen) → steps.Spoils v s t → Behaves s (no_step files t)
-    spoils-so v (Receives r m) t h = subst (λ u. Behaves (Receives r m) (no_step files u)) (sym h.1.0) (record { goes_on = (refl, λ c. c); once = omega arith; own = λ id other. refl })
+    spoils-so v (Receives r m) t h = subst (λ u. Behaves (Receives r m) (no_step files u)) (sym (spoils-receives v r m t h).1.0) (record { goes_on = (refl, λ c. c); once = omega arith; own = λ id other. refl })
     spoils-so (Nak start end pairs) (Sends x) t h =
         subst (λ u. Behaves (Sends x) (no_step files u)) (sym h.1)
         (let b = by-sender policy.times files policy [] (inputs.HearsNak (take h.0 pairs)) x tt in record { goes_on = b.goes_on; once = b.once; own = λ id other. refl })

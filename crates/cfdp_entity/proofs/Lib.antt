@@ -22,3 +22,4 @@ pub mod Sparing
 pub mod Spelled
 pub mod Turns
 pub mod CallerLemmas
+pub mod Asking

@@ -130,9 +130,21 @@ module _ (times : Times) (id : TransactionId) (r r_now : ReceiverState) (files f
   receiver-called call.Resume does = receiver-does (λ m. receiver.resumes m files r) (λ over. masks-resumes files r over) does
   receiver-called (call.Prompt keep_alive) does = receiver-rests does
 
-  pub receiver-keeps : (v : Content) → ReceiverKeeps r r_now told told_now timers timers_now files files_now old new
+  pub receiver-keeps : (v : Content) → ReceiverKeeps v r r_now told told_now timers timers_now files files_now old new
       → Keeps v (seen (old id) (held.Receives r)) (seen (new id) (held.Receives r_now)) told told_now timers timers_now files files_now
-  receiver-keeps v keeps = record {
+  receiver-keeps (Metadata kind size source destination options) keeps = record {
+    state = λ i. seens.Receives (keeps.0.state i) (octets_seen (keeps.0.state i) (unwrap_or (keeps.1.1 i id) empty));
+    tells = keeps.0.tells;
+    timers = keeps.0.timers;
+    files = keeps.1.0;
+  }
+  receiver-keeps (Eof condition checksum size tlvs) keeps = absurd keeps
+  receiver-keeps (Finished condition delivery status tlvs) keeps = absurd keeps
+  receiver-keeps (Ack of condition status) keeps = absurd keeps
+  receiver-keeps (Nak start end pairs) keeps = absurd keeps
+  receiver-keeps (Prompt keep_alive) keeps = absurd keeps
+  receiver-keeps (KeepAlive progress) keeps = absurd keeps
+  receiver-keeps (FileData offset bytes) keeps = record {
     state = (
       octets_seen r (unwrap_or (new id) empty),
       ((λ i. seens.Receives (keeps.keeps.receiver i) (octets_seen (keeps.keeps.receiver i) (unwrap_or (new id) empty))), agree),
@@ -439,7 +451,7 @@ module _ (times : Times) (id : TransactionId) (s : Record) (r r_now : ReceiverSt
       (of-seen-there (expires policy files k))
       (receiver-does times id r r_now files files_now old new told told_now timers timers_now rid addr (λ m. receiver.expires k policy m files r) (λ over. masks-expires files r over policy k) does)
 
-  pub kept-there : (v : Content) → ReceiverKeeps r r_now told told_now timers timers_now files files_now old new
+  pub kept-there : (v : Content) → ReceiverKeeps v r r_now told told_now timers timers_now files files_now old new
       → Keeps v (seen (old id) s) (seen (new id) (held.Receives r_now)) told told_now timers timers_now files files_now
   kept-there v keeps = subst (λ (k : Record). Keeps v (seen (old id) k) (seen (new id) (held.Receives r_now)) told told_now timers timers_now files files_now) (sym is)
       (receiver-keeps times id r r_now files files_now old new told told_now timers timers_now rid addr v keeps)
@@ -491,7 +503,7 @@ module _ (times : Times) (id : TransactionId) (s : Record) (r r_now : ReceiverSt
   -- by what hearing a PDU answered
   module _ {E : Type 0} (answer : Result Stored E) (v : Content)
       (does : IfOk answer (λ stored. ReceiverDoes times (receiver_after stored v (staged_for old r.addressing.id) files r) r r_now told told_now timers timers_now files files_now old new))
-      (keeps : OnErr answer (ReceiverKeeps r r_now told told_now timers timers_now files files_now old new)) where
+      (keeps : OnErr answer (ReceiverKeeps v r r_now told told_now timers timers_now files files_now old new)) where
     pub heard-answered : IfOk answer (λ stored. Does id (hears stored times files v (seen (old id) s)) (seen (new id) (held.Receives r_now)) told told_now timers timers_now files_now)
     heard-answered = by answer does
       where
@@ -503,7 +515,7 @@ module _ (times : Times) (id : TransactionId) (s : Record) (r r_now : ReceiverSt
     pub heard-failed : OnErr answer (Keeps v (seen (old id) s) (seen (new id) (held.Receives r_now)) told told_now timers timers_now files files_now)
     heard-failed = by answer keeps
       where
-        by : (a : Result Stored E) → OnErr a (ReceiverKeeps r r_now told told_now timers timers_now files files_now old new) → OnErr a (Keeps v (seen (old id) s) (seen (new id) (held.Receives r_now)) told told_now timers timers_now files files_now)
+        by : (a : Result Stored E) → OnErr a (ReceiverKeeps v r r_now told told_now timers timers_now files files_now old new) → OnErr a (Keeps v (seen (old id) s) (seen (new id) (held.Receives r_now)) told told_now timers timers_now files files_now)
         by (Ok stored) h = tt
         by (Err e) h = kept-there v h
 

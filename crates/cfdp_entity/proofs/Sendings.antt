@@ -37,6 +37,7 @@ use Rattle.cfdp_entity.specs.Table.{Entry, TableState, place_of, step_of, step_a
 use Rattle.cfdp_entity.specs.History.{TableStep, Hears, Spoils, Expires, Calls, Takes, Puts, Opens, Tells, Fires, table_step, MayHappen}
 use Rattle.cfdp_entity.specs.Sending.{SendsPut, SendsItsPut, SendsTruth, FindsPut}
 use Rattle.cfdp_entity.proofs.Histories.{set-nowhere}
+use Rattle.cfdp_entity.proofs.Sparing.{spoils-receives}
 
 -- the laws of a sender of a put
 pub record TrueSender : Type 0 where
@@ -103,7 +104,7 @@ module _ (laws : TrueSender) (put_of : TransactionId → Option Put) where
 
       -- where there was no memory
       spoiled : (v : Content) (s t : Seen) → steps.Spoils v s t → SendsItsPut put_of sources id s → SendsItsPut put_of sources id t
-      spoiled v (Receives r m) t h k = subst (SendsItsPut put_of sources id) (sym h.1.0) tt
+      spoiled v (Receives r m) t h k = subst (SendsItsPut put_of sources id) (sym (spoils-receives v r m t h).1.0) tt
       spoiled (Nak start end pairs) (Sends x) t h k = subst (SendsItsPut put_of sources id) (sym h.1) (by-sender policy (inputs.HearsNak (take h.0 pairs)) x tt k)
       spoiled (Ack of condition status) (Sends x) t h k = subst (SendsItsPut put_of sources id) (sym h) k
       spoiled (Finished condition delivery status tlvs) (Sends x) t h k = subst (SendsItsPut put_of sources id) (sym h) k

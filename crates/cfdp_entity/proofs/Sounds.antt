@@ -198,7 +198,7 @@ module _ (put_of : TransactionId → Option Put) (heard : List (List ℕ)) (firs
         sound-like (with_table old.state (table_step (Spoils place v f.spoiled.seen) old.state.table)) new.state (ap (λ (e : EntityState). e.config) f.counted) f.spoiled.table
         (sound-step old.state (Spoils place v f.spoiled.seen) f.spoiled.spoils tt tt tt
         (spoiled-timed place v f.spoiled.seen old.state.table k.once.distinct f.spoiled.spoils k.timed) k)
-    dropped-by routes.Opens by v old new t k = sound-like old.state new.state (ap (λ (e : EntityState). e.config) t.1) (ap (λ (e : EntityState). e.table) t.1) k
+    dropped-by routes.Opens by v old new t k = sound-like old.state new.state (ap (λ (c : Counted). c.state.config) t.1) (ap (λ (c : Counted). c.state.table) t.1) k
     dropped-by (routes.Queues s) by v old new t k = absurd t
 
     pub sound-dropped : (o : Option PduError) (pdu : List ℕ) (by : EntityDrop) (old new : Counted) → DropsOctets o pdu by old new → IsSound put_of heard first old.state → IsSound put_of heard first new.state

@@ -1,5 +1,7 @@
 -- Exported: a record that is as it was is one that found no memory.
 use Rattle.std.proofs.Common.{◌≡◌, ℕ, zero, suc, List, [], ◌∷◌, slice_get, Option, Some, None, Result, Ok, Err, OnErr, refl, sym, ap, subst, true}
+use Rattle.std.specs.FinMap as map
+use Rattle.std.specs.FinSet as set
 use Rattle.indexmap.specs.IndexMap.{set_value_at}
 use Rattle.cfdp_directives.specs.Content.{Content, FileData, Metadata, Eof, Finished, Ack, Nak, Prompt, KeepAlive}
 use Rattle.cfdp_sender.specs.declared.phase.SenderPhase.{SenderPhase}
@@ -7,6 +9,8 @@ use Rattle.cfdp_sender.specs.declared.phase.SenderPhase.TheVariants as phases
 use Rattle.cfdp_sender.specs.declared.transfer.Transfer.{Transfer}
 use Rattle.cfdp_sender.specs.State.{SenderState, opened_sender}
 use Rattle.cfdp_sender.specs.Steps.{asks_in}
+use Rattle.cfdp_store.specs.Staged.{OctetMap}
+use Rattle.cfdp_receiver.specs.State.{ReceiverState}
 use Rattle.cfdp_entity.specs.Entity.{own_id}
 use Rattle.cfdp_entity.specs.Seen.{Seen, Sends, Receives}
 use Rattle.cfdp_entity.specs.Steps.{Spoils}
@@ -26,6 +30,18 @@ nobody = record {
 abbrev pub resting : Seen
 resting = Sends (record (opened_sender nobody) { suspended = true })
 
+-- A receiver that found no memory is as it was, but for octets at offsets that are not held.
+pub spoils-receives : (v : Content) (r : ReceiverState) (m : OctetMap) (new : Seen) → Spoils v (Receives r m) new →
+    (octets : OctetMap) × ((new ≡ Receives r octets) × ((n : ℕ) → set.contains r.held n ≡ true → map.get octets n ≡ map.get m n))
+spoils-receives (FileData offset bytes) r m new h = h
+spoils-receives (Metadata kind size source destination options) r m new h = (m, (h, λ n held. refl))
+spoils-receives (Eof condition checksum size tlvs) r m new h = (m, (h, λ n held. refl))
+spoils-receives (Finished condition delivery status tlvs) r m new h = (m, (h, λ n held. refl))
+spoils-receives (Ack of condition status) r m new h = (m, (h, λ n held. refl))
+spoils-receives (Nak start end pairs) r m new h = (m, (h, λ n held. refl))
+spoils-receives (Prompt keep_alive) r m new h = (m, (h, λ n held. refl))
+spoils-receives (KeepAlive progress) r m new h = (m, (h, λ n held. refl))
+
 asks-none : (p : SenderPhase) (x : SenderState) → x ≡ asks_in p [] x
 asks-none phases.Sending x = refl
 asks-none phases.Cancelling x = refl
@@ -33,13 +49,13 @@ asks-none phases.Closed x = refl
 
 spoils-same : (v : Content) (s : Seen) → Spoils v s s
 spoils-same (FileData offset bytes) (Receives r m) = (m, (refl, λ n h. refl))
-spoils-same (Metadata kind size source destination options) (Receives r m) = (m, (refl, λ n h. refl))
-spoils-same (Eof condition checksum size tlvs) (Receives r m) = (m, (refl, λ n h. refl))
-spoils-same (Finished condition delivery status tlvs) (Receives r m) = (m, (refl, λ n h. refl))
-spoils-same (Ack of condition status) (Receives r m) = (m, (refl, λ n h. refl))
-spoils-same (Nak start end pairs) (Receives r m) = (m, (refl, λ n h. refl))
-spoils-same (Prompt keep_alive) (Receives r m) = (m, (refl, λ n h. refl))
-spoils-same (KeepAlive progress) (Receives r m) = (m, (refl, λ n h. refl))
+spoils-same (Metadata kind size source destination options) (Receives r m) = refl
+spoils-same (Eof condition checksum size tlvs) (Receives r m) = refl
+spoils-same (Finished condition delivery status tlvs) (Receives r m) = refl
+spoils-same (Ack of condition status) (Receives r m) = refl
+spoils-same (Nak start end pairs) (Receives r m) = refl
+spoils-same (Prompt keep_alive) (Receives r m) = refl
+spoils-same (KeepAlive progress) (Receives r m) = refl
 spoils-same (Nak start end pairs) (Sends x) = (0, ap Sends (asks-none x.phase x))
 spoils-same (FileData offset bytes) (Sends x) = refl
 spoils-same (Metadata kind size source destination options) (Sends x) = refl

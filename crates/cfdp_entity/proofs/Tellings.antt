@@ -56,6 +56,7 @@ use Rattle.cfdp_entity.specs.Truth.{KnowsTruth, TellsTruth, IsTrueTable}
 use Rattle.cfdp_entity.proofs.CallerLemmas.{same_id-true}
 use Rattle.cfdp_entity.proofs.Entries.{same_id-itself}
 use Rattle.cfdp_entity.proofs.Histories.{Machines, set-nowhere, spoils-so}
+use Rattle.cfdp_entity.proofs.Sparing.{spoils-receives}
 
 -- ---- what is indicated
 pub nothing-in : {X : Type 0} (x : X) → Contains [] x → ⊥
@@ -221,7 +222,7 @@ module _ (own : ℕ) (heard : List (List ℕ)) where
 
       spoiled : (told : List Indication) (v : Content) (s t : Seen) → steps.Spoils v s t → WasIndicated told s → WasIndicated told t
       spoiled told v (Sends x) t h w = still-sends told x t (spoils-so machines policy files v (Sends x) t h).goes_on
-      spoiled told v (Receives r m) t h w = subst (WasIndicated told) (sym h.1.0) w
+      spoiled told v (Receives r m) t h w = subst (WasIndicated told) (sym (spoils-receives v r m t h).1.0) w
 
     -- ---- a record that is opened
     -- nothing is known of how it ended but what is indicated

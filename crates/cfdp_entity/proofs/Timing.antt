@@ -54,6 +54,7 @@ use Rattle.cfdp_entity.specs.Timed.{AreTimed, waits_seen, waits_for, is_armed}
 use Rattle.cfdp_entity.proofs.CallerLemmas.{same_id-true, same_id-symm, step-own, step-other, push-own, push-other}
 use Rattle.cfdp_entity.proofs.Entries.{same_id-itself, keys_set}
 use Rattle.cfdp_entity.proofs.Histories.{key-at, no-record, set-itself, set-nowhere}
+use Rattle.cfdp_entity.proofs.Sparing.{spoils-receives}
 
 -- ---- the record of a transaction
 -- the entry at a place
@@ -439,7 +440,7 @@ asks-in-waits sending.Cancelling pairs x k = refl
 asks-in-waits sending.Closed pairs x k = refl
 
 spoils-waits : (v : Content) (s t : Seen) (k : Kind) → Spoils v s t → waits_seen k t ≡ waits_seen k s
-spoils-waits v (Receives r m) t k h = ap (waits_seen k) h.1.0
+spoils-waits v (Receives r m) t k h = ap (waits_seen k) (spoils-receives v r m t h).1.0
 spoils-waits (Nak start end pairs) (Sends x) t k h = ap (waits_seen k) h.1 ∙ asks-in-waits x.phase (take h.0 pairs) x k
 spoils-waits (Ack of condition status) (Sends x) t k h = ap (waits_seen k) h
 spoils-waits (Finished condition delivery status tlvs) (Sends x) t k h = ap (waits_seen k) h

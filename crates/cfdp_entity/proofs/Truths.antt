@@ -54,6 +54,7 @@ use Rattle.cfdp_entity.specs.Truth.{KnowsPut, KnowsTruth, IsTrueOf, TellsTruth, 
 use Rattle.cfdp_entity.proofs.CallerLemmas.{same_id-true}
 use Rattle.cfdp_entity.proofs.Entries.{same_id-itself}
 use Rattle.cfdp_entity.proofs.Histories.{Machines, set-nowhere}
+use Rattle.cfdp_entity.proofs.Sparing.{spoils-receives}
 
 -- the laws of a receiver that hears the truth
 pub record TrueReceiver : Type 0 where
@@ -223,7 +224,9 @@ module _ (own : ℕ) (put_of : TransactionId → Option Put) (heard : List (List
 
       -- where there was no memory
       spoiled : (v : Content) (s t : Seen) → steps.Spoils v s t → KnowsTruth own put_of heard id s → KnowsTruth own put_of heard id t
-      spoiled v (Receives r m) t h k = subst (KnowsTruth own put_of heard id) (sym h.1.0) (record { put = k.put; is_put = k.is_put; same_id = k.same_id; not_own = k.not_own; sound = laws.staged k.put heard r m h.0 (λ is n there. h.1.1 n there) k.sound })
+      spoiled v (Receives r m) t h k =
+          let w = spoils-receives v r m t h in
+          subst (KnowsTruth own put_of heard id) (sym w.1.0) (record { put = k.put; is_put = k.is_put; same_id = k.same_id; not_own = k.not_own; sound = laws.staged k.put heard r m w.0 (λ is n there. w.1.1 n there) k.sound })
       spoiled (Nak start end pairs) (Sends x) t h k = subst (KnowsTruth own put_of heard id) (sym h.1) ((true-sender policy.times files policy [] (inputs.HearsNak (take h.0 pairs)) id x tt k).knows)
       spoiled (Ack of condition status) (Sends x) t h k = subst (KnowsTruth own put_of heard id) (sym h) k
       spoiled (Finished condition delivery status tlvs) (Sends x) t h k = subst (KnowsTruth own put_of heard id) (sym h) k

@@ -58,6 +58,25 @@ abbrev pub refusal_in : Call → Option ℕ → TableState → Option CallError
 refusal_in c (Some place) st = refusal_of c (slice_get st.records place)
 refusal_in c None st = Some Unknown
 
+-- whether a call may ask something of the inbox: only one that cancels what is received
+abbrev pub is_received : Seen → Bool
+is_received (Sends x) = false
+is_received (Receives r m) = true
+
+abbrev pub asks_inbox : Call → Seen → Bool
+asks_inbox call.Cancel s = is_received s
+asks_inbox call.Suspend s = false
+asks_inbox call.Resume s = false
+asks_inbox (call.Prompt keep_alive) s = false
+
+abbrev pub asks_of : Call → Option Entry → Bool
+asks_of c (Some e) = asks_inbox c e.1
+asks_of c None = false
+
+abbrev pub asks_in : Call → Option ℕ → TableState → Bool
+asks_in c (Some place) st = asks_of c (slice_get st.records place)
+asks_in c None st = false
+
 abbrev pub called_in : Call → Option ℕ → TableState → TableState
 called_in c (Some place) st = called_at place c st
 called_in c None st = st

@@ -1,15 +1,19 @@
 -- What a call of the user on a transaction does to an entity.
-use Rattle.std.specs.Prelude.{◌≡◌, Option, None}
+use Rattle.std.specs.Prelude.{◌≡◌, Bool, Option, None}
 use Rattle.cfdp_header.specs.declared.value.TransactionId.{TransactionId}
 use Rattle.cfdp_entity.specs.declared.call.Call.{Call}
 use Rattle.cfdp_entity.specs.declared.error.CallError.{CallError}
-use Rattle.cfdp_entity.specs.Calling.{refusal_in, called_in}
+use Rattle.cfdp_entity.specs.Calling.{refusal_in, asks_in, called_in}
 use Rattle.cfdp_entity.specs.Entity.{EntityState, with_table}
 use Rattle.cfdp_entity.specs.Table.{TableState, place_of}
 
 -- why a call on a transaction is refused, if it is
 abbrev pub call_refusal : Call → TransactionId → TableState → Option CallError
 call_refusal c id t = refusal_in c (place_of id t.records) t
+
+-- whether a call on a transaction may ask something of the inbox
+abbrev pub asks_inbox : Call → TransactionId → TableState → Bool
+asks_inbox c id t = asks_in c (place_of id t.records) t
 
 -- the table once its record was called
 abbrev pub after_call : Call → TransactionId → TableState → TableState

@@ -1,5 +1,5 @@
 -- What a PDU does that an entity hears.
-use Rattle.std.specs.Prelude.{◌≡◌, ◌≤◌, ◌==◌, ◌||◌, ℕ, nat_lt, not, Bool, false, List, [], ◌∷◌, ◌++◌, length, Option, Some, None, if◌then◌else◌}
+use Rattle.std.specs.Prelude.{◌≡◌, ◌==◌, ◌||◌, ℕ, nat_lt, not, Bool, false, List, [], ◌∷◌, ◌++◌, length, Option, Some, None, IfSome, if◌then◌else◌}
 use Rattle.cfdp_header.specs.declared.value.Header.{Header}
 use Rattle.cfdp_directives.specs.declared.error.PduError.{PduError}
 use Rattle.cfdp_directives.specs.declared.addressing.Addressing.{Addressing}
@@ -14,7 +14,7 @@ use Rattle.cfdp_entity.specs.declared.error.EntityDrop.TheVariants as drops
 use Rattle.cfdp_entity.specs.declared.route.Route.{Route}
 use Rattle.cfdp_entity.specs.declared.route.Route.TheVariants.{Drops, Steps, Opens, Queues}
 use Rattle.cfdp_entity.specs.Entity.{EntityState, Counted, dropped, with_table}
-use Rattle.cfdp_entity.specs.Opening.{CountsBoth}
+use Rattle.cfdp_entity.specs.Opening.{CountsBoth, closing}
 use Rattle.cfdp_entity.specs.Strays.{StrayAck, most_strays}
 use Rattle.cfdp_entity.specs.Table.{place_of, heard_at, opened_by, SpoiledAt, most_records}
 
@@ -61,12 +61,14 @@ pub record StepsAt (place : ℕ) (v : Content) (old new : Counted) : Type 0 wher
   pub counts : Counts stored old.inbox_failures new.inbox_failures
   pub outbox : new.outbox_failures ≡ old.outbox_failures
 
--- A record was opened and made its step, by what the inbox answered to each.
+-- A record was opened and made its step, by what the inbox answered to each. For an EOF with an
+-- error the inbox isn't called.
 pub record OpensOne (a : Addressing) (v : Content) (old new : Counted) : Type 0 where
   pub begun : Stored
   pub stored : Stored
   pub opens : new.state ≡ with_table old.state (opened_by begun stored a v old.state.table)
   pub counts : CountsBoth begun stored old.inbox_failures new.inbox_failures
+  pub closed : IfSome (closing v) (λ condition. new.inbox_failures ≡ old.inbox_failures)
   pub outbox : new.outbox_failures ≡ old.outbox_failures
 
 abbrev pub queued : StrayAck → EntityState → EntityState
@@ -81,22 +83,20 @@ Takes (Queues s) h v old new = new ≡ record old { state = queued s old.state }
 
 -- ---- what is dropped
 -- A PDU was dropped for want of memory: its record, if there is one, is as `SpoiledAt` says, and
--- nothing else changed but the count.
+-- nothing else changed but the count. No call of a store failed.
 pub record FindsNoMemory (place : ℕ) (v : Content) (old new : Counted) : Type 0 where
   pub spoiled : SpoiledAt place v old.state.table new.state.table
   pub counted : new.state ≡ dropped drops.NoMemory (with_table old.state new.state.table)
-  pub grows : old.inbox_failures ≤ new.inbox_failures
+  pub inbox : new.inbox_failures ≡ old.inbox_failures
   pub outbox : new.outbox_failures ≡ old.outbox_failures
 
--- The PDU was dropped on this route, by this cause.
+-- The PDU was dropped on this route, by this cause. One that was to open a record changed nothing
+-- but the count.
 abbrev pub DropsBy : Route → EntityDrop → Content → (old new : Counted) → Type 0
 DropsBy (Drops d) by v old new = (by ≡ d) × (new ≡ record old { state = dropped d old.state })
 DropsBy (Steps place) by v old new = (by ≡ drops.NoMemory) × FindsNoMemory place v old new
 DropsBy Opens by v old new =
-    (by ≡ drops.NoMemory)
-    × (new.state ≡ dropped drops.NoMemory old.state)
-    × (old.inbox_failures ≤ new.inbox_failures)
-    × (new.outbox_failures ≡ old.outbox_failures)
+    (by ≡ drops.NoMemory) × (new ≡ record old { state = dropped drops.NoMemory old.state })
 DropsBy (Queues s) by v old new = ⊥
 
 -- ---- octets

@@ -63,6 +63,12 @@ pub record LosesPdu (room : ℕ) (old new : EntityState) : Type 0 where
   pub fits : turn_len (turn old) old ≤ room
   pub served : new ≡ served Refused (turn old) old
 
+-- The record at a place has the turn, and its PDU fits: only then a poll wants memory.
+pub record TakesTurn (room : ℕ) (e : EntityState) : Type 0 where
+  pub place : ℕ
+  pub is_next : turn e ≡ Place place
+  pub fits : turn_len (turn e) e ≤ room
+
 -- A poll answered this.
 abbrev pub Polls : ℕ → EntityPolled → (old new : Counted) → (out_before out_now : List ℕ) → Type 0
 Polls room (Moved n) old new out out' = MovesPdu n room old.state new.state out out'

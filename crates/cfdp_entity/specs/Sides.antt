@@ -3,7 +3,7 @@ use Rattle.std.specs.Prelude.{◌≡◌, ◌++◌, ℕ, List, [], Option, Some, 
 use Rattle.cfdp_header.specs.Files.{FileMap}
 use Rattle.cfdp_directives.specs.declared.indication.Indication.{Indication}
 use Rattle.cfdp_directives.specs.declared.limits.Times.{Times}
-use Rattle.cfdp_directives.specs.Content.{Content, Nak}
+use Rattle.cfdp_directives.specs.Content.{Content, FileData, Metadata, Nak}
 use Rattle.cfdp_directives.specs.declared.codes.Acknowledged.{Acknowledged}
 use Rattle.cfdp_directives.specs.declared.codes.Acknowledged.TheVariants as acknowledged
 use Rattle.cfdp_store.specs.Staged.{OctetMap, OthersKeep, staged_for}
@@ -63,13 +63,23 @@ ReceiverDoes times (Some a) old new told told_now timers timers_now files files_
 ReceiverDoes times None old new told told_now timers timers_now files files_now staged staged_now =
     Rests old new told told_now timers timers_now × ((files_now ≡ files) × (staged_now ≡ staged))
 
--- it found no memory for Metadata or file data
-pub record ReceiverKeeps (old new : ReceiverState) (told_before told_now : List Indication)
+-- it found no memory for file data
+pub record KeepsData (old new : ReceiverState) (told_before told_now : List Indication)
     (timers_before timers_now : TimersState) (files_before files_now : FileMap)
     (staged_before staged_now : Staged) : Type 0 where
   pub keeps : receiver_does.Keeps old new told_before told_now files_before files_now staged_before
       staged_now
   pub timers : timers_now ≡ timers_before
+
+-- it found no memory for Metadata or file data
+abbrev pub ReceiverKeeps : Content → (old new : ReceiverState) →
+    (told_before told_now : List Indication) → (timers_before timers_now : TimersState) →
+    (files_before files_now : FileMap) → (staged_before staged_now : Staged) → Type 0
+ReceiverKeeps (FileData offset bytes) old new told told_now timers timers_now files files_now staged staged_now =
+    KeepsData old new told told_now timers timers_now files files_now staged staged_now
+ReceiverKeeps (Metadata kind size source destination options) old new told told_now timers timers_now files files_now staged staged_now =
+    Rests old new told told_now timers timers_now × ((files_now ≡ files) × (staged_now ≡ staged))
+ReceiverKeeps _ old new told told_now timers timers_now files files_now staged staged_now = ⊥
 
 -- what taking its PDU does to a receiver: nothing where none is due
 abbrev pub ReceiverTook : Times → Option Due → (old new : ReceiverState) →

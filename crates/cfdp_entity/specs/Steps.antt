@@ -106,11 +106,11 @@ hears stored times files v (Sends x) = if_sender times files x (sender_after v x
 hears stored times files v (Receives r m) =
     if_receiver times files r m (receiver_after stored v m files r)
 
--- Where there was no memory for what a PDU brings, the record is as before, but for two things: a
--- NAK may have asked for a prefix of its pairs, and file data may have staged octets at offsets that
--- are not held.
+-- Where there was no memory for what a PDU brings, the record is as before, but for two things:
+-- file data may have staged octets at offsets that are not held, and a NAK may have asked for a
+-- prefix of its pairs.
 abbrev pub Spoils : Content → (old new : Seen) → Type 0
-Spoils v (Receives r m) new =
+Spoils (FileData offset bytes) (Receives r m) new =
     (octets : OctetMap) × ((new ≡ Receives r octets)
     × ((n : ℕ) → set.contains r.held n ≡ true → map.get octets n ≡ map.get m n))
 Spoils (Nak start end pairs) (Sends x) new =

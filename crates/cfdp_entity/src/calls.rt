@@ -1,7 +1,8 @@
 // What a user asks of a transaction, and the time.
-ghost use Rattle.std.specs.Prelude.{◌≡◌, ◌≤◌, IfErr, OnOk, OnErr};
-ghost use Rattle.cfdp_entity.specs.Calling.{IsRefusal};
-ghost use Rattle.cfdp_entity.specs.Calls.{call_refusal, IsCalled};
+ghost use Rattle.std.specs.Prelude.{◌≡◌, ◌≤◌, max, false, slice_get, IfErr, OnOk, OnErr};
+ghost use Rattle.cfdp_timers.specs.Due.{due_count};
+ghost use Rattle.cfdp_entity.specs.Calling.{IsRefusal, asks_of};
+ghost use Rattle.cfdp_entity.specs.Calls.{asks_inbox, call_refusal, IsCalled};
 ghost use Rattle.cfdp_entity.specs.Entity.{with_table};
 ghost use Rattle.cfdp_entity.specs.Table.{called_at, Ticks};
 ghost use Rattle.cfdp_entity.specs.declared.call.Call.TheVariants as calls;
@@ -26,6 +27,8 @@ impl<O: Outbox, I: Inbox> Entity<O, I> {
             self.old.state.table)) }
         ensures err { OnErr result (self.new ≡ self.old) }
         ensures grows { self.old.inbox_failures ≤ self.new.inbox_failures }
+        ensures inbox { asks_inbox calls.Cancel id self.old.state.table ≡ false
+            → self.new.inbox_failures ≡ self.old.inbox_failures }
         ensures outbox { self.new.outbox_failures ≡ self.old.outbox_failures }
     {
         self.call(id, Call::Cancel)
@@ -43,7 +46,7 @@ impl<O: Outbox, I: Inbox> Entity<O, I> {
         ensures refused { IfErr result (IsRefusal (call_refusal calls.Suspend id
             self.old.state.table)) }
         ensures err { OnErr result (self.new ≡ self.old) }
-        ensures grows { self.old.inbox_failures ≤ self.new.inbox_failures }
+        ensures inbox { self.new.inbox_failures ≡ self.old.inbox_failures }
         ensures outbox { self.new.outbox_failures ≡ self.old.outbox_failures }
     {
         self.call(id, Call::Suspend)
@@ -60,7 +63,7 @@ impl<O: Outbox, I: Inbox> Entity<O, I> {
         ensures refused { IfErr result (IsRefusal (call_refusal calls.Resume id
             self.old.state.table)) }
         ensures err { OnErr result (self.new ≡ self.old) }
-        ensures grows { self.old.inbox_failures ≤ self.new.inbox_failures }
+        ensures inbox { self.new.inbox_failures ≡ self.old.inbox_failures }
         ensures outbox { self.new.outbox_failures ≡ self.old.outbox_failures }
     {
         self.call(id, Call::Resume)
@@ -79,7 +82,7 @@ impl<O: Outbox, I: Inbox> Entity<O, I> {
         ensures refused { IfErr result (IsRefusal (call_refusal (calls.Prompt keep_alive) id
             self.old.state.table)) }
         ensures err { OnErr result (self.new ≡ self.old) }
-        ensures grows { self.old.inbox_failures ≤ self.new.inbox_failures }
+        ensures inbox { self.new.inbox_failures ≡ self.old.inbox_failures }
         ensures outbox { self.new.outbox_failures ≡ self.old.outbox_failures }
     {
         self.call(id, Call::Prompt(keep_alive))
@@ -91,12 +94,14 @@ impl<O: Outbox, I: Inbox> Entity<O, I> {
     ///
     /// # Errors
     ///
-    /// `AllocError` where there is no memory for what is indicated. All is then as it was, the time
-    /// too.
+    /// `AllocError` where a timer is due, but there is no memory for what is indicated. All is then
+    /// as it was, the time too.
     pub fn tick(&mut self, now: u64) -> Result<(), AllocError>
         ensures ticked { OnOk result (Ticks now self.old.state.table self.new.state.table) }
         ensures table { self.new.state ≡ with_table self.old.state self.new.state.table }
-        ensures err { OnErr result (self.new.state ≡ self.old.state) }
+        ensures err { OnErr result (self.new ≡ self.old) }
+        ensures lacks { OnErr result (1 ≤ due_count self.old.state.table.armed
+            (max self.old.state.table.now now)) }
         ensures grows { self.old.inbox_failures ≤ self.new.inbox_failures }
         ensures outbox { self.new.outbox_failures ≡ self.old.outbox_failures }
     {
@@ -108,6 +113,8 @@ impl<O: Outbox, I: Inbox> Entity<O, I> {
         ensures refused { IfErr result (IsRefusal (call_refusal call id self.old.state.table)) }
         ensures err { OnErr result (self.new ≡ self.old) }
         ensures grows { self.old.inbox_failures ≤ self.new.inbox_failures }
+        ensures inbox { asks_inbox call id self.old.state.table ≡ false
+            → self.new.inbox_failures ≡ self.old.inbox_failures }
         ensures outbox { self.new.outbox_failures ≡ self.old.outbox_failures }
     {
         let Some(place) = self.table.place_of(id) else {
@@ -128,6 +135,8 @@ impl<O: Outbox, I: Inbox> Entity<O, I> {
             ≡ with_table self.old.state (called_at place call self.old.state.table)) }
         ensures err { OnErr result (self.new ≡ self.old) }
         ensures grows { self.old.inbox_failures ≤ self.new.inbox_failures }
+        ensures inbox { asks_of call (slice_get self.old.state.table.records place) ≡ false
+            → self.new.inbox_failures ≡ self.old.inbox_failures }
         ensures outbox { self.new.outbox_failures ≡ self.old.outbox_failures }
     {
         self.table.reserve(3)?;

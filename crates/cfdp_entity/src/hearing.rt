@@ -1,5 +1,5 @@
 // What an entity hears.
-ghost use Rattle.std.specs.Prelude.{◌≡◌, ◌≤◌, ◌<◌, length, None, IfErr, OnOk, OnErr};
+ghost use Rattle.std.specs.Prelude.{◌≡◌, ◌<◌, length, None, IfErr, OnOk, OnErr};
 ghost use Rattle.cfdp_directives.specs.Addressing.{addressing_of, FitsAddressing};
 ghost use Rattle.cfdp_directives.specs.Content.{view};
 ghost use Rattle.cfdp_directives.specs.Faults.{pdu_fault};
@@ -48,7 +48,8 @@ impl<O: Outbox, I: Inbox> Entity<O, I> {
     /// The first that holds, in this order: `Pdu`, `WrongDirection`, `NotForUs`, `NoFile`,
     /// `Unknown`, `TableFull`, `NoMemory`. It is counted by its number, and nothing else changes,
     /// but for two things where memory was wanted: a NAK may have asked for a prefix of its ranges,
-    /// and file data may have staged octets at offsets that don't count as held.
+    /// and file data of a transaction with a record may have staged octets at offsets that don't
+    /// count as held. No call of a store failed then.
     pub fn hear(&mut self, pdu: &[u8]) -> Result<(), EntityDrop>
         ensures heard { OnOk result (HearsOctets pdu.now self.old self.new) }
         ensures dropped { IfErr result (λ by. DropsOctets (pdu_fault pdu.now) pdu.now by self.old
@@ -160,7 +161,8 @@ impl<O: Outbox, I: Inbox> Entity<O, I> {
         ensures spoils { OnErr result (SpoiledAt place (view pdu.now) self.old.state.table
             self.new.state.table) }
         ensures table { self.new.state ≡ with_table self.old.state self.new.state.table }
-        ensures grows { self.old.inbox_failures ≤ self.new.inbox_failures }
+        ensures none { OnErr result
+            (self.new.inbox_failures ≡ self.old.inbox_failures) }
         ensures outbox { self.new.outbox_failures ≡ self.old.outbox_failures }
     {
         self.table.reserve(3)?;
@@ -194,7 +196,8 @@ impl<O: Outbox, I: Inbox> Entity<O, I> {
         requires not_full { length self.old.state.table.records < 4096 }
         ensures opens { OnOk result (OpensOne addressing (view pdu.now) self.old self.new) }
         ensures err { OnErr result (self.new.state ≡ self.old.state) }
-        ensures grows { self.old.inbox_failures ≤ self.new.inbox_failures }
+        ensures none { OnErr result
+            (self.new.inbox_failures ≡ self.old.inbox_failures) }
         ensures outbox { self.new.outbox_failures ≡ self.old.outbox_failures }
     {
         self.table.open(addressing, pdu)?;

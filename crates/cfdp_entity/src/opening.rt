@@ -1,5 +1,5 @@
 // A PDU of a transaction that has no record opens one.
-ghost use Rattle.std.specs.Prelude.{◌≡◌, ◌+◌, ◌≤◌, true, None, IfOk, OnOk, OnErr};
+ghost use Rattle.std.specs.Prelude.{◌≡◌, ◌+◌, ◌≤◌, true, None, IfOk, IfSome, OnOk, OnErr};
 ghost use Rattle.std.specs.FinSet as set;
 ghost use Rattle.cfdp_header.specs.Files.{FileMap};
 ghost use Rattle.cfdp_header.specs.declared.value.TransactionId.{TransactionId};
@@ -82,7 +82,9 @@ pub(crate) fn open_heard<I: Inbox>(
         (I.failures inbox.new)) }
     ensures asks { IfOk result (λ o. AsksInOrder (openings.closing (view pdu.now)) o.1.begun
         o.1.stored) }
-    ensures grows { I.failures inbox.old ≤ I.failures inbox.new }
+    ensures closed { IfOk result (λ o. IfSome (openings.closing (view pdu.now)) (λ condition.
+        inbox.new ≡ inbox.old)) }
+    ensures none { OnErr result (I.failures inbox.new ≡ I.failures inbox.old) }
 {
     match closing(pdu) {
         Some(condition) => {
@@ -128,7 +130,7 @@ fn begin<I: Inbox>(
     ensures counts { IfOk result (λ o. CountsBoth o.1.begun o.1.stored (I.failures inbox.old)
         (I.failures inbox.new)) }
     ensures asks { IfOk result (λ o. AsksInOrder None o.1.begun o.1.stored) }
-    ensures grows { I.failures inbox.old ≤ I.failures inbox.new }
+    ensures none { OnErr result (I.failures inbox.new ≡ I.failures inbox.old) }
 {
     let (mut receiver, begun) = Receiver::open(alloc, addressing, timers, told, inbox)?;
     let stored = match begun {

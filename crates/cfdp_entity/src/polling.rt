@@ -4,7 +4,7 @@ ghost use Rattle.cfdp_store.specs.declared.stored.Stored.TheVariants as storeds;
 ghost use Rattle.cfdp_entity.specs.declared.record.Gave.TheVariants as gaves;
 ghost use Rattle.cfdp_entity.specs.declared.polled.EntityPolled.TheVariants as answers;
 ghost use Rattle.cfdp_entity.specs.Gives.{Gives, CountsOutbox, stored_by_gave};
-ghost use Rattle.cfdp_entity.specs.Polling.{Polls, Place, served, stored_by_poll};
+ghost use Rattle.cfdp_entity.specs.Polling.{Polls, Place, TakesTurn, served, stored_by_poll};
 ghost use Rattle.cfdp_entity.specs.Sound.{longest_pdu};
 ghost use Rattle.cfdp_entity.specs.Spelled.{FirstIsSpelled, SpellsMoved};
 ghost use Rattle.cfdp_entity.specs.Strays.{first_stray_len};
@@ -23,7 +23,8 @@ impl<O: Outbox, I: Inbox> Entity<O, I> {
     ///
     /// # Errors
     ///
-    /// `AllocError` where there is no memory for what is indicated. All is then as it was.
+    /// `AllocError` where a record has the turn and its PDU fits, but there is no memory for what
+    /// is indicated. All is then as it was.
     pub fn poll(&mut self, room: usize, out: &mut [u8]) -> Result<EntityPolled, AllocError>
         requires fits { room ≤ length out.old }
         ensures polled { IfOk result (λ answer. Polls room answer self.old self.new out.old
@@ -34,7 +35,8 @@ impl<O: Outbox, I: Inbox> Entity<O, I> {
         ensures counts { IfOk result (λ answer. CountsOutbox (stored_by_poll answer)
             self.old.outbox_failures self.new.outbox_failures) }
         ensures err { OnErr result ((self.new ≡ self.old) × (out.new ≡ out.old)) }
-        ensures grows { self.old.inbox_failures ≤ self.new.inbox_failures }
+        ensures lacks { OnErr result (TakesTurn room self.old.state) }
+        ensures inbox { self.new.inbox_failures ≡ self.old.inbox_failures }
     {
         if self.strays.is_empty() {
             self.poll_record(room, out)
@@ -86,7 +88,8 @@ impl<O: Outbox, I: Inbox> Entity<O, I> {
         ensures counts { IfOk result (λ answer. CountsOutbox (stored_by_poll answer)
             self.old.outbox_failures self.new.outbox_failures) }
         ensures err { OnErr result ((self.new ≡ self.old) × (out.new ≡ out.old)) }
-        ensures grows { self.old.inbox_failures ≤ self.new.inbox_failures }
+        ensures lacks { OnErr result (TakesTurn room self.old.state) }
+        ensures inbox { self.new.inbox_failures ≡ self.old.inbox_failures }
     {
         let Some(place) = self.table.next_due(self.cursor) else {
             return Ok(EntityPolled::Nothing);
@@ -113,7 +116,7 @@ impl<O: Outbox, I: Inbox> Entity<O, I> {
         ensures counts { IfOk result (λ gave. CountsOutbox (stored_by_gave gave)
             self.old.outbox_failures self.new.outbox_failures) }
         ensures err { OnErr result ((self.new ≡ self.old) × (out.new ≡ out.old)) }
-        ensures grows { self.old.inbox_failures ≤ self.new.inbox_failures }
+        ensures inbox { self.new.inbox_failures ≡ self.old.inbox_failures }
     {
         self.table.reserve(3)?;
         let gave = self.table.take(place, out);

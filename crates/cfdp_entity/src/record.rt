@@ -1,5 +1,5 @@
 // One record of the table: the machine of its side.
-ghost use Rattle.std.specs.Prelude.{◌≡◌, ◌+◌, ◌≤◌, ◌++◌, ◌∷◌, [], true, None, Some, Option, drop, length, vec_len, vec_capacity, IfOk, OnOk, OnErr};
+ghost use Rattle.std.specs.Prelude.{◌≡◌, ◌+◌, ◌≤◌, ◌++◌, ◌∷◌, [], true, false, None, Some, Option, drop, length, vec_len, vec_capacity, IfOk, OnOk, OnErr};
 ghost use Rattle.std.specs.FinSet as set;
 ghost use Rattle.cfdp_header.specs.Files.{FileMap};
 ghost use Rattle.cfdp_header.specs.declared.value.TransactionId.{TransactionId};
@@ -123,7 +123,7 @@ impl Record {
             told.old.items told.new.items timers.old timers.new (I.published inbox.old) (I.published inbox.new)) }
         ensures counts { IfOk result (λ stored. Counts stored (I.failures inbox.old)
             (I.failures inbox.new)) }
-        ensures grows { I.failures inbox.old ≤ I.failures inbox.new }
+        ensures none { OnErr result (I.failures inbox.new ≡ I.failures inbox.old) }
         ensures ready { IsReadyRecord (I.staged inbox.new) (O.files outbox.now) id self.new }
         ensures others { OthersKeep id (I.staged inbox.old) (I.staged inbox.new) }
     {
@@ -186,6 +186,8 @@ impl Record {
             (seen (I.staged inbox.new id) self.new) told.old.items told.new.items timers.old timers.new (I.published inbox.new) }
         ensures ready { IsReadyRecord (I.staged inbox.new) (O.files outbox.now) id self.new }
         ensures grows { I.failures inbox.old ≤ I.failures inbox.new }
+        ensures inbox { calling.asks_inbox call (seen (I.staged inbox.old id) self.old) ≡ false
+            → I.failures inbox.new ≡ I.failures inbox.old }
         ensures others { OthersKeep id (I.staged inbox.old) (I.staged inbox.new) }
     {
         let _ = outbox;
@@ -225,7 +227,7 @@ impl Record {
             (O.failures outbox.new) }
         ensures sources { O.files outbox.new ≡ O.files outbox.old }
         ensures ready { IsReadyRecord (I.staged inbox.new) (O.files outbox.new) id self.new }
-        ensures grows { I.failures inbox.old ≤ I.failures inbox.new }
+        ensures inbox { I.failures inbox.new ≡ I.failures inbox.old }
         ensures others { OthersKeep id (I.staged inbox.old) (I.staged inbox.new) }
     {
         let _ = inbox;
@@ -343,13 +345,14 @@ pub(crate) fn receiver_hears<I: Inbox>(
         (view pdu.now) (staged_for (I.staged inbox.old) receiver.old.addressing.id)
         (I.published inbox.old) receiver.old)
         receiver.old receiver.new told.old.items told.new.items timers.old timers.new (I.published inbox.old) (I.published inbox.new) (I.staged inbox.old) (I.staged inbox.new)) }
-    ensures keeps { OnErr result (ReceiverKeeps receiver.old receiver.new told.old.items
-        told.new.items timers.old timers.new (I.published inbox.old) (I.published inbox.new)
+    ensures keeps { OnErr result (ReceiverKeeps (view pdu.now) receiver.old receiver.new
+        told.old.items told.new.items timers.old timers.new
+        (I.published inbox.old) (I.published inbox.new)
         (I.staged inbox.old) (I.staged inbox.new)) }
     ensures counts { IfOk result (λ stored. Counts stored (I.failures inbox.old)
         (I.failures inbox.new)) }
     ensures roomy { timers.new.roomy ≡ timers.old.roomy }
-    ensures grows { I.failures inbox.old ≤ I.failures inbox.new }
+    ensures none { OnErr result (I.failures inbox.new ≡ I.failures inbox.old) }
     ensures ready { IsReady (I.staged inbox.new) receiver.new }
     ensures addressing { receiver.new.addressing ≡ receiver.old.addressing }
     ensures others { OthersKeep receiver.old.addressing.id (I.staged inbox.old)
@@ -499,6 +502,8 @@ fn call_receiver<I: Inbox>(
         (I.staged inbox.old) receiver.old.addressing.id) (I.published inbox.old) receiver.old)
         receiver.old receiver.new told.old.items told.new.items timers.old timers.new (I.published inbox.old) (I.published inbox.new) (I.staged inbox.old) (I.staged inbox.new) }
     ensures grows { I.failures inbox.old ≤ I.failures inbox.new }
+    ensures inbox { (m : OctetMap) → calling.asks_inbox call (seens.Receives receiver.old m) ≡ false
+        → I.failures inbox.new ≡ I.failures inbox.old }
     ensures ready { IsReady (I.staged inbox.new) receiver.new }
     ensures addressing { receiver.new.addressing ≡ receiver.old.addressing }
     ensures others { OthersKeep receiver.old.addressing.id (I.staged inbox.old)

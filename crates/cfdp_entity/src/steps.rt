@@ -1,5 +1,5 @@
 // One step of the record at a place: what it does to the parts of a table.
-ghost use Rattle.std.specs.Prelude.{◌≡◌, ◌+◌, ◌≤◌, ◌<◌, ◌++◌, ◌∷◌, [], true, None, drop, length, IfOk, OnOk, OnErr, slice_get, List, Bool};
+ghost use Rattle.std.specs.Prelude.{◌≡◌, ◌+◌, ◌≤◌, ◌<◌, ◌++◌, ◌∷◌, [], true, false, None, drop, length, IfOk, IfSome, OnOk, OnErr, slice_get, List, Bool};
 ghost use Rattle.cfdp_timers.specs.Armed.{TimersState};
 ghost use Rattle.std.specs.List.{IsDistinct};
 ghost use Rattle.std.specs.FinSet as set;
@@ -109,7 +109,7 @@ pub(crate) fn hear_at<O: Outbox, I: Inbox>(
         (O.files outbox.now) policy.now records.new.entries timers.new told.new.items)) }
     ensures counts { IfOk result (λ stored. Counts stored (I.failures inbox.old)
         (I.failures inbox.new)) }
-    ensures grows { I.failures inbox.old ≤ I.failures inbox.new }
+    ensures none { OnErr result (I.failures inbox.new ≡ I.failures inbox.old) }
     ensures whole { IsWhole (I.staged inbox.new) (O.files outbox.now) records.new.entries ready.new
         timers.new }
 {
@@ -180,6 +180,9 @@ pub(crate) fn call_at<O: Outbox, I: Inbox>(
         (O.files outbox.now) policy.now records.new.entries timers.new told.new.items
         ≡ called_at place call (state_of (I.staged inbox.old) (I.published inbox.old) (O.files outbox.now) policy.now records.old.entries timers.old told.old.items) }
     ensures grows { I.failures inbox.old ≤ I.failures inbox.new }
+    ensures inbox { calling.asks_of call (slice_get
+        (entries_seen (I.staged inbox.old) records.old.entries) place) ≡ false
+        → I.failures inbox.new ≡ I.failures inbox.old }
     ensures whole { IsWhole (I.staged inbox.new) (O.files outbox.now) records.new.entries ready.new
         timers.new }
 {
@@ -222,7 +225,7 @@ pub(crate) fn take_at<O: Outbox, I: Inbox>(
         records.old.entries) place) ≡ true }
     ensures counts { CountsOutbox (stored_by_gave result) (O.failures outbox.old)
         (O.failures outbox.new) }
-    ensures grows { I.failures inbox.old ≤ I.failures inbox.new }
+    ensures inbox { I.failures inbox.new ≡ I.failures inbox.old }
     ensures whole { IsWhole (I.staged inbox.new) (O.files outbox.new) records.new.entries ready.new
         timers.new }
 {
@@ -326,7 +329,9 @@ pub(crate) fn open_record<O: Outbox, I: Inbox>(
     ensures counts { IfOk result (λ o. CountsBoth o.begun o.stored (I.failures inbox.old)
         (I.failures inbox.new)) }
     ensures asks { IfOk result (λ o. AsksInOrder (closing (view pdu.now)) o.begun o.stored) }
-    ensures grows { I.failures inbox.old ≤ I.failures inbox.new }
+    ensures closed { IfOk result (λ o. IfSome (closing (view pdu.now)) (λ condition.
+        I.failures inbox.new ≡ I.failures inbox.old)) }
+    ensures none { OnErr result (I.failures inbox.new ≡ I.failures inbox.old) }
     ensures whole { IsWhole (I.staged inbox.new) (O.files outbox.now) records.new.entries ready.new
         timers.new }
 {

@@ -1,5 +1,5 @@
 // Records with their timers and both stores.
-ghost use Rattle.std.specs.Prelude.{◌≡◌, ◌+◌, ◌≤◌, ◌<◌, ◌++◌, ◌*◌, max, true, None, Option, drop, length, slice_get, IfOk, IfSome, MatchOption, OnOk, OnErr, is_ok};
+ghost use Rattle.std.specs.Prelude.{◌≡◌, ◌+◌, ◌≤◌, ◌<◌, ◌++◌, ◌*◌, max, true, false, None, Option, drop, length, slice_get, IfOk, IfSome, MatchOption, OnOk, OnErr, is_ok};
 ghost use Rattle.std.specs.FinMap as map;
 ghost use Rattle.std.specs.Option.{option_map};
 ghost use Rattle.std.specs.List.{IsDistinct};
@@ -170,9 +170,13 @@ impl<O: Outbox, I: Inbox> Table<O, I> {
     pub fn reserve(&mut self, more: usize) -> Result<(), AllocError>
         ensures state { self.new.state ≡ self.old.state }
         ensures room { OnOk result (more ≤ self.new.spare) }
+        ensures some { OnErr result (1 ≤ more) }
         ensures inbox { self.new.inbox_failures ≡ self.old.inbox_failures }
         ensures outbox { self.new.outbox_failures ≡ self.old.outbox_failures }
     {
+        if more == 0 {
+            return Ok(());
+        }
         self.told.reserve(more)
     }
 
@@ -184,7 +188,8 @@ impl<O: Outbox, I: Inbox> Table<O, I> {
         ensures err { OnErr result (SpoiledAt place (view pdu.now) self.old.state self.new.state) }
         ensures counts { IfOk result (λ stored. Counts stored self.old.inbox_failures
             self.new.inbox_failures) }
-        ensures grows { self.old.inbox_failures ≤ self.new.inbox_failures }
+        ensures none { OnErr result
+            (self.new.inbox_failures ≡ self.old.inbox_failures) }
         ensures outbox { self.new.outbox_failures ≡ self.old.outbox_failures }
     {
         steps::hear_at(
@@ -226,6 +231,8 @@ impl<O: Outbox, I: Inbox> Table<O, I> {
         requires room { 3 ≤ self.old.spare }
         ensures called { self.new.state ≡ called_at place call self.old.state }
         ensures grows { self.old.inbox_failures ≤ self.new.inbox_failures }
+        ensures inbox { calling.asks_of call (slice_get self.old.state.records place) ≡ false
+            → self.new.inbox_failures ≡ self.old.inbox_failures }
         ensures outbox { self.new.outbox_failures ≡ self.old.outbox_failures }
     {
         steps::call_at(
@@ -251,7 +258,7 @@ impl<O: Outbox, I: Inbox> Table<O, I> {
         ensures data { result ≡ gaves.Failed → data_at place self.old.state ≡ true }
         ensures counts { CountsOutbox (stored_by_gave result) self.old.outbox_failures
             self.new.outbox_failures }
-        ensures grows { self.old.inbox_failures ≤ self.new.inbox_failures }
+        ensures inbox { self.new.inbox_failures ≡ self.old.inbox_failures }
     {
         steps::take_at(
             &mut self.records,
@@ -302,7 +309,10 @@ impl<O: Outbox, I: Inbox> Table<O, I> {
         ensures counts { IfOk result (λ o. CountsBoth o.begun o.stored self.old.inbox_failures
             self.new.inbox_failures) }
         ensures asks { IfOk result (λ o. AsksInOrder (closing (view pdu.now)) o.begun o.stored) }
-        ensures grows { self.old.inbox_failures ≤ self.new.inbox_failures }
+        ensures closed { IfOk result (λ o. IfSome (closing (view pdu.now)) (λ condition.
+            self.new.inbox_failures ≡ self.old.inbox_failures)) }
+        ensures none { OnErr result
+            (self.new.inbox_failures ≡ self.old.inbox_failures) }
         ensures outbox { self.new.outbox_failures ≡ self.old.outbox_failures }
     {
         steps::open_record(
@@ -332,6 +342,9 @@ impl<O: Outbox, I: Inbox> Table<O, I> {
         ensures ticked { OnOk result (Ticks now self.old.state self.new.state) }
         ensures err { OnErr result (self.new.state ≡ self.old.state) }
         ensures grows { self.old.inbox_failures ≤ self.new.inbox_failures }
+        ensures none { OnErr result (self.new.inbox_failures ≡ self.old.inbox_failures) }
+        ensures lacks { OnErr result
+            (1 ≤ due_count self.old.state.armed (max self.old.state.now now)) }
         ensures outbox { self.new.outbox_failures ≡ self.old.outbox_failures }
     {
         let due = self.due_count(now);
@@ -356,6 +369,8 @@ impl<O: Outbox, I: Inbox> Table<O, I> {
         ensures count { IfOk result (λ fired. length fired.items ≡ due_count self.old.state.armed
             (max self.old.state.now now)) }
         ensures err { OnErr result (self.new.state ≡ self.old.state) }
+        ensures lacks { OnErr result
+            (1 ≤ due_count self.old.state.armed (max self.old.state.now now)) }
         ensures inbox { self.new.inbox_failures ≡ self.old.inbox_failures }
         ensures outbox { self.new.outbox_failures ≡ self.old.outbox_failures }
     {

@@ -14,3 +14,4 @@ pub mod Held
 pub mod StagedLemmas
 pub mod StepLemmas
 pub mod AskedLemmas
+pub mod Chains

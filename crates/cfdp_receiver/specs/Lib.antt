@@ -3,6 +3,7 @@ pub mod Missing
 pub mod Due
 pub mod Pieces
 pub mod Steps
+pub mod Storing
 pub mod Does
 pub mod Sound
 pub mod Asked

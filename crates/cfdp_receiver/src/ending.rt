@@ -3,11 +3,13 @@ ghost use Rattle.std.specs.Prelude.{◌≡◌, ◌+◌, ◌≤◌, ◌++◌, ◌
 ghost use Rattle.cfdp_directives.specs.Policy.{finished_told, fault_told};
 ghost use Rattle.cfdp_directives.specs.Codes.{filestore_rejection};
 ghost use Rattle.cfdp_store.specs.Staged.{OthersKeep, staged_for};
+ghost use Rattle.cfdp_store.specs.Chains.{Makes};
 ghost use Rattle.cfdp_store.specs.Stores.{Counts};
 ghost use Rattle.cfdp_receiver.specs.State.{is_receiving, IsReady};
 ghost use Rattle.cfdp_receiver.specs.Steps as steps;
 ghost use Rattle.cfdp_receiver.specs.Steps.{ended, finishing, faulted, completed};
 ghost use Rattle.cfdp_receiver.specs.Does.{Does, Stores, LetsGo};
+ghost use Rattle.cfdp_receiver.specs.Storing.{Discards, Settles};
 
 use crate::receiver::Receiver;
 use crate::state::{Ending, FileInfo, ReceiverPhase};
@@ -72,6 +74,8 @@ impl Receiver {
         ensures lets_go { I.failures inbox.old < 2 ^ 64 - 1
             → I.failures inbox.new ≡ I.failures inbox.old
             → I.staged inbox.new self.now.addressing.id ≡ None }
+        ensures calls { Discards (Makes I.steps I.failures) self.now.addressing.id
+            inbox.old inbox.new }
     {
         let _ = inbox.discard(self.addressing.id);
     }
@@ -97,6 +101,8 @@ impl Receiver {
             → I.staged inbox.new self.old.addressing.id ≡ None }
         ensures told_room { vec_len told.new + vec_capacity told.old
             ≤ vec_len told.old + 2 + vec_capacity told.new }
+        ensures calls { Discards (Makes I.steps I.failures) self.old.addressing.id
+            inbox.old inbox.new }
     {
         self.discard(inbox);
         tell_fault(told, Handler::Cancel, self.addressing.id, condition);
@@ -129,6 +135,8 @@ impl Receiver {
         ensures counts { Counts result (I.failures inbox.old) (I.failures inbox.new) }
         ensures lets_go { LetsGo self.old self.new (I.failures inbox.old) (I.failures inbox.new)
             (I.staged inbox.new) }
+        ensures calls { Settles (Makes I.steps I.failures) result self.old self.new
+            inbox.old inbox.new }
     {
         let (Some(info), Some(ending)) = (&self.metadata, self.ending) else {
             return Stored::Done;

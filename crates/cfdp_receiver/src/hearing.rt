@@ -3,6 +3,7 @@ ghost use Rattle.std.specs.Prelude.{◌≡◌, Option, ◌++◌, ◌∷◌, [], 
 ghost use Rattle.std.specs.FinSet as set;
 ghost use Rattle.cfdp_directives.specs.Policy.{finished_told};
 ghost use Rattle.cfdp_store.specs.Staged.{OctetMap, OthersKeep, staged_for};
+ghost use Rattle.cfdp_store.specs.Chains.{Makes};
 ghost use Rattle.cfdp_store.specs.Stores.{Counts};
 ghost use Rattle.cfdp_timers.specs.declared.kind.Kind.TheVariants as kinds;
 ghost use Rattle.cfdp_header.specs.Files.{FileMap};
@@ -12,6 +13,8 @@ ghost use Rattle.cfdp_receiver.specs.Missing.{tidied};
 ghost use Rattle.cfdp_receiver.specs.Steps as steps;
 ghost use Rattle.cfdp_receiver.specs.Steps.{cancelled, given_up, contradicts, receives_metadata, receives_data, receives_new, receives_eof, first_eof, hears_metadata, hears_data, hears_eof, hears_ack, hears_prompt};
 ghost use Rattle.cfdp_receiver.specs.Does.{Does, Stores, LetsGo, Keeps, timers_set};
+ghost use Rattle.cfdp_receiver.specs.Pieces.{new_pieces};
+ghost use Rattle.cfdp_receiver.specs.Storing.{Discards, Settles, Stages, staged_pieces, writes};
 
 use crate::ending::tell_finished;
 use crate::receiver::{Receiver, SIZE_LIMIT};
@@ -68,6 +71,8 @@ impl Receiver {
         ensures grows { I.failures inbox.old ≤ I.failures inbox.new }
         ensures lets_go { LetsGo self.old self.new (I.failures inbox.old) (I.failures inbox.new)
             (I.staged inbox.new) }
+        ensures calls { IfOk result (λ stored. Settles (Makes I.steps I.failures) stored
+            self.old self.new inbox.old inbox.new) }
     {
         if self.metadata.is_some() {
             return Ok(Stored::Done);
@@ -128,6 +133,7 @@ impl Receiver {
         ensures keeps { OnErr result (Keeps self.old self.new told.old.items told.new.items
             (I.published inbox.old) (I.published inbox.new)
             (I.staged inbox.old) (I.staged inbox.new)) }
+        ensures keeps_inbox { OnErr result (inbox.new ≡ inbox.old) }
         ensures keeps_timers { OnErr result (timers.new ≡ timers.old) }
         ensures ready { IsReady (I.staged inbox.new) self.new }
         ensures addressing { self.new.addressing ≡ self.old.addressing }
@@ -136,6 +142,8 @@ impl Receiver {
         ensures grows { I.failures inbox.old ≤ I.failures inbox.new }
         ensures lets_go { LetsGo self.old self.new (I.failures inbox.old) (I.failures inbox.new)
             (I.staged inbox.new) }
+        ensures calls { IfOk result (λ stored. Settles (Makes I.steps I.failures) stored
+            self.old self.new inbox.old inbox.new) }
     {
         let stored = if self.phase == ReceiverPhase::Receiving {
             self.receive_metadata(told, inbox, metadata)?
@@ -174,6 +182,12 @@ impl Receiver {
         ensures grows { I.failures inbox.old ≤ I.failures inbox.new }
         ensures lets_go { LetsGo self.old self.new (I.failures inbox.old) (I.failures inbox.new)
             (I.staged inbox.new) }
+        ensures calls { IfOk result (λ stored. Stages (Makes I.steps I.failures) stored
+            (staged_pieces offset bytes.now self.old) self.old self.new inbox.old inbox.new) }
+        ensures keeps_calls { OnErr result (Makes I.steps I.failures (writes
+            self.old.addressing.id (staged_pieces offset bytes.now self.old))
+            inbox.old inbox.new) }
+        ensures keeps_failures { OnErr result (I.failures inbox.new ≡ I.failures inbox.old) }
     {
         if exceeds(self.ending, offset, bytes.len()) {
             self.fault(told, inbox, Condition::FILE_SIZE_ERROR);
@@ -214,6 +228,12 @@ impl Receiver {
         ensures grows { I.failures inbox.old ≤ I.failures inbox.new }
         ensures lets_go { LetsGo self.old self.new (I.failures inbox.old) (I.failures inbox.new)
             (I.staged inbox.new) }
+        ensures calls { IfOk result (λ stored. Stages (Makes I.steps I.failures) stored
+            (new_pieces self.old.held offset bytes.now) self.old self.new inbox.old inbox.new) }
+        ensures keeps_calls { OnErr result (Makes I.steps I.failures (writes
+            self.old.addressing.id (new_pieces self.old.held offset bytes.now))
+            inbox.old inbox.new) }
+        ensures keeps_failures { OnErr result (I.failures inbox.new ≡ I.failures inbox.old) }
     {
         let end = offset + bytes.len() as u64;
         let mut checksum = self.checksum;
@@ -278,6 +298,12 @@ impl Receiver {
         ensures grows { I.failures inbox.old ≤ I.failures inbox.new }
         ensures lets_go { LetsGo self.old self.new (I.failures inbox.old) (I.failures inbox.new)
             (I.staged inbox.new) }
+        ensures calls { IfOk result (λ stored. Stages (Makes I.steps I.failures) stored
+            (staged_pieces offset bytes.now self.old) self.old self.new inbox.old inbox.new) }
+        ensures keeps_calls { OnErr result (Makes I.steps I.failures (writes
+            self.old.addressing.id (staged_pieces offset bytes.now self.old))
+            inbox.old inbox.new) }
+        ensures keeps_failures { OnErr result (I.failures inbox.new ≡ I.failures inbox.old) }
     {
         let stored = if self.phase == ReceiverPhase::Receiving {
             self.receive_data(told, inbox, offset, bytes)?
@@ -310,6 +336,8 @@ impl Receiver {
         ensures counts { Counts result (I.failures inbox.old) (I.failures inbox.new) }
         ensures lets_go { LetsGo self.old self.new (I.failures inbox.old) (I.failures inbox.new)
             (I.staged inbox.new) }
+        ensures calls { Settles (Makes I.steps I.failures) result self.old self.new
+            inbox.old inbox.new }
     {
         if condition != Condition::NO_ERROR {
             self.cancel_by_sender(told, inbox, condition);
@@ -344,6 +372,8 @@ impl Receiver {
         ensures counts { Counts result (I.failures inbox.old) (I.failures inbox.new) }
         ensures lets_go { LetsGo self.old self.new (I.failures inbox.old) (I.failures inbox.new)
             (I.staged inbox.new) }
+        ensures calls { Settles (Makes I.steps I.failures) result self.old self.new
+            inbox.old inbox.new }
     {
         tell(told, Indication::EofRecv(self.addressing.id));
         self.ack_due = Some(Condition::NO_ERROR);
@@ -383,6 +413,8 @@ impl Receiver {
         ensures lets_go { I.failures inbox.old < 2 ^ 64 - 1
             → I.failures inbox.new ≡ I.failures inbox.old
             → I.staged inbox.new self.old.addressing.id ≡ None }
+        ensures calls { Discards (Makes I.steps I.failures) self.old.addressing.id
+            inbox.old inbox.new }
     {
         self.discard(inbox);
         let (delivery, status) = (Delivery::Incomplete, FileStatus::Discarded);
@@ -425,6 +457,8 @@ impl Receiver {
         ensures counts { Counts result (I.failures inbox.old) (I.failures inbox.new) }
         ensures lets_go { LetsGo self.old self.new (I.failures inbox.old) (I.failures inbox.new)
             (I.staged inbox.new) }
+        ensures calls { Settles (Makes I.steps I.failures) result self.old self.new
+            inbox.old inbox.new }
     {
         let stored = if self.phase == ReceiverPhase::Receiving {
             self.receive_eof(told, inbox, condition, ending)

@@ -2,10 +2,12 @@
 ghost use Rattle.std.specs.Prelude.{◌≡◌, ◌+◌, ◌≤◌, true, IfOk, OnOk, OnErr, vec_len, vec_capacity};
 ghost use Rattle.std.specs.FinSet as set;
 ghost use Rattle.cfdp_directives.specs.Addressing.{FitsAddressing};
+ghost use Rattle.cfdp_store.specs.Chains.{Makes};
 ghost use Rattle.cfdp_store.specs.Stores.{Counts};
 ghost use Rattle.cfdp_receiver.specs.State.{IsReady};
 ghost use Rattle.cfdp_receiver.specs.Steps.{opens, opened_closed};
 ghost use Rattle.cfdp_receiver.specs.Does.{Does, Stores};
+ghost use Rattle.cfdp_receiver.specs.Storing.{Begins};
 
 use crate::receiver::Receiver;
 use crate::state::ReceiverPhase;
@@ -51,6 +53,10 @@ impl Receiver {
         ensures ready { IfOk result (λ opened. IsReady (I.staged inbox.new) opened.0) }
         ensures counts { IfOk result (λ opened.
             Counts opened.1 (I.failures inbox.old) (I.failures inbox.new)) }
+        ensures calls { IfOk result (λ opened. Begins (Makes I.steps I.failures) opened.1
+            addressing.id inbox.old inbox.new) }
+        ensures begun { IfOk result (λ opened. opened.1 ≡ Stored.Done
+            → I.failures inbox.new ≡ I.failures inbox.old) }
     {
         timers.room(addressing.id)?;
         let mut receiver = Receiver::new(alloc, addressing);

@@ -1,11 +1,15 @@
 // File data on its way into the inbox.
-ghost use Rattle.std.specs.Prelude.{◌≡◌, ◌+◌, ◌-◌, ◌<◌, ◌^◌, Some, IsSome, length, take, drop};
+ghost use Rattle.std.specs.Prelude.{◌≡◌, [], ◌∷◌, ◌+◌, ◌-◌, ◌<◌, ◌^◌, Some, IsSome, length, take, drop};
 ghost use Rattle.std.specs.List.{All};
 ghost use Rattle.cfdp_directives.specs.Checksum.{added};
 ghost use Rattle.cfdp_extents.specs.Offsets.{LiesIn};
 ghost use Rattle.cfdp_store.specs.Staged.{OthersKeep, staged_for};
+ghost use Rattle.cfdp_store.specs.Calls.{Write};
+ghost use Rattle.cfdp_store.specs.Chains.{Makes};
 ghost use Rattle.cfdp_store.specs.Stores.{Counts};
+ghost use Rattle.cfdp_store.specs.declared.error.StoreError.{StoreError};
 ghost use Rattle.cfdp_receiver.specs.Pieces.{pieces_in, with_piece, staged_with, sum_with};
+ghost use Rattle.cfdp_receiver.specs.Storing.{StopsAt, writes};
 
 use cfdp_directives::Checksum;
 use cfdp_extents::Gaps;
@@ -39,6 +43,10 @@ fn stage_piece<I: Inbox>(
     ensures others { OthersKeep id (I.staged inbox.old) (I.staged inbox.new) }
     ensures published { I.published inbox.new ≡ I.published inbox.old }
     ensures counts { Counts result (I.failures inbox.old) (I.failures inbox.new) }
+    ensures writes { result ≡ Stored.Done → Makes I.steps I.failures
+        (Write id start piece.now (Ok tt) ∷ []) inbox.old inbox.new }
+    ensures fails { result ≡ Stored.Refused → (error : StoreError) × Makes I.steps I.failures
+        (Write id start piece.now (Err error) ∷ []) inbox.old inbox.new }
 {
     match inbox.write(id, start, piece) {
         Ok(()) => {
@@ -69,6 +77,10 @@ pub(crate) fn stage<I: Inbox>(
     ensures others { OthersKeep id (I.staged inbox.old) (I.staged inbox.new) }
     ensures published { I.published inbox.new ≡ I.published inbox.old }
     ensures counts { Counts result (I.failures inbox.old) (I.failures inbox.new) }
+    ensures writes { result ≡ Stored.Done → Makes I.steps I.failures
+        (writes id (pieces_in offset bytes.now gaps.entry)) inbox.old inbox.new }
+    ensures fails { result ≡ Stored.Refused → StopsAt (Makes I.steps I.failures) id
+        (pieces_in offset bytes.now gaps.entry) [] inbox.old inbox.new }
 {
     for (start, end) in gaps {
         let piece = piece(offset, bytes, start, end);

@@ -9,13 +9,15 @@ ghost use Rattle.cfdp_receiver.specs.State.{is_receiving, IsReady};
 ghost use Rattle.cfdp_receiver.specs.Steps as steps;
 ghost use Rattle.cfdp_receiver.specs.Steps.{handled, expires_by, expires, cancels, suspends, resumes};
 ghost use Rattle.cfdp_receiver.specs.Does.{Does, Stores, LetsGo, timers_set};
+ghost use Rattle.cfdp_receiver.specs.Storing.{Settles};
+ghost use Rattle.cfdp_store.specs.Chains.{Makes};
 
 use crate::receiver::Receiver;
 use crate::state::ReceiverPhase;
 use cfdp_directives::{
     Condition, Delivery, FileStatus, Handler, Indication, Policy, another_try, tell, tell_fault,
 };
-use cfdp_store::Inbox;
+use cfdp_store::{Inbox, Stored};
 use cfdp_timers::{Kind, Timers};
 
 impl Receiver {
@@ -41,6 +43,8 @@ impl Receiver {
         ensures grows { I.failures inbox.old ≤ I.failures inbox.new }
         ensures lets_go { LetsGo self.old self.new (I.failures inbox.old) (I.failures inbox.new)
             (I.staged inbox.new) }
+        ensures calls { Settles (Makes I.steps I.failures) Stored.Done self.old self.new
+            inbox.old inbox.new }
         ensures told_room { vec_len told.new + vec_capacity told.old
             ≤ vec_len told.old + 2 + vec_capacity told.new }
     {
@@ -79,6 +83,8 @@ impl Receiver {
         ensures grows { I.failures inbox.old ≤ I.failures inbox.new }
         ensures lets_go { LetsGo self.old self.new (I.failures inbox.old) (I.failures inbox.new)
             (I.staged inbox.new) }
+        ensures calls { Settles (Makes I.steps I.failures) Stored.Done self.old self.new
+            inbox.old inbox.new }
         ensures told_room { vec_len told.new + vec_capacity told.old
             ≤ vec_len told.old + 2 + vec_capacity told.new }
     {
@@ -147,6 +153,8 @@ impl Receiver {
         ensures grows { I.failures inbox.old ≤ I.failures inbox.new }
         ensures lets_go { LetsGo self.old self.new (I.failures inbox.old) (I.failures inbox.new)
             (I.staged inbox.new) }
+        ensures calls { Settles (Makes I.steps I.failures) Stored.Done self.old self.new
+            inbox.old inbox.new }
         ensures told_room { vec_len told.new + vec_capacity told.old
             ≤ vec_len told.old + 2 + vec_capacity told.new }
     {
@@ -195,6 +203,8 @@ impl Receiver {
         ensures grows { I.failures inbox.old ≤ I.failures inbox.new }
         ensures lets_go { LetsGo self.old self.new (I.failures inbox.old) (I.failures inbox.new)
             (I.staged inbox.new) }
+        ensures calls { Settles (Makes I.steps I.failures) Stored.Done self.old self.new
+            inbox.old inbox.new }
     {
         if self.phase == ReceiverPhase::Receiving {
             self.discard(inbox);

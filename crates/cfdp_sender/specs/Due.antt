@@ -48,6 +48,12 @@ ack_first None x = phase_due x.phase x
 abbrev pub sender_due : SenderState → Option SenderDue
 sender_due x = if x.suspended then None else ack_first x.ack_due x
 
+-- where the octets of the file begin that it carries, and how many they are
+abbrev pub extent_of : SenderDue → ℕ × ℕ
+extent_of (due.AskedData start end) = (start, end - start)
+extent_of (due.NewData start end) = (start, end - start)
+extent_of _ = (0, 0)
+
 -- whether a PDU carries octets of the file
 abbrev pub carries : SenderDue → Bool
 carries (due.AskedData start end) = true

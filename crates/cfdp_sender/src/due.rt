@@ -5,7 +5,7 @@ ghost use Rattle.cfdp_directives.specs.Content.{FileData, view};
 ghost use Rattle.cfdp_directives.specs.Addressing.{header_of, written_len};
 ghost use Rattle.cfdp_directives.specs.Written.{CanWrite};
 ghost use Rattle.cfdp_sender.specs.Due as dues;
-ghost use Rattle.cfdp_sender.specs.Due.{sender_due, sender_says, pdu_says, carried, carries};
+ghost use Rattle.cfdp_sender.specs.Due.{sender_due, sender_says, pdu_says, carried, carries, extent_of};
 
 use crate::phase::SenderPhase;
 use crate::sender::Sender;
@@ -49,6 +49,8 @@ impl Sender {
     // Where the octets of the file begin that a PDU carries, and how many they are.
     pub(crate) fn extent(&self, due: &SenderDue) -> (u64, usize)
         requires { sender_due self.now ≡ Some due.now }
+        ensures begins { result.0 ≡ (extent_of due.now).0 }
+        ensures count { result.1 ≡ (extent_of due.now).1 }
         ensures within { result.0 + result.1 ≤ self.now.size }
         ensures short { result.1 ≤ 4096 }
         ensures some { 0 < result.1 → carries due.now ≡ true }

@@ -8,6 +8,7 @@ ghost use Rattle.cfdp_store.specs.Stores.{failures_after};
 ghost use Rattle.cfdp_store.specs.declared.stored.Stored.TheVariants as answers;
 ghost use Rattle.cfdp_sender.specs.Due.{sender_due, sender_says, carries};
 ghost use Rattle.cfdp_sender.specs.declared.due.SenderDue.TheVariants as dues;
+ghost use Rattle.cfdp_sender.specs.Reading.{Reads, ReadsOnce};
 ghost use Rattle.cfdp_sender.specs.Steps as steps;
 ghost use Rattle.cfdp_sender.specs.Does.{HasTimers, HasFile, Leaves, Writes, Takes, was_given};
 
@@ -48,6 +49,8 @@ impl Sender {
         ensures files { O.files outbox.new ≡ O.files outbox.old }
         ensures failures { O.failures outbox.new
             ≡ failures_after (O.failures outbox.old) (was_given result) }
+        ensures calls { Reads O.steps self.old (sender_due self.old) (was_given result)
+            outbox.old outbox.new }
     {
         let _size = self.size;
         let Some(due) = self.next() else {
@@ -85,6 +88,8 @@ impl Sender {
         ensures files { O.files outbox.new ≡ O.files outbox.old }
         ensures failures { O.failures outbox.new
             ≡ failures_after (O.failures outbox.old) (is_ok result) }
+        ensures calls { Reads O.steps self.now (Some due.now) (is_ok result)
+            outbox.old outbox.new }
     {
         let (start, carried) = self.extent(due);
         match due {
@@ -116,6 +121,8 @@ impl Sender {
         ensures files { O.files outbox.new ≡ O.files outbox.old }
         ensures failures { O.failures outbox.new
             ≡ failures_after (O.failures outbox.old) (is_ok result) }
+        ensures calls { ReadsOnce O.steps self.now.source start count (is_ok result)
+            outbox.old outbox.new }
     {
         let at = self.addressing.write_data_front(start, count, out);
         read_to(outbox, self.source.as_slice(), start, out, at, count)?;
@@ -197,6 +204,7 @@ fn read_to<O: Outbox>(
     ensures files { O.files outbox.new ≡ O.files outbox.old }
     ensures failures { O.failures outbox.new
         ≡ failures_after (O.failures outbox.old) (is_ok result) }
+    ensures calls { ReadsOnce O.steps name.now start count (is_ok result) outbox.old outbox.new }
 {
     outbox.read(name, start, &mut out[at..at + count])
 }

@@ -3,7 +3,7 @@ ghost use Rattle.std.specs.Prelude.{◌≡◌, ◌+◌, ◌<◌, ◌≤◌, leng
 ghost use Rattle.mpdu.specs.Feeding.{octets_of_each};
 ghost use Rattle.link_stack.specs.Downward as downward;
 ghost use Rattle.cfdp_entity.specs.Gives.{CountsOutbox};
-ghost use Rattle.cfdp_entity.specs.Polling.{turn};
+ghost use Rattle.cfdp_entity.specs.Polling.{TakesTurn, turn};
 ghost use Rattle.cfdp_entity.specs.Sound.{SpellsTurn, longest_pdu};
 ghost use Rattle.cfdp_station.specs.declared.polled.Polled.TheVariants as answers;
 ghost use Rattle.cfdp_station.specs.Link.{SendsPdu};
@@ -43,7 +43,8 @@ pub(crate) fn move_one<O: Outbox, I: Inbox>(
     ensures err { OnErr result ((entity.new ≡ entity.old) × (down.new ≡ down.old)) }
     ensures counts { IfOk result (λ answer. CountsOutbox (stored_by_poll answer)
         entity.old.outbox_failures entity.new.outbox_failures) }
-    ensures grows { entity.old.inbox_failures ≤ entity.new.inbox_failures }
+    ensures lacks { OnErr result (TakesTurn (downward.room down.old) entity.old.state) }
+    ensures inbox { entity.new.inbox_failures ≡ entity.old.inbox_failures }
     ensures most { length down.old.waiting ≤ down.old.capacity + 2047 →
         length down.new.waiting ≤ down.new.capacity + 2047 }
     ensures fixed { (down.new.link ≡ down.old.link) × (down.new.capacity ≡ down.old.capacity) }

@@ -1,18 +1,19 @@
 //! An entity over both directions of a link.
-ghost use Rattle.std.specs.Prelude.{◌≡◌, ℕ, ◌+◌, ◌*◌, ◌<◌, ◌≤◌, ◌↔◌, List, [], true, false, length, get_or, IfOk, IfErr, MatchOption, OnOk, OnErr};
+ghost use Rattle.std.specs.Prelude.{◌≡◌, ℕ, ◌+◌, ◌*◌, ◌<◌, ◌≤◌, ◌↔◌, List, [], true, false, length, max, get_or, IfOk, IfErr, MatchOption, OnOk, OnErr};
 ghost use Rattle.mpdu.specs.Stream.{ArePackets};
 ghost use Rattle.link_stack.specs.Downward.{IsDown};
 ghost use Rattle.link_stack.specs.Drops.{count_of};
 ghost use Rattle.link_stack.specs.Frames.{AreOfLink};
 ghost use Rattle.link_stack.specs.Upward.{IsUp};
 ghost use Rattle.link_stack.specs.Downward as downward;
+ghost use Rattle.cfdp_timers.specs.Due.{due_count};
 ghost use Rattle.cfdp_timers.specs.ButInactivity.{OnlyInactivity, IsLeastOther};
 ghost use Rattle.cfdp_store.specs.Stores.{failures_after};
 ghost use Rattle.cfdp_entity.specs.Calling.{IsRefusal};
-ghost use Rattle.cfdp_entity.specs.Calls.{IsCalled, call_refusal};
+ghost use Rattle.cfdp_entity.specs.Calls.{IsCalled, asks_inbox, call_refusal};
 ghost use Rattle.cfdp_entity.specs.Entity.{first_entity, with_table, phase_told};
 ghost use Rattle.cfdp_entity.specs.Gives.{CountsOutbox};
-ghost use Rattle.cfdp_entity.specs.Polling.{turn};
+ghost use Rattle.cfdp_entity.specs.Polling.{TakesTurn, turn};
 ghost use Rattle.cfdp_entity.specs.Putting.{Accepts, put_refusal, IsPutRefusal, stored_by_error, was_answered};
 ghost use Rattle.cfdp_entity.specs.Sound.{SpellsTurn, longest_pdu};
 ghost use Rattle.cfdp_entity.specs.Table.{Ticks};
@@ -145,6 +146,8 @@ impl<O: Outbox, I: Inbox> Station<O, I> {
             self.old.entity.state.table)) }
         ensures err { OnErr result (self.new ≡ self.old) }
         ensures grows { self.old.entity.inbox_failures ≤ self.new.entity.inbox_failures }
+        ensures inbox { asks_inbox calls.Cancel id self.old.entity.state.table ≡ false
+            → self.new.entity.inbox_failures ≡ self.old.entity.inbox_failures }
         ensures outbox { self.new.entity.outbox_failures ≡ self.old.entity.outbox_failures }
         ensures link { KeepsLink self.old self.new }
     {
@@ -162,7 +165,7 @@ impl<O: Outbox, I: Inbox> Station<O, I> {
         ensures refused { IfErr result (IsRefusal (call_refusal calls.Suspend id
             self.old.entity.state.table)) }
         ensures err { OnErr result (self.new ≡ self.old) }
-        ensures grows { self.old.entity.inbox_failures ≤ self.new.entity.inbox_failures }
+        ensures inbox { self.new.entity.inbox_failures ≡ self.old.entity.inbox_failures }
         ensures outbox { self.new.entity.outbox_failures ≡ self.old.entity.outbox_failures }
         ensures link { KeepsLink self.old self.new }
     {
@@ -180,7 +183,7 @@ impl<O: Outbox, I: Inbox> Station<O, I> {
         ensures refused { IfErr result (IsRefusal (call_refusal calls.Resume id
             self.old.entity.state.table)) }
         ensures err { OnErr result (self.new ≡ self.old) }
-        ensures grows { self.old.entity.inbox_failures ≤ self.new.entity.inbox_failures }
+        ensures inbox { self.new.entity.inbox_failures ≡ self.old.entity.inbox_failures }
         ensures outbox { self.new.entity.outbox_failures ≡ self.old.entity.outbox_failures }
         ensures link { KeepsLink self.old self.new }
     {
@@ -199,7 +202,7 @@ impl<O: Outbox, I: Inbox> Station<O, I> {
         ensures refused { IfErr result (IsRefusal (call_refusal (calls.Prompt keep_alive) id
             self.old.entity.state.table)) }
         ensures err { OnErr result (self.new ≡ self.old) }
-        ensures grows { self.old.entity.inbox_failures ≤ self.new.entity.inbox_failures }
+        ensures inbox { self.new.entity.inbox_failures ≡ self.old.entity.inbox_failures }
         ensures outbox { self.new.entity.outbox_failures ≡ self.old.entity.outbox_failures }
         ensures link { KeepsLink self.old self.new }
     {
@@ -266,8 +269,8 @@ impl<O: Outbox, I: Inbox> Station<O, I> {
     ///
     /// # Errors
     ///
-    /// `AllocError` only where the memory for the step's indications was refused; nothing changed
-    /// then.
+    /// `AllocError` only where a record has the turn and its PDU fits, but the memory for the
+    /// step's indications was refused; nothing changed then.
     pub fn poll(&mut self) -> Result<Polled, AllocError>
         ensures polled { IfOk result (λ answer. Polls answer self.old self.new) }
         // Its octets are those of what it says.
@@ -280,7 +283,9 @@ impl<O: Outbox, I: Inbox> Station<O, I> {
         ensures err { OnErr result (self.new ≡ self.old) }
         ensures counts { IfOk result (λ answer. CountsOutbox (stored_by_poll answer)
             self.old.entity.outbox_failures self.new.entity.outbox_failures) }
-        ensures grows { self.old.entity.inbox_failures ≤ self.new.entity.inbox_failures }
+        ensures lacks { OnErr result
+            (TakesTurn (downward.room self.old.down) self.old.entity.state) }
+        ensures inbox { self.new.entity.inbox_failures ≡ self.old.entity.inbox_failures }
         ensures ahead { (frames : ℕ) → HoldsAtMost frames self.old.down →
             WaitAtMost frames self.new.down }
         ensures fixed { (self.new.down.link ≡ self.old.down.link)
@@ -350,14 +355,16 @@ impl<O: Outbox, I: Inbox> Station<O, I> {
     ///
     /// # Errors
     ///
-    /// `AllocError` only where the memory for what fires, or for its indications, was refused;
-    /// nothing changed then, the time neither.
+    /// `AllocError` only where a timer is due, but the memory for what fires, or for its
+    /// indications, was refused; nothing changed then, the time neither.
     pub fn tick(&mut self, now: u64) -> Result<(), AllocError>
         ensures ticked { OnOk result (Ticks now self.old.entity.state.table
             self.new.entity.state.table) }
         ensures table { self.new.entity.state
             ≡ with_table self.old.entity.state self.new.entity.state.table }
-        ensures err { OnErr result (self.new.entity.state ≡ self.old.entity.state) }
+        ensures err { OnErr result (self.new ≡ self.old) }
+        ensures lacks { OnErr result (1 ≤ due_count self.old.entity.state.table.armed
+            (max self.old.entity.state.table.now now)) }
         ensures grows { self.old.entity.inbox_failures ≤ self.new.entity.inbox_failures }
         ensures outbox { self.new.entity.outbox_failures ≡ self.old.entity.outbox_failures }
         ensures link { KeepsLink self.old self.new }

@@ -6,6 +6,7 @@ mod entity;
 mod entity_bench;
 mod long_file;
 mod machines;
+mod own_link;
 mod ranges;
 mod receiver;
 mod sender;

@@ -1,4 +1,5 @@
 pub mod Calls
+pub mod Chains
 pub mod Files
 pub mod Folder
 pub mod Fuse

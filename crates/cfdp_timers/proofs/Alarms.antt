@@ -189,3 +189,16 @@ all_counted at count left first none all =
 
 pub earliest-more : (s t : List (TransactionId × Deadlines)) (e : TransactionId × Deadlines) → s ≡ e ∷ t → earliest (alarms s) ≡ earlier (earliest (alarms_of e.0 e.1)) (earliest (alarms t))
 earliest-more s t e is = ap (λ l. earliest (alarms l)) is ∙ earliest-cons e t
+
+-- how many of a transaction are due
+pub length_due_of : (id : TransactionId) (d : Deadlines) (at : ℕ) → length (due at (alarms_of id d))
+    ≡ length (due at (alarm_if id EofAck d.eof_ack)) + (length (due at (alarm_if id Nak d.nak)) + (length (due at (alarm_if id FinishedAck d.finished_ack)) + length (due at (alarm_if id Inactivity d.inactivity))))
+length_due_of id d at = length-due_of at id d
+
+-- where one of a transaction's timers is due, some of all are
+pub some_due : (at : ℕ) (found : List (Timer × ℕ)) (left behind first es : List (TransactionId × Deadlines)) (e : TransactionId × Deadlines) →
+    due at (alarms left) ≡ due at (alarms_of e.0 e.1) ++ due at (alarms behind) → found ++ due at (alarms left) ≡ due at (alarms first) → first ≡ es →
+    1 ≤ length (due at (alarms_of e.0 e.1)) → 1 ≤ length (due at (alarms es))
+some_due at found left behind first es e more all is some =
+    let size = ap length (sym (ap (λ l. due at (alarms l)) is) ∙ sym all) in
+    omega (arith, size, some, length-append found (due at (alarms left)), ap length more, length-append (due at (alarms_of e.0 e.1)) (due at (alarms behind)))

@@ -1,5 +1,5 @@
 // Armed timers with their deadlines.
-ghost use Rattle.std.specs.Prelude.{◌≡◌, map, IfOk};
+ghost use Rattle.std.specs.Prelude.{◌≡◌, ◌≤◌, length, map, IfOk, OnErr};
 ghost use Rattle.cfdp_timers.specs.Entries.{timer_of};
 
 use crate::Kind;
@@ -20,8 +20,12 @@ pub(crate) fn timers_of(
     alloc: Global,
     alarms: &[Alarm],
 ) -> Result<Vec<(TransactionId, Kind)>, AllocError>
-    ensures { IfOk result (λ timers. timers.items ≡ map timer_of alarms.now) }
+    ensures ok { IfOk result (λ timers. timers.items ≡ map timer_of alarms.now) }
+    ensures err { OnErr result (1 ≤ length alarms.now) }
 {
+    if alarms.is_empty() {
+        return Ok(Vec::new(alloc));
+    }
     alarms
         .iter()
         .map(|alarm| (alarm.id, alarm.kind))

@@ -1,5 +1,5 @@
 // The deadlines of one transaction.
-ghost use Rattle.std.specs.Prelude.{◌≡◌, ◌≤◌, ◌++◌, length, map, OnOk, false};
+ghost use Rattle.std.specs.Prelude.{◌≡◌, ◌≤◌, ◌++◌, length, map, OnOk, OnErr, false};
 ghost use Rattle.std.specs.Option.{option_map_or};
 ghost use Rattle.cfdp_header.specs.declared.value.TransactionId.{TransactionId};
 ghost use Rattle.cfdp_timers.specs.declared.kind.Kind.{Kind};
@@ -41,8 +41,9 @@ fn push_due(
     deadline: Option<u64>,
     now: u64,
 ) -> Result<(), AllocError>
-    ensures { OnOk result (map entry_of due.new.items
+    ensures ok { OnOk result (map entry_of due.new.items
         ≡ map entry_of due.old.items ++ kept.due now (alarm_if id kind deadline)) }
+    ensures err { OnErr result (1 ≤ length (kept.due now (alarm_if id kind deadline))) }
 {
     if let Some(deadline) = deadline
         && deadline <= now
@@ -120,14 +121,16 @@ impl Deadlines {
     }
 
     // Adds the timers that are due.
+    #[tactic(auto, using(crate::proofs::Alarms::length_due_of))]
     pub(crate) fn push_due(
         &self,
         id: TransactionId,
         now: u64,
         due: &mut Vec<Alarm>,
     ) -> Result<(), AllocError>
-        ensures { OnOk result (map entry_of due.new.items
+        ensures ok { OnOk result (map entry_of due.new.items
             ≡ map entry_of due.old.items ++ kept.due now (alarms_of id self.now)) }
+        ensures err { OnErr result (1 ≤ length (kept.due now (alarms_of id self.now))) }
     {
         push_due(due, id, Kind::EofAck, self.eof_ack, now)?;
         push_due(due, id, Kind::Nak, self.nak, now)?;

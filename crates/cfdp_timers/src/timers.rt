@@ -187,7 +187,8 @@ impl Timers {
     ///
     /// # Errors
     ///
-    /// Where there is no memory for the answer. All is then unchanged, the time too.
+    /// Where a timer is due, and there is no memory for the answer. All is then unchanged, the time
+    /// too.
     pub fn fire(&mut self, now: u64) -> Result<Vec<(TransactionId, Kind)>, AllocError>
         ensures time { OnOk result (self.new.time ≡ max self.old.time now) }
         ensures roomy { OnOk result (self.new.roomy ≡ self.old.roomy) }
@@ -199,6 +200,7 @@ impl Timers {
             ≡ due_count self.old.armed self.new.time) }
         ensures left { OnOk result (self.new.armed ≡ still_armed self.new.time self.old.armed) }
         ensures err { OnErr result (self.new ≡ self.old) }
+        ensures lacks { OnErr result (1 ≤ due_count self.old.armed (max self.old.time now)) }
     {
         let now = self.time.max(now);
         let due = self.due(now)?;
@@ -262,6 +264,7 @@ impl Timers {
     fn due(&self, now: u64) -> Result<Vec<Alarm>, AllocError>
         ensures fired { IfOk result (λ due. AreDue self.now.armed now (map_list timer_of due.items)) }
         ensures count { IfOk result (λ due. length due.items ≡ due_count self.now.armed now) }
+        ensures err { OnErr result (1 ≤ due_count self.now.armed now) }
     {
         let mut due = Vec::new(self.alloc);
         for (id, deadlines) in self.entries.iter() {

@@ -1,6 +1,7 @@
-use Rattle.std.proofs.Common.{refl, sym, ap}
+use Rattle.std.proofs.Common.{refl, sym, ap, ◌∙◌}
 use Rattle.cfdp_timers.specs.Armed.{TimersState}
-use Rattle.cfdp_entity.proofs.Entries.{ready_at, state-step, whole-step, no_hole, below_flags, nothing}
+use Rattle.cfdp_entity.proofs.Entries.{ready_at, seen_at, state-step, whole-step, no_hole, below_flags, nothing}
+use Rattle.cfdp_entity.specs.Calling.{asks_of}
 use Rattle.cfdp_entity.specs.Steps.{calls}
 use Rattle.cfdp_entity.proofs.steps.call_at.Goals as goal
 
@@ -33,3 +34,7 @@ returns-in-Some-get_index_mut-clause-whole g c =
     c.args.records.now.entries _ c.args.ready.now c.args.timers.now c.call.new.timers c.args.told.now.items c.call.new.told.items c.args.place c.in-Some.id c.in-Some-get_index_mut.record.now c.call.new.self
     c.requires.whole (sym c.in-Some.ensures) (sym c.in-Some-get_index_mut.ensures.value) refl c.call.ensures.others
     (ap (λ (k : TimersState). k.roomy) c.call.ensures.does.timers) c.call.ensures.ready c.is_due.result (c.is_due.ensures (g.I.Inbox.staged c.call.new.inbox c.in-Some.id)) c.set.new.self c.set.ensures
+
+pub returns-in-Some-get_index_mut-clause-inbox : goal.returns-in-Some-get_index_mut-clause-inbox
+returns-in-Some-get_index_mut-clause-inbox g c none =
+    c.call.ensures.inbox (ap (asks_of c.args.call) (sym (seen_at (g.I.Inbox.staged c.args.inbox.now) c.args.records.now.entries c.args.place c.in-Some.id c.in-Some-get_index_mut.record.now (sym c.in-Some.ensures) (sym c.in-Some-get_index_mut.ensures.value))) ∙ none)

@@ -1,4 +1,4 @@
-use Rattle.std.proofs.Common.{rules, ◌≡◌, ◌+◌, ◌∷◌, ◌∙◌, ℕ, sym, ap, subst, refl, arith, List, length, suc}
+use Rattle.std.proofs.Common.{rules, ◌≡◌, ◌+◌, ◌∷◌, [], Ok, Err, ◌∙◌, ℕ, sym, ap, subst, refl, arith, List, length, suc}
 use Rattle.std.specs.Prelude.{unwrap_or, Option, IsSome}
 use Rattle.std.specs.FinMap.{empty}
 use Rattle.std.specs.List.{All}
@@ -6,6 +6,9 @@ use Rattle.cfdp_directives.specs.Checksum.{Piece, added}
 use Rattle.cfdp_extents.specs.Offsets.{LiesIn}
 use Rattle.cfdp_store.specs.Staged.{OctetMap, staged_for}
 use Rattle.cfdp_receiver.specs.Pieces.{piece_in, pieces_in, with_piece, staged_with, sum_with}
+use Rattle.cfdp_store.specs.Calls.{Write}
+use Rattle.cfdp_store.specs.Chains.{Makes}
+use Rattle.cfdp_receiver.proofs.Chains.{wrote-none, wrote-more, wrote-stops, wrote-all}
 use Rattle.cfdp_receiver.proofs.staging.stage.Goals as goal
 
 all_tail : (P : ℕ × ℕ → Type 0) (x : ℕ × ℕ) (xs ys : List (ℕ × ℕ)) → ys ≡ x ∷ xs → All P ys →
@@ -48,5 +51,47 @@ loop-start-preserved g c =
           c.in-Some.ensures.steps inv.inside;
       others = λ other ne. c.stage_piece.ensures.others other ne ∙ inv.others other ne;
       published = c.stage_piece.ensures.published ∙ inv.published;
+      wrote = wrote-more g.I.Inbox.steps g.I.Inbox.failures c.args.id _ _
+          (pieces_in c.args.offset c.args.bytes.now rest)
+          (piece_in c.args.offset c.args.bytes.now r) _ _ _
+          (ap (pieces_in c.args.offset c.args.bytes.now) c.in-Some.ensures.steps) inv.wrote
+          (subst (λ (p : Piece). Makes g.I.Inbox.steps g.I.Inbox.failures
+          (Write c.args.id p.offset p.bytes (Ok tt) ∷ []) c.loop-start.inbox
+          c.stage_piece.new.inbox) is_piece (c.stage_piece.ensures.writes c.in-Done.is));
       counts = search rules;
     }
+
+pub loop-start-init : goal.loop-start-init
+loop-start-init g c = record {
+  begun = c.requires.begun;
+  octets = search rules;
+  sums = search rules;
+  inside = search rules;
+  others = λ other ne. refl;
+  published = refl;
+  wrote = search (rules, wrote-none);
+  counts = search rules;
+}
+
+pub returns-in-Refused-clause-fails : goal.returns-in-Refused-clause-fails
+returns-in-Refused-clause-fails g c is =
+    let r : ℕ × ℕ = (c.in-Some.start, c.in-Some.end) in
+    let rest : List (ℕ × ℕ) = c.next.new.self in
+    let is_piece : record { offset = c.in-Some.start; bytes = c.piece-piece.result.now }
+    ≡ piece_in c.args.offset c.args.bytes.now r =
+    ap (λ (b : List ℕ). record { offset = c.in-Some.start; bytes = b }) c.piece-piece.ensures in
+    let fails = c.stage_piece.ensures.fails c.in-Refused.is in
+    wrote-stops g.I.Inbox.steps g.I.Inbox.failures c.args.id _ _
+    (pieces_in c.args.offset c.args.bytes.now rest) (piece_in c.args.offset c.args.bytes.now r)
+    _ _ _ fails.0
+    (ap (pieces_in c.args.offset c.args.bytes.now) c.in-Some.ensures.steps)
+    c.loop-start.invariant.wrote
+    (subst (λ (p : Piece). Makes g.I.Inbox.steps g.I.Inbox.failures
+    (Write c.args.id p.offset p.bytes (Err fails.0) ∷ []) c.loop-start.inbox
+    c.stage_piece.new.inbox) is_piece fails.1)
+
+pub returns-clause-writes : goal.returns-clause-writes
+returns-clause-writes g c is =
+    let none : c.loop-start.start-iterator ≡ [] = search rules in
+    wrote-all g.I.Inbox.steps g.I.Inbox.failures c.args.id _ _ _ _
+    (ap (pieces_in c.args.offset c.args.bytes.now) none) c.loop-start.invariant.wrote

@@ -3,6 +3,7 @@ use Rattle.std.specs.FinSet.{contains}
 use Rattle.cfdp_extents.specs.Offsets.{Offsets}
 use Rattle.cfdp_receiver.proofs.Held.{held_with, held_below_with}
 use Rattle.cfdp_receiver.proofs.StagedLemmas.{keeps_unheld, ready_staged}
+use Rattle.cfdp_receiver.proofs.Chains.{made-level, stops-stage}
 use Rattle.cfdp_receiver.proofs.receiver.Receiver.receive_new.Goals as goal
 
 pub returns-in_err-insert-in-Done-clause-keeps : goal.returns-in_err-insert-in-Done-clause-keeps
@@ -43,3 +44,16 @@ complete-requires-clause-ready g c =
     c.missing_in-gaps.ensures.inside
     (λ n h. held_with c.self.inside.held c.args.offset _ n
     (sym (ap (λ (s : Offsets). contains s n) c.in_ok-insert-in-Done.ensures.ok) ∙ h))
+
+pub returns-in-Refused-clause-calls : goal.returns-in-Refused-clause-calls
+returns-in-Refused-clause-calls g c =
+    stops-stage g.I.Inbox.steps g.I.Inbox.failures c.args.self.now _ c.self.view_is c.args.offset
+    c.args.bytes.now c.fault.new.self _ c.args.inbox.now c.stage.new.inbox c.fault.new.inbox
+    c.missing_in-gaps.ensures.is (c.stage.ensures.fails (search rules)) c.fault.ensures.calls
+
+pub returns-in_err-insert-in-Done-clause-keeps_failures :
+    goal.returns-in_err-insert-in-Done-clause-keeps_failures
+returns-in_err-insert-in-Done-clause-keeps_failures g c =
+    made-level g.I.Inbox.steps g.I.Inbox.failures c.from_residual.result
+    c.self.inside.addressing.id _ c.args.inbox.now c.stage.new.inbox
+    (c.stage.ensures.writes (search rules))

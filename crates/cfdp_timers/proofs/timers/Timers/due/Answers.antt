@@ -1,5 +1,5 @@
 -- The alarms that are due are collected and sorted.
-use Rattle.std.proofs.Common.{◌++◌, length, map, sym, ap, subst, ◌∙◌, append_assoc}
+use Rattle.std.proofs.Common.{◌≡◌, ◌≤◌, Result, Ok, Err, OnErr, arith, ◌++◌, length, map, sym, ap, subst, ◌∙◌, append_assoc}
 use Rattle.std.specs.List.Sorted.{IsSorted}
 use Rattle.std.specs.Map.Iter.{deref_pair}
 use Rattle.std.proofs.lemmas.List.{length-map}
@@ -10,16 +10,30 @@ use Rattle.cfdp_timers.specs.contracts.alarm.AlarmOrd.TheImpl.{cmp-value}
 use Rattle.cfdp_timers.specs.declared.deadlines.Deadlines.{Deadlines}
 use Rattle.cfdp_timers.specs.Due.{AreDue, due_count}
 use Rattle.cfdp_timers.specs.Entries.{due, alarms, alarms_of, entry_of, timer_of}
-use Rattle.cfdp_timers.proofs.Alarms.{due-more, all_collected}
+use Rattle.cfdp_timers.proofs.Alarms.{due-more, all_collected, some_due}
 use Rattle.cfdp_timers.proofs.Distinct.{length-due-alarms}
 use Rattle.cfdp_timers.proofs.Firing.{are_due}
 use Rattle.cfdp_timers.proofs.timers.Timers.due.Goals as goal
+
+on_err : {T E P : Type 0} (r : Result T E) → P → OnErr r P
+on_err (Ok x) p = tt
+on_err (Err e) p = p
+
+pub returns-in_err-push_due-clause-err : goal.returns-in_err-push_due-clause-err
+returns-in_err-push_due-clause-err c =
+    let es = c.self.inside.entries.entries in
+    let e : TransactionId × Deadlines = (c.in-Some.id.now, c.in-Some.deadlines.now) in
+    let left = rest_more deref_pair c.loop-id.id-iterator c.next.new.self c.next.result (c.in-Some.id, c.in-Some.deadlines) c.in-Some.is c.next.ensures.steps in
+    let some : 1 ≤ length (due c.args.now (alarms es)) = some_due c.args.now (map entry_of c.loop-id.due.items) c.loop-id.id-iterator c.next.new.self _ es e (due-more c.args.now c.loop-id.id-iterator c.next.new.self e left) c.loop-id.invariant (c.into_iter-id-iterator.ensures.into_iter_gives ∙ c.iter-id-items.ensures.rest) c.in_err-push_due.ensures.err in
+    let size : length (due c.args.now (alarms es)) ≡ due_count c.args.self.now.armed c.args.now = length-due-alarms es c.args.now c.self.invariant.0 ∙ ap (λ state. due_count state.armed c.args.now) c.self.view_is in
+    let one : 1 ≤ due_count c.args.self.now.armed c.args.now = omega (arith, some, size) in
+    on_err _ one
 
 pub loop-id-preserved : goal.loop-id-preserved
 loop-id-preserved c =
     let e : TransactionId × Deadlines = (c.in-Some.id.now, c.in-Some.deadlines.now) in
     let left = rest_more deref_pair c.loop-id.id-iterator c.next.new.self c.next.result (c.in-Some.id, c.in-Some.deadlines) c.in-Some.is c.next.ensures.steps in
-    ap (λ l. l ++ due c.args.now (alarms c.next.new.self)) c.in_ok-push_due.ensures
+    ap (λ l. l ++ due c.args.now (alarms c.next.new.self)) c.in_ok-push_due.ensures.ok
     ∙ append_assoc (map entry_of c.loop-id.due.items) (due c.args.now (alarms_of e.0 e.1)) (due c.args.now (alarms c.next.new.self))
     ∙ ap (λ l. map entry_of c.loop-id.due.items ++ l) (sym (due-more c.args.now c.loop-id.id-iterator c.next.new.self e left))
     ∙ c.loop-id.invariant
