@@ -1,5 +1,5 @@
 -- What an event does to one station and to what it sent, as the other end sees it.
-use Rattle.std.proofs.Common.{◌≡◌, ℕ, ◌+◌, ◌-◌, ◌%◌, ◌<◌, Bool, true, false, ◌||◌, ◌==◌, List, [], ◌∷◌, ◌++◌, length, refl, sym, ap, subst, ◌∙◌, inl, inr, arith, length-append}
+use Rattle.std.proofs.Common.{◌≡◌, ◌≢◌, ℕ, ◌+◌, ◌-◌, ◌%◌, ◌<◌, ◌≤◌, Bool, true, false, ◌||◌, ◌==◌, List, [], ◌∷◌, ◌++◌, length, refl, sym, ap, subst, ◌∙◌, inl, inr, arith, length-append}
 use Rattle.std.proofs.lemmas.Bool.{cases_Bool}
 use Rattle.std.proofs.lemmas.List.{append-nil}
 use Rattle.std.proofs.Math.Nat.{mod-eq_of_lt}
@@ -22,7 +22,7 @@ use Rattle.link_sim.specs.declared.event.AcceptedPut.{AcceptedPut}
 use Rattle.link_sim.specs.FrameLink.{FrameLinkState, oldest}
 use Rattle.link_sim.specs.AtStation.{IsSameLink, IsSameEnd, IsSameMarks, AddsNone, HearsAt, StrikesAt}
 use Rattle.link_sim.specs.OneWay.{OneWayState, IsOneWayOf, IsCarried, IsRested, SendsMore, SendsNone, HearsMore, one_way, packets_sent}
-use Rattle.link_sim.specs.World.{WorldState, Strikes, seen_link}
+use Rattle.link_sim.specs.World.{WorldState, Delivers, Strikes, seen_link}
 use Rattle.link_sim.proofs.Carried.{sent_on}
 use Rattle.link_sim.proofs.OnWayRests.{length-idle, idle_len-fills, rests-unflushed, rests-flushed}
 use Rattle.link_sim.proofs.Pulling.{pulled_none}
@@ -152,3 +152,47 @@ strikes-two (did.Refused refusal.LossRunTooLong) a b k m n puts ticks h is = rec
   run = h.run;
   same = ap (λ (x : FrameLinkState). world_of a b k x puts ticks) h.same;
 }
+
+-- The oldest waiting frame reached a station, or none waited.
+module _ (r : Applied) (k n : FrameLinkState) (old new : StationState) (waits : r ≡ did.Applied → length k.marks < length k.frames)
+    (hears : r ≡ did.Applied → (down : LinkSenderState) → IsCarried down k old.up → HearsAt down k n old new) (marked : r ≡ did.Applied → n ≡ record k { marks = k.marks ++ true ∷ []; run = 0 })
+    (none : r ≡ did.Nothing → (length k.frames ≤ length k.marks) × (n ≡ k) × (new ≡ old)) (refused : r ≢ did.Applied → r ≡ did.Nothing) (down : new.down ≡ old.down) where
+  pub delivers-one : (a : StationState) (m : FrameLinkState) (puts : List AcceptedPut) (ticks : ℕ) → IsCarried a.down k old.up → Delivers r One (world_of a old k m puts ticks) (world_of a new n m puts ticks)
+  delivers-one a m puts ticks is = by r refl
+    where
+      by : (q : Applied) → r ≡ q → Delivers q One (world_of a old k m puts ticks) (world_of a new n m puts ticks)
+      by did.Applied same =
+          let h : HearsAt a.down k n old new = hears same a.down is in
+          record {
+            waits = waits same;
+            link = ap seen_link (marked same);
+            given = h.given;
+            hears = h.hears;
+            heard = h.heard;
+            down = down;
+            station = refl;
+            back = refl;
+            counts = record { puts = refl; ticks = refl };
+          }
+      by did.Nothing same = let h = none same in (h.0, λ i. world_of a (h.2 i) (h.1 i) m puts ticks)
+      by (did.Refused by_it) same = absurd (let bad : did.Refused by_it ≡ did.Nothing = sym same ∙ refused (λ e. (let no : did.Refused by_it ≡ did.Applied = sym same ∙ e in cc)) in cc)
+
+  pub delivers-two : (b : StationState) (m : FrameLinkState) (puts : List AcceptedPut) (ticks : ℕ) → IsCarried b.down k old.up → Delivers r Two (world_of old b m k puts ticks) (world_of new b m n puts ticks)
+  delivers-two b m puts ticks is = by r refl
+    where
+      by : (q : Applied) → r ≡ q → Delivers q Two (world_of old b m k puts ticks) (world_of new b m n puts ticks)
+      by did.Applied same =
+          let h : HearsAt b.down k n old new = hears same b.down is in
+          record {
+            waits = waits same;
+            link = ap seen_link (marked same);
+            given = h.given;
+            hears = h.hears;
+            heard = h.heard;
+            down = down;
+            station = refl;
+            back = refl;
+            counts = record { puts = refl; ticks = refl };
+          }
+      by did.Nothing same = let h = none same in (h.0, λ i. world_of (h.2 i) b m (h.1 i) puts ticks)
+      by (did.Refused by_it) same = absurd (let bad : did.Refused by_it ≡ did.Nothing = sym same ∙ refused (λ e. (let no : did.Refused by_it ≡ did.Applied = sym same ∙ e in cc)) in cc)

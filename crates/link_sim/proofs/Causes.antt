@@ -12,6 +12,7 @@ use Rattle.link_sim.specs.declared.settle_error.SettleError.{SettleError}
 use Rattle.link_sim.specs.declared.settle_error.SettleError.TheVariants.{NoMemory, StoreFailed, TableFull}
 use Rattle.link_sim.specs.declared.shortages.Shortages.{Shortages}
 use Rattle.link_sim.specs.Settling.{IsOfSettling, AreOfSettling, AreInOrder, SettlesFrom, behind, KeepsAll, IsSettled, IsSettledAt, HasSent, IsSpared, CountsStayAt, CountsStay, GoesWellFrom, Ends, HasCauseFrom, all_shortages}
+use Rattle.link_sim.specs.Onward.{GoesOnFrom}
 use Rattle.link_sim.specs.World.{WorldState, NoneWaits, NoneWhole, Flushes, Steps, entity_at}
 use Rattle.link_sim.specs.WorldWork.{world_work}
 use Rattle.link_sim.specs.declared.side.Side.{Side}
@@ -56,32 +57,44 @@ only-both from mid upto a b c r s = record {
   in_order = order-both r.steps s.steps from mid upto r.in_order s.in_order;
 }
 
-pub well-both : (from mid upto : Event) (a b c : WorldState) → GoesWellFrom from mid a b → GoesWellFrom mid upto b c → GoesWellFrom from upto a c
+well-both : (from mid upto : Event) (a b c : WorldState) → GoesWellFrom from mid a b → GoesWellFrom mid upto b c → GoesWellFrom from upto a c
 well-both from mid upto a b c one two = record {
   only = only-both from mid upto a b c one.only two.only;
   spared = spared-all (all_shortages a) (all_shortages b) (all_shortages c) one.spared two.spared;
   clean = λ is. two.clean (one.clean is);
+}
+
+pub on-both : (from mid upto : Event) (a b c : WorldState) → GoesOnFrom from mid a b → GoesOnFrom mid upto b c → GoesOnFrom from upto a c
+on-both from mid upto a b c one two = record {
+  well = well-both from mid upto a b c one.well two.well;
   runs = along-both a b c one.runs two.runs;
 }
 
 -- Nothing was short up to now: nothing happened, or all went well.
-abbrev pub WellSoFar : (from upto : Event) (old new : WorldState) → Type 0
-WellSoFar from upto old new = ((new ≡ old) × (upto ≡ from)) ⊎ GoesWellFrom from upto old new
+abbrev pub OnSoFar : (from upto : Event) (old new : WorldState) → Type 0
+OnSoFar from upto old new = ((new ≡ old) × (upto ≡ from)) ⊎ GoesOnFrom from upto old new
 
-pub well-then : (from mid upto : Event) (a b c : WorldState) → WellSoFar from mid a b → GoesWellFrom mid upto b c → GoesWellFrom from upto a c
-well-then from mid upto a b c (inl e) two = subst (λ (w : WorldState). GoesWellFrom from upto w c) e.0 (subst (λ (g : Event). GoesWellFrom g upto b c) e.1 two)
-well-then from mid upto a b c (inr one) two = well-both from mid upto a b c one two
+pub on-then : (from mid upto : Event) (a b c : WorldState) → OnSoFar from mid a b → GoesOnFrom mid upto b c → GoesOnFrom from upto a c
+on-then from mid upto a b c (inl e) two = subst (λ (w : WorldState). GoesOnFrom from upto w c) e.0 (subst (λ (g : Event). GoesOnFrom g upto b c) e.1 two)
+on-then from mid upto a b c (inr one) two = on-both from mid upto a b c one two
 
-far-then : (from mid upto : Event) (a b c : WorldState) → WellSoFar from mid a b → WellSoFar mid upto b c → WellSoFar from upto a c
-far-then from mid upto a b c one (inl e) = subst (λ (w : WorldState). WellSoFar from upto a w) (sym e.0) (subst (λ (g : Event). WellSoFar from g a b) (sym e.1) one)
-far-then from mid upto a b c one (inr two) = inr (well-then from mid upto a b c one two)
+-- ---- what ended it
+so-far : (from upto : Event) (old new : WorldState) → OnSoFar from upto old new → ((new ≡ old) × (upto ≡ from)) ⊎ GoesWellFrom from upto old new
+so-far from upto old new (inl e) = inl e
+so-far from upto old new (inr on) = inr on.well
+
+far-then : (from mid upto : Event) (a b c : WorldState) → ((b ≡ a) × (mid ≡ from)) ⊎ GoesWellFrom from mid a b → ((c ≡ b) × (upto ≡ mid)) ⊎ GoesWellFrom mid upto b c → ((c ≡ a) × (upto ≡ from)) ⊎ GoesWellFrom from upto a c
+far-then from mid upto a b c (inl d) (inl e) = inl (e.0 ∙ d.0, e.1 ∙ d.1)
+far-then from mid upto a b c (inr one) (inl e) = inr (subst (λ (w : WorldState). GoesWellFrom from upto a w) (sym e.0) (subst (λ (g : Event). GoesWellFrom from g a b) (sym e.1) one))
+far-then from mid upto a b c (inl d) (inr two) = inr (subst (λ (w : WorldState). GoesWellFrom from upto w c) d.0 (subst (λ (g : Event). GoesWellFrom g upto b c) d.1 two))
+far-then from mid upto a b c (inr one) (inr two) = inr (well-both from mid upto a b c one two)
 
 -- the event that ends it
-pub cause-here : (error : SettleError) (from e : Event) (a b c : WorldState) → WellSoFar from e a b → Ends error e b c → HasCauseFrom from error a c
-cause-here error from e a b c well ends = record { last = b; event = e; well = well; ends = ends }
+pub cause-here : (error : SettleError) (from e : Event) (a b c : WorldState) → OnSoFar from e a b → Ends error e b c → HasCauseFrom from error a c
+cause-here error from e a b c well ends = record { last = b; event = e; well = so-far from e a b well; ends = ends }
 
-pub cause-then : (error : SettleError) (from mid : Event) (a b c : WorldState) → WellSoFar from mid a b → HasCauseFrom mid error b c → HasCauseFrom from error a c
-cause-then error from mid a b c well cause = record { last = cause.last; event = cause.event; well = far-then from mid cause.event a b cause.last well cause.well; ends = cause.ends }
+pub cause-then : (error : SettleError) (from mid : Event) (a b c : WorldState) → OnSoFar from mid a b → HasCauseFrom mid error b c → HasCauseFrom from error a c
+cause-then error from mid a b c well cause = record { last = cause.last; event = cause.event; well = far-then from mid cause.event a b cause.last (so-far from mid a b well) cause.well; ends = cause.ends }
 
 -- Poll, flush and delivery are never refused.
 pub not-refused : (e : Event) (by : Refusal) (old new : WorldState) → IsOfSettling e → Steps e (did.Refused by) old new → ⊥

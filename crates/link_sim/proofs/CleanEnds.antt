@@ -41,7 +41,7 @@ use Rattle.link_sim.specs.declared.side.Side.TheVariants.{One, Two}
 use Rattle.link_sim.specs.Between.{Pdu, IsReceiverIn, IsOnCourse}
 use Rattle.link_sim.specs.Clean.{IsClean, IsCompleteAt, AllComplete}
 use Rattle.link_sim.specs.Courses.{IsFound, KeepCourse}
-use Rattle.link_sim.specs.Exchange.{is_closed, is_closed_in, maybe, tells_complete, one_tells}
+use Rattle.link_sim.specs.Exchange.{is_closed, is_closed_in, maybe, tells_complete}
 use Rattle.link_sim.specs.Observed.{seen}
 use Rattle.link_sim.specs.OneWay.{IsRested, on_way}
 use Rattle.link_sim.specs.OnWayPdus.{AreSpelled}
@@ -49,6 +49,7 @@ use Rattle.link_sim.specs.Settling.{IsSettled}
 use Rattle.link_sim.specs.Sides.{other}
 use Rattle.link_sim.specs.Sound.{IsSound}
 use Rattle.link_sim.specs.Theorem.{side_of, put_of, completions_at}
+use Rattle.link_sim.specs.Waiting.{one_tells}
 use Rattle.link_sim.specs.World.{WorldState, entity_at, way_from}
 use Rattle.link_sim.proofs.CleanHears.{slice-or}
 use Rattle.link_sim.proofs.CleanPuts.{IsCourseFrom, course-from, on-course, StandsAt, stands-at}

@@ -11,8 +11,7 @@ use Rattle.link_stack.specs.Upward.{LinkReceiverState}
 use Rattle.link_sim.specs.declared.side.Side.{Side}
 use Rattle.link_sim.specs.declared.side.Side.TheVariants.{One, Two}
 use Rattle.link_sim.specs.declared.world_config.WorldConfig.{WorldConfig}
-use Rattle.link_sim.specs.Clean.{IsClean, IsCleanAt, IsCleanEntity, is_cancelling}
-use Rattle.link_sim.specs.Exchange.{is_bad}
+use Rattle.link_sim.specs.Clean.{IsClean, IsCleanAt, IsCleanEntity, is_cancelling, is_bad}
 use Rattle.link_sim.specs.Sides.{other}
 use Rattle.link_sim.specs.World.{WorldState, LinkState, IsFirst, IsFirstAt, TakesPut, entity_at, link_from, no_frames, station_at}
 use Rattle.link_sim.proofs.CleanHears.{any-append}

@@ -38,9 +38,10 @@ use Rattle.cfdp_entity.specs.Steps.{After, Spoils, hears, sender_after, receiver
 use Rattle.cfdp_entity.specs.Table.{Entry, TableState, SpoiledAt, place_of, step_of, with_record}
 use Rattle.cfdp_entity.specs.Truth.{KnowsTruth, IsTrueTable}
 use Rattle.cfdp_entity.proofs.CallerLemmas.{same_id-true}
+use Rattle.cfdp_entity.proofs.Sparing.{spoils-receives}
 use Rattle.link_sim.specs.Between.{Pdu}
-use Rattle.link_sim.specs.Clean.{is_cancelling, is_cancelling_in}
-use Rattle.link_sim.specs.Exchange.{IsTrueForth, IsTrueBack, is_bad}
+use Rattle.link_sim.specs.Clean.{is_cancelling, is_cancelling_in, is_bad}
+use Rattle.link_sim.specs.Exchange.{IsTrueForth, IsTrueBack}
 use Rattle.link_sim.proofs.LiftRoutes.{StepsRecord, OpensRecord, DropsNew, SpoilsRecord, HeardSo}
 use Rattle.link_sim.proofs.WellHeard.{GoesWell, hears-well, hears-back-well, asks-in-phase}
 
@@ -257,7 +258,7 @@ module _ (laws : HearingLaws) (put_of : TransactionId → Option Put) (heard : L
       apart (inr (inr is)) e = c (e ∙ is)
 
   spoils-kept : (v : Content) (s t : Seen) → Spoils v s t → IsKept s → IsKept t
-  spoils-kept v (Receives r m) t h kept = subst IsKept (sym h.1.0) (λ id. refl)
+  spoils-kept v (Receives r m) t h kept = subst IsKept (sym (spoils-receives v r m t h).1.0) (λ id. refl)
   spoils-kept (Nak start end pairs) (Sends x) t h kept =
       subst IsKept (sym h.1) (λ id. ap is_cancelling_in (asks-in-phase x.phase (take h.0 pairs) x) ∙ kept id)
   spoils-kept (Ack of condition status) (Sends x) t h kept = subst IsKept (sym h) kept
@@ -332,4 +333,4 @@ pub heard-grows : (h : Header) (v : Content) (old new : Counted) → HeardSo h v
 heard-grows h v old new (inl s) = counts-grow s.steps.stored old.inbox_failures new.inbox_failures s.steps.counts
 heard-grows h v old new (inr (inl o)) = counts-grow o.opens.begun old.inbox_failures new.inbox_failures o.opens.counts.0
 heard-grows h v old new (inr (inr (inl d))) = d.grows
-heard-grows h v old new (inr (inr (inr s))) = s.finds.grows
+heard-grows h v old new (inr (inr (inr s))) = (let same = s.finds.inbox in omega (arith, same))

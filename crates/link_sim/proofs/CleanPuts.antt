@@ -26,10 +26,10 @@ use Rattle.cfdp_entity.proofs.CallerLemmas.{same_id-true}
 use Rattle.link_sim.specs.declared.event.AcceptedPut.{AcceptedPut}
 use Rattle.link_sim.specs.declared.side.Side.{Side}
 use Rattle.link_sim.specs.declared.side.Side.TheVariants.{One, Two}
-use Rattle.link_sim.specs.Between.{Pdu, of_id, IsUncancelled, IsUnspoiled, IsOnCourse}
-use Rattle.link_sim.specs.Clean.{IsClean, IsCleanEntity, is_cancelling}
+use Rattle.link_sim.specs.Between.{Pdu, of_id, IsUnspoiled, IsOnCourse}
+use Rattle.link_sim.specs.Clean.{IsClean, IsCleanEntity, is_cancelling, is_bad}
 use Rattle.link_sim.specs.Courses.{LosesNone, KeepCourse, StayOnCourse}
-use Rattle.link_sim.specs.Exchange.{AllTrue, IsTrueForth, IsTrueBack, is_bad, spoils, pauses}
+use Rattle.link_sim.specs.Exchange.{AllTrue, IsTrueForth, IsTrueBack, pauses}
 use Rattle.link_sim.specs.Known.{IsDirected, IsSending, AreKnown}
 use Rattle.link_sim.specs.Observed.{seen}
 use Rattle.link_sim.specs.OneWay.{on_way}
@@ -37,6 +37,7 @@ use Rattle.link_sim.specs.OnWayPdus.{AreSpelled}
 use Rattle.link_sim.specs.Sides.{other}
 use Rattle.link_sim.specs.Sound.{IsSound}
 use Rattle.link_sim.specs.Theorem.{WorldSeen, at, side_of, accepted_as, with_octets, put_by, put_of}
+use Rattle.link_sim.specs.Waiting.{IsUncancelled, spoils}
 use Rattle.link_sim.specs.Work.{AreWithin, IsSeenWithin}
 use Rattle.link_sim.specs.World.{WorldState, entity_at, way_from}
 use Rattle.link_sim.specs.WorldWork.{most_offset}

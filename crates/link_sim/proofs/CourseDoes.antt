@@ -45,7 +45,8 @@ use Rattle.cfdp_entity.specs.declared.call.Call.TheVariants as call
 use Rattle.cfdp_entity.specs.Steps.{called_receiver}
 use Rattle.cfdp_entity.proofs.Entries.{same_id-itself}
 use Rattle.link_sim.specs.Course.{AsksFirst, AsksFrom, IsCourse}
-use Rattle.link_sim.specs.Exchange.{names, names_metadata, one_says, if_ended, is_no_error, tells_complete, spoils, one_tells}
+use Rattle.link_sim.specs.Exchange.{names, names_metadata, one_says, if_ended, is_no_error, tells_complete}
+use Rattle.link_sim.specs.Waiting.{spoils, one_tells}
 use Rattle.link_sim.proofs.CourseLaws.{TellsWell, told_with}
 use Rattle.link_sim.proofs.CourseAsks.{nak-sends-metadata, nak-sends-owed, tidied-metadata, tidied-owes}
 use Rattle.link_sim.proofs.CourseDebts.{OwesMetadata, OwesOctet, does-file, does-ack, does-end}

@@ -25,7 +25,8 @@ use Rattle.cfdp_receiver.specs.Sound.{is_whole, is_done, asks_from, is_tidy}
 use Rattle.cfdp_receiver.specs.State.{ReceiverState, is_receiving, is_finishing}
 use Rattle.cfdp_receiver.specs.Steps.{ReceiverAfter, leaving, telling, ends, complete, failed, faulted, agrees, published_by, completed_by, completed}
 use Rattle.cfdp_entity.proofs.Entries.{same_id-itself}
-use Rattle.link_sim.specs.Exchange.{is_metadata, is_eof, brings, once_ended, has_ended, if_ended, has_finished, finishes, is_closed_in, is_closed, owes_ack, tells_complete, spoils, one_tells}
+use Rattle.link_sim.specs.Exchange.{is_metadata, is_eof, brings, once_ended, has_ended, if_ended, has_finished, finishes, is_closed_in, is_closed, owes_ack, tells_complete}
+use Rattle.link_sim.specs.Waiting.{spoils, one_tells}
 use Rattle.link_sim.proofs.CourseSteps.{Advances}
 
 pub tidied-tidy : (r : ReceiverState) → is_tidy (tidied r) ≡ true

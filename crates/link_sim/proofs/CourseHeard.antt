@@ -29,7 +29,8 @@ use Rattle.cfdp_receiver.specs.Steps.{ReceiverAfter, leaving, telling, closed, f
 use Rattle.cfdp_receiver.proofs.Facts.{is_receiving-is}
 use Rattle.cfdp_extents.proofs.Members.{contains-range}
 use Rattle.link_sim.specs.Course.{IsReceiverTrue}
-use Rattle.link_sim.specs.Exchange.{is_metadata, is_eof, is_ack_of_finished, brings, IsTrueForth, once_ended, if_ended, has_finished, is_closed_in, is_closed, is_no_error, owes_ack, spoils, one_tells}
+use Rattle.link_sim.specs.Exchange.{is_metadata, is_eof, is_ack_of_finished, brings, IsTrueForth, once_ended, if_ended, has_finished, is_closed_in, is_closed, is_no_error, owes_ack}
+use Rattle.link_sim.specs.Waiting.{spoils, one_tells}
 use Rattle.link_sim.proofs.CourseSteps.{Advances}
 use Rattle.link_sim.proofs.CourseGains.{Gains, After, gains-waits, faults-not, completes, telling-first, tidied-tidy}
 

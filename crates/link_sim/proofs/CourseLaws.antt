@@ -27,7 +27,8 @@ use Rattle.cfdp_receiver.specs.Steps.{ReceiverAfter, takes, expires}
 use Rattle.cfdp_entity.specs.declared.call.Call.{Call}
 use Rattle.cfdp_entity.specs.Steps.{sender_after, receiver_after, called_sender, called_receiver}
 use Rattle.link_sim.specs.Course.{IsCourse}
-use Rattle.link_sim.specs.Exchange.{is_closed, maybe, tells_complete, spoils, pauses, one_tells}
+use Rattle.link_sim.specs.Exchange.{is_closed, maybe, tells_complete, pauses}
+use Rattle.link_sim.specs.Waiting.{spoils, one_tells}
 use Rattle.link_sim.specs.Work.{opening_work}
 
 -- These indications spoil nothing, and where it is to stay awake none says that it was suspended.

@@ -18,7 +18,8 @@ use Rattle.cfdp_sender.specs.State.{SenderState}
 use Rattle.cfdp_sender.specs.Steps.{sender_hears_finished, end_told}
 use Rattle.cfdp_receiver.specs.State.{ReceiverState}
 use Rattle.link_sim.specs.Course.{IsTrueBetween}
-use Rattle.link_sim.specs.Exchange.{is_eof, is_finished, is_ack_of_finished, is_ack_of_eof, IsTrueForth, IsTrueBack, knows_ending, has_finished, maybe, tells_complete, one_tells}
+use Rattle.link_sim.specs.Exchange.{is_eof, is_finished, is_ack_of_finished, is_ack_of_eof, IsTrueForth, IsTrueBack, knows_ending, has_finished, maybe, tells_complete}
+use Rattle.link_sim.specs.Waiting.{one_tells}
 use Rattle.link_sim.proofs.CourseLaws.{told_with}
 use Rattle.link_sim.proofs.CourseLists.{waits-stays, waits-here, waits-which, true-parts, true-sent}
 use Rattle.link_sim.proofs.CourseSenderSteps.{Sends, Stays}

@@ -25,7 +25,7 @@ use Rattle.cfdp_entity.specs.declared.call.Call.{Call}
 use Rattle.cfdp_entity.specs.declared.call.Call.TheVariants as call
 use Rattle.cfdp_entity.specs.Steps.{called_sender}
 use Rattle.link_sim.specs.Course.{IsCourse}
-use Rattle.link_sim.specs.Exchange.{spoils, one_tells}
+use Rattle.link_sim.specs.Waiting.{spoils, one_tells}
 use Rattle.link_sim.proofs.CourseLaws.{TellsWell, told_with}
 use Rattle.link_sim.proofs.CourseSenderStays.{stays-course, itself-stays}
 

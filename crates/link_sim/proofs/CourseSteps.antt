@@ -5,7 +5,8 @@ use Rattle.cfdp_directives.specs.Content.{Content}
 use Rattle.cfdp_directives.specs.Put.{Put}
 use Rattle.cfdp_receiver.specs.State.{ReceiverState}
 use Rattle.link_sim.specs.Course.{IsReceiverTrue}
-use Rattle.link_sim.specs.Exchange.{is_metadata, is_eof, is_finished, is_ack_of_finished, is_ack_of_eof, brings, one_says, IsTrueBack, AllTrue, knows_metadata, knows_ending, holds, has_ended, if_ended, has_finished, finishes, is_closed, finished_is_due, is_no_error, owes_ack, tells_complete, one_tells}
+use Rattle.link_sim.specs.Exchange.{is_metadata, is_eof, is_finished, is_ack_of_finished, is_ack_of_eof, brings, one_says, IsTrueBack, AllTrue, knows_metadata, knows_ending, holds, has_ended, if_ended, has_finished, finishes, is_closed, finished_is_due, is_no_error, owes_ack, tells_complete}
+use Rattle.link_sim.specs.Waiting.{one_tells}
 
 -- what a PDU leaves: more is known and held than before, and a Finished is due once it is complete
 pub record Advances (put : Put) (v : Content) (r r1 : ReceiverState) (told : List Indication) : Type 0 where

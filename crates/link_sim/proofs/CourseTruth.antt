@@ -12,7 +12,8 @@ use Rattle.cfdp_receiver.specs.declared.state.ReceiverPhase.TheVariants.{Receivi
 use Rattle.cfdp_receiver.specs.Sound.{is_tidy}
 use Rattle.cfdp_receiver.specs.State.{ReceiverState, opened_receiver, is_finishing}
 use Rattle.link_sim.specs.Course.{IsReceiverTrue, IsTrueBetween}
-use Rattle.link_sim.specs.Exchange.{AllTrue, is_eof, is_finished, is_ack_of_finished, is_ack_of_eof, one_says, IsTrueForth, IsTrueBack, if_ended, tells_complete, one_tells}
+use Rattle.link_sim.specs.Exchange.{AllTrue, is_eof, is_finished, is_ack_of_finished, is_ack_of_eof, one_says, IsTrueForth, IsTrueBack, if_ended, tells_complete}
+use Rattle.link_sim.specs.Waiting.{one_tells}
 use Rattle.link_sim.proofs.CourseLaws.{told_with}
 use Rattle.link_sim.proofs.CourseLists.{waits-stays, waits-here, waits-one-of, true-parts}
 use Rattle.link_sim.proofs.CourseSteps.{Advances, changed, Does}

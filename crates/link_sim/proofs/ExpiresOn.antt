@@ -14,7 +14,7 @@ use Rattle.cfdp_entity.specs.Sound.{FindsMore}
 use Rattle.cfdp_entity.specs.Table.{TableState, all_expired, at_time, record_of}
 use Rattle.cfdp_entity.specs.Timed.{waits_for}
 use Rattle.link_sim.specs.Between.{Pdu, IsReceiverIn}
-use Rattle.link_sim.specs.Exchange.{tells_complete, one_tells}
+use Rattle.link_sim.specs.Exchange.{tells_complete}
 use Rattle.link_sim.specs.Exchanges.{HasExchange, ExpiresHere, ExpiresThere, ExpiresOn}
 use Rattle.link_sim.specs.Known.{AreKnown}
 use Rattle.link_sim.specs.Observed.{seen}
@@ -25,6 +25,7 @@ use Rattle.link_sim.specs.Sides.{other}
 use Rattle.link_sim.specs.Sound.{IsSound}
 use Rattle.link_sim.specs.Stages.{AreWaitedBySender, AreWaitedByReceiver}
 use Rattle.link_sim.specs.Theorem.{put_of}
+use Rattle.link_sim.specs.Waiting.{one_tells}
 use Rattle.link_sim.specs.World.{WorldState, entity_at, way_from, TellsTime}
 use Rattle.link_sim.specs.declared.side.Side.{Side}
 use Rattle.link_sim.proofs.ExpiresWorld.{kinds_of, fired-sender, fired-receiver, fired-none, fired-waited, fired-all, expired-rest, none-expires, none-waited, SendsIn, Received, StaysNone}

@@ -31,9 +31,10 @@ use Rattle.cfdp_entity.proofs.CallerLemmas.{same_id-true, step-own, step-other}
 use Rattle.cfdp_entity.proofs.Entries.{same_id-itself}
 use Rattle.cfdp_entity.proofs.Histories.{key-at, no-record}
 use Rattle.cfdp_entity.proofs.Timing.{at-own, key-there, no-place, distinct-fired}
-use Rattle.link_sim.specs.Exchange.{tells_complete, one_tells}
+use Rattle.link_sim.specs.Exchange.{tells_complete}
 use Rattle.link_sim.specs.Runs.{Exchange, told_then, expire_sender, ReceiverExpires}
 use Rattle.link_sim.specs.Stages.{AreWaitedByReceiver}
+use Rattle.link_sim.specs.Waiting.{one_tells}
 
 some-same : {X : Type 0} (x y : X) → Some x ≡ Some y → x ≡ y
 some-same x y e = cc

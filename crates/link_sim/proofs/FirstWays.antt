@@ -1,5 +1,5 @@
 -- Both directions of a first world: nothing was sent, and nothing taken.
-use Rattle.std.proofs.Common.{◌≡◌, ℕ, ◌*◌, [], refl, sym, ap, subst, ◌∙◌, arith}
+use Rattle.std.proofs.Common.{◌≡◌, ℕ, ◌*◌, [], length, refl, sym, ap, subst, ◌∙◌, arith}
 use Rattle.cfdp_header.specs.Files.{FileMap}
 use Rattle.aos_frame.specs.Frame.{IsLink}
 use Rattle.aos_frame.specs.declared.config.LinkConfig.{LinkConfig}
@@ -10,9 +10,10 @@ use Rattle.cfdp_station.specs.Station.{StationState, first_down, first_up}
 use Rattle.link_sim.specs.declared.side.Side.{Side}
 use Rattle.link_sim.specs.declared.side.Side.TheVariants.{One, Two}
 use Rattle.link_sim.specs.declared.world_config.WorldConfig.{WorldConfig}
-use Rattle.link_sim.specs.OneWay.{OneWayState, IsOneWay}
+use Rattle.link_sim.specs.OneWay.{OneWayState, IsOneWay, IsRested}
 use Rattle.link_sim.specs.World.{WorldState, LinkState, IsFirst, no_frames, way, way_from}
 use Rattle.link_sim.specs.WorldConfig.{IsWorldConfig}
+use Rattle.link_sim.proofs.OnWayRests.{rests-unflushed}
 use Rattle.link_sim.proofs.Sending.{new_way, way_is}
 
 first-sends : (link : LinkConfig) (capacity : ℕ) → IsDown (first_down link capacity) [] 0
@@ -32,3 +33,11 @@ first-way d u k link capacity valid down up none =
 pub first-ways : (c : WorldConfig) (outboxes inboxes : FileMap × FileMap) (w : WorldState) → IsWorldConfig c → IsFirst c outboxes inboxes w → (s : Side) → IsOneWay (way_from s w)
 first-ways c outboxes inboxes w valid is One = first-way w.one.down w.two.up w.from_one c.one.down c.one.capacity valid.one.down is.one.down (is.two.up ∙ ap first_up (sym valid.down)) is.from_one
 first-ways c outboxes inboxes w valid is Two = first-way w.two.down w.one.up w.from_two c.two.down c.two.capacity valid.two.down is.two.down (is.one.up ∙ ap first_up valid.up) is.from_two
+
+-- nothing waits
+first-rest : (d : LinkSenderState) (u : LinkReceiverState) (k : LinkState) (link : LinkConfig) (capacity : ℕ) → IsLink link → d ≡ first_down link capacity → IsRested (way d k u)
+first-rest d u k link capacity valid down = rests-unflushed (way d k u) (omega (arith, ap (λ x. length x.waiting) down, ap (λ x. x.link.zone) down, valid.least_zone)) (ap (λ x. x.flushed) down)
+
+pub first-rests : (c : WorldConfig) (outboxes inboxes : FileMap × FileMap) (w : WorldState) → IsWorldConfig c → IsFirst c outboxes inboxes w → (s : Side) → IsRested (way_from s w)
+first-rests c outboxes inboxes w valid is One = first-rest w.one.down w.two.up w.from_one c.one.down c.one.capacity valid.one.down is.one.down
+first-rests c outboxes inboxes w valid is Two = first-rest w.two.down w.one.up w.from_two c.two.down c.two.capacity valid.two.down is.two.down

@@ -107,3 +107,4 @@ pub mod StagesOwing
 pub mod StagesRoundsThere
 pub mod NotBad
 mod Sendings
+pub mod Resting

@@ -28,7 +28,8 @@ use Rattle.cfdp_entity.proofs.Entries.{same_id-itself}
 use Rattle.cfdp_entity.proofs.Histories.{no-record}
 use Rattle.link_sim.specs.Between.{Pdu, of_id, IsReceiverIn, StaysOnCourse}
 use Rattle.link_sim.specs.Course.{IsCourse}
-use Rattle.link_sim.specs.Exchange.{tells_complete, one_tells}
+use Rattle.link_sim.specs.Exchange.{tells_complete}
+use Rattle.link_sim.specs.Waiting.{one_tells}
 use Rattle.link_sim.proofs.CourseLaws.{CourseLaws}
 use Rattle.link_sim.proofs.LiftKnown.{TurnSays, pdu_of}
 use Rattle.link_sim.proofs.LiftRoutes.{HeardSo}

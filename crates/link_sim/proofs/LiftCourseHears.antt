@@ -24,9 +24,11 @@ use Rattle.cfdp_entity.proofs.Entries.{same_id-itself}
 use Rattle.cfdp_entity.proofs.Histories.{no-record}
 use Rattle.cfdp_directives.specs.declared.indication.Indication.{Indication}
 use Rattle.cfdp_entity.specs.Sending.{SendsItsPut}
+use Rattle.link_sim.specs.Clean.{HasHeardAll}
 use Rattle.link_sim.specs.Course.{IsCourse}
-use Rattle.link_sim.specs.Exchange.{one_tells, tells_complete}
-use Rattle.link_sim.specs.Between.{Pdu, of_id, IsReceiverIn, IsOnCourse, HasHeardAll, IsUncancelled, StaysOnCourse}
+use Rattle.link_sim.specs.Exchange.{tells_complete}
+use Rattle.link_sim.specs.Between.{Pdu, of_id, IsReceiverIn, IsOnCourse, StaysOnCourse}
+use Rattle.link_sim.specs.Waiting.{one_tells, IsUncancelled}
 use Rattle.link_sim.specs.Work.{opening_work}
 use Rattle.link_sim.proofs.CourseLaws.{CourseLaws}
 use Rattle.link_sim.proofs.LiftRoutes.{HeardSo, StepsRecord, OpensRecord, DropsNew, SpoilsRecord}

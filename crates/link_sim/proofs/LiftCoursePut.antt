@@ -21,9 +21,10 @@ use Rattle.cfdp_entity.specs.Table.{Entry, record_of, stepped}
 use Rattle.cfdp_entity.proofs.CallerLemmas.{same_id-true, same_id-symm, step-own, step-other}
 use Rattle.cfdp_entity.proofs.Entries.{same_id-itself, at_place}
 use Rattle.cfdp_entity.proofs.Histories.{key-at}
-use Rattle.link_sim.specs.Between.{Pdu, of_id, IsReceiverIn, IsOnCourse, IsUncancelled, IsUnspoiled, StaysOnCourse}
+use Rattle.link_sim.specs.Between.{Pdu, of_id, IsReceiverIn, IsOnCourse, IsUnspoiled, StaysOnCourse}
 use Rattle.link_sim.specs.Course.{IsCourse}
-use Rattle.link_sim.specs.Exchange.{tells_complete, spoils, pauses, one_tells}
+use Rattle.link_sim.specs.Exchange.{tells_complete, pauses}
+use Rattle.link_sim.specs.Waiting.{IsUncancelled, spoils, one_tells}
 use Rattle.link_sim.proofs.CourseLaws.{CourseLaws, TellsWell, told_with}
 use Rattle.link_sim.proofs.LiftCourseViews.{some-same, told-parts, told-more, Grew, grew-none, unspoiled-before}
 

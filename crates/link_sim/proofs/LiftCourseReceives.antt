@@ -24,6 +24,7 @@ use Rattle.cfdp_entity.specs.declared.call.Call.{Call}
 use Rattle.cfdp_entity.specs.Opening.{begins, opens, opens_by, error_of}
 use Rattle.cfdp_entity.specs.Seen.{Seen, Receives, receiver_content, octets_seen}
 use Rattle.cfdp_entity.specs.Steps.{by_receiver, no_step, receiver_after, if_receiver, called_receiver, receiver_takes, hears, calls, expires, takes, Spoils}
+use Rattle.cfdp_entity.proofs.Sparing.{spoils-receives}
 use Rattle.link_sim.specs.Course.{IsCourse}
 use Rattle.link_sim.specs.Work.{opening_work}
 use Rattle.link_sim.proofs.CourseLaws.{CourseLaws, TellsWell, told_with}
@@ -130,7 +131,7 @@ module _ (laws : CourseLaws) (lossless : Bool) (put : Put) (x : SenderState) (si
 -- ---- it found no memory for the PDU at the front, which is lost
 module _ (laws : CourseLaws) (put : Put) (x : SenderState) (r : ReceiverState) (m : OctetMap) (files : FileMap) (rest back : List Content) where
   pub receiver-spoils : (v : Content) (new : Seen) → Spoils v (Receives r m) new → ReceiverGoes false put x r (no_step files new) (v ∷ rest) rest back back
-  receiver-spoils v new k = record {
+  receiver-spoils v new spoils = let k = spoils-receives v r m new spoils in record {
     receiver = r;
     octets = k.0;
     is_receiver = k.1.0;

@@ -32,7 +32,7 @@ use Rattle.cfdp_entity.specs.declared.call.Call.TheVariants as call
 use Rattle.cfdp_entity.specs.Seen.{Seen, Sends, Receives, sender_content}
 use Rattle.cfdp_entity.specs.Steps.{by_sender, no_step, sender_after, called_sender, sender_takes, hears, calls, expires, takes, Spoils}
 use Rattle.link_sim.specs.Course.{IsCourse, IsTrueBetween}
-use Rattle.link_sim.specs.Exchange.{spoils, one_tells}
+use Rattle.link_sim.specs.Waiting.{spoils, one_tells}
 use Rattle.link_sim.proofs.CourseLaws.{CourseLaws, told_with}
 use Rattle.link_sim.proofs.LiftCoursePut.{SenderGoes}
 use Rattle.cfdp_entity.proofs.Entries.{same_id-itself}

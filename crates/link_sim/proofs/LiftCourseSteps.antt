@@ -20,7 +20,8 @@ use Rattle.cfdp_entity.specs.Sound.{IsSound}
 use Rattle.cfdp_entity.specs.Steps.{After}
 use Rattle.cfdp_entity.specs.Table.{Entry, TableState, record_of, step_of, step_at}
 use Rattle.cfdp_entity.proofs.CallerLemmas.{same_id-true}
-use Rattle.link_sim.specs.Between.{Pdu, of_id, HasHeardAll, StaysOnCourse}
+use Rattle.link_sim.specs.Between.{Pdu, of_id, StaysOnCourse}
+use Rattle.link_sim.specs.Clean.{HasHeardAll}
 use Rattle.link_sim.proofs.CourseLaws.{CourseLaws}
 use Rattle.link_sim.proofs.LiftCourseViews.{some-same, grew-none}
 use Rattle.link_sim.proofs.LiftCoursePut.{SenderGoes, MineGoes, ReceiverGoes, TheirsGoes, stays-same, mine-steps, theirs-steps}

@@ -12,8 +12,10 @@ use Rattle.cfdp_entity.specs.declared.error.EntityDrop.{EntityDrop}
 use Rattle.cfdp_entity.specs.Entity.{EntityState, raised, dropped}
 use Rattle.cfdp_entity.specs.Errors.{drop_number}
 use Rattle.cfdp_entity.specs.Table.{record_of}
-use Rattle.link_sim.specs.Between.{Pdu, of_id, HasHeardAll, IsUncancelled, IsUnspoiled}
-use Rattle.link_sim.specs.Exchange.{spoils, pauses, one_tells}
+use Rattle.link_sim.specs.Between.{Pdu, of_id, IsUnspoiled}
+use Rattle.link_sim.specs.Clean.{HasHeardAll}
+use Rattle.link_sim.specs.Exchange.{pauses}
+use Rattle.link_sim.specs.Waiting.{IsUncancelled, spoils, one_tells}
 
 pub some-same : {X : Type 0} {x y : X} → Some x ≡ Some y → x ≡ y
 some-same e = cc

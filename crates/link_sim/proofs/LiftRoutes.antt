@@ -111,8 +111,8 @@ module _ (h : Header) (old new : Counted) (none : place_of h.id old.state.table.
 
     open-drops : (b : Bool) (by : EntityDrop) → nat_lt (length old.state.table.records) most_records ≡ b → DropsBy (opens_record old.state) by v old new → HeardSo h v old new
     open-drops true by is t =
-        let f : DropsBy (opens_record old.state) by v old new → (new.state ≡ dropped drops.NoMemory old.state) × (old.inbox_failures ≤ new.inbox_failures) = rw is (λ o. (o.1, o.2)) in
-        unheard v drops.NoMemory (omega arith) (inr (λ h. omega (arith, h))) (inr (inr refl)) (λ h. omega (arith, h)) (f t).0 (f t).1
+        let f : DropsBy (opens_record old.state) by v old new → (new ≡ record old { state = dropped drops.NoMemory old.state }) = rw is (λ o. o.1) in
+        unheard v drops.NoMemory (omega arith) (inr (λ h. omega (arith, h))) (inr (inr refl)) (λ h. omega (arith, h)) (ap (λ (c : Counted). c.state) (f t)) (same-inbox (dropped drops.NoMemory old.state) (f t))
     open-drops false by is t =
         let f : DropsBy (opens_record old.state) by v old new → (new ≡ record old { state = dropped drops.TableFull old.state }) = rw is (λ o. o.1) in
         unheard v drops.TableFull (omega arith) (inr (λ h. omega (arith, h))) (inr (inl refl)) (λ h. ltb-false (length old.state.table.records) most_records is) (ap (λ (c : Counted). c.state) (f t)) (same-inbox (dropped drops.TableFull old.state) (f t))

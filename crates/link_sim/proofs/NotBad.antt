@@ -8,7 +8,9 @@ use Rattle.cfdp_directives.specs.declared.indication.Indication.{Indication}
 use Rattle.cfdp_directives.specs.declared.indication.Indication.TheVariants as indication
 use Rattle.cfdp_directives.specs.Codes.{no_error}
 use Rattle.cfdp_directives.specs.Put.{Put}
-use Rattle.link_sim.specs.Exchange.{is_bad, spoils, pauses}
+use Rattle.link_sim.specs.Clean.{is_bad}
+use Rattle.link_sim.specs.Exchange.{pauses}
+use Rattle.link_sim.specs.Waiting.{spoils}
 use Rattle.link_sim.proofs.CourseLaws.{TellsWell}
 
 pub none-weaker : {X : Type 0} (p q : X → Bool) → ((x : X) → q x ≡ true → p x ≡ true) → (xs : List X) → list_any p xs ≡ false → list_any q xs ≡ false

@@ -1,10 +1,10 @@
 -- The receiving end of a direction: a frame is delivered or struck.
-use Rattle.std.proofs.Common.{◌≡◌, ℕ, zero, suc, ◌+◌, ◌-◌, ◌*◌, ◌^◌, ◌<◌, ◌≤◌, ◌==◌, ◌&&◌, not, Bool, true, false, List, [], ◌∷◌, ◌++◌, ◌⊎◌, length, take, drop, replicate, get_or, refl, sym, ap, subst, ◌∙◌, inl, inr, arith, length-append, get_or-set_same}
+use Rattle.std.proofs.Common.{◌≡◌, ℕ, zero, suc, ◌+◌, ◌-◌, ◌*◌, ◌^◌, ◌≢◌, ◌<◌, ◌≤◌, ◌==◌, ◌&&◌, not, Bool, true, false, List, [], ◌∷◌, ◌++◌, ◌⊎◌, length, take, drop, replicate, get_or, refl, sym, ap, subst, ◌∙◌, inl, inr, arith, length-append, get_or-set_same}
 use Rattle.std.specs.List.{list_any}
-use Rattle.std.proofs.lemmas.List.{map-append, append-nil, append_assoc}
+use Rattle.std.proofs.lemmas.List.{map-append, append-nil, append_assoc, take-append-drop}
 use Rattle.mpdu.specs.Packets.{busy}
 use Rattle.mpdu.specs.Stream.{survivors, begun}
-use Rattle.mpdu.proofs.Struck.{survivors-struck}
+use Rattle.mpdu.proofs.Struck.{begun-struck, survivors-struck}
 use Rattle.link_stack.specs.Frames.{frame_of, pdus_in}
 use Rattle.mpdu.specs.Reading.{held_at, is_some}
 use Rattle.link_stack.specs.Drops.{count_of, all_counted, raised}
@@ -61,6 +61,9 @@ record Hears (up new : LinkReceiverState) (ps : List (List ℕ)) (marks : List B
   pub part : IsPartOf given more
   pub all : count_of new.drops 11 ≡ 0 → given ≡ more
   pub lands : count_of new.drops 11 ≡ count_of up.drops 11 → count_of new.drops 11 < 2 ^ 64 - 1 → arrives up ps marks run ≡ given ++ arrives new ps (marks ++ true ∷ []) 0
+  pub rest : List (List ℕ)
+  pub front : arrives up ps marks run ≡ given ++ rest
+  pub let_go : count_of new.drops 11 ≢ count_of up.drops 11 → new.begun ≡ []
   pub clear : list_any not marks ≡ false → count_of new.drops 11 ≡ 0 → new.drops ≡ up.drops
   pub memory : count_of new.drops 11 ≡ 0 → count_of up.drops 11 ≡ 0
 
@@ -128,16 +131,36 @@ heard_next up new ps marks run old out pos r t =
       part = part-map (λ p. drop 6 p) t.added m.more m.part;
       all = λ e. ap pdus_in (same e);
       lands = λ _ _. next-lands up new ps marks run old out pos r t;
+      rest = arrives new ps (marks ++ true ∷ []) 0;
+      front = next-lands up new ps marks run old out pos r t;
+      let_go = λ differs. absurd (differs kept);
       clear = λ none e. t.drops ∙ ap (λ n. all_counted up.drops (zone_drops (not (n == 0) && is_some up.begun) 0)) (none-struck marks run r.struck none);
       memory = λ e. sym kept ∙ e;
     }
 
-heard_front : (up new : LinkReceiverState) (ps : List (List ℕ)) (marks : List Bool) (run : ℕ) (old out : List (List ℕ)) →
+-- The PDUs of the packets that the next frame completes are the first of those that are to arrive.
+first-lands : (up : LinkReceiverState) (ps : List (List ℕ)) (marks : List Bool) (run : ℕ) (added : List (List ℕ)) → 0 < up.link.zone → (r : IsReceived up ps marks run) →
+    survivors up.link.zone (r.read ++ true ∷ []) 0 ps ≡ survivors up.link.zone r.read 0 ps ++ added → (rest : List (List ℕ)) × (arrives up ps marks run ≡ pdus_in added ++ rest)
+first-lands up ps marks run added pos r completed =
+    let z : ℕ = up.link.zone in
+    let l : Lands z r.read 0 ps = lands z r.read 0 ps pos r.end.packets_whole in
+    let long : length r.read ≡ length marks = among-length r.read marks r.among in
+    let done : l.done ≡ added = stripped (survivors z r.read 0 ps) l.done added (sym l.completed ∙ completed) in
+    let before : arrives up ps marks run ≡ pdus_in (busy (unbroken (length r.read * z) 0 (begun z r.read 0 ps) ps)) =
+    ap (λ n. pdus_in (busy (unbroken (n * z) 0 (held_at (run == 0) up.begun) ps))) (sym long) ∙ ap (λ h. pdus_in (busy (unbroken (length r.read * z) 0 h ps))) r.end.as_left in
+    let then_all : List (List ℕ) = busy (unbroken (length (r.read ++ true ∷ []) * z) 0 (begun z (r.read ++ true ∷ []) 0 ps) ps) in (
+      pdus_in then_all,
+      before ∙ ap pdus_in l.lands ∙ pdus-append l.done then_all ∙ ap (λ d. pdus_in d ++ pdus_in then_all) done,
+    )
+
+heard_front : (up new : LinkReceiverState) (ps : List (List ℕ)) (marks : List Bool) (run : ℕ) (old out : List (List ℕ)) → 0 < up.link.zone →
     (r : IsReceived up ps marks run) → TakesNextFront up new ps r.read old out → Hears up new ps marks run old out
-heard_front up new ps marks run old out r t =
+heard_front up new ps marks run old out pos r t =
     let z : ℕ = up.link.zone in
     let m : CompletesMore z marks ps t.added = next_completes z r.read marks ps t.added r.end.packets_whole r.among t.completed in
     let told : count_of new.drops 11 ≡ 0 → ⊥ = λ (e : count_of new.drops 11 ≡ 0). omega (arith, e, t.memory) in
+    let first : (rest : List (List ℕ)) × (arrives up ps marks run ≡ pdus_in t.added ++ rest) = first-lands up ps marks run t.added pos r t.completed in
+    let parts : pdus_in t.added ≡ pdus_in (take t.count t.added) ++ pdus_in (drop t.count t.added) = ap pdus_in (sym (take-append-drop t.count t.added)) ∙ pdus-append (take t.count t.added) (drop t.count t.added) in
     let few : IsPartOf (take t.count t.added) m.more = part-part (take t.count t.added) t.added m.more (part-take t.count t.added) m.part in
     record {
       received = record {
@@ -154,6 +177,9 @@ heard_front up new ps marks run old out r t =
       part = part-map (λ p. drop 6 p) (take t.count t.added) m.more few;
       all = λ e. absurd (told e);
       lands = λ e low. absurd (counted-shows up.drops new.drops r.end.counts t.drops e low);
+      rest = pdus_in (drop t.count t.added) ++ first.0;
+      front = first.1 ∙ ap (λ l. l ++ first.0) parts ∙ append_assoc (pdus_in (take t.count t.added)) (pdus_in (drop t.count t.added)) first.0;
+      let_go = λ _. t.after.as_left ∙ ap (λ k. begun k.zone (r.read ++ false ∷ []) 0 ps) t.link ∙ begun-struck z r.read 0 ps pos;
       clear = λ none e. absurd (told e);
       memory = λ e. absurd (told e);
     }
@@ -181,7 +207,7 @@ delivers l new old out is there taken =
     let pos : 0 < l.up.link.zone = omega (arith, ap (λ x. x.zone) is.same_link, is.sent.valid.least_zone) in
     let h : Hears l.up new ps l.marks l.run old out = elim taken [
       | inl t ↦ heard_next l.up new ps l.marks l.run old out pos is.received t
-      | inr t ↦ heard_front l.up new ps l.marks l.run old out is.received t
+      | inr t ↦ heard_front l.up new ps l.marks l.run old out pos is.received t
     ] in
     let room : length (l.marks ++ true ∷ []) ≤ length l.frames = omega (arith, length-append l.marks (true ∷ [])) in
     let way : IsOneWayOf after ps = record {
@@ -198,6 +224,9 @@ delivers l new old out is there taken =
       delivered = h.delivered;
       part = h.part;
       all = h.all;
+      rest = h.rest;
+      front = ap (λ z. pdus_in (busy (unbroken (length l.marks * z) 0 (held_at (l.run == 0) l.up.begun) ps))) (sym zone) ∙ h.front;
+      let_go = h.let_go;
       lands = λ same low. ap (λ z. pdus_in (busy (unbroken (length l.marks * z) 0 (held_at (l.run == 0) l.up.begun) ps))) (sym zone) ∙ h.lands same low
           ∙ ap (λ z. h.given ++ pdus_in (busy (unbroken (length (l.marks ++ true ∷ []) * z) 0 (held_at (0 == 0) new.begun) ps))) zone_then;
       clear = h.clear;

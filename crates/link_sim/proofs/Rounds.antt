@@ -14,8 +14,9 @@ use Rattle.link_sim.specs.declared.side.Side.{Side}
 use Rattle.link_sim.specs.declared.side.Side.TheVariants.{One, Two}
 use Rattle.link_sim.specs.Recovering.{AreRounds, EndsBy, HasEnded, IsNext, Recovers, Round, StaysArmed, armed_at, most_rounds, raised_by}
 use Rattle.link_sim.specs.Settling.{IsOfSettling, AreOfSettling, GoesWell, IsSettled}
-use Rattle.link_sim.specs.Tracks.{AllStand}
-use Rattle.link_sim.specs.Waiting.{AllWait}
+use Rattle.link_sim.specs.Onward.{AllAdvance, GoesOn, RecoversOn}
+use Rattle.link_sim.specs.Tracks.{Advances, AllStand}
+use Rattle.link_sim.specs.Waiting.{AllWait, IgnoreInactivity}
 use Rattle.link_sim.specs.World.{WorldState, Steps}
 
 -- ---- how often the time was told
@@ -65,31 +66,45 @@ rounds-both : (first more : List Round) (a b c : WorldState) → AreRounds first
 rounds-both [] more a b c is run = subst (λ (w : WorldState). AreRounds more w c) is run
 rounds-both (r ∷ first) more a b c run rest = (run.0, rounds-both first more r.settled b c run.1 rest)
 
+advance-both : (first : List Round) (r : Round) (a b : WorldState) → AreRounds first a b → AllAdvance first a → (IgnoreInactivity b → Advances b r.settled) → AllAdvance (first ++ r ∷ []) a
+advance-both [] r a b is all more = (subst (λ (w : WorldState). IgnoreInactivity w → Advances w r.settled) is more, tt)
+advance-both (x ∷ first) r a b run all more = (all.0, advance-both first r x.settled b run.1 all.1 more)
+
 -- So many rounds went by, and all is settled.
 pub record HasRun (n : ℕ) (old new : WorldState) : Type 0 where
-  pub run : Recovers old new
-  pub count : length run.rounds ≡ n
+  pub on : RecoversOn old new
+  pub count : length on.run.rounds ≡ n
   pub rests : IsSettled new
 
-pub run-none : (old new : WorldState) → GoesWell old new → IsSettled new → (AllWait old → AllStand old new) → HasRun 0 old new
-run-none old new well settled stands = record {
-  run = record { first = new; settles = well; settled = settled; stands = stands; rounds = []; are = refl; few = omega arith };
+pub run-none : (old new : WorldState) → GoesOn old new → IsSettled new → (AllWait old → AllStand old new) → HasRun 0 old new
+run-none old new on settled stands = record {
+  on = record {
+    run = record { first = new; settles = on.well; settled = settled; rounds = []; are = refl; few = omega arith };
+    keeps = on.runs.keeps;
+    stands = stands;
+    advance = tt;
+  };
   count = refl;
   rests = settled;
 }
 
-pub run-more : (n : ℕ) (old mid new : WorldState) → n < most_rounds → HasRun n old mid → (r : Round) → AreRounds (r ∷ []) mid new → HasRun (n + 1) old new
-run-more n old mid new low h r round =
-    let more : length (h.run.rounds ++ r ∷ []) ≡ n + 1 = length-append h.run.rounds (r ∷ []) ∙ ap (λ (k : ℕ). k + 1) h.count in
+pub run-more : (n : ℕ) (old mid new : WorldState) → n < most_rounds → HasRun n old mid → (r : Round) → AreRounds (r ∷ []) mid new → (IgnoreInactivity mid → Advances mid new) → HasRun (n + 1) old new
+run-more n old mid new low h r round advances =
+    let run : Recovers old mid = h.on.run in
+    let more : length (run.rounds ++ r ∷ []) ≡ n + 1 = length-append run.rounds (r ∷ []) ∙ ap (λ (k : ℕ). k + 1) h.count in
     record {
-      run = record {
-        first = h.run.first;
-        settles = h.run.settles;
-        settled = h.run.settled;
-        stands = h.run.stands;
-        rounds = h.run.rounds ++ r ∷ [];
-        are = rounds-both h.run.rounds (r ∷ []) h.run.first mid new h.run.are round;
-        few = omega (arith, more, low);
+      on = record {
+        run = record {
+          first = run.first;
+          settles = run.settles;
+          settled = run.settled;
+          rounds = run.rounds ++ r ∷ [];
+          are = rounds-both run.rounds (r ∷ []) run.first mid new run.are round;
+          few = omega (arith, more, low);
+        };
+        keeps = h.on.keeps;
+        stands = h.on.stands;
+        advance = advance-both run.rounds r run.first mid run.are h.on.advance (λ ignore. subst (λ (w : WorldState). Advances mid w) round.1 (advances ignore));
       };
       count = more;
       rests = subst (λ (w : WorldState). IsSettled w) (sym round.1) round.0.settled;
@@ -110,11 +125,11 @@ next-armed s now w h = (s, now, next-least s now w h)
 
 pub stays-armed : (n : ℕ) (old new : WorldState) (s : Side) (now : ℕ) → n ≡ most_rounds → HasRun n old new → IsNext s now new → StaysArmed old new
 stays-armed n old new s now most h next = record {
-  run = h.run;
+  run = h.on.run;
   all = h.count ∙ most;
-  ticks = rounds-ticks h.run.rounds h.run.first new h.run.are
-      ∙ ap (λ (k : ℕ). raised_by k h.run.first.ticks) (h.count ∙ most)
-      ∙ ap (raised_by most_rounds) (well-ticks old h.run.first h.run.settles);
+  ticks = rounds-ticks h.on.run.rounds h.on.run.first new h.on.run.are
+      ∙ ap (λ (k : ℕ). raised_by k h.on.run.first.ticks) (h.count ∙ most)
+      ∙ ap (raised_by most_rounds) (well-ticks old h.on.run.first h.on.run.settles);
   settled = h.rests;
   armed = next-armed s now new next;
 }

@@ -136,7 +136,7 @@ pub heard-shorter : (h : Header) (v : Content) (old new : Counted) → length ol
 heard-shorter h v old new kinds (inl s) = keeps-drops old new (ap (λ (e : EntityState). e.drops) s.steps.steps) (counts-grow s.steps.stored old.inbox_failures new.inbox_failures s.steps.counts)
 heard-shorter h v old new kinds (inr (inl o)) = keeps-drops old new (ap (λ (e : EntityState). e.drops) o.opens.opens) (counts-grow o.opens.begun old.inbox_failures new.inbox_failures o.opens.counts.0)
 heard-shorter h v old new kinds (inr (inr (inl d))) = drops-more d.by old new d.low kinds (ap (λ (e : EntityState). e.drops) d.is) d.grows
-heard-shorter h v old new kinds (inr (inr (inr s))) = drops-more drops.NoMemory old new (omega arith) kinds (ap (λ (e : EntityState). e.drops) s.finds.counted) s.finds.grows
+heard-shorter h v old new kinds (inr (inr (inr s))) = drops-more drops.NoMemory old new (omega arith) kinds (ap (λ (e : EntityState). e.drops) s.finds.counted) (let same = s.finds.inbox in omega (arith, same))
 
 -- ---- where none rose
 raised-shows : (n : ℕ) → n < 2 ^ 64 - 1 → n < raised n

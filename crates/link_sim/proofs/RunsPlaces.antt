@@ -19,12 +19,13 @@ use Rattle.cfdp_entity.specs.Table.{Entry, record_of, stepped}
 use Rattle.cfdp_entity.proofs.CallerLemmas.{same_id-true, step-own, step-other}
 use Rattle.cfdp_entity.proofs.Histories.{key-at}
 use Rattle.link_sim.specs.Between.{Pdu, of_id, IsReceiverIn}
-use Rattle.link_sim.specs.Exchange.{tells_complete, one_tells}
+use Rattle.link_sim.specs.Exchange.{tells_complete}
 use Rattle.link_sim.specs.Exchanges.{IsExchange}
 use Rattle.link_sim.specs.Runs.{Exchange, Runs, Settles, TellsMore, told_then}
 use Rattle.link_sim.proofs.LiftCoursePut.{at-own}
 use Rattle.link_sim.proofs.LiftCourseViews.{some-same, told-more}
 use Rattle.link_sim.specs.Swapped.{IsSwapped}
+use Rattle.link_sim.specs.Waiting.{one_tells}
 use Rattle.link_sim.proofs.Swapping.{swapped-of}
 
 -- ---- runs, one behind the other

@@ -19,8 +19,9 @@ use Rattle.cfdp_receiver.specs.Steps.{ReceiverAfter}
 use Rattle.cfdp_entity.specs.Opening.{opens, opens_by, error_of}
 use Rattle.cfdp_entity.specs.Seen.{Seen, Receives}
 use Rattle.cfdp_entity.specs.Steps.{After, sender_after, receiver_after}
+use Rattle.link_sim.specs.Clean.{is_bad}
 use Rattle.link_sim.specs.Course.{IsCourse}
-use Rattle.link_sim.specs.Exchange.{IsTrueForth, IsTrueBack, is_bad}
+use Rattle.link_sim.specs.Exchange.{IsTrueForth, IsTrueBack}
 use Rattle.link_sim.specs.Runs.{Exchange, SenderSends, SenderHears, SenderPasses, ReceiverTakes, ReceiverHears, ReceiverPasses, ReceiverOpens, GoesUnheard, Overtakes, TellsMore, Settles, Runs}
 use Rattle.link_sim.specs.Work.{opening_work}
 use Rattle.link_sim.proofs.CourseAll.{course-laws}

@@ -32,9 +32,10 @@ use Rattle.cfdp_receiver.specs.State.{ReceiverState, opened_receiver, is_finishi
 use Rattle.cfdp_receiver.specs.Steps.{ReceiverAfter}
 use Rattle.cfdp_entity.specs.Steps.{sender_after}
 use Rattle.link_sim.specs.Course.{IsReceiverTrue, IsMaybeTrue, IsTrueBetween, EofComes}
-use Rattle.link_sim.specs.Exchange.{is_eof, is_ack_of_eof, one_says, IsTrueForth, AllTrue, spoils, one_tells, once_ended, knows_ending, finishes, owes_ack, maybe}
+use Rattle.link_sim.specs.Exchange.{is_eof, is_ack_of_eof, one_says, IsTrueForth, AllTrue, once_ended, knows_ending, finishes, owes_ack, maybe}
 use Rattle.link_sim.specs.Runs.{Exchange, ReceiverHears, ReceiverOpens, Settles, Runs}
 use Rattle.link_sim.specs.Stages.{IsAtRest, IsActiveCourse, IsCompleteExchange}
+use Rattle.link_sim.specs.Waiting.{spoils, one_tells}
 use Rattle.link_sim.proofs.CourseHeard.{hears-advances}
 use Rattle.link_sim.proofs.CourseReceives.{after-is}
 use Rattle.link_sim.proofs.CourseSteps.{Advances}

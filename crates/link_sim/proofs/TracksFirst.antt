@@ -17,7 +17,7 @@ use Rattle.cfdp_entity.specs.Entity.{EntityState}
 use Rattle.cfdp_entity.specs.Seen.{Seen, Sends, Receives}
 use Rattle.cfdp_entity.specs.Table.{record_of}
 use Rattle.cfdp_entity.proofs.CallerLemmas.{same_id-true}
-use Rattle.link_sim.specs.Between.{Pdu, of_id, IsReceiverIn, IsUncancelled, IsUnspoiled}
+use Rattle.link_sim.specs.Between.{Pdu, of_id, IsReceiverIn, IsUnspoiled}
 use Rattle.link_sim.specs.Course.{IsCourse}
 use Rattle.link_sim.specs.Courses.{KeepsPuts}
 use Rattle.link_sim.specs.Exchange.{maybe}
@@ -28,7 +28,7 @@ use Rattle.link_sim.specs.Sides.{other}
 use Rattle.link_sim.specs.Sound.{IsSound}
 use Rattle.link_sim.specs.Stages.{Stands, IsAtRest, IsActiveCourse, IsBelow, IsReceiverBelow, IsOver, IsOverAt}
 use Rattle.link_sim.specs.Tracks.{StandsIn, StandsOf, OverIn, AllStand, AllTracked, RunsAlong}
-use Rattle.link_sim.specs.Waiting.{policy_at, is_open, is_open_sender, is_open_receiver, IsWaitingRecord, IsWaitingIn, IsWaiting, IsOpen, IsComing, IsUnfinished, AllWait}
+use Rattle.link_sim.specs.Waiting.{policy_at, is_open, is_open_sender, is_open_receiver, IsWaitingRecord, IsWaitingIn, IsWaiting, IsOpen, IsComing, IsUnfinished, AllWait, IsUncancelled}
 use Rattle.link_sim.specs.World.{WorldState, entity_at, way_from}
 use Rattle.link_sim.specs.declared.side.Side.{Side}
 use Rattle.link_sim.proofs.CleanPuts.{IsText, text-at}

@@ -29,7 +29,8 @@ use Rattle.cfdp_receiver.specs.Sound.{receiver_hears, is_file_fault}
 use Rattle.cfdp_receiver.specs.State.{ReceiverState, is_receiving}
 use Rattle.cfdp_receiver.specs.Steps.{ReceiverAfter, leaving, telling, ends, failed, faulted, agrees, published_by, completed_by, completed, is_supported, receives_metadata, exceeds, with_data, receives_new, receives_data, contradicts, first_eof, receives_eof}
 use Rattle.cfdp_entity.specs.Steps.{sender_after}
-use Rattle.link_sim.specs.Exchange.{IsTrueForth, IsTrueBack, is_bad}
+use Rattle.link_sim.specs.Clean.{is_bad}
+use Rattle.link_sim.specs.Exchange.{IsTrueForth, IsTrueBack}
 
 -- ---- a receiver: no fault of the file is told, and the inbox did as it was told
 -- so nothing bad is told

@@ -39,6 +39,7 @@ use Rattle.cfdp_entity.specs.Strays.{StrayAck, stray_says}
 use Rattle.cfdp_entity.specs.Table.{Entry, TableState, has_due, next_due, octets_due, step_of, heard_at, taken_at, opened_by, SpoiledAt}
 use Rattle.cfdp_entity.proofs.CallerLemmas.{next-due}
 use Rattle.cfdp_entity.proofs.Sparing.{resting}
+use Rattle.cfdp_entity.proofs.Sparing.{spoils-receives}
 use Rattle.cfdp_station.specs.Taking.{HearsPdu, HearsAll}
 use Rattle.mpdu.specs.Parts.{IsPartOf}
 use Rattle.link_sim.proofs.LiftPdus.{text-work}
@@ -247,7 +248,7 @@ same-works most v s t is = let e : seen_work most t ≡ seen_work most s = ap (s
 
 -- also where there was no memory
 spoils-works : (most : ℕ) (v : Content) (s t : Seen) → IsSeenWithin most s → Spoils v s t → Leaves most v s t
-spoils-works most v (Receives r m) t within h = let e : seen_work most t ≡ receiver_work most r = ap (seen_work most) h.1.0 in omega (arith, e)
+spoils-works most v (Receives r m) t within h = let e : seen_work most t ≡ receiver_work most r = ap (seen_work most) (spoils-receives v r m t h).1.0 in omega (arith, e)
 spoils-works most (Nak start end pairs) (Sends x) t within h =
     let e : seen_work most t ≡ sender_work most (asks_in x.phase (take h.0 pairs) x) = ap (seen_work most) h.1 in
     let g : sender_work most (asks_in x.phase (take h.0 pairs) x) ≤ sender_work most x + 7 * most + 7 = nak-works most x.phase (take h.0 pairs) x within.size refl in

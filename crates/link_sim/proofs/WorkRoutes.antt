@@ -44,7 +44,7 @@ module _ (h : Header) (old new : Counted) where
 
     opens-dropped : (b : Bool) (by : EntityDrop) → nat_lt (length old.state.table.records) most_records ≡ b → DropsBy (opens_record old.state) by v old new → Dropped v old new
     opens-dropped true by is t =
-        let f : DropsBy (opens_record old.state) by v old new → (new.state ≡ dropped drops.NoMemory old.state) = rw is (λ o. o.1) in
+        let f : DropsBy (opens_record old.state) by v old new → (new.state ≡ dropped drops.NoMemory old.state) = rw is (λ o. ap (λ (c : Counted). c.state) o.1) in
         Counts drops.NoMemory (f t)
     opens-dropped false by is t =
         let f : DropsBy (opens_record old.state) by v old new → (new.state ≡ dropped drops.TableFull old.state) = rw is (λ o. ap (λ (c : Counted). c.state) o.1) in

@@ -68,6 +68,7 @@ use Rattle.cfdp_entity.specs.Putting.{Accepts, early_refusal, asked, file_refusa
 use Rattle.cfdp_entity.specs.Seen.{Seen, Sends, Receives}
 use Rattle.cfdp_entity.specs.Steps.{After, Spoils, no_step, hears, expires, calls, takes, sender_takes, receiver_takes}
 use Rattle.cfdp_entity.specs.Table.{Entry, TableState, place_of, stepped, step_of, heard_at, taken_at, opened_by, expired_in, expired, all_expired, at_time, Ticks, SpoiledAt}
+use Rattle.cfdp_entity.proofs.Sparing.{spoils-receives}
 use Rattle.link_sim.proofs.WorkRoutes.{Taken, Steps, Opens, Queues, Dropped, Counts, is-taken, is-dropped}
 use Rattle.link_sim.proofs.WorkRoutes as routes
 use Rattle.link_sim.specs.Work.{IsReceiverWithin, IsSenderWithin, IsSeenWithin, AreWithin}
@@ -347,7 +348,7 @@ asked-same sending.Closed ps x = refl
 
 -- where there was no memory
 pub spoils-within : (most : ℕ) (v : Content) (s t : Seen) → Spoils v s t → IsSeenWithin most s → IsSeenWithin most t
-spoils-within most v (Receives r m) t h w = subst (IsSeenWithin most) (sym h.1.0) w
+spoils-within most v (Receives r m) t h w = subst (IsSeenWithin most) (sym (spoils-receives v r m t h).1.0) w
 spoils-within most (Nak start end pairs) (Sends x) t h w =
     subst (IsSeenWithin most) (sym h.1) (sender-within most x (asks_in x.phase (take h.0 pairs) x) (asked-same x.phase (take h.0 pairs) x) w)
 spoils-within most (Ack of condition status) (Sends x) t h w = same-within most (Sends x) t h w

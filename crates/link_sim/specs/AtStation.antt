@@ -129,10 +129,11 @@ answered (Err call_errors.NoMemory) = Err alloc_error
 pub record SendsOneAt (old new : StationState) (link link_now : FrameLinkState) : Type 0 where
   pub served : new.entity.state ≡ served storeds.Done (turn old.entity.state) old.entity.state
   pub spells : SpellsTurn (turn old.entity.state) old.entity.state
-  pub failures : KeepsOutbox old.entity new.entity
+  pub failures : KeepsFailures old.entity new.entity
   pub sends : let pdu = next_pdu old.entity.state in SendsAt old.down new.down link link_now
       (packet_of old.down.link old.down.packet_count pdu ∷ []) (pdu ∷ [])
   pub none_whole : length new.down.waiting < new.down.link.zone
+  pub unflushed : new.down.flushed ≡ false
 
 -- The outbox failed to give the file data that were due, and that was counted: no PDU moved.
 pub record FailsAt (old new : StationState) (link link_now : FrameLinkState) : Type 0 where
@@ -140,7 +141,7 @@ pub record FailsAt (old new : StationState) (link link_now : FrameLinkState) : T
   pub is_next : turn old.entity.state ≡ Place place
   pub carries : data_at place old.entity.state.table ≡ true
   pub counts : Counts storeds.Refused old.entity.outbox_failures new.entity.outbox_failures
-  pub inbox : old.entity.inbox_failures ≤ new.entity.inbox_failures
+  pub inbox : new.entity.inbox_failures ≡ old.entity.inbox_failures
   pub served : new.entity.state ≡ served storeds.Refused (turn old.entity.state) old.entity.state
   pub down : new.down ≡ old.down
   pub same_link : IsSameLink link link_now
@@ -159,6 +160,7 @@ pub record FillsAt (old new : StationState) (link link_now : FrameLinkState) : T
   pub sends : SendsAt old.down new.down link link_now (flush_of (packing old.down)) []
   pub most : length (flush_of (packing old.down)) ≤ 1
   pub none_whole : length new.down.waiting < new.down.link.zone
+  pub flushed : flush_of (packing old.down) ≡ [] → new.down.flushed ≡ old.down.flushed
   pub more : length link.frames < length link_now.frames
 
 abbrev pub FlushesAt : Applied → (old new : StationState) → (link link_now : FrameLinkState)

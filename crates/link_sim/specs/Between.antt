@@ -1,6 +1,6 @@
 -- Proof-only: what becomes of a put while both entities go on: its two records, its PDUs on their
 -- way, and what was told of it. `mine` is the entity that made the put, `theirs` the other one.
-use Rattle.std.specs.Prelude.{◌≡◌, ◌≢◌, ℕ, Bool, true, false, List, [], ◌∷◌, get_or, Option, Some, None, if◌then◌else◌}
+use Rattle.std.specs.Prelude.{◌≡◌, Bool, true, false, List, [], ◌∷◌, Option, Some, None, if◌then◌else◌}
 use Rattle.cfdp_header.specs.declared.value.Header.{Header}
 use Rattle.cfdp_header.specs.declared.value.TransactionId.{TransactionId}
 use Rattle.cfdp_header.specs.Ids.{same_id}
@@ -12,8 +12,10 @@ use Rattle.cfdp_receiver.specs.State.{ReceiverState}
 use Rattle.cfdp_entity.specs.Entity.{EntityState}
 use Rattle.cfdp_entity.specs.Seen.{Seen, Sends, Receives}
 use Rattle.cfdp_entity.specs.Table.{record_of}
+use Rattle.link_sim.specs.Clean.{HasHeardAll}
 use Rattle.link_sim.specs.Course.{IsCourse}
-use Rattle.link_sim.specs.Exchange.{tells_complete, spoils, pauses, one_tells}
+use Rattle.link_sim.specs.Exchange.{tells_complete, pauses}
+use Rattle.link_sim.specs.Waiting.{IsUncancelled, one_tells, spoils}
 
 abbrev pub Pdu : Type 0
 Pdu = Header × Content
@@ -41,15 +43,6 @@ pub record IsOnCourse (lossless : Bool) (put : Put) (mine theirs : EntityState)
       (of_id put.id forth) (of_id put.id back)
       (one_tells (tells_complete put.id) mine.table.told)
       (one_tells (tells_complete put.id) theirs.table.told)
-
--- No PDU was dropped but of a transaction that has no record, and for which none is opened.
-abbrev pub HasHeardAll : EntityState → Type 0
-HasHeardAll e = (n : ℕ) → n ≢ 14 → get_or e.drops n 0 ≡ 0
-
--- A record that sends isn't cancelled.
-abbrev pub IsUncancelled : Option Seen → Type 0
-IsUncancelled (Some (Sends x)) = x.phase ≢ sending.Cancelling
-IsUncancelled _ = Unit {0}
 
 -- Nothing spoiled it; and where `lossless` is set, no PDU was dropped and it was never suspended.
 pub record IsUnspoiled (lossless : Bool) (id : TransactionId) (mine theirs : EntityState)

@@ -1,16 +1,17 @@
 -- When nothing went wrong in a world, and when a put is complete.
-use Rattle.std.specs.Prelude.{◌≡◌, ℕ, not, Bool, true, false, Some, Contains}
+use Rattle.std.specs.Prelude.{◌≡◌, ◌≢◌, ℕ, ◌==◌, not, Bool, true, false, get_or, Some, Contains}
 use Rattle.std.specs.List.{list_any}
 use Rattle.cfdp_directives.specs.Completions.{IsToldComplete}
+use Rattle.cfdp_directives.specs.declared.indication.Indication.{Indication}
+use Rattle.cfdp_directives.specs.declared.indication.Indication.TheVariants as indication
 use Rattle.cfdp_directives.specs.declared.phase.Phase.TheVariants.{Closed}
+use Rattle.cfdp_directives.specs.Codes.{no_error}
 use Rattle.cfdp_sender.specs.declared.phase.SenderPhase.{SenderPhase}
 use Rattle.cfdp_sender.specs.declared.phase.SenderPhase.TheVariants as sending
 use Rattle.cfdp_entity.specs.Entity.{EntityState, phase_told}
 use Rattle.cfdp_entity.specs.Seen.{Sends, Receives}
 use Rattle.cfdp_entity.specs.Table.{Entry}
 use Rattle.link_stack.specs.Drops.{count_of}
-use Rattle.link_sim.specs.Between.{HasHeardAll}
-use Rattle.link_sim.specs.Exchange.{is_bad}
 use Rattle.link_sim.specs.Observed.{seen}
 use Rattle.link_sim.specs.Sides.{other}
 use Rattle.link_sim.specs.Theorem.{completions_at, side_of}
@@ -19,6 +20,19 @@ use Rattle.link_sim.specs.declared.event.AcceptedPut.{AcceptedPut}
 use Rattle.link_sim.specs.declared.side.Side.{Side}
 
 -- ---- nothing went wrong
+-- what is told of any transaction: a fault, inactivity too, a suspension, an abandonment, or an end with an error
+-- (conditions as in table 5-5)
+abbrev pub is_bad : Indication → Bool
+is_bad (indication.Fault id condition) = true
+is_bad (indication.Suspended id condition) = true
+is_bad (indication.Abandoned id condition) = true
+is_bad (indication.Finished id condition delivery status) = not (condition == no_error)
+is_bad _ = false
+
+-- No PDU was dropped but of a transaction that has no record, and for which none is opened.
+abbrev pub HasHeardAll : EntityState → Type 0
+HasHeardAll e = (n : ℕ) → n ≢ 14 → get_or e.drops n 0 ≡ 0
+
 abbrev pub is_cancelling_in : SenderPhase → Bool
 is_cancelling_in sending.Sending = false
 is_cancelling_in sending.Cancelling = true

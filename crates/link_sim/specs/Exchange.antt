@@ -1,4 +1,4 @@
--- Proof-only, but for `is_bad`: one transaction, that is a sender, a receiver or none yet, and the
+-- Proof-only: one transaction, that is a sender, a receiver or none yet, and the
 -- PDUs on their way between them (CCSDS 727.0-B-5, 5.2 and 5.3).
 use Rattle.std.specs.Prelude.{◌≡◌, ℕ, ◌+◌, ◌≤◌, ◌==◌, ◌&&◌, not, Bool, true, false, List, [], ◌∷◌, length, is_some, Option, Some, None}
 use Rattle.std.specs.List.{list_any}
@@ -153,29 +153,7 @@ tells_complete id (indication.Finished of condition delivery status) =
     same_id id of && is_complete condition delivery status
 tells_complete id _ = false
 
--- An end that isn't good, or what may lead to one: a fault other than inactivity, which may be
--- ignored, an error at the end, or that the transaction was abandoned.
-abbrev pub spoils : TransactionId → Indication → Bool
-spoils id (indication.Fault of condition) = same_id id of && not (condition == inactivity)
-spoils id (indication.Abandoned of condition) = same_id id of
-spoils id (indication.Finished of condition delivery status) =
-    same_id id of && not (condition == no_error)
-spoils id _ = false
-
 -- that it was suspended
 abbrev pub pauses : TransactionId → Indication → Bool
 pauses id (indication.Suspended of condition) = same_id id of
 pauses id _ = false
-
--- of any transaction: a fault, inactivity too, a suspension, an abandonment, or an end with an error
--- (conditions as in table 5-5)
-abbrev pub is_bad : Indication → Bool
-is_bad (indication.Fault id condition) = true
-is_bad (indication.Suspended id condition) = true
-is_bad (indication.Abandoned id condition) = true
-is_bad (indication.Finished id condition delivery status) = not (condition == no_error)
-is_bad _ = false
-
--- whether one of the indications says this
-abbrev pub one_tells : (Indication → Bool) → List Indication → Bool
-one_tells says told = list_any says told

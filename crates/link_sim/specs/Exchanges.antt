@@ -7,7 +7,7 @@ use Rattle.cfdp_entity.specs.Entity.{EntityState}
 use Rattle.cfdp_entity.specs.Seen.{Sends}
 use Rattle.cfdp_entity.specs.Table.{record_of}
 use Rattle.link_sim.specs.Between.{Pdu, of_id, IsReceiverIn}
-use Rattle.link_sim.specs.Exchange.{tells_complete, one_tells}
+use Rattle.link_sim.specs.Exchange.{tells_complete}
 use Rattle.link_sim.specs.Known.{AreKnown}
 use Rattle.link_sim.specs.Observed.{seen}
 use Rattle.link_sim.specs.OneWay.{arriving}
@@ -16,6 +16,7 @@ use Rattle.link_sim.specs.Runs.{Exchange, Runs, TellsMore, expire_sender, Receiv
 use Rattle.link_sim.specs.Sides.{other}
 use Rattle.link_sim.specs.Stages.{AreWaitedBySender, AreWaitedByReceiver}
 use Rattle.link_sim.specs.Theorem.{put_of}
+use Rattle.link_sim.specs.Waiting.{one_tells}
 use Rattle.link_sim.specs.World.{WorldState, entity_at, way_from}
 use Rattle.link_sim.specs.declared.side.Side.{Side}
 

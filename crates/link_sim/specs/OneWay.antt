@@ -1,5 +1,5 @@
 -- One direction of a link: what was sent, what became of its frames, and what was delivered.
-use Rattle.std.specs.Prelude.{◌≡◌, ℕ, ◌+◌, ◌-◌, ◌*◌, ◌^◌, ◌<◌, ◌≤◌, ◌⊎◌, ◌==◌, ◌&&◌, Bool, true, false, List, [], ◌∷◌, ◌++◌, length, drop, map, not, replicate, slice_index_or, nat_le, nat_lt, if◌then◌else◌}
+use Rattle.std.specs.Prelude.{◌≡◌, ◌≢◌, ℕ, ◌+◌, ◌-◌, ◌*◌, ◌^◌, ◌<◌, ◌≤◌, ◌⊎◌, ◌==◌, ◌&&◌, Bool, true, false, List, [], ◌∷◌, ◌++◌, length, drop, map, not, replicate, slice_index_or, nat_le, nat_lt, if◌then◌else◌}
 use Rattle.std.specs.List.{list_any}
 use Rattle.aos_frame.specs.Frame.{IsLink}
 use Rattle.mpdu.specs.Stream.{stream, survivors}
@@ -143,6 +143,11 @@ pub record HearsMore (old new : OneWayState) (given : List (List ℕ)) : Type 0 
   -- where no such drop was counted now, they are the first of those that were to arrive
   pub lands : count_of new.up.drops 11 ≡ count_of old.up.drops 11
       → count_of new.up.drops 11 < 2 ^ 64 - 1 → arriving old ≡ given ++ arriving new
+  -- in any case they are a front of those; and where one was counted now, nothing is held of a
+  -- packet
+  pub rest : List (List ℕ)
+  pub front : arriving old ≡ given ++ rest
+  pub let_go : count_of new.up.drops 11 ≢ count_of old.up.drops 11 → new.up.begun ≡ []
   -- nothing was dropped there, where no frame was lost before either
   pub clear : list_any not old.marks ≡ false → count_of new.up.drops 11 ≡ 0
       → new.up.drops ≡ old.up.drops

@@ -11,9 +11,6 @@ use Rattle.link_sim.specs.declared.settle_error.SettleError.TheVariants.{NoMemor
 use Rattle.link_sim.specs.declared.recover_error.RecoverError.{RecoverError}
 use Rattle.link_sim.specs.declared.recover_error.RecoverError.TheVariants.{Settle, StillArmed}
 use Rattle.link_sim.specs.Settling.{IsSettled, KeepsAll, GoesWell, HasCause, RisesFirst, all_shortages, settle_error_number, settle_error_name}
-use Rattle.link_sim.specs.Exchanges.{ExpiresOn}
-use Rattle.link_sim.specs.Tracks.{Advances, AllStand, KeepsPutsOf}
-use Rattle.link_sim.specs.Waiting.{AllWait, IgnoreInactivity}
 use Rattle.link_sim.specs.World.{WorldState, FindsNoMemory, Steps, entity_at}
 
 -- ---- timers
@@ -33,14 +30,11 @@ IsNext One now w = IsLeastOther (armed_at One w) now
 IsNext Two now w = OnlyInactivity (armed_at One w) × IsLeastOther (armed_at Two w) now
 
 -- ---- what a recovery does
--- A station was told the time that is next, and nothing was short in that: timers expired that were
--- waited for.
+-- A station was told the time that is next, and nothing was short in that.
 pub record TellsNext (s : Side) (now : ℕ) (old new : WorldState) : Type 0 where
   pub next : IsNext s now old
   pub ticks : Steps (event.Tick s now) did.Applied old new
   pub spared : KeepsAll (all_shortages old) (all_shortages new)
-  pub expires : ExpiresOn s now old new
-  pub keeps : KeepsPutsOf old new
 
 -- where which time was told, the world then, and the world once it was settled again
 pub record Round : Type 0 where
@@ -49,14 +43,12 @@ pub record Round : Type 0 where
   pub ticked : WorldState
   pub settled : WorldState
 
--- In a settled world a station was told its next time, and all was settled again. Where inactivity is
--- ignored, that brings each transaction on that stood.
+-- In a settled world a station was told its next time, and all was settled again.
 pub record IsRound (old : WorldState) (r : Round) : Type 0 where
   pub rests : IsSettled old
   pub tells : TellsNext r.side r.now old r.ticked
   pub settles : GoesWell r.ticked r.settled
   pub settled : IsSettled r.settled
-  pub advances : IgnoreInactivity old → Advances old r.settled
 
 -- These rounds led from the old world to the new one, one after another.
 abbrev pub AreRounds : List Round → (old new : WorldState) → Type 0
@@ -66,13 +58,11 @@ AreRounds (r ∷ rounds) old new = IsRound old r × AreRounds rounds r.settled n
 abbrev pub most_rounds : ℕ
 most_rounds = 24576
 
--- All was settled, and so many rounds followed; nothing else happened, and nothing was short. Where
--- all that was unfinished waited, it stood after the first settling.
+-- All was settled, and so many rounds followed; nothing else happened, and nothing was short.
 pub record Recovers (old new : WorldState) : Type 0 where
   pub first : WorldState
   pub settles : GoesWell old first
   pub settled : IsSettled first
-  pub stands : AllWait old → AllStand old first
   pub rounds : List Round
   pub are : AreRounds rounds first new
   pub few : length rounds ≤ most_rounds

@@ -1,7 +1,8 @@
 -- Events that happen one after another, from a first world on.
-use Rattle.std.specs.Prelude.{◌≡◌, ◌⊎◌, List, [], ◌∷◌}
+use Rattle.std.specs.Prelude.{◌≡◌, ◌≢◌, ◌⊎◌, List, [], ◌∷◌, Contains}
 use Rattle.cfdp_header.specs.Files.{FileMap}
 use Rattle.cfdp_directives.specs.Put.{inbox_after}
+use Rattle.link_sim.specs.declared.event.AcceptedPut.{AcceptedPut}
 use Rattle.link_sim.specs.declared.event.Event.{Event}
 use Rattle.link_sim.specs.declared.event.Applied.{Applied}
 use Rattle.link_sim.specs.declared.recover_error.RecoverError.{RecoverError}
@@ -52,10 +53,16 @@ Called old new = Goes old new
 abbrev pub Led : (old new : WorldState) → Type 0
 Led old new = Many Called old new
 
+-- no two of these puts have the same id
+abbrev pub AreApart : List AcceptedPut → Type 0
+AreApart [] = Unit {0}
+AreApart (p ∷ puts) = ((q : AcceptedPut) → Contains puts q → q.id ≢ p.id) × AreApart puts
+
 -- What is promised of each world that they led to from a first one with these inboxes: each inbox
 -- is its first files, overwritten in order of the completions there by the files of the puts that
--- they name; and finished once, heard in full, told truly and sent truly.
+-- they name; finished once, heard in full, told truly and sent truly; and no number recurs.
 pub record KeepsPromises (inboxes : FileMap × FileMap) (w : WorldState) : Type 0 where
   pub inbox : (s : Side) → (at s (seen w)).inbox
       ≡ inbox_after (put_of (seen w)) (files_at s inboxes) (completions_at s (seen w))
   pub holds : (s : Side) → HoldsAt s (seen w)
+  pub apart : AreApart w.puts

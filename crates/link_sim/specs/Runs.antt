@@ -26,8 +26,9 @@ use Rattle.cfdp_receiver.specs.Steps.{ReceiverAfter, takes, expires}
 use Rattle.cfdp_entity.specs.Opening.{opens}
 use Rattle.cfdp_entity.specs.Seen.{Receives}
 use Rattle.cfdp_entity.specs.Steps.{sender_after, receiver_after}
-use Rattle.link_sim.specs.Exchange.{IsTrueForth, tells_complete, one_tells}
+use Rattle.link_sim.specs.Exchange.{IsTrueForth, tells_complete}
 use Rattle.link_sim.specs.Swapped.{IsSwapped}
+use Rattle.link_sim.specs.Waiting.{one_tells}
 use Rattle.link_sim.specs.Work.{opening_work}
 
 -- One transaction: its sender, its receiver or none yet, the PDUs on their way to the receiver and

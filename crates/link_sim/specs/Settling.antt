@@ -17,7 +17,6 @@ use Rattle.link_sim.specs.declared.settle_error.SettleError.{SettleError}
 use Rattle.link_sim.specs.declared.settle_error.SettleError.TheVariants.{NoMemory, StoreFailed, TableFull}
 use Rattle.link_sim.specs.Clean.{IsClean}
 use Rattle.link_sim.specs.Theorem.{WorldSeen, HoldsAt, Follows}
-use Rattle.link_sim.specs.Tracks.{RunsAlong}
 use Rattle.link_sim.specs.World.{WorldState, FindsNoMemory, NoneWaits, NoneWhole, Steps, WantsMemory, station_at, entity_at, side_in}
 
 -- Nothing is due at either station, no whole zone waits there, no flush would make a frame, and no
@@ -164,13 +163,11 @@ DropsWhereFull old new = (s : Side) → no_room s new ≢ no_room s old
 
 -- ---- how a settling goes
 -- Polls, flushes and deliveries led in order from the old world to the new one, no count of a
--- shortage differs at the end, a clean world stayed clean, and each transaction made a run of its
--- own.
+-- shortage differs at the end, and a clean world stayed clean.
 pub record GoesWellFrom (from upto : Event) (old new : WorldState) : Type 0 where
   pub only : SettlesFrom from upto old new
   pub spared : KeepsAll (all_shortages old) (all_shortages new)
   pub clean : IsClean old → IsClean new
-  pub runs : RunsAlong old new
 
 abbrev pub GoesWell : (old new : WorldState) → Type 0
 GoesWell old new = GoesWellFrom first_event first_event old new

@@ -1,10 +1,15 @@
 -- Which transactions a recovery brings to their end: those that wait below their limits.
-use Rattle.std.specs.Prelude.{◌≡◌, ◌⊎◌, ◌<◌, ℕ, Bool, true, false, List, Option, Some, None, Contains}
+use Rattle.std.specs.Prelude.{◌≡◌, ◌≢◌, ◌⊎◌, ◌<◌, ◌==◌, ◌&&◌, not, ℕ, Bool, true, false, List, Option, Some, None, Contains}
+use Rattle.std.specs.List.{list_any}
 use Rattle.cfdp_header.specs.declared.value.Header.{Header}
 use Rattle.cfdp_header.specs.declared.value.TransactionId.{TransactionId}
+use Rattle.cfdp_header.specs.Ids.{same_id}
 use Rattle.cfdp_directives.specs.declared.handler.Handler.TheVariants.{Ignore}
+use Rattle.cfdp_directives.specs.declared.indication.Indication.{Indication}
+use Rattle.cfdp_directives.specs.declared.indication.Indication.TheVariants as indication
 use Rattle.cfdp_directives.specs.declared.limits.Limits.{Limits}
 use Rattle.cfdp_directives.specs.declared.policy.Policy.{Policy}
+use Rattle.cfdp_directives.specs.Codes.{no_error, inactivity}
 use Rattle.cfdp_directives.specs.Content.{Content}
 use Rattle.cfdp_directives.specs.Grammar.{SpellsPdu}
 use Rattle.cfdp_sender.specs.declared.phase.SenderPhase.{SenderPhase}
@@ -13,9 +18,7 @@ use Rattle.cfdp_receiver.specs.declared.state.ReceiverPhase.{ReceiverPhase}
 use Rattle.cfdp_receiver.specs.declared.state.ReceiverPhase.TheVariants as receiving
 use Rattle.cfdp_entity.specs.Seen.{Seen, Sends, Receives}
 use Rattle.cfdp_entity.specs.Table.{record_of}
-use Rattle.link_sim.specs.Between.{IsUncancelled}
 use Rattle.link_sim.specs.Clean.{IsCompleteAt}
-use Rattle.link_sim.specs.Exchange.{spoils, one_tells}
 use Rattle.link_sim.specs.Observed.{seen}
 use Rattle.link_sim.specs.OneWay.{on_way}
 use Rattle.link_sim.specs.Sides.{other}
@@ -28,7 +31,26 @@ use Rattle.link_sim.specs.declared.side.Side.{Side}
 abbrev pub policy_at : Side → WorldState → Policy
 policy_at s w = (entity_at s w).config.policy
 
+-- ---- what was indicated of a transaction
+-- An end that isn't good, or what may lead to one: a fault other than inactivity, which may be
+-- ignored, an error at the end, or that the transaction was abandoned.
+abbrev pub spoils : TransactionId → Indication → Bool
+spoils id (indication.Fault of condition) = same_id id of && not (condition == inactivity)
+spoils id (indication.Abandoned of condition) = same_id id of
+spoils id (indication.Finished of condition delivery status) =
+    same_id id of && not (condition == no_error)
+spoils id _ = false
+
+-- whether one of the indications says this
+abbrev pub one_tells : (Indication → Bool) → List Indication → Bool
+one_tells says told = list_any says told
+
 -- ---- a record
+-- A record that sends isn't cancelled.
+abbrev pub IsUncancelled : Option Seen → Type 0
+IsUncancelled (Some (Sends x)) = x.phase ≢ sending.Cancelling
+IsUncancelled _ = Unit {0}
+
 abbrev pub is_open_sender : SenderPhase → Bool
 is_open_sender sending.Sending = true
 is_open_sender sending.Cancelling = true

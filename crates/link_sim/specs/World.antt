@@ -14,7 +14,7 @@ use Rattle.cfdp_entity.specs.declared.error.PutError.{PutError}
 use Rattle.cfdp_entity.specs.declared.error.PutError.TheVariants as put_errors
 use Rattle.cfdp_entity.specs.declared.error.CallError.{CallError}
 use Rattle.cfdp_entity.specs.declared.error.CallError.TheVariants as call_errors
-use Rattle.cfdp_entity.specs.Calls.{IsCalled, call_refusal}
+use Rattle.cfdp_entity.specs.Calls.{IsCalled, asks_inbox, call_refusal}
 use Rattle.cfdp_entity.specs.Entity.{EntityState, with_table, first_entity, raised}
 use Rattle.cfdp_entity.specs.Polling.{Place, Rests, turn, served}
 use Rattle.cfdp_entity.specs.Putting.{Accepts, IsPutRefusal, put_refusal, stored_by_error}
@@ -131,10 +131,9 @@ pub record Stays (s : Side) (old new : WorldState) : Type 0 where
 abbrev pub NoneWhole : Side → WorldState → Type 0
 NoneWhole s w = length (station_at s w).down.waiting < (station_at s w).down.link.zone
 
--- A call found no memory: nothing changed but, at most, how often the inbox of one station failed.
-pub record FindsNoMemory (s : Side) (old new : WorldState) : Type 0 where
-  pub stays : Stays s old new
-  pub failures : KeepsOutbox (station_at s old).entity (station_at s new).entity
+-- A call at this station found no memory: nothing changed.
+abbrev pub FindsNoMemory : Side → (old new : WorldState) → Type 0
+FindsNoMemory s old new = new ≡ old
 
 -- ---- calls of a station's user
 -- A put was accepted, and is the last one now.
@@ -164,10 +163,13 @@ Puts (did.Refused (refusal.Put by)) s source destination old new =
 Puts (did.Refused (refusal.Call by)) s source destination old new = ⊥
 Puts (did.Refused refusal.LossRunTooLong) s source destination old new = ⊥
 
--- A call on a transaction was one step of its record.
+-- A call on a transaction was one step of its record. Only one that gives up what is received may
+-- ask something of the inbox, and so fail there.
 pub record StepsAt (s : Side) (c : Call) (id : TransactionId) (old new : WorldState) : Type 0 where
   pub called : IsCalled c id (entity_at s old) (entity_at s new)
   pub failures : KeepsOutbox (station_at s old).entity (station_at s new).entity
+  pub inbox : asks_inbox c id (entity_at s old).table ≡ false
+      → (station_at s new).entity.inbox_failures ≡ (station_at s old).entity.inbox_failures
   pub links : KeepsLinks s old new
   pub counts : KeepsCounts old new
 
@@ -207,11 +209,12 @@ pub record KeepsMarks (s : Side) (old new : WorldState) : Type 0 where
 pub record SendsOne (s : Side) (old new : WorldState) : Type 0 where
   pub served : entity_at s new ≡ served storeds.Done (turn (entity_at s old)) (entity_at s old)
   pub spells : SpellsTurn (turn (entity_at s old)) (entity_at s old)
-  pub failures : KeepsOutbox (station_at s old).entity (station_at s new).entity
+  pub failures : KeepsFailures (station_at s old).entity (station_at s new).entity
   pub sends : let down = (station_at s old).down in let pdu = next_pdu (entity_at s old) in
       SendsMore (way_from s old) (way_from s new) (packet_of down.link down.packet_count pdu ∷ [])
       (pdu ∷ [])
   pub none_whole : NoneWhole s new
+  pub unflushed : (station_at s new).down.flushed ≡ false
   pub marks : KeepsMarks s old new
 
 -- The outbox failed to give the file data that were due, and that was counted: no PDU moved.
@@ -221,7 +224,7 @@ pub record FailsSource (s : Side) (old new : WorldState) : Type 0 where
   pub carries : data_at place (entity_at s old).table ≡ true
   pub failed : Counts storeds.Refused (station_at s old).entity.outbox_failures
       (station_at s new).entity.outbox_failures
-  pub inbox : (station_at s old).entity.inbox_failures ≤ (station_at s new).entity.inbox_failures
+  pub inbox : (station_at s new).entity.inbox_failures ≡ (station_at s old).entity.inbox_failures
   pub served : entity_at s new ≡ served storeds.Refused (turn (entity_at s old)) (entity_at s old)
   pub links : KeepsLinks s old new
   pub counts : KeepsCounts old new
@@ -238,6 +241,8 @@ pub record Fills (s : Side) (old new : WorldState) : Type 0 where
       (flush_of (packing (station_at s old).down)) []
   pub most : length (flush_of (packing (station_at s old).down)) ≤ 1
   pub none_whole : NoneWhole s new
+  pub flushed : flush_of (packing (station_at s old).down) ≡ []
+      → (station_at s new).down.flushed ≡ (station_at s old).down.flushed
   pub marks : KeepsMarks s old new
 
 abbrev pub Flushes : Applied → Side → (old new : WorldState) → Type 0

@@ -73,6 +73,10 @@ impl<W: Witness> MemoryWorld<W> {
 impl<W: Witness> Stations for MemoryWorld<W> {
     ghost world = { λ w. w };
 
+    fn comes_to(&mut self, step: usize) {
+        self.world.comes_to(step);
+    }
+
     fn apply(&mut self, event: &Event) -> Result<Applied, AllocError> {
         self.world.apply(event)
     }

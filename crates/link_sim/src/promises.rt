@@ -13,7 +13,7 @@ ghost use Rattle.link_sim.specs.Sound.{IsSound};
 ghost use Rattle.link_sim.specs.Exchanges.{ExpiresOn};
 ghost use Rattle.link_sim.specs.Tracks.{KeepsPutsOf, RunsAlong};
 ghost use Rattle.link_sim.specs.Theorem.{HoldsAt, FoldsAt, at, put_of, completions_at};
-ghost use Rattle.link_sim.specs.World.{WorldState, IsFirst, Stays, Steps, TakesPut, TellsTime, way_from, files_at};
+ghost use Rattle.link_sim.specs.World.{WorldState, IsFirst, entity_at, Stays, Steps, TakesPut, TellsTime, way_from, files_at};
 ghost use Rattle.link_sim.specs.WorldConfig.{IsWorldConfig};
 ghost use Rattle.link_sim.specs.WorldWork.{world_work};
 ghost use Rattle.link_sim.specs.declared.event.Applied.TheVariants as dids;
@@ -22,11 +22,19 @@ ghost use Rattle.link_sim.specs.declared.event.Event.{Event};
 ghost use Rattle.link_sim.specs.declared.side.Side.{Side};
 ghost use Rattle.link_sim.specs.declared.world_config.WorldConfig.{WorldConfig};
 
-/// Whatever calls are made on two stations from their start on, the promises hold of them.
+/// Whatever calls are made on two stations from their start on, the promises hold of them; and
+/// where all is settled and nothing went wrong so far, every put is complete.
 pub fn worlds_keep_the_promises()
-    ensures { (c : WorldConfig) (outboxes inboxes : FileMap × FileMap) (first now : WorldState)
+    ensures keeps { (c : WorldConfig) (outboxes inboxes : FileMap × FileMap) (first now : WorldState)
         → IsWorldConfig c → IsFirst c outboxes inboxes first → Led first now
         → KeepsPromises inboxes now }
+    ensures completes { (c : WorldConfig) (outboxes inboxes : FileMap × FileMap)
+        (first now : WorldState) → IsWorldConfig c → IsFirst c outboxes inboxes first
+        → Led first now → IsSettled now → IsClean now → AllComplete now }
+    // A station stays set up as it was.
+    ensures config { (c : WorldConfig) (outboxes inboxes : FileMap × FileMap)
+        (first now : WorldState) → IsWorldConfig c → IsFirst c outboxes inboxes first
+        → Led first now → (s : Side) → (entity_at s now).config ≡ (entity_at s first).config }
 {
     events_keep_the_promises();
 }
@@ -73,6 +81,8 @@ pub(crate) fn events_keep_the_promises()
         → KeepsAll (all_shortages old) (all_shortages new) → RunsAlong old new }
     ensures tells { (s : Side) (now : ℕ) (old new : WorldState) → IsSound old
         → TellsTime s now old new → ExpiresOn s now old new × KeepsPutsOf old new }
+    ensures config { (e : Event) (did : Applied) (old new : WorldState) (s : Side) → IsSound old
+        → Steps e did old new → (entity_at s new).config ≡ (entity_at s old).config }
     ensures full { (e : Event) (did : Applied) (old new : WorldState) → IsSound old → KeepsPuts old
         → Steps e did old new → DropsWhereFull old new }
     ensures full_none { (s : Side) (old new : WorldState) → Stays s old new

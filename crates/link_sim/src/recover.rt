@@ -4,7 +4,7 @@ ghost use Rattle.cfdp_timers.specs.ButInactivity.{OnlyInactivity};
 ghost use Rattle.cfdp_directives.specs.Put.{Put};
 ghost use Rattle.cfdp_header.specs.declared.value.TransactionId.{TransactionId};
 ghost use Rattle.link_sim.specs.Courses.{KeepsPuts};
-ghost use Rattle.link_sim.specs.Exchanges.{HasExchange};
+ghost use Rattle.link_sim.specs.Exchanges.{ExpiresOn, HasExchange};
 ghost use Rattle.link_sim.specs.Observed.{seen};
 ghost use Rattle.link_sim.specs.Recovering.{AreRounds, EndsBy, IsNext, IsRecovered, Recovers, Round, RoundEnds, TellsNext, TickEnds, armed_at};
 ghost use Rattle.link_sim.specs.Runs.{Exchange};
@@ -12,6 +12,7 @@ ghost use Rattle.link_sim.specs.Settling.{IsSettled, LeadsTo};
 ghost use Rattle.link_sim.specs.Sound.{IsSound};
 ghost use Rattle.link_sim.specs.Stages.{IsAtRest};
 ghost use Rattle.link_sim.specs.Theorem.{HoldsAt, Follows};
+ghost use Rattle.link_sim.specs.Tracks.{Advances, KeepsPutsOf};
 ghost use Rattle.link_sim.specs.Waiting.{AllWait, IgnoreInactivity, IsCompleted, IsUnfinished};
 ghost use Rattle.link_sim.specs.declared.recover_error.RecoverError.TheVariants as errors;
 ghost use Rattle.link_sim.specs.declared.side.Side.{Side};
@@ -63,7 +64,7 @@ impl<O: Outbox, I: Inbox, W: Witness> World<O, I, W> {
     {
         self.show_what_holds();
         self.show_what_is_kept();
-        self.settle()?;
+        self.settle_on()?;
         self.show_rest();
         for _round in 0..MOST_ROUNDS {
             if !self.recover_round()? {
@@ -82,7 +83,8 @@ impl<O: Outbox, I: Inbox, W: Witness> World<O, I, W> {
         requires settled { IsSettled self.old }
         ensures leads { LeadsTo (seen self.old) (seen self.new) }
         ensures round { IfOk result (λ was. was ≡ true
-            → (r : Round) × AreRounds (r ∷ []) self.old self.new) }
+            → (r : Round) × AreRounds (r ∷ []) self.old self.new
+            × (IgnoreInactivity self.old → Advances self.old self.new)) }
         ensures recovered { IfOk result (λ was. was ≡ false → IsRecovered self.new) }
         ensures same { IfOk result (λ was. was ≡ false → self.new ≡ self.old) }
         ensures kept { IfOk result (λ was. was ≡ false → IsSound self.new × KeepsPuts self.new) }
@@ -93,7 +95,7 @@ impl<O: Outbox, I: Inbox, W: Witness> World<O, I, W> {
             return Ok(false);
         };
         self.tell(side, now)?;
-        self.settle()?;
+        self.settle_on()?;
         self.show_rest();
         Ok(true)
     }
@@ -115,6 +117,9 @@ impl<O: Outbox, I: Inbox, W: Witness> World<O, I, W> {
         requires next { IsNext side now self.old }
         ensures leads { LeadsTo (seen self.old) (seen self.new) }
         ensures tells { OnOk result (TellsNext side now self.old self.new) }
+        // Timers expired that were waited for, and puts stayed.
+        ensures expires { OnOk result (ExpiresOn side now self.old self.new
+            × KeepsPutsOf self.old self.new) }
         ensures ends { IfErr result (λ error. TickEnds error side now self.old self.new) }
     {
         let before = self.shortages();

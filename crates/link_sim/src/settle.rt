@@ -2,7 +2,8 @@
 ghost use Rattle.std.specs.Prelude.{◌≡◌, ◌<◌, true, false, IfErr, IfOk, OnOk};
 ghost use Rattle.link_sim.specs.Clean.{AllComplete, IsClean};
 ghost use Rattle.link_sim.specs.Observed.{seen};
-ghost use Rattle.link_sim.specs.Settling.{Ends, GoesWell, GoesWellFrom, HasCause, HasCauseFrom, HasSent, IsOfSettling, IsSettled, LeadsTo, all_shortages, next_of};
+ghost use Rattle.link_sim.specs.Onward.{GoesOn, GoesOnFrom};
+ghost use Rattle.link_sim.specs.Settling.{Ends, GoesWell, HasCause, HasCauseFrom, HasSent, IsOfSettling, IsSettled, LeadsTo, all_shortages, next_of};
 ghost use Rattle.link_sim.specs.Theorem.{HoldsAt, Follows};
 ghost use Rattle.link_sim.specs.World.{NoneWhole, Steps};
 ghost use Rattle.link_sim.specs.WorldWork.{world_work};
@@ -45,6 +46,19 @@ impl<O: Outbox, I: Inbox, W: Witness> World<O, I, W> {
         // Where the world was clean, every put is complete and closed at both ends.
         ensures completes { OnOk result (IsClean self.old → AllComplete self.new) }
     {
+        self.settle_on()
+    }
+
+    /// As `settle`, for calls here that rest on more than it promises.
+    pub(crate) fn settle_on(&mut self) -> Result<(), SettleError>
+        ensures settled { OnOk result (IsSettled self.new) }
+        ensures follows { Follows (seen self.old) (seen self.new) }
+        ensures holds { (side : Side) → HoldsAt side (seen self.new) }
+        // All went well, and each transaction made a run of its own.
+        ensures well { OnOk result (GoesOn self.old self.new) }
+        ensures cause { IfErr result (λ error. HasCause error self.old self.new) }
+        ensures completes { OnOk result (IsClean self.old → AllComplete self.new) }
+    {
         self.show_what_holds();
         while self.settle_round()? {}
         self.show_completion();
@@ -80,7 +94,7 @@ impl<O: Outbox, I: Inbox, W: Witness> World<O, I, W> {
         ensures less { IfOk result (λ happened. happened ≡ true
             → world_work self.new < world_work self.old) }
         ensures settled { IfOk result (λ happened. happened ≡ false → IsSettled self.new) }
-        ensures well { OnOk result (GoesWell self.old self.new) }
+        ensures well { OnOk result (GoesOn self.old self.new) }
         ensures cause { IfErr result (λ error. HasCause error self.old self.new) }
     {
         let one = self.send_all(Side::One)?;
@@ -98,7 +112,7 @@ impl<O: Outbox, I: Inbox, W: Witness> World<O, I, W> {
             → world_work self.new < world_work self.old) }
         ensures same { IfOk result (λ happened. happened ≡ false → self.new ≡ self.old) }
         ensures sent { IfOk result (λ happened. happened ≡ false → HasSent side self.new) }
-        ensures well { OnOk result (GoesWellFrom (events.Poll side)
+        ensures well { OnOk result (GoesOnFrom (events.Poll side)
             (next_of (events.Flush side)) self.old self.new) }
         ensures cause { IfErr result (λ error. HasCauseFrom (events.Poll side) error
             self.old self.new) }
@@ -117,7 +131,7 @@ impl<O: Outbox, I: Inbox, W: Witness> World<O, I, W> {
         ensures same { IfOk result (λ happened. happened ≡ false → self.new ≡ self.old) }
         // There is nothing to do for it in the end.
         ensures idle { IfOk result (λ happened. Steps event.now did.Nothing self.new self.new) }
-        ensures well { OnOk result (GoesWellFrom event.now (next_of event.now) self.old self.new) }
+        ensures well { OnOk result (GoesOnFrom event.now (next_of event.now) self.old self.new) }
         ensures cause { IfErr result (λ error. HasCauseFrom event.now error self.old self.new) }
     {
         let mut happened = false;
@@ -137,9 +151,9 @@ impl<O: Outbox, I: Inbox, W: Witness> World<O, I, W> {
             → Steps event.now did.Nothing self.old self.new) }
         // Nothing was short in it; an error tells what was, with the lowest number.
         ensures well { IfOk result (λ moved. moved ≡ true
-            → GoesWellFrom event.now event.now self.old self.new) }
+            → GoesOnFrom event.now event.now self.old self.new) }
         ensures well_last { IfOk result (λ moved. moved ≡ false
-            → GoesWellFrom event.now (next_of event.now) self.old self.new) }
+            → GoesOnFrom event.now (next_of event.now) self.old self.new) }
         ensures ends { IfErr result (λ error. Ends error event.now self.old self.new) }
     {
         let before = self.shortages();

@@ -6,7 +6,7 @@ ghost use Rattle.std.specs.Prelude.{◌≡◌, IfErr, IfOk, OnErr, OnOk};
 ghost use Rattle.link_sim.specs.Recovering.{EndsBy, IsRecovered, Recovers};
 ghost use Rattle.link_sim.specs.Settling.{GoesWell, HasCause, IsSettled};
 ghost use Rattle.link_sim.specs.Spreading.{BurstFindsNoMemory, Bursts, SpreadFindsNoMemory, Spreads};
-ghost use Rattle.link_sim.specs.World.{WorldState, FindsNoMemory, Steps, WantsMemory, entity_at, side_in};
+ghost use Rattle.link_sim.specs.World.{WorldState, Steps, WantsMemory, entity_at};
 
 use crate::event::{Applied, Event};
 use crate::recover_error::RecoverError;
@@ -21,6 +21,11 @@ pub trait Stations: Drop {
     /// Both stations, and the frames between them.
     ghost world: { Self → WorldState };
 
+    /// Says which step of a script, or of another user, comes next: what happens is of it, until
+    /// another is told. To the stations it does nothing.
+    fn comes_to(&mut self, step: usize)
+        ensures { world self.new ≡ world self.old };
+
     /// Lets one thing happen, and says what it did.
     ///
     /// # Errors
@@ -28,8 +33,7 @@ pub trait Stations: Drop {
     /// `AllocError` only where the memory for it was refused: nothing happened then.
     fn apply(&mut self, event: &Event) -> Result<Applied, AllocError>
         ensures did { IfOk result (λ did. Steps event.now did (world self.old) (world self.new)) }
-        ensures err { OnErr result
-            (FindsNoMemory (side_in event.now) (world self.old) (world self.new)) }
+        ensures err { OnErr result (world self.new ≡ world self.old) }
         ensures lacks { OnErr result (WantsMemory event.now) };
 
     /// Polls a station until nothing is due there, and flushes it after each PDU.

@@ -10,7 +10,7 @@ ghost use Rattle.link_sim.specs.declared.event.Applied.TheVariants as dids;
 ghost use Rattle.link_sim.specs.AtStation.{AddsNone, CarriesOn, FlushesAt, HearsAt, IsReady, IsSameEnd, IsSameMarks, KeepsAt, KeepsOutbox, PollsAt, PutsAt, StrikesAt, answered};
 ghost use Rattle.link_sim.specs.OneWay.{IsCarried, IsOneWay, IsRested};
 ghost use Rattle.link_sim.specs.World as world;
-ghost use Rattle.link_sim.specs.World.{station_at, link_from, IsFirst, FindsNoMemory, Steps, side_in};
+ghost use Rattle.link_sim.specs.World.{station_at, link_from, IsFirst, Steps};
 ghost use Rattle.link_sim.specs.WorldConfig.{IsWorldConfig};
 ghost use Rattle.link_sim.specs.declared.side.Side.{Side};
 ghost use Rattle.link_sim.specs.declared.side.Side.TheVariants as sides;
@@ -144,7 +144,7 @@ impl<O: Outbox, I: Inbox> TwoStations<O, I> {
     /// Lets one thing happen, and says what it did.
     pub(crate) fn step(&mut self, event: &Event) -> Result<Applied, AllocError>
         ensures steps { IfOk result (λ did. Steps event.now did self.old self.new) }
-        ensures err { OnErr result (FindsNoMemory (side_in event.now) self.old self.new) }
+        ensures err { OnErr result (self.new ≡ self.old) }
         ensures lacks { OnErr result (world.WantsMemory event.now) }
     {
         match event {
@@ -202,7 +202,7 @@ impl<O: Outbox, I: Inbox> TwoStations<O, I> {
     ) -> Result<Applied, AllocError>
         ensures puts { IfOk result (λ did. world.Puts did side source.now destination.now self.old
             self.new) }
-        ensures err { OnErr result (FindsNoMemory side self.old self.new) }
+        ensures err { OnErr result (self.new ≡ self.old) }
     {
         let alloc = self.alloc;
         match side {
@@ -263,7 +263,7 @@ impl<O: Outbox, I: Inbox> TwoStations<O, I> {
     fn tick(&mut self, side: Side, now: u64) -> Result<Applied, AllocError>
         ensures ticks { IfOk result (λ did. world.IsApplied did (world.TellsTime side now self.old
             self.new)) }
-        ensures err { OnErr result (FindsNoMemory side self.old self.new) }
+        ensures err { OnErr result (self.new ≡ self.old) }
     {
         match side {
             Side::One => tick_at(&mut self.one, &mut self.ticks, now),
@@ -302,7 +302,7 @@ fn put_at<O: Outbox, I: Inbox>(
 ) -> Result<Applied, AllocError>
     ensures puts { IfOk result (λ did. PutsAt did source.now destination.now
         station.old.entity station.new.entity puts.old.items puts.new.items) }
-    ensures err { OnErr result ((station.new.entity ≡ station.old.entity)
+    ensures err { OnErr result ((station.new ≡ station.old)
         × (puts.new.items ≡ puts.old.items)) }
     ensures link { KeepsLink station.old station.new }
 {
@@ -334,8 +334,7 @@ fn tick_at<O: Outbox, I: Inbox>(
         × (station.new.entity.state
         ≡ with_table station.old.entity.state station.new.entity.state.table)
         × (ticks.new ≡ raised ticks.old)) }
-    ensures err { OnErr result ((station.new.entity.state ≡ station.old.entity.state)
-        × (ticks.new ≡ ticks.old)) }
+    ensures err { OnErr result ((station.new ≡ station.old) × (ticks.new ≡ ticks.old)) }
     ensures failures { KeepsOutbox station.old.entity station.new.entity }
     ensures link { KeepsLink station.old station.new }
 {

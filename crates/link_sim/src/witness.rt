@@ -1,15 +1,33 @@
 //! One who looks on while events happen in a world.
+use crate::event::Event;
 use crate::frame_link::FrameLink;
+use cfdp_station::Station;
+use cfdp_store::{Inbox, Outbox};
 
 /// One who looks on while events happen in a world, and changes nothing there.
 pub trait Witness: Drop {
-    /// Sees, behind an event, all frames that the first and the second station sent, with their
-    /// marks. It is called once for each event that was asked for, also where that did nothing, was
-    /// refused or found no memory.
-    fn saw(&mut self, from_one: &FrameLink, from_two: &FrameLink);
+    /// Sees an event, and behind it both stations and all frames that each sent, with their marks;
+    /// what is of the first station stands first. It is called once for each event that was asked
+    /// for, also where that did nothing, was refused or found no memory.
+    fn saw<O: Outbox, I: Inbox>(
+        &mut self,
+        event: &Event,
+        stations: (&Station<O, I>, &Station<O, I>),
+        frames: (&FrameLink, &FrameLink),
+    );
+
+    /// Hears which step the world's user comes to: events are of it, until it hears of another.
+    fn comes_to(&mut self, step: usize);
 }
 
 /// A witness that looks at nothing.
 impl Witness for () {
-    fn saw(&mut self, _from_one: &FrameLink, _from_two: &FrameLink) {}
+    fn saw<O: Outbox, I: Inbox>(
+        &mut self,
+        _event: &Event,
+        _stations: (&Station<O, I>, &Station<O, I>),
+        _frames: (&FrameLink, &FrameLink),
+    ) {}
+
+    fn comes_to(&mut self, _step: usize) {}
 }

@@ -10,7 +10,7 @@ ghost use Rattle.link_sim.specs.Running.{Happens, Ran};
 ghost use Rattle.link_sim.specs.Settling.{DropsWhereFull, IsOfSettling, KeepsAll, all_shortages};
 ghost use Rattle.link_sim.specs.Theorem.{HoldsAt, FoldsAt, at, put_of, completions_at};
 ghost use Rattle.link_sim.specs.Tracks.{KeepsPutsOf, RunsAlong};
-ghost use Rattle.link_sim.specs.World.{IsFirst, FindsNoMemory, PublishesAt, Steps, WantsMemory, published_at, station_at, entity_at, link_from, seen_link, side_in, files_at};
+ghost use Rattle.link_sim.specs.World.{IsFirst, PublishesAt, Steps, WantsMemory, published_at, station_at, entity_at, link_from, seen_link, files_at};
 ghost use Rattle.link_sim.specs.WorldConfig.{IsWorldConfig};
 ghost use Rattle.link_sim.specs.WorldWork.{world_work};
 ghost use Rattle.link_sim.specs.declared.event.Applied.TheVariants as dids;
@@ -161,7 +161,7 @@ impl<O: Outbox, I: Inbox, W: Witness> World<O, I, W> {
     pub fn apply(&mut self, event: &Event) -> Result<Applied, AllocError>
         // The event did what it does, by the stations' own steps, and nothing else changed.
         ensures steps { IfOk result (λ did. Steps event.now did self.old self.new) }
-        ensures err { OnErr result (FindsNoMemory (side_in event.now) self.old self.new) }
+        ensures err { OnErr result (self.new ≡ self.old) }
         ensures lacks { OnErr result (WantsMemory event.now) }
 
         // A put that was accepted stays what it is.
@@ -185,11 +185,18 @@ impl<O: Outbox, I: Inbox, W: Witness> World<O, I, W> {
         self.happen(event)
     }
 
+    /// Tells the witness which step the user of the world comes to.
+    pub fn comes_to(&mut self, step: usize)
+        ensures { self.new ≡ self.old }
+    {
+        self.witness.comes_to(step);
+    }
+
     /// As `apply`, for calls here that rest on more than it promises.
     pub(crate) fn happen(&mut self, event: &Event) -> Result<Applied, AllocError>
         // The event did what it does, by the stations' own steps, and nothing else changed.
         ensures steps { IfOk result (λ did. Steps event.now did self.old self.new) }
-        ensures err { OnErr result (FindsNoMemory (side_in event.now) self.old self.new) }
+        ensures err { OnErr result (self.new ≡ self.old) }
         ensures lacks { OnErr result (WantsMemory event.now) }
         // A put that was accepted stays what it is.
         ensures puts { FindsMore (put_of (seen self.old)) (put_of (seen self.new)) }
@@ -226,11 +233,20 @@ impl<O: Outbox, I: Inbox, W: Witness> World<O, I, W> {
         self.stations.show_rest();
         let did = self.stations.step(event);
         self.stations.show_rest();
-        let from_one = self.stations.frames(Side::One);
-        let from_two = self.stations.frames(Side::Two);
-        self.witness.saw(from_one, from_two);
+        show(&self.stations, &mut self.witness, event);
         did
     }
+}
+
+/// Shows an event, and what it left, to a witness.
+fn show<O: Outbox, I: Inbox, W: Witness>(
+    stations: &TwoStations<O, I>,
+    witness: &mut W,
+    event: &Event,
+) {
+    let ends = (stations.station(Side::One), stations.station(Side::Two));
+    let frames = (stations.frames(Side::One), stations.frames(Side::Two));
+    witness.saw(event, ends, frames);
 }
 
 /// Lets a value go, of whatever type: here no more need be known of it.

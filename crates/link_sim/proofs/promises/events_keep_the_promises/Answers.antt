@@ -143,3 +143,11 @@ returns-clause-tells c s now old new sound h =
     let laws : EntityLaws = record { in_whole = c.a_part_has_no_more.ensures; put = kept.put; called = kept.called; ticked = kept.ticked; heard = kept.heard; dropped = kept.dropped; served_by = kept.served; put_on = on.put; called_on = on.called; ticked_on = on.ticked; heard_on = on.heard; dropped_on = on.dropped; served_on = on.served; sends = c.an_entity_sends_the_truth.ensures } in
     let m : Moves old new = event-moves laws old new sound (event.Tick s now) dids.Applied h in
     (expires-on c.records_stay_for_good.ensures.steps s now old new sound h (puts-same laws old new sound m h.puts), puts-kept-of laws old new sound m h.puts)
+
+pub returns-clause-config : goal.returns-clause-config
+returns-clause-config c e did old new s sound h =
+    let kept = c.an_entity_keeps_the_truth.ensures in
+    let on = c.an_entity_goes_on.ensures in
+    let laws : EntityLaws = record { in_whole = c.a_part_has_no_more.ensures; put = kept.put; called = kept.called; ticked = kept.ticked; heard = kept.heard; dropped = kept.dropped; served_by = kept.served; put_on = on.put; called_on = on.called; ticked_on = on.ticked; heard_on = on.heard; dropped_on = on.dropped; served_on = on.served; sends = c.an_entity_sends_the_truth.ensures } in
+    let m : Moves old new = event-moves laws old new sound e did h in
+    (m.sides s).goes.config

@@ -24,6 +24,7 @@ returns-then-before-frames-clause-flushes g c =
           c.in_ok-make_room.ensures.kept e.flushed p.way p.fixed p.marks p.all).1;
       most = e.flushed.one;
       none_whole = (let zone = ap (λ x. x.zone) p.fixed.0 in omega (arith, p.all, zone));
+      flushed = λ (x : flush_of (packing old.down) ≡ []). p.fixed.3 ∙ ap (λ y. y.flushed) (e.flushed.same x);
       more = omega (arith, before, after, c.if-before-frames.true);
     }
 

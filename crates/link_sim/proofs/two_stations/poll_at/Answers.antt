@@ -1,6 +1,5 @@
-use Rattle.std.proofs.Common.{◌≡◌, ◌≤◌, ℕ, List, ap, sym, subst, ◌∙◌, inl, arith}
+use Rattle.std.proofs.Common.{◌≡◌, ℕ, List, ap, subst, ◌∙◌, inl, arith}
 use Rattle.link_stack.specs.Upward.{LinkReceiverState}
-use Rattle.cfdp_entity.specs.Entity.{Counted}
 use Rattle.cfdp_entity.specs.Gives.{CountsOutbox}
 use Rattle.cfdp_station.specs.declared.polled.Polled.{Polled}
 use Rattle.cfdp_station.specs.declared.polled.Polled.TheVariants.{Moved}
@@ -22,12 +21,13 @@ returns-in-Moved-clause-polls g c =
       spells = e.spells c.in-Moved.is;
       failures = (
         ap (λ x. x.outbox_failures) p.rest.0 ∙ subst (λ (a : Polled). CountsOutbox (stored_by_poll a) old.entity.outbox_failures c.poll.new.self.entity.outbox_failures) c.in-Moved.is e.counts,
-        subst (λ (x : Counted). old.entity.inbox_failures ≤ x.inbox_failures) (sym p.rest.0) e.grows,
+        ap (λ x. x.inbox_failures) p.rest.0 ∙ e.inbox,
       );
       sends = λ (up : LinkReceiverState) (is : IsCarried old.down c.args.link.now up).
           (moved_on old.down c.poll.new.self.down c.pull_all.new.station.down c.args.link.now c.make_room.new.self c.pull_all.new.link up pdu is
           c.in_ok-make_room.ensures.kept moved.sent p.way p.fixed p.marks p.all).1;
       none_whole = (let zone = ap (λ x. x.zone) p.fixed.0 in omega (arith, p.all, zone));
+      unflushed = p.fixed.3 ∙ moved.sent.unflushed;
     })
 
 pub returns-in-Moved-clause-carried : goal.returns-in-Moved-clause-carried

@@ -1,7 +1,8 @@
-use Rattle.std.proofs.Common.{◌≡◌, inl, inr, sym, subst, arith}
+use Rattle.std.proofs.Common.{◌≡◌, ◌∙◌, inl, inr, sym, subst, arith}
 use Rattle.std.proofs.lemmas.Result.{err_from_is_err_and}
 use Rattle.link_sim.specs.Observed.{seen}
-use Rattle.link_sim.specs.Recovering.{Recovers}
+use Rattle.link_sim.specs.Onward.{RecoversOn}
+use Rattle.link_sim.specs.Recovering.{Recovers, most_rounds}
 use Rattle.link_sim.specs.World.{WorldState}
 use Rattle.link_sim.specs.declared.settle_error.SettleError.{SettleError}
 use Rattle.link_sim.proofs.Folding.{leads-both}
@@ -13,9 +14,9 @@ use Rattle.link_sim.proofs.world.World.recover.Goals as goal
 
 pub loop-round-init : goal.loop-round-init
 loop-round-init g c = record {
-  leads = record { follows = λ _. c.settle.ensures.follows; holds = λ _. c.settle.ensures.holds };
-  run = run-none c.args.self.now c.settle.new.self c.in_ok-settle.ensures.well c.in_ok-settle.ensures.settled
-      (first-stand first-laws c.args.self.now c.settle.new.self c.show_what_is_kept.ensures.0 c.show_what_is_kept.ensures.1 c.in_ok-settle.ensures.well.runs (λ s put e own has. c.show_rest.ensures c.in_ok-settle.ensures.settled s put e has));
+  leads = record { follows = λ _. c.settle_on.ensures.follows; holds = λ _. c.settle_on.ensures.holds };
+  run = run-none c.args.self.now c.settle_on.new.self c.in_ok-settle_on.ensures.well c.in_ok-settle_on.ensures.settled
+      (first-stand first-laws c.args.self.now c.settle_on.new.self c.show_what_is_kept.ensures.0 c.show_what_is_kept.ensures.1 c.in_ok-settle_on.ensures.well.runs (λ s put e own has. c.show_rest.ensures c.in_ok-settle_on.ensures.settled s put e has));
 }
 
 pub loop-round-preserved : goal.loop-round-preserved
@@ -23,20 +24,20 @@ loop-round-preserved g c =
     let round = c.in_ok-recover_round.ensures.round c.if-not-branch.false in
     record {
       leads = leads-both (seen c.args.self.now) (seen c.loop-round.self) (seen c.recover_round.new.self) c.loop-round.invariant.leads c.recover_round.ensures.leads;
-      run = run-more c.loop-round._round c.args.self.now c.loop-round.self c.recover_round.new.self c.loop-round-test.true c.loop-round.invariant.run round.0 round.1;
+      run = run-more c.loop-round._round c.args.self.now c.loop-round.self c.recover_round.new.self c.loop-round-test.true c.loop-round.invariant.run round.0 round.1 round.2;
     }
 
-pub returns-in_err-settle-clause-cause : goal.returns-in_err-settle-clause-cause
-returns-in_err-settle-clause-cause g c =
+pub returns-in_err-settle_on-clause-cause : goal.returns-in_err-settle_on-clause-cause
+returns-in_err-settle_on-clause-cause g c =
     let p = err_from_is_err_and c.from_residual.result c.from_residual.ensures.1 in
-    let e : SettleError = c.in_err-settle.field-0.0 in
-    ended-by c.from_residual.result p.0 e c.args.self.now c.settle.new.self p.1 p.2 (inl c.in_err-settle.ensures.cause)
+    let e : SettleError = c.in_err-settle_on.field-0.0 in
+    ended-by c.from_residual.result p.0 e c.args.self.now c.settle_on.new.self p.1 p.2 (inl c.in_err-settle_on.ensures.cause)
 
 pub returns-in_err-recover_round-clause-cause : goal.returns-in_err-recover_round-clause-cause
 returns-in_err-recover_round-clause-cause g c =
     let p = err_from_is_err_and c.from_residual-in_err-recover_round.result c.from_residual-in_err-recover_round.ensures.1 in
     let e : SettleError = c.in_err-recover_round.field-0.0 in
-    ended-by c.from_residual-in_err-recover_round.result p.0 e c.args.self.now c.recover_round.new.self p.1 p.2 (inr (c.loop-round.self, c.loop-round.invariant.run.run, c.in_err-recover_round.ensures.ends))
+    ended-by c.from_residual-in_err-recover_round.result p.0 e c.args.self.now c.recover_round.new.self p.1 p.2 (inr (c.loop-round.self, c.loop-round.invariant.run.on.run, c.in_err-recover_round.ensures.ends))
 
 pub returns-in-Some-clause-cause : goal.returns-in-Some-clause-cause
 returns-in-Some-clause-cause g c =
@@ -57,7 +58,7 @@ returns-then-not-branch-clause-holds g c = (leads-both (seen c.args.self.now) (s
 pub returns-then-not-branch-clause-well : goal.returns-then-not-branch-clause-well
 returns-then-not-branch-clause-well g c =
     let same : c.recover_round.new.self ≡ c.loop-round.self = c.in_ok-recover_round.ensures.same c.if-not-branch.true in
-    subst (λ (w : WorldState). Recovers c.args.self.now w) (sym same) c.loop-round.invariant.run.run
+    subst (λ (w : WorldState). Recovers c.args.self.now w) (sym same) c.loop-round.invariant.run.on.run
 
 pub returns-in-None-clause-follows : goal.returns-in-None-clause-follows
 returns-in-None-clause-follows g c = c.loop-round.invariant.leads.follows c.show_what_holds.ensures
@@ -75,12 +76,12 @@ pub returns-in-None-clause-recovered : goal.returns-in-None-clause-recovered
 returns-in-None-clause-recovered g c = record { settled = c.loop-round.invariant.run.rests; only_inactivity = c.in-None.ensures }
 
 pub returns-in-None-clause-well : goal.returns-in-None-clause-well
-returns-in-None-clause-well g c = c.loop-round.invariant.run.run
+returns-in-None-clause-well g c = c.loop-round.invariant.run.on.run
 
-pub returns-in_err-settle-clause-ends : goal.returns-in_err-settle-clause-ends
-returns-in_err-settle-clause-ends g c =
+pub returns-in_err-settle_on-clause-ends : goal.returns-in_err-settle_on-clause-ends
+returns-in_err-settle_on-clause-ends g c =
     let p = err_from_is_err_and c.from_residual.result c.from_residual.ensures.1 in
-    other-error c.from_residual.result p.0 c.in_err-settle.field-0.0 _ p.1 p.2
+    other-error c.from_residual.result p.0 c.in_err-settle_on.field-0.0 _ p.1 p.2
 
 pub returns-in_err-recover_round-clause-ends : goal.returns-in_err-recover_round-clause-ends
 returns-in_err-recover_round-clause-ends g c =
@@ -89,17 +90,17 @@ returns-in_err-recover_round-clause-ends g c =
 
 pub returns-in-Some-clause-ends : goal.returns-in-Some-clause-ends
 returns-in-Some-clause-ends g c k =
-    absurd (not-armed c.args.self.now c.loop-round.self
-    (stays-armed c.loop-round._round c.args.self.now c.loop-round.self c.in-Some.field-0.0 c.in-Some.field-0.1 (omega (arith, c.loop-round-test.false, c.loop-round.auto._round-end)) c.loop-round.invariant.run c.in-Some.ensures)
+    let most : c.loop-round._round ≡ most_rounds = omega (arith, c.loop-round-test.false, c.loop-round.auto._round-end) in
+    absurd (not-armed c.args.self.now c.loop-round.self c.loop-round.invariant.run.on (c.loop-round.invariant.run.count ∙ most)
     c.show_what_is_kept-2.ensures.1 k.0 k.1)
 
 pub returns-then-not-branch-clause-completes : goal.returns-then-not-branch-clause-completes
 returns-then-not-branch-clause-completes g c k id unfinished =
     let same : c.recover_round.new.self ≡ c.loop-round.self = c.in_ok-recover_round.ensures.same c.if-not-branch.true in
-    all-completed c.args.self.now c.recover_round.new.self (subst (λ (w : WorldState). Recovers c.args.self.now w) (sym same) c.loop-round.invariant.run.run) k.0 k.1
+    all-completed c.args.self.now c.recover_round.new.self (subst (λ (w : WorldState). RecoversOn c.args.self.now w) (sym same) c.loop-round.invariant.run.on) k.0 k.1
     (c.in_ok-recover_round.ensures.kept c.if-not-branch.true).0 (c.in_ok-recover_round.ensures.recovered c.if-not-branch.true) id unfinished
 
 pub returns-in-None-clause-completes : goal.returns-in-None-clause-completes
 returns-in-None-clause-completes g c k id unfinished =
-    all-completed c.args.self.now c.loop-round.self c.loop-round.invariant.run.run k.0 k.1 c.show_what_is_kept-2.ensures.0
+    all-completed c.args.self.now c.loop-round.self c.loop-round.invariant.run.on k.0 k.1 c.show_what_is_kept-2.ensures.0
     (record { settled = c.loop-round.invariant.run.rests; only_inactivity = c.in-None.ensures }) id unfinished

@@ -7,7 +7,7 @@ use Rattle.link_sim.specs.WorldWork.{world_work}
 use Rattle.link_sim.specs.declared.event.Applied.TheVariants as did
 use Rattle.link_sim.specs.declared.settle_error.SettleError.{SettleError}
 use Rattle.link_sim.proofs.Folding.{leads-none, leads-both}
-use Rattle.link_sim.proofs.Causes.{well-then, cause-here, err-then, nothing-same}
+use Rattle.link_sim.proofs.Causes.{on-then, cause-here, err-then, nothing-same}
 use Rattle.link_sim.proofs.world.World.repeat.Goals as goal
 
 pub loop-happened-init : goal.loop-happened-init
@@ -29,7 +29,7 @@ loop-happened-preserved g c =
       most = omega (arith, most, less);
       less = λ e. omega (arith, most, less);
       same = λ e. absurd cc;
-      well = inr (well-then c.args.event.now c.args.event.now c.args.event.now c.args.self.now c.loop-happened.self c.settle_by.new.self i.well (c.in_ok-settle_by.ensures.well c.if-branch.true));
+      well = inr (on-then c.args.event.now c.args.event.now c.args.event.now c.args.self.now c.loop-happened.self c.settle_by.new.self i.well (c.in_ok-settle_by.ensures.well c.if-branch.true));
     }
 
 pub returns-in_err-settle_by-clause-leads : goal.returns-in_err-settle_by-clause-leads
@@ -67,4 +67,4 @@ returns-clause-idle g c =
     subst (λ (w : WorldState). Steps c.args.event.now did.Nothing w c.settle_by.new.self) (sym same) idle
 
 pub returns-clause-well : goal.returns-clause-well
-returns-clause-well g c = well-then c.args.event.now c.args.event.now (next_of c.args.event.now) c.args.self.now c.loop-happened.self c.settle_by.new.self c.loop-happened.invariant.well (c.in_ok-settle_by.ensures.well_last c.if-branch.false)
+returns-clause-well g c = on-then c.args.event.now c.args.event.now (next_of c.args.event.now) c.args.self.now c.loop-happened.self c.settle_by.new.self c.loop-happened.invariant.well (c.in_ok-settle_by.ensures.well_last c.if-branch.false)

@@ -2,7 +2,7 @@ use Rattle.std.proofs.Common.{◌≡◌, ◌≤◌, ◌<◌, true, false}
 use Rattle.link_sim.specs.Observed.{seen}
 use Rattle.link_sim.specs.Settling.{LeadsTo}
 use Rattle.link_sim.specs.WorldWork.{world_work}
-use Rattle.link_sim.proofs.Causes.{WellSoFar}
+use Rattle.link_sim.proofs.Causes.{OnSoFar}
 use Rattle.link_sim.proofs.world.World.repeat.Given as goal
 
 abbrev pub invariant-loop-happened : goal.invariant-loop-happened
@@ -11,7 +11,7 @@ invariant-loop-happened g l = record {
   most : world_work l.self ≤ world_work l.initial.self;
   less : l.happened ≡ true → world_work l.self < world_work l.initial.self;
   same : l.happened ≡ false → l.self ≡ l.initial.self;
-  well : WellSoFar l.event l.event l.initial.self l.self;
+  well : OnSoFar l.event l.event l.initial.self l.self;
 }
 
 abbrev pub decreases-loop-happened : goal.decreases-loop-happened

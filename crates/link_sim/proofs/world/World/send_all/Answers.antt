@@ -6,7 +6,7 @@ use Rattle.link_sim.specs.declared.event.Event.TheVariants as event
 use Rattle.link_sim.specs.WorldWork.{world_work}
 use Rattle.link_sim.specs.declared.settle_error.SettleError.{SettleError}
 use Rattle.link_sim.proofs.Folding.{leads-both}
-use Rattle.link_sim.proofs.Causes.{lowers-most, well-both, cause-then, err-then}
+use Rattle.link_sim.proofs.Causes.{lowers-most, on-both, cause-then, err-then}
 use Rattle.link_sim.proofs.world.World.send_all.Goals as goal
 
 pub returns-in_err-flushed-clause-leads : goal.returns-in_err-flushed-clause-leads
@@ -35,7 +35,7 @@ returns-else-polled-clause-less g c happened =
     omega (arith, less, same)
 
 pub returns-then-polled-clause-well : goal.returns-then-polled-clause-well
-returns-then-polled-clause-well g c = well-both (event.Poll c.args.side) (event.Flush c.args.side) (next_of (event.Flush c.args.side)) c.args.self.now c.repeat.new.self c.repeat-2.new.self c.in_ok-polled.ensures.well c.in_ok-flushed.ensures.well
+returns-then-polled-clause-well g c = on-both (event.Poll c.args.side) (event.Flush c.args.side) (next_of (event.Flush c.args.side)) c.args.self.now c.repeat.new.self c.repeat-2.new.self c.in_ok-polled.ensures.well c.in_ok-flushed.ensures.well
 
 pub returns-else-polled-clause-well : goal.returns-else-polled-clause-well
-returns-else-polled-clause-well g c = well-both (event.Poll c.args.side) (event.Flush c.args.side) (next_of (event.Flush c.args.side)) c.args.self.now c.repeat.new.self c.repeat-2.new.self c.in_ok-polled.ensures.well c.in_ok-flushed.ensures.well
+returns-else-polled-clause-well g c = on-both (event.Poll c.args.side) (event.Flush c.args.side) (next_of (event.Flush c.args.side)) c.args.self.now c.repeat.new.self c.repeat-2.new.self c.in_ok-polled.ensures.well c.in_ok-flushed.ensures.well

@@ -27,7 +27,10 @@ returns-in-Applied g c =
       leads = record { follows = λ _. record { puts = c.happen.ensures.puts; folds = c.happen.ensures.folds }; holds = λ _. c.happen.ensures.holds };
       less = λ _. c.in-Ok.ensures.less of_it applied;
       idle = λ e. absurd cc;
-      well = λ moved. record { only = only-one e did.Applied old new of_it (subst (λ d. Steps e d old new) applied step); spared = spared; clean = c.in-Ok.ensures.clean of_it applied spared; runs = c.in-Ok.ensures.runs of_it applied spared };
+      well = λ moved. record {
+        well = record { only = only-one e did.Applied old new of_it (subst (λ d. Steps e d old new) applied step); spared = spared; clean = c.in-Ok.ensures.clean of_it applied spared };
+        runs = c.in-Ok.ensures.runs of_it applied spared;
+      };
       well_last = λ e. absurd cc;
       ends = tt;
     }
@@ -43,4 +46,7 @@ returns-in-Nothing-clause-well_last g c moved =
     let told : KeepsAll c.shortages-before.result c.shortages.result = c.shortage_since.ensures.well c.in_default-shortage_since.is in
     let spared : KeepsAll (all_shortages old) (all_shortages new) =
     subst (λ x. KeepsAll x (all_shortages new)) c.shortages-before.ensures (subst (λ x. KeepsAll c.shortages-before.result x) c.shortages.ensures told) in
-    record { only = only-one e did.Nothing old new of_it step; spared = spared; clean = λ is. subst (λ (w : WorldState). IsClean w) (sym same) is; runs = subst (λ (w : WorldState). RunsAlong old w) (sym same) (along-same old) }
+    record {
+      well = record { only = only-one e did.Nothing old new of_it step; spared = spared; clean = λ is. subst (λ (w : WorldState). IsClean w) (sym same) is };
+      runs = subst (λ (w : WorldState). RunsAlong old w) (sym same) (along-same old);
+    }

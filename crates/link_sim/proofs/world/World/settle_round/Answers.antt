@@ -1,13 +1,14 @@
 use Rattle.std.proofs.Common.{◌<◌, ◌≤◌, ◌||◌, inr, arith}
 use Rattle.std.proofs.lemmas.Result.{err_from_is_err_and}
 use Rattle.link_sim.specs.Observed.{seen}
-use Rattle.link_sim.specs.Settling.{GoesWellFrom, HasCause, first_event}
+use Rattle.link_sim.specs.Onward.{GoesOnFrom}
+use Rattle.link_sim.specs.Settling.{HasCause, first_event}
 use Rattle.link_sim.specs.declared.event.Event.TheVariants as event
 use Rattle.link_sim.specs.declared.side.Side.TheVariants.{One, Two}
 use Rattle.link_sim.specs.WorldWork.{world_work}
 use Rattle.link_sim.specs.declared.settle_error.SettleError.{SettleError}
 use Rattle.link_sim.proofs.Folding.{leads-both}
-use Rattle.link_sim.proofs.Causes.{Lowers, lowers-most, lowers-both, any-true, well-both, cause-then, err-then, round-settled}
+use Rattle.link_sim.proofs.Causes.{Lowers, lowers-most, lowers-both, any-true, on-both, cause-then, err-then, round-settled}
 use Rattle.link_sim.proofs.world.World.settle_round.Goals as goal
 
 pub returns-in_err-two-clause-leads : goal.returns-in_err-two-clause-leads
@@ -43,7 +44,7 @@ pub returns-in_err-from_one-clause-cause : goal.returns-in_err-from_one-clause-c
 returns-in_err-from_one-clause-cause g c =
     let p = err_from_is_err_and c.from_residual-in_err-from_one.result c.from_residual-in_err-from_one.ensures.1 in
     let e : SettleError = c.in_err-from_one.field-0.0 in
-    let well : GoesWellFrom first_event (event.Deliver One) c.args.self.now c.send_all-2.new.self = well-both first_event (event.Poll Two) (event.Deliver One) c.args.self.now c.send_all.new.self c.send_all-2.new.self c.in_ok-one.ensures.well c.in_ok-two.ensures.well in
+    let well : GoesOnFrom first_event (event.Deliver One) c.args.self.now c.send_all-2.new.self = on-both first_event (event.Poll Two) (event.Deliver One) c.args.self.now c.send_all.new.self c.send_all-2.new.self c.in_ok-one.ensures.well c.in_ok-two.ensures.well in
     err-then c.from_residual-in_err-from_one.result (λ error. HasCause error c.args.self.now c.repeat.new.self) p.0 e p.1 p.2
     (cause-then e first_event (event.Deliver One) c.args.self.now c.send_all-2.new.self c.repeat.new.self (inr well) c.in_err-from_one.ensures.cause)
 
@@ -51,16 +52,16 @@ pub returns-in_err-from_two-clause-cause : goal.returns-in_err-from_two-clause-c
 returns-in_err-from_two-clause-cause g c =
     let p = err_from_is_err_and c.from_residual-in_err-from_two.result c.from_residual-in_err-from_two.ensures.1 in
     let e : SettleError = c.in_err-from_two.field-0.0 in
-    let well : GoesWellFrom first_event (event.Deliver Two) c.args.self.now c.repeat.new.self =
-    well-both first_event (event.Deliver One) (event.Deliver Two) c.args.self.now c.send_all-2.new.self c.repeat.new.self (well-both first_event (event.Poll Two) (event.Deliver One) c.args.self.now c.send_all.new.self c.send_all-2.new.self c.in_ok-one.ensures.well c.in_ok-two.ensures.well) c.in_ok-from_one.ensures.well in
+    let well : GoesOnFrom first_event (event.Deliver Two) c.args.self.now c.repeat.new.self =
+    on-both first_event (event.Deliver One) (event.Deliver Two) c.args.self.now c.send_all-2.new.self c.repeat.new.self (on-both first_event (event.Poll Two) (event.Deliver One) c.args.self.now c.send_all.new.self c.send_all-2.new.self c.in_ok-one.ensures.well c.in_ok-two.ensures.well) c.in_ok-from_one.ensures.well in
     err-then c.from_residual-in_err-from_two.result (λ error. HasCause error c.args.self.now c.repeat-2.new.self) p.0 e p.1 p.2
     (cause-then e first_event (event.Deliver Two) c.args.self.now c.repeat.new.self c.repeat-2.new.self (inr well) c.in_err-from_two.ensures.cause)
 
 pub returns-then-from_one-clause-well : goal.returns-then-from_one-clause-well
 returns-then-from_one-clause-well g c =
-    let two : GoesWellFrom first_event (event.Deliver One) c.args.self.now c.send_all-2.new.self = well-both first_event (event.Poll Two) (event.Deliver One) c.args.self.now c.send_all.new.self c.send_all-2.new.self c.in_ok-one.ensures.well c.in_ok-two.ensures.well in
-    let three : GoesWellFrom first_event (event.Deliver Two) c.args.self.now c.repeat.new.self = well-both first_event (event.Deliver One) (event.Deliver Two) c.args.self.now c.send_all-2.new.self c.repeat.new.self two c.in_ok-from_one.ensures.well in
-    well-both first_event (event.Deliver Two) first_event c.args.self.now c.repeat.new.self c.repeat-2.new.self three c.in_ok-from_two.ensures.well
+    let two : GoesOnFrom first_event (event.Deliver One) c.args.self.now c.send_all-2.new.self = on-both first_event (event.Poll Two) (event.Deliver One) c.args.self.now c.send_all.new.self c.send_all-2.new.self c.in_ok-one.ensures.well c.in_ok-two.ensures.well in
+    let three : GoesOnFrom first_event (event.Deliver Two) c.args.self.now c.repeat.new.self = on-both first_event (event.Deliver One) (event.Deliver Two) c.args.self.now c.send_all-2.new.self c.repeat.new.self two c.in_ok-from_one.ensures.well in
+    on-both first_event (event.Deliver Two) first_event c.args.self.now c.repeat.new.self c.repeat-2.new.self three c.in_ok-from_two.ensures.well
 
 pub returns-then-from_one-clause-less : goal.returns-then-from_one-clause-less
 returns-then-from_one-clause-less g c happened =
@@ -89,6 +90,6 @@ returns-else-from_one-clause-settled g c none =
 
 pub returns-else-from_one-clause-well : goal.returns-else-from_one-clause-well
 returns-else-from_one-clause-well g c =
-    let two : GoesWellFrom first_event (event.Deliver One) c.args.self.now c.send_all-2.new.self = well-both first_event (event.Poll Two) (event.Deliver One) c.args.self.now c.send_all.new.self c.send_all-2.new.self c.in_ok-one.ensures.well c.in_ok-two.ensures.well in
-    let three : GoesWellFrom first_event (event.Deliver Two) c.args.self.now c.repeat.new.self = well-both first_event (event.Deliver One) (event.Deliver Two) c.args.self.now c.send_all-2.new.self c.repeat.new.self two c.in_ok-from_one.ensures.well in
-    well-both first_event (event.Deliver Two) first_event c.args.self.now c.repeat.new.self c.repeat-2.new.self three c.in_ok-from_two.ensures.well
+    let two : GoesOnFrom first_event (event.Deliver One) c.args.self.now c.send_all-2.new.self = on-both first_event (event.Poll Two) (event.Deliver One) c.args.self.now c.send_all.new.self c.send_all-2.new.self c.in_ok-one.ensures.well c.in_ok-two.ensures.well in
+    let three : GoesOnFrom first_event (event.Deliver Two) c.args.self.now c.repeat.new.self = on-both first_event (event.Deliver One) (event.Deliver Two) c.args.self.now c.send_all-2.new.self c.repeat.new.self two c.in_ok-from_one.ensures.well in
+    on-both first_event (event.Deliver Two) first_event c.args.self.now c.repeat.new.self c.repeat-2.new.self three c.in_ok-from_two.ensures.well

@@ -11,11 +11,11 @@ returns-clause-tells g c =
     let told : KeepsAll c.shortages-before.result c.shortages.result = c.shortage_since.ensures.well c.in_default-shortage_since.is in
     let spared : KeepsAll (all_shortages old) (all_shortages new) =
     subst (λ x. KeepsAll x (all_shortages new)) c.shortages-before.ensures (subst (λ x. KeepsAll c.shortages-before.result x) c.shortages.ensures told) in
-    let expired = c.in-Ok.ensures.tells c.args.side c.args.now refl in
     record {
       next = c.requires.next;
       ticks = tick-applied c.in-Ok._applied c.args.side c.args.now old new c.in-Ok.ensures.steps;
       spared = spared;
-      expires = expired.0;
-      keeps = expired.1;
     }
+
+pub returns-clause-expires : goal.returns-clause-expires
+returns-clause-expires g c = c.in-Ok.ensures.tells c.args.side c.args.now refl

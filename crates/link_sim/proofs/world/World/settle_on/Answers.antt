@@ -4,8 +4,8 @@ use Rattle.link_sim.specs.Observed.{seen}
 use Rattle.link_sim.specs.Settling.{HasCause, first_event}
 use Rattle.link_sim.specs.declared.settle_error.SettleError.{SettleError}
 use Rattle.link_sim.proofs.Folding.{leads-none, leads-both}
-use Rattle.link_sim.proofs.Causes.{well-then, cause-then, err-then}
-use Rattle.link_sim.proofs.world.World.settle.Goals as goal
+use Rattle.link_sim.proofs.Causes.{on-then, cause-then, err-then}
+use Rattle.link_sim.proofs.world.World.settle_on.Goals as goal
 
 pub loop-init : goal.loop-init
 loop-init g c = record { leads = leads-none (seen c.args.self.now); well = inl (refl, refl) }
@@ -13,7 +13,7 @@ loop-init g c = record { leads = leads-none (seen c.args.self.now); well = inl (
 pub loop-preserved : goal.loop-preserved
 loop-preserved g c = record {
   leads = leads-both (seen c.args.self.now) (seen c.loop.self) (seen c.settle_round.new.self) c.loop.invariant.leads c.settle_round.ensures.leads;
-  well = inr (well-then first_event first_event first_event c.args.self.now c.loop.self c.settle_round.new.self c.loop.invariant.well c.in_ok-settle_round.ensures.well);
+  well = inr (on-then first_event first_event first_event c.args.self.now c.loop.self c.settle_round.new.self c.loop.invariant.well c.in_ok-settle_round.ensures.well);
 }
 
 pub returns-in_err-settle_round-clause-follows : goal.returns-in_err-settle_round-clause-follows
@@ -36,9 +36,9 @@ returns-in_err-settle_round-clause-cause g c =
     (cause-then e first_event first_event c.args.self.now c.loop.self c.settle_round.new.self c.loop.invariant.well c.in_err-settle_round.ensures.cause)
 
 pub returns-clause-well : goal.returns-clause-well
-returns-clause-well g c = well-then first_event first_event first_event c.args.self.now c.loop.self c.settle_round.new.self c.loop.invariant.well c.in_ok-settle_round.ensures.well
+returns-clause-well g c = on-then first_event first_event first_event c.args.self.now c.loop.self c.settle_round.new.self c.loop.invariant.well c.in_ok-settle_round.ensures.well
 
 pub returns-clause-completes : goal.returns-clause-completes
 returns-clause-completes g c clean =
-    let well = well-then first_event first_event first_event c.args.self.now c.loop.self c.settle_round.new.self c.loop.invariant.well c.in_ok-settle_round.ensures.well in
-    c.show_completion.ensures (c.in_ok-settle_round.ensures.settled c.if-branch.false) (well.clean clean)
+    let well = on-then first_event first_event first_event c.args.self.now c.loop.self c.settle_round.new.self c.loop.invariant.well c.in_ok-settle_round.ensures.well in
+    c.show_completion.ensures (c.in_ok-settle_round.ensures.settled c.if-branch.false) (well.well.clean clean)
