@@ -1,5 +1,5 @@
-/* Preloaded by tests/run: makes reads of standard input and writes of standard output fail, as the
- * variable FAULTS says. It is linked into nothing that is proved or shipped.
+/* Preloaded by tests/run: makes reads of standard input, writes of standard output, files and
+ * sockets fail, as the variable FAULTS says. It is linked into nothing that is proved or shipped.
  *
  *   interrupted     each read is interrupted, for ever
  *   interruptions   each read comes after an interruption
@@ -7,12 +7,24 @@
  *   unreadable      at the end of the input a read fails
  *   room=N          writes take N octets in all, and then the disk is full
  *   full-once       the first write finds the disk full, and later ones don't
+ *   disk=N          files take N octets in all, and then the disk is full
+ *   no-sync         no file can be flushed to its device
+ *   no-rename       no file can be renamed
+ *   no-unlink       no file can be removed
+ *   denied=WORD     no file can be opened whose path ends so
+ *   no-socket       no socket can be made
+ *   send=K          the Kth datagram isn't sent (1 to 9), or with 0 none is
+ *   receive=K       the Kth datagram that came is lost (1 to 9), or with 0 each is
  */
 #define _GNU_SOURCE
 #include <dlfcn.h>
 #include <errno.h>
+#include <fcntl.h>
+#include <stdarg.h>
 #include <stdlib.h>
 #include <string.h>
+#include <sys/socket.h>
+#include <sys/stat.h>
 #include <sys/uio.h>
 #include <unistd.h>
 
@@ -69,11 +81,32 @@ static ssize_t room_for(size_t count)
     return (ssize_t)count;
 }
 
+/* How many octets a write to a file may take; -1 where the disk is full. */
+static ssize_t taken_by_disk(int fd, size_t count)
+{
+    static size_t taken = 0;
+    const char *disk = fault("disk=");
+    struct stat it;
+    if (!disk || count == 0 || fd <= STDERR_FILENO || fstat(fd, &it) != 0 || !S_ISREG(it.st_mode))
+        return (ssize_t)count;
+    size_t left = strtoul(disk + strlen("disk="), NULL, 10) - taken;
+    if (left == 0) {
+        errno = ENOSPC;
+        return -1;
+    }
+    if (count > left)
+        count = left;
+    taken += count;
+    return (ssize_t)count;
+}
+
 ssize_t write(int fd, const void *from, size_t count)
 {
     ssize_t (*next)(int, const void *, size_t) = NEXT("write");
-    if (fd != STDOUT_FILENO)
-        return next(fd, from, count);
+    if (fd != STDOUT_FILENO) {
+        ssize_t taken = taken_by_disk(fd, count);
+        return taken < 0 ? taken : next(fd, from, (size_t)taken);
+    }
     ssize_t room = room_for(count);
     return room < 0 ? room : next(fd, from, (size_t)room);
 }
@@ -84,4 +117,86 @@ ssize_t writev(int fd, const struct iovec *parts, int count)
     if (fd != STDOUT_FILENO || count < 1)
         return next(fd, parts, count);
     return write(fd, parts[0].iov_base, parts[0].iov_len);
+}
+
+static int failing(const char *name, int error)
+{
+    if (!fault(name))
+        return 0;
+    errno = error;
+    return 1;
+}
+
+int fsync(int fd)
+{
+    int (*next)(int) = NEXT("fsync");
+    return failing("no-sync", EIO) ? -1 : next(fd);
+}
+
+int rename(const char *from, const char *to)
+{
+    int (*next)(const char *, const char *) = NEXT("rename");
+    return failing("no-rename", EACCES) ? -1 : next(from, to);
+}
+
+int unlink(const char *path)
+{
+    int (*next)(const char *) = NEXT("unlink");
+    return failing("no-unlink", EACCES) ? -1 : next(path);
+}
+
+int open(const char *path, int flags, ...)
+{
+    int (*next)(const char *, int, ...) = NEXT("open");
+    va_list rest;
+    va_start(rest, flags);
+    mode_t mode = flags & O_CREAT ? va_arg(rest, mode_t) : 0;
+    va_end(rest);
+    const char *denied = fault("denied=");
+    if (denied) {
+        denied += strlen("denied=");
+        size_t count = strcspn(denied, " "), len = strlen(path);
+        if (len >= count && strncmp(path + len - count, denied, count) == 0) {
+            errno = EACCES;
+            return -1;
+        }
+    }
+    return next(path, flags, mode);
+}
+
+int socket(int domain, int type, int protocol)
+{
+    int (*next)(int, int, int) = NEXT("socket");
+    return failing("no-socket", EMFILE) ? -1 : next(domain, type, protocol);
+}
+
+/* Whether this is the call of that number, or each is, by the fault of this name. */
+static int is_turn(const char *name, int *calls)
+{
+    const char *turn = fault(name);
+    *calls += 1;
+    return turn && (turn[strlen(name)] == '0' || turn[strlen(name)] - '0' == *calls);
+}
+
+ssize_t send(int fd, const void *from, size_t count, int flags)
+{
+    ssize_t (*next)(int, const void *, size_t, int) = NEXT("send");
+    static int calls = 0;
+    if (is_turn("send=", &calls)) {
+        errno = ECONNREFUSED;
+        return -1;
+    }
+    return next(fd, from, count, flags);
+}
+
+ssize_t recv(int fd, void *to, size_t count, int flags)
+{
+    ssize_t (*next)(int, void *, size_t, int) = NEXT("recv");
+    static int calls = 0;
+    ssize_t got = next(fd, to, count, flags);
+    if (got >= 0 && is_turn("receive=", &calls)) {
+        errno = ECONNREFUSED;
+        return -1;
+    }
+    return got;
 }

@@ -3,7 +3,7 @@ use Rattle.std.proofs.Common.{◌≡◌, true, false, List, [], ◌∷◌, codes
 use Rattle.clap.specs.Walk.{Text}
 use Rattle.clap.specs.declared.error.kind.ErrorKind.TheVariants.{DisplayHelp, DisplayHelpOnMissingArgumentOrSubcommand, InvalidValue, MissingRequiredArgument, UnknownArgument, ValueValidation}
 use Rattle.clap.proofs.OnLiterals.{clap_on_literals}
-use Rattle.cfdp_node.specs.Request.{asked_of, dump, refusals, sim, version}
+use Rattle.cfdp_node.specs.Request.{asked_of, dump, loop, refusals, sim, version}
 use Rattle.cfdp_node.specs.declared.dump.DumpKind.TheVariants.{Pdus, Frames}
 
 -- words behind the program's name
@@ -12,40 +12,72 @@ line words = codes "cfdp_node" ∷ words
 
 -- ---- sim
 
-plain_sim : (refusals (line (codes "sim" ∷ [])) ≡ []) × (asked_of (line (codes "sim" ∷ [])) ≡ Some (sim false false None))
+plain_sim : (refusals (line (codes "sim" ∷ [])) ≡ []) × (asked_of (line (codes "sim" ∷ [])) ≡ Some (sim false false None None None))
 unfolding clap_on_literals
 plain_sim = (refl, refl)
 
 explained : (refusals (line (codes "sim" ∷ codes "--explain" ∷ [])) ≡ [])
-    × (asked_of (line (codes "sim" ∷ codes "--explain" ∷ [])) ≡ Some (sim true false None))
+    × (asked_of (line (codes "sim" ∷ codes "--explain" ∷ [])) ≡ Some (sim true false None None None))
 unfolding clap_on_literals
 explained = (refl, refl)
 
 traced : (refusals (line (codes "sim" ∷ codes "--pcap" ∷ codes "a" ∷ codes "--trace" ∷ [])) ≡ [])
-    × (asked_of (line (codes "sim" ∷ codes "--pcap" ∷ codes "a" ∷ codes "--trace" ∷ [])) ≡ Some (sim false true (Some (codes "a"))))
+    × (asked_of (line (codes "sim" ∷ codes "--pcap" ∷ codes "a" ∷ codes "--trace" ∷ [])) ≡ Some (sim false true (Some (codes "a")) None None))
 unfolding clap_on_literals
 traced = (refl, refl)
 
+drawn_of_file : (refusals (line (codes "sim" ∷ codes "a" ∷ codes "--chart" ∷ codes "b" ∷ [])) ≡ [])
+    × (asked_of (line (codes "sim" ∷ codes "a" ∷ codes "--chart" ∷ codes "b" ∷ [])) ≡ Some (sim false false None (Some (codes "b")) (Some (codes "a"))))
+unfolding clap_on_literals
+drawn_of_file = (refl, refl)
+
 -- ---- dump
 
-plain_pdus : (refusals (line (codes "dump" ∷ codes "pdus" ∷ [])) ≡ []) × (asked_of (line (codes "dump" ∷ codes "pdus" ∷ [])) ≡ Some (dump Pdus 256 false))
+plain_pdus : (refusals (line (codes "dump" ∷ codes "pdus" ∷ [])) ≡ []) × (asked_of (line (codes "dump" ∷ codes "pdus" ∷ [])) ≡ Some (dump (Pdus, 256, false) None))
 unfolding clap_on_literals
 plain_pdus = (refl, refl)
 
 plain_frames : (refusals (line (codes "dump" ∷ codes "frames" ∷ [])) ≡ [])
-    × (asked_of (line (codes "dump" ∷ codes "frames" ∷ [])) ≡ Some (dump Frames 256 false))
+    × (asked_of (line (codes "dump" ∷ codes "frames" ∷ [])) ≡ Some (dump (Frames, 256, false) None))
 unfolding clap_on_literals
 plain_frames = (refl, refl)
 
 zoned_frames : (refusals (line (codes "dump" ∷ codes "frames" ∷ codes "--zone" ∷ codes "300" ∷ [])) ≡ [])
-    × (asked_of (line (codes "dump" ∷ codes "frames" ∷ codes "--zone" ∷ codes "300" ∷ [])) ≡ Some (dump Frames 300 false))
+    × (asked_of (line (codes "dump" ∷ codes "frames" ∷ codes "--zone" ∷ codes "300" ∷ [])) ≡ Some (dump (Frames, 300, false) None))
 unfolding clap_on_literals
 zoned_frames = (refl, refl)
 
 long_pdus : (refusals (line (codes "dump" ∷ codes "--long" ∷ codes "pdus" ∷ [])) ≡ [])
-    × (asked_of (line (codes "dump" ∷ codes "--long" ∷ codes "pdus" ∷ [])) ≡ Some (dump Pdus 256 true))
+    × (asked_of (line (codes "dump" ∷ codes "--long" ∷ codes "pdus" ∷ [])) ≡ Some (dump (Pdus, 256, true) None))
 unfolding clap_on_literals
 long_pdus = (refl, refl)
+
+pdus_of_file : (refusals (line (codes "dump" ∷ codes "pdus" ∷ codes "a" ∷ [])) ≡ [])
+    × (asked_of (line (codes "dump" ∷ codes "pdus" ∷ codes "a" ∷ [])) ≡ Some (dump (Pdus, 256, false) (Some (codes "a"))))
+unfolding clap_on_literals
+pdus_of_file = (refl, refl)
+
+-- ---- loop
+
+plain_loop : (refusals (line (codes "loop" ∷ codes "a" ∷ codes "b" ∷ codes "x" ∷ codes "y" ∷ [])) ≡ [])
+    × (asked_of (line (codes "loop" ∷ codes "a" ∷ codes "b" ∷ codes "x" ∷ codes "y" ∷ []))
+    ≡ Some (loop (record { from = codes "a"; to = codes "b"; source = codes "x"; destination = codes "y"; turns = 10000; drop_every = 0 })))
+unfolding clap_on_literals
+plain_loop = (refl, refl)
+
+lossy_loop : (refusals (line (codes "loop" ∷ codes "--drop" ∷ codes "7" ∷ codes "a" ∷ codes "b" ∷ codes "x" ∷ codes "y" ∷ codes "--turns" ∷ codes "50" ∷ [])) ≡ [])
+    × (asked_of (line (codes "loop" ∷ codes "--drop" ∷ codes "7" ∷ codes "a" ∷ codes "b" ∷ codes "x" ∷ codes "y" ∷ codes "--turns" ∷ codes "50" ∷ []))
+    ≡ Some (loop (record { from = codes "a"; to = codes "b"; source = codes "x"; destination = codes "y"; turns = 50; drop_every = 7 })))
+unfolding clap_on_literals
+lossy_loop = (refl, refl)
+
+few_words : refusals (line (codes "loop" ∷ codes "a" ∷ codes "b" ∷ codes "x" ∷ [])) ≡ MissingRequiredArgument ∷ []
+unfolding clap_on_literals
+few_words = refl
+
+no_turn : refusals (line (codes "loop" ∷ codes "a" ∷ codes "b" ∷ codes "x" ∷ codes "y" ∷ codes "--turns" ∷ codes "0" ∷ [])) ≡ ValueValidation ∷ []
+unfolding clap_on_literals
+no_turn = refl
 
 -- ---- the program alone, and mistakes
 

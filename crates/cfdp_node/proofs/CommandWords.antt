@@ -1,5 +1,5 @@
 -- What the words of a command line come to.
-use Rattle.std.proofs.Common.{◌≡◌, ◌<◌, ◌≤◌, ◌^◌, ℕ, Bool, true, false, List, [], ◌∷◌, Some, None, refl, ap, ap₂, ◌∙◌, inl, inr, arith, cond}
+use Rattle.std.proofs.Common.{◌≡◌, ◌<◌, ◌≤◌, ◌^◌, ℕ, Bool, true, false, List, [], ◌∷◌, Some, None, refl, ap, ap₂, ◌∙◌, inl, inr, arith, cond, subst, sym}
 use Rattle.std.specs.Str.Parse.{IsNumeral, digits_value, without_leading_plus}
 use Rattle.clap.specs.Kinds.{HasKind, Kinds, or_else}
 use Rattle.clap.specs.ValueTests.{is_unsigned_in}
@@ -7,8 +7,10 @@ use Rattle.clap.specs.declared.error.Error.{Error}
 use Rattle.clap.specs.declared.builder.value_parser.ValueParser.TheVariants.{Unsigned}
 use Rattle.clap.proofs.ValueTestLemmas.{Accepts-accepts, accepts-Accepts}
 use Rattle.clap.specs.Built.{AddsSubcommand}
-use Rattle.clap.specs.Simple.{App, with_subcommand}
+use Rattle.clap.specs.Faults.{is_simple_and_free}
+use Rattle.clap.specs.Simple.{App, is_simple, with_subcommand}
 use Rattle.clap.specs.declared.builder.command.Command.{Command}
+use Rattle.cfdp_node.specs.LoopRequest.{loop_app, number_of_word}
 use Rattle.cfdp_node.specs.Request.{IsCommand, dump_app, program_app, sim_app, top_app, zone_of_word}
 
 -- a number in the range is found
@@ -36,10 +38,38 @@ fails-first [] next e (inl memory) = inl memory
 fails-first [] next e (inr none) = absurd none
 fails-first (k ∷ ks) next e has = has
 
--- a command with its two subcommands
-pub joined : (top sim dump first all : Command) → IsCommand top_app top → IsCommand sim_app sim → IsCommand dump_app dump
-    → AddsSubcommand top sim first → AddsSubcommand first dump all → IsCommand program_app all
-joined top sim dump first all is_top is_sim is_dump one two = (
-  two.shape is_dump.1 ∙ ap₂ with_subcommand (one.shape is_sim.1 ∙ ap₂ with_subcommand is_top.0 (ap (λ (a : App). a.top) is_sim.0)) (ap (λ (a : App). a.top) is_dump.0),
-  rw (two.globals, one.globals, is_top.1, is_sim.1, is_dump.1) refl,
-)
+-- a command with its three subcommands
+pub joined : (top sim dump looped first second all : Command) → IsCommand top_app top → IsCommand sim_app sim → IsCommand dump_app dump → IsCommand loop_app looped
+    → AddsSubcommand top sim first → AddsSubcommand first dump second → AddsSubcommand second looped all → IsCommand program_app all
+joined top sim dump looped first second all is_top is_sim is_dump is_looped one two three =
+    let with_sim = one.shape is_sim.1 ∙ ap₂ with_subcommand is_top.0 (ap (λ (a : App). a.top) is_sim.0) in
+    let with_dump = two.shape is_dump.1 ∙ ap₂ with_subcommand with_sim (ap (λ (a : App). a.top) is_dump.0) in (
+      three.shape is_looped.1 ∙ ap₂ with_subcommand with_dump (ap (λ (a : App). a.top) is_looped.0),
+      rw (three.globals, two.globals, one.globals, is_top.1, is_sim.1, is_dump.1, is_looped.1) refl,
+    )
+
+-- a number in a range is found
+pub number-found : (low high : ℕ) (word : List ℕ) (n : ℕ) → IsNumeral 10 (without_leading_plus word) → n ≡ digits_value 10 (without_leading_plus word)
+    → digits_value 10 (without_leading_plus word) < 2 ^ 64 → low ≤ n → n ≤ high → Some n ≡ number_of_word low high word
+number-found low high word n numeral is small at_least at_most =
+    let passes : is_unsigned_in low high word ≡ true =
+    Accepts-accepts false (Unsigned low high) word (numeral, small, omega (arith, is, at_least), omega (arith, is, at_most)) in
+    rw passes (ap (λ z. Some z) is)
+
+-- what is none, or not in the range, has none
+pub number-none : (low high : ℕ) (word : List ℕ)
+    → (IsNumeral 10 (without_leading_plus word) → digits_value 10 (without_leading_plus word) < 2 ^ 64
+    → low ≤ digits_value 10 (without_leading_plus word) → digits_value 10 (without_leading_plus word) ≤ high → ⊥)
+    → None ≡ number_of_word low high word
+number-none low high word none = go (is_unsigned_in low high word) refl
+  where
+    go : (b : Bool) → is_unsigned_in low high word ≡ b → None ≡ cond b (Some (digits_value 10 (without_leading_plus word))) None
+    go false e = refl
+    go true e = let fits = accepts-Accepts false (Unsigned low high) word e in absurd (none fits.0 fits.1 fits.2 fits.3)
+
+-- what the program's grammar gives, of a command that has it
+pub free_of : (app : App) (P : App → Type 0) → app ≡ program_app → (is_simple_and_free app ≡ true → P app) → P program_app
+free_of app P is given = subst P is (given (subst (λ a. is_simple_and_free a ≡ true) (sym is) refl))
+
+pub simple_of : (app : App) (P : App → Type 0) → app ≡ program_app → (is_simple app ≡ true → P app) → P program_app
+simple_of app P is given = subst P is (given (subst (λ a. is_simple a ≡ true) (sym is) refl))

@@ -33,7 +33,7 @@ module _ (old mid new : Option (List ℕ)) (kept : Keeps mid new) where
   }
 
   to_end_kept : (text : List ℕ) (exit : Exit) → RunsToEnd text exit old mid → RunsToEnd text exit old new
-  to_end_kept text exit to = record { good = to.good; first = to.first; starts = to.starts; ran = run_kept (steps_of text) to.first exit to.ran; promised = to.promised }
+  to_end_kept text exit to = record { good = to.good; first = to.first; starts = to.starts; ran = run_kept (steps_of text) to.first exit to.ran; promised = to.promised; completed = to.completed }
 
   script_kept : (text : List ℕ) (exit : Exit) → EndsScript exit text old mid → EndsScript exit text old new
   script_kept text Complete ends = to_end_kept text Complete ends
@@ -43,7 +43,7 @@ module _ (old mid new : Option (List ℕ)) (kept : Keeps mid new) where
   script_kept text (Device NoMemoryAtStart) ends = tt
   script_kept text (Device Unwritable) ends = tt
   script_kept text (Device Unreadable) ends = tt
-  script_kept text (Device TooLong) ends = tt
+  script_kept text (Device TooLong) ends = ends
 
   silent_kept : (exit : Exit) → IsSilentAt exit old mid → IsSilentAt exit old new
   silent_kept Complete silent = tt
@@ -64,7 +64,7 @@ module _ (old mid new : Option (List ℕ)) (kept : Keeps mid new) where
   dump_kept request left (Device NoMemoryAtStart) ends = Keeps-trans old mid new ends kept
   dump_kept request left (Device Unwritable) ends = tt
   dump_kept request left (Device Unreadable) ends = Keeps-trans old mid new ends kept
-  dump_kept request left (Device TooLong) ends = Keeps-trans old mid new ends kept
+  dump_kept request left (Device TooLong) ends = (ends.0, Keeps-trans old mid new ends.1 kept)
 
   pub flushed_script : (left : Option (List ℕ)) (exit ended : Exit) → IfSome left (λ text. EndsScript exit text old mid)
       → IsFlushedFrom exit ended → IfSome left (λ text. EndsScript ended text old new)

@@ -1,6 +1,6 @@
 -- What is gathered line by line is what the text says.
-use Rattle.std.proofs.Common.{◌≡◌, ◌∙◌, ℕ, Bool, List, [], ◌∷◌, ◌++◌, not, refl, sym, ap, append-nil, append_assoc, Option, Some, None, if◌then◌else◌}
-use Rattle.std.specs.Prelude.{fold, is_none}
+use Rattle.std.proofs.Common.{◌≡◌, ◌∙◌, ℕ, List, [], ◌∷◌, ◌++◌, not, refl, ap, append-nil, append_assoc, Option, Some, None, if◌then◌else◌}
+use Rattle.std.specs.Prelude.{fold}
 use Rattle.std.specs.Option.{option_or}
 use Rattle.std.specs.List.{filter_map, cons_option}
 use Rattle.cfdp_node.specs.declared.command.Line.{Line}
@@ -8,8 +8,8 @@ use Rattle.cfdp_node.specs.declared.command.Line.TheVariants as line
 use Rattle.cfdp_node.specs.declared.script.Step.{Step}
 use Rattle.cfdp_node.specs.Settings.{set_value}
 use Rattle.cfdp_node.specs.Words.{parts}
-use Rattle.cfdp_node.specs.Script.{ReadLine, read_line, numbered, line_of, lines_of, is_skipped, is_command, front, behind, first_where, misread, file_in, step_in, set_in, is_set}
-use Rattle.cfdp_node.specs.Gathering.{Gathered, at_start, noted, before, taken, read_into, gather}
+use Rattle.cfdp_node.specs.Script.{ReadLine, read_line, numbered, line_of, lines_of, is_skipped, is_command, front, first_where, misread, file_in, step_in, set_in, is_set}
+use Rattle.cfdp_node.specs.Gathering.{Gathered, at_start, noted, before, taken, gather}
 use Rattle.cfdp_node.proofs.Numerals.{by_test}
 
 -- ---- lines that are skipped do nothing

@@ -1,8 +1,8 @@
 -- The commands of a script as calls of a world, one after another.
-use Rattle.std.proofs.Common.{◌≡◌, ◌<◌, ◌⊎◌, ℕ, List, [], ◌∷◌, Option, None, Some, refl, inl, inr}
-use Rattle.link_sim.specs.Recovering.{EndsBy, IsRecovered, Recovers}
+use Rattle.std.proofs.Common.{ℕ, List, [], ◌∷◌, Option, None, Some, inl, inr}
+use Rattle.link_sim.specs.Recovering.{IsRecovered, Recovers}
 use Rattle.link_sim.specs.Running.{Called, Led}
-use Rattle.link_sim.specs.Settling.{GoesWell, HasCause, IsSettled}
+use Rattle.link_sim.specs.Settling.{GoesWell, IsSettled}
 use Rattle.link_sim.specs.Spreading.{Times}
 use Rattle.link_sim.specs.World.{WorldState, FindsNoMemory, Steps, WantsMemory, side_in}
 use Rattle.link_sim.specs.declared.event.Applied.{Applied}
@@ -11,7 +11,6 @@ use Rattle.link_sim.specs.declared.event.Event.{Event}
 use Rattle.link_sim.specs.declared.recover_error.RecoverError.{RecoverError}
 use Rattle.link_sim.specs.declared.recover_error.RecoverError.TheVariants.{Settle, StillArmed}
 use Rattle.link_sim.specs.declared.settle_error.SettleError.TheVariants.{NoMemory, StoreFailed, TableFull}
-use Rattle.link_sim.specs.declared.side.Side.{Side}
 use Rattle.link_sim.proofs.Leading.{many-both, many-none, many-one, many-times}
 use Rattle.cfdp_node.specs.Run.{ForMemory, HappensOften, HappensOnce, IsDone, Performs, Runs, SettlingEnds}
 use Rattle.cfdp_node.specs.declared.answer.Answer.{Answer}
@@ -28,7 +27,7 @@ one_event : (e : Event) (d : Applied) (a b : WorldState) → Steps e d a b → L
 one_event e d a b step = one_call a b (inl (inl (e, d, step)))
 
 -- what came for want of memory came
-for_memory : (error : RecoverError) (P : Type 0) → ForMemory error P → P
+pub for_memory : (error : RecoverError) (P : Type 0) → ForMemory error P → P
 for_memory (Settle NoMemory) P so = so
 for_memory (Settle StoreFailed) P so = absurd so
 for_memory (Settle TableFull) P so = absurd so

@@ -10,7 +10,7 @@ use Rattle.cfdp_header.specs.declared.value.TransactionId.{TransactionId}
 use Rattle.cfdp_node.specs.Numbers.{number_of}
 use Rattle.cfdp_node.specs.Words.{onto_first, parts, next_word, nothing_of, text_of}
 use Rattle.cfdp_node.specs.Script.{both, id_of_parts}
-use Rattle.cfdp_node.proofs.Numerals.{by_test, all_digits, number-none, number-pass, digits-pass}
+use Rattle.cfdp_node.proofs.Numerals.{by_test, all_digits, number-none, digits-pass}
 
 -- ---- a text is cut behind its first part
 

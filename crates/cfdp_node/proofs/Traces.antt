@@ -1,28 +1,26 @@
--- The front of a trace's line, and whether a deed is one with a frame or a PDU.
-use Rattle.std.proofs.Common.{◌≡◌, ◌⊎◌, ℕ, List, ◌++◌, Option, codes, decimal, ap, append_assoc, subst, sym, ◌∙◌, ⊎_elim}
+-- The front of a trace's line, and what stands behind a verb.
+use Rattle.std.proofs.Common.{◌≡◌, ◌⊎◌, ℕ, List, ◌++◌, Option, codes, decimal, append_assoc, subst, sym, ◌∙◌, ⊎_elim}
 use Rattle.std.specs.Io.KnownBytes.{Appends}
 use Rattle.link_sim.specs.Sides.{entity_of}
-use Rattle.cfdp_node.specs.Trace.{deed_word, kind_of, sighting_front}
-use Rattle.cfdp_node.specs.declared.dump.DumpKind.TheVariants.{Pdus, Frames}
+use Rattle.cfdp_node.specs.Trace.{sighting_front}
 use Rattle.cfdp_node.specs.declared.sighting.Deed.{Deed}
-use Rattle.cfdp_node.specs.declared.sighting.Deed.TheVariants.{SendsFrame, SendsPdu, TakesFrame, HearsPdu, LosesFrame}
 use Rattle.cfdp_node.specs.declared.sighting.Sighting.{Sighting}
 
-pub pdu_kind : (deed : Deed) → (deed ≡ SendsPdu) ⊎ (deed ≡ HearsPdu) → kind_of deed ≡ Pdus
-pdu_kind deed is = ⊎_elim (λ e. ap kind_of e) (λ e. ap kind_of e) is
+-- what holds of two deeds, and of three
+pub of_two : (deed a b : Deed) (P : Deed → Type 0) → (deed ≡ a) ⊎ (deed ≡ b) → P a → P b → P deed
+of_two deed a b P is in_a in_b = ⊎_elim (λ e. subst P (sym e) in_a) (λ e. subst P (sym e) in_b) is
 
-pub frame_kind : (deed : Deed) → (deed ≡ SendsFrame) ⊎ ((deed ≡ TakesFrame) ⊎ (deed ≡ LosesFrame)) → kind_of deed ≡ Frames
-frame_kind deed is = ⊎_elim (λ e. ap kind_of e) (λ other. ⊎_elim (λ e. ap kind_of e) (λ e. ap kind_of e) other) is
+pub of_three : (deed a b c : Deed) (P : Deed → Type 0) → (deed ≡ a) ⊎ ((deed ≡ b) ⊎ (deed ≡ c)) → P a → P b → P c → P deed
+of_three deed a b c P is in_a in_b in_c = ⊎_elim (λ e. subst P (sym e) in_a) (λ more. of_two deed b c P more in_b in_c) is
 
 -- six parts in a row, grouped from the front
 grouped : (a b c d e f : List ℕ) → a ++ b ++ c ++ d ++ e ++ f ≡ a ++ (b ++ (c ++ (d ++ (e ++ f))))
 grouped a b c d e f =
     append_assoc (a ++ b ++ c ++ d) e f ∙ append_assoc (a ++ b ++ c) d (e ++ f) ∙ append_assoc (a ++ b) c (d ++ (e ++ f)) ∙ append_assoc a b (c ++ (d ++ (e ++ f)))
 
--- with the station's number and the word for what it did, the front is written
-pub front_written : (s : Sighting) (old new : Option (List ℕ)) (station : ℕ) (word : List ℕ) → station ≡ entity_of s.station → word ≡ deed_word s.deed
-    → Appends old new (decimal s.event ++ (codes " " ++ (decimal station ++ (codes " " ++ (word ++ codes " "))))) → Appends old new (sighting_front s)
-front_written s old new station word of is written =
-    subst (λ w. Appends old new (decimal s.event ++ codes " " ++ decimal (entity_of s.station) ++ codes " " ++ w ++ codes " ")) is
-    (subst (λ n. Appends old new (decimal s.event ++ codes " " ++ decimal n ++ codes " " ++ word ++ codes " ")) of
-    (subst (Appends old new) (sym (grouped (decimal s.event) (codes " ") (decimal station) (codes " ") word (codes " "))) written))
+-- with the station's number the front is written
+pub front_written : (s : Sighting) (old new : Option (List ℕ)) (station : ℕ) → station ≡ entity_of s.station
+    → Appends old new (decimal s.step ++ (codes "." ++ (decimal s.event ++ (codes " " ++ (decimal station ++ codes " "))))) → Appends old new (sighting_front s)
+front_written s old new station of written =
+    subst (λ n. Appends old new (decimal s.step ++ codes "." ++ decimal s.event ++ codes " " ++ decimal n ++ codes " ")) of
+    (subst (Appends old new) (sym (grouped (decimal s.step) (codes ".") (decimal s.event) (codes " ") (decimal station) (codes " "))) written)

@@ -1,5 +1,5 @@
 -- What a command answers, in reports and for the exit status.
-use Rattle.std.specs.Prelude.{ℕ, Bool, true, false, List, codes, Option, None, Some}
+use Rattle.std.specs.Prelude.{ℕ, Bool, true, false, List, codes, Option, Some}
 use Rattle.cfdp_entity.specs.Errors.{put_name, call_name}
 use Rattle.link_sim.specs.Recovering.{recover_error_name}
 use Rattle.link_sim.specs.declared.event.Refusal.TheVariants.{Put, Call, LossRunTooLong}

@@ -1,5 +1,5 @@
 -- What the program's `dump` prints.
-use Rattle.std.specs.Prelude.{◌≡◌, ◌⊎◌, ⊤, ℕ, ◌-◌, ◌/◌, ◌%◌, ◌==◌, Bool, true, List, [], ◌∷◌, ◌++◌, codes, decimal, drop, length, replicate, if◌then◌else◌, Option, None, Some, IfSome, MatchOption}
+use Rattle.std.specs.Prelude.{◌≡◌, ◌⊎◌, ⊤, ℕ, ◌-◌, ◌<◌, ◌/◌, ◌%◌, ◌==◌, Bool, true, List, [], ◌∷◌, ◌++◌, codes, decimal, drop, length, replicate, if◌then◌else◌, Option, None, Some, IfSome, MatchOption}
 use Rattle.std.specs.List.{flat_map, AllZip}
 use Rattle.std.specs.Result.{result_ok}
 use Rattle.std.specs.Io.KnownBytes.{Appends, Keeps}
@@ -25,7 +25,7 @@ use Rattle.cfdp_node.specs.declared.dump.DumpKind.TheVariants.{Pdus, Frames}
 use Rattle.cfdp_node.specs.declared.refusal.Refusal.TheVariants.{Hex, Pdu, Frame}
 use Rattle.cfdp_node.specs.declared.exit.Exit.{Exit}
 use Rattle.cfdp_node.specs.declared.exit.Exit.TheVariants.{Complete, Device}
-use Rattle.cfdp_node.specs.declared.exit.Fault.TheVariants.{NoMemory, Unwritable}
+use Rattle.cfdp_node.specs.declared.exit.Fault.TheVariants.{NoMemory, TooLong, Unwritable}
 use Rattle.cfdp_node.specs.Name.{hex_digit, printed_octet}
 use Rattle.cfdp_node.specs.Refusal.{refusal_text}
 use Rattle.cfdp_node.specs.Wording.{id_text, delivery_word, status_word}
@@ -182,10 +182,11 @@ pub record WritesLines {A : Type 0} (P : A → List ℕ → Type 0) (told : List
   pub written : Appends old new (flat_map as_line texts)
 
 -- How a dump ends, by what the reader has left and what the writer holds before and after. Complete
--- says that each line was told. Where the lines couldn't be read, nothing is written.
+-- says that each line was told. Where the lines couldn't be read, or are too many, nothing is written.
 abbrev pub EndsDump : DumpRequest → (left old new : Option (List ℕ)) → Exit → Type 0
 EndsDump request left old new Complete = IfSome left (λ text. WritesLines (TellsLine request) (lines text) old new)
 EndsDump request left old new (Device Unwritable) = ⊤
 EndsDump request left old new (Device NoMemory) = ⊤
+EndsDump request left old new (Device TooLong) = IfSome left (λ text. 1048576 < length text) × Keeps old new
 EndsDump request left old new (Device fault) = Keeps old new
 EndsDump request left old new _ = ⊥

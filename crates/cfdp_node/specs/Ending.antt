@@ -29,13 +29,13 @@ pub record RunsAll (steps : List Step) (first : WorldState) (exit : Exit)
   pub written : Appends old new (report_text (puts_asked steps) answered last)
 
 -- A run stopped for one of these. Of a report that couldn't be written to its end nothing is said;
--- for another fault nothing is written.
+-- where there was no memory at its start nothing is written. It reads nothing.
 abbrev pub StopsRun : Fault → (old new : Option (List ℕ)) → Type 0 → Type 0
 StopsRun NoMemory old new ran = ran
 StopsRun NoMemoryAtStart old new ran = Keeps old new
 StopsRun Unwritable old new ran = ⊤
-StopsRun Unreadable old new ran = Keeps old new
-StopsRun TooLong old new ran = Keeps old new
+StopsRun Unreadable old new ran = ⊥
+StopsRun TooLong old new ran = ⊥
 
 -- These commands ended so from this world.
 abbrev pub EndsRun : Exit → List Step → WorldState → (old new : Option (List ℕ)) → Type 0

@@ -15,5 +15,11 @@ pub mod Numbers
 pub mod Words
 pub mod Script
 pub mod Gathering
+pub mod Sighting
 pub mod Capture
 pub mod Trace
+pub mod Chart
+pub mod Turn
+pub mod Wire
+pub mod Looping
+pub mod LoopRequest

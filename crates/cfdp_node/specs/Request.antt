@@ -1,11 +1,11 @@
 -- What a command line asks for. Its first word is the program's name.
-use Rattle.std.specs.Prelude.{◌≡◌, ◌≤◌, ⊤, ℕ, Bool, true, false, List, [], ◌∷◌, codes, Option, Some, None, is_some, option_map, option_and_then, if◌then◌else◌}
+use Rattle.std.specs.Prelude.{◌≡◌, ◌⊎◌, ◌≤◌, ⊤, ℕ, Bool, true, false, List, [], ◌∷◌, codes, Option, Some, None, is_some, option_map, option_and_then, if◌then◌else◌}
 use Rattle.std.specs.Option.{option_map_or}
 use Rattle.std.specs.Str.{bytes_eq}
 use Rattle.std.specs.Str.Parse.{digits_value, without_leading_plus}
 use Rattle.clap.specs.ValueTests.{is_unsigned_in}
 use Rattle.clap.specs.Faults.{fault_of}
-use Rattle.clap.specs.Kinds.{Kinds, or_else}
+use Rattle.clap.specs.Kinds.{IsAmong, Kinds, or_else}
 use Rattle.clap.specs.Matches.{found_of}
 use Rattle.clap.specs.Simple.{App, app_of, new_app, new_rule, on_top, subcommand_of, with_rule, with_subcommand}
 use Rattle.clap.specs.Walk.{Row, Rule, Text, first_of, rows_of}
@@ -16,10 +16,12 @@ use Rattle.clap.specs.declared.builder.value_parser.ValueParser.TheVariants.{Uns
 use Rattle.clap.specs.declared.error.kind.ErrorKind.{ErrorKind}
 use Rattle.clap.specs.declared.error.kind.ErrorKind.TheVariants.{DisplayHelp, DisplayVersion, InvalidValue, OutOfMemory}
 use Rattle.clap.specs.declared.parser.matches.ArgMatches.{ArgMatches}
+use Rattle.cfdp_node.specs.declared.arguments.DumpRequest.{DumpRequest}
 use Rattle.cfdp_node.specs.declared.arguments.Request.{Request}
-use Rattle.cfdp_node.specs.declared.arguments.Request.TheVariants.{Sim, Dump, Version}
+use Rattle.cfdp_node.specs.declared.arguments.Request.TheVariants.{Sim, Dump, Loop, Version}
 use Rattle.cfdp_node.specs.declared.dump.DumpKind.{DumpKind}
 use Rattle.cfdp_node.specs.declared.dump.DumpKind.TheVariants.{Pdus, Frames}
+use Rattle.cfdp_node.specs.LoopRequest.{LoopAsked, loop_app, loop_asked, loop_of}
 
 -- ---- the grammar
 
@@ -27,9 +29,13 @@ use Rattle.cfdp_node.specs.declared.dump.DumpKind.TheVariants.{Pdus, Frames}
 abbrev pub flag_rule : Text → Rule
 flag_rule name = record (new_rule name) { long = Some name; action = Some SetTrue }
 
--- a file for the capture
-abbrev pub pcap_rule : Rule
-pcap_rule = record (new_rule (codes "pcap")) { long = Some (codes "pcap"); value_names = 1 }
+-- a file that something is written to, which an option of this name says
+abbrev pub file_rule : Text → Rule
+file_rule name = record (new_rule name) { long = Some name; value_names = 1 }
+
+-- the file that is read
+abbrev pub input_rule : Rule
+input_rule = record (new_rule (codes "file")) { value_names = 1 }
 
 -- what the lines are, which has to be said
 abbrev pub kind_rule : Rule
@@ -44,18 +50,26 @@ zone_rule = record (new_rule (codes "zone")) {
   parser = Some (Unsigned 16 2040);
 }
 
+-- how a script is run: what is told beside the report, a chart, and the file with the script
+abbrev pub told_sim_app : App
+told_sim_app = with_rule (with_rule (with_rule (new_app (codes "sim")) (flag_rule (codes "explain"))) (flag_rule (codes "trace"))) (file_rule (codes "pcap"))
+
 abbrev pub sim_app : App
-sim_app = with_rule (with_rule (with_rule (new_app (codes "sim")) (flag_rule (codes "explain"))) (flag_rule (codes "trace"))) pcap_rule
+sim_app = with_rule (with_rule told_sim_app (file_rule (codes "chart"))) input_rule
+
+-- how lines are told, and the file with them
+abbrev pub told_dump_app : App
+told_dump_app = with_rule (with_rule (with_rule (new_app (codes "dump")) kind_rule) zone_rule) (flag_rule (codes "long"))
 
 abbrev pub dump_app : App
-dump_app = with_rule (with_rule (with_rule (new_app (codes "dump")) kind_rule) zone_rule) (flag_rule (codes "long"))
+dump_app = with_rule told_dump_app input_rule
 
 -- the program alone, which shows its help where it gets no word
 abbrev pub top_app : App
 top_app = with_rule (on_top (λ s. record s { arg_required_else_help = true }) (new_app (codes "cfdp_node"))) (flag_rule (codes "version"))
 
 abbrev pub program_app : App
-program_app = with_subcommand (with_subcommand top_app sim_app.top) dump_app.top
+program_app = with_subcommand (with_subcommand (with_subcommand top_app sim_app.top) dump_app.top) loop_app.top
 
 -- The command is the one of this grammar.
 abbrev pub IsCommand : App → Command → Type 0
@@ -63,10 +77,16 @@ IsCommand app c = (app_of c ≡ app) × ((out-Command c).has_globals ≡ false)
 
 -- ---- what is asked for
 
--- To run a script, and how; to tell lines, and how; or the version.
+-- How lines are to be told: their kind, the zone of frames, and whether at length.
+abbrev pub Lines : Type 0
+Lines = DumpKind × ℕ × Bool
+
+-- To run a script, and how; to tell lines, and how; to send a file, and how; or the version. Of
+-- files each is said by its name; without the last one standard input is read.
 pub data Asked : Type 0 where
-  sim : (explain trace : Bool) → (pcap : Option Text) → Asked
-  dump : (kind : DumpKind) → (zone : ℕ) → (long : Bool) → Asked
+  sim : (explain trace : Bool) → (pcap chart file : Option Text) → Asked
+  dump : (lines : Lines) → (file : Option Text) → Asked
+  loop : LoopAsked → Asked
   version : Asked
 
 -- what a subcommand's words gave for the argument of this name
@@ -86,19 +106,24 @@ abbrev pub zone_of_word : Text → Option ℕ
 zone_of_word word = if is_unsigned_in 16 2040 word then Some (digits_value 10 (without_leading_plus word)) else None
 
 abbrev pub sim_of : List Row → Asked
-sim_of rows = sim (is_given (codes "explain") rows) (is_given (codes "trace") rows) (first_of (codes "pcap") rows)
+sim_of rows = sim (is_given (codes "explain") rows) (is_given (codes "trace") rows)
+    (first_of (codes "pcap") rows) (first_of (codes "chart") rows) (first_of (codes "file") rows)
 
-abbrev pub dump_of : List Row → Option Asked
-dump_of rows = option_and_then (λ kind. option_map (λ zone. dump kind zone (is_given (codes "long") rows))
+abbrev pub lines_of : List Row → Option Lines
+lines_of rows = option_and_then (λ kind. option_map (λ zone. (kind, zone, is_given (codes "long") rows))
     (option_and_then zone_of_word (first_of (codes "zone") rows)))
     (option_and_then kind_of_word (first_of (codes "kind") rows))
+
+abbrev pub dump_of : List Row → Option Asked
+dump_of rows = option_map (λ lines. dump lines (first_of (codes "file") rows)) (lines_of rows)
 
 -- what a subcommand of this name asks for, by what its words gave
 abbrev pub asked_by : Option (Text × List Row) → Option Asked
 asked_by None = Some version
 asked_by (Some found) =
     if bytes_eq found.0 (codes "sim") then Some (sim_of found.1)
-    else (if bytes_eq found.0 (codes "dump") then dump_of found.1 else None)
+    else (if bytes_eq found.0 (codes "dump") then dump_of found.1
+    else (if bytes_eq found.0 (codes "loop") then option_map loop (loop_of found.1) else None))
 
 -- what words that fit the grammar ask for
 abbrev pub asked_of : List Text → Option Asked
@@ -111,15 +136,22 @@ refusals words = or_else (fault_of program_app words) (if is_some (asked_of word
 
 -- ---- what the program makes of it
 
+abbrev pub asked_lines : DumpRequest → Lines
+asked_lines request = (request.kind, request.zone, request.long)
+
 abbrev pub asked : Request → Asked
-asked (Sim request) = sim request.explain request.trace (option_map (λ file. file.bytes.items) request.pcap)
-asked (Dump request) = dump request.kind request.zone request.long
+asked (Sim request) = sim request.explain request.trace
+    (option_map (λ file. file.bytes.items) request.pcap) (option_map (λ file. file.bytes.items) request.chart)
+    (option_map (λ file. file.bytes.items) request.file)
+asked (Dump lines file) = dump (asked_lines lines) (option_map (λ name. name.bytes.items) file)
+asked (Loop request) = loop (loop_asked request)
 asked Version = version
 
 -- A packet zone that is asked for has a length that it may have.
 abbrev pub HasZone : Request → Type 0
 HasZone (Sim request) = ⊤
-HasZone (Dump request) = (16 ≤ request.zone) × (request.zone ≤ 2040)
+HasZone (Dump lines file) = (16 ≤ lines.zone) × (lines.zone ≤ 2040)
+HasZone (Loop request) = ⊤
 HasZone Version = ⊤
 
 -- the exit status of the process where its arguments are not done
@@ -128,3 +160,13 @@ refusal_status DisplayHelp = 0
 refusal_status DisplayVersion = 0
 refusal_status OutOfMemory = 3
 refusal_status mistake = 2
+
+-- The process ends with the status of this kind; where help can't be printed, with that of a device.
+abbrev pub IsStatusOf : ErrorKind → ℕ → Type 0
+IsStatusOf kind status = (status ≡ refusal_status kind) ⊎ ((refusal_status kind ≡ 0) × (status ≡ 3))
+
+-- A command line is refused with this status: by one of these kinds, or for want of memory.
+pub record RefusedBy (kinds : Kinds) (status : ℕ) : Type 0 where
+  pub kind : ErrorKind
+  pub among : (kind ≡ OutOfMemory) ⊎ IsAmong kind kinds
+  pub ends : IsStatusOf kind status

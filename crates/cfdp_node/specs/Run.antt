@@ -83,6 +83,19 @@ Runs (step ∷ steps) [] old new = ⊥
 Runs (step ∷ steps) (done ∷ all) old new = (done.line ≡ step.line)
     × (mid : WorldState) × Performs step.command done.answer old mid × Runs steps all mid new
 
+-- A put that a command asked for was accepted. Lines of scripts repeat deliveries and losses alone.
+abbrev pub IsAccepted : Command → Option Answer → Type 0
+IsAccepted (Once (event.Put at source destination)) answer = answer ≡ None
+IsAccepted (Repeat (event.Put at source destination) count) answer = ⊥
+IsAccepted _ answer = Unit {0}
+
+-- Every put was.
+abbrev pub AreAccepted : List Step → List Answered → Type 0
+AreAccepted [] answered = Unit {0}
+AreAccepted (step ∷ steps) [] = Unit {0}
+AreAccepted (step ∷ steps) (done ∷ all) =
+    IsAccepted step.command done.answer × AreAccepted steps all
+
 -- how many files a command asks a station to send: one or none
 abbrev pub puts_by : Command → ℕ
 puts_by (Once (event.Put at source destination)) = 1

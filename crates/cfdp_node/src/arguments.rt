@@ -1,14 +1,15 @@
-ghost use Rattle.std.specs.Prelude.{◌≡◌, ◌⊎◌, ◌≤◌, false, map, IfOk, IfSome, Some, option_map};
+ghost use Rattle.std.specs.Prelude.{◌≡◌, ◌⊎◌, ◌≤◌, false, map, IfErr, IfOk, IfSome, Some, option_map};
 ghost use Rattle.clap.specs.Kinds.{FailsBy};
 ghost use Rattle.clap.specs.Faults.{fault_of};
 ghost use Rattle.clap.specs.Matches.{found_of};
 ghost use Rattle.clap.specs.Values.{kind_of};
 ghost use Rattle.clap.specs.Walk.{first_of, rows_of, rule_of};
 ghost use Rattle.clap.specs.Simple.{subcommand_rows_of};
-ghost use Rattle.cfdp_node.specs.Request.{HasZone, IsCommand, asked, asked_by, asked_of, dump_app, dump_of, flag_rule, kind_of_word, kind_rule, pcap_rule, program_app, refusal_status, refusals, sim_app, sim_of, top_app, zone_of_word, zone_rule};
+ghost use Rattle.cfdp_node.specs.Request.{HasZone, IsCommand, IsStatusOf, RefusedBy, asked, asked_by, asked_of, dump_app, dump_of, flag_rule, kind_of_word, kind_rule, file_rule, input_rule, asked_lines, lines_of, program_app, refusals, sim_app, sim_of, told_dump_app, told_sim_app, top_app, zone_of_word, zone_rule};
 ghost use Rattle.cfdp_node.specs.Request as requests;
 
 use crate::dump::DumpKind;
+use crate::loop_request::{LoopRequest, loop_command, loop_request};
 use clap::error::ErrorKind;
 use clap::{Arg, ArgAction, ArgMatches, Command, Error, value_parser};
 use std::alloc::{AllocError, Global};
@@ -19,8 +20,13 @@ use std::{env, io};
 pub enum Request {
     /// To run a script.
     Sim(SimRequest),
-    /// To tell what lines spell.
-    Dump(DumpRequest),
+    /// To tell what the lines of this file, or else of standard input, spell.
+    Dump {
+        lines: DumpRequest,
+        file: Option<String>,
+    },
+    /// To send a file from one folder into another.
+    Loop(LoopRequest),
     /// To print the version.
     Version,
 }
@@ -28,12 +34,23 @@ pub enum Request {
 /// How a script is to be run.
 #[derive(Drop)]
 pub struct SimRequest {
-    /// Whether to say why a bad script is bad.
+    /// Whether to say why a bad script is bad, what conditions say, and what was dropped.
     pub explain: bool,
-    /// Whether to tell each frame and PDU on standard error, in the order of events.
+    /// Whether to tell what passes on standard error, in the order of events.
     pub trace: bool,
     /// The file that the PDUs of both directions go to, as a capture.
     pub pcap: Option<String>,
+    /// The file that what passes goes to, as a chart.
+    pub chart: Option<String>,
+    /// The file that the script is read from; standard input without one.
+    pub file: Option<String>,
+}
+
+impl SimRequest {
+    /// Whether something is asked for that is seen only by one who looks on.
+    pub fn is_watched(&self) -> bool {
+        self.explain || self.trace || self.pcap.is_some() || self.chart.is_some()
+    }
 }
 
 /// What lines are to be told.
@@ -54,8 +71,8 @@ const MISTAKE: u8 = 2;
 const NO_MEMORY: u8 = 3;
 
 const SIM_HELP: &str = "\
-The script is read from standard input: at most 1,048,576 octets in lines of
-at most 4,096, ASCII, one command a line, words with one space between. Empty
+The script is read from FILE, or from standard input: at most 1,048,576 octets
+in lines of at most 4,096, ASCII, one command a line, words with one space between. Empty
 lines and lines that begin with # are skipped. S is the station, 1 or 2; ID is
 a transaction, SOURCE:NUMBER.
 First, what the stations have:
@@ -102,10 +119,17 @@ puts were completed. A command that could not do its work is told as
   line N LossRunTooLong too many frames lost in a row
   line N NoMemory       or StoreFailed, TableFull: it ended early
   line N StillArmed     after 24576 ticks of recover a timer is left
+Conditions, as in 'fault ID 7': 0 none, 1 no ACK came, 4 the store failed,
+5 checksum, 6 size, 7 NAKs were of no use, 8 silence, 11 unknown checksum type,
+14 suspended, 15 cancelled. --explain tells them in words.
 
-With --trace, a line for each frame and PDU that passes, on standard error: the
-number of the event, the station, what it did (sends; takes a frame or hears a
-PDU, which arrive; loses a frame that it sent), and the line of a dump.
+With --explain, on standard error: why a bad script is bad; or, at the end, what
+the conditions say that came up, and what stations dropped, how often.
+With --trace, a line for each thing that a station did, on standard error: the
+line of the script and the number of the event, as 3.10, the station, and what
+it did: ticks (it was told the time), sends, takes a frame or hears a PDU, which
+arrive, loses a frame that it sent, drops, tells its user.
+With --chart FILE, the same as a sequence diagram in Mermaid's text.
 With --pcap FILE, the PDUs that are sent go to FILE for Wireshark, with the
 number of the event as time. There, in Preferences, Protocols, DLT_USER, User 0
 (DLT=147) is to have the payload dissector cfdp.
@@ -117,8 +141,8 @@ Example:
   printf 'file 1 a.txt hello\\nput 1 a.txt b.txt\\nsettle\\n' | cfdp_node sim";
 
 const DUMP_HELP: &str = "\
-Input: a PDU or a frame a line, as pairs of hexadecimal digits of either case;
-at most 1,048,576 octets in all.
+Input, from FILE or standard input: a PDU or a frame a line, as pairs of
+hexadecimal digits of either case; at most 1,048,576 octets in all.
 Output: a line for each; ID is the source and the number of the transaction.
   data ID OFFSET LENGTH
   metadata ID CHECKSUM-TYPE SIZE SRC DST
@@ -138,7 +162,8 @@ With --long the line of a PDU goes on; that of a frame stays as it is:
 Errors of any line: 0 Hex (no such digits).
 Errors of PDUs: 1 Short, 2 Version, 3 CrcPresent, 4 Length, 5 Unacknowledged,
 6 LargeFile, 7 Directive, 8 Truncated, 9 Trailing, 10 Tlv, 11 Condition.
-Errors of frames: 1 Length, 2 Version, 3 OtherProfile, 6 OnlyIdle.
+Errors of frames: 1 Length (mostly: another --zone is meant), 2 Version,
+3 OtherProfile, 6 OnlyIdle.
 
 Exit status: 0 whatever the lines say, 2 bad arguments, 3 a failed read or
 write, or no memory (told on standard error).
@@ -153,7 +178,8 @@ Example, which prints 'eof 1:1 0 D7656C6C 5':
 /// The status with which the process ends, where there is nothing to do: help, which went to
 /// standard output, or a mistake, which was told on standard error.
 pub fn read(rt: &HostRuntime) -> Result<Request, u8>
-    ensures { IfOk result HasZone }
+    ensures zone { IfOk result HasZone }
+    ensures status { IfErr result (λ status. (status ≡ 0) ⊎ (status ≡ 2) ⊎ (status ≡ 3)) }
 {
     let words: Vec<String> = match env::args(rt) {
         Ok(args) => match args.collect(rt.alloc()) {
@@ -162,14 +188,32 @@ pub fn read(rt: &HostRuntime) -> Result<Request, u8>
         },
         Err(error) => return Err(unread_status(rt, &error)),
     };
-    match parse(rt.alloc(), words.as_slice()) {
+    request_of(rt, words.as_slice())
+}
+
+/// What these words ask for. The first is the program's name. Help and mistakes are told.
+///
+/// # Errors
+///
+/// The status with which the process ends, by what is wrong with the words.
+fn request_of(rt: &HostRuntime, words: &[String]) -> Result<Request, u8>
+    ensures asked { IfOk result (λ request. asked_of (map (λ word. word.bytes.items) words.now)
+        ≡ Some (asked request)) }
+    ensures refused { IfErr result (RefusedBy
+        (refusals (map (λ word. word.bytes.items) words.now))) }
+    ensures status { IfErr result (λ status. (status ≡ 0) ⊎ (status ≡ 2) ⊎ (status ≡ 3)) }
+    ensures zone { IfOk result HasZone }
+{
+    match parse(rt.alloc(), words) {
         Ok(request) => Ok(request),
         Err(error) => Err(answered(rt, &error)),
     }
 }
 
 /// Prints the version, and gives the status of the process.
-pub fn version_status(rt: &HostRuntime) -> u8 {
+pub fn version_status(rt: &HostRuntime) -> u8
+    ensures { (result ≡ 0) ⊎ (result ≡ NO_MEMORY) }
+{
     match println!(rt; "cfdp_node {VERSION}") {
         Ok(()) => 0,
         Err(_) => NO_MEMORY,
@@ -223,7 +267,8 @@ fn requested(alloc: Global, matches: &ArgMatches<'_>) -> Result<Option<Request>,
 {
     match matches.subcommand() {
         Some(("sim", arguments)) => Ok(Some(Request::Sim(sim_request(alloc, arguments)?))),
-        Some(("dump", arguments)) => Ok(dump_request(arguments).map(Request::Dump)),
+        Some(("dump", arguments)) => dump_request(alloc, arguments),
+        Some(("loop", arguments)) => Ok(loop_request(alloc, arguments)?.map(Request::Loop)),
         Some(_) => Ok(None),
         None => Ok(Some(Request::Version)),
     }
@@ -234,22 +279,48 @@ fn sim_request(alloc: Global, arguments: &ArgMatches<'_>) -> Result<SimRequest, 
     ensures { IfOk result (λ request. asked (Request.Sim request)
         ≡ sim_of (rows_of (found_of arguments.now))) }
 {
-    let pcap = match word_of(arguments, "pcap") {
-        Some(file) => Some(String::from_str(alloc, file)?),
-        None => None,
-    };
     Ok(SimRequest {
         explain: is_given(arguments, "explain"),
         trace: is_given(arguments, "trace"),
-        pcap,
+        pcap: owned_word(alloc, arguments, "pcap")?,
+        chart: owned_word(alloc, arguments, "chart")?,
+        file: owned_word(alloc, arguments, "file")?,
     })
 }
 
+/// A copy of the word that was found for this argument, if there is one.
+fn owned_word(
+    alloc: Global,
+    arguments: &ArgMatches<'_>,
+    name: &str,
+) -> Result<Option<String>, AllocError>
+    ensures { IfOk result (λ word. option_map (λ text. text.bytes.items) word
+        ≡ first_of name.now (rows_of (found_of arguments.now))) }
+{
+    match word_of(arguments, name) {
+        Some(word) => Ok(Some(String::from_str(alloc, word)?)),
+        None => Ok(None),
+    }
+}
+
 /// What the words behind `dump` ask for, `None` where KIND is no kind.
-fn dump_request(arguments: &ArgMatches<'_>) -> Option<DumpRequest>
-    ensures asked { option_map (λ request. asked (Request.Dump request)) result
-        ≡ dump_of (rows_of (found_of arguments.now)) }
-    ensures zone { IfSome result (λ request. (16 ≤ request.zone) × (request.zone ≤ 2040)) }
+fn dump_request(alloc: Global, arguments: &ArgMatches<'_>) -> Result<Option<Request>, AllocError>
+    ensures asked { IfOk result (λ found. option_map asked found
+        ≡ dump_of (rows_of (found_of arguments.now))) }
+    ensures zone { IfOk result (λ found. IfSome found HasZone) }
+{
+    let file = owned_word(alloc, arguments, "file")?;
+    match lines_asked(arguments) {
+        Some(lines) => Ok(Some(Request::Dump { lines, file })),
+        None => Ok(None),
+    }
+}
+
+/// How lines are to be told, `None` where KIND is no kind.
+fn lines_asked(arguments: &ArgMatches<'_>) -> Option<DumpRequest>
+    ensures asked { option_map (λ lines. asked_lines lines) result
+        ≡ lines_of (rows_of (found_of arguments.now)) }
+    ensures zone { IfSome result (λ lines. (16 ≤ lines.zone) × (lines.zone ≤ 2040)) }
 {
     let kind = dump_kind(word_of(arguments, "kind")?)?;
     let zone = zone_octets(word_of(arguments, "zone")?)?;
@@ -258,7 +329,7 @@ fn dump_request(arguments: &ArgMatches<'_>) -> Option<DumpRequest>
 }
 
 /// The word that was found for this argument, or stands for it where none is given.
-fn word_of<'a>(arguments: &ArgMatches<'a>, name: &str) -> Option<&'a str>
+pub fn word_of<'a>(arguments: &ArgMatches<'a>, name: &str) -> Option<&'a str>
     ensures { option_map (λ word. word.now) result
         ≡ first_of name.now (rows_of (found_of arguments.now)) }
 {
@@ -306,7 +377,8 @@ fn grammar<'a>(alloc: Global) -> Result<Command<'a>, AllocError>
     let top = top_command(alloc)?;
     let sim = sim_command(alloc)?;
     let dump = dump_command(alloc)?;
-    top.subcommand(sim)?.subcommand(dump)
+    let looped = loop_command(alloc)?;
+    top.subcommand(sim)?.subcommand(dump)?.subcommand(looped)
 }
 
 fn top_command<'a>(alloc: Global) -> Result<Command<'a>, AllocError>
@@ -316,7 +388,7 @@ fn top_command<'a>(alloc: Global) -> Result<Command<'a>, AllocError>
         .bin_name("cfdp_node")?
         .about("Sends files between two simulated stations by the CCSDS File Delivery Protocol")
         .after_help(
-            "'cfdp_node sim --help' shows the commands of a script, 'cfdp_node dump --help' the lines of a dump.",
+            "'cfdp_node sim --help' shows the commands of a script, 'cfdp_node dump --help' the lines of a dump, 'cfdp_node loop --help' what is sent how.",
         )
         .arg_required_else_help(true)
         .arg(flag(alloc, "version", "Prints the version"))
@@ -325,29 +397,52 @@ fn top_command<'a>(alloc: Global) -> Result<Command<'a>, AllocError>
 fn sim_command<'a>(alloc: Global) -> Result<Command<'a>, AllocError>
     ensures { IfOk result (IsCommand sim_app) }
 {
+    let told = told_sim_command(alloc)?;
+    told.arg(file_for(
+        alloc,
+        "chart",
+        "Writes what passes to FILE, as a sequence diagram in Mermaid's text",
+    ))?
+    .arg(input_argument(alloc))
+}
+
+/// `sim` with what it tells beside the report.
+fn told_sim_command<'a>(alloc: Global) -> Result<Command<'a>, AllocError>
+    ensures { IfOk result (IsCommand told_sim_app) }
+{
     Command::new(alloc, "sim")
-        .about(
-            "Runs a script of two stations, read from standard input, and reports on standard output",
-        )
+        .about("Runs a script of two stations, and reports on standard output")
         .after_help(SIM_HELP)
         .arg(flag(
             alloc,
             "explain",
-            "Says why a bad line is bad, on a second line of standard error",
+            "Says why a bad line is bad, what conditions say, and what was dropped",
         ))?
         .arg(flag(
             alloc,
             "trace",
-            "Tells each frame and PDU on standard error, in the order of events",
+            "Tells what passes on standard error, in the order of events",
         ))?
-        .arg(pcap_argument(alloc))
+        .arg(file_for(
+            alloc,
+            "pcap",
+            "Writes the PDUs of both directions to FILE, as a capture",
+        ))
 }
 
 fn dump_command<'a>(alloc: Global) -> Result<Command<'a>, AllocError>
     ensures { IfOk result (IsCommand dump_app) }
 {
+    let told = told_dump_command(alloc)?;
+    told.arg(input_argument(alloc))
+}
+
+/// `dump` with how lines are told.
+fn told_dump_command<'a>(alloc: Global) -> Result<Command<'a>, AllocError>
+    ensures { IfOk result (IsCommand told_dump_app) }
+{
     Command::new(alloc, "dump")
-        .about("Tells what lines spell, read from standard input, on standard output")
+        .about("Tells on standard output what lines spell")
         .after_help(DUMP_HELP)
         .arg(kind_argument(alloc))?
         .arg(zone_argument(alloc))?
@@ -368,13 +463,22 @@ fn flag<'a>(alloc: Global, name: &'a str, help: &'a str) -> Arg<'a>
         .action(ArgAction::SetTrue)
 }
 
-fn pcap_argument<'a>(alloc: Global) -> Arg<'a>
-    ensures { (rule_of result ≡ pcap_rule) × (result.global ≡ false) }
+/// A file that something is written to.
+fn file_for<'a>(alloc: Global, name: &'a str, help: &'a str) -> Arg<'a>
+    ensures { (rule_of result ≡ file_rule name.now) × (result.global ≡ false) }
 {
-    Arg::new(alloc, "pcap")
-        .long("pcap")
+    Arg::new(alloc, name)
+        .long(name)
         .value_name("FILE")
-        .help("Writes the PDUs of both directions to FILE, as a capture")
+        .help(help)
+}
+
+fn input_argument<'a>(alloc: Global) -> Arg<'a>
+    ensures { (rule_of result ≡ input_rule) × (result.global ≡ false) }
+{
+    Arg::new(alloc, "file")
+        .value_name("FILE")
+        .help("What is read; standard input without it")
 }
 
 fn kind_argument<'a>(alloc: Global) -> Arg<'a>
@@ -400,8 +504,8 @@ fn zone_argument<'a>(alloc: Global) -> Arg<'a>
 /// Prints what the parser has to say, and gives the status that goes with it, which is that of
 /// memory too where help can't be printed.
 fn answered(rt: &HostRuntime, error: &Error) -> u8
-    ensures { (result ≡ refusal_status (kind_of error.now))
-        ⊎ (refusal_status (kind_of error.now) ≡ 0) × (result ≡ NO_MEMORY) }
+    ensures kind { IsStatusOf (kind_of error.now) result }
+    ensures status { (result ≡ 0) ⊎ (result ≡ 2) ⊎ (result ≡ 3) }
 {
     if error.kind() == ErrorKind::OutOfMemory {
         return NO_MEMORY;
@@ -416,7 +520,10 @@ fn answered(rt: &HostRuntime, error: &Error) -> u8
     }
 }
 
-fn unread_status(rt: &HostRuntime, error: &io::Error) -> u8 {
+/// Tells that the words can't be read, and gives the status that goes with it.
+fn unread_status(rt: &HostRuntime, error: &io::Error) -> u8
+    ensures { (result ≡ MISTAKE) ⊎ (result ≡ NO_MEMORY) }
+{
     if error.kind() == io::ErrorKind::InvalidData {
         let _ = eprintln!(rt; "error: an argument isn't UTF-8");
         MISTAKE

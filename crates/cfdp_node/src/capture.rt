@@ -47,7 +47,13 @@ fn write_record<W: Write>(out: &mut W, sighting: &Sighting) -> io::Result<()>
 {
     match sighting.deed {
         Deed::SendsPdu => write_pdu(out, sighting.event, sighting.place, &sighting.octets),
-        Deed::SendsFrame | Deed::TakesFrame | Deed::HearsPdu | Deed::LosesFrame => Ok(()),
+        Deed::SendsFrame
+        | Deed::TakesFrame
+        | Deed::HearsPdu
+        | Deed::LosesFrame
+        | Deed::Ticks
+        | Deed::Drops
+        | Deed::Tells => Ok(()),
     }
 }
 

@@ -11,6 +11,7 @@ use cfdp_directives::Octets;
 use cfdp_header::TransactionId;
 use link_sim::{Event, Side};
 use std::alloc::{AllocError, Global};
+use std::fmt;
 
 /// The longest line of a script, in octets, without its line feed.
 pub const MAX_LINE: usize = 4096;
@@ -127,32 +128,42 @@ pub enum LineError {
     BadOctet,
     /// `set`, `file` or `fill` stands behind another command.
     TooLate,
+    /// The last `set` leaves a setting out of its range. This is the line that set that one.
+    OutOfRange { setting: Setting, line: usize },
     /// The last `set` leaves a configuration that isn't valid.
     BadConfiguration,
     /// The line is bad, and ends with a carriage return.
     CarriageReturn,
 }
 
-impl LineError {
+impl fmt::Display for LineError {
     /// The sentence that explains it.
-    pub fn reason(self) -> &'static str {
+    fn fmt<W: fmt::Write>(&self, f: &mut fmt::Formatter<W>) -> fmt::Result {
         match self {
-            LineError::TooLong => "the line has more than 4,096 octets",
-            LineError::NotAscii => "the line has an octet that is not ASCII",
-            LineError::MissingWord => "a word is missing",
-            LineError::EmptyWord => "two spaces stand together, or a space begins or ends the line",
-            LineError::ExtraWord => "the line has more words than the command takes",
-            LineError::UnknownCommand => "there is no such command",
-            LineError::UnknownKey => "there is no such setting",
-            LineError::UnknownStation => "a station is 1 or 2",
-            LineError::BadNumber => "a number is decimal digits, below 2^64",
-            LineError::BadId => "a transaction is two numbers with a colon between",
-            LineError::UnknownPrompt => "a prompt asks for nak or keep",
-            LineError::FileTooLong => "a file to fill has at most 1,048,576 octets",
-            LineError::BadOctet => "an octet is two hexadecimal digits",
-            LineError::TooLate => "set, file and fill stand before all other commands",
-            LineError::BadConfiguration => "after the last set a setting is out of its range",
-            LineError::CarriageReturn => "the line ends with a carriage return",
+            LineError::TooLong => f.write_str("the line has more than 4,096 octets"),
+            LineError::NotAscii => f.write_str("the line has an octet that is not ASCII"),
+            LineError::MissingWord => f.write_str("a word is missing"),
+            LineError::EmptyWord => {
+                f.write_str("two spaces stand together, or a space begins or ends the line")
+            }
+            LineError::ExtraWord => f.write_str("the line has more words than the command takes"),
+            LineError::UnknownCommand => f.write_str("there is no such command"),
+            LineError::UnknownKey => f.write_str("there is no such setting"),
+            LineError::UnknownStation => f.write_str("a station is 1 or 2"),
+            LineError::BadNumber => f.write_str("a number is decimal digits, below 2^64"),
+            LineError::BadId => f.write_str("a transaction is two numbers with a colon between"),
+            LineError::UnknownPrompt => f.write_str("a prompt asks for nak or keep"),
+            LineError::FileTooLong => f.write_str("a file to fill has at most 1,048,576 octets"),
+            LineError::BadOctet => f.write_str("an octet is two hexadecimal digits"),
+            LineError::TooLate => f.write_str("set, file and fill stand before all other commands"),
+            LineError::OutOfRange { setting, line } => {
+                let (key, range) = (setting.key(), setting.range());
+                write!(f, "line {line}: the range of {key} is {range}")
+            }
+            LineError::BadConfiguration => {
+                f.write_str("after the last set a setting is out of its range")
+            }
+            LineError::CarriageReturn => f.write_str("the line ends with a carriage return"),
         }
     }
 }
@@ -161,7 +172,7 @@ impl LineError {
 ///
 /// # Errors
 ///
-/// `Bad` with any `LineError` but the last three; `NoMemory` where there is no memory for the names
+/// `Bad` with any `LineError` but the last four; `NoMemory` where there is no memory for the names
 /// and the text in it.
 pub fn parse_line(alloc: Global, line: &[u8]) -> Result<Line, Unread>
     ensures { Reads result (line_of line.now) }

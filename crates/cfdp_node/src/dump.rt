@@ -12,7 +12,7 @@ ghost use Rattle.cfdp_node.specs.Exit.{IsFlushedAt};
 use crate::arguments::DumpRequest;
 use crate::dump_line::{DumpedPdu, FrameLine};
 use crate::exit::Exit;
-use crate::input::{read_fault, read_script, write_fault};
+use crate::input::{read_script, write_fault};
 use crate::refusal::Refusal;
 use crate::words::cut_at_first;
 use aos_frame::{FrameError, FrameHeader};
@@ -67,7 +67,7 @@ pub fn dump_lines<R: Read + Drop, W: Write>(
 {
     let text = match read_script(alloc, reader) {
         Ok(text) => text,
-        Err(error) => return Exit::Device(read_fault(&error)),
+        Err(fault) => return Exit::Device(fault),
     };
     match write_dump(alloc, request, text.as_slice(), out) {
         Ok(()) => Exit::Complete,

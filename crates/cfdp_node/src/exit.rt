@@ -1,3 +1,4 @@
+use crate::input::Input;
 use crate::script::BadLine;
 use std::io::{BufWriter, Write};
 
@@ -17,9 +18,9 @@ pub enum Exit {
 /// What failed where a run could not be done.
 #[derive(Clone, Copy)]
 pub enum Fault {
-    /// The input can't be read.
+    /// The input can't be read, or has no end within 1,100,000 reads.
     Unreadable,
-    /// The input has more than 1,048,576 octets, or no end within 1,100,000 reads.
+    /// The input has more than 1,048,576 octets.
     TooLong,
     /// The output can't be written.
     Unwritable,
@@ -81,14 +82,15 @@ impl Exit {
 }
 
 impl Fault {
-    /// The line that tells it on standard error, if there is to be one.
-    pub fn message(self) -> Option<&'static str> {
-        match self {
-            Fault::Unreadable => Some("error: standard input can't be read"),
-            Fault::TooLong => Some("error: standard input is longer than 1,048,576 octets"),
-            Fault::Unwritable => Some("error: standard output can't be written"),
-            Fault::NoMemory => Some("error: there is not enough memory"),
-            Fault::NoMemoryAtStart => None,
-        }
+    /// The line that tells it on standard error, if there is to be one, of a run that reads from
+    /// this input.
+    pub fn tell(self, rt: &HostRuntime, input: Input<'_>) {
+        let _ = match self {
+            Fault::Unreadable => eprintln!(rt; "error: {input} can't be read"),
+            Fault::TooLong => eprintln!(rt; "error: {input} is longer than 1,048,576 octets"),
+            Fault::Unwritable => eprintln!(rt; "error: standard output can't be written"),
+            Fault::NoMemory => eprintln!(rt; "error: there is not enough memory"),
+            Fault::NoMemoryAtStart => Ok(()),
+        };
     }
 }

@@ -80,7 +80,7 @@ fn write_answers<W: Write>(out: &mut W, answered: &[Answered]) -> io::Result<()>
 }
 
 /// Writes the line of a command, where it has an answer.
-fn write_answer<W: Write>(out: &mut W, done: Answered) -> io::Result<()>
+pub fn write_answer<W: Write>(out: &mut W, done: Answered) -> io::Result<()>
     ensures { OnOk result (Appends (W.contents out.old) (W.contents out.new) (answer_line done)) }
 {
     match done.answer {
@@ -123,7 +123,7 @@ impl fmt::Display for Told<'_> {
 
 /// The same without the station.
 #[derive(Clone, Copy)]
-struct ToldWords<'a>(&'a Indication);
+pub struct ToldWords<'a>(pub &'a Indication);
 
 impl fmt::Display for ToldWords<'_> {
     ghost output = { λ told. Some (told_text told.0.now) };
@@ -222,7 +222,7 @@ fn completed_puts<S: Stations>(stations: &S) -> u128
 }
 
 /// Of how many of its own transactions a station was told that its file was delivered.
-fn own_completions(station: u64, told: &[Indication]) -> usize
+pub fn own_completions(station: u64, told: &[Indication]) -> usize
     ensures { result ≡ count_by (is_own_completion station) told.now }
 {
     told.iter()

@@ -21,32 +21,33 @@ use std::io::Write;
 /// before the first of them, or none is done. The writer isn't flushed.
 pub fn run_steps<S: Stations, W: Write>(
     alloc: Global,
-    mut stations: S,
+    stations: &mut S,
     steps: &[Step],
     out: &mut W,
 ) -> Exit
-    ensures { EndsRun result steps.now (S.world stations)
+    ensures { EndsRun result steps.now (S.world stations.old)
         (W.contents out.old) (W.contents out.new) }
 {
     let Ok(mut answered) = Vec::with_capacity(alloc, steps.len()) else {
         return Exit::Device(Fault::NoMemoryAtStart);
     };
-    perform_all(&mut stations, steps, &mut answered);
-    match report(&stations, steps, answered.as_slice(), out) {
+    perform_all(stations, steps, &mut answered);
+    match report(stations, steps, answered.as_slice(), out) {
         Ok(exit) => exit,
         Err(_) => Exit::Device(Fault::Unwritable),
     }
 }
 
 /// Does all commands in turn, and keeps what each answered.
-pub fn perform_all<S: Stations>(stations: &mut S, steps: &[Step], answered: &mut Vec<Answered>)
+fn perform_all<S: Stations>(stations: &mut S, steps: &[Step], answered: &mut Vec<Answered>)
     requires none { answered.old.items ≡ [] }
     requires room { length steps.now ≤ vec_capacity answered.old }
     ensures { Runs steps.now answered.new.items (S.world stations.old) (S.world stations.new) }
 {
     for step in steps {
-        let answer = perform(stations, &step.command);
         let line = step.line;
+        stations.comes_to(line);
+        let answer = perform(stations, &step.command);
         answered.push_reserved(Answered { line, answer });
     }
 }

@@ -20,6 +20,8 @@ pub struct Script {
     pub steps: Vec<Step>,
     settings: Settings,
     last_set: usize,
+    // The line of the last `set` of each setting, in the order of `Setting::ALL`; 0 without one.
+    set_lines: [usize; 16],
     first_bad: Option<BadLine>,
 }
 
@@ -57,6 +59,7 @@ impl Script {
             steps: Vec::new(alloc),
             settings: Settings::DEFAULT,
             last_set: 0,
+            set_lines: [0; 16],
             first_bad: None,
         };
         script.take_lines(alloc, text)?;
@@ -134,6 +137,7 @@ impl Script {
         if self.steps.is_empty() {
             self.settings.set(setting, value);
             self.last_set = line;
+            note_set(&mut self.set_lines, setting, line);
         } else {
             self.note(line, LineError::TooLate);
         }
@@ -180,10 +184,34 @@ impl Script {
             Some(bad) if bad.line < line => bad,
             _ => BadLine {
                 line,
-                error: LineError::BadConfiguration,
+                error: self.out_of_range(),
             },
         }
     }
+
+    /// Why the configuration isn't valid: the first setting that is out of its range, and the line
+    /// that set it.
+    fn out_of_range(&self) -> LineError {
+        match self.settings.out_of_range() {
+            Some(setting) => LineError::OutOfRange {
+                setting,
+                line: set_line(&self.set_lines, setting),
+            },
+            None => LineError::BadConfiguration,
+        }
+    }
+}
+
+/// Notes which line set a setting last.
+fn note_set(lines: &mut [usize; 16], setting: Setting, line: usize) {
+    if let Some(last) = lines.get_mut(setting as usize) {
+        *last = line;
+    }
+}
+
+/// The line that set a setting last.
+fn set_line(lines: &[usize; 16], setting: Setting) -> usize {
+    lines.get(setting as usize).copied().unwrap_or(0)
 }
 
 /// Whether a line has no meaning of its own: it is empty, or begins with `#`.

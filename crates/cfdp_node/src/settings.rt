@@ -44,6 +44,80 @@ pub enum Setting {
     OnInactivity,
 }
 
+impl Setting {
+    /// All settings.
+    pub const ALL: [Setting; 16] = [
+        Setting::Zone,
+        Setting::Segment,
+        Setting::IdWidth,
+        Setting::NumberWidth,
+        Setting::FirstNumber,
+        Setting::Checksum,
+        Setting::EofLimit,
+        Setting::NakLimit,
+        Setting::FinishedLimit,
+        Setting::EofTime,
+        Setting::NakTime,
+        Setting::FinishedTime,
+        Setting::InactivityTime,
+        Setting::OnAckLimit,
+        Setting::OnNakLimit,
+        Setting::OnInactivity,
+    ];
+
+    /// Its key in a script.
+    pub fn key(self) -> &'static str {
+        match self {
+            Setting::Zone => "zone",
+            Setting::Segment => "segment",
+            Setting::IdWidth => "id_width",
+            Setting::NumberWidth => "number_width",
+            Setting::FirstNumber => "first_number",
+            Setting::Checksum => "checksum",
+            Setting::EofLimit => "eof_limit",
+            Setting::NakLimit => "nak_limit",
+            Setting::FinishedLimit => "finished_limit",
+            Setting::EofTime => "eof_time",
+            Setting::NakTime => "nak_time",
+            Setting::FinishedTime => "finished_time",
+            Setting::InactivityTime => "inactivity_time",
+            Setting::OnAckLimit => "on_ack_limit",
+            Setting::OnNakLimit => "on_nak_limit",
+            Setting::OnInactivity => "on_inactivity",
+        }
+    }
+
+    /// The values that it may have, in words.
+    pub fn range(self) -> &'static str {
+        match self {
+            Setting::Zone => "16 to 2040",
+            Setting::Segment => "1 to 4096",
+            Setting::IdWidth | Setting::NumberWidth => "1 to 8",
+            Setting::FirstNumber => "any number",
+            Setting::Checksum => "0 or 15",
+            Setting::EofLimit | Setting::NakLimit | Setting::FinishedLimit => "0 to 255",
+            Setting::EofTime | Setting::NakTime | Setting::FinishedTime | Setting::InactivityTime =>
+                "1 to 4294967295",
+            Setting::OnAckLimit | Setting::OnNakLimit | Setting::OnInactivity => "0 to 3",
+        }
+    }
+
+    /// Whether it may have this value.
+    fn fits(self, value: u64) -> bool {
+        match self {
+            Setting::Zone => 16 <= value && value <= 2040,
+            Setting::Segment => 1 <= value && value <= 4096,
+            Setting::IdWidth | Setting::NumberWidth => 1 <= value && value <= 8,
+            Setting::FirstNumber => true,
+            Setting::Checksum => value == 0 || value == 15,
+            Setting::EofLimit | Setting::NakLimit | Setting::FinishedLimit => value <= 255,
+            Setting::EofTime | Setting::NakTime | Setting::FinishedTime | Setting::InactivityTime =>
+                1 <= value && value <= 4_294_967_295,
+            Setting::OnAckLimit | Setting::OnNakLimit | Setting::OnInactivity => value <= 3,
+        }
+    }
+}
+
 /// The values that a script has set so far, in range or not.
 #[derive(Clone, Copy)]
 pub struct Settings {
@@ -110,6 +184,38 @@ impl Settings {
             Setting::OnNakLimit => self.on_nak_limit = value,
             Setting::OnInactivity => self.on_inactivity = value,
         }
+    }
+
+    /// The value of a setting.
+    fn value(&self, setting: Setting) -> u64 {
+        match setting {
+            Setting::Zone => self.zone,
+            Setting::Segment => self.segment,
+            Setting::IdWidth => self.id_width,
+            Setting::NumberWidth => self.number_width,
+            Setting::FirstNumber => self.first_number,
+            Setting::Checksum => self.checksum,
+            Setting::EofLimit => self.eof_limit,
+            Setting::NakLimit => self.nak_limit,
+            Setting::FinishedLimit => self.finished_limit,
+            Setting::EofTime => self.eof_time,
+            Setting::NakTime => self.nak_time,
+            Setting::FinishedTime => self.finished_time,
+            Setting::InactivityTime => self.inactivity_time,
+            Setting::OnAckLimit => self.on_ack_limit,
+            Setting::OnNakLimit => self.on_nak_limit,
+            Setting::OnInactivity => self.on_inactivity,
+        }
+    }
+
+    /// The first setting whose value is out of its range.
+    pub fn out_of_range(&self) -> Option<Setting> {
+        for setting in Setting::ALL {
+            if !setting.fits(self.value(setting)) {
+                return Some(setting);
+            }
+        }
+        None
     }
 
     /// The configuration of both stations with these values, where each fits its field and the

@@ -1,55 +1,88 @@
 //! What is shown of a script's run beside its report.
+ghost use Rattle.std.specs.Prelude.{◌≡◌, ◌⊎◌};
+
 use crate::arguments::SimRequest;
 use crate::capture::write_capture;
+use crate::chart::write_chart;
+use crate::onlooker::Seen;
 use crate::sighting::Sighting;
 use crate::trace::write_trace;
-use crate::watched::{Seen, watch};
-use std::alloc::AllocError;
 use std::io::Write;
 use std::{fs, io};
 
 /// The exit status where what is asked for can't be shown.
 const DEVICE: u8 = 3;
 
-/// Runs a script once more, and shows what passes in it as far as that is asked for. Of a bad
-/// script there is nothing to show. Answers the exit status: 0, or 3 where memory or writing
-/// failed.
-pub fn show(rt: &HostRuntime, request: &SimRequest, text: &[u8]) -> u8 {
-    match watch(rt.alloc(), text) {
-        Ok(Some(seen)) => show_seen(rt, request, &seen),
-        Ok(None) => 0,
-        Err(AllocError) => {
-            let _ = eprintln!(rt; "error: there is not enough memory to show what passes");
-            DEVICE
-        }
-    }
-}
-
-/// Shows what was seen, as far as that is asked for.
-fn show_seen(rt: &HostRuntime, request: &SimRequest, seen: &Seen) -> u8 {
-    if request.trace && show_trace(rt, seen).is_err() {
+/// Shows what was seen of a run, as far as that is asked for. Answers the exit status: 0, or 3
+/// where memory or writing failed.
+pub fn show(rt: &HostRuntime, request: &SimRequest, seen: &Seen) -> u8
+    ensures { (result ≡ 0) ⊎ (result ≡ 3) }
+{
+    let Ok(sightings) = seen.log.sightings() else {
+        let _ = eprintln!(rt; "error: there is not enough memory to show what passes");
         return DEVICE;
-    }
-    let Some(file) = &request.pcap else {
-        return 0;
     };
-    if save_capture(rt, file, seen.sightings.as_slice()).is_err() {
-        let _ = eprintln!(rt; "error: the file {file} can't be written");
-        return DEVICE;
+    match show_all(rt, request, seen, sightings) {
+        Ok(()) => 0,
+        Err(_) => DEVICE,
     }
-    0
 }
 
-/// Writes all that was seen to standard error.
-fn show_trace(rt: &HostRuntime, seen: &Seen) -> io::Result<()> {
+/// Shows what is asked for.
+fn show_all(
+    rt: &HostRuntime,
+    request: &SimRequest,
+    seen: &Seen,
+    sightings: &[Sighting],
+) -> io::Result<()> {
+    if request.trace {
+        let mut text = Vec::new(rt.alloc());
+        write_trace(&mut text, seen.zone, sightings)?;
+        rt.stderr().write_all(text.as_slice())?;
+    }
+    if request.explain {
+        rt.stderr().write_all(explanation(rt, seen)?.as_slice())?;
+    }
+    if let Some(file) = &request.pcap {
+        save(rt, file, capture(rt, sightings))?;
+    }
+    if let Some(file) = &request.chart {
+        save(rt, file, chart(rt, seen.zone, sightings))?;
+    }
+    Ok(())
+}
+
+/// What the conditions that were told say, and what the stations dropped.
+fn explanation(rt: &HostRuntime, seen: &Seen) -> io::Result<Vec<u8>> {
     let mut text = Vec::new(rt.alloc());
-    write_trace(&mut text, seen.zone, seen.sightings.as_slice())?;
-    rt.stderr().write_all(text.as_slice())
+    seen.conditions.write(&mut text)?;
+    seen.dropped.0.write(&mut text)?;
+    seen.dropped.1.write(&mut text)?;
+    Ok(text)
 }
 
-/// Writes the PDUs that were sent to this file. What it held is lost.
-fn save_capture(rt: &HostRuntime, file: &str, sightings: &[Sighting]) -> io::Result<()> {
-    let mut capture = Vec::new(rt.alloc());
-    write_capture(&mut capture, sightings)?;
-    fs::write(rt, file, capture.as_slice())
+/// The PDUs that were sent, as a capture.
+fn capture(rt: &HostRuntime, sightings: &[Sighting]) -> io::Result<Vec<u8>> {
+    let mut octets = Vec::new(rt.alloc());
+    write_capture(&mut octets, sightings)?;
+    Ok(octets)
+}
+
+/// All that was seen, as a chart.
+fn chart(rt: &HostRuntime, zone: u16, sightings: &[Sighting]) -> io::Result<Vec<u8>> {
+    let mut text = Vec::new(rt.alloc());
+    write_chart(rt.alloc(), &mut text, zone, sightings)?;
+    Ok(text)
+}
+
+/// Makes these octets the file of this name. What it held is lost. Where that fails it is told.
+fn save(rt: &HostRuntime, file: &str, octets: io::Result<Vec<u8>>) -> io::Result<()> {
+    let saved = match octets {
+        Ok(octets) => fs::write(rt, file, octets.as_slice()),
+        Err(error) => Err(error),
+    };
+    if saved.is_err() {
+        let _ = eprintln!(rt; "error: the file {file} can't be written");
+    }
+    saved
 }

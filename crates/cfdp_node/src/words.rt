@@ -141,13 +141,22 @@ impl<'a> Words<'a> {
     ///
     /// # Errors
     ///
-    /// `ExtraWord` where something is.
+    /// `ExtraWord` where something is, and `EmptyWord` where that is a word without an octet.
     pub fn end(self) -> Result<(), LineError>
         ensures { result_ok result ≡ nothing_of (left self.entry) }
     {
         match self.rest {
-            Some(_) => Err(LineError::ExtraWord),
+            Some(rest) => Err(extra_word(rest)),
             None => Ok(()),
         }
+    }
+}
+
+/// What is wrong with a word that is too many.
+fn extra_word(rest: &[u8]) -> LineError {
+    if rest.is_empty() || rest[0] == b' ' {
+        LineError::EmptyWord
+    } else {
+        LineError::ExtraWord
     }
 }

@@ -1,4 +1,4 @@
-use Rattle.std.proofs.Common.{◌≡◌, sym, ◌∙◌, Option, Some, None, ℕ}
+use Rattle.std.proofs.Common.{sym, ◌∙◌, Some, None}
 use Rattle.cfdp_node.proofs.Parts.{id_numbers}
 use Rattle.cfdp_node.proofs.command.parse_id.Goals as goal
 

@@ -1,4 +1,4 @@
-use Rattle.std.proofs.Common.{◌≡◌, ◌≤◌, List, ℕ, Option, length, le-leb, subst, refl, arith}
+use Rattle.std.proofs.Common.{◌≡◌, ◌≤◌, List, ℕ, length, le-leb, subst, refl, arith}
 use Rattle.cfdp_node.specs.Words.{words_of}
 use Rattle.cfdp_node.specs.Script.{Reads, line_of, meaning}
 use Rattle.cfdp_node.proofs.Numerals.{ascii-pass}

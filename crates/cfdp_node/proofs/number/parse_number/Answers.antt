@@ -1,4 +1,4 @@
-use Rattle.std.proofs.Common.{◌≡◌, ◌<◌, take, arith, rules, refl, sym, take_all, length}
+use Rattle.std.proofs.Common.{◌≡◌, ◌<◌, take, arith, rules, sym, take_all, length}
 use Rattle.cfdp_node.proofs.Numbers.{one_more, front_is_less, not_a_digit}
 use Rattle.cfdp_node.proofs.Numerals.{number-some, number-none}
 use Rattle.cfdp_node.proofs.number.parse_number.Goals as goal

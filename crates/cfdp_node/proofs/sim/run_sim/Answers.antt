@@ -3,8 +3,8 @@ use Rattle.cfdp_node.proofs.sim.run_sim.Goals as goal
 
 pub returns-clause-script : goal.returns-clause-script
 returns-clause-script g c =
-    flushed_script _ _ _ c.flushed.ensures.kept (g.R.Read.remaining c.args.reader) c.run_script.result c.flushed.result c.run_script.ensures.script c.flushed.ensures.answer
+    flushed_script _ _ _ c.flushed.ensures.kept (g.R.Read.remaining c.args.reader) c.run_script-exit.result.exit c.flushed.result c.run_script-exit.ensures.script c.flushed.ensures.answer
 
 pub returns-clause-silent : goal.returns-clause-silent
 returns-clause-silent g c =
-    flushed_silent _ _ _ c.flushed.ensures.kept c.run_script.result c.flushed.result c.run_script.ensures.silent c.flushed.ensures.answer
+    flushed_silent _ _ _ c.flushed.ensures.kept c.run_script-exit.result.exit c.flushed.result c.run_script-exit.ensures.silent c.flushed.ensures.answer

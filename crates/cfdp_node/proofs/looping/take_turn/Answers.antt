@@ -1,0 +1,19 @@
+use Rattle.std.proofs.Common.{subst}
+use Rattle.cfdp_node.specs.Turn.{Sends}
+use Rattle.cfdp_node.proofs.looping.take_turn.Goals as goal
+
+pub returns-clause-ok : goal.returns-clause-ok
+returns-clause-ok g c = record {
+  one = c.send_turn.new.station;
+  two = c.send_turn-2.new.station;
+  wire_one = c.send_turn.new.wire;
+  wire_two = c.send_turn-2.new.wire;
+  left = c.send_turn.new.losses.left;
+  one_sends = c.in_ok-send_turn.ensures.ok;
+  two_sends = subst (λ e. Sends g.W.Wire.steps e c.args.now
+      (record { station = c.args.two.now; wire = c.args.wires.now.1; left = c.send_turn.new.losses.left })
+      (record { station = c.send_turn-2.new.station; wire = c.send_turn-2.new.wire; left = c.send_turn-2.new.losses.left }))
+      c.in_ok-send_turn.ensures.every c.in_ok-send_turn-2.ensures.ok;
+  one_hears = c.receive_turn.ensures.hears;
+  two_hears = c.receive_turn-2.ensures.hears;
+}

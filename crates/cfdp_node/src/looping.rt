@@ -1,0 +1,453 @@
+//! A file that goes from one station to another over two wires, in turns.
+ghost use Rattle.std.specs.Io.Buffered.{writer_buffer, writer_contents};
+ghost use Rattle.std.specs.Io.KnownBytes.{Appends};
+ghost use Rattle.std.specs.Prelude.{◌≡◌, ◌≤◌, ◌↔◌, Some, length, IfOk, IsTrue, OnErr, OnOk};
+ghost use Rattle.cfdp_node.specs.Exit.{IsFlushedAt};
+ghost use Rattle.cfdp_node.specs.Looping.{EndsFromOne, EndsLoop, IsClosed, IsTold, LoopRuns, LoopsAll, RunsInPart, RunsTurns, TakesTurn, TurnsInPart, completed, is_no_memory, loop_exit, loop_settings, loop_text, more_failures, refusal_answer};
+ghost use Rattle.cfdp_node.specs.Settings.{world_of};
+ghost use Rattle.cfdp_node.specs.Report.{count_line};
+ghost use Rattle.cfdp_node.specs.Turn.{FitsFrames};
+ghost use Rattle.cfdp_station.specs.Config.{IsStationConfig};
+ghost use Rattle.link_sim.specs.WorldConfig.{IsWorldConfig};
+
+use crate::answer::{Answer, Answered};
+use crate::exit::{Exit, Fault};
+use crate::report::{own_completions, write_answer, write_indications};
+use crate::settings::Settings;
+use crate::turn::{Losses, receive_turn, send_turn};
+use crate::wire::Wire;
+use cfdp_directives::Phase;
+use cfdp_header::TransactionId;
+use cfdp_station::{PutError, Station, StationConfig};
+use cfdp_store::{Inbox, MemoryInbox, MemoryOutbox, Outbox};
+use link_sim::{Refusal, WorldConfig};
+use std::alloc::{AllocError, Global};
+use std::io;
+use std::io::{BufWriter, Write};
+
+/// What is to be sent, and how.
+#[derive(Drop)]
+pub struct LoopOptions {
+    /// The file's name in the outbox of the first station.
+    pub source: Vec<u8>,
+    /// The name under which the second station is to publish it.
+    pub destination: Vec<u8>,
+    /// The most turns that are taken.
+    pub turns: u64,
+    /// Of the frames that leave either station each so-manieth is not sent; with 0 all are.
+    pub drop_every: u64,
+}
+
+/// What turns need beside stations and wires: which frames are lost, and buffers for a frame that
+/// leaves and for what comes.
+#[derive(Drop)]
+struct Turning {
+    losses: Losses,
+    frame: Vec<u8>,
+    datagram: Vec<u8>,
+}
+
+/// How a put and its turns ended.
+#[derive(Clone, Copy)]
+struct Ended {
+    /// What the put answered, where it wasn't accepted.
+    answer: Option<Answer>,
+    /// Whether memory was wanting.
+    short: bool,
+}
+
+/// The most octets of a datagram that are looked at: more than a frame has.
+const MOST_COMING: usize = 4096;
+
+/// Sends a file of an outbox from one station to another, which puts it into an inbox, and writes
+/// the report, which has left the buffer then. The first wire is that of the first station.
+///
+/// The put is made before the first turn. A turn tells both stations its number as the time, lets
+/// each send, the first one first, and then lets each take what came. It ends when the put is
+/// closed at both stations, or after so many turns.
+///
+/// A want of memory ends it, and is told as `Device` with the report; so is a put that isn't
+/// complete where a store failed. Where there is none for the stations, nothing is written. A
+/// report that can't be written to its end is not begun again.
+pub fn run_loop<O: Outbox, I: Inbox, W: Wire, V: Write + Drop>(
+    alloc: Global,
+    options: LoopOptions,
+    outbox: O,
+    inbox: I,
+    wires: (W, W),
+    out: &mut BufWriter<V>,
+) -> Exit
+    ensures ends { IsTold result (EndsLoop W.steps result (O.files outbox) (I.published inbox)
+        wires.0 wires.1 options.source.items options.destination.items options.drop_every
+        options.turns (writer_contents V.contents out.old) (writer_contents V.contents out.new)) }
+    ensures flushed { IsFlushedAt result (writer_buffer out.new) }
+{
+    run_first(alloc, &options, outbox, inbox, wires, out).flushed(out)
+}
+
+/// Makes the first station, and runs all. The writer isn't flushed.
+fn run_first<O: Outbox, I: Inbox, W: Wire, V: Write>(
+    alloc: Global,
+    options: &LoopOptions,
+    outbox: O,
+    inbox: I,
+    wires: (W, W),
+    out: &mut V,
+) -> Exit
+    ensures { IsTold result (EndsLoop W.steps result (O.files outbox) (I.published inbox)
+        wires.0 wires.1 options.now.source.items options.now.destination.items
+        options.now.drop_every options.now.turns (V.contents out.old) (V.contents out.new)) }
+{
+    let config = loop_config();
+    match Station::new(alloc, config.one, outbox, MemoryInbox::new(alloc)) {
+        Ok(mut one) => {
+            let exit = run_second(alloc, options, &mut one, config.two, inbox, wires, out);
+            let_go(one);
+            exit
+        }
+        Err(AllocError) => Exit::Device(Fault::NoMemoryAtStart),
+    }
+}
+
+/// Makes the second station, and runs all.
+fn run_second<O: Outbox, I: Inbox, J: Inbox, W: Wire, V: Write>(
+    alloc: Global,
+    options: &LoopOptions,
+    one: &mut Station<O, J>,
+    config: StationConfig,
+    inbox: I,
+    wires: (W, W),
+    out: &mut V,
+) -> Exit
+    requires config { IsStationConfig config }
+    requires zone { config.down.zone ≡ one.old.down.link.zone }
+    requires least { 1 ≤ one.old.down.link.zone }
+    ensures { IsTold result (EndsFromOne W.steps result one.old config (I.published inbox)
+        wires.0 wires.1 options.now.source.items options.now.destination.items
+        options.now.drop_every options.now.turns (V.contents out.old) (V.contents out.new)) }
+{
+    let Ok(turning) = Turning::new(alloc, one.frame_len(), options.drop_every) else {
+        return Exit::Device(Fault::NoMemoryAtStart);
+    };
+    match Station::new(alloc, config, MemoryOutbox::new(alloc), inbox) {
+        Ok(mut two) => {
+            let exit = run_both(options, one, &mut two, wires, turning, out);
+            let_go(two);
+            exit
+        }
+        Err(AllocError) => Exit::Device(Fault::NoMemoryAtStart),
+    }
+}
+
+/// Lets a value go, of whatever type: here no more need be known of it.
+fn let_go<T: Drop>(_value: T) {}
+
+/// The settings of a script, but for NAKs, which are sent again until nothing is heard any more:
+/// losses that come in step with what is sent again pass only after some.
+fn loop_config() -> WorldConfig
+    ensures same { result ≡ world_of loop_settings }
+    ensures valid { IsWorldConfig result }
+{
+    let settings = Settings {
+        nak_limit: 255,
+        ..Settings::DEFAULT
+    };
+    match settings.config() {
+        Some(config) => config,
+        None => unreachable!(),
+    }
+}
+
+impl Turning {
+    /// Buffers for frames of so many octets; each so-manieth frame will be lost.
+    ///
+    /// # Errors
+    ///
+    /// `AllocError` where there is no memory for them.
+    fn new(alloc: Global, frame_len: usize, every: u64) -> Result<Turning, AllocError>
+        ensures frame { IfOk result (λ t. length t.frame.items ≡ frame_len) }
+        ensures losses { IfOk result (λ t. (t.losses.every ≡ every) × (t.losses.left ≡ every)) }
+    {
+        Ok(Turning {
+            losses: Losses::each(every),
+            frame: vec![in alloc; 0u8; frame_len]?,
+            datagram: vec![in alloc; 0u8; MOST_COMING]?,
+        })
+    }
+}
+
+/// Runs all at two stations that did nothing yet, and writes the report.
+fn run_both<O: Outbox, I: Inbox, P: Outbox, J: Inbox, W: Wire, V: Write>(
+    options: &LoopOptions,
+    one: &mut Station<O, J>,
+    two: &mut Station<P, I>,
+    wires: (W, W),
+    turning: Turning,
+    out: &mut V,
+) -> Exit
+    requires one { FitsFrames (length turning.frame.items) one.old }
+    requires two { FitsFrames (length turning.frame.items) two.old }
+    ensures { IsTold result (LoopsAll W.steps options.now.source.items
+        options.now.destination.items turning.losses.every options.now.turns
+        (record {
+          one = one.old;
+          two = two.old;
+          wire_one = wires.0;
+          wire_two = wires.1;
+          left = turning.losses.left;
+        }) result (V.contents out.old) (V.contents out.new)) }
+{
+    let (mut wires, mut turning) = (wires, turning);
+    let read = one.outbox().failures();
+    let written = two.inbox().failures();
+    let ended = run(options, one, two, &mut wires, &mut turning);
+    let failed = have_failed(one, two, read, written);
+    match write_report(out, ended.answer, one, two) {
+        Ok(complete) => exit(ended.short, complete, failed),
+        Err(_) => Exit::Device(Fault::Unwritable),
+    }
+}
+
+/// Whether the stores have failed more often than so: the first station's outbox, and the second
+/// one's inbox.
+fn have_failed<O: Outbox, I: Inbox, P: Outbox, J: Inbox>(
+    one: &Station<O, J>,
+    two: &Station<P, I>,
+    read: u64,
+    written: u64,
+) -> bool
+    ensures { result ≡ more_failures read written one.now two.now }
+{
+    let (reads, writes) = (one.outbox().failures(), two.inbox().failures());
+    reads != read || writes != written
+}
+
+/// Makes the put, and takes turns until it is closed at both stations, or so many were taken.
+fn run<O: Outbox, I: Inbox, P: Outbox, J: Inbox, W: Wire>(
+    options: &LoopOptions,
+    one: &mut Station<O, J>,
+    two: &mut Station<P, I>,
+    wires: &mut (W, W),
+    turning: &mut Turning,
+) -> Ended
+    requires one { FitsFrames (length turning.old.frame.items) one.old }
+    requires two { FitsFrames (length turning.old.frame.items) two.old }
+    ensures { LoopRuns W.steps options.now.source.items options.now.destination.items
+        turning.old.losses.every options.now.turns result.answer result.short
+        (record {
+          one = one.old;
+          two = two.old;
+          wire_one = wires.old.0;
+          wire_two = wires.old.1;
+          left = turning.old.losses.left;
+        })
+        (record {
+          one = one.new;
+          two = two.new;
+          wire_one = wires.new.0;
+          wire_two = wires.new.1;
+          left = turning.new.losses.left;
+        }) }
+{
+    match one.put(options.source.as_slice(), options.destination.as_slice()) {
+        Ok(id) => Ended {
+            answer: None,
+            short: take_turns(options.turns, id, one, two, wires, turning).is_err(),
+        },
+        Err(error) => refused(error),
+    }
+}
+
+/// What is told of a put that was refused.
+fn refused(error: PutError) -> Ended
+    ensures answer { result.answer ≡ Some (refusal_answer error) }
+    ensures short { result.short ≡ is_no_memory error }
+{
+    match error {
+        PutError::NoMemory => Ended {
+            answer: Some(Answer::NO_MEMORY),
+            short: true,
+        },
+        PutError::Name
+        | PutError::TableFull
+        | PutError::NumbersSpent
+        | PutError::SourceFault
+        | PutError::NoSuchFile
+        | PutError::TooLarge => Ended {
+            answer: Some(Answer::Refused(Refusal::Put(error))),
+            short: false,
+        },
+    }
+}
+
+/// Takes turns until a transaction is closed at both stations, or so many were taken.
+fn take_turns<O: Outbox, I: Inbox, P: Outbox, J: Inbox, W: Wire>(
+    most: u64,
+    id: TransactionId,
+    one: &mut Station<O, J>,
+    two: &mut Station<P, I>,
+    wires: &mut (W, W),
+    turning: &mut Turning,
+) -> Result<(), AllocError>
+    requires one { FitsFrames (length turning.old.frame.items) one.old }
+    requires two { FitsFrames (length turning.old.frame.items) two.old }
+    ensures ok { OnOk result (RunsTurns W.steps id turning.old.losses.every most
+        (record {
+          one = one.old;
+          two = two.old;
+          wire_one = wires.old.0;
+          wire_two = wires.old.1;
+          left = turning.old.losses.left;
+        })
+        (record {
+          one = one.new;
+          two = two.new;
+          wire_one = wires.new.0;
+          wire_two = wires.new.1;
+          left = turning.new.losses.left;
+        })) }
+    ensures err { OnErr result (RunsInPart W.steps id turning.old.losses.every most
+        (record {
+          one = one.old;
+          two = two.old;
+          wire_one = wires.old.0;
+          wire_two = wires.old.1;
+          left = turning.old.losses.left;
+        })
+        (record {
+          one = one.new;
+          two = two.new;
+          wire_one = wires.new.0;
+          wire_two = wires.new.1;
+          left = turning.new.losses.left;
+        })) }
+{
+    for before in 0..most {
+        if are_closed(id, one, two) {
+            return Ok(());
+        }
+        take_turn(one, two, wires, turning, before + 1)?;
+    }
+    Ok(())
+}
+
+/// Whether a transaction is closed at both stations.
+fn are_closed<O: Outbox, I: Inbox, P: Outbox, J: Inbox>(
+    id: TransactionId,
+    one: &Station<O, J>,
+    two: &Station<P, I>,
+) -> bool
+    ensures { IsTrue result ↔ IsClosed id one.now two.now }
+{
+    is_closed(one.phase(id)) && is_closed(two.phase(id))
+}
+
+fn is_closed(phase: Option<Phase>) -> bool
+    ensures { IsTrue result ↔ (phase ≡ Some Phase.Closed) }
+{
+    matches!(phase, Some(Phase::Closed))
+}
+
+/// Takes one turn: the first station sends, then the second one, and then each takes what came.
+///
+/// # Errors
+///
+/// `AllocError` where a station that was to send found no memory: the turn ends there.
+fn take_turn<O: Outbox, I: Inbox, P: Outbox, J: Inbox, W: Wire>(
+    one: &mut Station<O, J>,
+    two: &mut Station<P, I>,
+    wires: &mut (W, W),
+    turning: &mut Turning,
+    now: u64,
+) -> Result<(), AllocError>
+    requires one { FitsFrames (length turning.old.frame.items) one.old }
+    requires two { FitsFrames (length turning.old.frame.items) two.old }
+    ensures ok { OnOk result (TakesTurn W.steps turning.old.losses.every now
+        (record {
+          one = one.old;
+          two = two.old;
+          wire_one = wires.old.0;
+          wire_two = wires.old.1;
+          left = turning.old.losses.left;
+        })
+        (record {
+          one = one.new;
+          two = two.new;
+          wire_one = wires.new.0;
+          wire_two = wires.new.1;
+          left = turning.new.losses.left;
+        })) }
+    ensures err { OnErr result (TurnsInPart W.steps turning.old.losses.every now
+        (record {
+          one = one.old;
+          two = two.old;
+          wire_one = wires.old.0;
+          wire_two = wires.old.1;
+          left = turning.old.losses.left;
+        })
+        (record {
+          one = one.new;
+          two = two.new;
+          wire_one = wires.new.0;
+          wire_two = wires.new.1;
+          left = turning.new.losses.left;
+        })) }
+    ensures every { turning.new.losses.every ≡ turning.old.losses.every }
+    ensures one { FitsFrames (length turning.new.frame.items) one.new }
+    ensures two { FitsFrames (length turning.new.frame.items) two.new }
+{
+    let frame = turning.frame.as_mut_slice();
+    send_turn(one, &mut wires.0, &mut turning.losses, now, frame)?;
+    send_turn(two, &mut wires.1, &mut turning.losses, now, frame)?;
+    let datagram = turning.datagram.as_mut_slice();
+    receive_turn(one, &mut wires.0, datagram);
+    receive_turn(two, &mut wires.1, datagram);
+    Ok(())
+}
+
+/// Writes the report, and answers how many puts it tells complete.
+///
+/// # Errors
+///
+/// That of the writer.
+fn write_report<O: Outbox, I: Inbox, P: Outbox, J: Inbox, V: Write>(
+    out: &mut V,
+    answer: Option<Answer>,
+    one: &Station<O, J>,
+    two: &Station<P, I>,
+) -> io::Result<usize>
+    ensures written { OnOk result (Appends (V.contents out.old) (V.contents out.new)
+        (loop_text answer one.now two.now)) }
+    ensures complete { IfOk result (λ complete. complete ≡ completed one.now) }
+{
+    write_answer(out, Answered { line: 1, answer })?;
+    write_indications(out, 1, one.indications())?;
+    write_indications(out, 2, two.indications())?;
+    let complete = own_completions(1, one.indications());
+    write_count(out, complete, 1)?;
+    Ok(complete)
+}
+
+/// Writes how many puts were completed, and how many there were.
+fn write_count<V: Write>(out: &mut V, complete: usize, asked: usize) -> io::Result<()>
+    ensures { OnOk result (Appends (V.contents out.old) (V.contents out.new)
+        (count_line complete asked)) }
+{
+    writeln!(out, "complete {complete} of {asked}")
+}
+
+/// How it ended, by whether memory was wanting, the count of completed puts, and whether a store
+/// failed.
+fn exit(short: bool, complete: usize, failed: bool) -> Exit
+    ensures { result ≡ loop_exit short complete failed }
+{
+    if short {
+        Exit::Device(Fault::NoMemory)
+    } else if complete == 1 {
+        Exit::Complete
+    } else if failed {
+        Exit::Device(Fault::NoMemory)
+    } else {
+        Exit::Incomplete
+    }
+}
