@@ -13,8 +13,10 @@
  *   no-unlink       no file can be removed
  *   denied=WORD     no file can be opened whose path ends so
  *   no-socket       no socket can be made
- *   send=K          the Kth datagram isn't sent (1 to 9), or with 0 none is
- *   receive=K       the Kth datagram that came is lost (1 to 9), or with 0 each is
+ *   send=K          the Kth datagram isn't sent, or with 0 none is
+ *   receive=K       the Kth datagram that came is lost, or with 0 each is
+ *   memory=N        the Nth growth of memory is refused
+ *   mark            a file `refused` is made where one of the last three faults shows
  */
 #define _GNU_SOURCE
 #include <dlfcn.h>
@@ -170,12 +172,25 @@ int socket(int domain, int type, int protocol)
     return failing("no-socket", EMFILE) ? -1 : next(domain, type, protocol);
 }
 
+/* Leaves a mark that something was refused, if that is asked for. */
+static void mark(void)
+{
+    int (*next)(const char *, int, ...) = NEXT("open");
+    int told = fault("mark") ? next("refused", O_CREAT | O_WRONLY, 0600) : -1;
+    if (told >= 0)
+        close(told);
+}
+
 /* Whether this is the call of that number, or each is, by the fault of this name. */
 static int is_turn(const char *name, int *calls)
 {
     const char *turn = fault(name);
     *calls += 1;
-    return turn && (turn[strlen(name)] == '0' || turn[strlen(name)] - '0' == *calls);
+    int wanted = turn ? atoi(turn + strlen(name)) : -1;
+    if (wanted != 0 && wanted != *calls)
+        return 0;
+    mark();
+    return 1;
 }
 
 ssize_t send(int fd, const void *from, size_t count, int flags)
@@ -199,4 +214,54 @@ ssize_t recv(int fd, void *to, size_t count, int flags)
         return -1;
     }
     return got;
+}
+
+/* ---- memory: what the C library itself has under these names */
+void *__libc_malloc(size_t size);
+void *__libc_calloc(size_t count, size_t size);
+void *__libc_realloc(void *old, size_t size);
+void *__libc_memalign(size_t align, size_t size);
+
+/* Whether the growth of memory that is asked for is the one that is refused. */
+static int is_refused(void)
+{
+    static long wanted = -1, asked = 0;
+    if (wanted < 0) {
+        const char *memory = fault("memory=");
+        wanted = memory ? atol(memory + strlen("memory=")) : 0;
+    }
+    asked += 1;
+    if (wanted == 0 || asked != wanted)
+        return 0;
+    mark();
+    errno = ENOMEM;
+    return 1;
+}
+
+void *malloc(size_t size)
+{
+    return is_refused() ? NULL : __libc_malloc(size);
+}
+
+void *calloc(size_t count, size_t size)
+{
+    return is_refused() ? NULL : __libc_calloc(count, size);
+}
+
+void *realloc(void *old, size_t size)
+{
+    return is_refused() ? NULL : __libc_realloc(old, size);
+}
+
+void *aligned_alloc(size_t align, size_t size)
+{
+    return is_refused() ? NULL : __libc_memalign(align, size);
+}
+
+int posix_memalign(void **to, size_t align, size_t size)
+{
+    if (is_refused())
+        return ENOMEM;
+    *to = __libc_memalign(align, size);
+    return *to ? 0 : ENOMEM;
 }
