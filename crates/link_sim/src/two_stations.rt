@@ -19,6 +19,7 @@ use crate::event::{AcceptedPut, Applied, Event, Refusal};
 use crate::frame_link::FrameLink;
 use crate::mark::Loss;
 use crate::side::Side;
+use crate::world::let_go;
 use crate::world_config::WorldConfig;
 use cfdp_directives::Octets;
 use cfdp_header::TransactionId;
@@ -86,18 +87,25 @@ impl<O: Outbox, I: Inbox> TwoStations<O, I> {
             × IsOneWay (world.way_from sides.Two w)) }
     {
         let one = Station::new(alloc, config.one, outboxes.0, inboxes.0)?;
-        let two = Station::new(alloc, config.two, outboxes.1, inboxes.1)?;
-        let from_one = FrameLink::new(alloc, one.frame_len());
-        let from_two = FrameLink::new(alloc, two.frame_len());
-        Ok(TwoStations {
-            alloc,
-            one,
-            two,
-            from_one,
-            from_two,
-            puts: Vec::new(alloc),
-            ticks: 0,
-        })
+        match Station::new(alloc, config.two, outboxes.1, inboxes.1) {
+            Ok(two) => {
+                let from_one = FrameLink::new(alloc, one.frame_len());
+                let from_two = FrameLink::new(alloc, two.frame_len());
+                Ok(TwoStations {
+                    alloc,
+                    one,
+                    two,
+                    from_one,
+                    from_two,
+                    puts: Vec::new(alloc),
+                    ticks: 0,
+                })
+            }
+            Err(AllocError) => {
+                let_go(one);
+                Err(AllocError)
+            }
+        }
     }
 
     /// The puts that were accepted, in order.

@@ -250,7 +250,7 @@ fn show<O: Outbox, I: Inbox, W: Witness>(
 }
 
 /// Lets a value go, of whatever type: here no more need be known of it.
-fn let_go<T: Drop>(_value: T) {}
+pub(crate) fn let_go<T: Drop>(_value: T) {}
 
 /// Makes these events happen, in turn, in a new world.
 ///
@@ -276,8 +276,13 @@ pub fn run<O: Outbox, I: Inbox>(
         (I.published inboxes.0, I.published inboxes.1) events.now w) }
 {
     let mut world = World::new(alloc, config, outboxes, inboxes, ())?;
-    apply_all(&mut world, events)?;
-    Ok(world)
+    match apply_all(&mut world, events) {
+        Ok(()) => Ok(world),
+        Err(AllocError) => {
+            let_go(world);
+            Err(AllocError)
+        }
+    }
 }
 
 /// Makes these events happen, in turn.
