@@ -100,10 +100,11 @@ impl<O: Outbox, I: Inbox> Station<O, I> {
         ensures taken { (ps : List (List ℕ)) → ArePackets ps → AreOfLink config.up ps →
             IfOk result (λ s. IsUp s.up ps [] 0) }
     {
-        let entity = Entity::new(alloc, config.entity, outbox, inbox)?;
         let down = Down::new(alloc, config.down, config.capacity)?;
         let up = Up::new(alloc, config.up)?;
         let buffer = vec![in alloc; 0u8; config.capacity]?;
+        // Last, so that no error lets an entity go.
+        let entity = Entity::new(alloc, config.entity, outbox, inbox)?;
         Ok(Station {
             alloc,
             entity,
