@@ -96,11 +96,11 @@ asks-there Asks f staged es place id k now n m at is becomes asks =
     subst (λ o. AsksOf Raises Asks f o n m) (sym (seen_at staged es place id k at is)) (subst (λ s. AsksAs Raises Asks (seen (staged id) k) s n m) becomes asks)
 
 pub answered-there : {E : Type 0} (Asks : Stored → (r s : ReceiverState) → (old new : ℕ) → Type 0) (f : Stored → Entry → After) (staged : Staged) (es : List (TransactionId × Record)) (place : ℕ) (id : TransactionId) (k : Record) (now : Seen) (n m : ℕ)
-    → slice_get (keys_of es) place ≡ Some id → slice_get (values_of es) place ≡ Some k → {told told_now : List Indication} {clock clock_now : TimersState} {files : FileMap} (answer : Result Stored E)
+    → slice_get (keys_of es) place ≡ Some id → slice_get (values_of es) place ≡ Some k → (told told_now : List Indication) (clock clock_now : TimersState) (files : FileMap) (answer : Result Stored E)
     → IfOk answer (λ stored. Does id (f stored (id, seen (staged id) k)) now told told_now clock clock_now files) → IfOk answer (λ stored. AsksAs Raises (Asks stored) (seen (staged id) k) now n m)
     → IfOk answer (λ stored. AsksOf Raises (Asks stored) (f stored) (slice_get (entries_seen staged es) place) n m)
-answered-there Asks f staged es place id k now n m at is (Ok stored) does asks = asks-there (Asks stored) (f stored) staged es place id k now n m at is does.state asks
-answered-there Asks f staged es place id k now n m at is (Err e) does asks = tt
+answered-there Asks f staged es place id k now n m at is told told_now clock clock_now files (Ok stored) does asks = asks-there (Asks stored) (f stored) staged es place id k now n m at is does.state asks
+answered-there Asks f staged es place id k now n m at is told told_now clock clock_now files (Err e) does asks = tt
 
 pub asks-nowhere : (Asks : (r s : ReceiverState) → (old new : ℕ) → Type 0) (f : Entry → After) (staged : Staged) (es : List (TransactionId × Record)) (place : ℕ) (n : ℕ) → None ≡ slice_get (keys_of es) place → AsksOf Raises Asks f (slice_get (entries_seen staged es) place) n n
 asks-nowhere Asks f staged es place n none = subst (λ o. AsksOf Raises Asks f o n n) (sym (no_entry staged es place none)) refl

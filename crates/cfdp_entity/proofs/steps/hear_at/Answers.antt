@@ -58,4 +58,4 @@ pub returns-in-Some-get_index_mut-clause-raises : goal.returns-in-Some-get_index
 returns-in-Some-get_index_mut-clause-raises g c =
     answered-there (λ s. AsksHeard Raises (view c.args.pdu.now) s) (λ s e. hears s c.args.policy.now.times (g.I.Inbox.published c.args.inbox.now) (view c.args.pdu.now) e.1) (g.I.Inbox.staged c.args.inbox.now) c.args.records.now.entries c.args.place c.in-Some.id c.in-Some-get_index_mut.record.now
     (seen (g.I.Inbox.staged c.hear-answer.new.inbox c.in-Some.id) c.hear-answer.new.self) (g.I.Inbox.failures c.args.inbox.now) (g.I.Inbox.failures c.hear-answer.new.inbox) (sym c.in-Some.ensures) (sym c.in-Some-get_index_mut.ensures.value)
-    c.hear-answer.result c.hear-answer.ensures.does c.hear-answer.ensures.raises
+    c.args.told.now.items c.hear-answer.new.told.items c.args.timers.now c.hear-answer.new.timers (g.I.Inbox.published c.hear-answer.new.inbox) c.hear-answer.result c.hear-answer.ensures.does c.hear-answer.ensures.raises
