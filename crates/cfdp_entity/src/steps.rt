@@ -1,5 +1,5 @@
 // One step of the record at a place: what it does to the parts of a table.
-ghost use Rattle.std.specs.Prelude.{◌≡◌, ◌+◌, ◌≤◌, ◌<◌, ◌++◌, ◌∷◌, [], true, false, None, drop, length, IfOk, OnOk, OnErr, slice_get, List, Bool};
+ghost use Rattle.std.specs.Prelude.{◌≡◌, ◌+◌, ◌≤◌, ◌<◌, ◌++◌, ◌∷◌, [], true, None, drop, length, IfOk, OnOk, OnErr, slice_get, List, Bool};
 ghost use Rattle.cfdp_timers.specs.Armed.{TimersState};
 ghost use Rattle.std.specs.List.{IsDistinct};
 ghost use Rattle.std.specs.FinSet as set;

@@ -1,5 +1,5 @@
 // Records with their timers and both stores.
-ghost use Rattle.std.specs.Prelude.{◌≡◌, ◌+◌, ◌≤◌, ◌<◌, ◌++◌, ◌*◌, max, true, false, None, Option, drop, length, slice_get, IfOk, IfSome, MatchOption, OnOk, OnErr, is_ok};
+ghost use Rattle.std.specs.Prelude.{◌≡◌, ◌+◌, ◌≤◌, ◌<◌, ◌++◌, ◌*◌, max, true, None, Option, drop, length, slice_get, IfOk, IfSome, MatchOption, OnOk, OnErr, is_ok};
 ghost use Rattle.std.specs.FinMap as map;
 ghost use Rattle.std.specs.Option.{option_map};
 ghost use Rattle.std.specs.List.{IsDistinct};

@@ -1,6 +1,6 @@
 -- Exported: what is said of calls and the states of an inbox holds of what is read off those states,
 -- as of the count of failures.
-use Rattle.std.proofs.Common.{ℕ, Bool, true, false, List, [], ◌∷◌, ◌++◌, Option, Some, None, Ok, Err, inl, inr}
+use Rattle.std.proofs.Common.{Bool, true, false, List, [], ◌∷◌, ◌++◌, Option, Some, None, Ok, Err, inl, inr}
 use Rattle.cfdp_header.specs.declared.value.TransactionId.{TransactionId}
 use Rattle.cfdp_directives.specs.Checksum.{Piece}
 use Rattle.cfdp_store.specs.declared.stored.Stored.{Stored}
@@ -9,7 +9,7 @@ use Rattle.cfdp_store.specs.Calls.{InboxCall, Begin, Write, Publish, Discard}
 use Rattle.cfdp_receiver.specs.declared.state.FileInfo.{FileInfo}
 use Rattle.cfdp_receiver.specs.declared.state.Ending.{Ending}
 use Rattle.cfdp_receiver.specs.State.{ReceiverState}
-use Rattle.cfdp_receiver.specs.Storing.{Discards, Publishes, EndsBy, Ends, Settles, StopsAt, FailsToWrite, Stages, Begins, is_complete, writes}
+use Rattle.cfdp_receiver.specs.Storing.{Discards, Publishes, EndsBy, Settles, StopsAt, FailsToWrite, Stages, Begins, is_complete, writes}
 
 module _ {A B : Type 0} (By : List InboxCall → A → A → Type 0) (Then : List InboxCall → B → B → Type 0) (f : A → B)
     (read : (calls : List InboxCall) (old new : A) → By calls old new → Then calls (f old) (f new)) where
