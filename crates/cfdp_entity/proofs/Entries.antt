@@ -233,7 +233,7 @@ below_flags staged es sources flags clock i k whole at =
     omega (arith, l, m)
 
 -- where no key is, no step is made
-no_entry : (staged : Staged) (es : List (TransactionId × Record)) (place : ℕ) → None ≡ slice_get (keys_of es) place → slice_get (entries_seen staged es) place ≡ None
+pub no_entry : (staged : Staged) (es : List (TransactionId × Record)) (place : ℕ) → None ≡ slice_get (keys_of es) place → slice_get (entries_seen staged es) place ≡ None
 unfolding entries_seen
 no_entry staged [] place none = refl
 no_entry staged (e ∷ es) zero none = absurd (cc)

@@ -23,3 +23,4 @@ pub mod Spelled
 pub mod Turns
 pub mod CallerLemmas
 pub mod Asking
+pub mod Raised

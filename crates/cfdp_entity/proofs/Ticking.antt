@@ -1,5 +1,5 @@
 -- Timers that fire, one after another.
-use Rattle.std.proofs.Common.{◌≡◌, ℕ, suc, ◌+◌, ◌<◌, List, [], length, get_or, drop, drop-cons, add-one, Result, Ok, Err, OnOk, IfOk, ap, ◌∙◌, max}
+use Rattle.std.proofs.Common.{◌≡◌, ℕ, suc, ◌+◌, ◌<◌, List, [], length, get_or, drop, drop-cons, add-one, Result, Ok, Err, OnOk, IfOk, refl, sym, ap, subst, ◌∙◌, max}
 use Rattle.cfdp_header.specs.declared.value.TransactionId.{TransactionId}
 use Rattle.cfdp_header.specs.Files.{FileMap}
 use Rattle.cfdp_timers.specs.Order.{Timer}
@@ -8,6 +8,8 @@ use Rattle.cfdp_timers.specs.Due.{due_count, still_armed}
 use Rattle.cfdp_directives.specs.declared.indication.Indication.{Indication}
 use Rattle.cfdp_directives.specs.declared.policy.Policy.{Policy}
 use Rattle.cfdp_entity.specs.declared.record.Record.{Record}
+use Rattle.cfdp_store.specs.Chains.{Raises}
+use Rattle.cfdp_entity.specs.Storing.{AsksByTimer, AsksToFire}
 use Rattle.cfdp_entity.specs.Table.{TableState, at_time, expired, all_expired}
 use Rattle.cfdp_entity.specs.Whole.{Staged, state_of}
 
@@ -31,3 +33,15 @@ one_more fired i d mid now low is = rw (add-one, drop-cons fired i d low) (ap (a
 pub none_left : (fired : List Timer) (i : ℕ) (mid : TableState) → drop i fired ≡ [] → all_expired (drop i fired) mid ≡ mid
 unfolding all_expired
 none_left fired i mid none = ap (λ l. all_expired l mid) none
+
+-- and what the steps ask of the inbox
+pub asks-one : (fired : List Timer) (i : ℕ) (d : Timer) (mid now : TableState) (n m end : ℕ) → i < length fired → now ≡ expired (get_or fired i d) mid → AsksByTimer Raises (get_or fired i d) mid n m
+    → AsksToFire Raises (drop (i + 1) fired) now m end → AsksToFire Raises (drop i fired) mid n end
+unfolding AsksToFire
+asks-one fired i d mid now n m end low is asks more =
+    subst (λ l. AsksToFire Raises l mid n end) (sym (drop-cons fired i d low))
+    (m, asks, subst (λ s. AsksToFire Raises (drop (suc i) fired) s m end) is (subst (λ k. AsksToFire Raises (drop k fired) now m end) (add-one i) more))
+
+pub asks-none-left : (fired : List Timer) (i : ℕ) (mid : TableState) (n : ℕ) → drop i fired ≡ [] → AsksToFire Raises (drop i fired) mid n n
+unfolding AsksToFire
+asks-none-left fired i mid n none = subst (λ l. AsksToFire Raises l mid n n) (sym none) refl

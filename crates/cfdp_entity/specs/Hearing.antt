@@ -1,5 +1,5 @@
 -- What a PDU does that an entity hears.
-use Rattle.std.specs.Prelude.{◌≡◌, ◌==◌, ◌||◌, ℕ, nat_lt, not, Bool, false, List, [], ◌∷◌, ◌++◌, length, Option, Some, None, IfSome, if◌then◌else◌}
+use Rattle.std.specs.Prelude.{◌≡◌, ◌==◌, ◌||◌, ℕ, nat_lt, not, Bool, false, List, [], ◌∷◌, ◌++◌, length, Option, Some, None, if◌then◌else◌}
 use Rattle.cfdp_header.specs.declared.value.Header.{Header}
 use Rattle.cfdp_directives.specs.declared.error.PduError.{PduError}
 use Rattle.cfdp_directives.specs.declared.addressing.Addressing.{Addressing}
@@ -8,13 +8,15 @@ use Rattle.cfdp_directives.specs.Content.{Content, FileData, Metadata, Eof, Fini
 use Rattle.cfdp_directives.specs.Direction.{direction_fits, is_for}
 use Rattle.cfdp_directives.specs.Grammar.{SpellsPdu}
 use Rattle.cfdp_store.specs.declared.stored.Stored.{Stored}
+use Rattle.cfdp_store.specs.Chains.{Raises}
 use Rattle.cfdp_store.specs.Stores.{Counts}
 use Rattle.cfdp_entity.specs.declared.error.EntityDrop.{EntityDrop}
 use Rattle.cfdp_entity.specs.declared.error.EntityDrop.TheVariants as drops
 use Rattle.cfdp_entity.specs.declared.route.Route.{Route}
 use Rattle.cfdp_entity.specs.declared.route.Route.TheVariants.{Drops, Steps, Opens, Queues}
 use Rattle.cfdp_entity.specs.Entity.{EntityState, Counted, dropped, with_table}
-use Rattle.cfdp_entity.specs.Opening.{CountsBoth, closing}
+use Rattle.cfdp_entity.specs.Opening.{CountsBoth}
+use Rattle.cfdp_entity.specs.Storing.{AsksToHear, AsksToOpen}
 use Rattle.cfdp_entity.specs.Strays.{StrayAck, most_strays}
 use Rattle.cfdp_entity.specs.Table.{place_of, heard_at, opened_by, SpoiledAt, most_records}
 
@@ -59,16 +61,18 @@ pub record StepsAt (place : ℕ) (v : Content) (old new : Counted) : Type 0 wher
   pub stored : Stored
   pub steps : new.state ≡ with_table old.state (heard_at stored place v old.state.table)
   pub counts : Counts stored old.inbox_failures new.inbox_failures
+  pub raises : AsksToHear Raises stored place v old.state.table old.inbox_failures
+      new.inbox_failures
   pub outbox : new.outbox_failures ≡ old.outbox_failures
 
--- A record was opened and made its step, by what the inbox answered to each. For an EOF with an
--- error the inbox isn't called.
+-- A record was opened and made its step, by what the inbox answered to each.
 pub record OpensOne (a : Addressing) (v : Content) (old new : Counted) : Type 0 where
   pub begun : Stored
   pub stored : Stored
   pub opens : new.state ≡ with_table old.state (opened_by begun stored a v old.state.table)
   pub counts : CountsBoth begun stored old.inbox_failures new.inbox_failures
-  pub closed : IfSome (closing v) (λ condition. new.inbox_failures ≡ old.inbox_failures)
+  pub raises : AsksToOpen Raises begun stored a v old.state.table old.inbox_failures
+      new.inbox_failures
   pub outbox : new.outbox_failures ≡ old.outbox_failures
 
 abbrev pub queued : StrayAck → EntityState → EntityState

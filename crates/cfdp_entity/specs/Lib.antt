@@ -6,6 +6,7 @@ pub mod Steps
 pub mod Opening
 pub mod Calling
 pub mod Table
+pub mod Storing
 pub mod Timed
 pub mod Whole
 pub mod Does

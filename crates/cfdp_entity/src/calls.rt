@@ -1,9 +1,11 @@
 // What a user asks of a transaction, and the time.
-ghost use Rattle.std.specs.Prelude.{◌≡◌, ◌≤◌, max, false, slice_get, IfErr, OnOk, OnErr};
+ghost use Rattle.std.specs.Prelude.{◌≡◌, ◌≤◌, max, false, IfErr, OnOk, OnErr};
+ghost use Rattle.cfdp_store.specs.Chains.{Raises};
 ghost use Rattle.cfdp_timers.specs.Due.{due_count};
-ghost use Rattle.cfdp_entity.specs.Calling.{IsRefusal, asks_of};
+ghost use Rattle.cfdp_entity.specs.Calling.{IsRefusal};
 ghost use Rattle.cfdp_entity.specs.Calls.{asks_inbox, call_refusal, IsCalled};
 ghost use Rattle.cfdp_entity.specs.Entity.{with_table};
+ghost use Rattle.cfdp_entity.specs.Storing.{AsksByCall, AsksToCall, AsksToTick};
 ghost use Rattle.cfdp_entity.specs.Table.{called_at, Ticks};
 ghost use Rattle.cfdp_entity.specs.declared.call.Call.TheVariants as calls;
 
@@ -29,6 +31,8 @@ impl<O: Outbox, I: Inbox> Entity<O, I> {
         ensures grows { self.old.inbox_failures ≤ self.new.inbox_failures }
         ensures inbox { asks_inbox calls.Cancel id self.old.state.table ≡ false
             → self.new.inbox_failures ≡ self.old.inbox_failures }
+        ensures raises { OnOk result (AsksByCall Raises calls.Cancel id self.old.state.table
+            self.old.inbox_failures self.new.inbox_failures) }
         ensures outbox { self.new.outbox_failures ≡ self.old.outbox_failures }
     {
         self.call(id, Call::Cancel)
@@ -98,6 +102,8 @@ impl<O: Outbox, I: Inbox> Entity<O, I> {
     /// as it was, the time too.
     pub fn tick(&mut self, now: u64) -> Result<(), AllocError>
         ensures ticked { OnOk result (Ticks now self.old.state.table self.new.state.table) }
+        ensures raises { OnOk result (AsksToTick Raises now self.old.state.table
+            self.old.inbox_failures self.new.inbox_failures) }
         ensures table { self.new.state ≡ with_table self.old.state self.new.state.table }
         ensures err { OnErr result (self.new ≡ self.old) }
         ensures lacks { OnErr result (1 ≤ due_count self.old.state.table.armed
@@ -113,8 +119,8 @@ impl<O: Outbox, I: Inbox> Entity<O, I> {
         ensures refused { IfErr result (IsRefusal (call_refusal call id self.old.state.table)) }
         ensures err { OnErr result (self.new ≡ self.old) }
         ensures grows { self.old.inbox_failures ≤ self.new.inbox_failures }
-        ensures inbox { asks_inbox call id self.old.state.table ≡ false
-            → self.new.inbox_failures ≡ self.old.inbox_failures }
+        ensures raises { OnOk result (AsksByCall Raises call id self.old.state.table
+            self.old.inbox_failures self.new.inbox_failures) }
         ensures outbox { self.new.outbox_failures ≡ self.old.outbox_failures }
     {
         let Some(place) = self.table.place_of(id) else {
@@ -135,8 +141,8 @@ impl<O: Outbox, I: Inbox> Entity<O, I> {
             ≡ with_table self.old.state (called_at place call self.old.state.table)) }
         ensures err { OnErr result (self.new ≡ self.old) }
         ensures grows { self.old.inbox_failures ≤ self.new.inbox_failures }
-        ensures inbox { asks_of call (slice_get self.old.state.table.records place) ≡ false
-            → self.new.inbox_failures ≡ self.old.inbox_failures }
+        ensures raises { OnOk result (AsksToCall Raises call place self.old.state.table
+            self.old.inbox_failures self.new.inbox_failures) }
         ensures outbox { self.new.outbox_failures ≡ self.old.outbox_failures }
     {
         self.table.reserve(3)?;

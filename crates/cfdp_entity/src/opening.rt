@@ -1,16 +1,18 @@
 // A PDU of a transaction that has no record opens one.
-ghost use Rattle.std.specs.Prelude.{◌≡◌, ◌+◌, ◌≤◌, true, None, IfOk, IfSome, OnOk, OnErr};
+ghost use Rattle.std.specs.Prelude.{◌≡◌, ◌+◌, ◌≤◌, true, None, IfOk, OnOk, OnErr};
 ghost use Rattle.std.specs.FinSet as set;
 ghost use Rattle.cfdp_header.specs.Files.{FileMap};
 ghost use Rattle.cfdp_header.specs.declared.value.TransactionId.{TransactionId};
 ghost use Rattle.cfdp_directives.specs.Addressing.{FitsAddressing};
 ghost use Rattle.cfdp_directives.specs.Content.{view};
+ghost use Rattle.cfdp_store.specs.Chains.{Makes};
 ghost use Rattle.cfdp_store.specs.Staged.{OthersKeep};
 ghost use Rattle.cfdp_entity.specs.declared.record.Record.TheVariants as variants;
 ghost use Rattle.cfdp_entity.specs.Seen.{seen};
 ghost use Rattle.cfdp_entity.specs.Opening as openings;
 ghost use Rattle.cfdp_entity.specs.Opening.{begins, opens, AsksInOrder, CountsBoth};
 ghost use Rattle.cfdp_entity.specs.Does.{Does, OpensNone, spare};
+ghost use Rattle.cfdp_entity.specs.Storing.{AsksFirst, AsksToBegin};
 ghost use Rattle.cfdp_entity.specs.Whole.{IsReadyRecord};
 
 use crate::record::{Record, receiver_hears};
@@ -82,8 +84,9 @@ pub(crate) fn open_heard<I: Inbox>(
         (I.failures inbox.new)) }
     ensures asks { IfOk result (λ o. AsksInOrder (openings.closing (view pdu.now)) o.1.begun
         o.1.stored) }
-    ensures closed { IfOk result (λ o. IfSome (openings.closing (view pdu.now)) (λ condition.
-        inbox.new ≡ inbox.old)) }
+    ensures calls { IfOk result (λ o. AsksFirst (Makes I.steps I.failures)
+        (openings.closing (view pdu.now)) o.1.begun o.1.stored (view pdu.now) addressing
+        (seen (I.staged inbox.new addressing.id) o.0) inbox.old inbox.new) }
     ensures none { OnErr result (I.failures inbox.new ≡ I.failures inbox.old) }
 {
     match closing(pdu) {
@@ -130,6 +133,9 @@ fn begin<I: Inbox>(
     ensures counts { IfOk result (λ o. CountsBoth o.1.begun o.1.stored (I.failures inbox.old)
         (I.failures inbox.new)) }
     ensures asks { IfOk result (λ o. AsksInOrder None o.1.begun o.1.stored) }
+    ensures calls { IfOk result (λ o. AsksToBegin (Makes I.steps I.failures) o.1.begun o.1.stored
+        (view pdu.now) addressing (seen (I.staged inbox.new addressing.id) (variants.Receives o.0))
+        inbox.old inbox.new) }
     ensures none { OnErr result (I.failures inbox.new ≡ I.failures inbox.old) }
 {
     let (mut receiver, begun) = Receiver::open(alloc, addressing, timers, told, inbox)?;

@@ -6,12 +6,14 @@ ghost use Rattle.cfdp_header.specs.declared.value.TransactionId.{TransactionId};
 ghost use Rattle.cfdp_directives.specs.declared.indication.Indication.TheVariants as indication;
 ghost use Rattle.cfdp_directives.specs.Content.{view};
 ghost use Rattle.cfdp_store.specs.Staged.{OctetMap, OthersKeep, staged_for};
+ghost use Rattle.cfdp_store.specs.Chains.{Makes, Raises};
 ghost use Rattle.cfdp_store.specs.Stores.{Counts};
 ghost use Rattle.cfdp_sender.specs.State.{IsSendable, opened_sender};
 ghost use Rattle.cfdp_sender.specs.Due.{sender_due};
 ghost use Rattle.cfdp_receiver.specs.State.{IsReady};
 ghost use Rattle.cfdp_receiver.specs.Steps as machine;
 ghost use Rattle.cfdp_receiver.specs.Due.{receiver_due};
+ghost use Rattle.cfdp_receiver.specs.Storing.{Settles};
 ghost use Rattle.cfdp_entity.specs.declared.record.Gave.TheVariants as gaves;
 ghost use Rattle.cfdp_entity.specs.declared.record.Record.TheVariants as variants;
 ghost use Rattle.cfdp_entity.specs.Calling as calling;
@@ -24,6 +26,7 @@ ghost use Rattle.cfdp_entity.specs.Sides.{Receives, ReceiverTook, ReceiverAcks, 
 ghost use Rattle.cfdp_entity.specs.Gives.{Gives, CountsOutbox, stored_by_gave};
 ghost use Rattle.cfdp_entity.specs.Sound.{longest_pdu};
 ghost use Rattle.cfdp_entity.specs.Spelled.{SeenIsSpelled};
+ghost use Rattle.cfdp_entity.specs.Storing.{AsksAs, AsksCalled, AsksHeard};
 ghost use Rattle.cfdp_entity.specs.Whole.{IsReadyRecord, Staged};
 
 use crate::call::Call;
@@ -123,6 +126,9 @@ impl Record {
             told.old.items told.new.items timers.old timers.new (I.published inbox.old) (I.published inbox.new)) }
         ensures counts { IfOk result (λ stored. Counts stored (I.failures inbox.old)
             (I.failures inbox.new)) }
+        ensures raises { IfOk result (λ stored. AsksAs Raises (AsksHeard Raises (view pdu.now)
+            stored) (seen (I.staged inbox.old id) self.old) (seen (I.staged inbox.new id) self.new)
+            (I.failures inbox.old) (I.failures inbox.new)) }
         ensures none { OnErr result (I.failures inbox.new ≡ I.failures inbox.old) }
         ensures ready { IsReadyRecord (I.staged inbox.new) (O.files outbox.now) id self.new }
         ensures others { OthersKeep id (I.staged inbox.old) (I.staged inbox.new) }
@@ -156,6 +162,9 @@ impl Record {
         ensures told_room { spare told.old ≤ spare told.new + 3 }
         ensures ready { IsReadyRecord (I.staged inbox.new) (O.files outbox.now) id self.new }
         ensures grows { I.failures inbox.old ≤ I.failures inbox.new }
+        ensures raises { AsksAs Raises (Settles Raises Stored.Done)
+            (seen (I.staged inbox.old id) self.old) (seen (I.staged inbox.new id) self.new)
+            (I.failures inbox.old) (I.failures inbox.new) }
         ensures others { OthersKeep id (I.staged inbox.old) (I.staged inbox.new) }
     {
         let _ = outbox;
@@ -186,8 +195,9 @@ impl Record {
             (seen (I.staged inbox.new id) self.new) told.old.items told.new.items timers.old timers.new (I.published inbox.new) }
         ensures ready { IsReadyRecord (I.staged inbox.new) (O.files outbox.now) id self.new }
         ensures grows { I.failures inbox.old ≤ I.failures inbox.new }
-        ensures inbox { calling.asks_inbox call (seen (I.staged inbox.old id) self.old) ≡ false
-            → I.failures inbox.new ≡ I.failures inbox.old }
+        ensures raises { AsksAs Raises (AsksCalled Raises call)
+            (seen (I.staged inbox.old id) self.old) (seen (I.staged inbox.new id) self.new)
+            (I.failures inbox.old) (I.failures inbox.new) }
         ensures others { OthersKeep id (I.staged inbox.old) (I.staged inbox.new) }
     {
         let _ = outbox;
@@ -351,6 +361,8 @@ pub(crate) fn receiver_hears<I: Inbox>(
         (I.staged inbox.old) (I.staged inbox.new)) }
     ensures counts { IfOk result (λ stored. Counts stored (I.failures inbox.old)
         (I.failures inbox.new)) }
+    ensures calls { IfOk result (λ stored. AsksHeard (Makes I.steps I.failures) (view pdu.now)
+        stored receiver.old receiver.new inbox.old inbox.new) }
     ensures roomy { timers.new.roomy ≡ timers.old.roomy }
     ensures none { OnErr result (I.failures inbox.new ≡ I.failures inbox.old) }
     ensures ready { IsReady (I.staged inbox.new) receiver.new }
@@ -436,6 +448,8 @@ fn expire_receiver<I: Inbox>(
         receiver.new told.old.items told.new.items timers.old timers.new (I.published inbox.new) (I.staged inbox.old) (I.staged inbox.new) }
     ensures told_room { spare told.old ≤ spare told.new + 3 }
     ensures grows { I.failures inbox.old ≤ I.failures inbox.new }
+    ensures calls { Settles (Makes I.steps I.failures) Stored.Done receiver.old receiver.new
+        inbox.old inbox.new }
     ensures ready { IsReady (I.staged inbox.new) receiver.new }
     ensures addressing { receiver.new.addressing ≡ receiver.old.addressing }
     ensures others { OthersKeep receiver.old.addressing.id (I.staged inbox.old)
@@ -502,8 +516,8 @@ fn call_receiver<I: Inbox>(
         (I.staged inbox.old) receiver.old.addressing.id) (I.published inbox.old) receiver.old)
         receiver.old receiver.new told.old.items told.new.items timers.old timers.new (I.published inbox.old) (I.published inbox.new) (I.staged inbox.old) (I.staged inbox.new) }
     ensures grows { I.failures inbox.old ≤ I.failures inbox.new }
-    ensures inbox { (m : OctetMap) → calling.asks_inbox call (seens.Receives receiver.old m) ≡ false
-        → I.failures inbox.new ≡ I.failures inbox.old }
+    ensures calls { AsksCalled (Makes I.steps I.failures) call receiver.old receiver.new
+        inbox.old inbox.new }
     ensures ready { IsReady (I.staged inbox.new) receiver.new }
     ensures addressing { receiver.new.addressing ≡ receiver.old.addressing }
     ensures others { OthersKeep receiver.old.addressing.id (I.staged inbox.old)

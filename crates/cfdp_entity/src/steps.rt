@@ -1,5 +1,5 @@
 // One step of the record at a place: what it does to the parts of a table.
-ghost use Rattle.std.specs.Prelude.{◌≡◌, ◌+◌, ◌≤◌, ◌<◌, ◌++◌, ◌∷◌, [], true, false, None, drop, length, IfOk, IfSome, OnOk, OnErr, slice_get, List, Bool};
+ghost use Rattle.std.specs.Prelude.{◌≡◌, ◌+◌, ◌≤◌, ◌<◌, ◌++◌, ◌∷◌, [], true, None, drop, length, IfOk, OnOk, OnErr, slice_get, List, Bool};
 ghost use Rattle.cfdp_timers.specs.Armed.{TimersState};
 ghost use Rattle.std.specs.List.{IsDistinct};
 ghost use Rattle.std.specs.FinSet as set;
@@ -7,6 +7,7 @@ ghost use Rattle.indexmap.specs.IndexMap.{keys, get, spare as spare_entries};
 ghost use Rattle.cfdp_header.specs.Ids.{same_id};
 ghost use Rattle.cfdp_header.specs.Files.{FileMap};
 ghost use Rattle.cfdp_directives.specs.Content.{view};
+ghost use Rattle.cfdp_store.specs.Chains.{Raises};
 ghost use Rattle.cfdp_store.specs.Stores.{Counts};
 ghost use Rattle.cfdp_sender.specs.State.{IsSendable};
 ghost use Rattle.cfdp_sender.specs.Does.{HasFile};
@@ -17,6 +18,7 @@ ghost use Rattle.cfdp_entity.specs.Opening.{closing, AsksInOrder, CountsBoth};
 ghost use Rattle.cfdp_entity.specs.Gives.{Gives, CountsOutbox, stored_by_gave};
 ghost use Rattle.cfdp_entity.specs.Sound.{longest_pdu};
 ghost use Rattle.cfdp_entity.specs.Spelled.{EntryIsSpelled};
+ghost use Rattle.cfdp_entity.specs.Storing.{AsksToHear, AsksToCall, AsksToExpire, AsksToOpen};
 ghost use Rattle.cfdp_entity.specs.Table.{heard_at, expired_at, called_at, taken_at, octets_due, len_due, data_due, put_in, opened_by, SpoiledAt, phase_in};
 ghost use Rattle.cfdp_entity.specs.Calling as calling;
 ghost use Rattle.cfdp_entity.specs.Whole.{IsWhole, Staged, state_of, entries_seen};
@@ -109,6 +111,10 @@ pub(crate) fn hear_at<O: Outbox, I: Inbox>(
         (O.files outbox.now) policy.now records.new.entries timers.new told.new.items)) }
     ensures counts { IfOk result (λ stored. Counts stored (I.failures inbox.old)
         (I.failures inbox.new)) }
+    ensures raises { IfOk result (λ stored. AsksToHear Raises stored place (view pdu.now)
+        (state_of (I.staged inbox.old) (I.published inbox.old)
+        (O.files outbox.now) policy.now records.old.entries timers.old told.old.items)
+        (I.failures inbox.old) (I.failures inbox.new)) }
     ensures none { OnErr result (I.failures inbox.new ≡ I.failures inbox.old) }
     ensures whole { IsWhole (I.staged inbox.new) (O.files outbox.now) records.new.entries ready.new
         timers.new }
@@ -146,6 +152,10 @@ pub(crate) fn expire_at<O: Outbox, I: Inbox>(
         ≡ expired_at place kind (state_of (I.staged inbox.old) (I.published inbox.old) (O.files outbox.now) policy.now records.old.entries timers.old told.old.items) }
     ensures room { spare told.old ≤ spare told.new + 3 }
     ensures grows { I.failures inbox.old ≤ I.failures inbox.new }
+    ensures raises { AsksToExpire Raises kind place
+        (state_of (I.staged inbox.old) (I.published inbox.old)
+        (O.files outbox.now) policy.now records.old.entries timers.old told.old.items)
+        (I.failures inbox.old) (I.failures inbox.new) }
     ensures whole { IsWhole (I.staged inbox.new) (O.files outbox.now) records.new.entries ready.new
         timers.new }
 {
@@ -180,9 +190,10 @@ pub(crate) fn call_at<O: Outbox, I: Inbox>(
         (O.files outbox.now) policy.now records.new.entries timers.new told.new.items
         ≡ called_at place call (state_of (I.staged inbox.old) (I.published inbox.old) (O.files outbox.now) policy.now records.old.entries timers.old told.old.items) }
     ensures grows { I.failures inbox.old ≤ I.failures inbox.new }
-    ensures inbox { calling.asks_of call (slice_get
-        (entries_seen (I.staged inbox.old) records.old.entries) place) ≡ false
-        → I.failures inbox.new ≡ I.failures inbox.old }
+    ensures raises { AsksToCall Raises call place
+        (state_of (I.staged inbox.old) (I.published inbox.old)
+        (O.files outbox.now) policy.now records.old.entries timers.old told.old.items)
+        (I.failures inbox.old) (I.failures inbox.new) }
     ensures whole { IsWhole (I.staged inbox.new) (O.files outbox.now) records.new.entries ready.new
         timers.new }
 {
@@ -329,8 +340,10 @@ pub(crate) fn open_record<O: Outbox, I: Inbox>(
     ensures counts { IfOk result (λ o. CountsBoth o.begun o.stored (I.failures inbox.old)
         (I.failures inbox.new)) }
     ensures asks { IfOk result (λ o. AsksInOrder (closing (view pdu.now)) o.begun o.stored) }
-    ensures closed { IfOk result (λ o. IfSome (closing (view pdu.now)) (λ condition.
-        I.failures inbox.new ≡ I.failures inbox.old)) }
+    ensures raises { IfOk result (λ o. AsksToOpen Raises o.begun o.stored addressing (view pdu.now)
+        (state_of (I.staged inbox.old) (I.published inbox.old)
+        (O.files outbox.now) policy.now records.old.entries timers.old told.old.items)
+        (I.failures inbox.old) (I.failures inbox.new)) }
     ensures none { OnErr result (I.failures inbox.new ≡ I.failures inbox.old) }
     ensures whole { IsWhole (I.staged inbox.new) (O.files outbox.now) records.new.entries ready.new
         timers.new }

@@ -1,5 +1,5 @@
 // Records with their timers and both stores.
-ghost use Rattle.std.specs.Prelude.{◌≡◌, ◌+◌, ◌≤◌, ◌<◌, ◌++◌, ◌*◌, max, true, false, None, Option, drop, length, slice_get, IfOk, IfSome, MatchOption, OnOk, OnErr, is_ok};
+ghost use Rattle.std.specs.Prelude.{◌≡◌, ◌+◌, ◌≤◌, ◌<◌, ◌++◌, ◌*◌, max, true, None, Option, drop, length, slice_get, IfOk, IfSome, MatchOption, OnOk, OnErr, is_ok};
 ghost use Rattle.std.specs.FinMap as map;
 ghost use Rattle.std.specs.Option.{option_map};
 ghost use Rattle.std.specs.List.{IsDistinct};
@@ -9,6 +9,7 @@ ghost use Rattle.cfdp_directives.specs.Addressing.{FitsAddressing};
 ghost use Rattle.cfdp_directives.specs.Content.{view};
 ghost use Rattle.cfdp_timers.specs.Due.{AreDue, due_count};
 ghost use Rattle.cfdp_timers.specs.ButInactivity.{OnlyInactivity, IsLeastOther};
+ghost use Rattle.cfdp_store.specs.Chains.{Raises};
 ghost use Rattle.cfdp_store.specs.Stores.{Counts, failures_after};
 ghost use Rattle.cfdp_sender.specs.State.{IsSendable};
 ghost use Rattle.cfdp_sender.specs.Does.{HasFile};
@@ -19,6 +20,7 @@ ghost use Rattle.cfdp_entity.specs.Gives.{Gives, CountsOutbox, stored_by_gave};
 ghost use Rattle.cfdp_entity.specs.Opening.{closing, AsksInOrder, CountsBoth};
 ghost use Rattle.cfdp_entity.specs.Sound.{longest_pdu};
 ghost use Rattle.cfdp_entity.specs.Spelled.{EntryIsSpelled};
+ghost use Rattle.cfdp_entity.specs.Storing.{AsksToHear, AsksToCall, AsksToExpire, AsksByTimer, AsksToFire, AsksToTick, AsksToOpen};
 ghost use Rattle.cfdp_entity.specs.Table as tables;
 ghost use Rattle.cfdp_entity.specs.Table.{heard_at, expired_at, called_at, taken_at, due_at, len_at, data_at, put_in, opened_by, next_due, first_table, all_expired, at_time, Ticks, SpoiledAt, phase_in};
 
@@ -188,6 +190,8 @@ impl<O: Outbox, I: Inbox> Table<O, I> {
         ensures err { OnErr result (SpoiledAt place (view pdu.now) self.old.state self.new.state) }
         ensures counts { IfOk result (λ stored. Counts stored self.old.inbox_failures
             self.new.inbox_failures) }
+        ensures raises { IfOk result (λ stored. AsksToHear Raises stored place (view pdu.now)
+            self.old.state self.old.inbox_failures self.new.inbox_failures) }
         ensures none { OnErr result
             (self.new.inbox_failures ≡ self.old.inbox_failures) }
         ensures outbox { self.new.outbox_failures ≡ self.old.outbox_failures }
@@ -211,6 +215,8 @@ impl<O: Outbox, I: Inbox> Table<O, I> {
         ensures expired { self.new.state ≡ expired_at place kind self.old.state }
         ensures room { self.old.spare ≤ self.new.spare + 3 }
         ensures grows { self.old.inbox_failures ≤ self.new.inbox_failures }
+        ensures raises { AsksToExpire Raises kind place self.old.state self.old.inbox_failures
+            self.new.inbox_failures }
         ensures outbox { self.new.outbox_failures ≡ self.old.outbox_failures }
     {
         steps::expire_at(
@@ -231,8 +237,8 @@ impl<O: Outbox, I: Inbox> Table<O, I> {
         requires room { 3 ≤ self.old.spare }
         ensures called { self.new.state ≡ called_at place call self.old.state }
         ensures grows { self.old.inbox_failures ≤ self.new.inbox_failures }
-        ensures inbox { calling.asks_of call (slice_get self.old.state.records place) ≡ false
-            → self.new.inbox_failures ≡ self.old.inbox_failures }
+        ensures raises { AsksToCall Raises call place self.old.state self.old.inbox_failures
+            self.new.inbox_failures }
         ensures outbox { self.new.outbox_failures ≡ self.old.outbox_failures }
     {
         steps::call_at(
@@ -309,8 +315,8 @@ impl<O: Outbox, I: Inbox> Table<O, I> {
         ensures counts { IfOk result (λ o. CountsBoth o.begun o.stored self.old.inbox_failures
             self.new.inbox_failures) }
         ensures asks { IfOk result (λ o. AsksInOrder (closing (view pdu.now)) o.begun o.stored) }
-        ensures closed { IfOk result (λ o. IfSome (closing (view pdu.now)) (λ condition.
-            self.new.inbox_failures ≡ self.old.inbox_failures)) }
+        ensures raises { IfOk result (λ o. AsksToOpen Raises o.begun o.stored addressing
+            (view pdu.now) self.old.state self.old.inbox_failures self.new.inbox_failures) }
         ensures none { OnErr result
             (self.new.inbox_failures ≡ self.old.inbox_failures) }
         ensures outbox { self.new.outbox_failures ≡ self.old.outbox_failures }
@@ -340,6 +346,8 @@ impl<O: Outbox, I: Inbox> Table<O, I> {
     /// Tells the time: the timers that are due fire, one after another.
     pub fn tick(&mut self, now: u64) -> Result<(), AllocError>
         ensures ticked { OnOk result (Ticks now self.old.state self.new.state) }
+        ensures raises { OnOk result (AsksToTick Raises now self.old.state
+            self.old.inbox_failures self.new.inbox_failures) }
         ensures err { OnErr result (self.new.state ≡ self.old.state) }
         ensures grows { self.old.inbox_failures ≤ self.new.inbox_failures }
         ensures none { OnErr result (self.new.inbox_failures ≡ self.old.inbox_failures) }
@@ -381,6 +389,8 @@ impl<O: Outbox, I: Inbox> Table<O, I> {
         requires room { 3 * length fired.now ≤ self.old.spare }
         ensures fires { self.new.state ≡ all_expired fired.now self.old.state }
         ensures grows { self.old.inbox_failures ≤ self.new.inbox_failures }
+        ensures raises { AsksToFire Raises fired.now self.old.state self.old.inbox_failures
+            self.new.inbox_failures }
         ensures outbox { self.new.outbox_failures ≡ self.old.outbox_failures }
     {
         for (id, kind) in fired {
@@ -393,6 +403,8 @@ impl<O: Outbox, I: Inbox> Table<O, I> {
         ensures expired { self.new.state ≡ tables.expired (id, kind) self.old.state }
         ensures room { self.old.spare ≤ self.new.spare + 3 }
         ensures grows { self.old.inbox_failures ≤ self.new.inbox_failures }
+        ensures raises { AsksByTimer Raises (id, kind) self.old.state self.old.inbox_failures
+            self.new.inbox_failures }
         ensures outbox { self.new.outbox_failures ≡ self.old.outbox_failures }
     {
         if let Some(place) = self.place_of(id) {

@@ -15,3 +15,4 @@ pub mod StagedLemmas
 pub mod StepLemmas
 pub mod AskedLemmas
 pub mod Chains
+pub mod ReadOff

@@ -8,6 +8,7 @@ ghost use Rattle.link_stack.specs.Upward.{IsUp};
 ghost use Rattle.link_stack.specs.Downward as downward;
 ghost use Rattle.cfdp_timers.specs.Due.{due_count};
 ghost use Rattle.cfdp_timers.specs.ButInactivity.{OnlyInactivity, IsLeastOther};
+ghost use Rattle.cfdp_store.specs.Chains.{Raises};
 ghost use Rattle.cfdp_store.specs.Stores.{failures_after};
 ghost use Rattle.cfdp_entity.specs.Calling.{IsRefusal};
 ghost use Rattle.cfdp_entity.specs.Calls.{IsCalled, asks_inbox, call_refusal};
@@ -16,6 +17,7 @@ ghost use Rattle.cfdp_entity.specs.Gives.{CountsOutbox};
 ghost use Rattle.cfdp_entity.specs.Polling.{TakesTurn, turn};
 ghost use Rattle.cfdp_entity.specs.Putting.{Accepts, put_refusal, IsPutRefusal, stored_by_error, was_answered};
 ghost use Rattle.cfdp_entity.specs.Sound.{SpellsTurn, longest_pdu};
+ghost use Rattle.cfdp_entity.specs.Storing.{AsksByCall, AsksToTick};
 ghost use Rattle.cfdp_entity.specs.Table.{Ticks};
 ghost use Rattle.cfdp_entity.specs.declared.call.Call.TheVariants as calls;
 ghost use Rattle.cfdp_station.specs.declared.polled.Polled.TheVariants as answers;
@@ -149,6 +151,8 @@ impl<O: Outbox, I: Inbox> Station<O, I> {
         ensures grows { self.old.entity.inbox_failures ≤ self.new.entity.inbox_failures }
         ensures inbox { asks_inbox calls.Cancel id self.old.entity.state.table ≡ false
             → self.new.entity.inbox_failures ≡ self.old.entity.inbox_failures }
+        ensures raises { OnOk result (AsksByCall Raises calls.Cancel id self.old.entity.state.table
+            self.old.entity.inbox_failures self.new.entity.inbox_failures) }
         ensures outbox { self.new.entity.outbox_failures ≡ self.old.entity.outbox_failures }
         ensures link { KeepsLink self.old self.new }
     {
@@ -361,6 +365,8 @@ impl<O: Outbox, I: Inbox> Station<O, I> {
     pub fn tick(&mut self, now: u64) -> Result<(), AllocError>
         ensures ticked { OnOk result (Ticks now self.old.entity.state.table
             self.new.entity.state.table) }
+        ensures raises { OnOk result (AsksToTick Raises now self.old.entity.state.table
+            self.old.entity.inbox_failures self.new.entity.inbox_failures) }
         ensures table { self.new.entity.state
             ≡ with_table self.old.entity.state self.new.entity.state.table }
         ensures err { OnErr result (self.new ≡ self.old) }

@@ -1,7 +1,10 @@
-use Rattle.std.proofs.Common.{refl, sym, ap, ◌∙◌}
+use Rattle.std.proofs.Common.{refl, sym, ap}
 use Rattle.cfdp_timers.specs.Armed.{TimersState}
-use Rattle.cfdp_entity.proofs.Entries.{ready_at, seen_at, state-step, whole-step, no_hole, below_flags, nothing}
-use Rattle.cfdp_entity.specs.Calling.{asks_of}
+use Rattle.cfdp_store.specs.Chains.{Raises}
+use Rattle.cfdp_entity.specs.Seen.{seen}
+use Rattle.cfdp_entity.specs.Storing.{AsksCalled}
+use Rattle.cfdp_entity.proofs.Raised.{asks-there, asks-nowhere}
+use Rattle.cfdp_entity.proofs.Entries.{ready_at, state-step, whole-step, no_hole, below_flags, nothing}
 use Rattle.cfdp_entity.specs.Steps.{calls}
 use Rattle.cfdp_entity.proofs.steps.call_at.Goals as goal
 
@@ -35,6 +38,14 @@ returns-in-Some-get_index_mut-clause-whole g c =
     c.requires.whole (sym c.in-Some.ensures) (sym c.in-Some-get_index_mut.ensures.value) refl c.call.ensures.others
     (ap (λ (k : TimersState). k.roomy) c.call.ensures.does.timers) c.call.ensures.ready c.is_due.result (c.is_due.ensures (g.I.Inbox.staged c.call.new.inbox c.in-Some.id)) c.set.new.self c.set.ensures
 
-pub returns-in-Some-get_index_mut-clause-inbox : goal.returns-in-Some-get_index_mut-clause-inbox
-returns-in-Some-get_index_mut-clause-inbox g c none =
-    c.call.ensures.inbox (ap (asks_of c.args.call) (sym (seen_at (g.I.Inbox.staged c.args.inbox.now) c.args.records.now.entries c.args.place c.in-Some.id c.in-Some-get_index_mut.record.now (sym c.in-Some.ensures) (sym c.in-Some-get_index_mut.ensures.value))) ∙ none)
+pub returns-in_default-clause-raises : goal.returns-in_default-clause-raises
+returns-in_default-clause-raises g c =
+    asks-nowhere (AsksCalled Raises c.args.call) (λ e. calls c.args.policy.now.times (g.I.Inbox.published c.args.inbox.now) c.args.call e.1) (g.I.Inbox.staged c.args.inbox.now) c.args.records.now.entries c.args.place (g.I.Inbox.failures c.args.inbox.now) c.in_default.ensures
+
+pub returns-in-None-clause-raises : goal.returns-in-None-clause-raises
+returns-in-None-clause-raises g c = absurd (no_hole c.args.records.now.entries c.args.place c.in-Some.id (sym c.in-Some.ensures) (sym c.in-None.ensures.value))
+
+pub returns-in-Some-get_index_mut-clause-raises : goal.returns-in-Some-get_index_mut-clause-raises
+returns-in-Some-get_index_mut-clause-raises g c =
+    asks-there (AsksCalled Raises c.args.call) (λ e. calls c.args.policy.now.times (g.I.Inbox.published c.args.inbox.now) c.args.call e.1) (g.I.Inbox.staged c.args.inbox.now) c.args.records.now.entries c.args.place c.in-Some.id c.in-Some-get_index_mut.record.now
+    (seen (g.I.Inbox.staged c.call.new.inbox c.in-Some.id) c.call.new.self) (g.I.Inbox.failures c.args.inbox.now) (g.I.Inbox.failures c.call.new.inbox) (sym c.in-Some.ensures) (sym c.in-Some-get_index_mut.ensures.value) c.call.ensures.does.state c.call.ensures.raises

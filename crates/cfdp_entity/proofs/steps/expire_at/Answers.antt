@@ -1,5 +1,10 @@
 use Rattle.std.proofs.Common.{refl, sym, ap}
 use Rattle.cfdp_timers.specs.Armed.{TimersState}
+use Rattle.cfdp_store.specs.declared.stored.Stored.TheVariants.{Done}
+use Rattle.cfdp_store.specs.Chains.{Raises}
+use Rattle.cfdp_receiver.specs.Storing.{Settles}
+use Rattle.cfdp_entity.specs.Seen.{seen}
+use Rattle.cfdp_entity.proofs.Raised.{asks-there, asks-nowhere}
 use Rattle.cfdp_entity.proofs.Entries.{ready_at, state-step, whole-step, no_hole, below_flags, nothing}
 use Rattle.cfdp_entity.specs.Steps.{expires}
 use Rattle.cfdp_entity.proofs.steps.expire_at.Goals as goal
@@ -33,3 +38,15 @@ returns-in-Some-get_index_mut-clause-whole g c =
     c.args.records.now.entries _ c.args.ready.now c.args.timers.now c.expire.new.timers c.args.told.now.items c.expire.new.told.items c.args.place c.in-Some.id c.in-Some-get_index_mut.record.now c.expire.new.self
     c.requires.whole (sym c.in-Some.ensures) (sym c.in-Some-get_index_mut.ensures.value) refl c.expire.ensures.others
     (ap (λ (k : TimersState). k.roomy) c.expire.ensures.does.timers) c.expire.ensures.ready c.is_due.result (c.is_due.ensures (g.I.Inbox.staged c.expire.new.inbox c.in-Some.id)) c.set.new.self c.set.ensures
+
+pub returns-in_default-clause-raises : goal.returns-in_default-clause-raises
+returns-in_default-clause-raises g c =
+    asks-nowhere (Settles Raises Done) (λ e. expires c.args.policy.now (g.I.Inbox.published c.args.inbox.now) c.args.kind e.1) (g.I.Inbox.staged c.args.inbox.now) c.args.records.now.entries c.args.place (g.I.Inbox.failures c.args.inbox.now) c.in_default.ensures
+
+pub returns-in-None-clause-raises : goal.returns-in-None-clause-raises
+returns-in-None-clause-raises g c = absurd (no_hole c.args.records.now.entries c.args.place c.in-Some.id (sym c.in-Some.ensures) (sym c.in-None.ensures.value))
+
+pub returns-in-Some-get_index_mut-clause-raises : goal.returns-in-Some-get_index_mut-clause-raises
+returns-in-Some-get_index_mut-clause-raises g c =
+    asks-there (Settles Raises Done) (λ e. expires c.args.policy.now (g.I.Inbox.published c.args.inbox.now) c.args.kind e.1) (g.I.Inbox.staged c.args.inbox.now) c.args.records.now.entries c.args.place c.in-Some.id c.in-Some-get_index_mut.record.now
+    (seen (g.I.Inbox.staged c.expire.new.inbox c.in-Some.id) c.expire.new.self) (g.I.Inbox.failures c.args.inbox.now) (g.I.Inbox.failures c.expire.new.inbox) (sym c.in-Some.ensures) (sym c.in-Some-get_index_mut.ensures.value) c.expire.ensures.does.state c.expire.ensures.raises

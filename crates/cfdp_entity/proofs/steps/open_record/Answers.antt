@@ -1,7 +1,11 @@
-use Rattle.std.proofs.Common.{Result, Ok, Err, OnErr, refl, ap, ◌∙◌, arith}
+use Rattle.std.proofs.Common.{Result, Ok, Err, OnErr, refl, ap, subst, ◌∙◌, arith}
 use Rattle.cfdp_timers.specs.Armed.{TimersState}
 use Rattle.cfdp_directives.specs.Content.{view}
-use Rattle.cfdp_entity.specs.Opening.{opens}
+use Rattle.cfdp_entity.specs.Opening.{closing, opens}
+use Rattle.cfdp_store.specs.Chains.{Raises}
+use Rattle.cfdp_entity.specs.Seen.{Seen, seen}
+use Rattle.cfdp_entity.specs.Storing.{AsksFirst}
+use Rattle.cfdp_entity.proofs.Raised.{opened}
 use Rattle.cfdp_entity.proofs.Entries.{whole-roomier, seen-kept, whole-kept, whole-added, state-added, state-same, length_flags}
 use Rattle.cfdp_entity.proofs.steps.open_record.Goals as goal
 
@@ -47,3 +51,8 @@ returns-clause-whole g c =
     c.in_ok-record.record c.push_record.new.records.entries c.push_record.ensures.added c.requires.not_full
     (c.in_ok-record.ensures.ready (g.O.Outbox.files c.args.outbox.now)) c.in_ok-record.ensures.has_room
     c.is_due.result (c.is_due.ensures (g.I.Inbox.staged c.open_heard.new.inbox c.args.addressing.id)) c.push.ensures c.push_record.ensures.unique
+
+pub returns-clause-raises : goal.returns-clause-raises
+returns-clause-raises g c =
+    subst (λ (s : Seen). AsksFirst Raises (closing (view c.args.pdu.now)) c.in_ok-record.opened.begun c.in_ok-record.opened.stored (view c.args.pdu.now) c.args.addressing s (g.I.Inbox.failures c.args.inbox.now) (g.I.Inbox.failures c.open_heard.new.inbox)) c.in_ok-record.ensures.does.state
+    (opened g.I.Inbox.steps g.I.Inbox.failures (closing (view c.args.pdu.now)) c.in_ok-record.opened.begun c.in_ok-record.opened.stored (view c.args.pdu.now) c.args.addressing (seen (g.I.Inbox.staged c.open_heard.new.inbox c.args.addressing.id) c.in_ok-record.record) c.args.inbox.now c.open_heard.new.inbox c.in_ok-record.ensures.calls)

@@ -2,6 +2,10 @@ use Rattle.std.proofs.Common.{◌≡◌, true, refl, sym, subst}
 use Rattle.std.specs.FinSet as set
 use Rattle.cfdp_entity.specs.Whole.{IsReadyRecord}
 use Rattle.cfdp_entity.proofs.Entries.{ready-sender, ready-receiver}
+use Rattle.cfdp_store.specs.declared.stored.Stored.TheVariants.{Done}
+use Rattle.cfdp_store.specs.Chains.{Raises}
+use Rattle.cfdp_receiver.specs.Storing.{Settles}
+use Rattle.cfdp_entity.proofs.Raised.{sender-asks, expired-here}
 use Rattle.cfdp_entity.proofs.Records.{sender-expired, expired-there, receiver-still, others-there}
 use Rattle.cfdp_entity.proofs.record.Record.expire.Goals as goal
 
@@ -28,3 +32,12 @@ returns-in-Receives-clause-ready g c = receiver-still c.args.policy.now.times c.
 
 pub returns-in-Receives-clause-others : goal.returns-in-Receives-clause-others
 returns-in-Receives-clause-others g c = others-there c.args.policy.now.times c.args.id c.args.self.now c.in-Receives.receiver c.expire_receiver.new.receiver c.in-Receives.is (g.O.Outbox.files c.args.outbox.now) (g.I.Inbox.published c.args.inbox.now) (g.I.Inbox.published c.expire_receiver.new.inbox) (g.I.Inbox.staged c.args.inbox.now) (g.I.Inbox.staged c.expire_receiver.new.inbox) c.args.told.now.items c.expire_receiver.new.told.items c.args.timers.now c.expire_receiver.new.timers c.requires.ready c.expire_receiver.ensures.addressing _ refl c.expire_receiver.ensures.others
+
+pub returns-in-Sends-clause-raises : goal.returns-in-Sends-clause-raises
+returns-in-Sends-clause-raises g c =
+    sender-asks (Settles Raises Done) c.args.self.now c.in-Sends.sender c.in-Sends.is (g.I.Inbox.staged c.args.inbox.now c.args.id) _ (g.I.Inbox.failures c.args.inbox.now)
+
+pub returns-in-Receives-clause-raises : goal.returns-in-Receives-clause-raises
+returns-in-Receives-clause-raises g c =
+    expired-here g.I.Inbox.steps g.I.Inbox.failures c.args.self.now c.in-Receives.receiver c.expire_receiver.new.receiver c.in-Receives.is (g.I.Inbox.staged c.args.inbox.now c.args.id) (g.I.Inbox.staged c.expire_receiver.new.inbox c.args.id) c.args.inbox.now c.expire_receiver.new.inbox
+    c.expire_receiver.ensures.calls

@@ -3,6 +3,7 @@ use Rattle.std.specs.FinSet as set
 use Rattle.cfdp_directives.specs.Content.{view}
 use Rattle.cfdp_entity.specs.Whole.{IsReadyRecord}
 use Rattle.cfdp_entity.proofs.Entries.{ready-sender, ready-receiver}
+use Rattle.cfdp_entity.proofs.Raised.{sender-heard, heard-here}
 use Rattle.cfdp_entity.proofs.Records.{sender-answered, sender-failed, sender-still, heard-answered, heard-failed, receiver-still, others-there, done-counts}
 use Rattle.cfdp_entity.proofs.record.Record.hear.Goals as goal
 
@@ -38,3 +39,12 @@ returns-in-Receives-clause-ready g c = receiver-still c.args.policy.now.times c.
 
 pub returns-in-Receives-clause-others : goal.returns-in-Receives-clause-others
 returns-in-Receives-clause-others g c = others-there c.args.policy.now.times c.args.id c.args.self.now c.in-Receives.receiver c.receiver_hears.new.receiver c.in-Receives.is (g.O.Outbox.files c.args.outbox.now) (g.I.Inbox.published c.args.inbox.now) (g.I.Inbox.published c.receiver_hears.new.inbox) (g.I.Inbox.staged c.args.inbox.now) (g.I.Inbox.staged c.receiver_hears.new.inbox) c.args.told.now.items c.receiver_hears.new.told.items c.args.timers.now c.receiver_hears.new.timers c.requires.ready c.receiver_hears.ensures.addressing _ refl c.receiver_hears.ensures.others
+
+pub returns-in-Sends-clause-raises : goal.returns-in-Sends-clause-raises
+returns-in-Sends-clause-raises g c =
+    sender-heard c.sender_hears.result (view c.args.pdu.now) c.args.self.now c.in-Sends.sender c.in-Sends.is (g.I.Inbox.staged c.args.inbox.now c.args.id) _ (g.I.Inbox.failures c.args.inbox.now)
+
+pub returns-in-Receives-clause-raises : goal.returns-in-Receives-clause-raises
+returns-in-Receives-clause-raises g c =
+    heard-here g.I.Inbox.steps g.I.Inbox.failures c.args.self.now c.in-Receives.receiver c.receiver_hears.new.receiver c.in-Receives.is (g.I.Inbox.staged c.args.inbox.now c.args.id) (g.I.Inbox.staged c.receiver_hears.new.inbox c.args.id) c.args.inbox.now c.receiver_hears.new.inbox
+    c.receiver_hears.result (view c.args.pdu.now) c.receiver_hears.ensures.calls

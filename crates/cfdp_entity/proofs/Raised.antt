@@ -1,0 +1,106 @@
+-- What a step asks of the inbox, said of the inbox and said of the count of its failures.
+use Rattle.std.proofs.Common.{◌≡◌, ℕ, List, slice_get, Option, Some, None, Result, Ok, Err, IfOk, refl, sym, subst}
+use Rattle.std.specs.Map.{keys_of, values_of}
+use Rattle.cfdp_header.specs.declared.value.TransactionId.{TransactionId}
+use Rattle.cfdp_header.specs.Files.{FileMap}
+use Rattle.cfdp_directives.specs.declared.indication.Indication.{Indication}
+use Rattle.cfdp_directives.specs.declared.addressing.Addressing.{Addressing}
+use Rattle.cfdp_directives.specs.Content.{Content, FileData, Metadata, Eof, Finished, Ack, Nak, Prompt, KeepAlive}
+use Rattle.cfdp_store.specs.declared.stored.Stored.{Stored}
+use Rattle.cfdp_store.specs.declared.stored.Stored.TheVariants.{Done, Refused}
+use Rattle.cfdp_store.specs.Calls.{InboxCall}
+use Rattle.cfdp_store.specs.Chains.{Makes, Raises}
+use Rattle.cfdp_store.specs.Staged.{OctetMap}
+use Rattle.cfdp_timers.specs.Armed.{TimersState}
+use Rattle.cfdp_sender.specs.State.{SenderState}
+use Rattle.cfdp_receiver.specs.State.{ReceiverState, opened_receiver}
+use Rattle.cfdp_receiver.specs.Storing.{Settles, Stages, staged_pieces}
+use Rattle.cfdp_receiver.proofs.ReadOff.{settles, stages, begins}
+use Rattle.cfdp_entity.specs.declared.call.Call.{Call}
+use Rattle.cfdp_entity.specs.declared.call.Call.TheVariants as call
+use Rattle.cfdp_entity.specs.declared.record.Record.{Record}
+use Rattle.cfdp_entity.specs.declared.record.Record.TheVariants as held
+use Rattle.cfdp_entity.specs.Does.{Does}
+use Rattle.cfdp_entity.specs.Seen.{Seen, Sends, Receives, seen}
+use Rattle.cfdp_entity.specs.Steps.{After}
+use Rattle.cfdp_entity.specs.Storing.{AsksHeard, AsksCalled, AsksAs, AsksOf, AsksFirst}
+use Rattle.cfdp_entity.specs.Table.{Entry}
+use Rattle.cfdp_entity.specs.Whole.{Staged, entries_seen}
+use Rattle.cfdp_entity.proofs.Entries.{seen_at, no_entry}
+
+module _ {S : Type 0} (steps : S → InboxCall → S → Type 0) (failures : S → ℕ) where
+  raised : (calls : List InboxCall) (old new : S) → Makes steps failures calls old new → Raises calls (failures old) (failures new)
+  raised calls old new made = made.1
+
+  settled : (stored : Stored) (r s : ReceiverState) (old new : S) → Settles (Makes steps failures) stored r s old new → Settles Raises stored r s (failures old) (failures new)
+  settled = settles (Makes steps failures) Raises failures raised
+
+  heard : (v : Content) (stored : Stored) (r s : ReceiverState) (old new : S) → AsksHeard (Makes steps failures) v stored r s old new → AsksHeard Raises v stored r s (failures old) (failures new)
+  heard (Metadata kind size source destination options) stored r s old new h = settled stored r s old new h
+  heard (FileData offset bytes) stored r s old new h = stages (Makes steps failures) Raises failures raised stored (staged_pieces offset bytes r) r s old new h
+  heard (Eof condition checksum size tlvs) stored r s old new h = settled stored r s old new h
+  heard (Finished condition delivery status tlvs) stored r s old new h = h.1
+  heard (Ack of condition status) stored r s old new h = h.1
+  heard (Nak start end pairs) stored r s old new h = h.1
+  heard (Prompt keep_alive) stored r s old new h = h.1
+  heard (KeepAlive progress) stored r s old new h = h.1
+
+  called : (c : Call) (r s : ReceiverState) (old new : S) → AsksCalled (Makes steps failures) c r s old new → AsksCalled Raises c r s (failures old) (failures new)
+  called call.Cancel r s old new h = settled Done r s old new h
+  called call.Suspend r s old new h = h.1
+  called call.Resume r s old new h = h.1
+  called (call.Prompt keep_alive) r s old new h = h.1
+
+  -- file data
+  pub data-heard : {E : Type 0} (answer : Result Stored E) (v : Content) (offset : ℕ) (bytes : List ℕ) → v ≡ FileData offset bytes → (r s : ReceiverState) (old new : S)
+      → IfOk answer (λ stored. Stages (Makes steps failures) stored (staged_pieces offset bytes r) r s old new) → IfOk answer (λ stored. AsksHeard (Makes steps failures) v stored r s old new)
+  data-heard (Ok stored) v offset bytes is r s old new h = subst (λ w. AsksHeard (Makes steps failures) w stored r s old new) (sym is) h
+  data-heard (Err e) v offset bytes is r s old new h = tt
+
+  -- the record of a receiver
+  module _ (k : Record) (r s : ReceiverState) (is : k ≡ held.Receives r) (staged staged_now : Option OctetMap) (old new : S) where
+    here : (Asks : (r s : ReceiverState) → (old new : ℕ) → Type 0) → Asks r s (failures old) (failures new) → AsksAs Raises Asks (seen staged k) (seen staged_now (held.Receives s)) (failures old) (failures new)
+    here Asks h = subst (λ (q : Record). AsksAs Raises Asks (seen staged q) (seen staged_now (held.Receives s)) (failures old) (failures new)) (sym is) h
+
+    pub heard-here : {E : Type 0} (answer : Result Stored E) (v : Content) → IfOk answer (λ stored. AsksHeard (Makes steps failures) v stored r s old new)
+        → IfOk answer (λ stored. AsksAs Raises (AsksHeard Raises v stored) (seen staged k) (seen staged_now (held.Receives s)) (failures old) (failures new))
+    heard-here (Ok stored) v h = here (AsksHeard Raises v stored) (heard v stored r s old new h)
+    heard-here (Err e) v h = tt
+
+    pub expired-here : Settles (Makes steps failures) Done r s old new → AsksAs Raises (Settles Raises Done) (seen staged k) (seen staged_now (held.Receives s)) (failures old) (failures new)
+    expired-here h = here (Settles Raises Done) (settled Done r s old new h)
+
+    pub called-here : (c : Call) → AsksCalled (Makes steps failures) c r s old new → AsksAs Raises (AsksCalled Raises c) (seen staged k) (seen staged_now (held.Receives s)) (failures old) (failures new)
+    called-here c h = here (AsksCalled Raises c) (called c r s old new h)
+
+  -- a record more
+  pub opened : (closes : Option ℕ) (begun stored : Stored) (v : Content) (a : Addressing) (s : Seen) (old new : S) → AsksFirst (Makes steps failures) closes begun stored v a s old new → AsksFirst Raises closes begun stored v a s (failures old) (failures new)
+  opened (Some condition) begun stored v a s old new h = h.1
+  opened None Done stored v a (Receives r m) old new h =
+      (failures h.0, begins (Makes steps failures) Raises failures raised Done a.id old h.0 h.1, heard v stored (opened_receiver a) r h.0 new h.2)
+  opened None Done stored v a (Sends x) old new h = absurd h.2
+  opened None Refused stored v a s old new h = begins (Makes steps failures) Raises failures raised Refused a.id old new h
+
+-- the record of a sender
+pub sender-asks : (Asks : (r s : ReceiverState) → (old new : ℕ) → Type 0) (k : Record) (x : SenderState) → k ≡ held.Sends x → (staged : Option OctetMap) (after : Seen) (n : ℕ) → AsksAs Raises Asks (seen staged k) after n n
+sender-asks Asks k x is staged after n = subst (λ (q : Record). AsksAs Raises Asks (seen staged q) after n n) (sym is) refl
+
+pub sender-heard : {E : Type 0} (answer : Result Stored E) (v : Content) (k : Record) (x : SenderState) → k ≡ held.Sends x → (staged : Option OctetMap) (after : Seen) (n : ℕ) → IfOk answer (λ stored. AsksAs Raises (AsksHeard Raises v stored) (seen staged k) after n n)
+sender-heard (Ok stored) v k x is staged after n = sender-asks (AsksHeard Raises v stored) k x is staged after n
+sender-heard (Err e) v k x is staged after n = tt
+
+-- ---- the record at a place
+pub asks-there : (Asks : (r s : ReceiverState) → (old new : ℕ) → Type 0) (f : Entry → After) (staged : Staged) (es : List (TransactionId × Record)) (place : ℕ) (id : TransactionId) (k : Record) (now : Seen) (n m : ℕ)
+    → slice_get (keys_of es) place ≡ Some id → slice_get (values_of es) place ≡ Some k → now ≡ (f (id, seen (staged id) k)).seen → AsksAs Raises Asks (seen (staged id) k) now n m → AsksOf Raises Asks f (slice_get (entries_seen staged es) place) n m
+asks-there Asks f staged es place id k now n m at is becomes asks =
+    subst (λ o. AsksOf Raises Asks f o n m) (sym (seen_at staged es place id k at is)) (subst (λ s. AsksAs Raises Asks (seen (staged id) k) s n m) becomes asks)
+
+pub answered-there : {E : Type 0} (Asks : Stored → (r s : ReceiverState) → (old new : ℕ) → Type 0) (f : Stored → Entry → After) (staged : Staged) (es : List (TransactionId × Record)) (place : ℕ) (id : TransactionId) (k : Record) (now : Seen) (n m : ℕ)
+    → slice_get (keys_of es) place ≡ Some id → slice_get (values_of es) place ≡ Some k → (told told_now : List Indication) (clock clock_now : TimersState) (files : FileMap) (answer : Result Stored E)
+    → IfOk answer (λ stored. Does id (f stored (id, seen (staged id) k)) now told told_now clock clock_now files) → IfOk answer (λ stored. AsksAs Raises (Asks stored) (seen (staged id) k) now n m)
+    → IfOk answer (λ stored. AsksOf Raises (Asks stored) (f stored) (slice_get (entries_seen staged es) place) n m)
+answered-there Asks f staged es place id k now n m at is told told_now clock clock_now files (Ok stored) does asks = asks-there (Asks stored) (f stored) staged es place id k now n m at is does.state asks
+answered-there Asks f staged es place id k now n m at is told told_now clock clock_now files (Err e) does asks = tt
+
+pub asks-nowhere : (Asks : (r s : ReceiverState) → (old new : ℕ) → Type 0) (f : Entry → After) (staged : Staged) (es : List (TransactionId × Record)) (place : ℕ) (n : ℕ) → None ≡ slice_get (keys_of es) place → AsksOf Raises Asks f (slice_get (entries_seen staged es) place) n n
+asks-nowhere Asks f staged es place n none = subst (λ o. AsksOf Raises Asks f o n n) (sym (no_entry staged es place none)) refl

@@ -1,0 +1,112 @@
+-- Which calls of the inbox a step of an entity makes, in which order: those of the receiver whose
+-- step it is, and no other. `By` says that some calls lead from one state of the inbox to another.
+-- Where it is `Raises`, these states are counts of failures.
+use Rattle.std.specs.Prelude.{ℕ, max, List, [], ◌∷◌, slice_get, Option, Some, None}
+use Rattle.std.specs.FinMap as map
+use Rattle.cfdp_header.specs.declared.value.TransactionId.{TransactionId}
+use Rattle.cfdp_directives.specs.declared.addressing.Addressing.{Addressing}
+use Rattle.cfdp_directives.specs.Content.{Content, FileData, Metadata, Eof}
+use Rattle.cfdp_store.specs.declared.stored.Stored.{Stored}
+use Rattle.cfdp_store.specs.declared.stored.Stored.TheVariants.{Done, Refused}
+use Rattle.cfdp_store.specs.Calls.{InboxCall}
+use Rattle.cfdp_timers.specs.declared.kind.Kind.{Kind}
+use Rattle.cfdp_timers.specs.Due.{AreDue}
+use Rattle.cfdp_timers.specs.Order.{Timer}
+use Rattle.cfdp_receiver.specs.State.{ReceiverState, opened_receiver}
+use Rattle.cfdp_receiver.specs.Storing.{Settles, Stages, Begins, staged_pieces}
+use Rattle.cfdp_entity.specs.declared.call.Call.{Call}
+use Rattle.cfdp_entity.specs.declared.call.Call.TheVariants as call
+use Rattle.cfdp_entity.specs.Seen.{Seen, Sends, Receives}
+use Rattle.cfdp_entity.specs.Steps.{After, hears, expires, calls}
+use Rattle.cfdp_entity.specs.Opening.{closing, opens}
+use Rattle.cfdp_entity.specs.Table.{Entry, TableState, place_of, expired, at_time}
+
+module _ {A : Type 0} (By : List InboxCall → A → A → Type 0) where
+  -- ---- one step of a receiver
+  -- It heard a PDU. Only Metadata, file data and EOF ask something of the inbox.
+  abbrev pub AsksHeard : Content → Stored → (r s : ReceiverState) → (old new : A) → Type 0
+  AsksHeard (Metadata kind size source destination options) stored r s old new =
+      Settles By stored r s old new
+  AsksHeard (FileData offset bytes) stored r s old new =
+      Stages By stored (staged_pieces offset bytes r) r s old new
+  AsksHeard (Eof condition checksum size tlvs) stored r s old new = Settles By stored r s old new
+  AsksHeard _ stored r s old new = By [] old new
+
+  -- Its user called it. Only a cancel asks something of the inbox.
+  abbrev pub AsksCalled : Call → (r s : ReceiverState) → (old new : A) → Type 0
+  AsksCalled call.Cancel r s old new = Settles By Done r s old new
+  AsksCalled _ r s old new = By [] old new
+
+  -- ---- one step of a record, by what it asks where it is a receiver's
+  -- A sender asks nothing of the inbox.
+  abbrev pub AsksAs : (Asks : (r s : ReceiverState) → (old new : A) → Type 0) →
+      (before after : Seen) → (old new : A) → Type 0
+  AsksAs Asks (Sends x) after old new = By [] old new
+  AsksAs Asks (Receives r m) (Receives s n) old new = Asks r s old new
+  AsksAs Asks (Receives r m) (Sends x) old new = ⊥
+
+  -- the record at a place made this step, if one is there
+  abbrev pub AsksOf : (Asks : (r s : ReceiverState) → (old new : A) → Type 0) → (Entry → After) →
+      Option Entry → (old new : A) → Type 0
+  AsksOf Asks f (Some e) old new = AsksAs Asks e.1 (f e).seen old new
+  AsksOf Asks f None old new = By [] old new
+
+  -- the record at a place heard a PDU
+  abbrev pub AsksToHear : Stored → ℕ → Content → TableState → (old new : A) → Type 0
+  AsksToHear stored place v st old new = AsksOf (AsksHeard v stored)
+      (λ e. hears stored st.policy.times st.files v e.1) (slice_get st.records place) old new
+
+  -- its user called it
+  abbrev pub AsksToCall : Call → ℕ → TableState → (old new : A) → Type 0
+  AsksToCall c place st old new = AsksOf (AsksCalled c) (λ e. calls st.policy.times st.files c e.1)
+      (slice_get st.records place) old new
+
+  -- its timer expired
+  abbrev pub AsksToExpire : Kind → ℕ → TableState → (old new : A) → Type 0
+  AsksToExpire k place st old new = AsksOf (Settles By Done)
+      (λ e. expires st.policy st.files k e.1) (slice_get st.records place) old new
+
+  -- ---- the same by where the record of a transaction is, if it has one
+  abbrev pub AsksWhere : (Asks : ℕ → (old new : A) → Type 0) → Option ℕ → (old new : A) → Type 0
+  AsksWhere Asks (Some place) old new = Asks place old new
+  AsksWhere Asks None old new = By [] old new
+
+  abbrev pub AsksByCall : Call → TransactionId → TableState → (old new : A) → Type 0
+  AsksByCall c id st old new =
+      AsksWhere (λ place. AsksToCall c place st) (place_of id st.records) old new
+
+  abbrev pub AsksByTimer : Timer → TableState → (old new : A) → Type 0
+  AsksByTimer t st old new =
+      AsksWhere (λ place. AsksToExpire t.1 place st) (place_of t.0 st.records) old new
+
+  -- ---- a record more
+  -- The inbox began the transaction, and then the record heard the PDU; or it refused.
+  abbrev pub AsksToBegin : (begun stored : Stored) → Content → Addressing → (opened : Seen) →
+      (old new : A) → Type 0
+  AsksToBegin Done stored v a opened old new = (mid : A) × Begins By Done a.id old mid
+      × AsksAs (AsksHeard v stored) (Receives (opened_receiver a) map.empty) opened mid new
+  AsksToBegin Refused stored v a opened old new = Begins By Refused a.id old new
+
+  -- An EOF with an error asks nothing of the inbox.
+  abbrev pub AsksFirst : (closes : Option ℕ) → (begun stored : Stored) → Content → Addressing →
+      (opened : Seen) → (old new : A) → Type 0
+  AsksFirst (Some condition) begun stored v a opened old new = By [] old new
+  AsksFirst None begun stored v a opened old new = AsksToBegin begun stored v a opened old new
+
+  -- a PDU opened a record
+  abbrev pub AsksToOpen : (begun stored : Stored) → Addressing → Content → TableState →
+      (old new : A) → Type 0
+  AsksToOpen begun stored a v st old new = AsksFirst (closing v) begun stored v a
+      (opens begun stored st.policy.times st.files v a).seen old new
+
+  -- ---- timers that fired, one after another: each step finds what the earlier ones left
+  unfoldable pub AsksToFire : List Timer → TableState → (old new : A) → Type 0
+  AsksToFire [] st old new = By [] old new
+  AsksToFire (t ∷ timers) st old new = (mid : A)
+      × AsksByTimer t st old mid × AsksToFire timers (expired t st) mid new
+
+  -- The time was told: the timers that are due fired in their order, each once.
+  pub record AsksToTick (now : ℕ) (st : TableState) (old new : A) : Type 0 where
+    pub fired : List Timer
+    pub are : AreDue st.armed (max st.now now) fired
+    pub asks : AsksToFire fired (at_time now st) old new
