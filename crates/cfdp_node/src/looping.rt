@@ -106,7 +106,9 @@ fn run_first<O: Outbox, I: Inbox, W: Wire, V: Write, L: Lookout>(
     let config = loop_config();
     match Station::new(alloc, config.one, outbox, MemoryInbox::new(alloc)) {
         Ok(mut one) => {
-            let exit = run_second(alloc, options, &mut one, config.two, inbox, wires, out, lookout);
+            let exit = run_second(
+                alloc, options, &mut one, config.two, inbox, wires, out, lookout,
+            );
             let_go(one);
             exit
         }
@@ -411,9 +413,9 @@ fn take_turn<O: Outbox, I: Inbox, P: Outbox, J: Inbox, W: Wire, L: Lookout>(
     ensures two { FitsFrames (length turning.new.frame.items) two.new }
 {
     lookout.begins(now);
-    let frame = turning.frame.as_mut_slice();
-    send_turn(one, &mut wires.0, &mut turning.losses, now, frame, Side::One, lookout)?;
-    send_turn(two, &mut wires.1, &mut turning.losses, now, frame, Side::Two, lookout)?;
+    let (frame, losses) = (turning.frame.as_mut_slice(), &mut turning.losses);
+    send_turn(one, &mut wires.0, losses, now, frame, Side::One, lookout)?;
+    send_turn(two, &mut wires.1, losses, now, frame, Side::Two, lookout)?;
     let datagram = turning.datagram.as_mut_slice();
     receive_turn(one, &mut wires.0, datagram, Side::One, lookout);
     receive_turn(two, &mut wires.1, datagram, Side::Two, lookout);

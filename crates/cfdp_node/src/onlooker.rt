@@ -131,14 +131,15 @@ impl Seen {
         stations: (&Station<O, I>, &Station<O, I>),
         frames: (&FrameLink, &FrameLink),
     ) {
-        self.log.next_event();
+        let (log, conditions) = (&mut self.log, &mut self.conditions);
+        log.next_event();
         if let Event::Tick { at, now } = event {
-            self.log.note_words(*at, Deed::Ticks, now);
+            log.note_words(*at, Deed::Ticks, now);
         }
-        self.one.frames.look(frames.0, &mut self.log);
-        self.two.frames.look(frames.1, &mut self.log);
-        self.one.look(stations.0, &mut self.conditions, &mut self.log);
-        self.two.look(stations.1, &mut self.conditions, &mut self.log);
+        self.one.frames.look(frames.0, log);
+        self.two.frames.look(frames.1, log);
+        self.one.look(stations.0, conditions, log);
+        self.two.look(stations.1, conditions, log);
     }
 
     /// Notes the same of what passed at a station in a turn.
@@ -148,18 +149,19 @@ impl Seen {
         passed: Passed<'_>,
         station: &Station<O, I>,
     ) {
-        self.log.next_event();
+        let (one, two, log) = (&mut self.one, &mut self.two, &mut self.log);
+        log.next_event();
         if let Passed::Ticked(now) = passed {
-            self.log.note_words(side, Deed::Ticks, &now);
+            log.note_words(side, Deed::Ticks, &now);
         }
         match side {
             Side::One => {
-                note_frame(passed, &mut self.one.frames, &mut self.two.frames, &mut self.log);
-                self.one.look(station, &mut self.conditions, &mut self.log);
+                note_frame(passed, &mut one.frames, &mut two.frames, log);
+                one.look(station, &mut self.conditions, log);
             }
             Side::Two => {
-                note_frame(passed, &mut self.two.frames, &mut self.one.frames, &mut self.log);
-                self.two.look(station, &mut self.conditions, &mut self.log);
+                note_frame(passed, &mut two.frames, &mut one.frames, log);
+                two.look(station, &mut self.conditions, log);
             }
         }
     }

@@ -104,7 +104,8 @@ impl Reception<'_> {
         if !self.progress.is_shown() {
             return;
         }
-        if self.held.insert(offset, offset.saturating_add(len as u64)).is_ok() {
+        let end = offset.saturating_add(len as u64);
+        if self.held.insert(offset, end).is_ok() {
             self.progress.received.set(counted(&self.held));
         }
     }
