@@ -168,7 +168,7 @@ impl LoopWords<'_> {
     /// The same, in memory of its own, with what is to be shown.
     fn kept(self, alloc: Global, shown: Shown) -> Result<LoopRequest, AllocError>
         ensures { IfOk result (λ request.
-            loop_asked request ≡ words_asked (asked_shown shown.entry) self.entry) }
+            loop_asked request ≡ words_asked (asked_shown shown) self.entry) }
     {
         Ok(LoopRequest {
             from: String::from_str(alloc, self.from)?,
