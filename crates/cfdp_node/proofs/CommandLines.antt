@@ -4,30 +4,35 @@ use Rattle.clap.specs.Walk.{Text}
 use Rattle.clap.specs.declared.error.kind.ErrorKind.TheVariants.{DisplayHelp, DisplayHelpOnMissingArgumentOrSubcommand, InvalidValue, MissingRequiredArgument, UnknownArgument, ValueValidation}
 use Rattle.clap.proofs.OnLiterals.{clap_on_literals}
 use Rattle.cfdp_node.specs.Request.{asked_of, dump, loop, refusals, sim, version}
+use Rattle.cfdp_node.specs.Shown.{ShownAsked}
 use Rattle.cfdp_node.specs.declared.dump.DumpKind.TheVariants.{Pdus, Frames}
 
 -- words behind the program's name
 abbrev line : List Text → List Text
 line words = codes "cfdp_node" ∷ words
 
+-- what is shown without any option
+abbrev nothing : ShownAsked
+nothing = record { explain = false; trace = false; pcap = None; chart = None }
+
 -- ---- sim
 
-plain_sim : (refusals (line (codes "sim" ∷ [])) ≡ []) × (asked_of (line (codes "sim" ∷ [])) ≡ Some (sim false false None None None))
+plain_sim : (refusals (line (codes "sim" ∷ [])) ≡ []) × (asked_of (line (codes "sim" ∷ [])) ≡ Some (sim nothing None))
 unfolding clap_on_literals
 plain_sim = (refl, refl)
 
 explained : (refusals (line (codes "sim" ∷ codes "--explain" ∷ [])) ≡ [])
-    × (asked_of (line (codes "sim" ∷ codes "--explain" ∷ [])) ≡ Some (sim true false None None None))
+    × (asked_of (line (codes "sim" ∷ codes "--explain" ∷ [])) ≡ Some (sim (record nothing { explain = true }) None))
 unfolding clap_on_literals
 explained = (refl, refl)
 
 traced : (refusals (line (codes "sim" ∷ codes "--pcap" ∷ codes "a" ∷ codes "--trace" ∷ [])) ≡ [])
-    × (asked_of (line (codes "sim" ∷ codes "--pcap" ∷ codes "a" ∷ codes "--trace" ∷ [])) ≡ Some (sim false true (Some (codes "a")) None None))
+    × (asked_of (line (codes "sim" ∷ codes "--pcap" ∷ codes "a" ∷ codes "--trace" ∷ [])) ≡ Some (sim (record nothing { trace = true; pcap = Some (codes "a") }) None))
 unfolding clap_on_literals
 traced = (refl, refl)
 
 drawn_of_file : (refusals (line (codes "sim" ∷ codes "a" ∷ codes "--chart" ∷ codes "b" ∷ [])) ≡ [])
-    × (asked_of (line (codes "sim" ∷ codes "a" ∷ codes "--chart" ∷ codes "b" ∷ [])) ≡ Some (sim false false None (Some (codes "b")) (Some (codes "a"))))
+    × (asked_of (line (codes "sim" ∷ codes "a" ∷ codes "--chart" ∷ codes "b" ∷ [])) ≡ Some (sim (record nothing { chart = Some (codes "b") }) (Some (codes "a"))))
 unfolding clap_on_literals
 drawn_of_file = (refl, refl)
 
@@ -61,15 +66,29 @@ pdus_of_file = (refl, refl)
 
 plain_loop : (refusals (line (codes "loop" ∷ codes "a" ∷ codes "b" ∷ codes "x" ∷ codes "y" ∷ [])) ≡ [])
     × (asked_of (line (codes "loop" ∷ codes "a" ∷ codes "b" ∷ codes "x" ∷ codes "y" ∷ []))
-    ≡ Some (loop (record { from = codes "a"; to = codes "b"; source = codes "x"; destination = codes "y"; turns = 10000; drop_every = 0 })))
+    ≡ Some (loop (record { from = codes "a"; to = codes "b"; source = codes "x"; destination = codes "y"; turns = 10000; drop_every = 0; shown = nothing })))
 unfolding clap_on_literals
 plain_loop = (refl, refl)
 
 lossy_loop : (refusals (line (codes "loop" ∷ codes "--drop" ∷ codes "7" ∷ codes "a" ∷ codes "b" ∷ codes "x" ∷ codes "y" ∷ codes "--turns" ∷ codes "50" ∷ [])) ≡ [])
     × (asked_of (line (codes "loop" ∷ codes "--drop" ∷ codes "7" ∷ codes "a" ∷ codes "b" ∷ codes "x" ∷ codes "y" ∷ codes "--turns" ∷ codes "50" ∷ []))
-    ≡ Some (loop (record { from = codes "a"; to = codes "b"; source = codes "x"; destination = codes "y"; turns = 50; drop_every = 7 })))
+    ≡ Some (loop (record { from = codes "a"; to = codes "b"; source = codes "x"; destination = codes "y"; turns = 50; drop_every = 7; shown = nothing })))
 unfolding clap_on_literals
 lossy_loop = (refl, refl)
+
+watched_loop : (refusals (line (codes "loop" ∷ codes "--trace" ∷ codes "a" ∷ codes "b" ∷ codes "--pcap" ∷ codes "c" ∷ codes "x" ∷ codes "y" ∷ codes "--chart" ∷ codes "d" ∷ [])) ≡ [])
+    × (asked_of (line (codes "loop" ∷ codes "--trace" ∷ codes "a" ∷ codes "b" ∷ codes "--pcap" ∷ codes "c" ∷ codes "x" ∷ codes "y" ∷ codes "--chart" ∷ codes "d" ∷ []))
+    ≡ Some (loop (record {
+      from = codes "a";
+      to = codes "b";
+      source = codes "x";
+      destination = codes "y";
+      turns = 10000;
+      drop_every = 0;
+      shown = record { explain = false; trace = true; pcap = Some (codes "c"); chart = Some (codes "d") };
+    })))
+unfolding clap_on_literals
+watched_loop = (refl, refl)
 
 few_words : refusals (line (codes "loop" ∷ codes "a" ∷ codes "b" ∷ codes "x" ∷ [])) ≡ MissingRequiredArgument ∷ []
 unfolding clap_on_literals

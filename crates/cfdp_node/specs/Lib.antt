@@ -11,6 +11,7 @@ pub mod Wording
 pub mod Refusal
 pub mod Dump
 pub mod Request
+pub mod Shown
 pub mod Numbers
 pub mod Words
 pub mod Script

@@ -7,6 +7,7 @@ use Rattle.clap.specs.Walk.{Row, Rule, Text, first_of}
 use Rattle.clap.specs.declared.builder.value_parser.ValueParser.TheVariants.{Unsigned}
 use Rattle.cfdp_node.specs.declared.loop_request.LoopRequest.{LoopRequest}
 use Rattle.cfdp_node.specs.declared.loop_request.LoopWords.{LoopWords}
+use Rattle.cfdp_node.specs.Shown.{ShownAsked, asked_shown, shown_of, with_shown}
 
 -- ---- the grammar
 
@@ -39,13 +40,16 @@ abbrev pub files_app : App
 files_app =
     with_rule (with_rule folders_app (place_rule (codes "source"))) (place_rule (codes "destination"))
 
+abbrev pub numbers_app : App
+numbers_app = with_rule (with_rule files_app turns_rule) drop_rule
+
 abbrev pub loop_app : App
-loop_app = with_rule (with_rule files_app turns_rule) drop_rule
+loop_app = with_shown numbers_app
 
 -- ---- what is asked for
 
 -- To send a file of one folder into another, both by their paths, under a name of its own there;
--- the most turns; and which frames are lost.
+-- the most turns; which frames are lost; and what is shown of it.
 pub record LoopAsked : Type 0 where
   pub from : Text
   pub to : Text
@@ -53,6 +57,7 @@ pub record LoopAsked : Type 0 where
   pub destination : Text
   pub turns : ℕ
   pub drop_every : ℕ
+  pub shown : ShownAsked
 
 -- the number in a range that decimal digits spell, which a plus sign may begin
 abbrev pub number_of_word : (low high : ℕ) → Text → Option ℕ
@@ -72,6 +77,7 @@ loop_of rows =
       destination = destination;
       turns = turns;
       drop_every = drop_every;
+      shown = shown_of rows;
     }) (number_in (codes "drop") 0 1000000 rows)) (number_in (codes "turns") 1 1000000 rows))
     (first_of (codes "destination") rows)) (first_of (codes "source") rows))
     (first_of (codes "to") rows)) (first_of (codes "from") rows)
@@ -86,14 +92,17 @@ loop_asked request = record {
   destination = request.destination.bytes.items;
   turns = request.turns;
   drop_every = request.drop_every;
+  shown = asked_shown request.shown;
 }
 
-abbrev pub words_asked : LoopWords → LoopAsked
-words_asked words = record {
+-- words of the command line, with what is to be shown
+abbrev pub words_asked : ShownAsked → LoopWords → LoopAsked
+words_asked shown words = record {
   from = words.from.now;
   to = words.to.now;
   source = words.source.now;
   destination = words.destination.now;
   turns = words.turns;
   drop_every = words.drop_every;
+  shown = shown;
 }

@@ -1,6 +1,5 @@
 -- What a command line asks for. Its first word is the program's name.
 use Rattle.std.specs.Prelude.{◌≡◌, ◌⊎◌, ◌≤◌, ⊤, ℕ, Bool, true, false, List, [], ◌∷◌, codes, Option, Some, None, is_some, option_map, option_and_then, if◌then◌else◌}
-use Rattle.std.specs.Option.{option_map_or}
 use Rattle.std.specs.Str.{bytes_eq}
 use Rattle.std.specs.Str.Parse.{digits_value, without_leading_plus}
 use Rattle.clap.specs.ValueTests.{is_unsigned_in}
@@ -9,7 +8,6 @@ use Rattle.clap.specs.Kinds.{IsAmong, Kinds, or_else}
 use Rattle.clap.specs.Matches.{found_of}
 use Rattle.clap.specs.Simple.{App, app_of, new_app, new_rule, on_top, subcommand_of, with_rule, with_subcommand}
 use Rattle.clap.specs.Walk.{Row, Rule, Text, first_of, rows_of}
-use Rattle.clap.specs.declared.builder.action.ArgAction.TheVariants.{SetTrue}
 use Rattle.clap.specs.declared.builder.command.Command.{Command}
 use Rattle.clap.specs.declared.builder.command.Command.TheViews.{out-Command}
 use Rattle.clap.specs.declared.builder.value_parser.ValueParser.TheVariants.{Unsigned}
@@ -22,16 +20,9 @@ use Rattle.cfdp_node.specs.declared.arguments.Request.TheVariants.{Sim, Dump, Lo
 use Rattle.cfdp_node.specs.declared.dump.DumpKind.{DumpKind}
 use Rattle.cfdp_node.specs.declared.dump.DumpKind.TheVariants.{Pdus, Frames}
 use Rattle.cfdp_node.specs.LoopRequest.{LoopAsked, loop_app, loop_asked, loop_of}
+use Rattle.cfdp_node.specs.Shown.{ShownAsked, asked_shown, flag_rule, is_given, shown_of, with_shown}
 
 -- ---- the grammar
-
--- a flag, which is there or not
-abbrev pub flag_rule : Text → Rule
-flag_rule name = record (new_rule name) { long = Some name; action = Some SetTrue }
-
--- a file that something is written to, which an option of this name says
-abbrev pub file_rule : Text → Rule
-file_rule name = record (new_rule name) { long = Some name; value_names = 1 }
 
 -- the file that is read
 abbrev pub input_rule : Rule
@@ -50,12 +41,9 @@ zone_rule = record (new_rule (codes "zone")) {
   parser = Some (Unsigned 16 2040);
 }
 
--- how a script is run: what is told beside the report, a chart, and the file with the script
-abbrev pub told_sim_app : App
-told_sim_app = with_rule (with_rule (with_rule (new_app (codes "sim")) (flag_rule (codes "explain"))) (flag_rule (codes "trace"))) (file_rule (codes "pcap"))
-
+-- how a script is run: what is shown beside the report, and the file with the script
 abbrev pub sim_app : App
-sim_app = with_rule (with_rule told_sim_app (file_rule (codes "chart"))) input_rule
+sim_app = with_rule (with_shown (new_app (codes "sim"))) input_rule
 
 -- how lines are told, and the file with them
 abbrev pub told_dump_app : App
@@ -71,9 +59,13 @@ top_app = with_rule (on_top (λ s. record s { arg_required_else_help = true }) (
 abbrev pub program_app : App
 program_app = with_subcommand (with_subcommand (with_subcommand top_app sim_app.top) dump_app.top) loop_app.top
 
+-- No argument of the command is one of its subcommands too.
+abbrev pub HasNoGlobals : Command → Type 0
+HasNoGlobals c = (out-Command c).has_globals ≡ false
+
 -- The command is the one of this grammar.
 abbrev pub IsCommand : App → Command → Type 0
-IsCommand app c = (app_of c ≡ app) × ((out-Command c).has_globals ≡ false)
+IsCommand app c = (app_of c ≡ app) × HasNoGlobals c
 
 -- ---- what is asked for
 
@@ -81,10 +73,10 @@ IsCommand app c = (app_of c ≡ app) × ((out-Command c).has_globals ≡ false)
 abbrev pub Lines : Type 0
 Lines = DumpKind × ℕ × Bool
 
--- To run a script, and how; to tell lines, and how; to send a file, and how; or the version. Of
--- files each is said by its name; without the last one standard input is read.
+-- To run a script, and what is shown of it; to tell lines, and how; to send a file, and how; or the
+-- version. A file that is read is said by its name; without one standard input is read.
 pub data Asked : Type 0 where
-  sim : (explain trace : Bool) → (pcap chart file : Option Text) → Asked
+  sim : ShownAsked → (file : Option Text) → Asked
   dump : (lines : Lines) → (file : Option Text) → Asked
   loop : LoopAsked → Asked
   version : Asked
@@ -92,9 +84,6 @@ pub data Asked : Type 0 where
 -- what a subcommand's words gave for the argument of this name
 abbrev pub word_of : Text → ArgMatches → Option Text
 word_of name m = first_of name (rows_of (found_of m))
-
-abbrev pub is_given : Text → List Row → Bool
-is_given name rows = option_map_or (λ word. bytes_eq word (codes "true")) (first_of name rows) false
 
 -- what a word says of the kind of the lines
 abbrev pub kind_of_word : Text → Option DumpKind
@@ -106,8 +95,7 @@ abbrev pub zone_of_word : Text → Option ℕ
 zone_of_word word = if is_unsigned_in 16 2040 word then Some (digits_value 10 (without_leading_plus word)) else None
 
 abbrev pub sim_of : List Row → Asked
-sim_of rows = sim (is_given (codes "explain") rows) (is_given (codes "trace") rows)
-    (first_of (codes "pcap") rows) (first_of (codes "chart") rows) (first_of (codes "file") rows)
+sim_of rows = sim (shown_of rows) (first_of (codes "file") rows)
 
 abbrev pub lines_of : List Row → Option Lines
 lines_of rows = option_and_then (λ kind. option_map (λ zone. (kind, zone, is_given (codes "long") rows))
@@ -140,9 +128,7 @@ abbrev pub asked_lines : DumpRequest → Lines
 asked_lines request = (request.kind, request.zone, request.long)
 
 abbrev pub asked : Request → Asked
-asked (Sim request) = sim request.explain request.trace
-    (option_map (λ file. file.bytes.items) request.pcap) (option_map (λ file. file.bytes.items) request.chart)
-    (option_map (λ file. file.bytes.items) request.file)
+asked (Sim request) = sim (asked_shown request.shown) (option_map (λ file. file.bytes.items) request.file)
 asked (Dump lines file) = dump (asked_lines lines) (option_map (λ name. name.bytes.items) file)
 asked (Loop request) = loop (loop_asked request)
 asked Version = version

@@ -5,11 +5,13 @@ ghost use Rattle.clap.specs.Matches.{found_of};
 ghost use Rattle.clap.specs.Values.{kind_of};
 ghost use Rattle.clap.specs.Walk.{first_of, rows_of, rule_of};
 ghost use Rattle.clap.specs.Simple.{subcommand_rows_of};
-ghost use Rattle.cfdp_node.specs.Request.{HasZone, IsCommand, IsStatusOf, RefusedBy, asked, asked_by, asked_of, dump_app, dump_of, flag_rule, kind_of_word, kind_rule, file_rule, input_rule, asked_lines, lines_of, program_app, refusals, sim_app, sim_of, told_dump_app, told_sim_app, top_app, zone_of_word, zone_rule};
-ghost use Rattle.cfdp_node.specs.Request as requests;
+ghost use Rattle.cfdp_node.specs.Request.{HasZone, IsCommand, IsStatusOf, RefusedBy, asked, asked_by, asked_of, dump_app, dump_of, kind_of_word, kind_rule, input_rule, asked_lines, lines_of, program_app, refusals, sim_app, sim_of, told_dump_app, top_app, zone_of_word, zone_rule};
+ghost use Rattle.cfdp_node.specs.Shown.{file_rule, flag_rule};
+ghost use Rattle.cfdp_node.specs.Shown as showing;
 
 use crate::dump::DumpKind;
 use crate::loop_request::{LoopRequest, loop_command, loop_request};
+use crate::shown::{Shown, shown_by, shown_command};
 use clap::error::ErrorKind;
 use clap::{Arg, ArgAction, ArgMatches, Command, Error, value_parser};
 use std::alloc::{AllocError, Global};
@@ -34,23 +36,10 @@ pub enum Request {
 /// How a script is to be run.
 #[derive(Drop)]
 pub struct SimRequest {
-    /// Whether to say why a bad script is bad, what conditions say, and what was dropped.
-    pub explain: bool,
-    /// Whether to tell what passes on standard error, in the order of events.
-    pub trace: bool,
-    /// The file that the PDUs of both directions go to, as a capture.
-    pub pcap: Option<String>,
-    /// The file that what passes goes to, as a chart.
-    pub chart: Option<String>,
+    /// What is to be shown of the run.
+    pub shown: Shown,
     /// The file that the script is read from; standard input without one.
     pub file: Option<String>,
-}
-
-impl SimRequest {
-    /// Whether something is asked for that is seen only by one who looks on.
-    pub fn is_watched(&self) -> bool {
-        self.explain || self.trace || self.pcap.is_some() || self.chart.is_some()
-    }
 }
 
 /// What lines are to be told.
@@ -280,16 +269,13 @@ fn sim_request(alloc: Global, arguments: &ArgMatches<'_>) -> Result<SimRequest, 
         ≡ sim_of (rows_of (found_of arguments.now))) }
 {
     Ok(SimRequest {
-        explain: is_given(arguments, "explain"),
-        trace: is_given(arguments, "trace"),
-        pcap: owned_word(alloc, arguments, "pcap")?,
-        chart: owned_word(alloc, arguments, "chart")?,
+        shown: shown_by(alloc, arguments)?,
         file: owned_word(alloc, arguments, "file")?,
     })
 }
 
 /// A copy of the word that was found for this argument, if there is one.
-fn owned_word(
+pub fn owned_word(
     alloc: Global,
     arguments: &ArgMatches<'_>,
     name: &str,
@@ -337,8 +323,8 @@ pub fn word_of<'a>(arguments: &ArgMatches<'a>, name: &str) -> Option<&'a str>
 }
 
 /// Whether a flag was found.
-fn is_given(arguments: &ArgMatches<'_>, name: &str) -> bool
-    ensures { result ≡ requests.is_given name.now (rows_of (found_of arguments.now)) }
+pub fn is_given(arguments: &ArgMatches<'_>, name: &str) -> bool
+    ensures { result ≡ showing.is_given name.now (rows_of (found_of arguments.now)) }
 {
     match word_of(arguments, name) {
         Some(word) => word == "true",
@@ -397,37 +383,10 @@ fn top_command<'a>(alloc: Global) -> Result<Command<'a>, AllocError>
 fn sim_command<'a>(alloc: Global) -> Result<Command<'a>, AllocError>
     ensures { IfOk result (IsCommand sim_app) }
 {
-    let told = told_sim_command(alloc)?;
-    told.arg(file_for(
-        alloc,
-        "chart",
-        "Writes what passes to FILE, as a sequence diagram in Mermaid's text",
-    ))?
-    .arg(input_argument(alloc))
-}
-
-/// `sim` with what it tells beside the report.
-fn told_sim_command<'a>(alloc: Global) -> Result<Command<'a>, AllocError>
-    ensures { IfOk result (IsCommand told_sim_app) }
-{
-    Command::new(alloc, "sim")
+    let plain = Command::new(alloc, "sim")
         .about("Runs a script of two stations, and reports on standard output")
-        .after_help(SIM_HELP)
-        .arg(flag(
-            alloc,
-            "explain",
-            "Says why a bad line is bad, what conditions say, and what was dropped",
-        ))?
-        .arg(flag(
-            alloc,
-            "trace",
-            "Tells what passes on standard error, in the order of events",
-        ))?
-        .arg(file_for(
-            alloc,
-            "pcap",
-            "Writes the PDUs of both directions to FILE, as a capture",
-        ))
+        .after_help(SIM_HELP);
+    shown_command(alloc, plain)?.arg(input_argument(alloc))
 }
 
 fn dump_command<'a>(alloc: Global) -> Result<Command<'a>, AllocError>
@@ -454,7 +413,7 @@ fn told_dump_command<'a>(alloc: Global) -> Result<Command<'a>, AllocError>
 }
 
 /// An argument that is there or not.
-fn flag<'a>(alloc: Global, name: &'a str, help: &'a str) -> Arg<'a>
+pub fn flag<'a>(alloc: Global, name: &'a str, help: &'a str) -> Arg<'a>
     ensures { (rule_of result ≡ flag_rule name.now) × (result.global ≡ false) }
 {
     Arg::new(alloc, name)
@@ -464,7 +423,7 @@ fn flag<'a>(alloc: Global, name: &'a str, help: &'a str) -> Arg<'a>
 }
 
 /// A file that something is written to.
-fn file_for<'a>(alloc: Global, name: &'a str, help: &'a str) -> Arg<'a>
+pub fn file_for<'a>(alloc: Global, name: &'a str, help: &'a str) -> Arg<'a>
     ensures { (rule_of result ≡ file_rule name.now) × (result.global ≡ false) }
 {
     Arg::new(alloc, name)

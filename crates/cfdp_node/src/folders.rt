@@ -1,13 +1,20 @@
 //! A file sent from one folder into another, by two stations over two sockets of this machine.
 use crate::exit::{Exit, Fault};
 use crate::input::Input;
+use crate::lookout::{Lookout, Passed};
 use crate::loop_request::LoopRequest;
-use crate::looping::{LoopOptions, run_loop};
+use crate::looping::{LoopOptions, loop_config, run_loop};
 use crate::name::Name;
+use crate::onlooker::Onlooker;
+use crate::progress::{Progress, Reception};
+use crate::show::shown_status;
+use crate::sim::Ran;
 use crate::udp_wire::UdpWire;
 use cfdp_header::TransactionId;
-use cfdp_store::{FolderInbox, FolderOutbox, Inbox, StoreError, is_folder_name};
-use std::alloc::AllocError;
+use cfdp_station::{Polled, Station};
+use cfdp_store::{FolderInbox, FolderOutbox, Inbox, Outbox, StoreError, is_folder_name};
+use link_sim::Side;
+use std::alloc::{AllocError, Global};
 use std::cell::Cell;
 use std::fs::Metadata;
 use std::io::BufWriter;
@@ -97,24 +104,24 @@ fn loaded(rt: &HostRuntime, request: &LoopRequest) -> Result<FolderOutbox, u8> {
     }
 }
 
-/// Sends the file, and answers the exit status.
+/// Sends the file, shows what was seen of that, and answers the exit status.
 fn sent_status(
     rt: &HostRuntime,
     request: &LoopRequest,
     outbox: FolderOutbox,
     wires: (UdpWire, UdpWire),
 ) -> u8 {
-    let told = Cell::new(false);
-    let exit = match sent(rt, request, outbox, wires, &told) {
-        Ok(exit) => exit,
-        Err(AllocError) => Exit::Device(Fault::NoMemoryAtStart),
+    let (told, progress) = (Cell::new(false), Progress::new(rt));
+    let ran = match sent(rt, request, outbox, wires, &told, &progress) {
+        Ok(ran) => ran,
+        Err(AllocError) => Ran::unseen(Exit::Device(Fault::NoMemoryAtStart)),
     };
-    if let Exit::Device(fault) = exit
+    if let Exit::Device(fault) = ran.exit
         && !told.get()
     {
         fault.tell(rt, Input::Standard);
     }
-    exit.status()
+    shown_status(rt, &request.shown, &ran)
 }
 
 /// Sends the file. The report's buffer is there before the first turn.
@@ -124,27 +131,71 @@ fn sent(
     outbox: FolderOutbox,
     wires: (UdpWire, UdpWire),
     told: &Cell<bool>,
-) -> Result<Exit, AllocError> {
+    progress: &Progress<'_>,
+) -> Result<Ran, AllocError> {
     let alloc = rt.alloc();
-    let options = LoopOptions {
-        source: Vec::from_slice(alloc, request.source.as_bytes())?,
-        destination: Vec::from_slice(alloc, request.destination.as_bytes())?,
-        turns: request.turns,
-        drop_every: request.drop_every,
-    };
     let inbox = TellingInbox {
         rt,
         folder: request.to.as_str(),
         inbox: FolderInbox::new(rt, alloc, request.to.as_str())?,
         told,
+        progress,
+        reception: Reception::new(alloc, progress),
     };
+    let onlooker = Onlooker::new(alloc, loop_config(), request.shown.is_watched())?;
     let Ok(mut out) = BufWriter::new(alloc, io::writer(rt)) else {
-        return Ok(Exit::Device(Fault::NoMemoryAtStart));
+        return Ok(Ran::unseen(Exit::Device(Fault::NoMemoryAtStart)));
     };
-    let exit = run_loop(alloc, options, outbox, inbox, wires, &mut out);
+    let mut lookout = LoopLookout { onlooker, progress };
+    let options = options(alloc, request)?;
+    let exit = run_loop(alloc, options, outbox, inbox, wires, &mut out, &mut lookout);
     // What a failed write left in the buffer is let go: a `BufWriter` would write it once more.
     let _ = out.into_parts();
-    Ok(exit)
+    Ok(Ran {
+        exit,
+        seen: lookout.onlooker.into_seen(),
+    })
+}
+
+/// What is to be sent, and how.
+fn options(alloc: Global, request: &LoopRequest) -> Result<LoopOptions, AllocError> {
+    Ok(LoopOptions {
+        source: Vec::from_slice(alloc, request.source.as_bytes())?,
+        destination: Vec::from_slice(alloc, request.destination.as_bytes())?,
+        turns: request.turns,
+        drop_every: request.drop_every,
+    })
+}
+
+/// One who looks on at the turns, and says how far the transfer is.
+#[derive(Drop)]
+struct LoopLookout<'a> {
+    onlooker: Onlooker,
+    progress: &'a Progress<'a>,
+}
+
+impl Lookout for LoopLookout<'_> {
+    fn begins(&mut self, turn: u64) {
+        self.onlooker.begins(turn);
+    }
+
+    fn sees<O: Outbox, I: Inbox>(
+        &mut self,
+        side: Side,
+        passed: Passed<'_>,
+        station: &Station<O, I>,
+    ) {
+        if let Passed::Polled(Polled::Moved) = passed {
+            self.progress.counts_pdu();
+        }
+        self.progress.goes_on();
+        self.onlooker.sees(side, passed, station);
+    }
+
+    fn ends(&mut self) {
+        self.progress.ends();
+        self.onlooker.ends();
+    }
 }
 
 /// An inbox over a folder, which says on standard error why a file could not be put there.
@@ -155,12 +206,15 @@ struct TellingInbox<'a> {
     inbox: FolderInbox<&'a HostRuntime>,
     /// Whether it said so.
     told: &'a Cell<bool>,
+    progress: &'a Progress<'a>,
+    reception: Reception<'a>,
 }
 
 impl TellingInbox<'_> {
     fn tell(&self, name: &[u8]) {
         if let Some(fault) = self.inbox.fault() {
             self.told.set(true);
+            self.progress.ends();
             let _ = eprintln!(self.rt; "error: {}/{}: {fault}", self.folder, Name(name));
         }
     }
@@ -178,6 +232,7 @@ impl<'a> Inbox for TellingInbox<'a> {
     }
 
     fn write(&mut self, id: TransactionId, offset: u64, octets: &[u8]) -> Result<(), StoreError> {
+        self.reception.notes(offset, octets.len());
         self.inbox.write(id, offset, octets)
     }
 

@@ -2,10 +2,12 @@
 ghost use Rattle.std.specs.Prelude.{◌≡◌, false, IfOk, option_map};
 ghost use Rattle.clap.specs.Matches.{found_of};
 ghost use Rattle.clap.specs.Walk.{rows_of, rule_of};
-ghost use Rattle.cfdp_node.specs.LoopRequest.{drop_rule, files_app, folders_app, loop_app, loop_asked, loop_of, number_of_word, place_rule, turns_rule, words_asked};
+ghost use Rattle.cfdp_node.specs.LoopRequest.{drop_rule, files_app, folders_app, loop_app, loop_asked, loop_of, number_of_word, numbers_app, place_rule, turns_rule, words_asked};
 ghost use Rattle.cfdp_node.specs.Request.{IsCommand};
+ghost use Rattle.cfdp_node.specs.Shown.{asked_shown, shown_of};
 
 use crate::arguments::word_of;
+use crate::shown::{Shown, shown_by, shown_command};
 use clap::{Arg, ArgMatches, Command, value_parser};
 use std::alloc::{AllocError, Global};
 
@@ -24,9 +26,11 @@ pub struct LoopRequest {
     pub turns: u64,
     /// Each frame of that number is lost, up to 1,000,000; with 0 none is.
     pub drop_every: u64,
+    /// What is to be shown of it.
+    pub shown: Shown,
 }
 
-/// The same, in words of the command line.
+/// The same but for what is to be shown, in words of the command line.
 #[derive(Clone, Copy)]
 struct LoopWords<'a> {
     from: &'a str,
@@ -48,6 +52,11 @@ came. The run ends when the transfer is closed at both, or after N turns.
 With --drop K, each Kth frame of both is not sent, and has to be asked for.
 
 Report: as that of sim, without the files.
+--trace, --chart FILE, --pcap FILE and --explain show as those of sim what
+passes, and what went wrong; in the place of a script's line stands the number
+of the turn, 0 for the put.
+Where standard error is a terminal, one line on it says how far the transfer is:
+octets received, gaps between them, and PDUs that both stations sent.
 
 Exit status: 0 the file was delivered, 1 it wasn't, 2 bad arguments, 3 a folder,
 a file, a socket or the output failed, or no memory (told on standard error).
@@ -58,6 +67,13 @@ Example:
 /// The grammar of what stands behind `loop`.
 pub fn loop_command<'a>(alloc: Global) -> Result<Command<'a>, AllocError>
     ensures { IfOk result (IsCommand loop_app) }
+{
+    shown_command(alloc, numbers_command(alloc)?)
+}
+
+/// The same without what is shown beside the report.
+fn numbers_command<'a>(alloc: Global) -> Result<Command<'a>, AllocError>
+    ensures { IfOk result (IsCommand numbers_app) }
 {
     files_command(alloc)?
         .arg(turns_argument(alloc))?
@@ -129,13 +145,14 @@ pub fn loop_request(
         ≡ loop_of (rows_of (found_of arguments.now))) }
 {
     match loop_words(arguments) {
-        Some(words) => Ok(Some(words.kept(alloc)?)),
+        Some(words) => Ok(Some(words.kept(alloc, shown_by(alloc, arguments)?)?)),
         None => Ok(None),
     }
 }
 
 fn loop_words<'a>(arguments: &ArgMatches<'a>) -> Option<LoopWords<'a>>
-    ensures { option_map words_asked result ≡ loop_of (rows_of (found_of arguments.now)) }
+    ensures { option_map (words_asked (shown_of (rows_of (found_of arguments.now)))) result
+        ≡ loop_of (rows_of (found_of arguments.now)) }
 {
     Some(LoopWords {
         from: word_of(arguments, "from")?,
@@ -148,9 +165,10 @@ fn loop_words<'a>(arguments: &ArgMatches<'a>) -> Option<LoopWords<'a>>
 }
 
 impl LoopWords<'_> {
-    /// The same, in memory of its own.
-    fn kept(self, alloc: Global) -> Result<LoopRequest, AllocError>
-        ensures { IfOk result (λ request. loop_asked request ≡ words_asked self.entry) }
+    /// The same, in memory of its own, with what is to be shown.
+    fn kept(self, alloc: Global, shown: Shown) -> Result<LoopRequest, AllocError>
+        ensures { IfOk result (λ request.
+            loop_asked request ≡ words_asked (asked_shown shown) self.entry) }
     {
         Ok(LoopRequest {
             from: String::from_str(alloc, self.from)?,
@@ -159,6 +177,7 @@ impl LoopWords<'_> {
             destination: String::from_str(alloc, self.destination)?,
             turns: self.turns,
             drop_every: self.drop_every,
+            shown,
         })
     }
 }

@@ -12,6 +12,7 @@ ghost use Rattle.link_sim.specs.WorldConfig.{IsWorldConfig};
 
 use crate::answer::{Answer, Answered};
 use crate::exit::{Exit, Fault};
+use crate::lookout::{Lookout, Passed};
 use crate::report::{own_completions, write_answer, write_indications};
 use crate::settings::Settings;
 use crate::turn::{Losses, receive_turn, send_turn};
@@ -20,7 +21,7 @@ use cfdp_directives::Phase;
 use cfdp_header::TransactionId;
 use cfdp_station::{PutError, Station, StationConfig};
 use cfdp_store::{Inbox, MemoryInbox, MemoryOutbox, Outbox};
-use link_sim::{Refusal, WorldConfig};
+use link_sim::{Refusal, Side, WorldConfig};
 use std::alloc::{AllocError, Global};
 use std::io;
 use std::io::{BufWriter, Write};
@@ -69,30 +70,34 @@ const MOST_COMING: usize = 4096;
 /// A want of memory ends it, and is told as `Device` with the report; so is a put that isn't
 /// complete where a store failed. Where there is none for the stations, nothing is written. A
 /// report that can't be written to its end is not begun again.
-pub fn run_loop<O: Outbox, I: Inbox, W: Wire, V: Write + Drop>(
+///
+/// Who looks on sees all that passes, and that no more does before the report is written.
+pub fn run_loop<O: Outbox, I: Inbox, W: Wire, V: Write + Drop, L: Lookout>(
     alloc: Global,
     options: LoopOptions,
     outbox: O,
     inbox: I,
     wires: (W, W),
     out: &mut BufWriter<V>,
+    lookout: &mut L,
 ) -> Exit
     ensures ends { IsTold result (EndsLoop W.steps result (O.files outbox) (I.published inbox)
         wires.0 wires.1 options.source.items options.destination.items options.drop_every
         options.turns (writer_contents V.contents out.old) (writer_contents V.contents out.new)) }
     ensures flushed { IsFlushedAt result (writer_buffer out.new) }
 {
-    run_first(alloc, &options, outbox, inbox, wires, out).flushed(out)
+    run_first(alloc, &options, outbox, inbox, wires, out, lookout).flushed(out)
 }
 
 /// Makes the first station, and runs all. The writer isn't flushed.
-fn run_first<O: Outbox, I: Inbox, W: Wire, V: Write>(
+fn run_first<O: Outbox, I: Inbox, W: Wire, V: Write, L: Lookout>(
     alloc: Global,
     options: &LoopOptions,
     outbox: O,
     inbox: I,
     wires: (W, W),
     out: &mut V,
+    lookout: &mut L,
 ) -> Exit
     ensures { IsTold result (EndsLoop W.steps result (O.files outbox) (I.published inbox)
         wires.0 wires.1 options.now.source.items options.now.destination.items
@@ -101,7 +106,9 @@ fn run_first<O: Outbox, I: Inbox, W: Wire, V: Write>(
     let config = loop_config();
     match Station::new(alloc, config.one, outbox, MemoryInbox::new(alloc)) {
         Ok(mut one) => {
-            let exit = run_second(alloc, options, &mut one, config.two, inbox, wires, out);
+            let exit = run_second(
+                alloc, options, &mut one, config.two, inbox, wires, out, lookout,
+            );
             let_go(one);
             exit
         }
@@ -110,7 +117,7 @@ fn run_first<O: Outbox, I: Inbox, W: Wire, V: Write>(
 }
 
 /// Makes the second station, and runs all.
-fn run_second<O: Outbox, I: Inbox, J: Inbox, W: Wire, V: Write>(
+fn run_second<O: Outbox, I: Inbox, J: Inbox, W: Wire, V: Write, L: Lookout>(
     alloc: Global,
     options: &LoopOptions,
     one: &mut Station<O, J>,
@@ -118,6 +125,7 @@ fn run_second<O: Outbox, I: Inbox, J: Inbox, W: Wire, V: Write>(
     inbox: I,
     wires: (W, W),
     out: &mut V,
+    lookout: &mut L,
 ) -> Exit
     requires config { IsStationConfig config }
     requires zone { config.down.zone ≡ one.old.down.link.zone }
@@ -131,7 +139,7 @@ fn run_second<O: Outbox, I: Inbox, J: Inbox, W: Wire, V: Write>(
     };
     match Station::new(alloc, config, MemoryOutbox::new(alloc), inbox) {
         Ok(mut two) => {
-            let exit = run_both(options, one, &mut two, wires, turning, out);
+            let exit = run_both(options, one, &mut two, wires, turning, out, lookout);
             let_go(two);
             exit
         }
@@ -144,7 +152,7 @@ fn let_go<T: Drop>(_value: T) {}
 
 /// The settings of a script, but for NAKs, which are sent again until nothing is heard any more:
 /// losses that come in step with what is sent again pass only after some.
-fn loop_config() -> WorldConfig
+pub fn loop_config() -> WorldConfig
     ensures same { result ≡ world_of loop_settings }
     ensures valid { IsWorldConfig result }
 {
@@ -177,13 +185,14 @@ impl Turning {
 }
 
 /// Runs all at two stations that did nothing yet, and writes the report.
-fn run_both<O: Outbox, I: Inbox, P: Outbox, J: Inbox, W: Wire, V: Write>(
+fn run_both<O: Outbox, I: Inbox, P: Outbox, J: Inbox, W: Wire, V: Write, L: Lookout>(
     options: &LoopOptions,
     one: &mut Station<O, J>,
     two: &mut Station<P, I>,
     wires: (W, W),
     turning: Turning,
     out: &mut V,
+    lookout: &mut L,
 ) -> Exit
     requires one { FitsFrames (length turning.frame.items) one.old }
     requires two { FitsFrames (length turning.frame.items) two.old }
@@ -200,7 +209,8 @@ fn run_both<O: Outbox, I: Inbox, P: Outbox, J: Inbox, W: Wire, V: Write>(
     let (mut wires, mut turning) = (wires, turning);
     let read = one.outbox().failures();
     let written = two.inbox().failures();
-    let ended = run(options, one, two, &mut wires, &mut turning);
+    let ended = run(options, one, two, &mut wires, &mut turning, lookout);
+    lookout.ends();
     let failed = have_failed(one, two, read, written);
     match write_report(out, ended.answer, one, two) {
         Ok(complete) => exit(ended.short, complete, failed),
@@ -223,12 +233,13 @@ fn have_failed<O: Outbox, I: Inbox, P: Outbox, J: Inbox>(
 }
 
 /// Makes the put, and takes turns until it is closed at both stations, or so many were taken.
-fn run<O: Outbox, I: Inbox, P: Outbox, J: Inbox, W: Wire>(
+fn run<O: Outbox, I: Inbox, P: Outbox, J: Inbox, W: Wire, L: Lookout>(
     options: &LoopOptions,
     one: &mut Station<O, J>,
     two: &mut Station<P, I>,
     wires: &mut (W, W),
     turning: &mut Turning,
+    lookout: &mut L,
 ) -> Ended
     requires one { FitsFrames (length turning.old.frame.items) one.old }
     requires two { FitsFrames (length turning.old.frame.items) two.old }
@@ -250,10 +261,13 @@ fn run<O: Outbox, I: Inbox, P: Outbox, J: Inbox, W: Wire>(
         }) }
 {
     match one.put(options.source.as_slice(), options.destination.as_slice()) {
-        Ok(id) => Ended {
-            answer: None,
-            short: take_turns(options.turns, id, one, two, wires, turning).is_err(),
-        },
+        Ok(id) => {
+            lookout.sees(Side::One, Passed::Put, one);
+            Ended {
+                answer: None,
+                short: take_turns(options.turns, id, one, two, wires, turning, lookout).is_err(),
+            }
+        }
         Err(error) => refused(error),
     }
 }
@@ -281,13 +295,14 @@ fn refused(error: PutError) -> Ended
 }
 
 /// Takes turns until a transaction is closed at both stations, or so many were taken.
-fn take_turns<O: Outbox, I: Inbox, P: Outbox, J: Inbox, W: Wire>(
+fn take_turns<O: Outbox, I: Inbox, P: Outbox, J: Inbox, W: Wire, L: Lookout>(
     most: u64,
     id: TransactionId,
     one: &mut Station<O, J>,
     two: &mut Station<P, I>,
     wires: &mut (W, W),
     turning: &mut Turning,
+    lookout: &mut L,
 ) -> Result<(), AllocError>
     requires one { FitsFrames (length turning.old.frame.items) one.old }
     requires two { FitsFrames (length turning.old.frame.items) two.old }
@@ -326,7 +341,7 @@ fn take_turns<O: Outbox, I: Inbox, P: Outbox, J: Inbox, W: Wire>(
         if are_closed(id, one, two) {
             return Ok(());
         }
-        take_turn(one, two, wires, turning, before + 1)?;
+        take_turn(one, two, wires, turning, before + 1, lookout)?;
     }
     Ok(())
 }
@@ -353,12 +368,13 @@ fn is_closed(phase: Option<Phase>) -> bool
 /// # Errors
 ///
 /// `AllocError` where a station that was to send found no memory: the turn ends there.
-fn take_turn<O: Outbox, I: Inbox, P: Outbox, J: Inbox, W: Wire>(
+fn take_turn<O: Outbox, I: Inbox, P: Outbox, J: Inbox, W: Wire, L: Lookout>(
     one: &mut Station<O, J>,
     two: &mut Station<P, I>,
     wires: &mut (W, W),
     turning: &mut Turning,
     now: u64,
+    lookout: &mut L,
 ) -> Result<(), AllocError>
     requires one { FitsFrames (length turning.old.frame.items) one.old }
     requires two { FitsFrames (length turning.old.frame.items) two.old }
@@ -396,12 +412,13 @@ fn take_turn<O: Outbox, I: Inbox, P: Outbox, J: Inbox, W: Wire>(
     ensures one { FitsFrames (length turning.new.frame.items) one.new }
     ensures two { FitsFrames (length turning.new.frame.items) two.new }
 {
-    let frame = turning.frame.as_mut_slice();
-    send_turn(one, &mut wires.0, &mut turning.losses, now, frame)?;
-    send_turn(two, &mut wires.1, &mut turning.losses, now, frame)?;
+    lookout.begins(now);
+    let (frame, losses) = (turning.frame.as_mut_slice(), &mut turning.losses);
+    send_turn(one, &mut wires.0, losses, now, frame, Side::One, lookout)?;
+    send_turn(two, &mut wires.1, losses, now, frame, Side::Two, lookout)?;
     let datagram = turning.datagram.as_mut_slice();
-    receive_turn(one, &mut wires.0, datagram);
-    receive_turn(two, &mut wires.1, datagram);
+    receive_turn(one, &mut wires.0, datagram, Side::One, lookout);
+    receive_turn(two, &mut wires.1, datagram, Side::Two, lookout);
     Ok(())
 }
 

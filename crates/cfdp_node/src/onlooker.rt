@@ -1,8 +1,9 @@
-//! One who looks on at the run of a script.
+//! One who looks on at a run: at a script's, or at turns over two wires.
 ghost use Rattle.link_sim.specs.WorldConfig.{IsWorldConfig};
 
 use crate::condition::Conditions;
 use crate::dropped::Dropped;
+use crate::lookout::{Lookout, Passed};
 use crate::sighting::{Deed, Log};
 use crate::watch::Watch;
 use cfdp_station::Station;
@@ -10,7 +11,7 @@ use cfdp_store::{Inbox, Outbox};
 use link_sim::{Event, FrameLink, Side, Witness, WorldConfig};
 use std::alloc::{AllocError, Global};
 
-/// One who looks on at the run of a script, or nobody.
+/// One who looks on at a run, or nobody.
 #[derive(Drop)]
 pub enum Onlooker {
     /// Nobody: nothing is seen.
@@ -44,6 +45,7 @@ impl Onlooker {
     }
 }
 
+/// The steps of a script are lines of it.
 impl Witness for Onlooker {
     fn saw<O: Outbox, I: Inbox>(
         &mut self,
@@ -65,7 +67,31 @@ impl Witness for Onlooker {
     }
 }
 
-/// What was seen so far of a script's run.
+/// The steps are turns.
+impl Lookout for Onlooker {
+    fn begins(&mut self, turn: u64) {
+        match self {
+            Onlooker::Nobody => {}
+            Onlooker::Somebody(seen) => seen.log.comes_to(turn as usize),
+        }
+    }
+
+    fn sees<O: Outbox, I: Inbox>(
+        &mut self,
+        side: Side,
+        passed: Passed<'_>,
+        station: &Station<O, I>,
+    ) {
+        match self {
+            Onlooker::Nobody => {}
+            Onlooker::Somebody(seen) => seen.look_at(side, passed, station),
+        }
+    }
+
+    fn ends(&mut self) {}
+}
+
+/// What was seen so far of a run.
 #[derive(Drop)]
 pub struct Seen {
     /// The octets of a frame's packet zone.
@@ -74,12 +100,9 @@ pub struct Seen {
     pub log: Log,
     /// Which conditions they told their users.
     pub conditions: Conditions,
-    /// What each dropped, that of the first station first.
-    pub dropped: (Dropped, Dropped),
-    // How many indications of each were seen.
-    told: (usize, usize),
-    from_one: Watch,
-    from_two: Watch,
+    /// Either station.
+    pub one: SeenStation,
+    pub two: SeenStation,
 }
 
 impl Seen {
@@ -95,61 +118,106 @@ impl Seen {
             zone: config.one.down.zone,
             log: Log::new(alloc),
             conditions: Conditions::new(),
-            dropped: (Dropped::new(Side::One), Dropped::new(Side::Two)),
-            told: (0, 0),
-            from_one: Watch::new(alloc, Side::One, config.one.down)?,
-            from_two: Watch::new(alloc, Side::Two, config.two.down)?,
+            one: SeenStation::new(Side::One, Watch::new(alloc, Side::One, config.one.down)?),
+            two: SeenStation::new(Side::Two, Watch::new(alloc, Side::Two, config.two.down)?),
         })
     }
 
-    /// Notes what passed in an event: the time that was told, frames and the PDUs in them, what was
-    /// dropped, and what was told to users.
+    /// Notes what passed in an event of a script: the time that was told, frames and the PDUs in
+    /// them, what was dropped, and what was told to users.
     fn look<O: Outbox, I: Inbox>(
         &mut self,
         event: &Event,
         stations: (&Station<O, I>, &Station<O, I>),
         frames: (&FrameLink, &FrameLink),
     ) {
-        self.log.next_event();
+        let (log, conditions) = (&mut self.log, &mut self.conditions);
+        log.next_event();
         if let Event::Tick { at, now } = event {
-            self.log.note_words(*at, Deed::Ticks, now);
+            log.note_words(*at, Deed::Ticks, now);
         }
-        self.from_one.look(frames.0, &mut self.log);
-        self.from_two.look(frames.1, &mut self.log);
-        self.dropped.0.look(stations.0, &mut self.log);
-        self.dropped.1.look(stations.1, &mut self.log);
-        let conditions = &mut self.conditions;
-        self.told = (
-            note_told(
-                Side::One,
-                stations.0,
-                self.told.0,
-                conditions,
-                &mut self.log,
-            ),
-            note_told(
-                Side::Two,
-                stations.1,
-                self.told.1,
-                conditions,
-                &mut self.log,
-            ),
-        );
+        self.one.frames.look(frames.0, log);
+        self.two.frames.look(frames.1, log);
+        self.one.look(stations.0, conditions, log);
+        self.two.look(stations.1, conditions, log);
+    }
+
+    /// Notes the same of what passed at a station in a turn.
+    fn look_at<O: Outbox, I: Inbox>(
+        &mut self,
+        side: Side,
+        passed: Passed<'_>,
+        station: &Station<O, I>,
+    ) {
+        let (one, two, log) = (&mut self.one, &mut self.two, &mut self.log);
+        log.next_event();
+        if let Passed::Ticked(now) = passed {
+            log.note_words(side, Deed::Ticks, &now);
+        }
+        match side {
+            Side::One => {
+                note_frame(passed, &mut one.frames, &mut two.frames, log);
+                one.look(station, &mut self.conditions, log);
+            }
+            Side::Two => {
+                note_frame(passed, &mut two.frames, &mut one.frames, log);
+                two.look(station, &mut self.conditions, log);
+            }
+        }
     }
 }
 
-/// Notes what a station told its user behind so many indications, and gives the number of all.
-fn note_told<O: Outbox, I: Inbox>(
-    side: Side,
-    station: &Station<O, I>,
-    before: usize,
-    conditions: &mut Conditions,
-    log: &mut Log,
-) -> usize {
-    let all = station.indications();
-    for indication in all.get(before..).unwrap_or(&[]) {
-        log.note_told(side, indication);
-        conditions.note(indication);
+/// Notes the frame that passed at a station, if one did, with the PDUs in it. Its own frames are
+/// those that it sends.
+fn note_frame(passed: Passed<'_>, own: &mut Watch, other: &mut Watch, log: &mut Log) {
+    match passed {
+        Passed::Put | Passed::Ticked(_) | Passed::Polled(_) => {}
+        Passed::Left { frame, is_sent } => {
+            own.leaves(frame, log);
+            if !is_sent {
+                own.loses(frame, log);
+            }
+        }
+        Passed::Took(frame) => other.arrives(frame, log),
     }
-    all.len()
+}
+
+/// What was seen so far of a station.
+#[derive(Drop)]
+pub struct SeenStation {
+    side: Side,
+    /// What it dropped.
+    pub dropped: Dropped,
+    // How many of its indications were seen.
+    told: usize,
+    // The frames that it sends.
+    frames: Watch,
+}
+
+impl SeenStation {
+    /// Before its first event.
+    fn new(side: Side, frames: Watch) -> SeenStation {
+        SeenStation {
+            side,
+            dropped: Dropped::new(side),
+            told: 0,
+            frames,
+        }
+    }
+
+    /// Notes what it has dropped since the last look, and what it told its user.
+    fn look<O: Outbox, I: Inbox>(
+        &mut self,
+        station: &Station<O, I>,
+        conditions: &mut Conditions,
+        log: &mut Log,
+    ) {
+        self.dropped.look(station, log);
+        let all = station.indications();
+        for indication in all.get(self.told..).unwrap_or(&[]) {
+            log.note_told(self.side, indication);
+            conditions.note(indication);
+        }
+        self.told = all.len();
+    }
 }

@@ -1,11 +1,13 @@
-//! What is shown of a script's run beside its report.
-ghost use Rattle.std.specs.Prelude.{◌≡◌, ◌⊎◌};
+//! What is shown of a run beside its report.
+ghost use Rattle.std.specs.Prelude.{◌≡◌, ◌⊎◌, None};
+ghost use Rattle.cfdp_node.specs.Exit.{exit_status};
 
-use crate::arguments::SimRequest;
 use crate::capture::write_capture;
 use crate::chart::write_chart;
 use crate::onlooker::Seen;
+use crate::shown::Shown;
 use crate::sighting::Sighting;
+use crate::sim::Ran;
 use crate::trace::write_trace;
 use std::io::Write;
 use std::{fs, io};
@@ -13,16 +15,29 @@ use std::{fs, io};
 /// The exit status where what is asked for can't be shown.
 const DEVICE: u8 = 3;
 
+/// Shows what was seen of a run, if anything was and as far as that is asked for. Answers the exit
+/// status: that of the run's end, or 3 where it can't be shown.
+pub fn shown_status(rt: &HostRuntime, shown: &Shown, ran: &Ran) -> u8
+    ensures shown { (result ≡ exit_status ran.now.exit) ⊎ (result ≡ 3) }
+    ensures unseen { ran.now.seen ≡ None → result ≡ exit_status ran.now.exit }
+{
+    let status = ran.exit.status();
+    match &ran.seen {
+        Some(seen) => status.max(show(rt, shown, seen)),
+        None => status,
+    }
+}
+
 /// Shows what was seen of a run, as far as that is asked for. Answers the exit status: 0, or 3
 /// where memory or writing failed.
-pub fn show(rt: &HostRuntime, request: &SimRequest, seen: &Seen) -> u8
+fn show(rt: &HostRuntime, shown: &Shown, seen: &Seen) -> u8
     ensures { (result ≡ 0) ⊎ (result ≡ 3) }
 {
     let Ok(sightings) = seen.log.sightings() else {
         let _ = eprintln!(rt; "error: there is not enough memory to show what passes");
         return DEVICE;
     };
-    match show_all(rt, request, seen, sightings) {
+    match show_all(rt, shown, seen, sightings) {
         Ok(()) => 0,
         Err(_) => DEVICE,
     }
@@ -31,22 +46,22 @@ pub fn show(rt: &HostRuntime, request: &SimRequest, seen: &Seen) -> u8
 /// Shows what is asked for.
 fn show_all(
     rt: &HostRuntime,
-    request: &SimRequest,
+    shown: &Shown,
     seen: &Seen,
     sightings: &[Sighting],
 ) -> io::Result<()> {
-    if request.trace {
+    if shown.trace {
         let mut text = Vec::new(rt.alloc());
         write_trace(&mut text, seen.zone, sightings)?;
         rt.stderr().write_all(text.as_slice())?;
     }
-    if request.explain {
+    if shown.explain {
         rt.stderr().write_all(explanation(rt, seen)?.as_slice())?;
     }
-    if let Some(file) = &request.pcap {
+    if let Some(file) = &shown.pcap {
         save(rt, file, capture(rt, sightings))?;
     }
-    if let Some(file) = &request.chart {
+    if let Some(file) = &shown.chart {
         save(rt, file, chart(rt, seen.zone, sightings))?;
     }
     Ok(())
@@ -56,8 +71,8 @@ fn show_all(
 fn explanation(rt: &HostRuntime, seen: &Seen) -> io::Result<Vec<u8>> {
     let mut text = Vec::new(rt.alloc());
     seen.conditions.write(&mut text)?;
-    seen.dropped.0.write(&mut text)?;
-    seen.dropped.1.write(&mut text)?;
+    seen.one.dropped.write(&mut text)?;
+    seen.two.dropped.write(&mut text)?;
     Ok(text)
 }
 

@@ -21,17 +21,17 @@ use link_sim::{MemoryWorld, WorldConfig, worlds_keep_the_promises};
 use std::alloc::{AllocError, Global};
 use std::io::{BufWriter, Read, Write};
 
-/// How the run of a script ended, and what was seen of it.
+/// How a run ended, and what was seen of it.
 #[derive(Drop)]
 pub struct Ran {
     /// How it ended.
     pub exit: Exit,
-    /// What was seen; `None` where nobody looked on, or no command was done.
+    /// What was seen; `None` where nobody looked on, or nothing was done.
     pub seen: Option<Seen>,
 }
 
 impl Ran {
-    /// A run that ended so before its first command.
+    /// A run that ended so before anything was done.
     pub fn unseen(exit: Exit) -> Ran
         ensures { result.exit ≡ exit }
     {

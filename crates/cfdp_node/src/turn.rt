@@ -2,9 +2,11 @@
 ghost use Rattle.std.specs.Prelude.{◌≡◌, ◌==◌, ◌↔◌, IsTrue, length, OnErr, OnOk};
 ghost use Rattle.cfdp_node.specs.Turn.{HearsAll, IsMore, PollsInPart, PollsOut, Sends, SendsInPart, SendsWhole, FitsFrames, next_left};
 
+use crate::lookout::{Lookout, Passed};
 use crate::wire::Wire;
 use cfdp_station::{Polled, Station};
 use cfdp_store::{Inbox, Outbox};
+use link_sim::Side;
 use std::alloc::AllocError;
 
 /// The most PDUs that a station moves in a turn.
@@ -48,17 +50,20 @@ impl Losses {
 
 /// Tells a station the time, polls it until nothing is due or nothing more has room, at most 16
 /// times, flushes it, and sends all its whole frames but those that are to be lost. A frame that
-/// the wire fails to send is lost too. The buffer has the octets of a frame.
+/// the wire fails to send is lost too. The buffer has the octets of a frame. All that passes is shown
+/// to who looks on, as of the station on this side.
 ///
 /// # Errors
 ///
 /// `AllocError` where the station finds no memory for a call: the turn ends there.
-pub fn send_turn<O: Outbox, I: Inbox, W: Wire>(
+pub fn send_turn<O: Outbox, I: Inbox, W: Wire, L: Lookout>(
     station: &mut Station<O, I>,
     wire: &mut W,
     losses: &mut Losses,
     now: u64,
     frame: &mut [u8],
+    side: Side,
+    lookout: &mut L,
 ) -> Result<(), AllocError>
     requires { FitsFrames (length frame.old) station.old }
     ensures ok { OnOk result (Sends W.steps losses.old.every now
@@ -70,20 +75,26 @@ pub fn send_turn<O: Outbox, I: Inbox, W: Wire>(
     ensures link { station.new.down.link ≡ station.old.down.link }
 {
     station.tick(now)?;
-    poll_out(station)?;
+    lookout.sees(side, Passed::Ticked(now), station);
+    poll_out(station, side, lookout)?;
     station.flush();
-    send_whole(station, wire, losses, frame);
+    send_whole(station, wire, losses, frame, side, lookout);
     Ok(())
 }
 
 /// Polls a station until nothing is due or nothing more has room, at most 16 times.
-fn poll_out<O: Outbox, I: Inbox>(station: &mut Station<O, I>) -> Result<(), AllocError>
+fn poll_out<O: Outbox, I: Inbox, L: Lookout>(
+    station: &mut Station<O, I>,
+    side: Side,
+    lookout: &mut L,
+) -> Result<(), AllocError>
     ensures ok { OnOk result (PollsOut station.old station.new) }
     ensures err { OnErr result (PollsInPart station.old station.new) }
     ensures link { station.new.down.link ≡ station.old.down.link }
 {
     for _poll in 0..MOST_POLLS {
         let answer = station.poll()?;
+        lookout.sees(side, Passed::Polled(answer), station);
         if !is_more(answer) {
             return Ok(());
         }
@@ -102,11 +113,13 @@ fn is_more(answer: Polled) -> bool
 }
 
 /// Sends all whole frames of a station but those that are to be lost.
-fn send_whole<O: Outbox, I: Inbox, W: Wire>(
+fn send_whole<O: Outbox, I: Inbox, W: Wire, L: Lookout>(
     station: &mut Station<O, I>,
     wire: &mut W,
     losses: &mut Losses,
     frame: &mut [u8],
+    side: Side,
+    lookout: &mut L,
 )
     requires { FitsFrames (length frame.old) station.old }
     ensures sends { SendsWhole W.steps losses.old.every
@@ -116,18 +129,19 @@ fn send_whole<O: Outbox, I: Inbox, W: Wire>(
     ensures link { station.new.down.link ≡ station.old.down.link }
 {
     while station.next_frame(frame) {
-        if !losses.is_next_lost() {
-            let _ = wire.send(frame);
-        }
+        let is_sent = !losses.is_next_lost() && wire.send(frame).is_ok();
+        lookout.sees(side, Passed::Left { frame, is_sent }, station);
     }
 }
 
 /// Gives a station what came over a wire, until nothing does; asks at most 4,096 times. A failure
-/// of the wire is a frame that is lost.
-pub fn receive_turn<O: Outbox, I: Inbox, W: Wire>(
+/// of the wire is a frame that is lost. What the station takes is shown to who looks on.
+pub fn receive_turn<O: Outbox, I: Inbox, W: Wire, L: Lookout>(
     station: &mut Station<O, I>,
     wire: &mut W,
     buffer: &mut [u8],
+    side: Side,
+    lookout: &mut L,
 )
     ensures hears { HearsAll W.steps (record { station = station.old; wire = wire.old })
         (record { station = station.new; wire = wire.new }) }
@@ -135,7 +149,10 @@ pub fn receive_turn<O: Outbox, I: Inbox, W: Wire>(
 {
     for _datagram in 0..MOST_DATAGRAMS {
         match wire.receive(buffer) {
-            Ok(Some(len)) => station.take(&buffer[..len]),
+            Ok(Some(len)) => {
+                station.take(&buffer[..len]);
+                lookout.sees(side, Passed::Took(&buffer[..len]), station);
+            }
             Ok(None) => return,
             Err(_) => {}
         }

@@ -43,15 +43,7 @@ impl Watch {
     /// arrived or was lost.
     pub fn look(&mut self, link: &FrameLink, log: &mut Log) {
         for frame in link.frames().get(self.sent..).unwrap_or(&[]) {
-            log.note(self.from, Deed::SendsFrame, frame);
-            note_pdus(
-                self.alloc,
-                &mut self.sending,
-                frame,
-                self.from,
-                Deed::SendsPdu,
-                log,
-            );
+            self.leaves(frame, log);
         }
         self.sent = link.frames().len();
         if let Some(mark) = link.mark(self.taken)
@@ -63,23 +55,44 @@ impl Watch {
 
     /// Notes what became of the oldest frame that waited.
     fn look_at(&mut self, mark: Mark, frame: &[u8], log: &mut Log) {
-        let to = self.from.other();
         match mark {
             Mark::Waiting => return,
-            Mark::Struck => log.note(self.from, Deed::LosesFrame, frame),
-            Mark::Delivered => {
-                log.note(to, Deed::TakesFrame, frame);
-                note_pdus(
-                    self.alloc,
-                    &mut self.hearing,
-                    frame,
-                    to,
-                    Deed::HearsPdu,
-                    log,
-                );
-            }
+            Mark::Struck => self.loses(frame, log),
+            Mark::Delivered => self.arrives(frame, log),
         }
         self.taken = self.taken.saturating_add(1);
+    }
+
+    /// Notes that a frame left, and which PDUs left with it.
+    pub fn leaves(&mut self, frame: &[u8], log: &mut Log) {
+        log.note(self.from, Deed::SendsFrame, frame);
+        note_pdus(
+            self.alloc,
+            &mut self.sending,
+            frame,
+            self.from,
+            Deed::SendsPdu,
+            log,
+        );
+    }
+
+    /// Notes that a frame which left is lost.
+    pub fn loses(&self, frame: &[u8], log: &mut Log) {
+        log.note(self.from, Deed::LosesFrame, frame);
+    }
+
+    /// Notes that a frame arrived, and which PDUs did with it.
+    pub fn arrives(&mut self, frame: &[u8], log: &mut Log) {
+        let to = self.from.other();
+        log.note(to, Deed::TakesFrame, frame);
+        note_pdus(
+            self.alloc,
+            &mut self.hearing,
+            frame,
+            to,
+            Deed::HearsPdu,
+            log,
+        );
     }
 }
 
