@@ -38,15 +38,13 @@ fails-first [] next e (inl memory) = inl memory
 fails-first [] next e (inr none) = absurd none
 fails-first (k ∷ ks) next e has = has
 
--- a command with its three subcommands
-pub joined : (top sim dump looped first second all : Command) → IsCommand top_app top → IsCommand sim_app sim → IsCommand dump_app dump → IsCommand loop_app looped
-    → AddsSubcommand top sim first → AddsSubcommand first dump second → AddsSubcommand second looped all → IsCommand program_app all
-joined top sim dump looped first second all is_top is_sim is_dump is_looped one two three =
-    let with_sim = one.shape is_sim.1 ∙ ap₂ with_subcommand is_top.0 (ap (λ (a : App). a.top) is_sim.0) in
-    let with_dump = two.shape is_dump.1 ∙ ap₂ with_subcommand with_sim (ap (λ (a : App). a.top) is_dump.0) in (
-      three.shape is_looped.1 ∙ ap₂ with_subcommand with_dump (ap (λ (a : App). a.top) is_looped.0),
-      rw (three.globals, two.globals, one.globals, is_top.1, is_sim.1, is_dump.1, is_looped.1) refl,
-    )
+-- a command with one subcommand more
+pub joined : (top sub all : Command) (a s : App) → IsCommand a top → IsCommand s sub → AddsSubcommand top sub all
+    → IsCommand (with_subcommand a s.top) all
+joined top sub all a s is_top is_sub adds = (
+  adds.shape is_sub.1 ∙ ap₂ with_subcommand is_top.0 (ap (λ (x : App). x.top) is_sub.0),
+  rw (adds.globals, is_top.1, is_sub.1) refl,
+)
 
 -- a number in a range is found
 pub number-found : (low high : ℕ) (word : List ℕ) (n : ℕ) → IsNumeral 10 (without_leading_plus word) → n ≡ digits_value 10 (without_leading_plus word)

@@ -1,6 +1,7 @@
 ghost use Rattle.std.specs.Prelude.{◌≡◌, ◌⊎◌, ◌≤◌, false, map, IfErr, IfOk, IfSome, Some, option_map};
 ghost use Rattle.clap.specs.Kinds.{FailsBy};
 ghost use Rattle.clap.specs.Faults.{fault_of};
+ghost use Rattle.clap.specs.Simple.{with_subcommand};
 ghost use Rattle.clap.specs.Matches.{found_of};
 ghost use Rattle.clap.specs.Values.{kind_of};
 ghost use Rattle.clap.specs.Walk.{first_of, rows_of, rule_of};
@@ -9,6 +10,7 @@ ghost use Rattle.cfdp_node.specs.Request.{HasZone, IsCommand, IsStatusOf, Refuse
 ghost use Rattle.cfdp_node.specs.Shown.{file_rule, flag_rule};
 ghost use Rattle.cfdp_node.specs.Shown as showing;
 
+use crate::dropping::let_go;
 use crate::dump::DumpKind;
 use crate::loop_request::{LoopRequest, loop_command, loop_request};
 use crate::shown::{Shown, shown_by, shown_command};
@@ -360,11 +362,43 @@ fn zone_octets(word: &str) -> Option<u16>
 fn grammar<'a>(alloc: Global) -> Result<Command<'a>, AllocError>
     ensures { IfOk result (IsCommand program_app) }
 {
+    let told = lines_grammar(alloc)?;
+    match loop_command(alloc) {
+        Ok(looped) => told.subcommand(looped),
+        Err(AllocError) => {
+            let_go(told);
+            Err(AllocError)
+        }
+    }
+}
+
+/// The same with `sim` and `dump` alone.
+fn lines_grammar<'a>(alloc: Global) -> Result<Command<'a>, AllocError>
+    ensures { IfOk result (IsCommand (with_subcommand (with_subcommand top_app sim_app.top)
+        dump_app.top)) }
+{
+    let told = script_grammar(alloc)?;
+    match dump_command(alloc) {
+        Ok(dump) => told.subcommand(dump),
+        Err(AllocError) => {
+            let_go(told);
+            Err(AllocError)
+        }
+    }
+}
+
+/// The same with `sim` alone.
+fn script_grammar<'a>(alloc: Global) -> Result<Command<'a>, AllocError>
+    ensures { IfOk result (IsCommand (with_subcommand top_app sim_app.top)) }
+{
     let top = top_command(alloc)?;
-    let sim = sim_command(alloc)?;
-    let dump = dump_command(alloc)?;
-    let looped = loop_command(alloc)?;
-    top.subcommand(sim)?.subcommand(dump)?.subcommand(looped)
+    match sim_command(alloc) {
+        Ok(sim) => top.subcommand(sim),
+        Err(AllocError) => {
+            let_go(top);
+            Err(AllocError)
+        }
+    }
 }
 
 fn top_command<'a>(alloc: Global) -> Result<Command<'a>, AllocError>

@@ -11,6 +11,7 @@ ghost use Rattle.cfdp_station.specs.Config.{IsStationConfig};
 ghost use Rattle.link_sim.specs.WorldConfig.{IsWorldConfig};
 
 use crate::answer::{Answer, Answered};
+use crate::dropping::let_go;
 use crate::exit::{Exit, Fault};
 use crate::lookout::{Lookout, Passed};
 use crate::report::{own_completions, write_answer, write_indications};
@@ -146,9 +147,6 @@ fn run_second<O: Outbox, I: Inbox, J: Inbox, W: Wire, V: Write, L: Lookout>(
         Err(AllocError) => Exit::Device(Fault::NoMemoryAtStart),
     }
 }
-
-/// Lets a value go, of whatever type: here no more need be known of it.
-fn let_go<T: Drop>(_value: T) {}
 
 /// The settings of a script, but for NAKs, which are sent again until nothing is heard any more:
 /// losses that come in step with what is sent again pass only after some.

@@ -1,10 +1,12 @@
 use Rattle.std.proofs.lemmas.Result.{IfOk-weaker}
+use Rattle.clap.specs.Simple.{with_subcommand}
+use Rattle.cfdp_node.specs.LoopRequest.{loop_app}
+use Rattle.cfdp_node.specs.Request.{dump_app, sim_app, top_app}
 use Rattle.cfdp_node.proofs.CommandWords.{joined}
 use Rattle.cfdp_node.proofs.arguments.grammar.Goals as goal
 
-pub returns : goal.returns
-returns c =
-    IfOk-weaker c.subcommand-3.result _ _
-    (λ all three. joined c.in_ok-top.top c.in_ok-sim.sim c.in_ok-dump.dump c.in_ok-looped.looped c.in_ok-subcommand.field-0 c.in_ok-subcommand-2.field-0 all
-    c.in_ok-top.ensures c.in_ok-sim.ensures c.in_ok-dump.ensures c.in_ok-looped.ensures c.in_ok-subcommand.ensures c.in_ok-subcommand-2.ensures three)
-    c.subcommand-3.ensures
+pub returns-in-Ok : goal.returns-in-Ok
+returns-in-Ok c =
+    IfOk-weaker c.subcommand.result _ _
+    (λ all adds. joined c.in_ok-told.told c.in-Ok.looped all (with_subcommand (with_subcommand top_app sim_app.top) dump_app.top) loop_app c.in_ok-told.ensures c.in-Ok.ensures adds)
+    c.subcommand.ensures
