@@ -68,7 +68,7 @@ def memory_mistakes(program, row, most=20000):
     answer stands in its place; what was published is what was told complete."""
     script, words = "".join(row.given), [*row.words, "--explain"]
     own = program.run(words, script)
-    unseen = 0
+    unseen = []
     for turn in range(1, most):
         status, report, explained, left = program.run(words, script, f"memory={turn} mark")
         if "refused" not in left:
@@ -79,7 +79,7 @@ def memory_mistakes(program, row, most=20000):
         if not is_folded(script, report):
             yield f"with growth {turn} refused, it published what it didn't tell: {report}"
         if (status, report, explained) == own[:3]:
-            unseen += 1
+            unseen.append(turn)
         elif status == 3 and (report, explained) == AT_START:
             pass
         elif explained == UNSHOWN:

@@ -9,7 +9,7 @@ use crate::shown::Shown;
 use crate::sighting::Sighting;
 use crate::sim::Ran;
 use crate::trace::write_trace;
-use std::io::Write;
+use std::io::{ErrorKind, Write};
 use std::{fs, io};
 
 /// The exit status where what is asked for can't be shown.
@@ -33,23 +33,20 @@ pub fn shown_status(rt: &HostRuntime, shown: &Shown, ran: &Ran) -> u8
 fn show(rt: &HostRuntime, shown: &Shown, seen: &Seen) -> u8
     ensures { (result ≡ 0) ⊎ (result ≡ 3) }
 {
-    let Ok(sightings) = seen.log.sightings() else {
-        let _ = eprintln!(rt; "error: there is not enough memory to show what passes");
-        return DEVICE;
-    };
-    match show_all(rt, shown, seen, sightings) {
+    match show_all(rt, shown, seen) {
         Ok(()) => 0,
-        Err(_) => DEVICE,
+        Err(error) => {
+            if error.kind() == ErrorKind::OutOfMemory {
+                let _ = eprintln!(rt; "error: there is not enough memory to show what passes");
+            }
+            DEVICE
+        }
     }
 }
 
 /// Shows what is asked for.
-fn show_all(
-    rt: &HostRuntime,
-    shown: &Shown,
-    seen: &Seen,
-    sightings: &[Sighting],
-) -> io::Result<()> {
+fn show_all(rt: &HostRuntime, shown: &Shown, seen: &Seen) -> io::Result<()> {
+    let sightings = seen.log.sightings()?;
     if shown.trace {
         let mut text = Vec::new(rt.alloc());
         write_trace(&mut text, seen.zone, sightings)?;
