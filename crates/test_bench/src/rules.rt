@@ -15,6 +15,8 @@
 //!     new, sum OFFSET OCTETS    to begin a checksum, and to add octets to it; both tell it
 //!     copy WORD                 to copy octets twice
 //!     less ID ID                whether one transaction stands in front of another
+ghost use Rattle.std.specs.Prelude.{◌<◌};
+
 use crate::bench::{Bench, played, unknown};
 use crate::words::{count, half, id, narrow, number, octet, octets, pair, plain, text, word};
 use cfdp_directives::{
@@ -154,7 +156,9 @@ fn fixed_len(kind: &str) -> usize {
     }
 }
 
-fn len_at(words: &str, place: usize) -> usize {
+fn len_at(words: &str, place: usize) -> usize
+    ensures { result < 65536 }
+{
     usize::from(half(word(words, place)))
 }
 
