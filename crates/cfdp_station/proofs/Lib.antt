@@ -1,3 +1,2 @@
 pub mod Hears
 pub mod Takes
-mod LongFiles

@@ -21,8 +21,6 @@ mod config;
 mod moving;
 mod polled;
 mod station;
-#[cfg(test)]
-mod tests;
 
 pub use cfdp_entity::{CallError, EntityConfig, PutError};
 pub use config::StationConfig;

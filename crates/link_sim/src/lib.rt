@@ -34,6 +34,3 @@ pub use stations::Stations;
 pub use witness::Witness;
 pub use world::{World, run};
 pub use world_config::WorldConfig;
-
-#[cfg(test)]
-mod tests;

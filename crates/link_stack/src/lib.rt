@@ -22,8 +22,6 @@
 mod down;
 mod drops;
 mod laws;
-#[cfg(test)]
-mod tests;
 mod up;
 
 pub use aos_frame::LinkConfig;

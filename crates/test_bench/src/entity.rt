@@ -1,0 +1,390 @@
+//! Entities over stores in memory.
+//!
+//!     put NAME [AS] to send that file, to be published under the second name, or as `b.txt`
+//!     hear PDU      to hear these octets
+//!     series FIRST STEP COUNT FRONT BEHIND
+//!                   to hear so many PDUs, in which a number of 8 digits stands between two texts
+//!     poll [ROOM]   to send what is due, with room for so many octets
+//!     polls N       to send so much, and to say how much it was
+//!     tick TIME     to take note of the time
+//!     ask WORD      of the transaction 1:1: cancel, suspend, resume, nak, keep
+//!     deadline      to tell the earliest deadline but those of inactivity
+//!     phase         to tell how far the transaction 1:1 has come
+//!     told          to tell all that was indicated
+//!     drops         to tell how much was dropped, by number
+//!     inbox         to tell each published file
+//!     sum           to tell how many of the transactions 1:1 to 1:10 and 2:1 to 2:10 are closed,
+//!                   and how many are told to be complete
+//!     pass          of two that are joined: to send all that is due, and to give it to the other
+use crate::bench::{Bench, played, unknown};
+use crate::joined::{Joined, Losses, Side};
+use crate::setup::{EntitySetup, first_entity, second_entity};
+use crate::telling::tell;
+use crate::words::{number, octets, pair, tell_octets};
+use cfdp_directives::{Delivery, FileStatus, Indication, Phase};
+use cfdp_entity::{CallError, Entity, EntityConfig, EntityPolled, PutError};
+use cfdp_header::TransactionId;
+use cfdp_store::{FuseInbox, FuseOutbox, MemoryInbox, MemoryOutbox};
+use std::alloc::{AllocError, Global};
+use std::marker::Model;
+
+/// The first transaction of entity 1.
+const FIRST: TransactionId = TransactionId {
+    source: 1,
+    number: 1,
+};
+
+/// Room for each PDU.
+const ROOM: usize = 600;
+
+/// The most PDUs sent at once.
+const MOST: u8 = 200;
+
+/// Plays a transcript on an entity that is set up so.
+pub fn play(
+    alloc: Global,
+    setup: &EntitySetup,
+    transcript: &str,
+    out: &mut String,
+) -> Result<(), AllocError> {
+    played(EntityBench::open(alloc, setup)?, transcript, out)
+}
+
+/// Plays a transcript on two entities whose setups have these numbers.
+pub fn play_both(
+    alloc: Global,
+    setup: &str,
+    transcript: &str,
+    out: &mut String,
+) -> Result<(), AllocError> {
+    played(open_both(alloc, setup)?, transcript, out)
+}
+
+fn open_both(alloc: Global, setup: &str) -> Result<Joined<EntityBench>, AllocError> {
+    let one = EntityBench::open(alloc, &first_entity(setup));
+    let two = EntityBench::open(alloc, &second_entity(setup));
+    Joined::of(one, two)
+}
+
+/// An entity over stores in memory.
+#[derive(Drop)]
+struct EntityBench {
+    alloc: Global,
+    entity: Entity<FuseOutbox<MemoryOutbox>, FuseInbox<MemoryInbox>>,
+}
+
+impl Model for EntityBench {
+    ghost Value = { Unit {0} };
+
+    ghost view = { λ _. tt };
+}
+
+/// The files of an entity: `a.txt`, and `0` to `9`, each of which says whose it is.
+fn files(alloc: Global, entity: u64, octets: u64) -> Result<MemoryOutbox, AllocError> {
+    let mut files = MemoryOutbox::new(alloc);
+    let front = usize::try_from(octets).unwrap_or(5).min(5);
+    add(alloc, &mut files, b"a.txt", &b"hello"[..front])?;
+    for number in 0..10u8 {
+        add_numbered(alloc, &mut files, number, entity)?;
+    }
+    Ok(files)
+}
+
+fn add_numbered(
+    alloc: Global,
+    files: &mut MemoryOutbox,
+    number: u8,
+    entity: u64,
+) -> Result<(), AllocError> {
+    let name = [b'0'.saturating_add(number)];
+    let text = format!(in alloc; "file {number} of entity {entity}")?;
+    add(alloc, files, &name, text.as_bytes())
+}
+
+fn add(
+    alloc: Global,
+    files: &mut MemoryOutbox,
+    name: &[u8],
+    octets: &[u8],
+) -> Result<(), AllocError> {
+    let name = Vec::from_slice(alloc, name)?;
+    let octets = Vec::from_slice(alloc, octets)?;
+    files.add(name, octets)
+}
+
+impl Bench for EntityBench {
+    fn does(&mut self, verb: &str, words: &str, out: &mut String) -> Result<(), AllocError> {
+        match verb {
+            "put" => self.puts(words, out),
+            "hear" => self.hears(words, out),
+            "series" => self.hears_series(words, out),
+            "poll" => self.polls(words, out),
+            "polls" => self.polls_many(words, out),
+            "tick" => self.entity.tick(number(words)),
+            "ask" => self.calls(words, out),
+            _ => self.says(verb, out),
+        }
+    }
+}
+
+impl Side for EntityBench {
+    fn asks(
+        &mut self,
+        other: &mut Self,
+        verb: &str,
+        words: &str,
+        out: &mut String,
+    ) -> Result<(), AllocError> {
+        match verb {
+            "pass" => self.gives(other, &mut Losses::none()),
+            _ => self.does(verb, words, out),
+        }
+    }
+
+    fn tick(&mut self, now: u64) -> Result<(), AllocError> {
+        self.entity.tick(now)
+    }
+
+    fn gives(&mut self, other: &mut Self, losses: &mut Losses) -> Result<(), AllocError> {
+        for _ in 0..MOST {
+            let pdu = self.poll()?;
+            if pdu.is_empty() {
+                break;
+            }
+            if losses.arrives() {
+                other.hear(&pdu);
+            }
+        }
+        Ok(())
+    }
+}
+
+impl EntityBench {
+    /// An entity that was asked nothing.
+    fn open(alloc: Global, setup: &EntitySetup) -> Result<EntityBench, AllocError> {
+        let files = files(alloc, setup.config.entity, setup.octets)?;
+        let outbox = FuseOutbox::new(files, setup.outbox_call);
+        let inbox = FuseInbox::new(MemoryInbox::new(alloc), setup.inbox_call);
+        EntityBench::over(alloc, setup.config, outbox, inbox)
+    }
+
+    fn over(
+        alloc: Global,
+        config: EntityConfig,
+        outbox: FuseOutbox<MemoryOutbox>,
+        inbox: FuseInbox<MemoryInbox>,
+    ) -> Result<EntityBench, AllocError> {
+        if !config.is_valid() {
+            return Err(AllocError);
+        }
+        let entity = Entity::new(alloc, config, outbox, inbox)?;
+        Ok(EntityBench { alloc, entity })
+    }
+
+    fn says(&self, verb: &str, out: &mut String) -> Result<(), AllocError> {
+        match verb {
+            "deadline" => self.tells_deadline(out),
+            "phase" => write!(out, " {:?}\n", self.entity.phase(FIRST)),
+            "told" => self.tells(out),
+            "drops" => self.tells_drops(out),
+            "inbox" => self.tells_inbox(out),
+            "sum" => self.sums_up(out),
+            _ => unknown(out),
+        }
+    }
+
+    fn puts(&mut self, words: &str, out: &mut String) -> Result<(), AllocError> {
+        let (source, destination) = pair(words);
+        match self.put(source, destination) {
+            Ok(id) => write!(out, " {}:{}\n", id.source, id.number),
+            Err(e) => write!(out, " {}\n", e.name()),
+        }
+    }
+
+    fn put(&mut self, source: &str, destination: &str) -> Result<TransactionId, PutError> {
+        if destination.is_empty() {
+            self.entity.put(source.as_bytes(), b"b.txt")
+        } else {
+            self.entity.put(source.as_bytes(), destination.as_bytes())
+        }
+    }
+
+    fn hears(&mut self, text: &str, out: &mut String) -> Result<(), AllocError> {
+        let heard = self.hear_text(text)?;
+        write!(out, " {heard}\n")
+    }
+
+    fn hear_text(&mut self, text: &str) -> Result<&'static str, AllocError> {
+        let pdu = octets(self.alloc, text)?;
+        Ok(self.hear(&pdu))
+    }
+
+    /// Hears a PDU, and says why it was dropped, or that it wasn't.
+    fn hear(&mut self, pdu: &[u8]) -> &'static str {
+        match self.entity.hear(pdu) {
+            Ok(()) => "taken",
+            Err(e) => e.name(),
+        }
+    }
+
+    fn hears_series(&mut self, words: &str, out: &mut String) -> Result<(), AllocError> {
+        let (first, rest) = pair(words);
+        let (step, rest) = pair(rest);
+        let (count, texts) = pair(rest);
+        let mut at = number(first);
+        let mut taken = 0u64;
+        for _ in 0..number(count) {
+            if self.hears_one_of(at, texts, out)? {
+                taken = taken.saturating_add(1);
+            }
+            at = at.saturating_add(number(step));
+        }
+        write!(out, " taken {taken}\n")
+    }
+
+    /// Hears a PDU with a number between its two texts. Writes why it was dropped, if it was.
+    fn hears_one_of(&mut self, at: u64, texts: &str, out: &mut String) -> Result<bool, AllocError> {
+        let (front, behind) = pair(texts);
+        let text = format!(in self.alloc; "{front}{at:08X}{behind}")?;
+        let heard = self.hear_text(text.as_str())?;
+        if heard != "taken" {
+            write!(out, " {heard} {at}\n")?;
+        }
+        Ok(heard == "taken")
+    }
+
+    fn polls(&mut self, room: &str, out: &mut String) -> Result<(), AllocError> {
+        let room = room.parse::<usize>().unwrap_or(ROOM);
+        let mut octets = vec![in self.alloc; 0u8; room]?;
+        match self.entity.poll(room, &mut octets)? {
+            EntityPolled::Moved(len) => {
+                octets.truncate(len);
+                tell_octets(self.alloc, &octets, out)
+            }
+            EntityPolled::Nothing => write!(out, " nothing\n"),
+            EntityPolled::Full => write!(out, " full\n"),
+            EntityPolled::SourceFailed => write!(out, " failed\n"),
+        }
+    }
+
+    fn polls_many(&mut self, count: &str, out: &mut String) -> Result<(), AllocError> {
+        let mut moved = 0u64;
+        for _ in 0..number(count) {
+            if self.poll()?.is_empty() {
+                break;
+            }
+            moved = moved.saturating_add(1);
+        }
+        write!(out, " moved {moved}\n")
+    }
+
+    /// The octets of the PDU that is due; none where nothing is due or the outbox failed.
+    fn poll(&mut self) -> Result<Vec<u8>, AllocError> {
+        let mut octets = vec![in self.alloc; 0u8; ROOM]?;
+        let len = match self.entity.poll(ROOM, &mut octets)? {
+            EntityPolled::Moved(len) => len,
+            EntityPolled::Nothing | EntityPolled::Full | EntityPolled::SourceFailed => 0,
+        };
+        octets.truncate(len);
+        Ok(octets)
+    }
+
+    fn calls(&mut self, word: &str, out: &mut String) -> Result<(), AllocError> {
+        match self.call(word) {
+            Ok(()) => write!(out, " done\n"),
+            Err(e) => write!(out, " {}\n", e.name()),
+        }
+    }
+
+    fn call(&mut self, word: &str) -> Result<(), CallError> {
+        match word {
+            "cancel" => self.entity.cancel(FIRST),
+            "suspend" => self.entity.suspend(FIRST),
+            "resume" => self.entity.resume(FIRST),
+            _ => self.entity.prompt(FIRST, word == "keep"),
+        }
+    }
+
+    fn tells_deadline(&self, out: &mut String) -> Result<(), AllocError> {
+        match self.entity.next_deadline() {
+            Some(at) => write!(out, " at {at}\n"),
+            None => write!(out, " none\n"),
+        }
+    }
+
+    fn tells(&self, out: &mut String) -> Result<(), AllocError> {
+        for told in self.entity.indications() {
+            tell(told, out)?;
+        }
+        Ok(())
+    }
+
+    fn tells_drops(&self, out: &mut String) -> Result<(), AllocError> {
+        for number in 0..=u8::MAX {
+            let count = self.entity.drops(number);
+            if count != 0 {
+                write!(out, " {number} {count}\n")?;
+            }
+        }
+        Ok(())
+    }
+
+    fn tells_inbox(&self, out: &mut String) -> Result<(), AllocError> {
+        for (name, octets) in self.entity.inbox().inner().published().entries().iter() {
+            tell_file(self.alloc, name, octets, out)?;
+        }
+        Ok(())
+    }
+
+    fn sums_up(&self, out: &mut String) -> Result<(), AllocError> {
+        let closed = self.closed(1).saturating_add(self.closed(2));
+        write!(out, " closed {closed}\n complete {}\n", self.complete())
+    }
+
+    fn closed(&self, source: u64) -> u64 {
+        let mut count = 0u64;
+        for number in 1..=10u64 {
+            if self.entity.phase(TransactionId { source, number }) == Some(Phase::Closed) {
+                count = count.saturating_add(1);
+            }
+        }
+        count
+    }
+
+    fn complete(&self) -> u64 {
+        let mut count = 0u64;
+        for told in self.entity.indications() {
+            if is_complete(told) {
+                count = count.saturating_add(1);
+            }
+        }
+        count
+    }
+}
+
+fn tell_file(
+    alloc: Global,
+    name: &[u8],
+    octets: &[u8],
+    out: &mut String,
+) -> Result<(), AllocError> {
+    let name = String::from_utf8_lossy(alloc, name)?;
+    let text = String::from_utf8_lossy(alloc, octets)?;
+    write!(out, " {name}: {text}\n")
+}
+
+fn is_complete(told: &Indication) -> bool {
+    match told {
+        Indication::Finished {
+            condition,
+            delivery,
+            status,
+            ..
+        } => {
+            condition.code() == 0
+                && *delivery == Delivery::Complete
+                && *status == FileStatus::Retained
+        }
+        _ => false,
+    }
+}

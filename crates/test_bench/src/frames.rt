@@ -1,0 +1,189 @@
+//! Frames (`aos_frame`), of a link with spacecraft 42, channel 5, zones of 32 octets and packets of
+//! the process 100.
+//!
+//!     encode SPACECRAFT CHANNEL COUNT OCTETS      to write a header into these octets
+//!     again COUNT OCTETS                          to write one of the link, and to read it again
+//!     decode OCTETS                               to read a frame of the link: its header, and
+//!                                                 what stands behind it
+//!     any ZONE OCTETS                             to read a frame of the link that it names
+//!     writable SPACECRAFT CHANNEL COUNT           whether a header can be written
+//!     valid SPACECRAFT CHANNEL ZONE PROCESS       whether there is such a link
+//!     next                                        to tell the next count
+//!     see COUNT, follows COUNT                    to hear of a frame, and to tell what is missing
+ghost use Rattle.std.specs.Prelude.{◌≡◌, ◌+◌, ◌<◌, length};
+ghost use Rattle.aos_frame.specs.Frame.{FitsHeader};
+
+use crate::bench::{Bench, played, unknown};
+use crate::words::{half, narrow, octet, octets, pair, tell_octets, word};
+use aos_frame::{
+    Continuity, FRAME_COUNTS, FrameError, FrameHeader, LinkConfig, VcCounter, VcMonitor, decode,
+    encode, written_frame_is_read,
+};
+use std::alloc::{AllocError, Global};
+
+/// The link.
+pub const LINK: LinkConfig = LinkConfig {
+    spacecraft: 42,
+    channel: 5,
+    zone: 32,
+    apid: 100,
+};
+
+/// The octets of a frame of the link.
+pub const FRAME_LEN: usize = 40;
+
+/// Plays a transcript.
+pub fn play(alloc: Global, transcript: &str, out: &mut String) -> Result<(), AllocError> {
+    let bench = FrameBench {
+        alloc,
+        counter: VcCounter::new(),
+        monitor: VcMonitor::new(),
+    };
+    played(bench, transcript, out)
+}
+
+/// Counts frames that are sent, and those that come.
+#[derive(Drop)]
+struct FrameBench {
+    alloc: Global,
+    counter: VcCounter,
+    monitor: VcMonitor,
+}
+
+impl Bench for FrameBench {
+    fn does(&mut self, verb: &str, words: &str, out: &mut String) -> Result<(), AllocError> {
+        match verb {
+            "next" => write!(out, " {}\n", self.counter.next()),
+            "see" => tell_missing(self.see(narrow(words)), out),
+            "follows" => write!(out, " {}\n", self.follows(narrow(words))),
+            "encode" => encodes(self.alloc, words, out),
+            "again" => encodes_again(self.alloc, words, out),
+            "decode" => reads(&octets(self.alloc, words)?, self.alloc, out),
+            _ => says(self.alloc, verb, words, out),
+        }
+    }
+}
+
+impl FrameBench {
+    fn see(&mut self, count: u32) -> Continuity {
+        self.monitor.see(count % FRAME_COUNTS)
+    }
+
+    fn follows(&mut self, count: u32) -> bool {
+        self.monitor.follows(count % FRAME_COUNTS)
+    }
+}
+
+fn says(alloc: Global, verb: &str, words: &str, out: &mut String) -> Result<(), AllocError> {
+    match verb {
+        "any" => reads_any(alloc, words, out),
+        "writable" => write!(out, " {}\n", header(words).is_writable()),
+        "valid" => write!(out, " {}\n", link(words).is_valid()),
+        _ => unknown(out),
+    }
+}
+
+fn tell_missing(seen: Continuity, out: &mut String) -> Result<(), AllocError> {
+    match seen {
+        Continuity::Follows => write!(out, " follows\n"),
+        Continuity::Gap(missing) => write!(out, " {missing} missing\n"),
+    }
+}
+
+/// The header that three words describe.
+fn header(words: &str) -> FrameHeader {
+    FrameHeader {
+        spacecraft: octet(word(words, 0)),
+        channel: octet(word(words, 1)),
+        count: narrow(word(words, 2)),
+    }
+}
+
+/// The link that four words describe.
+fn link(words: &str) -> LinkConfig {
+    LinkConfig {
+        spacecraft: octet(word(words, 0)),
+        channel: octet(word(words, 1)),
+        zone: half(word(words, 2)),
+        apid: half(word(words, 3)),
+    }
+}
+
+fn encodes(alloc: Global, words: &str, out: &mut String) -> Result<(), AllocError> {
+    let mut octets = octets(alloc, word(words, 3))?;
+    write_header(&header(words), &mut octets);
+    tell_octets(alloc, &octets, out)
+}
+
+fn write_header(header: &FrameHeader, octets: &mut [u8]) {
+    if header.is_writable() && octets.len() >= 6 {
+        encode(header, octets);
+    }
+}
+
+fn encodes_again(alloc: Global, words: &str, out: &mut String) -> Result<(), AllocError> {
+    let (count, digits) = pair(words);
+    let mut octets = octets(alloc, digits)?;
+    write!(out, " {}\n", count_again(narrow(count), &mut octets))?;
+    tell_octets(alloc, &octets, out)
+}
+
+fn count_again(count: u32, octets: &mut [u8]) -> u32 {
+    let header = FrameHeader {
+        spacecraft: 42,
+        channel: 5,
+        count,
+    };
+    if octets.len() != FRAME_LEN || !header.is_writable() {
+        return u32::MAX;
+    }
+    written_and_read(&header, octets, &LINK)
+}
+
+/// A caller that needs no lemma, but only the law of written frames: the header that it writes it
+/// reads.
+fn written_and_read(header: &FrameHeader, frame: &mut [u8], link: &LinkConfig) -> u32
+    requires fits { FitsHeader header.now }
+    requires spacecraft { header.now.spacecraft ≡ link.now.spacecraft }
+    requires channel { header.now.channel ≡ link.now.channel }
+    requires whole { length frame.old ≡ 8 + link.now.zone }
+    ensures { result ≡ header.now.count }
+{
+    encode(header, frame);
+    written_frame_is_read();
+    match decode(frame, link) {
+        Ok((read, _)) => read.count,
+        Err(_) => unreachable!(),
+    }
+}
+
+fn reads(octets: &[u8], alloc: Global, out: &mut String) -> Result<(), AllocError> {
+    match decode(octets, &LINK) {
+        Ok((header, rest)) => tell_read(alloc, header, rest, out),
+        Err(e) => tell_refusal(e, out),
+    }
+}
+
+fn reads_any(alloc: Global, words: &str, out: &mut String) -> Result<(), AllocError> {
+    let (zone, digits) = pair(words);
+    let octets = octets(alloc, digits)?;
+    match FrameHeader::read(&octets, half(zone)) {
+        Ok((header, rest)) => tell_read(alloc, header, rest, out),
+        Err(e) => tell_refusal(e, out),
+    }
+}
+
+fn tell_read(
+    alloc: Global,
+    header: FrameHeader,
+    rest: &[u8],
+    out: &mut String,
+) -> Result<(), AllocError> {
+    let (spacecraft, channel, count) = (header.spacecraft, header.channel, header.count);
+    write!(out, " {spacecraft} {channel} {count}\n")?;
+    tell_octets(alloc, rest, out)
+}
+
+fn tell_refusal(e: FrameError, out: &mut String) -> Result<(), AllocError> {
+    write!(out, " error {} {}: {e}\n", e.number(), e.name())
+}

@@ -1,0 +1,231 @@
+//! PDUs down to frames, and up again. The setup is the capacity of the sending end.
+//!
+//!     send OCTETS    a PDU goes down
+//!     flush          the begun frame is filled
+//!     frames         all whole frames are taken: how many there are
+//!     frame PLACE    the one at this place, from 0
+//!     take OCTETS    the receiving end takes a frame: the PDUs that come. Behind some octets stand
+//!                    zeros where they are fewer than a frame's
+//!     drops          what it dropped, by number, and how often; a new end stands there then
+//!     every          for every choice of four frames, the first one's mark being the last: which
+//!                    PDUs come at a new end, counted from 1
+//!     room, waiting, ahead   the octets that may go down and those that wait, and the most frames
+//!     drop resync, drop idle what such a drop is called: its number, its name, and in words
+ghost use Rattle.std.specs.Prelude.{◌≡◌, ◌≤◌, ℕ, ◌++◌, ◌⊎◌, List, Bool, [], ◌∷◌, true};
+ghost use Rattle.mpdu.specs.Feeding.{octets_of_each};
+ghost use Rattle.mpdu.specs.Stream.{survivors};
+ghost use Rattle.link_stack.specs.Frames.{pdus_in};
+ghost use Rattle.link_stack.specs.Drops.{counted};
+ghost use Rattle.link_stack.specs.Upward.{IsUp, IsNextFrame};
+ghost use Rattle.link_stack.specs.declared.drops.LinkDrop.TheVariants.{NoMemory};
+
+use crate::bench::{Bench, played, unknown};
+use crate::frames::{FRAME_LEN, LINK};
+use crate::words::{count, octets, tell_octets};
+use aos_frame::FrameError;
+use link_stack::{Down, LinkDrop, Up};
+use std::alloc::{AllocError, Global};
+
+/// Plays a transcript, where the sending end has so much room.
+pub fn play(
+    alloc: Global,
+    setup: &str,
+    transcript: &str,
+    out: &mut String,
+) -> Result<(), AllocError> {
+    let capacity = count(setup);
+    let bench = Link::open(alloc, capacity.min(65_536))?;
+    played(bench, transcript, out)
+}
+
+/// A caller that needs no lemma: what is in a cleared `out` then are the PDUs that the frame
+/// completed.
+fn take_alone(up: &mut Up, frame: &[u8], out: &mut Vec<Vec<u8>>)
+    ensures { (ps : List (List ℕ)) (marks : List Bool) (missed : ℕ) → IsUp up.old ps marks missed →
+        IsNextFrame up.old.link ps marks frame.now →
+        (pdus_in (survivors up.old.link.zone (marks ++ true ∷ []) 0 ps) ≡ pdus_in (survivors up.old.link.zone marks 0 ps) ++ octets_of_each out.new.items)
+        ⊎ (up.new.drops ≡ counted up.old.drops NoMemory) }
+{
+    out.clear();
+    up.take(frame, out);
+}
+
+/// Both ends, what was sent, and the frames that were taken of it.
+#[derive(Drop)]
+struct Link {
+    alloc: Global,
+    down: Down,
+    up: Up,
+    sent: Vec<Vec<u8>>,
+    frames: Vec<Vec<u8>>,
+}
+
+impl Bench for Link {
+    fn does(&mut self, verb: &str, words: &str, out: &mut String) -> Result<(), AllocError> {
+        match verb {
+            "flush" => Ok(self.down.flush()),
+            "send" => self.sends(words, out),
+            "frames" => write!(out, " {}\n", self.makes()?),
+            "frame" => self.tells(count(words), out),
+            "take" => self.takes(words, out),
+            "drops" => self.ends(out),
+            "every" => self.gives_every(out),
+            _ => self.says(verb, words, out),
+        }
+    }
+}
+
+impl Link {
+    fn open(alloc: Global, capacity: usize) -> Result<Link, AllocError>
+        requires { capacity ≤ 65536 }
+    {
+        Ok(Link {
+            alloc,
+            down: Down::new(alloc, LINK, capacity)?,
+            up: Up::new(alloc, LINK)?,
+            sent: Vec::new(alloc),
+            frames: Vec::new(alloc),
+        })
+    }
+
+    fn says(&self, verb: &str, words: &str, out: &mut String) -> Result<(), AllocError> {
+        match verb {
+            "room" => write!(out, " {}\n", self.down.room()),
+            "waiting" => write!(out, " {}\n", self.down.waiting_len()),
+            "ahead" => write!(out, " {}\n", self.down.frames_ahead()),
+            "drop" => tell_drop(drop_of(words), out),
+            _ => unknown(out),
+        }
+    }
+
+    fn sends(&mut self, word: &str, out: &mut String) -> Result<(), AllocError> {
+        let said = self.sent(octets(self.alloc, word)?)?;
+        write!(out, " {said}\n")
+    }
+
+    fn sent(&mut self, pdu: Vec<u8>) -> Result<&'static str, AllocError> {
+        if pdu.is_empty() || self.down.send(&pdu).is_err() {
+            return Ok("full");
+        }
+        self.sent.push(pdu)?;
+        Ok("ok")
+    }
+
+    fn makes(&mut self) -> Result<usize, AllocError> {
+        for _i in 0..16 {
+            self.makes_one()?;
+        }
+        Ok(self.frames.len())
+    }
+
+    fn makes_one(&mut self) -> Result<(), AllocError> {
+        let mut frame = vec![in self.alloc; 0u8; self.down.frame_len()]?;
+        if self.down.next_frame(&mut frame) {
+            self.frames.push(frame)?;
+        }
+        Ok(())
+    }
+
+    fn tells(&self, place: usize, out: &mut String) -> Result<(), AllocError> {
+        match self.frames.get(place) {
+            Some(frame) => tell_octets(self.alloc, frame, out),
+            None => write!(out, " none\n"),
+        }
+    }
+
+    fn takes(&mut self, digits: &str, out: &mut String) -> Result<(), AllocError> {
+        let mut came = Vec::new(self.alloc);
+        take_alone(&mut self.up, &frame(self.alloc, digits)?, &mut came);
+        tell_all(self.alloc, &came, out)
+    }
+
+    fn ends(&mut self, out: &mut String) -> Result<(), AllocError> {
+        tell_drops(&self.up, out)?;
+        self.up = Up::new(self.alloc, LINK)?;
+        Ok(())
+    }
+
+    fn gives_every(&mut self, out: &mut String) -> Result<(), AllocError> {
+        for marks in 0..16u8 {
+            write!(out, " {marks:04b}:")?;
+            self.gives(marks, out)?;
+        }
+        Ok(())
+    }
+
+    fn gives(&mut self, marks: u8, out: &mut String) -> Result<(), AllocError> {
+        self.up = Up::new(self.alloc, LINK)?;
+        let mut came = Vec::new(self.alloc);
+        take_marked(&mut self.up, &self.frames, marks, &mut came);
+        tell_places(&self.sent, &came, out)
+    }
+}
+
+/// The octets of a frame that begins with these.
+fn frame(alloc: Global, digits: &str) -> Result<Vec<u8>, AllocError> {
+    let mut frame = octets(alloc, digits)?;
+    if !frame.is_empty() {
+        frame.resize(FRAME_LEN, 0)?;
+    }
+    Ok(frame)
+}
+
+/// Takes those frames of which the bit in `marks` is 1, the first frame's the lowest.
+fn take_marked(up: &mut Up, frames: &[Vec<u8>], marks: u8, out: &mut Vec<Vec<u8>>) {
+    let mut left = marks;
+    for frame in frames {
+        if left % 2 == 1 {
+            up.take(frame, out);
+        }
+        left /= 2;
+    }
+}
+
+fn tell_all(alloc: Global, pdus: &[Vec<u8>], out: &mut String) -> Result<(), AllocError> {
+    for pdu in pdus {
+        tell_octets(alloc, pdu, out)?;
+    }
+    Ok(())
+}
+
+fn drop_of(word: &str) -> LinkDrop {
+    if word == "resync" {
+        LinkDrop::Resync
+    } else {
+        LinkDrop::Frame(FrameError::OnlyIdle)
+    }
+}
+
+fn tell_drop(drop: LinkDrop, out: &mut String) -> Result<(), AllocError> {
+    write!(out, " {} {}: {drop}\n", drop.number(), drop.name())
+}
+
+fn tell_drops(up: &Up, out: &mut String) -> Result<(), AllocError> {
+    for number in 0..=u8::MAX {
+        let count = up.drops(number);
+        if count > 0 {
+            write!(out, " {number} {count}\n")?;
+        }
+    }
+    Ok(())
+}
+
+/// Tells each PDU that came by its place among those that were sent.
+fn tell_places(sent: &[Vec<u8>], came: &[Vec<u8>], out: &mut String) -> Result<(), AllocError> {
+    for pdu in came {
+        write!(out, " {}", place_among(sent, pdu))?;
+    }
+    write!(out, "\n")
+}
+
+/// The place of a PDU among those that were sent, from 1; 0 where it is none of them.
+fn place_among(sent: &[Vec<u8>], pdu: &[u8]) -> usize {
+    let mut place = 0usize;
+    for other in sent {
+        place = place.saturating_add(1);
+        if other.as_slice() == pdu {
+            return place;
+        }
+    }
+    0
+}

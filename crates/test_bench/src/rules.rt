@@ -1,0 +1,232 @@
+//! What can be written, lengths, codes, defaults, checksums and ids.
+//!
+//!     fits NUMBER WIDTH         whether a number can be written in so many octets
+//!     ack WIDTH WIDTH NUMBER    whether the header of an ACK of 1:NUMBER can be, whose ids and
+//!                               numbers have so many octets
+//!     progress LENGTH NUMBER    whether a Keep Alive can be, behind a header with this length
+//!     size NUMBER, name WORD    whether a file may have this size, or this name; `-` is empty
+//!     pairs START-END ..        whether these ranges can be written, and how many they are
+//!     len KIND N ..             how many octets a data field has, or a `header` or the fault
+//!                               `location` among options, of which these are lengths
+//!     condition N, checksum N, handler N   to tell what has this number
+//!     codes                     to tell those of Cancel, of both checksums, and of Suspend
+//!     policy                    to tell the limits, times and handlers of a policy by default
+//!     times N N N N             whether these can be times
+//!     new, sum OFFSET OCTETS    to begin a checksum, and to add octets to it; both tell it
+//!     copy WORD                 to copy octets twice
+//!     less ID ID                whether one transaction stands in front of another
+ghost use Rattle.std.specs.Prelude.{◌<◌};
+
+use crate::bench::{Bench, played, unknown};
+use crate::words::{count, half, id, narrow, number, octet, octets, pair, plain, text, word};
+use cfdp_directives::{
+    Checksum, ChecksumKind, Condition, Handler, Octets, Pairs, Pdu, Policy, Times, ack_len,
+    can_write, eof_len, fault_location_len, file_data_len, finished_len, is_file_name,
+    is_file_size, keep_alive_len, metadata_len, nak_len, prompt_len,
+};
+use cfdp_header::{Header, TransactionId, fits_width};
+use std::alloc::{AllocError, Global};
+
+/// Plays a transcript.
+pub fn play(alloc: Global, transcript: &str, out: &mut String) -> Result<(), AllocError> {
+    let checksum = Checksum::new();
+    let bench = RuleBench { alloc, checksum };
+    played(bench, transcript, out)
+}
+
+/// A checksum that is begun.
+#[derive(Drop)]
+struct RuleBench {
+    alloc: Global,
+    checksum: Checksum,
+}
+
+impl Bench for RuleBench {
+    fn does(&mut self, verb: &str, words: &str, out: &mut String) -> Result<(), AllocError> {
+        match verb {
+            "new" => self.begins(out),
+            "sum" => self.adds(words, out),
+            "copy" => tell_copy(self.alloc, words, out),
+            "pairs" => tell_pairs(self.alloc, words, out),
+            "len" => write!(out, " {}\n", len_of(words)),
+            "policy" => tell_policy(Policy::default(), out),
+            "codes" => tell_codes(out),
+            _ => judges(verb, words, out),
+        }
+    }
+}
+
+impl RuleBench {
+    fn begins(&mut self, out: &mut String) -> Result<(), AllocError> {
+        self.checksum = Checksum::new();
+        self.tells(out)
+    }
+
+    fn adds(&mut self, words: &str, out: &mut String) -> Result<(), AllocError> {
+        let (offset, digits) = pair(words);
+        let octets = octets(self.alloc, digits)?;
+        self.checksum.add(number(offset), &octets);
+        self.tells(out)
+    }
+
+    fn tells(&self, out: &mut String) -> Result<(), AllocError> {
+        write!(out, " {:08X}\n", self.checksum.value())
+    }
+}
+
+fn judges(verb: &str, words: &str, out: &mut String) -> Result<(), AllocError> {
+    match verb {
+        "condition" | "checksum" | "handler" => tell_named(verb, octet(words), out),
+        "fits" | "ack" | "progress" | "size" | "name" | "times" | "less" => {
+            write!(out, " {}\n", is_so(verb, words))
+        }
+        _ => unknown(out),
+    }
+}
+
+fn is_so(verb: &str, words: &str) -> bool {
+    match verb {
+        "fits" => fits_width(number(word(words, 0)), octet(word(words, 1))),
+        "ack" => of_ack(words).fits(),
+        "progress" => keep_alive_fits(words),
+        "size" => is_file_size(number(words)),
+        "name" => is_file_name(plain(words)),
+        "times" => times_of(words).is_valid(),
+        _ => id(word(words, 0)) < id(word(words, 1)),
+    }
+}
+
+/// The header of an ACK, toward the file's sender.
+fn of_ack(words: &str) -> Header {
+    Header {
+        file_data: false,
+        toward_sender: true,
+        length: 3,
+        segment_metadata: false,
+        id_width: octet(word(words, 0)),
+        number_width: octet(word(words, 1)),
+        id: TransactionId {
+            source: 1,
+            number: number(word(words, 2)),
+        },
+        destination: 2,
+    }
+}
+
+fn keep_alive_fits(words: &str) -> bool {
+    let header = Header {
+        length: half(word(words, 0)),
+        ..of_ack("2 4 1")
+    };
+    let progress = number(word(words, 1));
+    can_write(&header, &Pdu::KeepAlive { progress })
+}
+
+fn times_of(words: &str) -> Times {
+    Times {
+        eof: narrow(word(words, 0)),
+        nak: narrow(word(words, 1)),
+        finished: narrow(word(words, 2)),
+        inactivity: narrow(word(words, 3)),
+    }
+}
+
+/// The length that the words ask for, of which the numbers after the first are below 2^16.
+fn len_of(words: &str) -> usize {
+    let kind = word(words, 0);
+    let (first, second) = (len_at(words, 1), len_at(words, 2));
+    match kind {
+        "header" => Header::len_in_widths(octet(word(words, 1)), octet(word(words, 2))),
+        "data" => file_data_len(first),
+        "metadata" => metadata_len(first, second, len_at(words, 3)),
+        "eof" => eof_len(first),
+        "finished" => finished_len(first),
+        "nak" => nak_len(first),
+        "location" => fault_location_len(octet(word(words, 1))),
+        _ => fixed_len(kind),
+    }
+}
+
+fn fixed_len(kind: &str) -> usize {
+    match kind {
+        "ack" => ack_len(),
+        "prompt" => prompt_len(),
+        "keep" => keep_alive_len(),
+        _ => 0,
+    }
+}
+
+fn len_at(words: &str, place: usize) -> usize
+    ensures { result < 65536 }
+{
+    usize::from(half(word(words, place)))
+}
+
+fn tell_named(verb: &str, code: u8, out: &mut String) -> Result<(), AllocError> {
+    match verb {
+        "condition" => tell_code(Condition::from_code(code).map(|it| it.code()), out),
+        "checksum" => tell_code(ChecksumKind::from_code(code).map(|it| it.code()), out),
+        _ => write!(out, " {:?}\n", Handler::from_number(code)),
+    }
+}
+
+fn tell_code(code: Option<u8>, out: &mut String) -> Result<(), AllocError> {
+    match code {
+        Some(code) => write!(out, " {code}\n"),
+        None => write!(out, " none\n"),
+    }
+}
+
+fn tell_codes(out: &mut String) -> Result<(), AllocError> {
+    write!(
+        out,
+        " {} {} {} {}\n",
+        Condition::CANCEL_REQUEST.code(),
+        ChecksumKind::MODULAR.code(),
+        ChecksumKind::NULL.code(),
+        Handler::Suspend.number()
+    )
+}
+
+fn tell_policy(policy: Policy, out: &mut String) -> Result<(), AllocError> {
+    let (limits, times, handlers) = (policy.limits, policy.times, policy.handlers);
+    write!(
+        out,
+        " limits {} {} {}\n",
+        limits.eof, limits.nak, limits.finished
+    )?;
+    write!(
+        out,
+        " times {} {} {} {}\n",
+        times.eof, times.nak, times.finished, times.inactivity
+    )?;
+    write!(
+        out,
+        " handlers {:?} {:?} {:?}\n",
+        handlers.ack, handlers.nak, handlers.inactivity
+    )
+}
+
+fn tell_pairs(alloc: Global, words: &str, out: &mut String) -> Result<(), AllocError> {
+    let given = ranges_of(alloc, words)?;
+    let pairs = Pairs::of(&given);
+    let fit = pairs.fit();
+    write!(out, " {fit} {} {}\n", pairs.len(), pairs.iter().count())
+}
+
+fn ranges_of(alloc: Global, words: &str) -> Result<Vec<(u64, u64)>, AllocError> {
+    let mut ranges = Vec::new(alloc);
+    for range in words.split_whitespace() {
+        let (start, end) = range.split_once('-').unwrap_or((range, ""));
+        ranges.push((number(start), number(end)))?;
+    }
+    Ok(ranges)
+}
+
+fn tell_copy(alloc: Global, word: &str, out: &mut String) -> Result<(), AllocError> {
+    let name = Octets::copied(alloc, plain(word))?;
+    let copy = name.copy(alloc)?;
+    let alike = copy == name;
+    let again = Octets::from_vec(copy.into_vec());
+    write!(out, " {alike} {}\n", text(again.as_slice()))
+}

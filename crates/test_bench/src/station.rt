@@ -1,0 +1,450 @@
+//! Two stations over stores in memory, joined by the frames that each sends. A line on one of them
+//! begins with 1 or 2, and what else a line may ask stands in `joined`.
+//!
+//!     put NAME    to send that file, to be published as `b.txt`
+//!     poll        to send one PDU
+//!     again N     to send N more, and to tell nothing
+//!     burst       to send all that is due, and to say how many PDUs, and why no more
+//!     flush       to fill the begun frame
+//!     ahead       to say how many whole frames may wait
+//!     link        to give its whole frames to the other station, and to write them
+//!     lose N      the same, where frame n is lost if bit n of N is 1; how many there were
+//!     pass        to send all that is due, and to give it to the other station
+//!     turn TIME   one turn over a link of its own: how many frames went out
+//!     take FRAME  to take these octets
+//!     tick TIME   to take note of the time
+//!     told        to tell all that was indicated
+//!     drops       to tell what was dropped, of the link and of the PDUs that came up, by number
+//!     inbox       to tell each published file, with its length and its checksum
+//!
+//! And of lines that are parted by `; `, which new stations go through for each number N from 0 on
+//! that stands for `*`:
+//!
+//!     every COUNT LINES    to tell their answers, or for which N before they were the same
+//!     alike COUNT LINES    to tell how long these are, in place of them
+use crate::bench::{Bench, played, unknown};
+use crate::joined::{Joined, Losses, Side};
+use crate::own_link::{self, Link};
+use crate::setup::{first_station, second_station};
+use crate::telling::tell;
+use crate::words::{number, octets, pair, tell_octets};
+use cfdp_directives::Checksum;
+use cfdp_station::{Polled, Station, StationConfig};
+use cfdp_store::{Files, MemoryInbox, MemoryOutbox};
+use std::alloc::{AllocError, Global};
+use std::collections::VecDeque;
+use std::marker::Model;
+
+/// The most PDUs sent at once, and frames taken.
+const MOST: u8 = 200;
+
+/// Plays a transcript on two stations whose setups have these numbers.
+pub fn play(
+    alloc: Global,
+    setup: &str,
+    transcript: &str,
+    out: &mut String,
+) -> Result<(), AllocError> {
+    played(Stations::open(alloc, setup)?, transcript, out)
+}
+
+fn open_both(alloc: Global, setup: &str) -> Result<Joined<StationBench>, AllocError> {
+    let one = StationBench::open(alloc, first_station(setup));
+    let two = StationBench::open(alloc, second_station(setup));
+    Joined::of(one, two)
+}
+
+/// Two stations, and how they and others are set up.
+#[derive(Drop)]
+struct Stations {
+    alloc: Global,
+    setup: String,
+    joined: Joined<StationBench>,
+}
+
+impl Model for Stations {
+    ghost Value = { Unit {0} };
+
+    ghost view = { λ _. tt };
+}
+
+impl Bench for Stations {
+    fn does(&mut self, verb: &str, words: &str, out: &mut String) -> Result<(), AllocError> {
+        match verb {
+            "every" => self.compares(words, true, out),
+            "alike" => self.compares(words, false, out),
+            _ => self.joined.does(verb, words, out),
+        }
+    }
+}
+
+impl Stations {
+    fn open(alloc: Global, setup: &str) -> Result<Stations, AllocError> {
+        Ok(Stations {
+            alloc,
+            setup: String::from_str(alloc, setup)?,
+            joined: open_both(alloc, setup)?,
+        })
+    }
+
+    fn compares(&self, words: &str, is_shown: bool, out: &mut String) -> Result<(), AllocError> {
+        let (count, lines) = pair(words);
+        let mut told = Vec::new(self.alloc);
+        for choice in 0..number(count) {
+            let answers = self.answers(lines, choice)?;
+            tell_answers(choice, &answers, &told, is_shown, out)?;
+            told.push(answers)?;
+        }
+        Ok(())
+    }
+
+    /// What new stations answer to these lines, in which the number stands for `*`.
+    fn answers(&self, lines: &str, choice: u64) -> Result<String, AllocError> {
+        let joined = open_both(self.alloc, self.setup.as_str());
+        answers_of(self.alloc, joined, lines, choice)
+    }
+}
+
+fn answers_of<B: Bench>(
+    alloc: Global,
+    bench: Result<B, AllocError>,
+    lines: &str,
+    choice: u64,
+) -> Result<String, AllocError> {
+    let mut bench = bench?;
+    let mut out = String::new(alloc);
+    asks_all(alloc, &mut bench, lines, choice, &mut out)?;
+    Ok(out)
+}
+
+fn asks_all<B: Bench>(
+    alloc: Global,
+    bench: &mut B,
+    lines: &str,
+    choice: u64,
+    out: &mut String,
+) -> Result<(), AllocError> {
+    for line in lines.split("; ") {
+        asks_with(alloc, bench, line, choice, out)?;
+    }
+    Ok(())
+}
+
+fn asks_with<B: Bench>(
+    alloc: Global,
+    bench: &mut B,
+    line: &str,
+    choice: u64,
+    out: &mut String,
+) -> Result<(), AllocError> {
+    let chosen = with_number(alloc, line, choice)?;
+    let (verb, words) = pair(chosen.as_str());
+    bench.does(verb, words, out)
+}
+
+/// The line, with the number in the place of `*`.
+fn with_number(alloc: Global, line: &str, number: u64) -> Result<String, AllocError> {
+    match line.split_once('*') {
+        Some((front, behind)) => format!(in alloc; "{front}{number}{behind}"),
+        None => String::from_str(alloc, line),
+    }
+}
+
+/// Tells answers, or in which place the same ones stand among those before.
+fn tell_answers(
+    choice: u64,
+    answers: &String,
+    before: &[String],
+    is_shown: bool,
+    out: &mut String,
+) -> Result<(), AllocError> {
+    match before.iter().position(|it| it.as_str() == answers.as_str()) {
+        Some(place) => write!(out, " {choice} as {place}\n"),
+        None if is_shown => write!(out, " {choice}\n{answers}"),
+        None => write!(out, " {choice} {} octets\n", answers.len()),
+    }
+}
+
+/// One station, and its end of a link of its own.
+#[derive(Drop)]
+pub struct StationBench {
+    alloc: Global,
+    station: Station<MemoryOutbox, MemoryInbox>,
+    cable: Cable,
+}
+
+/// One end of a link that loses nothing: the frames that came, and those to be sent.
+#[derive(Drop)]
+struct Cable {
+    alloc: Global,
+    came: VecDeque<Vec<u8>>,
+    sent: VecDeque<Vec<u8>>,
+}
+
+impl Cable {
+    fn new(alloc: Global) -> Cable {
+        Cable {
+            alloc,
+            came: VecDeque::new(alloc),
+            sent: VecDeque::new(alloc),
+        }
+    }
+
+    fn keeps(&mut self, frame: &[u8]) -> Result<(), AllocError> {
+        let frame = Vec::from_slice(self.alloc, frame)?;
+        self.sent.push_back(frame)?;
+        Ok(())
+    }
+
+    /// What one end sent comes to the other. How many frames it is.
+    fn carries(&mut self, other: &mut Cable) -> Result<usize, AllocError> {
+        let count = self.sent.len();
+        for _ in 0..count {
+            if let Some(frame) = self.sent.pop_front() {
+                other.came.push_back(frame)?;
+            }
+        }
+        Ok(count)
+    }
+}
+
+impl Link for Cable {
+    /// A frame for which there is no memory is lost.
+    fn send(&mut self, frame: &[u8]) {
+        let _ = self.keeps(frame);
+    }
+
+    fn receive(&mut self) -> Option<Vec<u8>> {
+        self.came.pop_front()
+    }
+}
+
+impl Model for StationBench {
+    ghost Value = { Unit {0} };
+
+    ghost view = { λ _. tt };
+}
+
+/// The files of a station: `a.txt`, which is `hello`; `ten`, which has 160 octets, no two of them
+/// alike; and `long`, which has 9,000.
+pub fn files(alloc: Global) -> Result<MemoryOutbox, AllocError> {
+    let mut files = MemoryOutbox::new(alloc);
+    files.add(owned(alloc, b"a.txt")?, owned(alloc, b"hello")?)?;
+    files.add(owned(alloc, b"ten")?, counted(alloc)?)?;
+    files.add(owned(alloc, b"long")?, vec![in alloc; b'x'; 9000]?)?;
+    Ok(files)
+}
+
+/// These octets, of which nothing more is known: so they stand in no goal.
+fn owned(alloc: Global, octets: &[u8]) -> Result<Vec<u8>, AllocError> {
+    Vec::from_slice(alloc, octets)
+}
+
+fn counted(alloc: Global) -> Result<Vec<u8>, AllocError> {
+    let mut octets = Vec::new(alloc);
+    for octet in 0..160u8 {
+        octets.push(octet)?;
+    }
+    Ok(octets)
+}
+
+impl Bench for StationBench {
+    fn does(&mut self, verb: &str, words: &str, out: &mut String) -> Result<(), AllocError> {
+        match verb {
+            "put" => self.puts(words, out),
+            "poll" => write!(out, " {:?}\n", self.station.poll()?),
+            "again" => self.polls(number(words)),
+            "burst" => self.bursts(out),
+            "flush" => Ok(self.station.flush()),
+            "take" => Ok(self.station.take(&octets(self.alloc, words)?)),
+            "tick" => self.station.tick(number(words)),
+            _ => self.says(verb, out),
+        }
+    }
+}
+
+impl Side for StationBench {
+    fn asks(
+        &mut self,
+        other: &mut Self,
+        verb: &str,
+        words: &str,
+        out: &mut String,
+    ) -> Result<(), AllocError> {
+        match verb {
+            "link" => self.joins(other, out),
+            "lose" => self.loses(other, number(words), out),
+            "pass" => self.gives(other, &mut Losses::none()),
+            "turn" => self.turns(other, number(words), out),
+            _ => self.does(verb, words, out),
+        }
+    }
+
+    fn tick(&mut self, now: u64) -> Result<(), AllocError> {
+        self.station.tick(now)
+    }
+
+    fn gives(&mut self, other: &mut Self, losses: &mut Losses) -> Result<(), AllocError> {
+        self.sends()?;
+        for _ in 0..MOST {
+            let frame = self.frame()?;
+            if frame.is_empty() {
+                break;
+            }
+            if losses.arrives() {
+                other.take(&frame);
+            }
+        }
+        Ok(())
+    }
+}
+
+impl StationBench {
+    /// A station that was asked nothing.
+    pub fn open(alloc: Global, config: StationConfig) -> Result<StationBench, AllocError> {
+        if !config.is_valid() {
+            return Err(AllocError);
+        }
+        let station = Station::new(alloc, config, files(alloc)?, MemoryInbox::new(alloc))?;
+        let cable = Cable::new(alloc);
+        Ok(StationBench {
+            alloc,
+            station,
+            cable,
+        })
+    }
+
+    fn says(&self, verb: &str, out: &mut String) -> Result<(), AllocError> {
+        match verb {
+            "ahead" => write!(out, " {}\n", self.station.frames_ahead()),
+            "told" => self.tells(out),
+            "drops" => self.tells_drops(out),
+            "inbox" => self.tells_inbox(out),
+            _ => unknown(out),
+        }
+    }
+
+    fn puts(&mut self, source: &str, out: &mut String) -> Result<(), AllocError> {
+        match self.station.put(source.as_bytes(), b"b.txt") {
+            Ok(id) => write!(out, " {}:{}\n", id.source, id.number),
+            Err(e) => write!(out, " {}\n", e.name()),
+        }
+    }
+
+    fn bursts(&mut self, out: &mut String) -> Result<(), AllocError> {
+        let mut moved = 0u64;
+        for _ in 0..MOST {
+            let polled = self.station.poll()?;
+            if polled != Polled::Moved {
+                write!(out, " {moved} {polled:?}\n")?;
+                break;
+            }
+            moved = moved.saturating_add(1);
+        }
+        Ok(())
+    }
+
+    /// The next whole frame; no octet where none waits.
+    fn frame(&mut self) -> Result<Vec<u8>, AllocError> {
+        let mut frame = vec![in self.alloc; 0u8; self.station.frame_len()]?;
+        if !self.station.next_frame(&mut frame) {
+            frame.clear();
+        }
+        Ok(frame)
+    }
+
+    /// Takes a frame.
+    pub fn take(&mut self, frame: &[u8]) {
+        self.station.take(frame);
+    }
+
+    /// The published files.
+    pub fn published(&self) -> &Files {
+        self.station.inbox().published()
+    }
+
+    fn tells(&self, out: &mut String) -> Result<(), AllocError> {
+        for told in self.station.indications() {
+            tell(told, out)?;
+        }
+        Ok(())
+    }
+
+    fn tells_drops(&self, out: &mut String) -> Result<(), AllocError> {
+        for number in 0..=u8::MAX {
+            let frames = self.station.link_drops(number);
+            if frames != 0 {
+                write!(out, " link {number} {frames}\n")?;
+            }
+            let pdus = self.station.drops(number);
+            if pdus != 0 {
+                write!(out, " pdu {number} {pdus}\n")?;
+            }
+        }
+        Ok(())
+    }
+
+    fn tells_inbox(&self, out: &mut String) -> Result<(), AllocError> {
+        for (name, octets) in self.station.inbox().published().entries().iter() {
+            tell_sum(self.alloc, name, octets, out)?;
+        }
+        Ok(())
+    }
+
+    /// Sends all that is due, into whole frames.
+    fn sends(&mut self) -> Result<(), AllocError> {
+        self.polls(u64::from(MOST))?;
+        self.station.flush();
+        Ok(())
+    }
+
+    fn polls(&mut self, count: u64) -> Result<(), AllocError> {
+        for _ in 0..count {
+            let _ = self.station.poll()?;
+        }
+        Ok(())
+    }
+
+    fn joins(&mut self, other: &mut Self, out: &mut String) -> Result<(), AllocError> {
+        for _ in 0..MOST {
+            let frame = self.frame()?;
+            if frame.is_empty() {
+                break;
+            }
+            tell_octets(self.alloc, &frame, out)?;
+            other.take(&frame);
+        }
+        Ok(())
+    }
+
+    fn loses(&mut self, other: &mut Self, lost: u64, out: &mut String) -> Result<(), AllocError> {
+        let mut left = lost;
+        let mut count = 0u64;
+        for _ in 0..MOST {
+            let frame = self.frame()?;
+            if frame.is_empty() {
+                break;
+            }
+            if left % 2 == 0 {
+                other.take(&frame);
+            }
+            left /= 2;
+            count = count.saturating_add(1);
+        }
+        write!(out, " {count}\n")
+    }
+
+    fn turns(&mut self, other: &mut Self, now: u64, out: &mut String) -> Result<(), AllocError> {
+        own_link::turn(self.alloc, &mut self.station, &mut self.cable, now)?;
+        let count = self.cable.carries(&mut other.cable)?;
+        write!(out, " {count}\n")
+    }
+}
+
+fn tell_sum(alloc: Global, name: &[u8], octets: &[u8], out: &mut String) -> Result<(), AllocError> {
+    let name = String::from_utf8_lossy(alloc, name)?;
+    let mut checksum = Checksum::new();
+    checksum.add(0, octets);
+    let (len, sum) = (octets.len(), checksum.value());
+    write!(out, " {name} {len} {sum:08X}\n")
+}
