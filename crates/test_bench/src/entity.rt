@@ -57,9 +57,13 @@ pub fn play_both(
     transcript: &str,
     out: &mut String,
 ) -> Result<(), AllocError> {
+    played(open_both(alloc, setup)?, transcript, out)
+}
+
+fn open_both(alloc: Global, setup: &str) -> Result<Joined<EntityBench>, AllocError> {
     let one = EntityBench::open(alloc, &first_entity(setup));
     let two = EntityBench::open(alloc, &second_entity(setup));
-    played(Joined::of(one, two)?, transcript, out)
+    Joined::of(one, two)
 }
 
 /// An entity over stores in memory.
