@@ -15,16 +15,18 @@
 //!     inbox         to tell each published file
 //!     sum           to tell how many of the transactions 1:1 to 1:10 and 2:1 to 2:10 are closed,
 //!                   and how many are told to be complete
+//!     prefixes PDU, replaced PDU    as in `strangers`
 //!     pass          of two that are joined: to send all that is due, and to give it to the other
 use crate::bench::{Bench, played, unknown};
 use crate::joined::{Joined, Losses, Side};
 use crate::setup::{EntitySetup, first_entity, second_entity};
+use crate::strangers::{self, Fate, Target};
 use crate::telling::tell;
 use crate::words::{number, octets, pair, tell_octets};
 use cfdp_directives::{Delivery, FileStatus, Indication, Phase};
 use cfdp_entity::{CallError, Entity, EntityConfig, EntityPolled, PutError};
 use cfdp_header::TransactionId;
-use cfdp_store::{FuseInbox, FuseOutbox, MemoryInbox, MemoryOutbox};
+use cfdp_store::{FuseInbox, FuseOutbox, Inbox, MemoryInbox, MemoryOutbox};
 use std::alloc::{AllocError, Global};
 use std::marker::Model;
 
@@ -122,8 +124,42 @@ impl Bench for EntityBench {
             "polls" => self.polls_many(words, out),
             "tick" => self.entity.tick(number(words)),
             "ask" => self.calls(words, out),
+            "prefixes" | "replaced" => strangers::asks(self.alloc, self, verb, words, out),
             _ => self.says(verb, out),
         }
+    }
+}
+
+impl Target for EntityBench {
+    fn tries(&mut self, octets: &[u8]) -> Fate {
+        let before = self.seen();
+        if self.entity.hear(octets).is_ok() {
+            Fate::Taken
+        } else if self.seen().is_one_drop_more_than(before) {
+            Fate::Refused
+        } else {
+            Fate::Broken
+        }
+    }
+}
+
+/// What is seen of an entity.
+#[derive(Clone, Copy)]
+struct Seen {
+    told: usize,
+    deadline: Option<u64>,
+    published: usize,
+    failures: u64,
+    drops: u64,
+}
+
+impl Seen {
+    fn is_one_drop_more_than(self, before: Seen) -> bool {
+        self.drops == before.drops.saturating_add(1)
+            && self.told == before.told
+            && self.deadline == before.deadline
+            && self.published == before.published
+            && self.failures == before.failures
     }
 }
 
@@ -179,6 +215,25 @@ impl EntityBench {
         }
         let entity = Entity::new(alloc, config, outbox, inbox)?;
         Ok(EntityBench { alloc, entity })
+    }
+
+    fn seen(&self) -> Seen {
+        Seen {
+            told: self.entity.indications().len(),
+            deadline: self.entity.next_deadline(),
+            published: self.entity.inbox().inner().published().entries().len(),
+            failures: self.entity.inbox().failures(),
+            drops: self.dropped(),
+        }
+    }
+
+    /// How much was dropped.
+    fn dropped(&self) -> u64 {
+        let mut count = 0u64;
+        for number in 0..32u8 {
+            count = count.saturating_add(self.entity.drops(number));
+        }
+        count
     }
 
     fn says(&self, verb: &str, out: &mut String) -> Result<(), AllocError> {

@@ -26,6 +26,7 @@ mod rules;
 mod setup;
 mod station;
 mod stores;
+mod strangers;
 mod telling;
 mod timers;
 mod words;

@@ -12,6 +12,7 @@
 //!     pass        to send all that is due, and to give it to the other station
 //!     turn TIME   one turn over a link of its own: how many frames went out
 //!     take FRAME  to take these octets
+//!     prefixes FRAME, replaced FRAME, storm SEED COUNT FRAME    as in `strangers`
 //!     tick TIME   to take note of the time
 //!     told        to tell all that was indicated
 //!     drops       to tell what was dropped, of the link and of the PDUs that came up, by number
@@ -26,14 +27,18 @@ use crate::bench::{Bench, played, unknown};
 use crate::joined::{Joined, Losses, Side};
 use crate::own_link::{self, Link};
 use crate::setup::{first_station, second_station};
+use crate::strangers::{self, Fate, Target};
 use crate::telling::tell;
 use crate::words::{number, octets, pair, tell_octets};
 use cfdp_directives::Checksum;
 use cfdp_station::{Polled, Station, StationConfig};
-use cfdp_store::{Files, MemoryInbox, MemoryOutbox};
+use cfdp_store::{Files, Inbox, MemoryInbox, MemoryOutbox};
 use std::alloc::{AllocError, Global};
 use std::collections::VecDeque;
 use std::marker::Model;
+
+/// The last of the numbers by which whole frames are refused.
+const LAST_OF_FRAMES: u8 = 6;
 
 /// The most PDUs sent at once, and frames taken.
 const MOST: u8 = 200;
@@ -258,8 +263,48 @@ impl Bench for StationBench {
             "flush" => Ok(self.station.flush()),
             "take" => Ok(self.station.take(&octets(self.alloc, words)?)),
             "tick" => self.station.tick(number(words)),
+            "prefixes" | "replaced" | "storm" => {
+                strangers::asks(self.alloc, self, verb, words, out)
+            }
             _ => self.says(verb, out),
         }
+    }
+}
+
+impl Target for StationBench {
+    fn tries(&mut self, octets: &[u8]) -> Fate {
+        let before = self.seen();
+        self.station.take(octets);
+        let now = self.seen();
+        if now.frames == before.frames {
+            Fate::Taken
+        } else if now.is_one_frame_more_than(before) {
+            Fate::Refused
+        } else {
+            Fate::Broken
+        }
+    }
+}
+
+/// What is seen of a station: the frames that it refused stand apart from all else that it dropped.
+#[derive(Clone, Copy)]
+struct Seen {
+    told: usize,
+    deadline: Option<u64>,
+    published: usize,
+    failures: u64,
+    frames: u64,
+    drops: u64,
+}
+
+impl Seen {
+    fn is_one_frame_more_than(self, before: Seen) -> bool {
+        self.frames == before.frames.saturating_add(1)
+            && self.drops == before.drops
+            && self.told == before.told
+            && self.deadline == before.deadline
+            && self.published == before.published
+            && self.failures == before.failures
     }
 }
 
@@ -312,6 +357,28 @@ impl StationBench {
             station,
             cable,
         })
+    }
+
+    fn seen(&self) -> Seen {
+        let mut frames = 0u64;
+        let mut drops = 0u64;
+        for number in 0..32u8 {
+            let of_link = self.station.link_drops(number);
+            if number <= LAST_OF_FRAMES {
+                frames = frames.saturating_add(of_link);
+            } else {
+                drops = drops.saturating_add(of_link);
+            }
+            drops = drops.saturating_add(self.station.drops(number));
+        }
+        Seen {
+            told: self.station.indications().len(),
+            deadline: self.station.next_deadline(),
+            published: self.published().entries().len(),
+            failures: self.station.inbox().failures(),
+            frames,
+            drops,
+        }
     }
 
     fn says(&self, verb: &str, out: &mut String) -> Result<(), AllocError> {

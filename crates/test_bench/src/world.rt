@@ -9,11 +9,13 @@
 //!     inbox S          to tell each published file
 //!     replay           a station of its own takes the frames that were delivered to the second
 //!                      one, and tells each published file
+//!     fronts           another takes each proper prefix of these frames, as in `strangers`
 //!     losses N         so many frames were struck in a row
 //!     lose, arrive     whether one more may be struck; and one arrives
 use crate::bench::{Bench, played, unknown};
 use crate::setup::{first_station, second_station};
 use crate::station::{StationBench, files};
+use crate::strangers;
 use crate::words::{narrow, number, pair, tell_octets, text};
 use cfdp_directives::Octets;
 use cfdp_station::StationConfig;
@@ -62,6 +64,7 @@ impl Bench for WorldBench {
             "strike" => self.applies(&Event::Strike(side(first)), out),
             "settle" => self.settles(out),
             "replay" => self.replays(out),
+            "fronts" => self.cuts(out),
             _ => self.tells(verb, words, out),
         }
     }
@@ -125,6 +128,12 @@ impl WorldBench {
         let mut station = StationBench::open(self.alloc, self.two)?;
         take_all(&mut station, &frames);
         tell_files(self.alloc, station.published(), out)
+    }
+
+    fn cuts(&self, out: &mut String) -> Result<(), AllocError> {
+        let frames = recorded(self.alloc, self.world.frames(Side::One))?;
+        let mut station = StationBench::open(self.alloc, self.two)?;
+        strangers::prefixes_of_all(&mut station, &frames, out)
     }
 }
 
