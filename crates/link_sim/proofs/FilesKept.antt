@@ -8,7 +8,7 @@ use Rattle.cfdp_directives.specs.declared.handler.Handler.TheVariants.{Cancel, S
 use Rattle.cfdp_directives.specs.declared.indication.Indication.TheVariants as indication
 use Rattle.cfdp_directives.specs.declared.limits.Times.{Times}
 use Rattle.cfdp_directives.specs.declared.policy.Policy.{Policy}
-use Rattle.cfdp_directives.specs.Codes.{nak_limit, inactivity, positive_ack_limit, cancel_request, suspend_request}
+use Rattle.cfdp_directives.specs.Codes.{nak_limit, inactivity, cancel_request, suspend_request}
 use Rattle.cfdp_directives.specs.Policy.{another_try}
 use Rattle.cfdp_store.specs.declared.stored.Stored.{Stored}
 use Rattle.cfdp_store.specs.declared.stored.Stored.TheVariants as storeds
@@ -27,7 +27,7 @@ use Rattle.cfdp_receiver.specs.Steps as receiver
 use Rattle.cfdp_entity.specs.declared.call.Call.{Call}
 use Rattle.cfdp_entity.specs.declared.call.Call.TheVariants as call
 use Rattle.cfdp_entity.specs.Seen.{Seen, Sends, Receives}
-use Rattle.cfdp_entity.specs.Steps.{After, calls, called_receiver, expires, receiver_takes, sender_takes, takes}
+use Rattle.cfdp_entity.specs.Steps.{After, calls, expires, receiver_takes, sender_takes, takes}
 use Rattle.cfdp_entity.specs.Calling.{called_in}
 use Rattle.cfdp_entity.specs.Entity.{EntityState}
 use Rattle.cfdp_entity.specs.Polling.{Turn, Stray, Place, Rests, turn, served}

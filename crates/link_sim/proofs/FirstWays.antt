@@ -6,11 +6,11 @@ use Rattle.aos_frame.specs.declared.config.LinkConfig.{LinkConfig}
 use Rattle.link_stack.specs.Downward.{LinkSenderState, IsDown}
 use Rattle.link_stack.specs.Upward.{LinkReceiverState, IsUp}
 use Rattle.link_stack.proofs.Grown.{new_is}
-use Rattle.cfdp_station.specs.Station.{StationState, first_down, first_up}
+use Rattle.cfdp_station.specs.Station.{first_down, first_up}
 use Rattle.link_sim.specs.declared.side.Side.{Side}
 use Rattle.link_sim.specs.declared.side.Side.TheVariants.{One, Two}
 use Rattle.link_sim.specs.declared.world_config.WorldConfig.{WorldConfig}
-use Rattle.link_sim.specs.OneWay.{OneWayState, IsOneWay, IsRested}
+use Rattle.link_sim.specs.OneWay.{IsOneWay, IsRested}
 use Rattle.link_sim.specs.World.{WorldState, LinkState, IsFirst, no_frames, way, way_from}
 use Rattle.link_sim.specs.WorldConfig.{IsWorldConfig}
 use Rattle.link_sim.proofs.OnWayRests.{rests-unflushed}

@@ -1,5 +1,5 @@
 -- Events that happen one after another.
-use Rattle.std.proofs.Common.{◌≡◌, List, [], ◌∷◌, ◌++◌, refl, subst}
+use Rattle.std.proofs.Common.{List, [], ◌∷◌, ◌++◌, refl, subst}
 use Rattle.link_sim.specs.Running.{AreSteps, Happens}
 use Rattle.link_sim.specs.World.{WorldState, Steps}
 use Rattle.link_sim.specs.declared.event.Event.{Event}

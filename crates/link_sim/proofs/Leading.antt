@@ -11,7 +11,7 @@ use Rattle.link_sim.specs.declared.side.Side.{Side}
 use Rattle.link_sim.specs.Recovering.{AreRounds, EndsBy, Recovers, Round, RoundEnds, TickEnds}
 use Rattle.link_sim.specs.Running.{Called, Goes, Led}
 use Rattle.link_sim.specs.Settling.{AreOfSettling, GoesWellFrom, Ends, HasCauseFrom, IsOfSettling}
-use Rattle.link_sim.specs.Spreading.{BurstFindsNoMemory, Bursts, FlushesOnce, PollFindsNoMemory, PollMoves, Many, PollsAll, SendsOut, SpreadFindsNoMemory, Spreads, Times}
+use Rattle.link_sim.specs.Spreading.{BurstFindsNoMemory, Bursts, FlushesOnce, PollMoves, Many, PollsAll, SendsOut, SpreadFindsNoMemory, Spreads, Times}
 use Rattle.link_sim.specs.World.{WorldState, FindsNoMemory, Steps, side_in}
 use Rattle.link_sim.proofs.Resting.{puts-after}
 

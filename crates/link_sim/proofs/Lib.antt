@@ -5,6 +5,8 @@ pub mod Receiving
 pub mod Pulling
 pub mod Carried
 pub mod AtStations
+pub mod Behind
+pub mod Aside
 pub mod PutsFound
 pub mod Keeping
 pub mod Moving

@@ -66,7 +66,7 @@ pub last_whole : (ps : List (List ℕ)) (q : List ℕ) → ArePackets (ps ++ q �
 last_whole [] q h = h.0
 last_whole (p ∷ ps) q h = last_whole ps q h.1
 
-last_of_link : (link : LinkConfig) (ps : List (List ℕ)) (q : List ℕ) → AreOfLink link (ps ++ q ∷ []) → (is_idle q ≡ true) ⊎ (packet_drop link q ≡ None)
+pub last_of_link : (link : LinkConfig) (ps : List (List ℕ)) (q : List ℕ) → AreOfLink link (ps ++ q ∷ []) → (is_idle q ≡ true) ⊎ (packet_drop link q ≡ None)
 last_of_link link [] q h = h.0
 last_of_link link (p ∷ ps) q h = last_of_link link ps q h.1
 

@@ -1,5 +1,5 @@
 -- Polls and flushes of one station, one after another.
-use Rattle.std.proofs.Common.{◌≡◌, ℕ, suc, Bool, true, false, ◌⊎◌, inl, inr, refl, Result, Ok, Err}
+use Rattle.std.proofs.Common.{◌≡◌, ℕ, suc, Bool, true, false, inl, inr, refl, Result, Ok, Err}
 use Rattle.std.specs.Result.{OnErr}
 use Rattle.link_sim.specs.Spreading.{BurstFindsNoMemory, Bursts, FlushesOnce, PollFindsNoMemory, PollMoves, PollRests, PollsAll, SendsOut, SpreadFindsNoMemory, Spreads, Times}
 use Rattle.link_sim.specs.World.{WorldState, FindsNoMemory, Steps}

@@ -29,7 +29,7 @@ pub sends : (l : OneWayState) (d : LinkSenderState) (pdu : List ℕ) → IsOneWa
 sends l d pdu is down one waits link = sends_one l d (packet_of l.down.link l.down.packet_count pdu) (pdu ∷ []) is down waits link one
 
 -- a list of one item at most
-one_at_most : {A : Type 0} (xs : List A) → length xs ≤ 1 → (xs ≡ []) ⊎ ((x : A) × (xs ≡ x ∷ []))
+pub one_at_most : {A : Type 0} (xs : List A) → length xs ≤ 1 → (xs ≡ []) ⊎ ((x : A) × (xs ≡ x ∷ []))
 one_at_most [] h = inl refl
 one_at_most (x ∷ []) h = inr (x, refl)
 one_at_most (x ∷ y ∷ xs) h = absurd (omega arith)

@@ -1,6 +1,6 @@
 -- Proof-only: one transaction, that is a sender, a receiver or none yet, and the
 -- PDUs on their way between them (CCSDS 727.0-B-5, 5.2 and 5.3).
-use Rattle.std.specs.Prelude.{◌≡◌, ℕ, ◌+◌, ◌≤◌, ◌==◌, ◌&&◌, not, Bool, true, false, List, [], ◌∷◌, length, is_some, Option, Some, None}
+use Rattle.std.specs.Prelude.{◌≡◌, ℕ, ◌+◌, ◌≤◌, ◌==◌, ◌&&◌, Bool, true, false, List, [], ◌∷◌, length, is_some, Option, Some, None}
 use Rattle.std.specs.List.{list_any}
 use Rattle.std.specs.FinSet as set
 use Rattle.cfdp_header.specs.declared.value.TransactionId.{TransactionId}
@@ -10,7 +10,7 @@ use Rattle.cfdp_directives.specs.declared.codes.Delivery.TheVariants.{Complete}
 use Rattle.cfdp_directives.specs.declared.codes.FileStatus.TheVariants.{Retained}
 use Rattle.cfdp_directives.specs.declared.indication.Indication.{Indication}
 use Rattle.cfdp_directives.specs.declared.indication.Indication.TheVariants as indication
-use Rattle.cfdp_directives.specs.Codes.{no_error, inactivity}
+use Rattle.cfdp_directives.specs.Codes.{no_error}
 use Rattle.cfdp_directives.specs.Completions.{is_complete}
 use Rattle.cfdp_directives.specs.Content.{Content, FileData, Metadata, Eof, Finished, Ack, Nak, Prompt, KeepAlive}
 use Rattle.cfdp_directives.specs.Put.{Put}

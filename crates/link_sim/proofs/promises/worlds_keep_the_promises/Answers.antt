@@ -1,5 +1,4 @@
 use Rattle.std.proofs.Common.{◌≡◌, ◌∙◌, refl, inl, inr, subst, sym}
-use Rattle.cfdp_header.specs.Files.{FileMap}
 use Rattle.link_sim.specs.Courses.{KeepsPuts}
 use Rattle.link_sim.specs.Observed.{seen}
 use Rattle.link_sim.specs.OneWay.{IsRested}
