@@ -23,4 +23,5 @@ pub mod Chart
 pub mod Turn
 pub mod Wire
 pub mod Looping
+pub mod InOrder
 pub mod LoopRequest

@@ -1,0 +1,30 @@
+//! What holds of a file's way over wires that lose frames, or bring them in order.
+ghost use Rattle.std.specs.Prelude.{◌≡◌, ℕ, List, Ok};
+ghost use Rattle.cfdp_header.specs.Files.{FileMap};
+ghost use Rattle.cfdp_header.specs.declared.value.TransactionId.{TransactionId};
+ghost use Rattle.cfdp_station.specs.Station.{StationState};
+ghost use Rattle.link_sim.specs.World.{IsFirstAt};
+ghost use Rattle.link_sim.specs.WorldConfig.{IsWorldConfig};
+ghost use Rattle.link_sim.specs.declared.world_config.WorldConfig.{WorldConfig};
+ghost use Rattle.cfdp_node.specs.InOrder.{AreOfWorld, PassInOrder, Passage};
+ghost use Rattle.cfdp_node.specs.Looping.{LoopState, Puts, Turns};
+
+use crate::wire::Wire;
+
+/// Over wires that lose frames or bring them in the order in which they were sent, two stations
+/// that take turns are those of a world: each call was the event of its name, a frame that came was
+/// delivered, and one that a later frame passed was struck. So all that is promised of a world
+/// holds of them, whatever was lost. `Turns` are those of `run_loop`, from its put on.
+pub fn turns_are_of_a_world<W: Wire>()
+    ensures { (c : WorldConfig) (outboxes inboxes : FileMap × FileMap)
+        (source destination : List ℕ) (id : TransactionId) (every count : ℕ)
+        (first : LoopState W) (one : StationState) (last : LoopState W) (passed : Passage)
+        → IsWorldConfig c → IsFirstAt c.one outboxes.0 inboxes.0 first.one
+        → IsFirstAt c.two outboxes.1 inboxes.1 first.two
+        → Puts source destination (Ok id) first.one one
+        → (turns : Turns W.steps id every count (record first { one = one }) last)
+        → PassInOrder W.steps id every count (record first { one = one }) last turns passed
+        → AreOfWorld c outboxes inboxes last.one last.two }
+{
+    link_sim::worlds_keep_the_promises();
+}
