@@ -173,7 +173,8 @@ class Refusals:
             front = mine[: -len(last)] if mine[-len(last) :] == last else mine
             if it == station and front == mine or not is_front(front, of_it(own[it])):
                 return False
-            if not is_part(others(told[it]), others(own[it])):
+            rest, whole = others(told[it]), others(own[it])
+            if not (is_part(rest, whole) if failed else rest == whole):
                 return False
         return all(self.lines[it - 1] in SETTLING for it in failed) and answers == {
             **own_answers,
