@@ -30,8 +30,8 @@ def files_of(script):
 
 
 def folded(script, report):
-    """The lines that must end a report: the file of each completed put over those before it, and how
-    many puts were completed."""
+    """The lines that must end a report: the file of each completed put over those before it, and
+    how many puts were completed."""
     files, puts, inboxes, complete = files_of(script), {}, {}, 0
     for it in (line.split(" ") for line in report.split("\n")):
         if it[1:2] == ["metadata"]:
@@ -152,16 +152,16 @@ class Refusals:
                 yield answers, told
 
     def is_ended(self, number, answers, told):
-        """Whether settling or recovering, with which a script ends, was broken off: what was told is
-        a part of what the whole run tells. At which event it was no report says."""
+        """Whether settling or recovering, with which a script ends, was broken off: what was told
+        is a part of what the whole run tells. At which event it was no report says."""
         own_answers, own = self.own
         is_last = not any(self.lines[number:])
         parts = all(is_part(told[it], own[it]) for it in own)
         return is_last and answers == {**own_answers, number: "NoMemory"} and parts
 
     def is_given_up(self, station, name, answers, told):
-        """Whether one call of the inbox failed: that transaction ended with fault 4, and all else is
-        a part of what the whole run tells, in which settling may have been broken off."""
+        """Whether one call of the inbox failed: that transaction ended with fault 4, and all else
+        is as in the whole run, or a part of it where that broke off settling."""
         own_answers, own = self.own
         failed = [it for it in answers if answers[it] == "StoreFailed"]
         ends = [["finished", name, "4", "incomplete", "rejected"]]
