@@ -5,9 +5,13 @@
  *   interruptions   each read comes after an interruption
  *   one-by-one      a read gives one octet
  *   unreadable      at the end of the input a read fails
+ *   endless         the input never ends
+ *   shortened=N     a file ends behind N octets that were read of it
+ *   torn=N          behind N octets a file can't be read
  *   room=N          writes take N octets in all, and then the disk is full
  *   full-once       the first write finds the disk full, and later ones don't
  *   disk=N          files take N octets in all, and then the disk is full
+ *   file-size=N     the system lets no file have more than N octets
  *   no-sync         no file can be flushed to its device
  *   no-rename       no file can be renamed
  *   no-unlink       no file can be removed
@@ -22,9 +26,12 @@
 #include <dlfcn.h>
 #include <errno.h>
 #include <fcntl.h>
+#include <signal.h>
 #include <stdarg.h>
+#include <stdint.h>
 #include <stdlib.h>
 #include <string.h>
+#include <sys/resource.h>
 #include <sys/socket.h>
 #include <sys/stat.h>
 #include <sys/uio.h>
@@ -39,24 +46,66 @@ static const char *fault(const char *name)
 /* The function of the C library that this one stands in front of. */
 #define NEXT(name) dlsym(RTLD_NEXT, name)
 
+/* The number behind a fault of this name, or else `none`. */
+static size_t number(const char *name, size_t none)
+{
+    const char *found = fault(name);
+    return found ? strtoul(found + strlen(name), NULL, 10) : none;
+}
+
+/* Reads of a file what the faults leave of it. */
+static ssize_t read_file(int fd, void *to, size_t count)
+{
+    ssize_t (*next)(int, void *, size_t) = NEXT("read");
+    static size_t given = 0;
+    size_t torn = number("torn=", SIZE_MAX), end = number("shortened=", torn);
+    struct stat it;
+    if (end == SIZE_MAX || fstat(fd, &it) != 0 || !S_ISREG(it.st_mode))
+        return next(fd, to, count);
+    if (given == torn) {
+        errno = EIO;
+        return -1;
+    }
+    ssize_t got = next(fd, to, count < end - given ? count : end - given);
+    if (got > 0)
+        given += (size_t)got;
+    return got;
+}
+
 ssize_t read(int fd, void *to, size_t count)
 {
     ssize_t (*next)(int, void *, size_t) = NEXT("read");
     static int was_interrupted = 0;
     if (fd != STDIN_FILENO)
-        return next(fd, to, count);
+        return read_file(fd, to, count);
+    size_t most = fault("one-by-one") && count > 1 ? 1 : count;
+    if (fault("endless")) {
+        memset(to, '\n', most);
+        return (ssize_t)most;
+    }
     if (fault("interrupted") || (fault("interruptions") && !was_interrupted)) {
         was_interrupted = 1;
         errno = EINTR;
         return -1;
     }
     was_interrupted = 0;
-    ssize_t got = next(fd, to, fault("one-by-one") && count > 1 ? 1 : count);
+    ssize_t got = next(fd, to, most);
     if (got == 0 && fault("unreadable")) {
         errno = EPIPE;
         return -1;
     }
     return got;
+}
+
+/* A limit of the system itself: what passes it fails, since the signal is ignored. */
+__attribute__((constructor)) static void limit_files(void)
+{
+    size_t most = number("file-size=", SIZE_MAX);
+    struct rlimit limit = {most, most};
+    if (most == SIZE_MAX)
+        return;
+    signal(SIGXFSZ, SIG_IGN);
+    setrlimit(RLIMIT_FSIZE, &limit);
 }
 
 /* How many octets a write may take; -1 where the disk is full. */

@@ -1,6 +1,9 @@
 """Sweeps: a run of the program again and again, with another thing going wrong in each."""
+import itertools
 import re
 
+# Commands of many events, which end at the first in which something was short.
+SETTLING = ("settle", "recover")
 # What a run says of a refused growth of memory, apart from its report.
 AT_START = ("", "")
 UNSHOWN = "error: there is not enough memory to show what passes\n"
@@ -27,40 +30,156 @@ def files_of(script):
 
 
 def folded(script, report):
-    """The inbox lines that a report must have: the file of each completed put over those before it."""
-    files, puts, inboxes = files_of(script), {}, {}
+    """The lines that must end a report: the file of each completed put over those before it, and
+    how many puts were completed."""
+    files, puts, inboxes, complete = files_of(script), {}, {}, 0
     for it in (line.split(" ") for line in report.split("\n")):
         if it[1:2] == ["metadata"]:
             puts[it[0], it[2]] = it[3], it[4]
         elif it[1:2] == ["finished"] and it[3:] == ["0", "complete", "retained"]:
             sender = it[2].split(":")[0]
-            if sender != it[0]:
+            if sender == it[0]:
+                complete += 1
+            else:
                 source, destination = puts[it[0], it[2]]
                 inboxes[it[0], destination] = files[sender, source]
+    asked = sum(1 for line in script.split("\n") if line.startswith("put "))
     return [
-        f"inbox {station} {name} {len(octets)} {checksum_of(octets):08X}"
-        for (station, name), octets in sorted(inboxes.items())
+        *(
+            f"inbox {station} {name} {len(octets)} {checksum_of(octets):08X}"
+            for (station, name), octets in sorted(inboxes.items())
+        ),
+        f"complete {complete} of {asked}",
     ]
 
 
 def is_folded(script, report):
-    """Whether a report's inboxes are what its completions make of empty ones."""
-    return [it for it in report.split("\n") if it.startswith("inbox ")] == folded(script, report)
+    """Whether a report ends as what it tells asks for."""
+    ends = ("inbox ", "complete ")
+    return [it for it in report.split("\n") if it.startswith(ends)] == folded(script, report)
 
 
-def answers(report):
-    """The answers of commands that a report tells, in order."""
-    return [it for it in report.split("\n") if it.startswith("line ")]
+def parted(report):
+    """A report in two: the answers of commands, by line, and what the stations told, by station and
+    in order."""
+    answers, told = {}, {"1": [], "2": []}
+    for it in (line.split(" ") for line in report.split("\n")):
+        if it[0] == "line":
+            answers[int(it[1])] = it[2]
+        elif it[0] in told:
+            told[it[0]].append(it[1:])
+    return answers, told
 
 
-def is_told(own, report, explained):
-    """Whether a run tells that a growth was refused: as the answer of a command, as a drop, or as a
-    fault of the inbox. Of the answers that the whole run hasn't, want of memory is the first."""
-    others = [it for it in answers(report) if it not in answers(own)]
-    if others and others[0].endswith(" NoMemory"):
-        return True
-    has_fault = re.search(r"(?m)^[12] fault [0-9:]+ 4$", report)
-    return bool(has_fault or DROPPED.search(explained))
+def is_front(part, whole):
+    """Whether a list begins another."""
+    return part == whole[: len(part)]
+
+
+def is_part(part, whole):
+    """Whether a list is another one without some of its items."""
+    left = iter(whole)
+    return all(it in left for it in part)
+
+
+class Refusals:
+    """What runs of a script may report of which one growth of memory was refused, by the reports of
+    runs that had all their memory. `run` gives the report of a script."""
+
+    def __init__(self, run, script):
+        self.run, self.lines, self.own = run, script.split("\n"), parted(run(script))
+        self.cuts, self.strikes = {}, []
+
+    def allow(self, report, explained):
+        """Whether this may be such a report: of which command says NoMemory, or which fault it
+        tells, or whether a drop is explained."""
+        answers, told = parted(report)
+        wanting = [number for number, name in answers.items() if name == "NoMemory"]
+        fault = re.search(r"(?m)^([12]) fault ([0-9:]+) 4$", report)
+        if wanting and self.lines[wanting[0] - 1] in SETTLING:
+            return self.is_ended(wanting[0], answers, told)
+        if wanting:
+            return (answers, told) in self.cut(wanting[0])
+        if fault:
+            return self.is_given_up(*fault.groups(), answers, told)
+        return bool(DROPPED.search(explained)) and (answers, told) in self.struck()
+
+    def cut(self, number):
+        """The reports where this command made only its first events, or none, and said NoMemory."""
+        if number not in self.cuts:
+            self.cuts[number] = list(self.cuts_of(number))
+        return self.cuts[number]
+
+    def cuts_of(self, number):
+        verb, station = self.lines[number - 1].split(" ")[:2]
+        if verb == "put":
+            yield self.with_others(number, [f"put {station} no-such-file x"])[0]
+            return
+        yield self.with_others(number, ["#"])[0]
+        events = {"spread": ["poll", "flush"], "burst": ["poll"]}.get(verb, [])
+        for count in itertools.count(1) if events else ():
+            made = itertools.islice(itertools.cycle(events), count)
+            report, inner = self.with_others(number, [f"{it} {station}" for it in made])
+            if inner:
+                return
+            yield report
+
+    def with_others(self, number, commands):
+        """The report where other commands stand in the place of one that says NoMemory, and what
+        they answered themselves."""
+        lines, more = list(self.lines), len(commands) - 1
+        lines[number - 1 : number] = commands
+        answers, told = parted(self.run("\n".join(lines)))
+        inner = [answers.pop(it, None) for it in range(number, number + more + 1)]
+        shifted = {it if it < number else it - more: name for it, name in answers.items()}
+        return ({**shifted, number: "NoMemory"}, told), [it for it in inner if it]
+
+    def struck(self):
+        """The reports where one of the frames that commands deliver is struck."""
+        if not self.strikes:
+            self.strikes = list(self.strikes_of())
+        return self.strikes
+
+    def strikes_of(self):
+        for number, line in enumerate(self.lines, 1):
+            verb, station, *most = [*line.split(" "), ""][:3]
+            for before in range(int(most[0] or 1)) if verb == "deliver" else ():
+                behind = int(most[0] or 1) - before - 1
+                parts = [("deliver", before), ("strike", 1), ("deliver", behind)]
+                others = [f"{it} {station} {count}" for it, count in parts if count]
+                (answers, told), _ = self.with_others(number, others)
+                del answers[number]
+                yield answers, told
+
+    def is_ended(self, number, answers, told):
+        """Whether settling or recovering, with which a script ends, was broken off: what was told
+        is a part of what the whole run tells. At which event it was no report says."""
+        own_answers, own = self.own
+        is_last = not any(self.lines[number:])
+        parts = all(is_part(told[it], own[it]) for it in own)
+        return is_last and answers == {**own_answers, number: "NoMemory"} and parts
+
+    def is_given_up(self, station, name, answers, told):
+        """Whether one call of the inbox failed: that transaction ended with fault 4, and all else
+        is as in the whole run, or a part of it where that broke off settling."""
+        own_answers, own = self.own
+        failed = [it for it in answers if answers[it] == "StoreFailed"]
+        ends = [["finished", name, "4", "incomplete", "rejected"]]
+        ends_here = [["fault", name, "4"], *ends]
+        for it in own:
+            of_it = lambda lines: [line for line in lines if line[1] == name]
+            others = lambda lines: [line for line in lines if line[1] != name]
+            mine, last = of_it(told[it]), ends_here if it == station else ends
+            front = mine[: -len(last)] if mine[-len(last) :] == last else mine
+            if it == station and front == mine or not is_front(front, of_it(own[it])):
+                return False
+            rest, whole = others(told[it]), others(own[it])
+            if not (is_part(rest, whole) if failed else rest == whole):
+                return False
+        return all(self.lines[it - 1] in SETTLING for it in failed) and answers == {
+            **own_answers,
+            **{it: "StoreFailed" for it in failed},
+        }
 
 
 def memory_mistakes(program, row, most=20000):
@@ -68,6 +187,7 @@ def memory_mistakes(program, row, most=20000):
     answer stands in its place; what was published is what was told complete."""
     script, words = "".join(row.given), [*row.words, "--explain"]
     own = program.run(words, script)
+    refusals = Refusals(lambda it: program.run(row.words, it)[1], script)
     unseen = []
     for turn in range(1, most):
         status, report, explained, left = program.run(words, script, f"memory={turn} mark")
@@ -76,8 +196,6 @@ def memory_mistakes(program, row, most=20000):
                 yield f"refusing none of {turn - 1} growths, it wrote {report} and {explained}"
             row.swept = turn - 1, unseen
             return
-        if not is_folded(script, report):
-            yield f"with growth {turn} refused, it published what it didn't tell: {report}"
         if (status, report, explained) == own[:3]:
             unseen.append(turn)
         elif status == 3 and (report, explained) == AT_START:
@@ -85,7 +203,9 @@ def memory_mistakes(program, row, most=20000):
         elif explained == UNSHOWN:
             if report != own[1] or status != 3:
                 yield f"with growth {turn} refused, only showing it failed, but it wrote {report}"
-        elif not is_told(own[1], report, explained):
+        elif not is_folded(script, report):
+            yield f"with growth {turn} refused, it published what it didn't tell: {report}"
+        elif not refusals.allow(report, explained):
             yield f"with growth {turn} refused, it ended with {status}: {report}, {explained}"
     yield f"it asks for more than {most} growths of memory"
 

@@ -15,6 +15,7 @@
 //!     prefixes FRAME, replaced FRAME, storm SEED COUNT FRAME    as in `strangers`
 //!     tick TIME   to take note of the time
 //!     told        to tell all that was indicated
+//!     of S:N      the same, of one transaction
 //!     drops       to tell what was dropped, of the link and of the PDUs that came up, by number
 //!     inbox       to tell each published file, with its length and its checksum
 //!
@@ -28,17 +29,22 @@ use crate::joined::{Joined, Losses, Side};
 use crate::own_link::{self, Link};
 use crate::setup::{first_station, second_station};
 use crate::strangers::{self, Fate, Target};
-use crate::telling::tell;
-use crate::words::{number, octets, pair, tell_octets};
+use crate::telling::{id_of, tell};
+use crate::words::{id, number, octets, pair, tell_octets};
 use cfdp_directives::Checksum;
+use cfdp_header::TransactionId;
 use cfdp_station::{Polled, Station, StationConfig};
 use cfdp_store::{Files, Inbox, MemoryInbox, MemoryOutbox};
+use link_stack::Up;
 use std::alloc::{AllocError, Global};
 use std::collections::VecDeque;
 use std::marker::Model;
 
-/// The last of the numbers by which whole frames are refused.
+/// The last of the numbers by which whole frames are refused, by which the link drops anything, and
+/// by which PDUs are dropped.
 const LAST_OF_FRAMES: u8 = 6;
+const LAST_OF_LINK: u8 = 11;
+const LAST_OF_PDUS: u8 = 17;
 
 /// The most PDUs sent at once, and frames taken.
 const MOST: u8 = 200;
@@ -170,12 +176,15 @@ fn tell_answers(
     }
 }
 
-/// One station, and its end of a link of its own.
+/// One station, and its end of a link of its own. A receiving end beside it takes the same frames,
+/// to show which PDUs came in the last one.
 #[derive(Drop)]
 pub struct StationBench {
     alloc: Global,
     station: Station<MemoryOutbox, MemoryInbox>,
     cable: Cable,
+    up: Up,
+    came: Vec<Vec<u8>>,
 }
 
 /// One end of a link that loses nothing: the frames that came, and those to be sent.
@@ -261,7 +270,8 @@ impl Bench for StationBench {
             "again" => self.polls(number(words)),
             "burst" => self.bursts(out),
             "flush" => Ok(self.station.flush()),
-            "take" => Ok(self.station.take(&octets(self.alloc, words)?)),
+            "take" => Ok(self.take(&octets(self.alloc, words)?)),
+            "of" => self.tells_of(id(words), out),
             "tick" => self.station.tick(number(words)),
             "prefixes" | "replaced" | "storm" => {
                 strangers::asks(self.alloc, self, verb, words, out)
@@ -274,34 +284,56 @@ impl Bench for StationBench {
 impl Target for StationBench {
     fn tries(&mut self, octets: &[u8]) -> Fate {
         let before = self.seen();
-        self.station.take(octets);
-        let now = self.seen();
-        if now.frames == before.frames {
-            Fate::Taken
-        } else if now.is_one_frame_more_than(before) {
+        self.take(octets);
+        self.seen().fate(before, self.came.len() as u64)
+    }
+}
+
+/// What is seen of a station: how many frames it refused, how often it dropped something else of a
+/// frame, how many PDUs it dropped, and what only PDUs change that it heard.
+#[derive(Clone, Copy)]
+struct Seen {
+    frames: u64,
+    zones: u64,
+    pdus: u64,
+    told: usize,
+    deadline: Option<u64>,
+    published: usize,
+    failures: u64,
+}
+
+impl Seen {
+    /// What became of a frame that gave so many PDUs.
+    fn fate(self, before: Seen, came: u64) -> Fate {
+        if self.frames == before.frames {
+            if self.has_heard(before, came) {
+                Fate::Taken
+            } else {
+                Fate::Broken
+            }
+        } else if self.is_one_frame_more_than(before) && came == 0 {
             Fate::Refused
         } else {
             Fate::Broken
         }
     }
-}
 
-/// What is seen of a station: the frames that it refused stand apart from all else that it dropped.
-#[derive(Clone, Copy)]
-struct Seen {
-    told: usize,
-    deadline: Option<u64>,
-    published: usize,
-    failures: u64,
-    frames: u64,
-    drops: u64,
-}
-
-impl Seen {
     fn is_one_frame_more_than(self, before: Seen) -> bool {
         self.frames == before.frames.saturating_add(1)
-            && self.drops == before.drops
-            && self.told == before.told
+            && self.zones == before.zones
+            && self.pdus == before.pdus
+            && self.is_still(before)
+    }
+
+    /// Whether no more of these PDUs were dropped than came, and nothing else changed where all of
+    /// them were.
+    fn has_heard(self, before: Seen, came: u64) -> bool {
+        let dropped = self.pdus.saturating_sub(before.pdus);
+        dropped < came || (dropped == came && self.is_still(before))
+    }
+
+    fn is_still(self, before: Seen) -> bool {
+        self.told == before.told
             && self.deadline == before.deadline
             && self.published == before.published
             && self.failures == before.failures
@@ -350,35 +382,43 @@ impl StationBench {
         if !config.is_valid() {
             return Err(AllocError);
         }
+        let up = Up::new(alloc, config.up)?;
         let station = Station::new(alloc, config, files(alloc)?, MemoryInbox::new(alloc))?;
-        let cable = Cable::new(alloc);
         Ok(StationBench {
             alloc,
             station,
-            cable,
+            cable: Cable::new(alloc),
+            up,
+            came: Vec::new(alloc),
         })
     }
 
     fn seen(&self) -> Seen {
-        let mut frames = 0u64;
-        let mut drops = 0u64;
-        for number in 0..32u8 {
-            let of_link = self.station.link_drops(number);
-            if number <= LAST_OF_FRAMES {
-                frames = frames.saturating_add(of_link);
-            } else {
-                drops = drops.saturating_add(of_link);
-            }
-            drops = drops.saturating_add(self.station.drops(number));
-        }
         Seen {
+            frames: self.dropped_by_link(1, LAST_OF_FRAMES),
+            zones: self.dropped_by_link(LAST_OF_FRAMES + 1, LAST_OF_LINK),
+            pdus: self.dropped_pdus(),
             told: self.station.indications().len(),
             deadline: self.station.next_deadline(),
             published: self.published().entries().len(),
             failures: self.station.inbox().failures(),
-            frames,
-            drops,
         }
+    }
+
+    fn dropped_by_link(&self, first: u8, last: u8) -> u64 {
+        let mut count = 0u64;
+        for number in first..=last {
+            count = count.saturating_add(self.station.link_drops(number));
+        }
+        count
+    }
+
+    fn dropped_pdus(&self) -> u64 {
+        let mut count = 0u64;
+        for number in 1..=LAST_OF_PDUS {
+            count = count.saturating_add(self.station.drops(number));
+        }
+        count
     }
 
     fn says(&self, verb: &str, out: &mut String) -> Result<(), AllocError> {
@@ -420,8 +460,10 @@ impl StationBench {
         Ok(frame)
     }
 
-    /// Takes a frame.
+    /// Takes a frame. The PDUs that it gives come out of a receiving end of its own too.
     pub fn take(&mut self, frame: &[u8]) {
+        self.came.clear();
+        self.up.take(frame, &mut self.came);
         self.station.take(frame);
     }
 
@@ -433,6 +475,15 @@ impl StationBench {
     fn tells(&self, out: &mut String) -> Result<(), AllocError> {
         for told in self.station.indications() {
             tell(told, out)?;
+        }
+        Ok(())
+    }
+
+    fn tells_of(&self, id: TransactionId, out: &mut String) -> Result<(), AllocError> {
+        for told in self.station.indications() {
+            if id_of(told) == id {
+                tell(told, out)?;
+            }
         }
         Ok(())
     }

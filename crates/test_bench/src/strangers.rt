@@ -1,13 +1,14 @@
 //! Octets that no station sent: fronts of those that one did, octets in the place of others, and
-//! octets by chance. What is refused has to leave all but its count as it was.
+//! octets by chance. What is refused has to leave all but its count as it was, and of what a frame
+//! gives, only PDUs that are heard may change anything else.
 //!
 //!     prefixes OCTETS            each proper prefix is tried
 //!     replaced OCTETS            each octet is replaced by each of 256 values
 //!     storm SEED COUNT OCTETS    so many are tried, by turns: octets by chance, as many as these,
 //!                                and these with one of them replaced by chance
 //!
-//! How many were tried stands behind, how many of them were refused, and for how many of these
-//! something else was not as before.
+//! How many were tried stands behind, how many of them were refused, and for how many something
+//! changed that had to stay.
 use crate::bench::unknown;
 use crate::words::{number, octets, pair};
 use std::alloc::{AllocError, Global};
@@ -19,7 +20,7 @@ pub enum Fate {
     Taken,
     /// They were refused and counted, and all else is as it was.
     Refused,
-    /// They were refused, and something else changed.
+    /// Something changed that had to stay.
     Broken,
 }
 
@@ -52,10 +53,7 @@ impl Tally {
         match fate {
             Fate::Taken => {}
             Fate::Refused => self.refused = self.refused.saturating_add(1),
-            Fate::Broken => {
-                self.refused = self.refused.saturating_add(1);
-                self.broken = self.broken.saturating_add(1);
-            }
+            Fate::Broken => self.broken = self.broken.saturating_add(1),
         }
     }
 

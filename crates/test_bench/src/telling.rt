@@ -30,6 +30,22 @@ pub fn tell(told: &Indication, out: &mut String) -> Result<(), AllocError> {
     }
 }
 
+/// The transaction that was told of.
+pub fn id_of(told: &Indication) -> TransactionId {
+    match told {
+        Indication::Transaction(id) => *id,
+        Indication::EofSent(id) => *id,
+        Indication::MetadataRecv { id, .. } => *id,
+        Indication::EofRecv(id) => *id,
+        Indication::Finished { id, .. } => *id,
+        Indication::Resumed(id) => *id,
+        Indication::Suspended(id, _) => *id,
+        Indication::Fault(id, _) => *id,
+        Indication::Abandoned(id, _) => *id,
+        Indication::Progress(id, _) => *id,
+    }
+}
+
 fn tell_of(word: &str, id: TransactionId, out: &mut String) -> Result<(), AllocError> {
     write!(out, " {word} {}:{}\n", id.source, id.number)
 }

@@ -1,10 +1,12 @@
-//! Two stations in a world, the first of which was asked to send `ten` as `b.txt`, and a run of
-//! losses.
+//! Two stations in a world, with the files of `station`, and a run of losses. All outboxes and all
+//! inboxes fail from the calls on that the setup names.
 //!
+//!     put NAME         the first one is asked to send that file, to be published as `b.txt`
 //!     spread S         it sends all that is due, a frame for each PDU
 //!     deliver S N      so many of its frames arrive: how many did
 //!     strike S         its oldest frame is lost
 //!     settle           all is settled
+//!     told S           to tell all that it indicated
 //!     frames S         how many of its frames are delivered, lost, and on their way
 //!     inbox S          to tell each published file
 //!     replay           a station of its own takes the frames that were delivered to the second
@@ -13,18 +15,19 @@
 //!     losses N         so many frames were struck in a row
 //!     lose, arrive     whether one more may be struck; and one arrives
 use crate::bench::{Bench, played, unknown};
-use crate::setup::{first_station, second_station};
+use crate::setup::{EntitySetup, first_entity, first_station, second_station};
 use crate::station::{StationBench, files};
 use crate::strangers;
+use crate::telling::tell;
 use crate::words::{narrow, number, pair, tell_octets, text};
 use cfdp_directives::Octets;
 use cfdp_station::StationConfig;
-use cfdp_store::{Files, MemoryInbox, MemoryOutbox};
-use link_sim::{Applied, Event, FrameLink, LossRun, Mark, Side, World, WorldConfig, run};
+use cfdp_store::{Files, FuseInbox, FuseOutbox, MemoryInbox, MemoryOutbox};
+use link_sim::{Applied, Event, FrameLink, LossRun, Mark, Side, World, WorldConfig};
 use std::alloc::{AllocError, Global};
 use std::marker::Model;
 
-type MemoryWorld = World<MemoryOutbox, MemoryInbox>;
+type FusedWorld = World<FuseOutbox<MemoryOutbox>, FuseInbox<MemoryInbox>>;
 
 /// Plays a transcript on a world whose setups have these numbers.
 pub fn play(
@@ -37,7 +40,8 @@ pub fn play(
         one: first_station(setup),
         two: second_station(setup),
     };
-    played(WorldBench::open(alloc, config)?, transcript, out)
+    let bench = WorldBench::open(alloc, config, &first_entity(setup))?;
+    played(bench, transcript, out)
 }
 
 /// A world, and a run of losses of its own.
@@ -45,7 +49,7 @@ pub fn play(
 struct WorldBench {
     alloc: Global,
     two: StationConfig,
-    world: MemoryWorld,
+    world: FusedWorld,
     losses: LossRun,
 }
 
@@ -59,6 +63,7 @@ impl Bench for WorldBench {
     fn does(&mut self, verb: &str, words: &str, out: &mut String) -> Result<(), AllocError> {
         let (first, rest) = pair(words);
         match verb {
+            "put" => self.applies(&put(self.alloc, words)?, out),
             "spread" => self.world.spread(side(first)),
             "deliver" => self.delivers(side(first), number(rest), out),
             "strike" => self.applies(&Event::Strike(side(first)), out),
@@ -71,14 +76,18 @@ impl Bench for WorldBench {
 }
 
 impl WorldBench {
-    /// A world in which that put was asked for.
-    fn open(alloc: Global, config: WorldConfig) -> Result<WorldBench, AllocError> {
+    /// A world in which nothing happened, over stores that fail from these calls on.
+    fn open(
+        alloc: Global,
+        config: WorldConfig,
+        calls: &EntitySetup,
+    ) -> Result<WorldBench, AllocError> {
         if !config.is_valid() {
             return Err(AllocError);
         }
-        let outboxes = (files(alloc)?, MemoryOutbox::new(alloc));
-        let inboxes = (MemoryInbox::new(alloc), MemoryInbox::new(alloc));
-        let world = run(alloc, config, outboxes, inboxes, &[put(alloc)?])?;
+        let outboxes = (outbox(alloc, calls)?, outbox(alloc, calls)?);
+        let inboxes = (inbox(alloc, calls), inbox(alloc, calls));
+        let world = World::new(alloc, config, outboxes, inboxes, ())?;
         Ok(WorldBench {
             alloc,
             two: config.two,
@@ -89,13 +98,23 @@ impl WorldBench {
 
     fn tells(&mut self, verb: &str, words: &str, out: &mut String) -> Result<(), AllocError> {
         match verb {
+            "told" => self.tells_all(side(words), out),
             "frames" => tell_marks(self.world.frames(side(words)), out),
-            "inbox" => tell_files(self.alloc, self.world.inbox(side(words)).published(), out),
+            "inbox" => {
+                tell_files(self.alloc, self.world.inbox(side(words)).inner().published(), out)
+            }
             "losses" => Ok(self.begins(narrow(words))),
             "lose" => write!(out, " {}\n", self.losses.strike()),
             "arrive" => Ok(self.losses.deliver()),
             _ => unknown(out),
         }
+    }
+
+    fn tells_all(&self, at: Side, out: &mut String) -> Result<(), AllocError> {
+        for told in self.world.indications(at) {
+            tell(told, out)?;
+        }
+        Ok(())
     }
 
     fn begins(&mut self, losses: u32) {
@@ -141,11 +160,21 @@ fn side(word: &str) -> Side {
     if word == "1" { Side::One } else { Side::Two }
 }
 
-/// The put.
-fn put(alloc: Global) -> Result<Event, AllocError> {
+/// An outbox that fails from a call on.
+fn outbox(alloc: Global, calls: &EntitySetup) -> Result<FuseOutbox<MemoryOutbox>, AllocError> {
+    Ok(FuseOutbox::new(files(alloc)?, calls.outbox_call))
+}
+
+/// An inbox that fails from a call on.
+fn inbox(alloc: Global, calls: &EntitySetup) -> FuseInbox<MemoryInbox> {
+    FuseInbox::new(MemoryInbox::new(alloc), calls.inbox_call)
+}
+
+/// The put of a file.
+fn put(alloc: Global, name: &str) -> Result<Event, AllocError> {
     Ok(Event::Put {
         at: Side::One,
-        source: Octets::copied(alloc, b"ten")?,
+        source: Octets::copied(alloc, name.as_bytes())?,
         destination: Octets::copied(alloc, b"b.txt")?,
     })
 }
