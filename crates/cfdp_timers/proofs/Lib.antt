@@ -10,3 +10,5 @@ pub mod Waited
 pub mod LeastOther
 pub mod Firsts
 pub mod Replaced
+pub mod Bounded
+pub mod Skipped

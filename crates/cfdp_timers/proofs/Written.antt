@@ -55,7 +55,7 @@ insert-present s i there = set.same_set id_total id_cmp-IsAntisymmetric _ _ (λ 
     ] refl)
 
 -- ---- an entry is written
-written : (d : Deadlines) (kind : Kind) (o : Option ℕ) (k : Kind) → deadline_at (with_deadline d kind o) k ≡ cond (is_eq (nat_cmp (kind_place k) (kind_place kind))) o (deadline_at d k)
+pub written : (d : Deadlines) (kind : Kind) (o : Option ℕ) (k : Kind) → deadline_at (with_deadline d kind o) k ≡ cond (is_eq (nat_cmp (kind_place k) (kind_place kind))) o (deadline_at d k)
 written d EofAck o EofAck = refl
 written d EofAck o Nak = refl
 written d EofAck o FinishedAck = refl

@@ -1,6 +1,6 @@
 -- Proof-only: how the armed timers are kept. Each transaction that has room has four deadlines, by
 -- kind.
-use Rattle.std.specs.Prelude.{◌≡◌, ℕ, Option, None, Some, List, [], ◌∷◌, ◌++◌, filter, map, get_or, take, drop, nat_le, min}
+use Rattle.std.specs.Prelude.{◌≡◌, ℕ, ◌*◌, ◌/◌, ◌<◌, ◌≤◌, Option, None, Some, List, [], ◌∷◌, ◌++◌, length, filter, map, get_or, slice_set, take, drop, nat_le, min}
 use Rattle.std.specs.Map.{keys_of, values_of}
 use Rattle.std.specs.FinMap.{from_entries}
 use Rattle.std.specs.FinSet.{FinSet, from_list}
@@ -79,6 +79,25 @@ unfoldable pub AreFirsts : ℕ → (each firsts : List (Option ℕ)) → Type 0
 AreFirsts n each [] = each ≡ []
 AreFirsts n each (first ∷ firsts) =
     (first ≡ earliest_of (take n each)) × AreFirsts n (drop n each) firsts
+
+-- the earliest deadline of a transaction
+abbrev pub next_of : Deadlines → Option ℕ
+next_of d = earlier d.eof_ack (earlier d.nak (earlier d.finished_ack d.inactivity))
+
+-- no deadline of a block of 64 transactions is before its bound
+pub record IsBound (es : List (TransactionId × Deadlines)) (block bound : ℕ) : Type 0 where
+  pub none_before : (place : ℕ) (kind : Kind) (at : ℕ) → place / 64 ≡ block
+      → deadline_at (deadlines_in es place) kind ≡ Some at → bound ≤ at
+
+-- each block has a bound
+pub record AreBounds (es : List (TransactionId × Deadlines)) (bounds : List ℕ) : Type 0 where
+  pub cover : length es ≤ 64 * length bounds
+  pub each : (block : ℕ) → block < length bounds → IsBound es block (get_or bounds block 0)
+
+-- the bounds once a timer of a block has this deadline, if any
+abbrev pub lowered : List ℕ → ℕ → Option ℕ → List ℕ
+lowered bounds block None = bounds
+lowered bounds block (Some at) = slice_set bounds block (min (get_or bounds block 0) at)
 
 -- the earliest deadline of a transaction but Inactivity's, and that of each
 abbrev pub other_of : Deadlines → Option ℕ

@@ -7,7 +7,8 @@ use crate::deadlines::earlier;
 use std::alloc::{AllocError, Global};
 use std::marker::Model;
 
-const BLOCK: usize = 64;
+/// How many places a block has.
+pub(crate) const BLOCK: usize = 64;
 
 /// Deadlines by place; `None` where there is none.
 #[derive(Debug, Drop)]

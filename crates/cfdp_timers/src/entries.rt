@@ -1,5 +1,6 @@
-// The deadlines of each transaction, and beside them, by place, the earliest but Inactivity's.
-ghost use Rattle.std.specs.Prelude.{◌≡◌, ◌<◌, ◌++◌, [], ◌∷◌, true, None, IsSome, OnOk, OnErr, length, get_or, slice_set};
+// The deadlines of each transaction; beside them, by place, the earliest but Inactivity's, and, by
+// block, the bounds.
+ghost use Rattle.std.specs.Prelude.{◌≡◌, ◌*◌, ◌/◌, ◌<◌, ◌++◌, [], ◌∷◌, true, None, IsSome, OnOk, OnErr, length, get_or, slice_set};
 ghost use Rattle.std.specs.List.{IsDistinct};
 ghost use Rattle.std.specs.Map.{keys_of};
 ghost use Rattle.std.specs.FinSet as set;
@@ -8,10 +9,11 @@ ghost use Rattle.indexmap.specs.IndexMap.{get, spare, set_value_at};
 ghost use Rattle.cfdp_header.specs.Ids.{id_cmp, same_id};
 ghost use Rattle.cfdp_timers.specs.declared.kind.Kind.TheVariants.{Inactivity};
 ghost use Rattle.cfdp_timers.specs.Armed.{with_timer};
-ghost use Rattle.cfdp_timers.specs.Entries.{no_deadlines, deadlines_in, with_deadline, other_of, others_of, roomy_of, armed_of};
+ghost use Rattle.cfdp_timers.specs.Entries.{AreBounds, no_deadlines, deadlines_in, with_deadline, other_of, others_of, roomy_of, armed_of};
 
 use crate::Kind;
-use crate::blocks::Blocks;
+use crate::blocks::{BLOCK, Blocks};
+use crate::bounds::Bounds;
 use crate::deadlines::Deadlines;
 use cfdp_header::TransactionId;
 use indexmap::IndexMap;
@@ -21,19 +23,38 @@ use std::alloc::AllocError;
 pub(crate) fn add(
     entries: &mut IndexMap<TransactionId, Deadlines>,
     others: &mut Blocks,
+    bounds: &mut Bounds,
     id: TransactionId,
 ) -> Result<(), AllocError>
     requires absent { get same_id entries.old id ≡ None }
     requires others { others.old ≡ others_of entries.old.entries }
+    requires bounds { AreBounds entries.old.entries bounds.old }
     ensures added { OnOk result (entries.new.entries
         ≡ entries.old.entries ++ (id, no_deadlines) ∷ []) }
     ensures err { OnErr result (entries.new.entries ≡ entries.old.entries) }
     ensures distinct { IsDistinct (eq_by_cmp id_cmp) (keys_of entries.new.entries) }
     ensures others { others.new ≡ others_of entries.new.entries }
+    ensures bounds { AreBounds entries.new.entries bounds.new }
 {
     entries.reserve(1)?;
+    cover(entries, bounds)?;
     others.push()?;
     insert(entries, id);
+    Ok(())
+}
+
+// Adds a block where all are full.
+fn cover(
+    entries: &IndexMap<TransactionId, Deadlines>,
+    bounds: &mut Bounds,
+) -> Result<(), AllocError>
+    requires bounds { AreBounds entries.now.entries bounds.old }
+    ensures bounds { AreBounds entries.now.entries bounds.new }
+    ensures room { OnOk result (length entries.now.entries < 64 * length bounds.new) }
+{
+    if entries.len() / BLOCK >= bounds.len() {
+        bounds.push()?;
+    }
     Ok(())
 }
 
@@ -51,23 +72,27 @@ fn insert(entries: &mut IndexMap<TransactionId, Deadlines>, id: TransactionId)
 pub(crate) fn set_deadline(
     entries: &mut IndexMap<TransactionId, Deadlines>,
     others: &mut Blocks,
+    bounds: &mut Bounds,
     id: TransactionId,
     kind: Kind,
     deadline: Option<u64>,
 )
     requires distinct { IsDistinct (eq_by_cmp id_cmp) (keys_of entries.old.entries) }
     requires others { others.old ≡ others_of entries.old.entries }
+    requires bounds { AreBounds entries.old.entries bounds.old }
     requires room { IsSome deadline → set.contains (roomy_of entries.old.entries) id ≡ true }
     ensures keys { keys_of entries.new.entries ≡ keys_of entries.old.entries }
     ensures armed { armed_of entries.new.entries
         ≡ with_timer (armed_of entries.old.entries) (id, kind) deadline }
     ensures others { others.new ≡ others_of entries.new.entries }
+    ensures bounds { AreBounds entries.new.entries bounds.new }
 {
     let Some(place) = entries.get_index_of(&id) else {
         return;
     };
     let deadlines = write(entries, place, kind, deadline);
     set_other(others, place, kind, &deadlines);
+    bounds.lower(place / BLOCK, deadline);
 }
 
 // Sets one deadline of the entry at a place. Answers all that it has then.

@@ -13,12 +13,14 @@
 
 mod alarm;
 mod blocks;
+mod bounds;
 mod deadlines;
 mod entries;
 mod kind;
 mod laws;
 mod timers;
 mod wait;
+mod walk;
 
 pub use kind::Kind;
 pub use laws::{what_fired_is_armed_no_more, what_is_waited_for_is_armed};

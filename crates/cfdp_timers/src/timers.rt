@@ -15,9 +15,10 @@ ghost use Rattle.cfdp_timers.specs.Waits.{deadline_after, with_wait, waited};
 
 use crate::alarm::{Alarm, timers_of};
 use crate::blocks::Blocks;
+use crate::bounds::Bounds;
 use crate::deadlines::{Deadlines, earlier};
 use crate::wait::{Wait, Waits};
-use crate::{Kind, entries};
+use crate::{Kind, entries, walk};
 use cfdp_header::TransactionId;
 use indexmap::IndexMap;
 use std::alloc::{AllocError, Global};
@@ -34,6 +35,8 @@ pub struct Timers {
     entries: IndexMap<TransactionId, Deadlines>,
     // By place, the earliest deadline but Inactivity's.
     others: Blocks,
+    // By block, no deadline is before its bound.
+    bounds: Bounds,
     time: u64,
     alloc: Global,
 }
@@ -45,7 +48,7 @@ impl Model for Timers {
     ghost use Rattle.std.specs.Ordering.{eq_by_cmp};
     ghost use Rattle.cfdp_header.specs.Ids.{id_cmp};
     ghost use Rattle.cfdp_timers.specs.Armed.{TimersState, timers_code};
-    ghost use Rattle.cfdp_timers.specs.Entries.{state_of, others_of};
+    ghost use Rattle.cfdp_timers.specs.Entries.{AreBounds, state_of, others_of};
 
     ghost Value = { TimersState };
 
@@ -55,7 +58,8 @@ impl Model for Timers {
 
     ghost invariant = { λ t. IsDistinct (eq_by_cmp id_cmp) (keys_of t.entries.entries)
         × (length t.entries.entries ≤ 2 ^ 59)
-        × (t.others ≡ others_of t.entries.entries) };
+        × (t.others ≡ others_of t.entries.entries)
+        × AreBounds t.entries.entries t.bounds };
 }
 
 impl Timers {
@@ -68,6 +72,7 @@ impl Timers {
         Timers {
             entries: IndexMap::new(alloc),
             others: Blocks::new(alloc),
+            bounds: Bounds::new(alloc),
             time: 0,
             alloc,
         }
@@ -123,7 +128,7 @@ impl Timers {
         if self.entries.len() >= MOST_TRANSACTIONS {
             return Err(AllocError);
         }
-        entries::add(&mut self.entries, &mut self.others, id)?;
+        entries::add(&mut self.entries, &mut self.others, &mut self.bounds, id)?;
         Ok(())
     }
 
@@ -173,12 +178,7 @@ impl Timers {
         // So a caller may count three things for each of them.
         ensures few { result < 2 ^ 62 }
     {
-        let now = self.time.max(now);
-        let mut count = 0;
-        for (_id, deadlines) in self.entries.iter() {
-            count += deadlines.due_count(now);
-        }
-        count
+        walk::due_count(&self.entries, &self.bounds, self.time.max(now))
     }
 
     /// Tells the time, and gives and clears the timers whose deadline is then or before: by
@@ -207,6 +207,7 @@ impl Timers {
         let fired = timers_of(self.alloc, &due)?;
         self.time = now;
         self.clear_all(&fired);
+        self.tighten();
         Ok(fired)
     }
 
@@ -257,7 +258,14 @@ impl Timers {
         requires { IsSome deadline → set.contains self.old.roomy id ≡ true }
         ensures { self.new ≡ record self.old { armed = with_timer self.old.armed (id, kind) deadline } }
     {
-        entries::set_deadline(&mut self.entries, &mut self.others, id, kind, deadline);
+        entries::set_deadline(
+            &mut self.entries,
+            &mut self.others,
+            &mut self.bounds,
+            id,
+            kind,
+            deadline,
+        );
     }
 
     // The timers that are due, as they fire.
@@ -266,10 +274,7 @@ impl Timers {
         ensures count { IfOk result (λ due. length due.items ≡ due_count self.now.armed now) }
         ensures err { OnErr result (1 ≤ due_count self.now.armed now) }
     {
-        let mut due = Vec::new(self.alloc);
-        for (id, deadlines) in self.entries.iter() {
-            deadlines.push_due(*id, now, &mut due)?;
-        }
+        let mut due = walk::due(&self.entries, &self.bounds, now, self.alloc)?;
         due.sort_unstable();
         Ok(due)
     }
@@ -283,5 +288,13 @@ impl Timers {
         for (id, kind) in timers {
             self.clear(*id, *kind);
         }
+    }
+
+    // Makes the bounds later that the time has come to: what they stood for has fired, or was put
+    // off.
+    fn tighten(&mut self)
+        ensures { self.new ≡ self.old }
+    {
+        walk::tighten(&self.entries, &mut self.bounds, self.time);
     }
 }

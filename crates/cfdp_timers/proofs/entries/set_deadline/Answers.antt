@@ -1,5 +1,5 @@
 -- The entry that is found is written, and the place beside it.
-use Rattle.std.proofs.Common.{◌≡◌, ◌<◌, length, set, get_or, Option, None, Some, is_some, false, true≢false, slice_get, refl, sym, ap, subst, ◌∙◌, arith}
+use Rattle.std.proofs.Common.{◌≡◌, ◌/◌, ◌<◌, length, set, get_or, Option, None, Some, is_some, false, true≢false, slice_get, refl, sym, ap, subst, ◌∙◌, arith}
 use Rattle.std.specs.List.{IsDistinct}
 use Rattle.std.specs.Map.{keys_of, lookup}
 use Rattle.std.specs.Ordering.{eq_by_cmp}
@@ -8,7 +8,9 @@ use Rattle.cfdp_header.specs.Ids.{id_cmp}
 use Rattle.cfdp_header.proofs.Ids.{id_laws}
 use Rattle.std.proofs.lemmas.Map.Entries.{lookup_from_place}
 use Rattle.cfdp_timers.specs.declared.deadlines.Deadlines.{Deadlines}
-use Rattle.cfdp_timers.specs.Entries.{deadlines_in, other_of, others_of, with_deadline}
+use Rattle.indexmap.specs.IndexMap.{set_value_at}
+use Rattle.cfdp_timers.specs.Entries.{AreBounds, deadlines_in, other_of, others_of, with_deadline}
+use Rattle.cfdp_timers.proofs.Bounded.{block-within, bounds-written}
 use Rattle.cfdp_timers.proofs.Written.{with_timer-absent, armed_of-written}
 use Rattle.cfdp_timers.proofs.Replaced.{keys-replaced, lookup-replaced, found-entry, others_of-replaced, others_of-at, length-others_of}
 use Rattle.cfdp_timers.proofs.entries.set_deadline.Goals as goal
@@ -35,6 +37,13 @@ set_other-requires c =
           ap (λ l. get_or l place None) c.requires.others ∙ others_of-at es place c.args.id d at ∙ sym (ap other_of c.write-deadlines.ensures.deadlines ∙ ap (λ k. other_of (with_deadline d k c.args.deadline)) is);
     }
 
+pub lower-requires : goal.lower-requires
+lower-requires c =
+    let es = c.args.entries.now.entries in
+    let place = c.in-Some.place in
+    let at : slice_get es place ≡ Some (c.args.id, deadlines_in es place) = found-entry es c.args.id place (sym c.in-Some.ensures.index) in
+    record { within = block-within es c.args.bounds.now place c.args.kind c.args.deadline (slice_get_within es place (c.args.id, deadlines_in es place) at) c.requires.bounds }
+
 pub returns : goal.returns
 returns c =
     let es = c.args.entries.now.entries in
@@ -51,4 +60,6 @@ returns c =
           (λ q. ap (lookup (eq_by_cmp id_cmp q)) c.write-deadlines.ensures.entries ∙ lookup-replaced es place c.args.id d w q c.requires.distinct at);
       others = c.set_other.ensures ∙ ap (λ l. set l place (other_of c.write-deadlines.result)) c.requires.others ∙ ap (λ w. set (others_of es) place (other_of w)) c.write-deadlines.ensures.deadlines
           ∙ sym (ap others_of c.write-deadlines.ensures.entries ∙ others_of-replaced es place w);
+      bounds = subst (λ l. AreBounds l c.lower.new.self) (sym c.write-deadlines.ensures.entries) (subst (λ b. AreBounds (set_value_at es place w) b) (sym c.lower.ensures)
+          (bounds-written es c.args.bounds.now place c.args.kind c.args.deadline (slice_get_within es place (c.args.id, d) at) c.requires.bounds));
     }

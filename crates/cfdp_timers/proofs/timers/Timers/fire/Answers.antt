@@ -7,10 +7,10 @@ use Rattle.cfdp_timers.proofs.timers.Timers.fire.Goals as goal
 
 pub returns-clause-only : goal.returns-clause-only
 returns-clause-only c = λ others are.
-    let fired : AreDue c.args.self.now.armed c.clear_all.new.self.time c.in_ok-fired.fired.items = first_of (search rules, grind (arith, common_steps)) in
+    let fired : AreDue c.args.self.now.armed c.tighten.new.self.time c.in_ok-fired.fired.items = first_of (search rules, grind (arith, common_steps)) in
     only_due _ _ others c.in_ok-fired.fired.items are fired
 
 pub returns-clause-left : goal.returns-clause-left
 returns-clause-left c =
-    let fired : AreDue c.args.self.now.armed c.clear_all.new.self.time c.in_ok-fired.fired.items = first_of (search rules, grind (arith, common_steps)) in
+    let fired : AreDue c.args.self.now.armed c.tighten.new.self.time c.in_ok-fired.fired.items = first_of (search rules, grind (arith, common_steps)) in
     left-is _ _ _ c.in_ok-fired.fired.items fired (first_of (search rules, grind (arith, common_steps)))
