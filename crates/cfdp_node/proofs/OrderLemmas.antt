@@ -1,13 +1,12 @@
 -- Two stations that take turns over wires that keep the order are those of a world: turn by turn, and in each
 -- one event after another.
-use Rattle.std.proofs.Common.{◌≡◌, ◌≢◌, ℕ, zero, suc, ◌+◌, ◌<◌, ◌≤◌, List, [], ◌∷◌, ◌++◌, ◌⊎◌, length, take, get_or, Option, Some, None, Result, Ok, Err, refl, sym, ap, subst, ◌∙◌, inl, inr, arith, length-append}
+use Rattle.std.proofs.Common.{◌≡◌, ℕ, zero, suc, ◌+◌, ◌<◌, ◌≤◌, List, [], ◌∷◌, ◌++◌, length, take, get_or, Option, Some, None, Result, Ok, Err, refl, sym, ap, subst, ◌∙◌, inl, inr, arith, length-append}
 use Rattle.std.proofs.lemmas.List.{append-nil, append_assoc, take_all, take_more}
 use Rattle.std.proofs.Math.Seq.{take-append_seam}
 use Rattle.cfdp_header.specs.Files.{FileMap}
 use Rattle.cfdp_header.specs.declared.value.TransactionId.{TransactionId}
 use Rattle.link_stack.specs.Downward.{LinkSenderState}
 use Rattle.cfdp_station.specs.Station.{StationState}
-use Rattle.cfdp_station.specs.Taking.{TakesFrame}
 use Rattle.link_sim.specs.declared.event.AcceptedPut.{AcceptedPut}
 use Rattle.link_sim.specs.declared.side.Side.{Side}
 use Rattle.link_sim.specs.declared.side.Side.TheVariants.{One, Two}
@@ -20,8 +19,8 @@ use Rattle.link_sim.specs.World.{WorldState, IsFirst, IsFirstAt}
 use Rattle.link_sim.specs.WorldConfig.{IsWorldConfig}
 use Rattle.link_sim.proofs.Aside.{AreJoined, Arrives, GoesAside, IsAside, Reaches, arrives, aside_all, aside_none, first_joined, flush_on, frame_on, goes_both, no_link, poll_goes, put_reaches, reaches_both, reaches_led, reaches_none, tick_goes, with_down, world_at}
 use Rattle.cfdp_node.specs.InOrder.{AreOfWorld, ComeInOrder, PassInOrder, Passage, PassesInOrder, frames_came, frames_left, nothing_passed, what_came}
-use Rattle.cfdp_node.specs.Looping.{IsClosed, LoopState, Puts, TakesTurn, Turns}
-use Rattle.cfdp_node.specs.Turn.{Asks, AsksOn, End, HearsAll, PollMoves, PollRests, PollsOnce, PollsOut, SendsFrame, Sending, Sends, SendsWhole, TakesWhat, TellsTime, Times}
+use Rattle.cfdp_node.specs.Looping.{LoopState, Puts, TakesTurn, Turns}
+use Rattle.cfdp_node.specs.Turn.{AsksOn, End, HearsAll, PollMoves, PollsOnce, PollsOut, SendsFrame, Sending, Sends, TakesWhat, Times}
 use Rattle.cfdp_node.specs.Wire.{WireCall}
 use Rattle.cfdp_node.specs.declared.wire.WireFault.{WireFault}
 
@@ -178,10 +177,9 @@ module _ {W : Type 0} (Steps : W → WireCall → W → Type 0) where
 
   -- ---- turns
   -- The two stations are those of a world to which events led, and what passed is on its links.
-  record AreAt (first : WorldState) (one two : StationState) (passed : Passage) : Type 0 where
+  record AreAt (first : WorldState) (puts : List AcceptedPut) (one two : StationState) (passed : Passage) : Type 0 where
     pub k : FrameLinkState
     pub m : FrameLinkState
-    pub puts : List AcceptedPut
     pub ticks : ℕ
     pub are : AreJoined one two k m passed.taken_one
     pub marks : length m.marks ≡ passed.taken_two
@@ -191,10 +189,10 @@ module _ {W : Type 0} (Steps : W → WireCall → W → Type 0) where
     pub led : Reaches first (world_at One one two k m puts ticks)
 
   takes_turn : (every now : ℕ) (old new : LoopState W) (turn : TakesTurn Steps every now old new) (before after : Passage) → PassesInOrder Steps every now old new turn before after
-      → (first : WorldState) → AreAt first old.one old.two before → AreAt first new.one new.two after
-  takes_turn every now old new turn before after pass first at =
-      let one = has_sent One every now _ _ old.two at.k at.m at.puts at.ticks at.are.forth at.are.back turn.one_sends in
-      let two = has_sent Two every now _ _ turn.one at.m one.link at.puts one.then_ticks one.back one.forth turn.two_sends in
+      → (first : WorldState) (puts : List AcceptedPut) → AreAt first puts old.one old.two before → AreAt first puts new.one new.two after
+  takes_turn every now old new turn before after pass first puts at =
+      let one = has_sent One every now _ _ old.two at.k at.m puts at.ticks at.are.forth at.are.back turn.one_sends in
+      let two = has_sent Two every now _ _ turn.one at.m one.link puts one.then_ticks one.back one.forth turn.two_sends in
       let from_one : one.link.frames ≡ after.from_one = one.frames ∙ ap (λ (x : List (List ℕ)). x ++ _) at.from_one ∙ sym pass.from_one in
       let from_two : two.link.frames ≡ after.from_two = two.frames ∙ ap (λ (x : List (List ℕ)). x ++ _) at.from_two ∙ sym pass.from_two in
       let back : AreJoined turn.two turn.one two.link one.link before.taken_two = record {
@@ -203,7 +201,7 @@ module _ {W : Type 0} (Steps : W → WireCall → W → Type 0) where
         marks = ap (λ (x : List _). length x) two.marks.0 ∙ at.marks;
         run = two.marks.1 ∙ at.run;
       } in
-      let hears_one = has_heard Two turn.two one.link at.puts two.then_ticks two.link before.taken_two after.taken_two _ _ turn.one_hears back
+      let hears_one = has_heard Two turn.two one.link puts two.then_ticks two.link before.taken_two after.taken_two _ _ turn.one_hears back
       (subst (λ (x : List (List ℕ)). ComeInOrder x before.taken_two (frames_came Steps turn.one_hears.count _ _ turn.one_hears.heard) after.taken_two) (sym from_two) pass.to_one) in
       let forth : AreJoined new.one turn.two one.link hears_one.link before.taken_one = record {
         forth = hears_one.are.back;
@@ -211,12 +209,11 @@ module _ {W : Type 0} (Steps : W → WireCall → W → Type 0) where
         marks = ap (λ (x : List _). length x) one.marks.0 ∙ at.are.marks;
         run = one.marks.1 ∙ at.are.run;
       } in
-      let hears_two = has_heard One new.one hears_one.link at.puts two.then_ticks one.link before.taken_one after.taken_one _ _ turn.two_hears forth
+      let hears_two = has_heard One new.one hears_one.link puts two.then_ticks one.link before.taken_one after.taken_one _ _ turn.two_hears forth
       (subst (λ (x : List (List ℕ)). ComeInOrder x before.taken_one (frames_came Steps turn.two_hears.count _ _ turn.two_hears.heard) after.taken_one) (sym from_one) pass.to_two) in
       record {
         k = hears_two.link;
         m = hears_one.link;
-        puts = at.puts;
         ticks = two.then_ticks;
         are = hears_two.are;
         marks = hears_one.are.marks;
@@ -227,17 +224,18 @@ module _ {W : Type 0} (Steps : W → WireCall → W → Type 0) where
       }
 
   take_turns : (id : TransactionId) (every : ℕ) (count : ℕ) (old new : LoopState W) (turns : Turns Steps id every count old new) (passed : Passage) → PassInOrder Steps id every count old new turns passed
-      → (first : WorldState) → AreAt first old.one old.two nothing_passed → AreAt first new.one new.two passed
-  take_turns id every zero old new same passed none first at =
-      subst (λ (p : Passage). AreAt first new.one new.two p) (sym none) (subst (λ (x : LoopState W). AreAt first x.one x.two nothing_passed) (sym same) at)
-  take_turns id every (suc count) old new (mid, before, unclosed, turn) passed (earlier, pass, now) first at =
-      takes_turn every (count + 1) mid new turn earlier passed now first (take_turns id every count old mid before earlier pass first at)
+      → (first : WorldState) (puts : List AcceptedPut) → AreAt first puts old.one old.two nothing_passed → AreAt first puts new.one new.two passed
+  take_turns id every zero old new same passed none first puts at =
+      subst (λ (p : Passage). AreAt first puts new.one new.two p) (sym none) (subst (λ (x : LoopState W). AreAt first puts x.one x.two nothing_passed) (sym same) at)
+  take_turns id every (suc count) old new (mid, before, unclosed, turn) passed (earlier, pass, now) first puts at =
+      takes_turn every (count + 1) mid new turn earlier passed now first puts (take_turns id every count old mid before earlier pass first puts at)
 
   -- ---- the whole
   pub are_of_world : ((c : WorldConfig) (outboxes inboxes : FileMap × FileMap) (first now : WorldState) → IsWorldConfig c → IsFirst c outboxes inboxes first → Led first now → KeepsPromises inboxes now)
       → (c : WorldConfig) (outboxes inboxes : FileMap × FileMap) (source destination : List ℕ) (id : TransactionId) (every count : ℕ) (first : LoopState W) (one : StationState) (last : LoopState W) (passed : Passage)
       → IsWorldConfig c → IsFirstAt c.one outboxes.0 inboxes.0 first.one → IsFirstAt c.two outboxes.1 inboxes.1 first.two → Puts source destination (Ok id) first.one one
-      → (turns : Turns Steps id every count (record first { one = one }) last) → PassInOrder Steps id every count (record first { one = one }) last turns passed → AreOfWorld c outboxes inboxes last.one last.two
+      → (turns : Turns Steps id every count (record first { one = one }) last) → PassInOrder Steps id every count (record first { one = one }) last turns passed
+      → AreOfWorld c outboxes inboxes (record { id = id; source = source; destination = destination }) passed last.one last.two
   are_of_world keeps c outboxes inboxes source destination id every count first one last passed valid first_one first_two put turns pass =
       let joined = first_joined c outboxes inboxes first.one first.two valid first_one first_two in
       let k : FrameLinkState = no_link first.one.down in
@@ -249,10 +247,10 @@ module _ {W : Type 0} (Steps : W → WireCall → W → Type 0) where
         marks = refl;
         run = refl;
       } in
-      let at : AreAt begun one first.two nothing_passed = record {
+      let puts : List AcceptedPut = record { id = id; source = source; destination = destination } ∷ [] in
+      let at : AreAt begun puts one first.two nothing_passed = record {
         k = k;
         m = m;
-        puts = record { id = id; source = source; destination = destination } ∷ [];
         ticks = 0;
         are = kept;
         marks = refl;
@@ -261,14 +259,19 @@ module _ {W : Type 0} (Steps : W → WireCall → W → Type 0) where
         from_two = refl;
         led = put_reaches source destination id first.one one first.two k m [] 0 put.0 put.1 put.2;
       } in
-      let r : AreAt begun last.one last.two passed = take_turns id every count (record first { one = one }) last turns passed pass begun at in
+      let r : AreAt begun puts last.one last.two passed = take_turns id every count (record first { one = one }) last turns passed pass begun puts at in
       record {
         first = begun;
         starts = joined.1;
         events = r.led.0;
-        now = world_at One last.one last.two r.k r.m r.puts r.ticks;
+        now = world_at One last.one last.two r.k r.m puts r.ticks;
         happened = r.led.1;
         is_one = refl;
         is_two = refl;
+        puts = refl;
+        from_one = r.from_one;
+        from_two = r.from_two;
+        taken_one = r.are.marks;
+        taken_two = r.marks;
         promises = keeps c outboxes inboxes begun _ valid joined.1 (reaches_led _ _ r.led);
       }

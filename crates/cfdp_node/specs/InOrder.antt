@@ -5,6 +5,7 @@ use Rattle.aos_frame.specs.Counts.{frame_counts}
 use Rattle.cfdp_header.specs.Files.{FileMap}
 use Rattle.cfdp_header.specs.declared.value.TransactionId.{TransactionId}
 use Rattle.cfdp_station.specs.Station.{StationState}
+use Rattle.link_sim.specs.declared.event.AcceptedPut.{AcceptedPut}
 use Rattle.link_sim.specs.declared.event.Event.{Event}
 use Rattle.link_sim.specs.declared.world_config.WorldConfig.{WorldConfig}
 use Rattle.link_sim.specs.Running.{Happens, KeepsPromises}
@@ -79,9 +80,10 @@ module _ {W : Type 0} (Steps : W → WireCall → W → Type 0) where
       × PassesInOrder every (count + 1) mid new turn earlier passed
 
 -- The two stations are those of a world of this configuration, which began with these files to
--- send and these published, and to which events led. So the promises hold.
-pub record AreOfWorld (c : WorldConfig) (outboxes inboxes : FileMap × FileMap)
-    (one two : StationState) : Type 0 where
+-- send and these published, and to which events led. In it this put alone was accepted, exactly
+-- what passed has left the two stations, and as much of it is taken. So the promises hold.
+pub record AreOfWorld (c : WorldConfig) (outboxes inboxes : FileMap × FileMap) (put : AcceptedPut)
+    (passed : Passage) (one two : StationState) : Type 0 where
   pub first : WorldState
   pub starts : IsFirst c outboxes inboxes first
   pub events : List Event
@@ -89,4 +91,9 @@ pub record AreOfWorld (c : WorldConfig) (outboxes inboxes : FileMap × FileMap)
   pub happened : Happens events first now
   pub is_one : now.one ≡ one
   pub is_two : now.two ≡ two
+  pub puts : now.puts ≡ put ∷ []
+  pub from_one : now.from_one.frames ≡ passed.from_one
+  pub from_two : now.from_two.frames ≡ passed.from_two
+  pub taken_one : length now.from_one.marks ≡ passed.taken_one
+  pub taken_two : length now.from_two.marks ≡ passed.taken_two
   pub promises : KeepsPromises inboxes now

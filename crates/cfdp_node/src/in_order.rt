@@ -12,9 +12,9 @@ ghost use Rattle.cfdp_node.specs.Looping.{LoopState, Puts, Turns};
 use crate::wire::Wire;
 
 /// Over wires that lose frames or bring them in the order in which they were sent, two stations
-/// that take turns are those of a world: each call was the event of its name, a frame that came was
-/// delivered, and one that a later frame passed was struck. So all that is promised of a world
-/// holds of them, whatever was lost. `Turns` are those of `run_loop`, from its put on.
+/// that take turns are those of a world in which the same frames left, and the same ones came. So
+/// all that is promised of a world holds of them, whatever was lost. `Turns` are those of
+/// `run_loop`, from its put on.
 pub fn turns_are_of_a_world<W: Wire>()
     ensures { (c : WorldConfig) (outboxes inboxes : FileMap × FileMap)
         (source destination : List ℕ) (id : TransactionId) (every count : ℕ)
@@ -24,7 +24,8 @@ pub fn turns_are_of_a_world<W: Wire>()
         → Puts source destination (Ok id) first.one one
         → (turns : Turns W.steps id every count (record first { one = one }) last)
         → PassInOrder W.steps id every count (record first { one = one }) last turns passed
-        → AreOfWorld c outboxes inboxes last.one last.two }
+        → AreOfWorld c outboxes inboxes
+        (record { id = id; source = source; destination = destination }) passed last.one last.two }
 {
     link_sim::worlds_keep_the_promises();
 }
