@@ -1,10 +1,13 @@
 //! What holds of a file's way over wires that lose frames, or bring them in order.
+ghost use Rattle.std.specs.FinMap.{get};
 ghost use Rattle.std.specs.Prelude.{◌≡◌, ℕ, List, Ok};
+ghost use Rattle.cfdp_directives.specs.Completions.{IsToldComplete};
 ghost use Rattle.cfdp_header.specs.Files.{FileMap};
 ghost use Rattle.cfdp_header.specs.declared.value.TransactionId.{TransactionId};
 ghost use Rattle.cfdp_station.specs.Station.{StationState};
 ghost use Rattle.link_sim.specs.World.{IsFirstAt};
 ghost use Rattle.link_sim.specs.WorldConfig.{IsWorldConfig};
+ghost use Rattle.link_sim.specs.declared.event.AcceptedPut.{AcceptedPut};
 ghost use Rattle.link_sim.specs.declared.world_config.WorldConfig.{WorldConfig};
 ghost use Rattle.cfdp_node.specs.InOrder.{AreOfWorld, PassInOrder, Passage};
 ghost use Rattle.cfdp_node.specs.Looping.{LoopState, Puts, Turns};
@@ -29,3 +32,14 @@ pub fn turns_are_of_a_world<W: Wire>()
 {
     link_sim::worlds_keep_the_promises();
 }
+
+/// A sender that is told complete over such wires can rely on it: the other station has published,
+/// under the name that the put asked for, the very file that lies in the sender's outbox.
+pub fn told_complete_is_published()
+    ensures { (c : WorldConfig) (outboxes inboxes : FileMap × FileMap) (put : AcceptedPut)
+        (passed : Passage) (one two : StationState)
+        → AreOfWorld c outboxes inboxes put passed one two → (id : TransactionId)
+        → IsToldComplete one.entity.state.config.entity one.entity.state.table.told id
+        → get two.entity.state.table.files put.destination
+        ≡ get one.entity.state.table.sources put.source }
+{}
