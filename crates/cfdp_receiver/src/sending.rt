@@ -60,8 +60,7 @@ impl Receiver {
         let Some(due) = self.next_due() else {
             return 0;
         };
-        let len = self.write(&due, out);
-        self.take(&due);
+        let len = self.send(&due, out);
         self.set_timers(timers, policy, anew_once_taken(&due));
         len
     }
@@ -133,43 +132,43 @@ impl Receiver {
         }
     }
 
-    /// Writes the PDU.
-    fn write(&self, due: &Due, out: &mut [u8]) -> usize
-        requires writable { IsWritableIn self.now due.now }
-        requires room { addressings.written_len self.now.addressing (receiver_says self.now due.now)
+    /// Writes the PDU, and goes on behind it.
+    fn send(&mut self, due: &Due, out: &mut [u8]) -> usize
+        requires writable { IsWritableIn self.old due.now }
+        requires room { addressings.written_len self.old.addressing (receiver_says self.old due.now)
             ≤ length out.old }
         ensures len { result
-            ≡ addressings.written_len self.now.addressing (receiver_says self.now due.now) }
-        ensures front { let v = receiver_says self.now due.now in
-            take result out.new ≡ pdu_octets (addressings.header_of self.now.addressing v) v }
+            ≡ addressings.written_len self.old.addressing (receiver_says self.old due.now) }
+        ensures front { let v = receiver_says self.old due.now in
+            take result out.new ≡ pdu_octets (addressings.header_of self.old.addressing v) v }
         ensures behind { drop result out.new ≡ drop result out.old }
-    {
-        match due {
-            Due::AckOfEof(condition) => self.addressing.write_pdu(&self.ack(*condition), out),
-            Due::Nak(cursor) => {
-                let asked = self.asked(*cursor);
-                self.addressing.write_pdu(&self.nak(*cursor, &asked), out)
-            }
-            Due::KeepAlive => self.addressing.write_pdu(&self.keep_alive(), out),
-            Due::Finished(outcome) => self.addressing.write_pdu(&self.finished(outcome), out),
-        }
-    }
-
-    /// Goes on behind the PDU, which is taken.
-    fn take(&mut self, due: &Due)
-        requires { IsWritableIn self.old due.now }
         ensures receiver { self.new ≡ receiver_taken due.now self.old }
         ensures ready { (staged : TransactionId → Option OctetMap) →
             IsReady staged self.old → IsReady staged self.new }
         ensures addressing { self.new.addressing ≡ self.old.addressing }
     {
         match due {
-            Due::AckOfEof(_) => self.ack_due = None,
-            Due::Nak(cursor) => self.nak_cursor = self.asked(*cursor).next_cursor(),
-            Due::KeepAlive => self.keep_alive_due = false,
-            Due::Finished(_) => {
+            Due::AckOfEof(condition) => {
+                let len = self.addressing.write_pdu(&self.ack(*condition), out);
+                self.ack_due = None;
+                len
+            }
+            Due::Nak(cursor) => {
+                let asked = self.asked(*cursor);
+                let len = self.addressing.write_pdu(&self.nak(*cursor, &asked), out);
+                self.nak_cursor = asked.next_cursor();
+                len
+            }
+            Due::KeepAlive => {
+                let len = self.addressing.write_pdu(&self.keep_alive(), out);
+                self.keep_alive_due = false;
+                len
+            }
+            Due::Finished(outcome) => {
+                let len = self.addressing.write_pdu(&self.finished(outcome), out);
                 self.finished_due = false;
                 self.finished_taken = true;
+                len
             }
         }
     }

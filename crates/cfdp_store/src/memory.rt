@@ -168,7 +168,9 @@ impl MemoryInbox {
             Some(pieces) => pieces,
             None => Pieces::new(self.alloc),
         };
-        let octets = pieces.into_front(size)?;
+        let mut octets = pieces.into_front(size)?;
+        // A vector that grew by doubling has up to as much room again.
+        octets.shrink_to_fit();
         self.files
             .insert(Vec::from_slice(self.alloc, name)?, octets)
     }
