@@ -24,3 +24,5 @@ pub mod Turn
 pub mod Wire
 pub mod Looping
 pub mod LoopRequest
+pub mod StationRequest
+pub mod Serving
