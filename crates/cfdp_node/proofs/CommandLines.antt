@@ -3,7 +3,7 @@ use Rattle.std.proofs.Common.{◌≡◌, true, false, List, [], ◌∷◌, codes
 use Rattle.clap.specs.Walk.{Text}
 use Rattle.clap.specs.declared.error.kind.ErrorKind.TheVariants.{DisplayHelp, DisplayHelpOnMissingArgumentOrSubcommand, InvalidValue, MissingRequiredArgument, UnknownArgument, ValueValidation}
 use Rattle.clap.proofs.OnLiterals.{clap_on_literals}
-use Rattle.cfdp_node.specs.Request.{asked_of, dump, loop, refusals, sim, version}
+use Rattle.cfdp_node.specs.Request.{asked_of, dump, loop, refusals, sim, station, version}
 use Rattle.cfdp_node.specs.Shown.{ShownAsked}
 use Rattle.cfdp_node.specs.declared.dump.DumpKind.TheVariants.{Pdus, Frames}
 
@@ -97,6 +97,42 @@ few_words = refl
 no_turn : refusals (line (codes "loop" ∷ codes "a" ∷ codes "b" ∷ codes "x" ∷ codes "y" ∷ codes "--turns" ∷ codes "0" ∷ [])) ≡ ValueValidation ∷ []
 unfolding clap_on_literals
 no_turn = refl
+
+-- ---- station
+
+plain_station : (refusals (line (codes "station" ∷ codes "--id" ∷ codes "1" ∷ codes "--peer" ∷ codes "2" ∷ codes "--listen" ∷ codes "a" ∷ codes "--to" ∷ codes "b" ∷ [])) ≡ [])
+    × (asked_of (line (codes "station" ∷ codes "--id" ∷ codes "1" ∷ codes "--peer" ∷ codes "2" ∷ codes "--listen" ∷ codes "a" ∷ codes "--to" ∷ codes "b" ∷ []))
+    ≡ Some (station (record {
+      numbers = record { id = 1; peer = 2; idle = 0; first_number = 0; rate = 1000; drop_every = 0 };
+      listen = codes "a";
+      to = codes "b";
+      inbox = None;
+      outbox = None;
+      puts = [];
+      sets = [];
+      shown = nothing;
+    })))
+unfolding clap_on_literals
+plain_station = (refl, refl)
+
+sending_station : (refusals (line (codes "station" ∷ codes "--put" ∷ codes "x" ∷ codes "y" ∷ codes "--id" ∷ codes "3" ∷ codes "--peer" ∷ codes "4" ∷ codes "--set" ∷ codes "zone" ∷ codes "512" ∷ codes "--listen" ∷ codes "a" ∷ codes "--to" ∷ codes "b" ∷ codes "--put" ∷ codes "v" ∷ codes "w" ∷ codes "--outbox" ∷ codes "o" ∷ codes "--idle" ∷ codes "9" ∷ [])) ≡ [])
+    × (asked_of (line (codes "station" ∷ codes "--put" ∷ codes "x" ∷ codes "y" ∷ codes "--id" ∷ codes "3" ∷ codes "--peer" ∷ codes "4" ∷ codes "--set" ∷ codes "zone" ∷ codes "512" ∷ codes "--listen" ∷ codes "a" ∷ codes "--to" ∷ codes "b" ∷ codes "--put" ∷ codes "v" ∷ codes "w" ∷ codes "--outbox" ∷ codes "o" ∷ codes "--idle" ∷ codes "9" ∷ []))
+    ≡ Some (station (record {
+      numbers = record { id = 3; peer = 4; idle = 9; first_number = 0; rate = 1000; drop_every = 0 };
+      listen = codes "a";
+      to = codes "b";
+      inbox = None;
+      outbox = Some (codes "o");
+      puts = codes "x" ∷ codes "y" ∷ codes "v" ∷ codes "w" ∷ [];
+      sets = codes "zone" ∷ codes "512" ∷ [];
+      shown = nothing;
+    })))
+unfolding clap_on_literals
+sending_station = (refl, refl)
+
+no_peer : refusals (line (codes "station" ∷ codes "--id" ∷ codes "1" ∷ codes "--listen" ∷ codes "a" ∷ codes "--to" ∷ codes "b" ∷ [])) ≡ MissingRequiredArgument ∷ []
+unfolding clap_on_literals
+no_peer = refl
 
 -- ---- the program alone, and mistakes
 

@@ -25,3 +25,5 @@ pub mod Wire
 pub mod Looping
 pub mod InOrder
 pub mod LoopRequest
+pub mod StationRequest
+pub mod Serving

@@ -16,10 +16,11 @@ use Rattle.clap.specs.declared.error.kind.ErrorKind.TheVariants.{DisplayHelp, Di
 use Rattle.clap.specs.declared.parser.matches.ArgMatches.{ArgMatches}
 use Rattle.cfdp_node.specs.declared.arguments.DumpRequest.{DumpRequest}
 use Rattle.cfdp_node.specs.declared.arguments.Request.{Request}
-use Rattle.cfdp_node.specs.declared.arguments.Request.TheVariants.{Sim, Dump, Loop, Version}
+use Rattle.cfdp_node.specs.declared.arguments.Request.TheVariants.{Sim, Dump, Loop, Station, Version}
 use Rattle.cfdp_node.specs.declared.dump.DumpKind.{DumpKind}
 use Rattle.cfdp_node.specs.declared.dump.DumpKind.TheVariants.{Pdus, Frames}
 use Rattle.cfdp_node.specs.LoopRequest.{LoopAsked, loop_app, loop_asked, loop_of}
+use Rattle.cfdp_node.specs.StationRequest.{StationAsked, station_app, station_asked, station_of}
 use Rattle.cfdp_node.specs.Shown.{ShownAsked, asked_shown, flag_rule, is_given, shown_of, with_shown}
 
 -- ---- the grammar
@@ -57,7 +58,7 @@ abbrev pub top_app : App
 top_app = with_rule (on_top (λ s. record s { arg_required_else_help = true }) (new_app (codes "cfdp_node"))) (flag_rule (codes "version"))
 
 abbrev pub program_app : App
-program_app = with_subcommand (with_subcommand (with_subcommand top_app sim_app.top) dump_app.top) loop_app.top
+program_app = with_subcommand (with_subcommand (with_subcommand (with_subcommand top_app sim_app.top) dump_app.top) loop_app.top) station_app.top
 
 -- No argument of the command is one of its subcommands too.
 abbrev pub HasNoGlobals : Command → Type 0
@@ -73,12 +74,14 @@ IsCommand app c = (app_of c ≡ app) × HasNoGlobals c
 abbrev pub Lines : Type 0
 Lines = DumpKind × ℕ × Bool
 
--- To run a script, and what is shown of it; to tell lines, and how; to send a file, and how; or the
--- version. A file that is read is said by its name; without one standard input is read.
+-- To run a script, and what is shown of it; to tell lines, and how; to send a file, and how; to run
+-- a station, and how; or the version. A file that is read is said by its name; without one standard
+-- input is read.
 pub data Asked : Type 0 where
   sim : ShownAsked → (file : Option Text) → Asked
   dump : (lines : Lines) → (file : Option Text) → Asked
   loop : LoopAsked → Asked
+  station : StationAsked → Asked
   version : Asked
 
 -- what a subcommand's words gave for the argument of this name
@@ -111,7 +114,8 @@ asked_by None = Some version
 asked_by (Some found) =
     if bytes_eq found.0 (codes "sim") then Some (sim_of found.1)
     else (if bytes_eq found.0 (codes "dump") then dump_of found.1
-    else (if bytes_eq found.0 (codes "loop") then option_map loop (loop_of found.1) else None))
+    else (if bytes_eq found.0 (codes "loop") then option_map loop (loop_of found.1)
+    else (if bytes_eq found.0 (codes "station") then option_map station (station_of found.1) else None)))
 
 -- what words that fit the grammar ask for
 abbrev pub asked_of : List Text → Option Asked
@@ -131,6 +135,7 @@ abbrev pub asked : Request → Asked
 asked (Sim request) = sim (asked_shown request.shown) (option_map (λ file. file.bytes.items) request.file)
 asked (Dump lines file) = dump (asked_lines lines) (option_map (λ name. name.bytes.items) file)
 asked (Loop request) = loop (loop_asked request)
+asked (Station request) = station (station_asked request)
 asked Version = version
 
 -- A packet zone that is asked for has a length that it may have.
@@ -138,6 +143,7 @@ abbrev pub HasZone : Request → Type 0
 HasZone (Sim request) = ⊤
 HasZone (Dump lines file) = (16 ≤ lines.zone) × (lines.zone ≤ 2040)
 HasZone (Loop request) = ⊤
+HasZone (Station request) = ⊤
 HasZone Version = ⊤
 
 -- the exit status of the process where its arguments are not done

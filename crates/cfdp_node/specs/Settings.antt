@@ -105,5 +105,22 @@ station_of s side = record {
   capacity = 16384;
 }
 
+-- two stations of these ids, each of which sends over its own link
+abbrev pub pair_of : Settings → (first second : ℕ) → (one two : LinkConfig) → WorldConfig
+pair_of s first second one two = record {
+  one = record {
+    entity = record (entity_of s One) { entity = first; peer = second };
+    down = one;
+    up = two;
+    capacity = 16384;
+  };
+  two = record {
+    entity = record (entity_of s Two) { entity = second; peer = first };
+    down = two;
+    up = one;
+    capacity = 16384;
+  };
+}
+
 abbrev pub world_of : Settings → WorldConfig
 world_of s = record { one = station_of s One; two = station_of s Two }

@@ -7,6 +7,7 @@ ghost use Rattle.clap.specs.Values.{kind_of};
 ghost use Rattle.clap.specs.Walk.{first_of, rows_of, rule_of};
 ghost use Rattle.clap.specs.Simple.{subcommand_rows_of};
 ghost use Rattle.cfdp_node.specs.Request.{HasZone, IsCommand, IsStatusOf, RefusedBy, asked, asked_by, asked_of, dump_app, dump_of, kind_of_word, kind_rule, input_rule, asked_lines, lines_of, program_app, refusals, sim_app, sim_of, told_dump_app, top_app, zone_of_word, zone_rule};
+ghost use Rattle.cfdp_node.specs.LoopRequest.{loop_app};
 ghost use Rattle.cfdp_node.specs.Shown.{file_rule, flag_rule};
 ghost use Rattle.cfdp_node.specs.Shown as showing;
 
@@ -14,6 +15,7 @@ use crate::dropping::let_go;
 use crate::dump::DumpKind;
 use crate::loop_request::{LoopRequest, loop_command, loop_request};
 use crate::shown::{Shown, shown_by, shown_command};
+use crate::station_request::{StationRequest, station_command, station_request};
 use clap::error::ErrorKind;
 use clap::{Arg, ArgAction, ArgMatches, Command, Error, value_parser};
 use std::alloc::{AllocError, Global};
@@ -31,6 +33,8 @@ pub enum Request {
     },
     /// To send a file from one folder into another.
     Loop(LoopRequest),
+    /// To run one station over a socket.
+    Station(StationRequest),
     /// To print the version.
     Version,
 }
@@ -260,6 +264,9 @@ fn requested(alloc: Global, matches: &ArgMatches<'_>) -> Result<Option<Request>,
         Some(("sim", arguments)) => Ok(Some(Request::Sim(sim_request(alloc, arguments)?))),
         Some(("dump", arguments)) => dump_request(alloc, arguments),
         Some(("loop", arguments)) => Ok(loop_request(alloc, arguments)?.map(Request::Loop)),
+        Some(("station", arguments)) => {
+            Ok(station_request(alloc, arguments)?.map(Request::Station))
+        }
         Some(_) => Ok(None),
         None => Ok(Some(Request::Version)),
     }
@@ -362,6 +369,21 @@ fn zone_octets(word: &str) -> Option<u16>
 fn grammar<'a>(alloc: Global) -> Result<Command<'a>, AllocError>
     ensures { IfOk result (IsCommand program_app) }
 {
+    let told = files_grammar(alloc)?;
+    match station_command(alloc) {
+        Ok(station) => told.subcommand(station),
+        Err(AllocError) => {
+            let_go(told);
+            Err(AllocError)
+        }
+    }
+}
+
+/// The same without `station`.
+fn files_grammar<'a>(alloc: Global) -> Result<Command<'a>, AllocError>
+    ensures { IfOk result (IsCommand (with_subcommand (with_subcommand (with_subcommand top_app
+        sim_app.top) dump_app.top) loop_app.top)) }
+{
     let told = lines_grammar(alloc)?;
     match loop_command(alloc) {
         Ok(looped) => told.subcommand(looped),
@@ -406,9 +428,9 @@ fn top_command<'a>(alloc: Global) -> Result<Command<'a>, AllocError>
 {
     Command::new(alloc, "cfdp_node")
         .bin_name("cfdp_node")?
-        .about("Sends files between two simulated stations by the CCSDS File Delivery Protocol")
+        .about("Sends files by the CCSDS File Delivery Protocol, between two stations or as one")
         .after_help(
-            "'cfdp_node sim --help' shows the commands of a script, 'cfdp_node dump --help' the lines of a dump, 'cfdp_node loop --help' what is sent how.",
+            "'cfdp_node sim --help' shows the commands of a script, 'cfdp_node dump --help' the lines of a dump, 'cfdp_node loop --help' what is sent how, 'cfdp_node station --help' how one station runs.",
         )
         .arg_required_else_help(true)
         .arg(flag(alloc, "version", "Prints the version"))

@@ -430,7 +430,8 @@ fn parse_station(word: &[u8]) -> Result<Side, LineError>
     }
 }
 
-fn parse_setting(word: &[u8]) -> Option<Setting>
+/// The setting that has this key.
+pub fn parse_setting(word: &[u8]) -> Option<Setting>
     ensures { result ≡ setting_of word.now }
 {
     if word == b"zone".as_slice() {

@@ -67,7 +67,11 @@ fn prepared(
 }
 
 /// Looks whether a file in a folder may have this name.
-fn check_name(rt: &HostRuntime, name: &str) -> Result<(), u8> {
+///
+/// # Errors
+///
+/// The exit status, where it may not, which was told on standard error.
+pub fn check_name(rt: &HostRuntime, name: &str) -> Result<(), u8> {
     if is_folder_name(name.as_bytes()) {
         return Ok(());
     }
@@ -79,7 +83,11 @@ fn check_name(rt: &HostRuntime, name: &str) -> Result<(), u8> {
 }
 
 /// Looks whether this is a folder.
-fn folder(rt: &HostRuntime, path: &str) -> Result<Metadata, u8> {
+///
+/// # Errors
+///
+/// The exit status, where it is none, which was told on standard error.
+pub fn folder(rt: &HostRuntime, path: &str) -> Result<Metadata, u8> {
     match fs::metadata(rt, path) {
         Ok(found) if found.is_dir() => return Ok(found),
         Ok(_) => {
@@ -134,14 +142,7 @@ fn sent(
     progress: &Progress<'_>,
 ) -> Result<Ran, AllocError> {
     let alloc = rt.alloc();
-    let inbox = TellingInbox {
-        rt,
-        folder: request.to.as_str(),
-        inbox: FolderInbox::new(rt, alloc, request.to.as_str())?,
-        told,
-        progress,
-        reception: Reception::new(alloc, progress),
-    };
+    let inbox = TellingInbox::new(rt, request.to.as_str(), told, progress)?;
     let onlooker = Onlooker::new(alloc, loop_config(), request.shown.is_watched())?;
     let Ok(mut out) = BufWriter::new(alloc, io::writer(rt)) else {
         return Ok(Ran::unseen(Exit::Device(Fault::NoMemoryAtStart)));
@@ -169,9 +170,9 @@ fn options(alloc: Global, request: &LoopRequest) -> Result<LoopOptions, AllocErr
 
 /// One who looks on at the turns, and says how far the transfer is.
 #[derive(Drop)]
-struct LoopLookout<'a> {
-    onlooker: Onlooker,
-    progress: &'a Progress<'a>,
+pub struct LoopLookout<'a> {
+    pub onlooker: Onlooker,
+    pub progress: &'a Progress<'a>,
 }
 
 impl Lookout for LoopLookout<'_> {
@@ -200,7 +201,7 @@ impl Lookout for LoopLookout<'_> {
 
 /// An inbox over a folder, which says on standard error why a file could not be put there.
 #[derive(Drop)]
-struct TellingInbox<'a> {
+pub struct TellingInbox<'a> {
     rt: &'a HostRuntime,
     folder: &'a str,
     inbox: FolderInbox<&'a HostRuntime>,
@@ -210,7 +211,28 @@ struct TellingInbox<'a> {
     reception: Reception<'a>,
 }
 
-impl TellingInbox<'_> {
+impl<'a> TellingInbox<'a> {
+    /// An inbox over this folder, which is there. It sets `told` once it said so.
+    ///
+    /// # Errors
+    ///
+    /// `AllocError` where there is no memory for the folder's name.
+    pub fn new(
+        rt: &'a HostRuntime,
+        folder: &'a str,
+        told: &'a Cell<bool>,
+        progress: &'a Progress<'a>,
+    ) -> Result<TellingInbox<'a>, AllocError> {
+        Ok(TellingInbox {
+            rt,
+            folder,
+            inbox: FolderInbox::new(rt, rt.alloc(), folder)?,
+            told,
+            progress,
+            reception: Reception::new(rt.alloc(), progress),
+        })
+    }
+
     fn tell(&self, name: &[u8]) {
         if let Some(fault) = self.inbox.fault() {
             self.told.set(true);
@@ -228,11 +250,12 @@ impl<'a> Inbox for TellingInbox<'a> {
     ghost failures = { λ i. ⟦<FolderInbox<&'a HostRuntime> as Inbox>⟧.failures i.inbox };
 
     fn begin(&mut self, id: TransactionId) -> Result<(), StoreError> {
+        self.reception.begins(id);
         self.inbox.begin(id)
     }
 
     fn write(&mut self, id: TransactionId, offset: u64, octets: &[u8]) -> Result<(), StoreError> {
-        self.reception.notes(offset, octets.len());
+        self.reception.notes(id, offset, octets.len());
         self.inbox.write(id, offset, octets)
     }
 

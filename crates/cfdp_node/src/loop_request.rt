@@ -121,7 +121,8 @@ fn turns_argument<'a>(alloc: Global) -> Arg<'a>
         .default_value("10000")
 }
 
-fn drop_argument<'a>(alloc: Global) -> Arg<'a>
+/// Which frames are lost for a trial.
+pub fn drop_argument<'a>(alloc: Global) -> Arg<'a>
     ensures { (rule_of result ≡ drop_rule) × (result.global ≡ false) }
 {
     Arg::new(alloc, "drop")
@@ -183,7 +184,7 @@ impl LoopWords<'_> {
 }
 
 /// The number that this word says, if it lies between these two or is one of them.
-fn number_of(word: &str, low: u64, high: u64) -> Option<u64>
+pub fn number_of(word: &str, low: u64, high: u64) -> Option<u64>
     ensures { result ≡ number_of_word low high word.now }
 {
     match word.parse::<u64>() {

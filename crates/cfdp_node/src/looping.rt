@@ -43,17 +43,17 @@ pub struct LoopOptions {
 /// What turns need beside stations and wires: which frames are lost, and buffers for a frame that
 /// leaves and for what comes.
 #[derive(Drop)]
-struct Turning {
-    losses: Losses,
-    frame: Vec<u8>,
-    datagram: Vec<u8>,
+pub struct Turning {
+    pub losses: Losses,
+    pub frame: Vec<u8>,
+    pub datagram: Vec<u8>,
 }
 
 /// How a put and its turns ended.
 #[derive(Clone, Copy)]
-struct Ended {
+pub struct Ended {
     /// What the put answered, where it wasn't accepted.
-    answer: Option<Answer>,
+    pub answer: Option<Answer>,
     /// Whether memory was wanting.
     short: bool,
 }
@@ -170,7 +170,7 @@ impl Turning {
     /// # Errors
     ///
     /// `AllocError` where there is no memory for them.
-    fn new(alloc: Global, frame_len: usize, every: u64) -> Result<Turning, AllocError>
+    pub fn new(alloc: Global, frame_len: usize, every: u64) -> Result<Turning, AllocError>
         ensures frame { IfOk result (λ t. length t.frame.items ≡ frame_len) }
         ensures losses { IfOk result (λ t. (t.losses.every ≡ every) × (t.losses.left ≡ every)) }
     {
@@ -218,7 +218,7 @@ fn run_both<O: Outbox, I: Inbox, P: Outbox, J: Inbox, W: Wire, V: Write, L: Look
 
 /// Whether the stores have failed more often than so: the first station's outbox, and the second
 /// one's inbox.
-fn have_failed<O: Outbox, I: Inbox, P: Outbox, J: Inbox>(
+pub fn have_failed<O: Outbox, I: Inbox, P: Outbox, J: Inbox>(
     one: &Station<O, J>,
     two: &Station<P, I>,
     read: u64,
@@ -271,7 +271,7 @@ fn run<O: Outbox, I: Inbox, P: Outbox, J: Inbox, W: Wire, L: Lookout>(
 }
 
 /// What is told of a put that was refused.
-fn refused(error: PutError) -> Ended
+pub fn refused(error: PutError) -> Ended
     ensures answer { result.answer ≡ Some (refusal_answer error) }
     ensures short { result.short ≡ is_no_memory error }
 {
@@ -444,7 +444,7 @@ fn write_report<O: Outbox, I: Inbox, P: Outbox, J: Inbox, V: Write>(
 }
 
 /// Writes how many puts were completed, and how many there were.
-fn write_count<V: Write>(out: &mut V, complete: usize, asked: usize) -> io::Result<()>
+pub fn write_count<V: Write>(out: &mut V, complete: usize, asked: usize) -> io::Result<()>
     ensures { OnOk result (Appends (V.contents out.old) (V.contents out.new)
         (count_line complete asked)) }
 {

@@ -1,5 +1,6 @@
 //! How far a transfer is, in one line on a terminal.
 use cfdp_extents::Extents;
+use cfdp_header::TransactionId;
 use std::alloc::Global;
 use std::cell::Cell;
 use std::io::IsTerminal;
@@ -30,7 +31,17 @@ pub struct Progress<'a> {
 impl Progress<'_> {
     /// Before the first PDU.
     pub fn new(rt: &HostRuntime) -> Progress<'_> {
-        let written = if rt.stderr().is_terminal() {
+        Progress::shown(rt, rt.stderr().is_terminal())
+    }
+
+    /// The same beside a report that is written meanwhile: where that goes to a terminal too,
+    /// nothing is written.
+    pub fn alone(rt: &HostRuntime) -> Progress<'_> {
+        Progress::shown(rt, rt.stderr().is_terminal() && !rt.stdout().is_terminal())
+    }
+
+    fn shown(rt: &HostRuntime, is_shown: bool) -> Progress<'_> {
+        let written = if is_shown {
             Instant::now(rt).ok()
         } else {
             None
@@ -82,9 +93,11 @@ impl Progress<'_> {
     }
 }
 
-/// Which octets of a file have come.
+/// Which octets have come of the file that began to come last.
 #[derive(Drop)]
 pub struct Reception<'a> {
+    alloc: Global,
+    id: Option<TransactionId>,
     held: Extents,
     progress: &'a Progress<'a>,
 }
@@ -93,15 +106,23 @@ impl Reception<'_> {
     /// Before the first octet.
     pub fn new<'a>(alloc: Global, progress: &'a Progress<'a>) -> Reception<'a> {
         Reception {
+            alloc,
+            id: None,
             held: Extents::new(alloc),
             progress,
         }
     }
 
-    /// Notes that so many octets came from this offset of the file on. Where there is no memory for
+    /// Notes that the file of this transaction begins to come.
+    pub fn begins(&mut self, id: TransactionId) {
+        self.id = Some(id);
+        self.held = Extents::new(self.alloc);
+    }
+
+    /// Notes that so many octets came from this offset of a file on. Where there is no memory for
     /// that, less is said of how far the transfer is.
-    pub fn notes(&mut self, offset: u64, len: usize) {
-        if !self.progress.is_shown() {
+    pub fn notes(&mut self, id: TransactionId, offset: u64, len: usize) {
+        if !self.progress.is_shown() || self.id != Some(id) {
             return;
         }
         let end = offset.saturating_add(len as u64);

@@ -89,7 +89,7 @@ pub fn write_answer<W: Write>(out: &mut W, done: Answered) -> io::Result<()>
     }
 }
 
-pub fn write_indications<W: Write>(out: &mut W, station: u8, all: &[Indication]) -> io::Result<()>
+pub fn write_indications<W: Write>(out: &mut W, station: u64, all: &[Indication]) -> io::Result<()>
     ensures { OnOk result (Appends (W.contents out.old) (W.contents out.new)
         (flat_map (indication_line station) all.now)) }
 {
@@ -109,7 +109,7 @@ pub fn write_indications<W: Write>(out: &mut W, station: u8, all: &[Indication])
 /// What a station told its user.
 #[derive(Clone, Copy)]
 struct Told<'a> {
-    station: u8,
+    station: u64,
     indication: &'a Indication,
 }
 

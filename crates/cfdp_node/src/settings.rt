@@ -1,6 +1,6 @@
 ghost use Rattle.std.specs.Prelude.{◌≡◌, ◌<◌, ◌^◌, ◌↔◌, IsSome, IfSome};
 ghost use Rattle.link_sim.specs.WorldConfig.{IsWorldConfig};
-ghost use Rattle.cfdp_node.specs.Settings.{world_of, station_of, entity_of, policy_of, limits_of, times_of, handlers_of, handler_of, link_of, FitFields, FitSending, FitPolicy, FitLimits, FitTimes, FitHandlers};
+ghost use Rattle.cfdp_node.specs.Settings.{pair_of, world_of, station_of, entity_of, policy_of, limits_of, times_of, handlers_of, handler_of, link_of, FitFields, FitSending, FitPolicy, FitLimits, FitTimes, FitHandlers};
 
 use cfdp_directives::{ChecksumKind, Handler, Handlers, Limits, Policy, Times};
 use cfdp_entity::EntityConfig;
@@ -227,6 +227,47 @@ impl Settings {
         let config = WorldConfig {
             one: self.station(Side::One)?,
             two: self.station(Side::Two)?,
+        };
+        if config.is_valid() {
+            Some(config)
+        } else {
+            None
+        }
+    }
+
+    /// The configurations of two stations with these ids and links, where each value fits its field
+    /// and the whole is valid. The first one sends over the first link.
+    pub fn pair(
+        &self,
+        first: u64,
+        second: u64,
+        one: LinkConfig,
+        two: LinkConfig,
+    ) -> Option<WorldConfig>
+        ensures valid { IfSome result IsWorldConfig }
+        ensures same { IfSome result (λ config. config ≡ pair_of self.now first second one two) }
+    {
+        let config = WorldConfig {
+            one: StationConfig {
+                entity: EntityConfig {
+                    entity: first,
+                    peer: second,
+                    ..self.entity(Side::One)?
+                },
+                down: one,
+                up: two,
+                capacity: 16_384,
+            },
+            two: StationConfig {
+                entity: EntityConfig {
+                    entity: second,
+                    peer: first,
+                    ..self.entity(Side::Two)?
+                },
+                down: two,
+                up: one,
+                capacity: 16_384,
+            },
         };
         if config.is_valid() {
             Some(config)

@@ -1,5 +1,5 @@
 //! What takes frames to another station, and brings frames from it.
-ghost use Rattle.std.specs.Prelude.{◌≤◌, length, IfOk, IfSome};
+ghost use Rattle.std.specs.Prelude.{◌≡◌, ◌≤◌, Bool, length, IfOk, IfSome};
 ghost use Rattle.cfdp_node.specs.Wire.{WireCall, Asked, Sent, brought};
 
 /// A frame could not be sent, or none could be asked for.
@@ -22,7 +22,7 @@ pub trait Wire: Drop {
         ensures { steps self.old (Sent frame.now result) self.new };
 
     /// Writes the next octets that came to the front of the buffer, and answers how many they are;
-    /// `None` where nothing has come. It never waits.
+    /// `None` where nothing has come. Whether it waits for some, and how long, is the wire's affair.
     ///
     /// # Errors
     ///
@@ -30,4 +30,14 @@ pub trait Wire: Drop {
     fn receive(&mut self, buffer: &mut [u8]) -> Result<Option<usize>, WireFault>
         ensures steps { steps self.old (Asked (brought result buffer.new)) self.new }
         ensures within { IfOk result (λ came. IfSome came (λ len. len ≤ length buffer.new)) };
+}
+
+/// A wire that knows whether its peer is silent.
+pub trait PeerWire: Wire {
+    /// Whether the peer was silent for as long as it may be, as of the last call.
+    ghost silent: { Self → Bool };
+
+    /// Whether nothing has come for so long that no more is waited for.
+    fn is_silent(&self) -> bool
+        ensures { result ≡ silent self.now };
 }

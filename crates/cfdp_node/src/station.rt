@@ -1,0 +1,371 @@
+//! One station over folders and a UDP socket.
+ghost use Rattle.std.specs.Prelude.{IfOk};
+ghost use Rattle.cfdp_station.specs.Config.{IsStationConfig};
+ghost use Rattle.link_sim.specs.WorldConfig.{IsWorldConfig};
+
+use crate::exit::{Exit, Fault};
+use crate::folders::{LoopLookout, TellingInbox, check_name, folder};
+use crate::input::Input;
+use crate::name::Name;
+use crate::number::parse_number;
+use crate::onlooker::Onlooker;
+use crate::peer_socket::{Pace, PeerSocket, Unusable};
+use crate::progress::Progress;
+use crate::serving::{PutNames, StationOptions, run_station};
+use crate::show::shown_status;
+use crate::sim::Ran;
+use crate::station_request::{StationNumbers, StationRequest};
+use crate::station_setup::StationSetup;
+use cfdp_station::StationConfig;
+use cfdp_store::{FuseInbox, Inbox, MemoryInbox, MemoryOutbox};
+use link_sim::{Side, WorldConfig};
+use std::alloc::{AllocError, Global};
+use std::cell::Cell;
+use std::fs::File;
+use std::io::{BufWriter, ErrorKind, Read};
+use std::time::{SystemTime, UNIX_EPOCH};
+use std::{fs, io};
+
+/// The exit status of bad arguments.
+const MISTAKE: u8 = 2;
+
+/// The exit status where a folder, a file, a socket or memory failed.
+const DEVICE: u8 = 3;
+
+/// What a station needs to run.
+#[derive(Drop)]
+struct StationParts<'a> {
+    outbox: MemoryOutbox,
+    socket: PeerSocket<'a>,
+}
+
+/// Runs the station that is asked for, writes the report to standard output, and says on standard
+/// error what went wrong. Answers the exit status.
+///
+/// What may be wrong is looked for in this order: what is set, the names of files that are to be
+/// sent, the folders, those files, the addresses.
+pub fn station_status(rt: &HostRuntime, request: &StationRequest) -> u8 {
+    let config = match configuration(rt, request) {
+        Ok(config) => config,
+        Err(status) => return status,
+    };
+    let strangers = Cell::new(0);
+    match prepared(rt, request, &strangers) {
+        Ok(prepared) => {
+            let status = ran_status(rt, request, &config, prepared);
+            tell_strangers(rt, strangers.get());
+            status
+        }
+        Err(status) => status,
+    }
+}
+
+/// Says how many datagrams came from other addresses than the peer's.
+fn tell_strangers(rt: &HostRuntime, count: u64) {
+    if count > 0 {
+        let _ = eprintln!(rt; "{count} datagrams came from other addresses, and were not read");
+    }
+}
+
+/// How the station and its peer are set up.
+///
+/// # Errors
+///
+/// The exit status, where they can't be, which was told on standard error.
+fn configuration(rt: &HostRuntime, request: &StationRequest) -> Result<WorldConfig, u8>
+    ensures { IfOk result IsWorldConfig }
+{
+    let StationNumbers { id, peer, .. } = request.numbers;
+    let setup = set_up(rt, request)?;
+    match setup.config(id, peer) {
+        Some(config) => Ok(config),
+        None => {
+            tell_bad(rt, &setup);
+            Err(MISTAKE)
+        }
+    }
+}
+
+/// Says why a station can't be set up so.
+fn tell_bad(rt: &HostRuntime, setup: &StationSetup) {
+    let _ = match setup.out_of_range() {
+        Some(setting) => {
+            let (key, range) = (setting.key(), setting.range());
+            eprintln!(rt; "error: {key} is out of its range, {range}")
+        }
+        None => eprintln!(rt;
+            "error: the ids are one or don't fit id_width, or a channel or an APID fits no frame"
+        ),
+    };
+}
+
+/// What is set.
+fn set_up(rt: &HostRuntime, request: &StationRequest) -> Result<StationSetup, u8> {
+    let StationNumbers { id, peer, .. } = request.numbers;
+    let mut setup = StationSetup::new(id < peer, first_number(rt, request.numbers));
+    let words = request.sets.as_slice();
+    for pair in 0..words.len() / 2 {
+        set_one(
+            rt,
+            &mut setup,
+            words[2 * pair].as_str(),
+            words[2 * pair + 1].as_str(),
+        )?;
+    }
+    Ok(setup)
+}
+
+/// Sets one value.
+fn set_one(rt: &HostRuntime, setup: &mut StationSetup, key: &str, word: &str) -> Result<(), u8> {
+    let Some(value) = parse_number(word.as_bytes()) else {
+        let _ = eprintln!(rt; "error: --set {key} {word}: {word} is no number below 2^64");
+        return Err(MISTAKE);
+    };
+    if !setup.set(key, value) {
+        let _ = eprintln!(rt; "error: --set {key} {word}: there is no such key");
+        return Err(MISTAKE);
+    }
+    Ok(())
+}
+
+/// The number of the first transaction: as it is asked for, or else the milliseconds since 1970.
+fn first_number(rt: &HostRuntime, numbers: StationNumbers) -> u64 {
+    if numbers.first_number != 0 {
+        return numbers.first_number;
+    }
+    match SystemTime::now(rt) {
+        Ok(now) => match now.duration_since(UNIX_EPOCH) {
+            Ok(since) => u64::try_from(since.as_millis()).unwrap_or(1),
+            Err(_) => 1,
+        },
+        Err(_) => 1,
+    }
+}
+
+/// Looks at the folders, reads the files that are to be sent, and opens the socket.
+///
+/// # Errors
+///
+/// The exit status, where something is wrong, which was told on standard error.
+fn prepared<'a>(
+    rt: &'a HostRuntime,
+    request: &StationRequest,
+    strangers: &'a Cell<u64>,
+) -> Result<StationParts<'a>, u8> {
+    for put in 0..request.puts.len() / 2 {
+        check_name(rt, request.puts[2 * put].as_str())?;
+    }
+    if let Some(inbox) = &request.inbox {
+        let _ = folder(rt, inbox.as_str())?;
+    }
+    let outbox = filled_outbox(rt, request)?;
+    Ok(StationParts {
+        outbox,
+        socket: socket(rt, request, strangers)?,
+    })
+}
+
+/// The files that are to be sent, as far as they are there.
+fn filled_outbox(rt: &HostRuntime, request: &StationRequest) -> Result<MemoryOutbox, u8> {
+    let mut outbox = MemoryOutbox::new(rt.alloc());
+    let Some(path) = &request.outbox else {
+        if request.puts.is_empty() {
+            return Ok(outbox);
+        }
+        let _ = eprintln!(rt; "error: --put wants a folder of files, --outbox FOLDER");
+        return Err(MISTAKE);
+    };
+    let _ = folder(rt, path.as_str())?;
+    for put in 0..request.puts.len() / 2 {
+        let name = request.puts[2 * put].as_str();
+        if let Err(error) = add_file(rt, &mut outbox, path.as_str(), name) {
+            let _ = eprintln!(rt; "error: {path}/{name}: {}", error.kind());
+            return Err(DEVICE);
+        }
+    }
+    Ok(outbox)
+}
+
+/// Reads a file of a folder, if it is there. A link is not followed.
+fn add_file(
+    rt: &HostRuntime,
+    outbox: &mut MemoryOutbox,
+    folder: &str,
+    name: &str,
+) -> io::Result<()> {
+    let alloc = rt.alloc();
+    let path = format!(in alloc; "{folder}/{name}")?;
+    match fs::symlink_metadata(rt, path.as_str()) {
+        Ok(found) if found.is_file() => {}
+        Ok(_) => return Err(io::Error::from(ErrorKind::InvalidInput)),
+        Err(error) if error.kind() == ErrorKind::NotFound => return Ok(()),
+        Err(error) => return Err(error),
+    }
+    let mut octets = Vec::new(alloc);
+    File::open(rt, path.as_str())?.read_to_end(&mut octets)?;
+    outbox.add(Vec::from_slice(alloc, name.as_bytes())?, octets)?;
+    Ok(())
+}
+
+/// The socket, with the peer's address.
+fn socket<'a>(
+    rt: &'a HostRuntime,
+    request: &StationRequest,
+    strangers: &'a Cell<u64>,
+) -> Result<PeerSocket<'a>, u8> {
+    let (listen, to) = (request.listen.as_str(), request.to.as_str());
+    let pace = Pace {
+        rate: request.numbers.rate,
+        idle: request.numbers.idle,
+    };
+    match PeerSocket::bind(rt, listen, to, pace, strangers) {
+        Ok(socket) => Ok(socket),
+        Err(unusable) => {
+            let _ = match unusable {
+                Unusable::Own(error) => eprintln!(rt; "error: --listen {listen}: {}", error.kind()),
+                Unusable::Peer(error) => eprintln!(rt; "error: --to {to}: {}", error.kind()),
+            };
+            Err(DEVICE)
+        }
+    }
+}
+
+/// Runs the station, shows what was seen of that, and answers the exit status.
+fn ran_status(
+    rt: &HostRuntime,
+    request: &StationRequest,
+    config: &WorldConfig,
+    prepared: StationParts<'_>,
+) -> u8
+    requires { IsWorldConfig config.now }
+{
+    let (told, progress) = (Cell::new(false), Progress::alone(rt));
+    let ran = match ran(rt, request, config, prepared, &told, &progress) {
+        Ok(ran) => ran,
+        Err(AllocError) => Ran::unseen(Exit::Device(Fault::NoMemoryAtStart)),
+    };
+    if let Exit::Device(fault) = ran.exit
+        && !told.get()
+    {
+        tell_fault(rt, request.inbox.is_some(), fault);
+    }
+    shown_status(rt, &request.shown, &ran)
+}
+
+/// Says what failed. Without an inbox each file that comes is one that could not be kept.
+fn tell_fault(rt: &HostRuntime, has_inbox: bool, fault: Fault) {
+    match fault {
+        Fault::NoMemory if !has_inbox => {
+            let _ = eprintln!(rt;
+                "error: a file came and there is no --inbox, or there is not enough memory"
+            );
+        }
+        _ => fault.tell(rt, Input::Standard),
+    }
+}
+
+/// Runs the station over the folder of its inbox; without one it takes no file.
+fn ran(
+    rt: &HostRuntime,
+    request: &StationRequest,
+    config: &WorldConfig,
+    prepared: StationParts<'_>,
+    told: &Cell<bool>,
+    progress: &Progress<'_>,
+) -> Result<Ran, AllocError>
+    requires { IsWorldConfig config.now }
+{
+    match &request.inbox {
+        Some(path) => {
+            let inbox = TellingInbox::new(rt, path.as_str(), told, progress)?;
+            ran_over(rt, request, config, prepared, inbox, progress)
+        }
+        None => {
+            let inbox = FuseInbox::new(MemoryInbox::new(rt.alloc()), 1);
+            ran_over(rt, request, config, prepared, inbox, progress)
+        }
+    }
+}
+
+/// Runs the station over this inbox. The report's buffer is there before the first turn.
+fn ran_over<I: Inbox>(
+    rt: &HostRuntime,
+    request: &StationRequest,
+    config: &WorldConfig,
+    prepared: StationParts<'_>,
+    inbox: I,
+    progress: &Progress<'_>,
+) -> Result<Ran, AllocError>
+    requires { IsWorldConfig config.now }
+{
+    let alloc = rt.alloc();
+    let onlooker = Onlooker::new(alloc, *config, request.shown.is_watched())?;
+    let mut lookout = LoopLookout {
+        onlooker,
+        progress: &*progress,
+    };
+    let options = options(alloc, request, config)?;
+    let Ok(mut out) = BufWriter::new(alloc, io::writer(rt)) else {
+        return Ok(Ran::unseen(Exit::Device(Fault::NoMemoryAtStart)));
+    };
+    let StationParts { outbox, socket } = prepared;
+    let clock = socket.clock();
+    let exit = run_station(
+        alloc,
+        options,
+        outbox,
+        inbox,
+        socket,
+        clock,
+        &mut out,
+        &mut lookout,
+    );
+    // What a failed write left in the buffer is let go: a `BufWriter` would write it once more.
+    let _ = out.into_parts();
+    Ok(Ran {
+        exit,
+        seen: lookout.onlooker.into_seen(),
+    })
+}
+
+/// How the station is set up, and what it is to send.
+fn options(
+    alloc: Global,
+    request: &StationRequest,
+    config: &WorldConfig,
+) -> Result<StationOptions, AllocError>
+    requires { IsWorldConfig config.now }
+    ensures { IfOk result (λ options. IsStationConfig options.config) }
+{
+    let StationNumbers { id, peer, .. } = request.numbers;
+    let side = if id < peer { Side::One } else { Side::Two };
+    Ok(StationOptions {
+        config: config_at(side, config),
+        puts: put_names(alloc, request.puts.as_slice())?,
+        drop_every: request.numbers.drop_every,
+        side,
+    })
+}
+
+/// The configuration of one of both stations.
+fn config_at(side: Side, config: &WorldConfig) -> StationConfig
+    requires { IsWorldConfig config.now }
+    ensures { IsStationConfig result }
+{
+    match side {
+        Side::One => config.one,
+        Side::Two => config.two,
+    }
+}
+
+/// The files that are to be sent, by pairs of words.
+fn put_names(alloc: Global, words: &[String]) -> Result<Vec<PutNames>, AllocError> {
+    let mut puts = Vec::new(alloc);
+    for pair in 0..words.len() / 2 {
+        puts.push(PutNames {
+            source: Vec::from_slice(alloc, words[2 * pair].as_bytes())?,
+            destination: Vec::from_slice(alloc, words[2 * pair + 1].as_bytes())?,
+        })?;
+    }
+    Ok(puts)
+}

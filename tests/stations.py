@@ -1,0 +1,191 @@
+"""Two stations, each a process of its own, over the loop-back interface."""
+import os
+import random
+import re
+import select
+import signal
+import socket
+import subprocess
+import tempfile
+import time
+
+SECONDS = 200
+
+# Answers are waited for a second, and what is lost is sent again as often as it takes.
+PATIENT = {"eof_time": 1, "nak_time": 1, "finished_time": 1}
+PATIENT |= {"eof_limit": 255, "nak_limit": 255, "finished_limit": 255}
+
+
+def free_ports(count):
+    """So many ports of 127.0.0.1 that nobody has."""
+    sockets = [socket.socket(socket.AF_INET, socket.SOCK_DGRAM) for _ in range(count)]
+    for it in sockets:
+        it.bind(("127.0.0.1", 0))
+    ports = [it.getsockname()[1] for it in sockets]
+    for it in sockets:
+        it.close()
+    return ports
+
+
+class Station:
+    """A station that runs in a folder, with one folder for files to send and one for others."""
+
+    def __init__(self, program, folder, own, peer, ports, words, settings):
+        self.own, self.told = own, b""
+        for it in ("from", "to"):
+            os.makedirs(f"{folder}/{own}/{it}", exist_ok=True)
+        addresses = ["--listen", f"127.0.0.1:{ports[own]}", "--to", f"127.0.0.1:{ports[peer]}"]
+        sets = [word for key, value in settings.items() for word in ("--set", key, str(value))]
+        ids = ["--id", str(own), "--peer", str(peer)]
+        whole = [program.path, "station", *ids, *addresses, *sets, *words]
+        how = {"cwd": f"{folder}/{own}", "env": {"PATH": "/usr/bin:/bin"}}
+        pipes = {"stdout": subprocess.PIPE, "stderr": subprocess.PIPE}
+        self.process = subprocess.Popen(whole, **how, **pipes)
+
+    def comes_to(self, word):
+        """Reads what it tells, as it happens, until a line has this word."""
+        end = time.monotonic() + SECONDS
+        while word not in self.told and time.monotonic() < end:
+            if select.select([self.process.stdout], [], [], 1)[0]:
+                octets = os.read(self.process.stdout.fileno(), 4096)
+                if not octets:
+                    break
+                self.told += octets
+        return word in self.told
+
+    def ended(self):
+        """Its exit status, and both outputs, once it has ended by itself; it is given some time."""
+        try:
+            rest, err = self.process.communicate(timeout=SECONDS)
+        except subprocess.TimeoutExpired:
+            self.process.kill()
+            rest, err = self.process.communicate()
+        return self.process.returncode, (self.told + rest).decode(), err.decode()
+
+
+def put(folder, own, name, octets):
+    """Puts a file to send into a station's folder."""
+    os.makedirs(f"{folder}/{own}/from", exist_ok=True)
+    with open(f"{folder}/{own}/from/{name}", "wb") as it:
+        it.write(octets)
+
+
+def files_at(folder, own):
+    """The files that a station received."""
+    found = {}
+    for name in os.listdir(f"{folder}/{own}/to"):
+        with open(f"{folder}/{own}/to/{name}", "rb") as it:
+            found[name] = it.read()
+    return found
+
+
+def exchange_mistakes(program):
+    """What is wrong with 20 files that go each way, of up to 1 MiB, each fifth frame lost."""
+    chance, sent = random.Random(37), {1: {}, 2: {}}
+    sizes = [0, 1, 1023, 1 << 20, *(chance.randrange(1, 200_000) for _ in range(16))]
+    with tempfile.TemporaryDirectory(dir=program.room) as folder:
+        ports, stations = dict(zip((1, 2), free_ports(2))), []
+        for own in (1, 2):
+            words = ["--inbox", "to", "--outbox", "from", "--drop", "5", "--idle", "6"]
+            words += ["--rate", "8000", "--pcap", "pdus.pcap"]
+            for number, size in enumerate(sizes):
+                octets = chance.randbytes(size)
+                put(folder, own, f"f{number}", octets)
+                sent[own][f"of{own}.{number}"] = octets
+                words += ["--put", f"f{number}", f"of{own}.{number}"]
+            settings = {**PATIENT, "zone": 1024}
+            stations.append(Station(program, folder, own, 3 - own, ports, words, settings))
+        for station in stations:
+            status, out, err = station.ended()
+            if status or err or not out.endswith("complete 20 of 20\n"):
+                yield f"station {station.own}: status {status}, {out[-300:]!r}, {err[-300:]!r}"
+        for own in (1, 2):
+            came = files_at(folder, own)
+            if came != sent[3 - own]:
+                yield f"what came to station {own} isn't what was sent: {sorted(came)}"
+            with open(f"{folder}/{own}/pdus.pcap", "rb") as it:
+                if it.read(4) != bytes.fromhex("A1B2C3D4"):
+                    yield f"station {own} wrote no capture"
+
+
+def restart_mistakes(program):
+    """What is wrong where a station is killed as it sends, and one is started in its place."""
+    chance = random.Random(38)
+    first, second = chance.randbytes(1 << 20), chance.randbytes(30_000)
+    settings = {"eof_time": 1, "nak_time": 1, "finished_time": 1, "inactivity_time": 5}
+    with tempfile.TemporaryDirectory(dir=program.room) as folder:
+        ports = dict(zip((1, 2), free_ports(2)))
+        put(folder, 1, "first", first)
+        put(folder, 1, "second", second)
+        receiver = Station(program, folder, 2, 1, ports, ["--inbox", "to", "--idle", "15"], settings)
+        words = ["--outbox", "from", "--rate", "100", "--put", "first", "first"]
+        sender = Station(program, folder, 1, 2, ports, words, settings)
+        if not receiver.comes_to(b"metadata"):
+            yield "the first file never began to come"
+        sender.process.send_signal(signal.SIGKILL)
+        sender.process.communicate()
+        words = ["--outbox", "from", "--put", "second", "second", "--idle", "3"]
+        status, out, err = Station(program, folder, 1, 2, ports, words, settings).ended()
+        if status or err or not out.endswith("complete 1 of 1\n"):
+            yield f"the new station: status {status}, {out[-300:]!r}, {err[-300:]!r}"
+        status, out, err = receiver.ended()
+        begun = re.search(r"2 metadata (1:\d+) first first 1048576\n", out)
+        if status or err or not begun or not out.endswith("complete 0 of 0\n"):
+            yield f"the receiver: status {status}, {out[-300:]!r}, {err[-300:]!r}"
+        elif not re.search(rf"2 (fault|abandoned) {begun[1]} ", out):
+            yield f"the receiver told no fault of the first file: {out!r}"
+        if files_at(folder, 2) != {"second": second}:
+            yield f"what came isn't the second file: {sorted(files_at(folder, 2))}"
+
+
+def stranger_mistakes(program):
+    """What is wrong where datagrams come from another address than the peer's."""
+    with tempfile.TemporaryDirectory(dir=program.room) as folder:
+        ports = dict(zip((1, 2, 3), free_ports(3)))
+        station = Station(program, folder, 2, 1, ports, ["--inbox", "to", "--idle", "3"], {})
+        with socket.socket(socket.AF_INET, socket.SOCK_DGRAM) as stranger:
+            stranger.bind(("127.0.0.1", ports[3]))
+            time.sleep(1)
+            for _ in range(7):
+                stranger.sendto(bytes(264), ("127.0.0.1", ports[2]))
+            status, out, err = station.ended()
+        wanted = (0, "complete 0 of 0\n", "7 datagrams came from other addresses, and were not read\n")
+        if (status, out, err) != wanted:
+            yield f"with status {status} it wrote {out!r} and {err!r}"
+
+
+def address_mistakes(program):
+    """What is wrong where the address of a station is in use."""
+    with tempfile.TemporaryDirectory(dir=program.room) as folder:
+        with socket.socket(socket.AF_INET, socket.SOCK_DGRAM) as other:
+            other.bind(("127.0.0.1", 0))
+            ports = {1: free_ports(1)[0], 2: other.getsockname()[1]}
+            status, out, err = Station(program, folder, 2, 1, ports, [], {}).ended()
+        if (status, out, err) != (3, "", f"error: --listen 127.0.0.1:{ports[2]}: address in use\n"):
+            yield f"with status {status} it wrote {out!r} and {err!r}"
+
+
+def refused_mistakes(program):
+    """What is wrong where a file comes to a station that has no folder for it."""
+    with tempfile.TemporaryDirectory(dir=program.room) as folder:
+        ports = dict(zip((1, 2), free_ports(2)))
+        put(folder, 1, "a", b"hello")
+        settings = {"eof_time": 1, "nak_time": 1, "finished_time": 1}
+        receiver = Station(program, folder, 2, 1, ports, ["--idle", "4"], settings)
+        words = ["--outbox", "from", "--put", "a", "b", "--idle", "3"]
+        status, out, err = Station(program, folder, 1, 2, ports, words, settings).ended()
+        if status != 1 or err or not out.endswith("complete 0 of 1\n"):
+            yield f"the sender: status {status}, {out!r}, {err!r}"
+        status, out, err = receiver.ended()
+        wanted = "error: a file came and there is no --inbox, or there is not enough memory\n"
+        if status != 3 or err != wanted or not re.search(r"2 fault 1:\d+ 4\n", out):
+            yield f"the receiver: status {status}, {out!r}, {err!r}"
+
+
+def all_mistakes(program):
+    """What is tried, with what is wrong in it."""
+    yield "20 files each way between two processes", exchange_mistakes(program)
+    yield "a station killed and started anew", restart_mistakes(program)
+    yield "datagrams of a stranger", stranger_mistakes(program)
+    yield "an address in use", address_mistakes(program)
+    yield "a file for which there is no folder", refused_mistakes(program)
