@@ -71,15 +71,20 @@ def parted(report):
     return answers, told
 
 
-def is_front(part, whole):
-    """Whether a list begins another."""
-    return part == whole[: len(part)]
-
-
 def is_part(part, whole):
     """Whether a list is another one without some of its items."""
     left = iter(whole)
     return all(it in left for it in part)
+
+
+def is_turned(part, whole, turn, is_needed):
+    """Whether a list is the front of another, then `turn`, and then a part of the rest; without
+    `turn`, if that isn't needed, a front alone."""
+    for at in range(len(part)):
+        if part[at : at + len(turn)] == turn:
+            behind = part[at + len(turn) :]
+            return part[:at] == whole[:at] and is_part(behind, whole[at:])
+    return not is_needed and part == whole[: len(part)]
 
 
 class Refusals:
@@ -165,13 +170,12 @@ class Refusals:
         own_answers, own = self.own
         failed = [it for it in answers if answers[it] == "StoreFailed"]
         ends = [["finished", name, "4", "incomplete", "rejected"]]
-        ends_here = [["fault", name, "4"], *ends]
+        of_it = lambda lines: [line for line in lines if line[1] == name]
+        others = lambda lines: [line for line in lines if line[1] != name]
         for it in own:
-            of_it = lambda lines: [line for line in lines if line[1] == name]
-            others = lambda lines: [line for line in lines if line[1] != name]
-            mine, last = of_it(told[it]), ends_here if it == station else ends
-            front = mine[: -len(last)] if mine[-len(last) :] == last else mine
-            if it == station and front == mine or not is_front(front, of_it(own[it])):
+            is_here = it == station
+            last = [["fault", name, "4"], *ends] if is_here else ends
+            if not is_turned(of_it(told[it]), of_it(own[it]), last, is_here):
                 return False
             rest, whole = others(told[it]), others(own[it])
             if not (is_part(rest, whole) if failed else rest == whole):

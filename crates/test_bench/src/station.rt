@@ -43,7 +43,9 @@ use std::marker::Model;
 /// The last of the numbers by which whole frames are refused, by which the link drops anything, and
 /// by which PDUs are dropped.
 const LAST_OF_FRAMES: u8 = 6;
+
 const LAST_OF_LINK: u8 = 11;
+
 const LAST_OF_PDUS: u8 = 17;
 
 /// The most PDUs sent at once, and frames taken.

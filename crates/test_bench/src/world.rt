@@ -101,7 +101,11 @@ impl WorldBench {
             "told" => self.tells_all(side(words), out),
             "frames" => tell_marks(self.world.frames(side(words)), out),
             "inbox" => {
-                tell_files(self.alloc, self.world.inbox(side(words)).inner().published(), out)
+                tell_files(
+                    self.alloc,
+                    self.world.inbox(side(words)).inner().published(),
+                    out,
+                )
             }
             "losses" => Ok(self.begins(narrow(words))),
             "lose" => write!(out, " {}\n", self.losses.strike()),
