@@ -22,8 +22,8 @@ use Rattle.cfdp_station.specs.declared.polled.Polled.{Polled}
 use Rattle.cfdp_station.specs.declared.polled.Polled.TheVariants.{Moved, Nothing, Full, SourceFailed}
 use Rattle.cfdp_node.specs.Looping.{IsTold, told}
 use Rattle.cfdp_node.specs.Report.{indication_line}
-use Rattle.cfdp_node.specs.Serving.{EndsFrom, EndsStation, IsWritten, Longer, MakesNext, MakesPuts, Putting, Serves, ServesTo, station_exit}
-use Rattle.cfdp_node.specs.Turn.{AsksOn, Asks, End, HearsAll, PollMoves, PollsInPart, PollsOnce, PollsOut, Sending, Sends, SendsFrame, SendsInPart, SendsWhole, TakesWhat, TellsTime, Times}
+use Rattle.cfdp_node.specs.Serving.{EndsFrom, EndsStation, IsWritten, Longer, MakesNext, MakesPuts, Putting, ServesTo, station_exit}
+use Rattle.cfdp_node.specs.Turn.{AsksOn, Asks, End, HearsAll, PollMoves, PollsOnce, PollsOut, Sending, Sends, SendsFrame, SendsInPart, SendsWhole, TellsTime, Times}
 use Rattle.cfdp_node.specs.Wire.{WireCall}
 use Rattle.cfdp_node.specs.declared.exit.Exit.{Exit}
 use Rattle.cfdp_node.specs.declared.exit.Exit.TheVariants.{Device}

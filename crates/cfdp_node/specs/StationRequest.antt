@@ -1,5 +1,5 @@
 -- What the words behind `station` ask for.
-use Rattle.std.specs.Prelude.{ℕ, List, [], ◌∷◌, codes, Option, Some, None, map, option_and_then, option_map, true, unwrap_or}
+use Rattle.std.specs.Prelude.{ℕ, List, [], codes, Option, Some, map, option_and_then, option_map, true, unwrap_or}
 use Rattle.clap.specs.Simple.{App, new_app, new_rule, with_rule}
 use Rattle.clap.specs.Walk.{Row, Rule, Text, all_of, first_of}
 use Rattle.clap.specs.declared.builder.action.ArgAction.TheVariants.{Append}

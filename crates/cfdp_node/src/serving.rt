@@ -6,7 +6,7 @@ ghost use Rattle.std.specs.Prelude.{◌≡◌, ◌≤◌, ◌<◌, ◌↔◌, �
 ghost use Rattle.cfdp_node.specs.Exit.{IsFlushedAt};
 ghost use Rattle.cfdp_node.specs.Looping.{IsTold, told};
 ghost use Rattle.cfdp_node.specs.Report.{count_line, indication_line, is_own_completion};
-ghost use Rattle.cfdp_node.specs.Serving.{EndsFrom, EndsStation, IsOver, IsWritten, Longer, MakesPut, MakesPuts, Serves, ServesTo, TakesOne, TakesTurns, completed, station_exit};
+ghost use Rattle.cfdp_node.specs.Serving.{EndsFrom, EndsStation, IsWritten, Longer, MakesPut, MakesPuts, Serves, ServesTo, TakesOne, TakesTurns, completed, station_exit};
 ghost use Rattle.cfdp_node.specs.Serving as spec;
 ghost use Rattle.cfdp_node.specs.Turn.{FitsFrames, SendsInPart};
 ghost use Rattle.cfdp_station.specs.Config.{IsStationConfig};

@@ -1,4 +1,4 @@
-use Rattle.std.proofs.Common.{◌≡◌, ◌++◌, List, count_by, drop, length, subst, sym}
+use Rattle.std.proofs.Common.{◌++◌, List, count_by, drop, length, subst}
 use Rattle.std.specs.Io.KnownBytes.{Appends}
 use Rattle.std.specs.List.{flat_map}
 use Rattle.cfdp_header.specs.declared.value.TransactionId.{TransactionId}

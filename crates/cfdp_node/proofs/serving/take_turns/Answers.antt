@@ -1,6 +1,5 @@
-use Rattle.std.proofs.Common.{◌≡◌, ◌∙◌, inl, inr, refl, rules, subst, sym, true}
-use Rattle.cfdp_node.specs.Looping.{told}
-use Rattle.cfdp_node.specs.Serving.{GoesOnce, IsOver, IsWritten, TakesOne}
+use Rattle.std.proofs.Common.{◌∙◌, inl, inr, refl, rules, subst, true}
+use Rattle.cfdp_node.specs.Serving.{GoesOnce, IsOver, TakesOne}
 use Rattle.cfdp_node.specs.Turn.{Sending}
 use Rattle.cfdp_node.proofs.ServingLemmas.{written-all, written-longer, written-none}
 use Rattle.cfdp_node.proofs.TurnLemmas.{not_so, once_more}
