@@ -1,5 +1,7 @@
 """Two stations, each a process of its own, over the loop-back interface."""
+import itertools
 import os
+import pty
 import random
 import re
 import select
@@ -30,7 +32,7 @@ def free_ports(count):
 class Station:
     """A station that runs in a folder, with one folder for files to send and one for others."""
 
-    def __init__(self, program, folder, own, peer, ports, words, settings):
+    def __init__(self, program, folder, own, peer, ports, words, settings, **ways):
         self.own, self.told = own, b""
         for it in ("from", "to"):
             os.makedirs(f"{folder}/{own}/{it}", exist_ok=True)
@@ -40,7 +42,7 @@ class Station:
         whole = [program.path, "station", *ids, *addresses, *sets, *words]
         how = {"cwd": f"{folder}/{own}", "env": {"PATH": "/usr/bin:/bin"}}
         pipes = {"stdout": subprocess.PIPE, "stderr": subprocess.PIPE}
-        self.process = subprocess.Popen(whole, **how, **pipes)
+        self.process = subprocess.Popen(whole, **{**how, **pipes, **ways})
 
     def comes_to(self, word):
         """Reads what it tells, as it happens, until a line has this word."""
@@ -182,6 +184,68 @@ def refused_mistakes(program):
             yield f"the receiver: status {status}, {out!r}, {err!r}"
 
 
+def shown_on(reading):
+    """All that is written to the terminal whose other end this is, until nobody has it any more."""
+    told, end = b"", time.monotonic() + SECONDS
+    while time.monotonic() < end:
+        try:
+            if select.select([reading], [], [], 1)[0]:
+                told += os.read(reading, 4096)
+        except OSError:
+            break
+    os.close(reading)
+    return told.decode()
+
+
+def terminal_mistakes(program):
+    """What is wrong where both outputs of a station are one terminal: the line that says how far a
+    transfer is gives way to the report."""
+    with tempfile.TemporaryDirectory(dir=program.room) as folder:
+        ports = dict(zip((1, 2), free_ports(2)))
+        put(folder, 1, "a", bytes(30_000))
+        receiver = Station(program, folder, 2, 1, ports, ["--inbox", "to", "--idle", "3"], {})
+        words = ["--outbox", "from", "--put", "a", "b", "--idle", "2", "--rate", "200"]
+        reading, terminal = pty.openpty()
+        ways = {"stdout": terminal, "stderr": terminal}
+        sender = Station(program, folder, 1, 2, ports, words, {"first_number": 7}, **ways)
+        os.close(terminal)
+        told = shown_on(reading)
+        sender.process.wait()
+        receiver.ended()
+    line = r"\r *\d+ octets received, *\d+ gaps, *\d+ PDUs sent"
+    report = re.sub(rf"(({line})*\r\x1b\[K)+", "", told)
+    answers = ("transaction 1:7", "eof-sent 1:7", "finished 1:7 0 complete retained")
+    lines = "".join(rf"1 {it}\r\n" for it in answers)
+    wanted = rf"{lines}({line})+\r\ncomplete 1 of 1\r\n"
+    if sender.process.returncode or not re.fullmatch(wanted, report):
+        yield f"with status {sender.process.returncode} it wrote {told!r} to a terminal"
+    elif len(re.findall(line, told)) < 5:
+        yield f"it didn't say how far the transfer is: {told!r}"
+
+
+def memory_mistakes(program):
+    """What is wrong where a station finds no memory for its one put, which is then the last that is
+    told of it: the first growth of memory is refused, the second, .., as long as there is one."""
+    settings, refused, is_met = {"eof_time": 1, "eof_limit": 1}, 0, True
+    for growth in itertools.takewhile(lambda _: is_met, itertools.count(1)):
+        with tempfile.TemporaryDirectory(dir=program.room) as folder:
+            ports = dict(zip((1, 2), free_ports(2)))
+            put(folder, 1, "a", b"hello")
+            words = ["--outbox", "from", "--put", "a", "b", "--idle", "1"]
+            env = {"PATH": "/usr/bin:/bin", **program.faulty(f"memory={growth},mark")}
+            station = Station(program, folder, 1, 2, ports, words, settings, env=env)
+            if station.comes_to(b"eof-sent"):
+                station.process.kill()
+            status, out, err = station.ended()
+            is_met = os.path.exists(f"{folder}/1/refused")
+        if out.startswith("line ") or err:
+            refused += out.startswith("line ")
+            if status != 3 or out not in ("", "line 1 NoMemory\ncomplete 0 of 1\n"):
+                yield f"with status {status} it wrote {out!r} and {err!r}"
+    if not refused:
+        yield f"no growth of memory was one of the put, of {growth}"
+
+
 def all_mistakes(program):
     """What is tried, with what is wrong in it."""
     yield "20 files each way between two processes", exchange_mistakes(program)
@@ -189,3 +253,5 @@ def all_mistakes(program):
     yield "datagrams of a stranger", stranger_mistakes(program)
     yield "an address in use", address_mistakes(program)
     yield "a file for which there is no folder", refused_mistakes(program)
+    yield "a report and a line on one terminal", terminal_mistakes(program)
+    yield "a put that finds no memory", memory_mistakes(program)

@@ -181,9 +181,12 @@ module _ {W : Type 0} (Steps : W → WireCall → W → Type 0) (silent : W → 
       station = to.serves.station;
       ids = to.serves.ids;
       refusals = to.serves.refusals;
+      refused = to.serves.refused;
+      halted = to.serves.halted;
       made = to.serves.made;
       turns = to.serves.turns;
       written = Appends-kept old mid new _ to.serves.written kept;
+      wants = to.serves.wants;
     };
     ends = to.ends;
   }

@@ -1,5 +1,5 @@
 -- How a station sends its files over a wire and takes those of its peer, and what is told of it.
-use Rattle.std.specs.Prelude.{◌≡◌, ◌⊎◌, ◌≤◌, ℕ, zero, suc, ◌+◌, ◌==◌, Bool, true, false, List, [], ◌∷◌, ◌++◌, count_by, length, slice_get, take, Option, Some, Result, Ok, Err, if◌then◌else◌}
+use Rattle.std.specs.Prelude.{◌≡◌, ◌⊎◌, ◌≤◌, ℕ, zero, suc, ◌+◌, ◌==◌, Bool, true, false, ◌||◌, List, [], ◌∷◌, ◌++◌, count_by, length, slice_get, take, Option, Some, Result, Ok, Err, if◌then◌else◌}
 use Rattle.std.specs.Io.KnownBytes.{Appends, Keeps}
 use Rattle.std.specs.List.{flat_map, list_all}
 use Rattle.cfdp_header.specs.declared.value.TransactionId.{TransactionId}
@@ -12,7 +12,7 @@ use Rattle.cfdp_entity.specs.declared.error.PutError.{PutError}
 use Rattle.cfdp_station.specs.Station.{StationState}
 use Rattle.cfdp_station.specs.declared.config.StationConfig.{StationConfig}
 use Rattle.link_sim.specs.World.{IsFirstAt}
-use Rattle.cfdp_node.specs.Looping.{Puts, more_failures, put_answer, told}
+use Rattle.cfdp_node.specs.Looping.{Puts, is_no_memory, more_failures, put_answer, told}
 use Rattle.cfdp_node.specs.Report.{answer_text, count_line, indication_line, is_own_completion}
 use Rattle.cfdp_node.specs.Turn.{HearsAll, Sending, Sends, SendsInPart, Times}
 use Rattle.cfdp_node.specs.Wire.{WireCall}
@@ -28,29 +28,39 @@ abbrev pub opened : Result TransactionId PutError → List TransactionId
 opened (Ok id) = id ∷ []
 opened (Err by) = []
 
--- A put was made, and where it was refused this is told. The transaction that it opened, if one, is
--- behind the others.
-pub record MakesPut (source destination : List ℕ) (told : Option Answer)
+-- whether a put that answered so was refused for want of memory
+abbrev pub put_short : Result TransactionId PutError → Bool
+put_short (Ok id) = false
+put_short (Err by) = is_no_memory by
+
+-- A put was made, and where it was refused this is told, and whether that was for want of memory.
+-- The transaction that it opened, if one, is behind the others.
+pub record MakesPut (source destination : List ℕ) (told : Option Answer) (short : Bool)
     (ids ids_now : List TransactionId) (old new : StationState) : Type 0 where
   pub answer : Result TransactionId PutError
   pub puts : Puts source destination answer old new
   pub opens : ids_now ≡ ids ++ opened answer
   pub tells : told ≡ put_answer answer
+  pub wants : short ≡ put_short answer
 
--- a station, the transactions that its puts opened, and the lines of those that were refused
+-- a station, the transactions that its puts opened, the lines of those that were refused, and
+-- whether one of these was refused for want of memory
 pub record Putting : Type 0 where
   pub station : StationState
   pub ids : List TransactionId
   pub lines : List ℕ
+  pub short : Bool
 
 -- The put of this place was made. Its line has the number of the put, from 1 on.
 pub record MakesNext (puts : List PutNames) (place : ℕ) (old new : Putting) : Type 0 where
   pub names : PutNames
   pub is : slice_get puts place ≡ Some names
   pub told : Option Answer
-  pub makes : MakesPut names.source.items names.destination.items told old.ids new.ids
+  pub short : Bool
+  pub makes : MakesPut names.source.items names.destination.items told short old.ids new.ids
       old.station new.station
   pub lines : new.lines ≡ old.lines ++ answer_text (place + 1) told
+  pub wants : new.short ≡ (old.short || short)
 
 -- So many of these puts were made, in their order.
 abbrev pub MakesPuts : List PutNames → ℕ → (old new : Putting) → Type 0
@@ -134,17 +144,21 @@ station_exit short failed complete asked = if short then Device NoMemory
 -- ---- the whole
 module _ {W : Type 0} (Steps : W → WireCall → W → Type 0) (silent : W → Bool) (own every : ℕ)
     (puts : List PutNames) where
-  -- The puts were made, turns followed, and what was written tells of both.
+  -- The puts were made, turns followed, and what was written tells of both. Memory was wanting where
+  -- it was for a put or for a turn.
   pub record Serves (short : Bool) (first last : Sending W) (old new : Option (List ℕ)) : Type 0
     where
       pub station : StationState
       pub ids : List TransactionId
       pub refusals : List ℕ
+      pub refused : Bool
+      pub halted : Bool
       pub made : MakesPuts puts (length puts)
-          (record { station = first.station; ids = []; lines = [] })
-          (record { station = station; ids = ids; lines = refusals })
-      pub turns : TakesTurns Steps silent ids every short (record first { station = station }) last
+          (record { station = first.station; ids = []; lines = []; short = false })
+          (record { station = station; ids = ids; lines = refusals; short = refused })
+      pub turns : TakesTurns Steps silent ids every halted (record first { station = station }) last
       pub written : Appends old new (station_text refusals own (length puts) last.station)
+      pub wants : short ≡ (refused || halted)
 
   -- That happened, and so the run ended.
   pub record ServesTo (exit : Exit) (first : Sending W) (old new : Option (List ℕ)) : Type 0 where

@@ -193,6 +193,10 @@ impl Lookout for LoopLookout<'_> {
         self.onlooker.sees(side, passed, station);
     }
 
+    fn yields(&mut self) {
+        self.progress.yields();
+    }
+
     fn ends(&mut self) {
         self.progress.ends();
         self.onlooker.ends();

@@ -31,6 +31,9 @@ pub trait Lookout {
         station: &Station<O, I>,
     );
 
+    /// Hears that lines are about to be written: what it shows on a terminal gives way to them.
+    fn yields(&mut self);
+
     /// Hears that no more passes.
     fn ends(&mut self);
 }

@@ -55,7 +55,7 @@ pub struct Ended {
     /// What the put answered, where it wasn't accepted.
     pub answer: Option<Answer>,
     /// Whether memory was wanting.
-    short: bool,
+    pub short: bool,
 }
 
 /// The most octets of a datagram that are looked at: more than a frame has.

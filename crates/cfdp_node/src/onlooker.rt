@@ -88,6 +88,8 @@ impl Lookout for Onlooker {
         }
     }
 
+    fn yields(&mut self) {}
+
     fn ends(&mut self) {}
 }
 

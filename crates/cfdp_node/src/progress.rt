@@ -31,17 +31,7 @@ pub struct Progress<'a> {
 impl Progress<'_> {
     /// Before the first PDU.
     pub fn new(rt: &HostRuntime) -> Progress<'_> {
-        Progress::shown(rt, rt.stderr().is_terminal())
-    }
-
-    /// The same beside a report that is written meanwhile: where that goes to a terminal too,
-    /// nothing is written.
-    pub fn alone(rt: &HostRuntime) -> Progress<'_> {
-        Progress::shown(rt, rt.stderr().is_terminal() && !rt.stdout().is_terminal())
-    }
-
-    fn shown(rt: &HostRuntime, is_shown: bool) -> Progress<'_> {
-        let written = if is_shown {
+        let written = if rt.stderr().is_terminal() {
             Instant::now(rt).ok()
         } else {
             None
@@ -72,6 +62,13 @@ impl Progress<'_> {
         {
             self.write("");
             self.written.set(Some(now));
+        }
+    }
+
+    /// Takes the line away, so that others can be written in its place. It comes back in time.
+    pub fn yields(&self) {
+        if self.is_shown() {
+            let _ = eprint!(self.rt; "\r\u{1b}[K");
         }
     }
 

@@ -2,7 +2,7 @@
 ghost use Rattle.std.specs.Io.Buffered.{writer_buffer, writer_contents};
 ghost use Rattle.std.specs.Io.KnownBytes.{Appends};
 ghost use Rattle.std.specs.List.{flat_map, list_all};
-ghost use Rattle.std.specs.Prelude.{◌≡◌, ◌≤◌, ◌<◌, ◌↔◌, ◌∷◌, ◌++◌, ◌+◌, ℕ, List, [], count_by, drop, true, length, IfOk, IsTrue, OnErr, OnOk, vec_capacity, vec_len};
+ghost use Rattle.std.specs.Prelude.{◌≡◌, ◌≤◌, ◌<◌, ◌↔◌, ◌∷◌, ◌++◌, ◌+◌, ℕ, List, [], count_by, drop, false, true, length, IfOk, IsTrue, OnErr, OnOk, vec_capacity, vec_len};
 ghost use Rattle.cfdp_node.specs.Exit.{IsFlushedAt};
 ghost use Rattle.cfdp_node.specs.Looping.{IsTold, told};
 ghost use Rattle.cfdp_node.specs.Report.{count_line, indication_line, is_own_completion};
@@ -11,11 +11,11 @@ ghost use Rattle.cfdp_node.specs.Serving as spec;
 ghost use Rattle.cfdp_node.specs.Turn.{FitsFrames, SendsInPart};
 ghost use Rattle.cfdp_station.specs.Config.{IsStationConfig};
 
-use crate::answer::{Answer, Answered};
+use crate::answer::Answered;
 use crate::dropping::let_go;
 use crate::exit::{Exit, Fault};
 use crate::lookout::{Lookout, Passed};
-use crate::looping::{Turning, have_failed, refused, write_count};
+use crate::looping::{Ended, Turning, have_failed, refused, write_count};
 use crate::report::{own_completions, write_answer, write_indications};
 use crate::turn::{receive_turn, send_turn};
 use crate::wire::PeerWire;
@@ -223,16 +223,21 @@ fn serve<O: Outbox, I: Inbox, W: PeerWire, C: Clock, V: Write, L: Lookout>(
     ensures complete { IfOk result (λ served. served.complete
         ≡ completed options.now.config.entity.entity station.new) }
 {
-    make_puts(options, station, ids, out, lookout)?;
+    let refused = make_puts(options, station, ids, out, lookout)?;
     let mut count = 0;
-    let short = take_turns(
+    let halted = take_turns(
         options, station, wire, clock, ids, turning, &mut count, out, lookout,
     )?;
+    lookout.yields();
     let complete = tell_last(options, station.indications(), count, out)?;
-    Ok(Served { short, complete })
+    Ok(Served {
+        short: refused | halted,
+        complete,
+    })
 }
 
-/// Makes all puts, and writes a line for each that is refused.
+/// Makes all puts, and writes a line for each that is refused. Answers whether one was refused for
+/// want of memory.
 ///
 /// # Errors
 ///
@@ -243,28 +248,30 @@ fn make_puts<O: Outbox, I: Inbox, V: Write, L: Lookout>(
     ids: &mut Vec<TransactionId>,
     out: &mut V,
     lookout: &mut L,
-) -> io::Result<()>
+) -> io::Result<bool>
     requires none { ids.old.items ≡ [] }
     requires room { length options.now.puts.items ≤ vec_capacity ids.old }
-    ensures made { OnOk result ((lines : List ℕ)
+    ensures made { IfOk result (λ short. (lines : List ℕ)
         × MakesPuts options.now.puts.items (length options.now.puts.items)
-        (record { station = station.old; ids = []; lines = [] })
-        (record { station = station.new; ids = ids.new.items; lines = lines })
+        (record { station = station.old; ids = []; lines = []; short = false })
+        (record { station = station.new; ids = ids.new.items; lines = lines; short = short })
         × Appends (V.contents out.old) (V.contents out.new) lines) }
     ensures link { station.new.down.link ≡ station.old.down.link }
 {
     let puts = options.puts.as_slice();
+    let mut short = false;
     for place in 0..puts.len() {
-        let answer = make_put(options.side, station, &puts[place], ids, lookout);
+        let made = make_put(options.side, station, &puts[place], ids, lookout);
         write_answer(
             out,
             Answered {
                 line: place + 1,
-                answer,
+                answer: made.answer,
             },
         )?;
+        short |= made.short;
     }
-    Ok(())
+    Ok(short)
 }
 
 /// Makes a put, and answers why it was refused, if it was.
@@ -274,10 +281,10 @@ fn make_put<O: Outbox, I: Inbox, L: Lookout>(
     names: &PutNames,
     ids: &mut Vec<TransactionId>,
     lookout: &mut L,
-) -> Option<Answer>
+) -> Ended
     requires { vec_len ids.old < vec_capacity ids.old }
-    ensures makes { MakesPut names.now.source.items names.now.destination.items result
-        ids.old.items ids.new.items station.old station.new }
+    ensures makes { MakesPut names.now.source.items names.now.destination.items result.answer
+        result.short ids.old.items ids.new.items station.old station.new }
     ensures room { vec_capacity ids.old ≤ vec_capacity ids.new }
     ensures more { vec_len ids.new ≤ vec_len ids.old + 1 }
     ensures link { station.new.down.link ≡ station.old.down.link }
@@ -286,9 +293,15 @@ fn make_put<O: Outbox, I: Inbox, L: Lookout>(
         Ok(id) => {
             note(ids, id);
             lookout.sees(side, Passed::Put, station);
-            None
+            Ended {
+                answer: None,
+                short: false,
+            }
         }
-        Err(error) => refused(error).answer,
+        Err(error) => {
+            lookout.yields();
+            refused(error)
+        }
     }
 }
 
@@ -334,6 +347,7 @@ fn take_turns<O: Outbox, I: Inbox, W: PeerWire, C: Clock, V: Write, L: Lookout>(
             station.indications(),
             count,
             out,
+            lookout,
         )?;
         if is_over(ids, station, wire) {
             return Ok(false);
@@ -420,17 +434,26 @@ fn take_turn<O: Outbox, I: Inbox, W: PeerWire, L: Lookout>(
 }
 
 /// Writes what a station told its user behind the first so many indications, and lets it leave the
-/// buffer. All are counted then.
+/// buffer. All are counted then. Who looks on gives way before that, where there is something.
 ///
 /// # Errors
 ///
 /// That of the writer.
-fn tell<V: Write>(own: u64, all: &[Indication], count: &mut usize, out: &mut V) -> io::Result<()>
+fn tell<V: Write, L: Lookout>(
+    own: u64,
+    all: &[Indication],
+    count: &mut usize,
+    out: &mut V,
+    lookout: &mut L,
+) -> io::Result<()>
     requires { count.old ≤ length all.now }
     ensures written { OnOk result (Appends (V.contents out.old) (V.contents out.new)
         (flat_map (indication_line own) (drop count.old all.now))) }
     ensures count { OnOk result (count.new ≡ length all.now) }
 {
+    if *count < all.len() {
+        lookout.yields();
+    }
     write_indications(out, own, &all[*count..])?;
     out.flush()?;
     *count = all.len();

@@ -239,7 +239,7 @@ fn ran_status(
 ) -> u8
     requires { IsWorldConfig config.now }
 {
-    let (told, progress) = (Cell::new(false), Progress::alone(rt));
+    let (told, progress) = (Cell::new(false), Progress::new(rt));
     let ran = match ran(rt, request, config, prepared, &told, &progress) {
         Ok(ran) => ran,
         Err(AllocError) => Ran::unseen(Exit::Device(Fault::NoMemoryAtStart)),

@@ -394,6 +394,7 @@ module _ (s : Side) (a : StationState) (m : FrameLinkState) (puts : List Accepte
         waits = there;
         link = refl;
         given = h.given;
+        gives = h.gives;
         hears = h.hears;
         heard = h.heard;
         down = taken.down;
@@ -407,6 +408,7 @@ module _ (s : Side) (a : StationState) (m : FrameLinkState) (puts : List Accepte
         waits = there;
         link = refl;
         given = h.given;
+        gives = h.gives;
         hears = h.hears;
         heard = h.heard;
         down = taken.down;

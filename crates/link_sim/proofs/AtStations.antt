@@ -13,7 +13,7 @@ use Rattle.link_stack.specs.Downward.{LinkSenderState, IsDown, packing}
 use Rattle.link_stack.specs.Upward.{LinkReceiverState, IsUp}
 use Rattle.cfdp_station.specs.Link.{SendsPdu, Flushes}
 use Rattle.cfdp_station.specs.Station.{StationState, first_down, first_up}
-use Rattle.cfdp_station.specs.Taking.{TakesFrame}
+use Rattle.cfdp_station.specs.Taking.{GivesPdus, TakesFrame}
 use Rattle.link_sim.specs.declared.side.Side.TheVariants.{One, Two}
 use Rattle.link_sim.specs.declared.event.Applied.{Applied}
 use Rattle.link_sim.specs.declared.event.Applied.TheVariants as did
@@ -94,7 +94,7 @@ delivered_at d k old new frame is there e taken =
     delivers l new.up [] taken.pdus is.way there (taken.given.next (packets_sent l) is.way.received.read k.run is.way.received.end (next_frame l frame is.way there e)) in
     let is_rested : IsRested (one_way d (record k { marks = k.marks ++ true ∷ []; run = 0 }) new.up) = record { none_waits = is.rested.none_waits; filled = is.rested.filled } in
     let hears : HearsMore l after taken.pdus = subst (λ x. HearsMore l after x) (sym r.1) r.2 in
-    record { carried = record { way = hears.way; rested = is_rested; fits = is.fits }; given = taken.pdus; hears = hears; heard = taken.heard }
+    record { carried = record { way = hears.way; rested = is_rested; fits = is.fits }; given = taken.pdus; gives = subst (λ (f : List ℕ). GivesPdus f old.up new.up taken.pdus) e taken.given; hears = hears; heard = taken.heard }
 
 -- ---- what is lost
 pub struck_at : (r : Applied) (d : LinkSenderState) (k m : FrameLinkState) (u : LinkReceiverState) → StrikesAt r k m → IsCarried d k u → IsCarried d m u × SendsNone (one_way d k u) (one_way d m u)
@@ -167,6 +167,7 @@ module _ (r : Applied) (k n : FrameLinkState) (old new : StationState) (waits : 
             waits = waits same;
             link = ap seen_link (marked same);
             given = h.given;
+            gives = h.gives;
             hears = h.hears;
             heard = h.heard;
             down = down;
@@ -187,6 +188,7 @@ module _ (r : Applied) (k n : FrameLinkState) (old new : StationState) (waits : 
             waits = waits same;
             link = ap seen_link (marked same);
             given = h.given;
+            gives = h.gives;
             hears = h.hears;
             heard = h.heard;
             down = down;

@@ -20,12 +20,12 @@ use Rattle.cfdp_entity.specs.Sound.{SpellsTurn}
 use Rattle.cfdp_entity.specs.Table.{data_at}
 use Rattle.cfdp_station.specs.Polling.{next_pdu}
 use Rattle.cfdp_station.specs.Station.{StationState}
-use Rattle.cfdp_station.specs.Taking.{HearsAll}
+use Rattle.cfdp_station.specs.Taking.{GivesPdus, HearsAll}
 use Rattle.link_sim.specs.declared.event.Applied.{Applied}
 use Rattle.link_sim.specs.declared.event.Applied.TheVariants as did
 use Rattle.link_sim.specs.declared.event.Refusal.TheVariants as refusal
 use Rattle.link_sim.specs.declared.event.AcceptedPut.{AcceptedPut}
-use Rattle.link_sim.specs.FrameLink.{FrameLinkState}
+use Rattle.link_sim.specs.FrameLink.{FrameLinkState, oldest}
 use Rattle.link_sim.specs.OneWay.{IsOneWay, IsCarried, SendsNone, SendsMore, HearsMore, one_way}
 
 -- The frames, their marks and the octets of each are as they were: only buffers may have been made.
@@ -177,6 +177,7 @@ pub record HearsAt (down : LinkSenderState) (link link_now : FrameLinkState)
     (old new : StationState) : Type 0 where
   pub carried : IsCarried down link_now new.up
   pub given : List (List ℕ)
+  pub gives : GivesPdus (oldest link) old.up new.up given
   pub hears : HearsMore (one_way down link old.up) (one_way down link_now new.up) given
   pub heard : HearsAll given old.entity new.entity
 

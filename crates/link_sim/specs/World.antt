@@ -1,5 +1,5 @@
 -- Two stations and the frames between them: what each event does.
-use Rattle.std.specs.Prelude.{◌≡◌, ◌≢◌, ◌⊎◌, ◌<◌, ◌≤◌, ℕ, ◌+◌, Bool, true, false, List, [], ◌∷◌, ◌++◌, length, Some}
+use Rattle.std.specs.Prelude.{◌≡◌, ◌≢◌, ◌⊎◌, ◌<◌, ◌≤◌, ℕ, ◌+◌, Bool, true, false, List, [], ◌∷◌, ◌++◌, length, slice_index_or, Some}
 use Rattle.cfdp_header.specs.declared.value.TransactionId.{TransactionId}
 use Rattle.cfdp_header.specs.Files.{FileMap}
 use Rattle.mpdu.specs.Packing.{flush_of}
@@ -22,7 +22,7 @@ use Rattle.cfdp_entity.specs.Sound.{SpellsTurn}
 use Rattle.cfdp_entity.specs.Table.{Ticks, data_at}
 use Rattle.cfdp_station.specs.Polling.{next_pdu}
 use Rattle.cfdp_station.specs.Station.{StationState, KeepsLink, first_down, first_up}
-use Rattle.cfdp_station.specs.Taking.{HearsAll}
+use Rattle.cfdp_station.specs.Taking.{GivesPdus, HearsAll}
 use Rattle.cfdp_station.specs.declared.config.StationConfig.{StationConfig}
 use Rattle.link_sim.specs.declared.side.Side.{Side}
 use Rattle.link_sim.specs.declared.side.Side.TheVariants.{One, Two}
@@ -261,12 +261,18 @@ NoneWaits s w = length (link_from s w).frames ≤ length (link_from s w).marks
 abbrev pub marked : Bool → ℕ → LinkState → LinkState
 marked mark run k = record k { marks = k.marks ++ mark ∷ []; run = run }
 
--- The oldest waiting frame reached the other station, whose entity heard, in order, the PDUs that
--- came up.
+-- the oldest frame that waits on a link
+abbrev pub oldest_of : LinkState → List ℕ
+oldest_of k = slice_index_or k.frames (length k.marks) []
+
+-- The oldest waiting frame reached the other station, whose receiving end took it and gave the PDUs
+-- that came up, and whose entity heard these in order.
 pub record DeliversFrame (s : Side) (old new : WorldState) : Type 0 where
   pub waits : length (link_from s old).marks < length (link_from s old).frames
   pub link : link_from s new ≡ marked true 0 (link_from s old)
   pub given : List (List ℕ)
+  pub gives : GivesPdus (oldest_of (link_from s old)) (station_at (other s) old).up
+      (station_at (other s) new).up given
   pub hears : HearsMore (way_from s old) (way_from s new) given
   pub heard : HearsAll given (station_at (other s) old).entity (station_at (other s) new).entity
   pub down : (station_at (other s) new).down ≡ (station_at (other s) old).down

@@ -104,15 +104,16 @@ pub fn asks<T: Target>(
     }
 }
 
-/// Tries each proper prefix of all of these.
-pub fn prefixes_of_all<T: Target>(
-    target: &mut T,
-    all: &[Vec<u8>],
+/// Tries each proper prefix of all of these. The target is let go here, where nothing is known of
+/// it: at a station that is far cheaper to prove.
+pub fn prefixes_of_all<T: Target + Drop>(
+    mut target: T,
+    all: Vec<Vec<u8>>,
     out: &mut String,
 ) -> Result<(), AllocError> {
     let mut tally = Tally::new();
-    for whole in all {
-        try_prefixes(target, whole, &mut tally);
+    for whole in &all {
+        try_prefixes(&mut target, whole, &mut tally);
     }
     tally.tell(out)
 }

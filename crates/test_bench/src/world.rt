@@ -27,6 +27,25 @@ use link_sim::{Applied, Event, FrameLink, LossRun, Mark, Side, World, WorldConfi
 use std::alloc::{AllocError, Global};
 use std::marker::Model;
 
+/// What takes frames and publishes files.
+trait Replay: Drop {
+    /// Takes a frame.
+    fn takes(&mut self, frame: &[u8]);
+
+    /// The published files.
+    fn files(&self) -> &Files;
+}
+
+impl Replay for StationBench {
+    fn takes(&mut self, frame: &[u8]) {
+        self.take(frame);
+    }
+
+    fn files(&self) -> &Files {
+        self.published()
+    }
+}
+
 type FusedWorld = World<FuseOutbox<MemoryOutbox>, FuseInbox<MemoryInbox>>;
 
 /// Plays a transcript on a world whose setups have these numbers.
@@ -148,15 +167,13 @@ impl WorldBench {
 
     fn replays(&self, out: &mut String) -> Result<(), AllocError> {
         let frames = recorded(self.alloc, self.world.frames(Side::One))?;
-        let mut station = StationBench::open(self.alloc, self.two)?;
-        take_all(&mut station, &frames);
-        tell_files(self.alloc, station.published(), out)
+        let station = StationBench::open(self.alloc, self.two)?;
+        replayed(self.alloc, station, frames, out)
     }
 
     fn cuts(&self, out: &mut String) -> Result<(), AllocError> {
         let frames = recorded(self.alloc, self.world.frames(Side::One))?;
-        let mut station = StationBench::open(self.alloc, self.two)?;
-        strangers::prefixes_of_all(&mut station, &frames, out)
+        strangers::prefixes_of_all(StationBench::open(self.alloc, self.two)?, frames, out)
     }
 }
 
@@ -194,10 +211,18 @@ fn recorded(alloc: Global, link: &FrameLink) -> Result<Vec<Vec<u8>>, AllocError>
     Ok(frames)
 }
 
-fn take_all(station: &mut StationBench, frames: &[Vec<u8>]) {
-    for frame in frames {
-        station.take(frame);
+/// Gives a station these frames, and tells each file that it published. Of the station nothing is
+/// known here: so it is far cheaper to prove that it is let go.
+fn replayed<R: Replay>(
+    alloc: Global,
+    mut station: R,
+    frames: Vec<Vec<u8>>,
+    out: &mut String,
+) -> Result<(), AllocError> {
+    for frame in &frames {
+        station.takes(frame);
     }
+    tell_files(alloc, station.files(), out)
 }
 
 fn tell_marks(link: &FrameLink, out: &mut String) -> Result<(), AllocError> {
