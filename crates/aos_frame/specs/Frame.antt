@@ -1,8 +1,9 @@
 -- An AOS transfer frame with a packet zone: which octets are which frame of a link, and what is
 -- wrong with octets that are none (CCSDS 732.0-B-4, 4.1).
-use Rattle.std.specs.Prelude.{◌≡◌, ℕ, ◌+◌, ◌*◌, ◌<◌, ◌≤◌, List, ◌++◌, codes, length, Option, Some, None, ◌==◌, not, if◌then◌else◌}
+use Rattle.std.specs.Prelude.{◌≡◌, ℕ, ◌+◌, ◌*◌, ◌/◌, ◌%◌, ◌<◌, ◌≤◌, Bool, true, false, List, ◌++◌, codes, length, Option, Some, None, ◌==◌, not, if◌then◌else◌}
 use Rattle.cfd_bits.specs.Field.{field, octets}
-use Rattle.aos_frame.specs.Counts.{frame_counts}
+use Rattle.aos_frame.specs.Counts.{short_counts, counts_of}
+use Rattle.aos_frame.specs.declared.count.SeenCount.{SeenCount}
 use Rattle.aos_frame.specs.declared.header.FrameHeader.{FrameHeader}
 use Rattle.aos_frame.specs.declared.config.LinkConfig.{LinkConfig}
 use Rattle.aos_frame.specs.declared.error.FrameError.{FrameError}
@@ -23,8 +24,21 @@ pub record IsLink (link : LinkConfig) : Type 0 where
   pub most_zone : link.zone ≤ 2040
   pub apid : link.apid ≤ 2046
 
--- The octets are a frame of the link with this header. Bit 41, the usage flag of the count cycle,
--- and bits 44 to 47, the count cycle, are in no line: they are read as anything.
+-- whether the header of a frame has the usage flag of the count cycle (4.1.2.5)
+abbrev pub cycle_in : List ℕ → Bool
+cycle_in text = field text 41 1 == 1
+
+-- the virtual channel frame count in a header (4.1.2.4): 24 bits, and with the usage flag the count
+-- cycle (4.1.2.5) as 4 more in front of them; without it these 4 are read as anything
+abbrev pub count_in : Bool → List ℕ → ℕ
+count_in true text = short_counts * field text 44 4 + field text 16 24
+count_in false text = field text 16 24
+
+-- the count of a frame with its flag
+abbrev pub seen_in : List ℕ → SeenCount
+seen_in text = record { count = count_in (cycle_in text) text; cycle = cycle_in text }
+
+-- The octets are a frame of the link with this header.
 pub record SpellsFrame (link : LinkConfig) (h : FrameHeader) (text : List ℕ) : Type 0 where
   pub size : length text ≡ frame_len link
   -- 4.1.2.2, the transfer frame version number and the spacecraft identifier
@@ -33,9 +47,10 @@ pub record SpellsFrame (link : LinkConfig) (h : FrameHeader) (text : List ℕ) :
   -- 4.1.2.3, the virtual channel identifier
   pub channel : field text 10 6 ≡ h.channel
   -- 4.1.2.4, the virtual channel frame count
-  pub count : field text 16 24 ≡ h.count
-  -- 4.1.2.5, the signaling field: no replay, and the two bits behind the usage flag
+  pub count : count_in h.cycle text ≡ h.count
+  -- 4.1.2.5, the signaling field: no replay, the usage flag, and the two bits behind it
   pub not_replayed : field text 40 1 ≡ 0
+  pub cycle : cycle_in text ≡ h.cycle
   pub two_bits : field text 42 2 ≡ 0
   -- it is one of this link's
   pub our_spacecraft : h.spacecraft ≡ link.spacecraft
@@ -62,11 +77,17 @@ own_link text zone = record { spacecraft = field text 2 8; channel = field text 
 pub record FitsHeader (h : FrameHeader) : Type 0 where
   pub spacecraft : h.spacecraft < 256
   pub channel : h.channel < idle_channel
-  pub count : h.count < frame_counts
+  pub count : h.count < counts_of h.cycle
 
--- the written spelling of a header: usage flag 0, count cycle 0
+-- the written signaling field: the usage flag with the upper 4 bits of the count, or neither
+abbrev pub signaling : Bool → ℕ → ℕ
+signaling true count = 64 + count / short_counts
+signaling false count = 0
+
+-- the written spelling of a header
 abbrev pub header_octets : FrameHeader → List ℕ
-header_octets h = octets 2 (16384 + 64 * h.spacecraft + h.channel) ++ octets 3 h.count ++ octets 1 0
+header_octets h =
+    octets 2 (16384 + 64 * h.spacecraft + h.channel) ++ octets 3 (h.count % short_counts) ++ octets 1 (signaling h.cycle h.count)
 
 -- the written spelling of a frame, from the M_PDU header and the packet zone
 abbrev pub frame_octets : FrameHeader → List ℕ → List ℕ

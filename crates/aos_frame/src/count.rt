@@ -1,15 +1,34 @@
 //! The frame counts of a virtual channel, and what is missing between two of them (CCSDS 732.0-B-4,
-//! 4.1.2.4).
+//! 4.1.2.4, 4.1.2.5).
 ghost use Rattle.std.specs.Prelude.{◌≡◌, ◌↔◌, ℕ, ◌+◌, ◌%◌, ◌<◌, IsTrue, Some, None, IfSome};
-ghost use Rattle.aos_frame.specs.Counts.{frame_counts, AreMissing, continuity, follows};
+ghost use Rattle.aos_frame.specs.Counts.{frame_counts, counts_of, compared, AreMissing, continuity, follows};
 ghost use Rattle.aos_frame.specs.declared.count.Continuity.TheVariants.{Follows};
 
 use std::marker::Model;
 
-/// The numbers that a frame count can be, 0 to 16,777,215. Behind the last comes 0.
-pub const FRAME_COUNTS: u32 = 16_777_216;
+/// The numbers that a frame count of 28 bits can be, 0 to 268,435,455. Behind the last comes 0.
+pub const FRAME_COUNTS: u32 = 268_435_456;
 
-/// The counts of the frames of one virtual channel, in order: 0, 1, .. 16,777,215, 0, ..
+/// The numbers that a frame count can be without the count cycle, which is its upper 4 bits: 0 to
+/// 16,777,215.
+pub const SHORT_COUNTS: u32 = 16_777_216;
+
+/// How many numbers the count of a frame can be, by its usage flag of the count cycle.
+pub(crate) fn counts_of(cycle: bool) -> u32
+    ensures { result ≡ counts_of cycle }
+{
+    if cycle { FRAME_COUNTS } else { SHORT_COUNTS }
+}
+
+/// How many are missing between two counts, by all 28 bits of them or by the lower 24.
+fn missing_between(last: u32, count: u32, all: bool) -> u32
+    ensures { AreMissing (counts_of all) last count result }
+{
+    let counts = counts_of(all);
+    (count % counts + (counts - 1 - last % counts)) % counts
+}
+
+/// The counts of the frames of one virtual channel, in order: 0, 1, .. 268,435,455, 0, ..
 #[derive(Clone, Debug, Default, Drop)]
 pub struct VcCounter {
     next: u32,
@@ -47,32 +66,41 @@ impl VcCounter {
 }
 
 /// How a frame goes on from the last one of its virtual channel that was seen.
+///
+/// Counts are compared modulo [`FRAME_COUNTS`] where both frames have the usage flag of the count
+/// cycle, else modulo [`SHORT_COUNTS`].
 #[derive(Clone, Copy, Debug, PartialEq, Eq)]
 pub enum Continuity {
-    /// No count is missing between them, modulo [`FRAME_COUNTS`]; or no frame was seen before.
+    /// No count is missing between them; or no frame was seen before.
     Follows,
-    /// So many counts are missing between them, modulo [`FRAME_COUNTS`]: at least 1.
+    /// So many counts are missing between them: at least 1.
     Gap(u32),
+}
+
+/// The count of a frame, and whether it has the usage flag of the count cycle.
+#[derive(Clone, Copy, Debug)]
+pub struct SeenCount {
+    /// The count, of 28 bits with the flag and of 24 without it.
+    pub count: u32,
+    /// The usage flag of the count cycle.
+    pub cycle: bool,
 }
 
 /// Tells how many frames of one virtual channel are missing between those that come.
 ///
-/// Where a multiple of [`FRAME_COUNTS`] frames in a row is lost, the counts can't tell it.
+/// Where a multiple of the counts that are compared is lost in a row, they can't tell it.
 #[derive(Clone, Debug, Default, Drop)]
 pub struct VcMonitor {
-    last: Option<u32>,
+    last: Option<SeenCount>,
 }
 
 impl Model for VcMonitor {
-    ghost use Rattle.std.specs.Prelude.{ℕ, ◌<◌, Option};
-    ghost use Rattle.std.specs.Option.{ForSome};
-    ghost use Rattle.aos_frame.specs.Counts.{frame_counts};
+    ghost use Rattle.std.specs.Prelude.{Option};
+    ghost use Rattle.aos_frame.specs.declared.count.SeenCount.{SeenCount};
 
-    ghost Value = { Option ℕ };
+    ghost Value = { Option SeenCount };
 
     ghost view = { λ m. m.last };
-
-    ghost invariant = { λ m. ForSome m.last (λ n. n < frame_counts) };
 }
 
 impl VcMonitor {
@@ -83,22 +111,25 @@ impl VcMonitor {
         VcMonitor { last: None }
     }
 
-    /// How a frame with this count goes on from the last one seen. The count is below
-    /// [`FRAME_COUNTS`], as `decode` answers it.
-    pub fn see(&mut self, count: u32) -> Continuity
-        requires { count < frame_counts }
+    /// How a frame goes on from the last one seen, by its count and its usage flag of the count
+    /// cycle, as `decode` answers them.
+    ///
+    /// They are compared by 28 bits where this frame and the last one have the flag, else by their
+    /// lower 24.
+    pub fn see(&mut self, count: u32, cycle: bool) -> Continuity
         ensures first { self.old ≡ None → result ≡ Follows }
         // The number that is missing, and no other is, decides the answer.
-        ensures told { IfSome self.old (λ last. (n : ℕ) → AreMissing last count n → result
-            ≡ continuity n) }
-        ensures follows { (result ≡ Follows) ↔ IsTrue (follows self.old count) }
-        ensures seen { self.new ≡ Some count }
+        ensures told { IfSome self.old (λ last. (n : ℕ) →
+            AreMissing (compared last.cycle cycle) last.count count n → result ≡ continuity n) }
+        ensures follows { (result ≡ Follows)
+            ↔ IsTrue (follows self.old (record { count = count; cycle = cycle })) }
+        ensures seen { self.new ≡ Some (record { count = count; cycle = cycle }) }
     {
         let missing = match self.last {
             None => 0,
-            Some(last) => (count + (FRAME_COUNTS - 1 - last)) % FRAME_COUNTS,
+            Some(last) => missing_between(last.count, count, last.cycle && cycle),
         };
-        self.last = Some(count);
+        self.last = Some(SeenCount { count, cycle });
         if missing == 0 {
             Continuity::Follows
         } else {
@@ -106,14 +137,13 @@ impl VcMonitor {
         }
     }
 
-    /// Whether a frame with this count follows the last one seen: whether `see` answers
-    /// [`Continuity::Follows`]. The count is seen by it too.
-    pub fn follows(&mut self, count: u32) -> bool
-        requires { count < frame_counts }
-        ensures told { result ≡ follows self.old count }
-        ensures seen { self.new ≡ Some count }
+    /// Whether a frame follows the last one seen: whether `see` answers [`Continuity::Follows`].
+    /// It is seen by it too.
+    pub fn follows(&mut self, count: u32, cycle: bool) -> bool
+        ensures told { result ≡ follows self.old (record { count = count; cycle = cycle }) }
+        ensures seen { self.new ≡ Some (record { count = count; cycle = cycle }) }
     {
-        match self.see(count) {
+        match self.see(count, cycle) {
             Continuity::Follows => true,
             Continuity::Gap(_) => false,
         }

@@ -6,7 +6,7 @@ ghost use Rattle.aos_frame.specs.declared.error.FrameError.TheVariants.{OtherSpa
 ghost use Rattle.aos_frame.specs.Frame.{SpellsFrame, FitsHeader, frame_fault, own_link};
 
 use crate::config::LinkConfig;
-use crate::count::FRAME_COUNTS;
+use crate::count::counts_of;
 use crate::error::FrameError;
 use cfd_bits::get;
 
@@ -25,8 +25,12 @@ pub struct FrameHeader {
     /// The virtual channel identifier, 0 to 62. Frames of [`IDLE_CHANNEL`] are neither written nor
     /// read.
     pub channel: u8,
-    /// The virtual channel frame count, below [`FRAME_COUNTS`](crate::FRAME_COUNTS).
+    /// The virtual channel frame count: below [`FRAME_COUNTS`](crate::FRAME_COUNTS) where `cycle`
+    /// is true, else below [`SHORT_COUNTS`](crate::SHORT_COUNTS).
     pub count: u32,
+    /// The usage flag of the count cycle: whether the count has 28 bits, whose upper 4 stand in the
+    /// count cycle (CCSDS 732.0-B-4, 4.1.2.5). Else it has 24.
+    pub cycle: bool,
 }
 
 impl FrameHeader {
@@ -70,6 +74,6 @@ impl FrameHeader {
         ensures { IsTrue result ↔ FitsHeader self.now }
     {
         let header = *self;
-        header.channel < IDLE_CHANNEL && header.count < FRAME_COUNTS
+        header.channel < IDLE_CHANNEL && header.count < counts_of(header.cycle)
     }
 }

@@ -1,8 +1,8 @@
 //! Laws of frames and their spellings, each the contract of a function that does nothing.
-ghost use Rattle.std.specs.Prelude.{◌≡◌, ℕ, ◌+◌, ◌%◌, ◌<◌, List, length, drop};
+ghost use Rattle.std.specs.Prelude.{◌≡◌, ℕ, ◌+◌, ◌%◌, ◌<◌, Bool, List, length, drop};
 ghost use Rattle.aos_frame.specs.declared.header.FrameHeader.{FrameHeader};
 ghost use Rattle.aos_frame.specs.declared.config.LinkConfig.{LinkConfig};
-ghost use Rattle.aos_frame.specs.Counts.{frame_counts, AreMissing};
+ghost use Rattle.aos_frame.specs.Counts.{counts_of, compared, AreMissing};
 ghost use Rattle.aos_frame.specs.Frame.{SpellsFrame, FitsHeader, frame_octets};
 
 /// What is written of a header of the link, with the M_PDU header and the packet zone behind it,
@@ -20,11 +20,12 @@ pub fn a_frame_has_one_header()
 {}
 
 /// Between two counts one number of counts is missing, and no other is. Where some frames of a
-/// channel in a row are lost, fewer than there are counts, it is how many they are.
+/// channel in a row are lost, fewer than the counts that are compared, it is how many they are.
 pub fn one_number_is_missing()
-    ensures lost { (n lost : ℕ) → lost < frame_counts →
-        AreMissing (n % frame_counts) ((n + 1 + lost) % frame_counts) lost }
-    ensures some { (last count : ℕ) → last < frame_counts → count < frame_counts → (n : ℕ)
-        × AreMissing last count n }
-    ensures one { (last count n m : ℕ) → AreMissing last count n → AreMissing last count m → n ≡ m }
+    ensures lost { (n lost : ℕ) (last this : Bool) → lost < compared last this →
+        AreMissing (compared last this) (n % counts_of last) ((n + 1 + lost) % counts_of this) lost }
+    ensures some { (last this : Bool) (before count : ℕ) → (n : ℕ)
+        × AreMissing (compared last this) before count n }
+    ensures one { (last this : Bool) (before count n m : ℕ) →
+        AreMissing (compared last this) before count n → AreMissing (compared last this) before count m → n ≡ m }
 {}

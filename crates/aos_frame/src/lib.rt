@@ -9,21 +9,27 @@
 //!
 //! ```
 //! let mut counter = VcCounter::new();
-//! let header = FrameHeader { spacecraft: link.spacecraft, channel: link.channel, count: counter.next() };
+//! let header = FrameHeader {
+//!     spacecraft: link.spacecraft,
+//!     channel: link.channel,
+//!     count: counter.next(),
+//!     cycle: true,
+//! };
 //! encode(&header, &mut frame);
 //!
 //! let mut monitor = VcMonitor::new();
 //! let (header, mpdu) = decode(&frame, &link)?;
-//! if monitor.follows(header.count) {
+//! if monitor.follows(header.count, header.cycle) {
 //!     // no frame was lost before this one
 //! }
 //! ```
 #![tactic(auto)]
 
-ghost use Rattle.std.specs.Prelude.{◌≡◌, ◌+◌, ◌≤◌, length, drop, IfOk, IsOkAnd};
+ghost use Rattle.std.specs.Prelude.{◌≡◌, ◌+◌, ◌<◌, ◌≤◌, length, drop, IfOk, IsOkAnd};
 ghost use Rattle.std.specs.Result.{result_err};
 ghost use Rattle.aos_frame.specs.declared.header.FrameHeader.{FrameHeader};
-ghost use Rattle.aos_frame.specs.Frame.{SpellsFrame, frame_fault, FitsHeader, frame_octets};
+ghost use Rattle.aos_frame.specs.Counts.{counts_of};
+ghost use Rattle.aos_frame.specs.Frame.{SpellsFrame, count_in, frame_fault, FitsHeader, signaling, frame_octets};
 
 mod config;
 mod count;
@@ -33,7 +39,7 @@ mod laws;
 
 use cfd_bits::{get, put_uint};
 pub use config::LinkConfig;
-pub use count::{Continuity, FRAME_COUNTS, VcCounter, VcMonitor};
+pub use count::{Continuity, FRAME_COUNTS, SHORT_COUNTS, SeenCount, VcCounter, VcMonitor};
 pub use error::FrameError;
 pub use header::{FrameHeader, HEADER_LEN, IDLE_CHANNEL};
 pub use laws::{a_frame_has_one_header, one_number_is_missing, written_frame_is_read};
@@ -41,11 +47,25 @@ pub use laws::{a_frame_has_one_header, one_number_is_missing, written_frame_is_r
 /// Octets of the M_PDU header, in front of the packet zone (CCSDS 732.0-B-4, 4.1.4.2).
 const MPDU_HEADER_LEN: usize = 2;
 
+/// The count in a frame's header, which has 28 bits where the usage flag of the count cycle is 1.
+fn count_in(bytes: &[u8], cycle: bool) -> u32
+    requires { 6 ≤ length bytes.now }
+    ensures count { result ≡ count_in cycle bytes.now }
+    ensures below { result < counts_of cycle }
+{
+    let lower = get(bytes, 16, 24) as u32;
+    if cycle {
+        SHORT_COUNTS * get(bytes, 44, 4) as u32 + lower
+    } else {
+        lower
+    }
+}
+
 /// The header of a whole frame of the link, and the octets behind it: the M_PDU header and the
 /// packet zone.
 ///
-/// Of the 2 octets of the M_PDU header the last 11 bits are the first header pointer. The usage
-/// flag of the count cycle, and the count cycle, are read as anything.
+/// Of the 2 octets of the M_PDU header the last 11 bits are the first header pointer. The count
+/// cycle is read as the upper 4 bits of the count where its usage flag is 1, else as anything.
 ///
 /// # Errors
 ///
@@ -85,16 +105,31 @@ pub fn decode<'a>(bytes: &'a [u8], link: &LinkConfig) -> Result<(FrameHeader, &'
     if channel != link.channel {
         return Err(FrameError::OtherChannel);
     }
+    let cycle = get(bytes, 41, 1) == 1;
     let header = FrameHeader {
         spacecraft,
         channel,
-        count: get(bytes, 16, 24) as u32,
+        count: count_in(bytes, cycle),
+        cycle,
     };
     Ok((header, &bytes[HEADER_LEN..]))
 }
 
-/// Writes the header, which [`FrameHeader::is_writable`] tests, into the first 6 octets: usage flag
-/// 0, count cycle 0. The octets behind stay.
+/// The signaling field of a header that isn't replayed: the usage flag of the count cycle with the
+/// upper 4 bits of the count, or neither.
+fn signaling(header: &FrameHeader) -> u64
+    requires { FitsHeader header.now }
+    ensures { result ≡ signaling header.now.cycle header.now.count }
+{
+    if header.cycle {
+        64 + u64::from(header.count / SHORT_COUNTS)
+    } else {
+        0
+    }
+}
+
+/// Writes the header, which [`FrameHeader::is_writable`] tests, into the first 6 octets: its usage
+/// flag of the count cycle, and with it the upper 4 bits of its count. The octets behind stay.
 pub fn encode(header: &FrameHeader, out: &mut [u8])
     requires fits { FitsHeader header.now }
     requires room { 6 ≤ length out.old }
@@ -103,6 +138,6 @@ pub fn encode(header: &FrameHeader, out: &mut [u8])
     let identification = 16_384 + 64 * u64::from(header.spacecraft) + u64::from(header.channel);
     let out = &mut out[..HEADER_LEN];
     let at = put_uint(out, 0, 2, identification);
-    let at = put_uint(out, at, 3, u64::from(header.count));
-    put_uint(out, at, 1, 0);
+    let at = put_uint(out, at, 3, u64::from(header.count % SHORT_COUNTS));
+    put_uint(out, at, 1, signaling(header));
 }

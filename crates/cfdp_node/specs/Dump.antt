@@ -1,5 +1,5 @@
 -- What the program's `dump` prints.
-use Rattle.std.specs.Prelude.{◌≡◌, ◌⊎◌, ⊤, ℕ, ◌-◌, ◌<◌, ◌/◌, ◌%◌, ◌==◌, Bool, true, List, [], ◌∷◌, ◌++◌, codes, decimal, drop, length, replicate, if◌then◌else◌, Option, None, Some, IfSome, MatchOption}
+use Rattle.std.specs.Prelude.{◌≡◌, ◌⊎◌, ⊤, ℕ, ◌-◌, ◌<◌, ◌/◌, ◌%◌, ◌==◌, ◌&&◌, Bool, true, List, [], ◌∷◌, ◌++◌, codes, decimal, drop, length, replicate, if◌then◌else◌, Option, None, Some, IfSome, MatchOption}
 use Rattle.std.specs.List.{flat_map, AllZip}
 use Rattle.std.specs.Result.{result_ok}
 use Rattle.std.specs.Io.KnownBytes.{Appends, Keeps}
@@ -113,6 +113,11 @@ abbrev pub frame_text : FrameHeader → ℕ → List ℕ
 frame_text h pointer =
     codes "frame " ++ decimal h.spacecraft ++ codes " " ++ decimal h.channel ++ codes " " ++ decimal h.count ++ codes " " ++ decimal pointer
 
+-- the line of a frame: a long one tells too that its count has 28 bits, by the usage flag of the
+-- count cycle (732.0-B-4, 4.1.2.5)
+abbrev pub frame_line : Bool → FrameHeader → ℕ → List ℕ
+frame_line long h pointer = if long && h.cycle then frame_text h pointer ++ codes " cycle" else frame_text h pointer
+
 -- the lines of a text: each ends with a line feed, which the last needs not
 unfoldable pub lines : List ℕ → List (List ℕ)
 lines [] = []
@@ -133,10 +138,10 @@ pub record TellsPduFault (octets text : List ℕ) : Type 0 where
 
 -- The octets are a frame with a packet zone of so many octets, and this text says which. Behind the
 -- header stand 5 spare bits and the 11 bits of the first header pointer (CCSDS 732.0-B-4, 4.1.4.2).
-pub record TellsFrame (zone : ℕ) (octets text : List ℕ) : Type 0 where
+pub record TellsFrame (long : Bool) (zone : ℕ) (octets text : List ℕ) : Type 0 where
   pub header : FrameHeader
   pub spelled : SpellsFrame (own_link octets zone) header octets
-  pub words : text ≡ frame_text header (pointer_of (drop 6 octets))
+  pub words : text ≡ frame_line long header (pointer_of (drop 6 octets))
 
 -- The octets are no such frame, and this text says why.
 pub record TellsFrameFault (zone : ℕ) (octets text : List ℕ) : Type 0 where
@@ -149,12 +154,12 @@ abbrev pub TellsAsPdu : Bool → List ℕ → List ℕ → Type 0
 TellsAsPdu long octets text = TellsPdu long octets text ⊎ TellsPduFault octets text
 
 -- The same, as a frame.
-abbrev pub TellsAsFrame : ℕ → List ℕ → List ℕ → Type 0
-TellsAsFrame zone octets text = TellsFrame zone octets text ⊎ TellsFrameFault zone octets text
+abbrev pub TellsAsFrame : Bool → ℕ → List ℕ → List ℕ → Type 0
+TellsAsFrame long zone octets text = TellsFrame long zone octets text ⊎ TellsFrameFault zone octets text
 
 abbrev pub TellsAs : DumpKind → (long : Bool) → (zone : ℕ) → List ℕ → List ℕ → Type 0
 TellsAs Pdus long zone = TellsAsPdu long
-TellsAs Frames long zone = TellsAsFrame zone
+TellsAs Frames long zone = TellsAsFrame long zone
 
 -- the octets that a line's pairs of hexadecimal digits spell, in either case
 abbrev pub hex_octets : List ℕ → Option (List ℕ)

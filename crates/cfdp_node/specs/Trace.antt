@@ -20,11 +20,11 @@ deed_word Tells = codes "tells"
 -- Behind that word stands what a dump says of the frame or the PDU. Of the time, of a drop and of an
 -- indication the words were noted.
 abbrev pub TellsWords : Deed → (zone : ℕ) → List ℕ → List ℕ → Type 0
-TellsWords SendsFrame zone octets = TellsAsFrame zone octets
+TellsWords SendsFrame zone octets = TellsAsFrame false zone octets
 TellsWords SendsPdu zone octets = TellsAsPdu false octets
-TellsWords TakesFrame zone octets = TellsAsFrame zone octets
+TellsWords TakesFrame zone octets = TellsAsFrame false zone octets
 TellsWords HearsPdu zone octets = TellsAsPdu false octets
-TellsWords LosesFrame zone octets = TellsAsFrame zone octets
+TellsWords LosesFrame zone octets = TellsAsFrame false zone octets
 TellsWords Ticks zone octets = λ words. words ≡ octets
 TellsWords Drops zone octets = λ words. words ≡ octets
 TellsWords Tells zone octets = λ words. words ≡ octets

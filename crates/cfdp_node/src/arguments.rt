@@ -149,7 +149,9 @@ Output: a line for each; ID is the source and the number of the transaction.
   keepalive ID N
   frame SPACECRAFT CHANNEL COUNT POINTER
   error N NAME                      why it is none
-With --long the line of a PDU goes on; that of a frame stays as it is:
+With --long a line goes on. That of a frame:
+  cycle                             its COUNT has 28 bits; else it has 24
+That of a PDU:
   toward receiver destination N     or sender; N is the entity that receives the
                                     file, whichever way the PDU goes
   fault-location N                  the entity that a fault location names

@@ -10,7 +10,7 @@ ghost use Rattle.cfdp_node.specs.Dump as dumps;
 ghost use Rattle.cfdp_node.specs.Exit.{IsFlushedAt};
 
 use crate::arguments::DumpRequest;
-use crate::dump_line::{DumpedPdu, FrameLine};
+use crate::dump_line::{DumpedFrame, DumpedPdu, FrameLine};
 use crate::exit::Exit;
 use crate::input::{read_script, write_fault};
 use crate::refusal::Refusal;
@@ -35,7 +35,7 @@ pub enum DumpKind {
 /// spells. Lines end with a line feed, which the last needs not; an empty line is no octets.
 ///
 /// Frames have packet zones of `zone` octets and are told whatever their spacecraft and channel. Of
-/// PDUs `zone` says nothing, and of frames `long` doesn't.
+/// PDUs `zone` says nothing.
 ///
 /// The answer is `Complete` whatever the lines say, once all have left the buffer. It is `Device`
 /// where they couldn't be read, as `read_script` says, where a line couldn't be written, or where
@@ -130,7 +130,7 @@ fn write_line<W: Write>(
     };
     match request.kind {
         DumpKind::Pdus => write_pdu(octets.as_slice(), request.long, out),
-        DumpKind::Frames => write_frame(octets.as_slice(), request.zone, out),
+        DumpKind::Frames => write_frame(octets.as_slice(), request.zone, request.long, out),
     }
 }
 
@@ -168,12 +168,12 @@ pub fn write_pdu<W: Write>(octets: &[u8], long: bool, out: &mut W) -> io::Result
 }
 
 /// Writes which frame the octets are, or why they are none.
-pub fn write_frame<W: Write>(octets: &[u8], zone: u16, out: &mut W) -> io::Result<()>
-    ensures { OnOk result (WritesLine (TellsAsFrame zone octets.now)
+pub fn write_frame<W: Write>(octets: &[u8], zone: u16, long: bool, out: &mut W) -> io::Result<()>
+    ensures { OnOk result (WritesLine (TellsAsFrame long zone octets.now)
         (W.contents out.old) (W.contents out.new)) }
 {
     match read_frame(octets, zone) {
-        Ok(frame) => writeln!(out, "{frame}"),
+        Ok(frame) => writeln!(out, "{}", DumpedFrame { frame, long }),
         Err(error) => writeln!(out, "{}", Refusal::Frame(error)),
     }
 }

@@ -2,7 +2,7 @@
 ghost use Rattle.std.specs.Prelude.{◌≡◌, Some};
 ghost use Rattle.std.specs.List.{flat_map};
 ghost use Rattle.cfdp_directives.specs.Tlv.{location_of};
-ghost use Rattle.cfdp_node.specs.Dump.{fields_text, frame_text, hex_number_text, hex_octet_text, location_text, long_text, option_text, options_of, pdu_line, pdu_text, range_text};
+ghost use Rattle.cfdp_node.specs.Dump.{fields_text, frame_line, frame_text, hex_number_text, hex_octet_text, location_text, long_text, option_text, options_of, pdu_line, pdu_text, range_text};
 
 use crate::name::{Name, hex_digit};
 use crate::wording::{Id, delivery_word, status_word};
@@ -287,6 +287,26 @@ impl fmt::Display for HexNumber {
     }
 }
 
+/// A frame as a dump tells it, in a long line or a short one.
+#[derive(Clone, Copy)]
+pub struct DumpedFrame {
+    pub frame: FrameLine,
+    pub long: bool,
+}
+
+impl fmt::Display for DumpedFrame {
+    ghost output = { λ line. Some (frame_line line.long line.frame.header line.frame.pointer) };
+
+    fn fmt<W: fmt::Write>(&self, f: &mut fmt::Formatter<W>) -> fmt::Result {
+        let frame = self.frame;
+        if self.long && frame.header.cycle {
+            write!(f, "{frame} cycle")
+        } else {
+            write!(f, "{frame}")
+        }
+    }
+}
+
 /// A frame, with the first header pointer of its packet zone.
 #[derive(Clone, Copy)]
 pub struct FrameLine {
@@ -302,6 +322,7 @@ impl fmt::Display for FrameLine {
             spacecraft,
             channel,
             count,
+            ..
         } = self.header;
         write!(f, "frame {spacecraft} {channel} {count} {}", self.pointer)
     }

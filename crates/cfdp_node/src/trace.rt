@@ -74,7 +74,7 @@ fn write_words<W: Write>(out: &mut W, zone: u16, sighting: &Sighting) -> io::Res
     match sighting.deed {
         Deed::SendsPdu | Deed::HearsPdu => write_pdu(&sighting.octets, false, out),
         Deed::SendsFrame | Deed::TakesFrame | Deed::LosesFrame => {
-            write_frame(&sighting.octets, zone, out)
+            write_frame(&sighting.octets, zone, false, out)
         }
         Deed::Ticks | Deed::Drops | Deed::Tells => write_line(out, &sighting.octets),
     }

@@ -4,7 +4,7 @@ use Rattle.mpdu.specs.Stream.{survivors}
 use Rattle.link_stack.specs.declared.drops.LinkDrop.TheVariants.{NoMemory}
 use Rattle.link_stack.specs.Drops.{counted}
 use Rattle.link_stack.specs.Frames.{pdus_in}
-use Rattle.link_stack.specs.Upward.{LinkReceiverState, Takes, TakesFront, TakesNext, TakesNextFront, HasZone, IsUp, IsNextFrame, frame_read}
+use Rattle.link_stack.specs.Upward.{LinkReceiverState, Takes, TakesFront, TakesNext, TakesNextOf, TakesNextFront, TakesNextFrontOf, HasZone, IsUp, IsUpOf, IsNextFrame, IsNextFrameOf, frame_read}
 use Rattle.cfdp_directives.specs.Faults.{pdu_fault}
 use Rattle.cfdp_entity.specs.declared.error.EntityDrop.{EntityDrop}
 use Rattle.cfdp_entity.specs.Entity.{Counted}
@@ -23,7 +23,8 @@ HearsAll (pdu ∷ pdus) old new = (mid : Counted) × HearsPdu pdu old mid × Hea
 
 -- The end that receives took a frame, and gave these PDUs: those of the packets that the frame
 -- completes, or where it found no memory a front of them. Of a stream's next frame they are those
--- of the survivors that it completes.
+-- of the survivors that it completes, also where another implementation makes the frames, and not all
+-- of them have the usage flag of the count cycle.
 pub record GivesPdus (frame : List ℕ) (old new : LinkReceiverState) (pdus : List (List ℕ))
     : Type 0 where
   pub takes : Takes (frame_read old frame) old new [] pdus
@@ -31,6 +32,9 @@ pub record GivesPdus (frame : List ℕ) (old new : LinkReceiverState) (pdus : Li
   pub next : (ps : List (List ℕ)) (marks : List Bool) (missed : ℕ) → IsUp old ps marks missed →
       IsNextFrame old.link ps marks frame →
       TakesNext old new ps marks missed [] pdus ⊎ TakesNextFront old new ps marks [] pdus
+  pub others : (all : Bool) (ps : List (List ℕ)) (marks : List Bool) (missed : ℕ) →
+      IsUpOf all old ps marks missed → IsNextFrameOf all old.link ps marks frame →
+      TakesNextOf all old new ps marks missed [] pdus ⊎ TakesNextFrontOf all old new ps marks [] pdus
   pub delivered : (ps : List (List ℕ)) (marks : List Bool) (missed : ℕ) → IsUp old ps marks missed →
       IsNextFrame old.link ps marks frame →
       (pdus_in (survivors old.link.zone (marks ++ true ∷ []) 0 ps)

@@ -1,10 +1,10 @@
 //! An entity over both directions of a link.
-ghost use Rattle.std.specs.Prelude.{◌≡◌, ℕ, ◌+◌, ◌*◌, ◌<◌, ◌≤◌, ◌↔◌, List, [], true, false, length, max, get_or, IfOk, IfErr, MatchOption, OnOk, OnErr};
+ghost use Rattle.std.specs.Prelude.{◌≡◌, ℕ, ◌+◌, ◌*◌, ◌<◌, ◌≤◌, ◌↔◌, Bool, List, [], true, false, length, max, get_or, IfOk, IfErr, MatchOption, OnOk, OnErr};
 ghost use Rattle.mpdu.specs.Stream.{ArePackets};
 ghost use Rattle.link_stack.specs.Downward.{IsDown};
 ghost use Rattle.link_stack.specs.Drops.{count_of};
 ghost use Rattle.link_stack.specs.Frames.{AreOfLink};
-ghost use Rattle.link_stack.specs.Upward.{IsUp};
+ghost use Rattle.link_stack.specs.Upward.{IsUpOf};
 ghost use Rattle.link_stack.specs.Downward as downward;
 ghost use Rattle.cfdp_timers.specs.Due.{due_count};
 ghost use Rattle.cfdp_timers.specs.ButInactivity.{OnlyInactivity, IsLeastOther};
@@ -99,8 +99,8 @@ impl<O: Outbox, I: Inbox> Station<O, I> {
         ensures up { IfOk result (λ s. s.up ≡ first_up config.up) }
         // Its stream is empty, and it is as no frame of a stream leaves it.
         ensures sent { IfOk result (λ s. IsDown s.down [] 0) }
-        ensures taken { (ps : List (List ℕ)) → ArePackets ps → AreOfLink config.up ps →
-            IfOk result (λ s. IsUp s.up ps [] 0) }
+        ensures taken { (all : Bool) (ps : List (List ℕ)) → ArePackets ps →
+            AreOfLink config.up ps → IfOk result (λ s. IsUpOf all s.up ps [] 0) }
     {
         let down = Down::new(alloc, config.down, config.capacity)?;
         let up = Up::new(alloc, config.up)?;

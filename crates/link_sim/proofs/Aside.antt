@@ -2,6 +2,7 @@
 -- until they were polled and flushed.
 use Rattle.std.proofs.Common.{◌≡◌, ℕ, zero, suc, ◌+◌, ◌*◌, ◌<◌, ◌≤◌, true, false, List, [], ◌∷◌, ◌++◌, length, drop, get_or, replicate, refl, sym, ap, subst, ◌∙◌, inl, inr, arith, length-append}
 use Rattle.std.proofs.lemmas.List.{append-nil, append_assoc}
+use Rattle.aos_frame.specs.Counts.{frame_counts}
 use Rattle.aos_frame.specs.Frame.{IsLink}
 use Rattle.aos_frame.specs.declared.config.LinkConfig.{LinkConfig}
 use Rattle.cfdp_header.specs.Files.{FileMap}
@@ -34,7 +35,7 @@ use Rattle.link_sim.specs.declared.event.Applied.{Applied}
 use Rattle.link_sim.specs.declared.event.Applied.TheVariants as did
 use Rattle.link_sim.specs.declared.event.Event.{Event}
 use Rattle.link_sim.specs.declared.event.Event.TheVariants as event
-use Rattle.link_sim.specs.FrameLink.{FrameLinkState, oldest}
+use Rattle.link_sim.specs.FrameLink.{most_struck, FrameLinkState, oldest}
 use Rattle.link_sim.specs.declared.world_config.WorldConfig.{WorldConfig}
 use Rattle.link_sim.specs.AtStation.{HearsAt, IsSameMarks, KeepsFailures, KeepsOutbox}
 use Rattle.link_sim.specs.OneWay.{IsCarried}
@@ -338,7 +339,7 @@ abbrev arrived_link : FrameLinkState → FrameLinkState
 arrived_link k = record k { marks = k.marks ++ true ∷ []; run = 0 }
 
 module _ (s : Side) (a : StationState) (m : FrameLinkState) (puts : List AcceptedPut) (ticks : ℕ) where
-  strikes_one : (b : StationState) (k : FrameLinkState) → IsCarried a.down k b.up → length k.marks < length k.frames → k.run < 16777215 → (q : Side) →
+  strikes_one : (b : StationState) (k : FrameLinkState) → IsCarried a.down k b.up → length k.marks < length k.frames → k.run < most_struck → (q : Side) →
       StrikesFrame q (world_at q a b k m puts ticks) (world_at q a b (struck_link k) m puts ticks)
   strikes_one b k forth there few One = record {
     waits = there;
@@ -367,11 +368,11 @@ module _ (s : Side) (a : StationState) (m : FrameLinkState) (puts : List Accepte
     pub frames : link.frames ≡ k.frames
     pub marks : length link.marks ≡ length k.marks + lost
 
-  loses : (b : StationState) (k : FrameLinkState) (lost : ℕ) → IsCarried a.down k b.up → length k.marks + lost ≤ length k.frames → k.run + lost ≤ 16777215 → Loses b k lost
+  loses : (b : StationState) (k : FrameLinkState) (lost : ℕ) → IsCarried a.down k b.up → length k.marks + lost ≤ length k.frames → k.run + lost ≤ most_struck → Loses b k lost
   loses b k zero forth there few = record { link = k; forth = forth; led = reaches_none _ _ refl; frames = refl; marks = omega arith }
   loses b k (suc lost) forth there few =
       let waits : length k.marks < length k.frames = omega arith in
-      let low : k.run < 16777215 = omega arith in
+      let low : k.run < most_struck = omega arith in
       let one : IsCarried a.down (struck_link k) b.up = (struck_at did.Applied a.down k (struck_link k) b.up (record { waits = waits; few = low; marked = refl }) forth).0 in
       let more : length (k.marks ++ false ∷ []) ≡ length k.marks + 1 = length-append k.marks (false ∷ []) in
       let rest : Loses b (struck_link k) lost = loses b (struck_link k) lost one (omega (arith, more, there)) (omega (arith, few)) in
@@ -383,7 +384,7 @@ module _ (s : Side) (a : StationState) (m : FrameLinkState) (puts : List Accepte
         marks = omega (arith, rest.marks, more);
       }
     where
-      strikes : (q : Side) (b : StationState) (k : FrameLinkState) → IsCarried a.down k b.up → length k.marks < length k.frames → k.run < 16777215 → Steps (event.Strike q) did.Applied (world_at q a b k m puts ticks) (world_at q a b (struck_link k) m puts ticks)
+      strikes : (q : Side) (b : StationState) (k : FrameLinkState) → IsCarried a.down k b.up → length k.marks < length k.frames → k.run < most_struck → Steps (event.Strike q) did.Applied (world_at q a b k m puts ticks) (world_at q a b (struck_link k) m puts ticks)
       strikes q b k forth there few = strikes_one b k forth there few q
 
   delivers_one : (b now : StationState) (k : FrameLinkState) (frame : List ℕ) → (forth : IsCarried a.down k b.up) → (there : length k.marks < length k.frames) → (e : frame ≡ oldest k) → (taken : TakesFrame frame b now) → (q : Side) →
@@ -424,7 +425,7 @@ module _ (s : Side) (a : StationState) (m : FrameLinkState) (puts : List Accepte
     pub led : Reaches (world_at s a b k m puts ticks) (world_at s a now link m puts ticks)
     pub frames : link.frames ≡ k.frames
 
-  pub arrives : (b now : StationState) (k : FrameLinkState) (taken lost : ℕ) (frame : List ℕ) → AreJoined a b k m taken → lost < 16777216 → taken + lost < length k.frames →
+  pub arrives : (b now : StationState) (k : FrameLinkState) (taken lost : ℕ) (frame : List ℕ) → AreJoined a b k m taken → lost < frame_counts → taken + lost < length k.frames →
       frame ≡ get_or k.frames (taken + lost) [] → TakesFrame frame b now → Arrives b now k (taken + lost + 1)
   arrives b now k taken lost frame are few there e takes =
       let n : Loses b k lost = loses b k lost are.forth (omega (arith, are.marks, there)) (omega (arith, are.run, few)) in
@@ -468,7 +469,7 @@ none_down link capacity =
     }
 
 none_up : (link : LinkConfig) → IsUp (first_up link) [] [] 0
-none_up link = new_is link [] (replicate 11 0) refl tt tt
+none_up link = new_is true link [] (replicate 11 0) refl tt tt
 
 first_carries : (d : LinkSenderState) (u : LinkReceiverState) (link : LinkConfig) (capacity : ℕ) → IsLink link → d ≡ first_down link capacity → u ≡ first_up link → IsCarried d (no_link d) u
 first_carries d u link capacity valid down up =

@@ -1,5 +1,5 @@
 -- Both directions of a first world: nothing was sent, and nothing taken.
-use Rattle.std.proofs.Common.{◌≡◌, ℕ, ◌*◌, [], length, refl, sym, ap, subst, ◌∙◌, arith}
+use Rattle.std.proofs.Common.{◌≡◌, ℕ, ◌*◌, true, [], length, refl, sym, ap, subst, ◌∙◌, arith}
 use Rattle.cfdp_header.specs.Files.{FileMap}
 use Rattle.aos_frame.specs.Frame.{IsLink}
 use Rattle.aos_frame.specs.declared.config.LinkConfig.{LinkConfig}
@@ -22,7 +22,7 @@ first-sends link capacity =
     record { packed = record { packets_whole = tt; below = omega arith; rest = rw none refl; start = rw none refl }; of_link = tt; counted = refl }
 
 first-takes : (link : LinkConfig) → IsUp (first_up link) [] [] 0
-first-takes link = new_is link [] (first_up link).drops refl tt tt
+first-takes link = new_is true link [] (first_up link).drops refl tt tt
 
 first-way : (d : LinkSenderState) (u : LinkReceiverState) (k : LinkState) (link : LinkConfig) (capacity : ℕ) → IsLink link → d ≡ first_down link capacity → u ≡ first_up link → k ≡ no_frames → IsOneWay (way d k u)
 first-way d u k link capacity valid down up none =

@@ -13,6 +13,7 @@ use Rattle.link_stack.specs.declared.drops.LinkDrop.TheVariants.{NoMemory}
 use Rattle.link_stack.specs.Upward.{LinkReceiverState, IsUp, IsNextFrame, TakesNext, TakesNextFront, zone_drops}
 use Rattle.link_stack.proofs.Grown.{struck_is_missed}
 use Rattle.mpdu.specs.Parts.{IsPartOf, CompletesMore}
+use Rattle.link_sim.specs.FrameLink.{most_struck}
 use Rattle.link_sim.specs.OneWay.{OneWayState, packets_sent, unbroken, IsReceived, IsOneWayOf, IsOneWay, HearsMore, SendsNone, EndsStruck}
 use Rattle.link_sim.proofs.Arriving.{Lands, lands}
 use Rattle.mpdu.proofs.Parts.{among-length, among-push, part-map, part-take, part-part}
@@ -235,7 +236,7 @@ delivers l new old out is there taken =
     (h.given, h.added, hears)
 
 -- A frame was struck.
-pub strikes : (l : OneWayState) → IsOneWay l → length l.marks < length l.frames → l.run < 16777215 → SendsNone l (record l { marks = l.marks ++ false ∷ []; run = l.run + 1 })
+pub strikes : (l : OneWayState) → IsOneWay l → length l.marks < length l.frames → l.run < most_struck → SendsNone l (record l { marks = l.marks ++ false ∷ []; run = l.run + 1 })
 strikes l is there few =
     let ps : List (List ℕ) = packets_sent l in
     let r = is.received in

@@ -25,7 +25,7 @@ use Rattle.link_sim.specs.declared.event.Applied.{Applied}
 use Rattle.link_sim.specs.declared.event.Applied.TheVariants as did
 use Rattle.link_sim.specs.declared.event.Refusal.TheVariants as refusal
 use Rattle.link_sim.specs.declared.event.AcceptedPut.{AcceptedPut}
-use Rattle.link_sim.specs.FrameLink.{FrameLinkState, oldest}
+use Rattle.link_sim.specs.FrameLink.{FrameLinkState, oldest, most_struck}
 use Rattle.link_sim.specs.OneWay.{IsOneWay, IsCarried, SendsNone, SendsMore, HearsMore, one_way}
 
 -- The frames, their marks and the octets of each are as they were: only buffers may have been made.
@@ -185,13 +185,13 @@ pub record HearsAt (down : LinkSenderState) (link link_now : FrameLinkState)
 -- The oldest waiting frame of a link was lost.
 pub record StrikesFrameAt (link link_now : FrameLinkState) : Type 0 where
   pub waits : length link.marks < length link.frames
-  pub few : link.run < 16777215
+  pub few : link.run < most_struck
   pub marked : link_now ≡ record link { marks = link.marks ++ false ∷ []; run = link.run + 1 }
 
 -- One more loss in a row would be taken for none.
 pub record IsTooLongAt (link link_now : FrameLinkState) : Type 0 where
   pub waits : length link.marks < length link.frames
-  pub run : link.run ≡ 16777215
+  pub run : link.run ≡ most_struck
   pub same : link_now ≡ link
 
 abbrev pub StrikesAt : Applied → (link link_now : FrameLinkState) → Type 0

@@ -1,7 +1,13 @@
 -- The frames of one direction of a link, and what became of them.
-use Rattle.std.specs.Prelude.{ℕ, Bool, true, false, List, [], length, slice_get, slice_index_or, Option, Some, None}
+use Rattle.std.specs.Prelude.{ℕ, ◌-◌, Bool, true, false, List, [], length, slice_get, slice_index_or, Option, Some, None}
+use Rattle.aos_frame.specs.Counts.{frame_counts}
 use Rattle.link_sim.specs.declared.mark.Mark.{Mark}
 use Rattle.link_sim.specs.declared.mark.Mark.TheVariants.{Waiting, Delivered, Struck}
+
+-- the most frames that may be struck in a row: one more would be taken for none, since there are no
+-- more frame counts (CCSDS 732.0-B-4, 4.1.2.4)
+abbrev pub most_struck : ℕ
+most_struck = frame_counts - 1
 
 -- All frames sent, in order, and the marks of those that no longer wait, in the same order: true
 -- where delivered, false where struck. How many of the last of these were struck in a row; how many

@@ -33,7 +33,7 @@ use Rattle.link_sim.specs.declared.event.Applied.TheVariants as did
 use Rattle.link_sim.specs.declared.event.Refusal.TheVariants as refusal
 use Rattle.link_sim.specs.declared.event.AcceptedPut.{AcceptedPut}
 use Rattle.link_sim.specs.declared.world_config.WorldConfig.{WorldConfig}
-use Rattle.link_sim.specs.FrameLink.{FrameLinkState}
+use Rattle.link_sim.specs.FrameLink.{most_struck, FrameLinkState}
 use Rattle.link_sim.specs.AtStation.{KeepsFailures, KeepsOutbox, CountsPut}
 use Rattle.link_sim.specs.OneWay.{OneWayState, SendsMore, SendsNone, HearsMore}
 use Rattle.link_sim.specs.Sides.{other}
@@ -288,7 +288,7 @@ Delivers (did.Refused by) s old new = ⊥
 -- The oldest waiting frame was lost.
 pub record StrikesFrame (s : Side) (old new : WorldState) : Type 0 where
   pub waits : length (link_from s old).marks < length (link_from s old).frames
-  pub few : (link_from s old).run < 16777215
+  pub few : (link_from s old).run < most_struck
   pub link : link_from s new ≡ marked false ((link_from s old).run + 1) (link_from s old)
   pub sends : SendsNone (way_from s old) (way_from s new)
   pub station : station_at s new ≡ station_at s old
@@ -298,7 +298,7 @@ pub record StrikesFrame (s : Side) (old new : WorldState) : Type 0 where
 -- One more loss in a row would be taken for none.
 pub record IsTooLong (s : Side) (old new : WorldState) : Type 0 where
   pub waits : length (link_from s old).marks < length (link_from s old).frames
-  pub run : (link_from s old).run ≡ 16777215
+  pub run : (link_from s old).run ≡ most_struck
   pub same : new ≡ old
 
 abbrev pub Strikes : Applied → Side → (old new : WorldState) → Type 0

@@ -70,8 +70,8 @@ pub enum Refusal {
     Put(PutError),
     /// The station refused the call on a transaction.
     Call(CallError),
-    /// The last 16,777,215 frames taken of this direction were struck: one more would be taken for
-    /// none.
+    /// The last [`MOST_STRUCK`](crate::MOST_STRUCK) frames taken of this direction were struck: one
+    /// more would be taken for none.
     LossRunTooLong,
 }
 

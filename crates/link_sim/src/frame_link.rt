@@ -3,7 +3,7 @@ ghost use Rattle.std.specs.Prelude.{◌≡◌, ◌≢◌, ℕ, ◌+◌, ◌*◌,
 ghost use Rattle.mpdu.specs.Feeding.{octets_of_each};
 ghost use Rattle.cfdp_station.specs.Link.{MakesFrame};
 ghost use Rattle.cfdp_station.specs.Station.{KeepsRest};
-ghost use Rattle.link_sim.specs.FrameLink.{mark_at, oldest};
+ghost use Rattle.link_sim.specs.FrameLink.{most_struck, mark_at, oldest};
 ghost use Rattle.link_sim.specs.AtStation.{AddsNone, IsSameEnd, IsSameMarks};
 ghost use Rattle.link_sim.specs.declared.mark.Loss.TheVariants as losses;
 
@@ -186,14 +186,15 @@ impl FrameLink {
         let _ = self.marks.push(true);
     }
 
-    /// Strikes the oldest frame that waits, unless the last 16,777,215 frames taken were struck.
+    /// Strikes the oldest frame that waits, unless the last [`MOST_STRUCK`](crate::MOST_STRUCK)
+    /// frames taken were struck.
     pub fn strike(&mut self) -> Loss
         ensures done { result ≡ losses.Done → (length self.old.marks < length self.old.frames)
-            × (self.old.run < 16777215) × (self.new ≡ record self.old { marks = self.old.marks ++ false ∷ []; run = self.old.run + 1 }) }
+            × (self.old.run < most_struck) × (self.new ≡ record self.old { marks = self.old.marks ++ false ∷ []; run = self.old.run + 1 }) }
         ensures none { (result ≡ losses.NoneWaits)
             ↔ (length self.old.frames ≤ length self.old.marks) }
         ensures long { (result ≡ losses.TooMany)
-            ↔ ((length self.old.marks < length self.old.frames) × (self.old.run ≡ 16777215)) }
+            ↔ ((length self.old.marks < length self.old.frames) × (self.old.run ≡ most_struck)) }
         ensures kept { result ≢ losses.Done → self.new ≡ self.old }
     {
         if self.marks.len() >= self.frames.len() {

@@ -23,7 +23,7 @@ mod world_config;
 
 pub use event::{AcceptedPut, Applied, Event, Refusal};
 pub use frame_link::FrameLink;
-pub use loss_run::LossRun;
+pub use loss_run::{LossRun, MOST_STRUCK};
 pub use mark::{Loss, Mark};
 pub use memory_world::MemoryWorld;
 pub use promises::worlds_keep_the_promises;

@@ -1,13 +1,15 @@
 //! Frames struck in a row.
 ghost use Rattle.std.specs.Prelude.{◌≡◌, ◌+◌, ◌<◌, ◌≤◌, ◌↔◌, true, false};
+ghost use Rattle.link_sim.specs.FrameLink.{most_struck};
 
+use aos_frame::FRAME_COUNTS;
 use std::marker::Model;
 
-/// The most frames that may be struck in a row: one fewer than there are frame counts.
-const MOST: u32 = 16_777_215;
+/// The most frames that may be struck in a row: one fewer than there are frame counts. One more
+/// would be taken for none.
+pub const MOST_STRUCK: u32 = FRAME_COUNTS - 1;
 
-/// How many of the last frames taken were struck in a row: at most 16,777,215, one fewer than there
-/// are frame counts. More would be taken for none.
+/// How many of the last frames taken were struck in a row: at most [`MOST_STRUCK`].
 #[derive(Debug, Drop)]
 pub struct LossRun {
     run: u32,
@@ -15,12 +17,13 @@ pub struct LossRun {
 
 impl Model for LossRun {
     ghost use Rattle.std.specs.Prelude.{ℕ, ◌≤◌};
+    ghost use Rattle.link_sim.specs.FrameLink.{most_struck};
 
     ghost Value = { ℕ };
 
     ghost view = { λ r. r.run };
 
-    ghost invariant = { λ r. r.run ≤ 16777215 };
+    ghost invariant = { λ r. r.run ≤ most_struck };
 }
 
 impl LossRun {
@@ -31,9 +34,9 @@ impl LossRun {
         LossRun { run: 0 }
     }
 
-    /// So many were struck: at most 16,777,215.
+    /// So many were struck: at most [`MOST_STRUCK`].
     pub fn from(run: u32) -> Self
-        requires { run ≤ 16777215 }
+        requires { run ≤ most_struck }
         ensures { result ≡ run }
     {
         LossRun { run }
@@ -41,12 +44,12 @@ impl LossRun {
 
     /// One more is struck. False where as many were as may be: nothing changed then.
     pub fn strike(&mut self) -> bool
-        ensures may { (result ≡ true) ↔ (self.old < 16777215) }
-        ensures long { (result ≡ false) ↔ (self.old ≡ 16777215) }
+        ensures may { (result ≡ true) ↔ (self.old < most_struck) }
+        ensures long { (result ≡ false) ↔ (self.old ≡ most_struck) }
         ensures more { result ≡ true → self.new ≡ self.old + 1 }
         ensures kept { result ≡ false → self.new ≡ self.old }
     {
-        if self.run == MOST {
+        if self.run == MOST_STRUCK {
             return false;
         }
         self.run += 1;

@@ -16,6 +16,7 @@ pub enum Loss {
     Done,
     /// No frame waits.
     NoneWaits,
-    /// The last 16,777,215 frames taken were struck, and one more may not be.
+    /// The last [`MOST_STRUCK`](crate::MOST_STRUCK) frames taken were struck, and one more may not
+    /// be.
     TooMany,
 }

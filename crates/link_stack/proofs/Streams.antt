@@ -1,10 +1,10 @@
 -- The frames of a stream, taken in order.
-use Rattle.std.proofs.Common.{◌≡◌, ◌≢◌, slice_index_or, ℕ, zero, suc, ◌+◌, ◌*◌, ◌%◌, ◌<◌, ◌≤◌, ◌==◌, ◌&&◌, not, if◌then◌else◌, Bool, true, false, Option, Some, None, IfSome, List, [], ◌∷◌, ◌++◌, ◌⊎◌, length, take, drop, refl, sym, ap, subst, ◌∙◌, inl, inr, arith, length-append}
+use Rattle.std.proofs.Common.{◌≡◌, ◌≢◌, slice_index_or, ℕ, zero, suc, ◌+◌, ◌*◌, ◌<◌, ◌≤◌, ◌==◌, ◌&&◌, not, if◌then◌else◌, Bool, true, false, Option, Some, None, IfSome, List, [], ◌∷◌, ◌++◌, ◌⊎◌, length, take, drop, refl, sym, ap, subst, ◌∙◌, inl, inr, arith, length-append}
 use Rattle.std.proofs.lemmas.Bool.{cases_Bool}
 use Rattle.std.proofs.lemmas.List.{map-append, length-set, get_or-set_same, get_or-set_other}
-use Rattle.cfd_bits.specs.Field.{field}
-use Rattle.aos_frame.specs.Counts.{frame_counts, follows}
-use Rattle.aos_frame.specs.Frame.{IsLink, frame_fault}
+use Rattle.aos_frame.specs.Counts.{follows, CountsFrame}
+use Rattle.aos_frame.specs.Frame.{IsLink, frame_fault, seen_in}
+use Rattle.aos_frame.specs.declared.count.SeenCount.{SeenCount}
 use Rattle.aos_frame.specs.declared.config.LinkConfig.{LinkConfig}
 use Rattle.mpdu.specs.Stream.{ArePackets, stream, zone, first_header_pointer, begun, survivors, arrived, keep, is_idle}
 use Rattle.mpdu.specs.Reading.{step, held_at, resync, bad_count, is_some}
@@ -15,8 +15,9 @@ use Rattle.mpdu.proofs.Struck.{begun-struck}
 use Rattle.link_stack.specs.declared.drops.LinkDrop.TheVariants.{NoMemory}
 use Rattle.link_stack.specs.Frames.{packet_drop, mpdu_in, AreOfLink, pdus_in}
 use Rattle.link_stack.specs.Drops.{raised, counted, all_counted, count_of}
-use Rattle.link_stack.specs.Upward.{LinkReceiverState, FrameRead, pdus_of, drops_of, with_pdu, with_drop, zone_drops, idle_read, packets_read, read_unless, frame_read, Takes, TakesFront, HasZone, IsUp, IsNextFrame, TakesNext, TakesNextFront}
+use Rattle.link_stack.specs.Upward.{LinkReceiverState, FrameRead, pdus_of, drops_of, with_pdu, with_drop, zone_drops, idle_read, packets_read, read_unless, frame_read, Takes, TakesFront, HasZone, IsUpOf, IsNextFrameOf, TakesNextOf, TakesNextFrontOf}
 use Rattle.link_stack.proofs.Decoded.{IsDecoded, decoded}
+use Rattle.link_stack.proofs.Grown.{some_counts}
 use Rattle.mpdu.proofs.Following.{held_follows}
 
 -- How the count of drops by 11 changes.
@@ -78,29 +79,31 @@ drops-none link (p ∷ ps) all = ap (λ o. with_drop o (drops_of link ps)) all.0
 
 -- a frame of the link with packets in its zone
 packets_are_read : (up : LinkReceiverState) (frame : List ℕ) → frame_fault frame up.link ≡ None → (pointer_of (mpdu_in frame) == 2046) ≡ false →
-    frame_read up frame ≡ packets_read (Some (field frame 16 24)) up.begun (follows up.last (field frame 16 24)) (pointer_of (mpdu_in frame)) (drop 2 (mpdu_in frame))
+    frame_read up frame ≡ packets_read (Some (seen_in frame)) up.begun (follows up.last (seen_in frame)) (pointer_of (mpdu_in frame)) (drop 2 (mpdu_in frame))
 packets_are_read up frame sound busy =
-    let count : ℕ = field frame 16 24 in
+    let count : SeenCount = seen_in frame in
     ap (λ e. read_unless e up frame) sound ∙ ap (λ b. if b then idle_read count else packets_read (Some count) up.begun (follows up.last count) (pointer_of (mpdu_in frame)) (drop 2 (mpdu_in frame))) busy
 
 -- what is read of it
-pub record IsRight (up : LinkReceiverState) (ps : List (List ℕ)) (marks : List Bool) (missed : ℕ) (read : FrameRead) : Type 0 where
-  pub last : read.last ≡ Some (length marks % frame_counts)
+pub record IsRight (all : Bool) (up : LinkReceiverState) (ps : List (List ℕ)) (marks : List Bool) (missed : ℕ) (read : FrameRead) : Type 0 where
+  pub last : SeenCount
+  pub seen : read.last ≡ Some last
+  pub counted : CountsFrame all (length marks) last
   pub held : read.begun ≡ begun up.link.zone (marks ++ true ∷ []) 0 ps
   pub given : survivors up.link.zone (marks ++ true ∷ []) 0 ps ≡ survivors up.link.zone marks 0 ps ++ read.packets
   pub ours : AreOurs up.link read.packets
   pub told : read.told ≡ zone_drops (not (missed == 0) && is_some up.begun) 0
 
-pub right : (up : LinkReceiverState) (ps : List (List ℕ)) (marks : List Bool) (missed : ℕ) (frame : List ℕ) → IsLink up.link → IsUp up ps marks missed → ArePackets ps → length marks * up.link.zone + up.link.zone ≤ length (stream ps) →
-    IsDecoded up.link ps (length marks) frame → IsRight up ps marks missed (frame_read up frame)
-right up ps marks missed frame valid is whole room d =
+pub right : (all : Bool) (up : LinkReceiverState) (ps : List (List ℕ)) (marks : List Bool) (missed : ℕ) (frame : List ℕ) → IsLink up.link → IsUpOf all up ps marks missed → ArePackets ps → length marks * up.link.zone + up.link.zone ≤ length (stream ps) →
+    IsDecoded all up.link ps (length marks) frame → IsRight all up ps marks missed (frame_read up frame)
+right all up ps marks missed frame valid is whole room d =
     let z : ℕ = up.link.zone in
     let n : ℕ = length marks in
     let at : ℕ = pointer_of (mpdu_in frame) in
     let oct : List ℕ = drop 2 (mpdu_in frame) in
-    let f : Bool = follows up.last (field frame 16 24) in
+    let f : Bool = follows up.last (seen_in frame) in
     let held : List ℕ = held_at f up.begun in
-    let told = held_follows up.last (field frame 16 24) n missed up.begun is.few is.seen is.unseen d.count in
+    let told = held_follows all up.last (seen_in frame) n missed up.begun is.few is.seen is.unseen d.count in
     let P : ℕ → Type 0 = λ (k : ℕ). (held ≡ begun k marks 0 ps) × (n * k + k ≤ length (stream ps)) × (at ≡ first_header_pointer k (n * k) 0 ps) × (oct ≡ zone k (n * k) (stream ps)) in
     let at_z : P z = (told.0 ∙ is.as_left, room, d.pointer, d.zone_is) in
     let at_len : P (length oct) = subst P (sym d.size) at_z in
@@ -115,21 +118,19 @@ right up ps marks missed frame valid is whole room d =
     let tells : zone_drops (resync (length oct) up.begun f at oct) (bad_count (length oct) held at oct) ≡ zone_drops (not (missed == 0) && is_some up.begun) 0 =
     ap (λ b. zone_drops b (bad_count (length oct) held at oct)) (fed.resync ∙ told.1)
     ∙ ap (λ k. zone_drops (not (missed == 0) && is_some up.begun) k) fed.bad in
-    let zoned : IsRight up ps marks missed (packets_read (Some (field frame 16 24)) up.begun f at oct) =
-    record { last = ap (λ k. Some k) d.count; held = fed.left ∙ ap (λ k. begun k (marks ++ true ∷ []) 0 ps) d.size; given = given; ours = ours; told = tells } in
-    subst (λ (r : FrameRead). IsRight up ps marks missed r) (sym (packets_are_read up frame d.sound d.not_idle)) zoned
+    let zoned : IsRight all up ps marks missed (packets_read (Some (seen_in frame)) up.begun f at oct) =
+    record { last = seen_in frame; seen = refl; counted = d.count; held = fed.left ∙ ap (λ k. begun k (marks ++ true ∷ []) 0 ps) d.size; given = given; ours = ours; told = tells } in
+    subst (λ (r : FrameRead). IsRight all up ps marks missed r) (sym (packets_are_read up frame d.sound d.not_idle)) zoned
 
-seen_last : (last : Option ℕ) (marks : List Bool) (b : Bool) → last ≡ Some (length marks % frame_counts) → IfSome last (λ l. (n : ℕ) × (l ≡ n % frame_counts) × (length (marks ++ b ∷ []) ≡ n + 1 + 0))
-seen_last None marks b e = tt
-seen_last (Some l) marks b e =
-    let same : l ≡ length marks % frame_counts = cc in
-    (length marks, same, omega (arith, length-append marks (b ∷ [])))
+seen_last : (all : Bool) (last : Option SeenCount) (l : SeenCount) (marks : List Bool) (b : Bool) → last ≡ Some l → CountsFrame all (length marks) l → IfSome last (λ l. (n : ℕ) × CountsFrame all n l × (length (marks ++ b ∷ []) ≡ n + 1 + 0))
+seen_last all last l marks b e counted =
+    rw e (length marks, counted, omega (arith, length-append marks (b ∷ [])))
 
-pub next_taken : (up new : LinkReceiverState) (ps : List (List ℕ)) (marks : List Bool) (missed : ℕ) (frame : List ℕ) (old out : List (List ℕ)) → IsUp up ps marks missed → IsRight up ps marks missed (frame_read up frame) →
-    Takes (frame_read up frame) up new old out → TakesNext up new ps marks missed old out
-next_taken up new ps marks missed frame old out is r t =
+pub next_taken : (all : Bool) (up new : LinkReceiverState) (ps : List (List ℕ)) (marks : List Bool) (missed : ℕ) (frame : List ℕ) (old out : List (List ℕ)) → IsUpOf all up ps marks missed → IsRight all up ps marks missed (frame_read up frame) →
+    Takes (frame_read up frame) up new old out → TakesNextOf all up new ps marks missed old out
+next_taken all up new ps marks missed frame old out is r t =
     let packets = (frame_read up frame).packets in
-    let known : new.last ≡ Some (length marks % frame_counts) = t.last ∙ r.last in
+    let known : new.last ≡ Some r.last = t.last ∙ r.seen in
     let b : Bool = not (missed == 0) && is_some up.begun in
     let shown : new.drops ≡ all_counted up.drops (zone_drops b 0) =
     t.drops ∙ ap (λ l. all_counted (all_counted up.drops (frame_read up frame).told) l) (drops-none up.link packets r.ours) ∙ ap (λ l. all_counted up.drops l) r.told in
@@ -137,9 +138,9 @@ next_taken up new ps marks missed frame old out is r t =
       after = record {
         packets_whole = is.packets_whole;
         of_link = subst (λ (l : LinkConfig). AreOfLink l ps) (sym t.link) is.of_link;
-        few = omega arith;
-        seen = seen_last new.last marks true known;
-        unseen = λ (none : new.last ≡ None). absurd (let bad : Some (length marks % frame_counts) ≡ None = sym known ∙ none in cc);
+        few = some_counts all;
+        seen = seen_last all new.last r.last marks true known r.counted;
+        unseen = λ (none : new.last ≡ None). absurd (let bad : Some r.last ≡ None = sym known ∙ none in cc);
         counts = ap (λ l. length l) shown ∙ resync_length up.drops b ∙ is.counts;
         as_left = t.begun ∙ r.held ∙ ap (λ (l : LinkConfig). begun l.zone (marks ++ true ∷ []) 0 ps) (sym t.link);
       };
@@ -151,20 +152,20 @@ next_taken up new ps marks missed frame old out is r t =
       memory = ap (λ l. count_of l 11) shown ∙ resync_keeps up.drops b;
     }
 
-pub part_taken : (up new : LinkReceiverState) (ps : List (List ℕ)) (marks : List Bool) (missed : ℕ) (frame : List ℕ) (old out : List (List ℕ)) → 0 < up.link.zone → IsUp up ps marks missed → IsRight up ps marks missed (frame_read up frame) →
-    TakesFront (frame_read up frame) up new old out → TakesNextFront up new ps marks old out
-part_taken up new ps marks missed frame old out some is r t =
+pub part_taken : (all : Bool) (up new : LinkReceiverState) (ps : List (List ℕ)) (marks : List Bool) (missed : ℕ) (frame : List ℕ) (old out : List (List ℕ)) → 0 < up.link.zone → IsUpOf all up ps marks missed → IsRight all up ps marks missed (frame_read up frame) →
+    TakesFront (frame_read up frame) up new old out → TakesNextFrontOf all up new ps marks old out
+part_taken all up new ps marks missed frame old out some is r t =
     let packets = (frame_read up frame).packets in
     let n : ℕ = t.count in
-    let known : new.last ≡ Some (length marks % frame_counts) = t.last ∙ r.last in
+    let known : new.last ≡ Some r.last = t.last ∙ r.seen in
     let ours : AreOurs up.link (take n packets) = ours-take up.link n packets r.ours in
     let lost : new.drops ≡ counted up.drops NoMemory = t.drops ∙ ap (λ l. all_counted (counted up.drops NoMemory) l) (drops-none up.link (take n packets) ours) in
     record {
       after = record {
         packets_whole = is.packets_whole;
         of_link = subst (λ (l : LinkConfig). AreOfLink l ps) (sym t.link) is.of_link;
-        few = omega arith;
-        seen = seen_last new.last marks false known;
+        few = some_counts all;
+        seen = seen_last all new.last r.last marks false known r.counted;
         unseen = λ (none : new.last ≡ None). t.begun;
         counts = ap (λ l. length l) lost ∙ no_memory_length up.drops ∙ is.counts;
         as_left = t.begun ∙ sym (begun-struck up.link.zone marks 0 ps some) ∙ ap (λ (l : LinkConfig). begun l.zone (marks ++ false ∷ []) 0 ps) (sym t.link);
@@ -180,23 +181,23 @@ part_taken up new ps marks missed frame old out some is r t =
     }
 
 -- whichever it was
-pub taken_either : (whole : Bool) (up new : LinkReceiverState) (ps : List (List ℕ)) (marks : List Bool) (missed : ℕ) (frame : List ℕ) (old out : List (List ℕ)) → IsLink up.link → up.link.spacecraft < 256 → IsUp up ps marks missed → IsNextFrame up.link ps marks frame →
+pub taken_either : (all : Bool) (whole : Bool) (up new : LinkReceiverState) (ps : List (List ℕ)) (marks : List Bool) (missed : ℕ) (frame : List ℕ) (old out : List (List ℕ)) → IsLink up.link → IsUpOf all up ps marks missed → IsNextFrameOf all up.link ps marks frame →
     (whole ≡ true → Takes (frame_read up frame) up new old out) → (whole ≡ false → HasZone up.link frame × TakesFront (frame_read up frame) up new old out) →
-    TakesNext up new ps marks missed old out ⊎ TakesNextFront up new ps marks old out
-taken_either whole up new ps marks missed frame old out valid byte is next all front =
-    let d : IsDecoded up.link ps (length marks) frame = decoded up.link ps (length marks) frame valid byte next.inside next.octets in
-    let r : IsRight up ps marks missed (frame_read up frame) = right up ps marks missed frame valid is is.packets_whole next.inside d in
+    TakesNextOf all up new ps marks missed old out ⊎ TakesNextFrontOf all up new ps marks old out
+taken_either all whole up new ps marks missed frame old out valid is next whole_is front =
+    let d : IsDecoded all up.link ps (length marks) frame = decoded all up.link ps marks frame valid next in
+    let r : IsRight all up ps marks missed (frame_read up frame) = right all up ps marks missed frame valid is is.packets_whole next.zoned.inside d in
     elim (cases_Bool whole) [
-      | inl e ↦ inl (next_taken up new ps marks missed frame old out is r (all e))
-      | inr e ↦ inr (part_taken up new ps marks missed frame old out (omega (arith, valid.least_zone)) is r (front e).1)
+      | inl e ↦ inl (next_taken all up new ps marks missed frame old out is r (whole_is e))
+      | inr e ↦ inr (part_taken all up new ps marks missed frame old out (omega (arith, valid.least_zone)) is r (front e).1)
     ]
 
 -- what an `out` has that was empty
-pub all_given : (up new : LinkReceiverState) (ps : List (List ℕ)) (marks : List Bool) (missed : ℕ) (old out : List (List ℕ)) → old ≡ [] →
-    TakesNext up new ps marks missed old out ⊎ TakesNextFront up new ps marks old out →
+pub all_given : (all : Bool) (up new : LinkReceiverState) (ps : List (List ℕ)) (marks : List Bool) (missed : ℕ) (old out : List (List ℕ)) → old ≡ [] →
+    TakesNextOf all up new ps marks missed old out ⊎ TakesNextFrontOf all up new ps marks old out →
     (pdus_in (survivors up.link.zone (marks ++ true ∷ []) 0 ps) ≡ pdus_in (survivors up.link.zone marks 0 ps) ++ out) ⊎ (new.drops ≡ counted up.drops NoMemory)
-all_given up new ps marks missed old out none (inl t) =
+all_given all up new ps marks missed old out none (inl t) =
     let before : List (List ℕ) = survivors up.link.zone marks 0 ps in
-    let all : out ≡ pdus_in t.added = t.pdus ∙ ap (λ l. l ++ pdus_in t.added) none in
-    inl (ap pdus_in t.completed ∙ map-append (λ p. drop 6 p) before t.added ∙ ap (λ l. pdus_in before ++ l) (sym all))
-all_given up new ps marks missed old out none (inr t) = inr t.drops
+    let given : out ≡ pdus_in t.added = t.pdus ∙ ap (λ l. l ++ pdus_in t.added) none in
+    inl (ap pdus_in t.completed ∙ map-append (λ p. drop 6 p) before t.added ∙ ap (λ l. pdus_in before ++ l) (sym given))
+all_given all up new ps marks missed old out none (inr t) = inr t.drops

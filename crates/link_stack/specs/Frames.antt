@@ -41,7 +41,7 @@ abbrev pub mpdu_of : LinkConfig → List (List ℕ) → ℕ → List ℕ
 mpdu_of link ps n =
     pointer_octets (first_header_pointer link.zone (n * link.zone) 0 ps) ++ zone link.zone (n * link.zone) (stream ps)
 
--- frame n of the packets' stream, counted modulo 2^24 (CCSDS 732.0-B-4, 4.1.2.4)
+-- frame n of the packets' stream, counted modulo 2^28 (CCSDS 732.0-B-4, 4.1.2.4, 4.1.2.5)
 abbrev pub frame_of : LinkConfig → List (List ℕ) → ℕ → List ℕ
 frame_of link ps n =
-    frame_octets (record { spacecraft = link.spacecraft; channel = link.channel; count = n % frame_counts }) (mpdu_of link ps n)
+    frame_octets (record { spacecraft = link.spacecraft; channel = link.channel; count = n % frame_counts; cycle = true }) (mpdu_of link ps n)

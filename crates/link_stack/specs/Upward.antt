@@ -1,25 +1,26 @@
 -- The receiving end of a link: what one frame does to it, whatever it is, and what the frames of a
 -- stream leave.
-use Rattle.std.specs.Prelude.{◌≡◌, ℕ, ◌+◌, ◌*◌, ◌%◌, ◌<◌, ◌≤◌, Bool, true, false, ◌==◌, ◌&&◌, not, if◌then◌else◌, Option, Some, None, IfSome, List, [], ◌∷◌, ◌++◌, length, take, drop, replicate}
-use Rattle.cfd_bits.specs.Field.{field}
-use Rattle.aos_frame.specs.Counts.{frame_counts, follows}
-use Rattle.aos_frame.specs.Frame.{frame_fault}
+use Rattle.std.specs.Prelude.{◌≡◌, ℕ, ◌+◌, ◌*◌, ◌<◌, ◌≤◌, Bool, true, false, ◌==◌, ◌&&◌, not, if◌then◌else◌, Option, Some, None, IfSome, List, [], ◌∷◌, ◌++◌, length, take, drop, replicate}
+use Rattle.aos_frame.specs.Counts.{counts_of, follows, CountsFrame}
+use Rattle.aos_frame.specs.Frame.{frame_fault, seen_in}
+use Rattle.aos_frame.specs.declared.count.SeenCount.{SeenCount}
 use Rattle.aos_frame.specs.declared.config.LinkConfig.{LinkConfig}
 use Rattle.aos_frame.specs.declared.error.FrameError.{FrameError}
 use Rattle.aos_frame.specs.declared.error.FrameError.TheVariants.{OnlyIdle}
 use Rattle.mpdu.specs.MpduHeader.{pointer_of}
 use Rattle.mpdu.specs.Stream.{ArePackets, stream, begun, survivors}
+use Rattle.mpdu.specs.Packing.{ZoneOf}
 use Rattle.mpdu.specs.Reading.{reading, held_at, resync, bad_count, is_some}
 use Rattle.link_stack.specs.declared.drops.LinkDrop.{LinkDrop}
 use Rattle.link_stack.specs.declared.drops.LinkDrop.TheVariants.{Frame, Resync, BadPacket, NoMemory}
 use Rattle.link_stack.specs.Frames.{packet_drop, mpdu_in, AreOfLink, frame_of, pdus_in}
 use Rattle.link_stack.specs.Drops.{counted, all_counted, count_of}
 
--- A receiving end: the link, the count of the last frame seen, what is held of a begun packet, and
--- the counts of drops.
+-- A receiving end: the link, the count of the last frame seen with its usage flag of the count
+-- cycle, what is held of a begun packet, and the counts of drops.
 pub record LinkReceiverState : Type 0 where
   pub link : LinkConfig
-  pub last : Option ℕ
+  pub last : Option SeenCount
   pub begun : List ℕ
   pub drops : List ℕ
 
@@ -54,17 +55,17 @@ zone_drops false bad = replicate bad BadPacket
 -- What a frame is read as: the count seen last and what is held of a begun packet after it, the
 -- whole packets that aren't idle, and what is told of the frame and its zone.
 pub record FrameRead : Type 0 where
-  pub last : Option ℕ
+  pub last : Option SeenCount
   pub begun : List ℕ
   pub packets : List (List ℕ)
   pub told : List LinkDrop
 
 -- a frame of idle data only
-abbrev pub idle_read : ℕ → FrameRead
-idle_read count = record { last = Some count; begun = []; packets = []; told = Frame OnlyIdle ∷ [] }
+abbrev pub idle_read : SeenCount → FrameRead
+idle_read seen = record { last = Some seen; begun = []; packets = []; told = Frame OnlyIdle ∷ [] }
 
 -- a zone whose packets are read, in a frame that follows the last one seen or doesn't
-abbrev pub packets_read : Option ℕ → List ℕ → Bool → ℕ → List ℕ → FrameRead
+abbrev pub packets_read : Option SeenCount → List ℕ → Bool → ℕ → List ℕ → FrameRead
 packets_read last begun follows at zone =
     record {
       last = last;
@@ -75,15 +76,15 @@ packets_read last begun follows at zone =
 
 -- an M_PDU, behind the count of its frame; the pointer 2046 tells of idle data only (CCSDS
 -- 732.0-B-4, 4.1.4.2.3)
-abbrev pub mpdu_read : LinkReceiverState → ℕ → List ℕ → FrameRead
-mpdu_read up count mpdu =
-    if pointer_of mpdu == 2046 then idle_read count
-    else packets_read (Some count) up.begun (follows up.last count) (pointer_of mpdu) (drop 2 mpdu)
+abbrev pub mpdu_read : LinkReceiverState → SeenCount → List ℕ → FrameRead
+mpdu_read up seen mpdu =
+    if pointer_of mpdu == 2046 then idle_read seen
+    else packets_read (Some seen) up.begun (follows up.last seen) (pointer_of mpdu) (drop 2 mpdu)
 
 -- A frame of another link, or none, changes nothing but the count of its cause.
 abbrev pub read_unless : Option FrameError → LinkReceiverState → List ℕ → FrameRead
 read_unless (Some error) up frame = record { last = up.last; begun = up.begun; packets = []; told = Frame error ∷ [] }
-read_unless None up frame = mpdu_read up (field frame 16 24) (mpdu_in frame)
+read_unless None up frame = mpdu_read up (seen_in frame) (mpdu_in frame)
 
 abbrev pub frame_read : LinkReceiverState → List ℕ → FrameRead
 frame_read up frame = read_unless (frame_fault frame up.link) up frame
@@ -113,25 +114,37 @@ pub record TakesFront (read : FrameRead) (up new : LinkReceiverState) (old out :
   pub pdus : out ≡ old ++ pdus_of up.link (take count read.packets)
 
 -- The receiving end is in the state in which the delivered frames of this stream leave it. The marks
--- say which frames were delivered; the last `missed` were lost, fewer than there are frame counts.
-pub record IsUp (up : LinkReceiverState) (ps : List (List ℕ)) (marks : List Bool) (missed : ℕ) : Type 0 where
+-- say which frames were delivered; the last `missed` were lost, fewer than the counts tell apart:
+-- than 2^28 where all frames of the stream have the usage flag of the count cycle, else than 2^24.
+pub record IsUpOf (all : Bool) (up : LinkReceiverState) (ps : List (List ℕ)) (marks : List Bool) (missed : ℕ) : Type 0 where
   pub packets_whole : ArePackets ps
   pub of_link : AreOfLink up.link ps
-  pub few : missed < frame_counts
-  pub seen : IfSome up.last (λ last. (n : ℕ) × (last ≡ n % frame_counts) × (length marks ≡ n + 1 + missed))
+  pub few : missed < counts_of all
+  pub seen : IfSome up.last (λ last. (n : ℕ) × CountsFrame all n last × (length marks ≡ n + 1 + missed))
   pub unseen : up.last ≡ None → up.begun ≡ []
   pub as_left : held_at (missed == 0) up.begun ≡ begun up.link.zone marks 0 ps
   pub counts : length up.drops ≡ 11
 
--- The frame behind the marked ones of the packets' stream.
+-- the same of a stream whose frames a sending end made: all have the flag
+abbrev pub IsUp : LinkReceiverState → List (List ℕ) → List Bool → ℕ → Type 0
+IsUp up ps marks missed = IsUpOf true up ps marks missed
+
+-- The frame behind the marked ones of the packets' stream, as a sending end makes it.
 pub record IsNextFrame (link : LinkConfig) (ps : List (List ℕ)) (marks : List Bool) (frame : List ℕ) : Type 0 where
   pub inside : length marks * link.zone + link.zone ≤ length (stream ps)
   pub octets : frame ≡ frame_of link ps (length marks)
 
+-- The frame behind the marked ones, whoever makes it: a frame of the link with that count and that
+-- zone. Where not all frames of the stream have the flag, it may have it or not.
+pub record IsNextFrameOf (all : Bool) (link : LinkConfig) (ps : List (List ℕ)) (marks : List Bool) (frame : List ℕ) : Type 0 where
+  pub of_link : frame_fault frame link ≡ None
+  pub counted : CountsFrame all (length marks) (seen_in frame)
+  pub zoned : ZoneOf ps (length marks) link.zone (pointer_of (mpdu_in frame)) (drop 2 (mpdu_in frame))
+
 -- It was taken whole: appended are the PDUs of the survivors that it completes. Nothing is dropped
 -- but a begun packet, where a frame was missed.
-pub record TakesNext (up new : LinkReceiverState) (ps : List (List ℕ)) (marks : List Bool) (missed : ℕ) (old out : List (List ℕ)) : Type 0 where
-  pub after : IsUp new ps (marks ++ true ∷ []) 0
+pub record TakesNextOf (all : Bool) (up new : LinkReceiverState) (ps : List (List ℕ)) (marks : List Bool) (missed : ℕ) (old out : List (List ℕ)) : Type 0 where
+  pub after : IsUpOf all new ps (marks ++ true ∷ []) 0
   pub added : List (List ℕ)
   pub completed : survivors up.link.zone (marks ++ true ∷ []) 0 ps ≡ survivors up.link.zone marks 0 ps ++ added
   pub pdus : out ≡ old ++ pdus_in added
@@ -139,10 +152,13 @@ pub record TakesNext (up new : LinkReceiverState) (ps : List (List ℕ)) (marks 
   pub link : new.link ≡ up.link
   pub memory : count_of new.drops 11 ≡ count_of up.drops 11
 
+abbrev pub TakesNext : LinkReceiverState → LinkReceiverState → List (List ℕ) → List Bool → ℕ → List (List ℕ) → List (List ℕ) → Type 0
+TakesNext up new ps marks missed old out = TakesNextOf true up new ps marks missed old out
+
 -- A front of those PDUs was appended, since there was no memory for one of them, and the end is as if
 -- the frame had been struck.
-pub record TakesNextFront (up new : LinkReceiverState) (ps : List (List ℕ)) (marks : List Bool) (old out : List (List ℕ)) : Type 0 where
-  pub after : IsUp new ps (marks ++ false ∷ []) 0
+pub record TakesNextFrontOf (all : Bool) (up new : LinkReceiverState) (ps : List (List ℕ)) (marks : List Bool) (old out : List (List ℕ)) : Type 0 where
+  pub after : IsUpOf all new ps (marks ++ false ∷ []) 0
   pub added : List (List ℕ)
   pub completed : survivors up.link.zone (marks ++ true ∷ []) 0 ps ≡ survivors up.link.zone marks 0 ps ++ added
   pub some : 1 ≤ length added
@@ -151,3 +167,6 @@ pub record TakesNextFront (up new : LinkReceiverState) (ps : List (List ℕ)) (m
   pub drops : new.drops ≡ counted up.drops NoMemory
   pub link : new.link ≡ up.link
   pub memory : 1 ≤ count_of new.drops 11
+
+abbrev pub TakesNextFront : LinkReceiverState → LinkReceiverState → List (List ℕ) → List Bool → List (List ℕ) → List (List ℕ) → Type 0
+TakesNextFront up new ps marks old out = TakesNextFrontOf true up new ps marks old out

@@ -195,6 +195,7 @@ impl Down {
             spacecraft: self.link.spacecraft,
             channel: self.link.channel,
             count: self.frames.next(),
+            cycle: true,
         };
         put_headers(&frame, pointer, header);
         true

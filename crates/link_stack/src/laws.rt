@@ -1,21 +1,21 @@
 //! Laws of a link's stream, each the contract of a function that does nothing.
 ghost use Rattle.std.specs.Prelude.{◌≡◌, ℕ, ◌+◌, ◌*◌, ◌<◌, ◌≤◌, ◌⊎◌, ◌++◌, List, Bool, [], ◌∷◌, true, false, None, length, drop};
-ghost use Rattle.aos_frame.specs.Counts.{frame_counts};
+ghost use Rattle.aos_frame.specs.Counts.{counts_of};
 ghost use Rattle.aos_frame.specs.Frame.{IsLink};
 ghost use Rattle.aos_frame.specs.declared.config.LinkConfig.{LinkConfig};
 ghost use Rattle.space_packet.specs.Packet.{SpellsPacket};
 ghost use Rattle.mpdu.specs.Stream.{IsPacket, stream, survivors, is_idle};
 ghost use Rattle.link_stack.specs.Frames.{packet_drop, carrying, packet_of, frame_of};
-ghost use Rattle.link_stack.specs.Upward.{LinkReceiverState, IsUp};
+ghost use Rattle.link_stack.specs.Upward.{LinkReceiverState, IsUpOf};
 
 /// A frame that is struck changes nothing at the receiving end, completes no packet, and is one
-/// more missed. Fewer in a row are, than there are counts.
+/// more missed. Fewer in a row are, than the counts tell apart.
 pub fn a_struck_frame_is_missed()
-    ensures end { (up : LinkReceiverState) (ps : List (List ℕ)) (marks : List Bool) (missed : ℕ) → 0
-        < up.link.zone → missed + 1 < frame_counts →
-        IsUp up ps marks missed → IsUp up ps (marks ++ false ∷ []) (missed + 1) }
-    ensures packets { (up : LinkReceiverState) (ps : List (List ℕ)) (marks : List Bool) (missed : ℕ) → 0 < up.link.zone →
-        IsUp up ps marks missed → survivors up.link.zone (marks ++ false ∷ []) 0 ps ≡ survivors up.link.zone marks 0 ps }
+    ensures end { (all : Bool) (up : LinkReceiverState) (ps : List (List ℕ)) (marks : List Bool) (missed : ℕ) → 0
+        < up.link.zone → missed + 1 < counts_of all →
+        IsUpOf all up ps marks missed → IsUpOf all up ps (marks ++ false ∷ []) (missed + 1) }
+    ensures packets { (all : Bool) (up : LinkReceiverState) (ps : List (List ℕ)) (marks : List Bool) (missed : ℕ) → 0 < up.link.zone →
+        IsUpOf all up ps marks missed → survivors up.link.zone (marks ++ false ∷ []) 0 ps ≡ survivors up.link.zone marks 0 ps }
 {}
 
 /// A packet that is sent later changes no frame that is made already, and nothing of what the
@@ -24,8 +24,8 @@ pub fn a_later_packet_changes_nothing()
     ensures frames { (link : LinkConfig) (ps : List (List ℕ)) (q : List ℕ) (n : ℕ) →
         n * link.zone + link.zone ≤ length (stream ps) → frame_of link (ps ++ q ∷ []) n
         ≡ frame_of link ps n }
-    ensures end { (up : LinkReceiverState) (ps : List (List ℕ)) (q : List ℕ) (marks : List Bool) (missed : ℕ) → IsPacket q → ((is_idle q ≡ true) ⊎ (packet_drop up.link q ≡ None)) →
-        length marks * up.link.zone ≤ length (stream ps) → IsUp up ps marks missed → IsUp up (ps ++ q ∷ []) marks missed }
+    ensures end { (all : Bool) (up : LinkReceiverState) (ps : List (List ℕ)) (q : List ℕ) (marks : List Bool) (missed : ℕ) → IsPacket q → ((is_idle q ≡ true) ⊎ (packet_drop up.link q ≡ None)) →
+        length marks * up.link.zone ≤ length (stream ps) → IsUpOf all up ps marks missed → IsUpOf all up (ps ++ q ∷ []) marks missed }
     ensures packets { (link : LinkConfig) (ps : List (List ℕ)) (q : List ℕ) (marks : List Bool) →
         IsPacket q →
         length marks * link.zone ≤ length (stream ps) → survivors link.zone marks 0 (ps ++ q ∷ []) ≡ survivors link.zone marks 0 ps }

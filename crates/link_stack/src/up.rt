@@ -6,8 +6,7 @@ ghost use Rattle.mpdu.specs.MpduHeader.{pointer_of};
 ghost use Rattle.mpdu.specs.Stream.{ArePackets, survivors};
 ghost use Rattle.link_stack.specs.Frames.{packet_drop, AreOfLink, pdus_in};
 ghost use Rattle.link_stack.specs.Drops.{raised, counted, all_counted, count_of};
-ghost use Rattle.aos_frame.specs.Counts.{frame_counts};
-ghost use Rattle.link_stack.specs.Upward.{AreLong, pdus_of, drops_of, zone_drops, packets_read, mpdu_read, frame_read, HasZone, Takes, TakesFront, IsUp, IsNextFrame, TakesNext, TakesNextFront};
+ghost use Rattle.link_stack.specs.Upward.{AreLong, pdus_of, drops_of, zone_drops, packets_read, mpdu_read, frame_read, HasZone, Takes, TakesFront, IsUpOf, IsUp, IsNextFrame, IsNextFrameOf, TakesNext, TakesNextOf, TakesNextFront, TakesNextFrontOf};
 ghost use Rattle.link_stack.specs.declared.drops.LinkDrop.TheVariants.{BadPacket, NoMemory};
 
 use crate::UNSEGMENTED;
@@ -192,8 +191,8 @@ impl Up {
         ensures new { IfOk result (λ u. u
             ≡ record { link = link; last = None; begun = []; drops = replicate 11 0 }) }
         // It is as no frame of a stream of the link leaves it.
-        ensures stream { (ps : List (List ℕ)) → ArePackets ps → AreOfLink link ps →
-            IfOk result (λ u. IsUp u ps [] 0) }
+        ensures stream { (all : Bool) (ps : List (List ℕ)) → ArePackets ps → AreOfLink link ps →
+            IfOk result (λ u. IsUpOf all u ps [] 0) }
     {
         Ok(Up {
             link,
@@ -236,17 +235,16 @@ impl Up {
         fed.is_ok()
     }
 
-    /// Reads the M_PDU of a frame of the link with this count. False where its zone found no
-    /// memory.
-    fn read_mpdu(&mut self, count: u32, mpdu: &[u8], out: &mut Vec<Vec<u8>>) -> bool
-        requires count { count < frame_counts }
+    /// Reads the M_PDU of a frame of the link with this count, and this usage flag of the count
+    /// cycle. False where its zone found no memory.
+    fn read_mpdu(&mut self, count: u32, cycle: bool, mpdu: &[u8], out: &mut Vec<Vec<u8>>) -> bool
         requires len { length mpdu.now ≡ 2 + self.old.link.zone }
         ensures all { result ≡ true →
-            Takes (mpdu_read self.old count mpdu.now) self.old self.new (octets_of_each out.old.items) (octets_of_each out.new.items) }
+            Takes (mpdu_read self.old (record { count = count; cycle = cycle }) mpdu.now) self.old self.new (octets_of_each out.old.items) (octets_of_each out.new.items) }
         ensures front { result ≡ false → ((pointer_of mpdu.now == 2046) ≡ false)
-            × TakesFront (mpdu_read self.old count mpdu.now) self.old self.new (octets_of_each out.old.items) (octets_of_each out.new.items) }
+            × TakesFront (mpdu_read self.old (record { count = count; cycle = cycle }) mpdu.now) self.old self.new (octets_of_each out.old.items) (octets_of_each out.new.items) }
     {
-        let in_order = self.monitor.follows(count);
+        let in_order = self.monitor.follows(count, cycle);
         let pointer = read_pointer(mpdu);
         if pointer == ONLY_IDLE {
             self.reassembler.let_go();
@@ -264,7 +262,7 @@ impl Up {
             × TakesFront (frame_read self.old frame.now) self.old self.new (octets_of_each out.old.items) (octets_of_each out.new.items) }
     {
         match decode(frame, &self.link) {
-            Ok((header, mpdu)) => self.read_mpdu(header.count, mpdu, out),
+            Ok((header, mpdu)) => self.read_mpdu(header.count, header.cycle, mpdu, out),
             Err(error) => {
                 self.drops.count(LinkDrop::Frame(error));
                 true
@@ -294,6 +292,12 @@ impl Up {
             IsUp self.old ps marks missed → IsNextFrame self.old.link ps marks frame.now →
             TakesNext self.old self.new ps marks missed (octets_of_each out.old.items) (octets_of_each out.new.items)
             ⊎ TakesNextFront self.old self.new ps marks (octets_of_each out.old.items) (octets_of_each out.new.items) }
+        // The same of the next frame of a stream that anyone makes: all its frames have the usage
+        // flag of the count cycle, or not all.
+        ensures others { (all : Bool) (ps : List (List ℕ)) (marks : List Bool) (missed : ℕ) →
+            IsUpOf all self.old ps marks missed → IsNextFrameOf all self.old.link ps marks frame.now →
+            TakesNextOf all self.old self.new ps marks missed (octets_of_each out.old.items) (octets_of_each out.new.items)
+            ⊎ TakesNextFrontOf all self.old self.new ps marks (octets_of_each out.old.items) (octets_of_each out.new.items) }
         // So where nothing was in `out`, it has the PDUs of the survivors that this frame
         // completes, unless it found no memory.
         ensures delivered { (ps : List (List ℕ)) (marks : List Bool) (missed : ℕ) →

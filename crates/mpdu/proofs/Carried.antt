@@ -7,7 +7,8 @@ use Rattle.std.proofs.lemmas.Bool.{cases_Bool}
 use Rattle.mpdu.specs.Stream.{stream, IsPacket, ArePackets, survivors, begun, first_header_pointer, zone}
 use Rattle.mpdu.specs.Packing.{PackerState, IsAt, ZoneOf, flush_of, idle_packet, idle_len}
 use Rattle.mpdu.specs.Feeding.{IsNext, IsTaken, octets_of_each}
-use Rattle.aos_frame.specs.Counts.{frame_counts}
+use Rattle.aos_frame.specs.Counts.{frame_counts, with_cycle}
+use Rattle.aos_frame.specs.declared.count.SeenCount.{SeenCount}
 use Rattle.mpdu.specs.Reading.{held_at}
 use Rattle.mpdu.proofs.Counted.{counts_none, counts_struck, counts_read, never}
 use Rattle.std.proofs.Common.{Option, Some, None}
@@ -30,7 +31,7 @@ marks_of_more (suc n) [] = ap (λ l. true ∷ l) (marks_of_more n [])
 marks_of_more (suc n) (b ∷ struck) = ap (λ l. not b ∷ l) (marks_of_more n struck)
 
 -- a packet pushed
-pub carried_push : (ps : List (List ℕ)) (struck : List Bool) (size : ℕ) (p p' : PackerState) (held : List ℕ) (next : ℕ) (last : Option ℕ) (sent : ℕ) (out : List (List ℕ)) (q : List ℕ) → IsPacket q →
+pub carried_push : (ps : List (List ℕ)) (struck : List Bool) (size : ℕ) (p p' : PackerState) (held : List ℕ) (next : ℕ) (last : Option SeenCount) (sent : ℕ) (out : List (List ℕ)) (q : List ℕ) → IsPacket q →
     p'.size ≡ p.size → (h : IsCarried ps struck size p held next last sent out) → IsAt p' (ps ++ q ∷ []) h.taken →
     IsCarried (ps ++ q ∷ []) struck size p' held next last sent out
 carried_push ps struck size p p' held next last sent out q hq es h at =
@@ -49,7 +50,7 @@ carried_push ps struck size p p' held next last sent out q hq es h at =
     }
 
 -- the next zone, as feed takes it
-pub next_of : (ps : List (List ℕ)) (struck : List Bool) (z : ℕ) (p : PackerState) (held : List ℕ) (next : ℕ) (last : Option ℕ) (sent : ℕ) (out : List (List ℕ)) (at : ℕ) (octets : List ℕ) (follows : Bool) → length octets ≡ z →
+pub next_of : (ps : List (List ℕ)) (struck : List Bool) (z : ℕ) (p : PackerState) (held : List ℕ) (next : ℕ) (last : Option SeenCount) (sent : ℕ) (out : List (List ℕ)) (at : ℕ) (octets : List ℕ) (follows : Bool) → length octets ≡ z →
     (h : IsCarried ps struck z p held next last sent out) → ZoneOf ps h.taken p.size at octets → held_at follows held ≡ held_at (h.missed == 0) held → IsNext ps (marks_of h.taken struck) (held_at follows held) at octets
 next_of ps struck z p held next last sent out at octets follows e h zo told =
     let n : ℕ = h.taken in
@@ -70,10 +71,10 @@ marks_more n struck b e =
     ap (λ k. marks_of k struck) one ∙ marks_of_more n struck ∙ ap (λ x. marks_of n struck ++ not x ∷ []) e
 
 -- a zone read
-pub carried_read : (ps : List (List ℕ)) (struck : List Bool) (z : ℕ) (p p' : PackerState) (held held' : List ℕ) (next next' : ℕ) (last : Option ℕ) (sent sent' : ℕ) (out new : List (List ℕ)) (octets : List ℕ) → length octets ≡ z →
+pub carried_read : (ps : List (List ℕ)) (struck : List Bool) (z : ℕ) (p p' : PackerState) (held held' : List ℕ) (next next' : ℕ) (last : Option SeenCount) (sent sent' : ℕ) (out new : List (List ℕ)) (octets : List ℕ) → length octets ≡ z →
     (h : IsCarried ps struck z p held next last sent out) → next' ≡ (next + 1) % frame_counts → p'.size ≡ p.size → IsAt p' ps (h.taken + 1) → sent' ≡ min (h.taken + 1) (length struck) →
     get_or struck h.taken false ≡ false → IsTaken ps (marks_of h.taken struck) (length octets) held' out new →
-    IsCarried ps struck z p' held' next' (Some next) sent' new
+    IsCarried ps struck z p' held' next' (Some (with_cycle next)) sent' new
 carried_read ps struck z p p' held held' next next' last sent sent' out new octets e h en es at nm un t =
     let n : ℕ = h.taken in
     let m : List Bool = marks_of n struck in
@@ -90,7 +91,7 @@ carried_read ps struck z p p' held held' next next' last sent sent' out new octe
     }
 
 -- a zone struck
-pub carried_struck : (ps : List (List ℕ)) (struck : List Bool) (z : ℕ) (p p' : PackerState) (held : List ℕ) (next next' : ℕ) (last : Option ℕ) (sent sent' : ℕ) (out : List (List ℕ)) → 0 < z →
+pub carried_struck : (ps : List (List ℕ)) (struck : List Bool) (z : ℕ) (p p' : PackerState) (held : List ℕ) (next next' : ℕ) (last : Option SeenCount) (sent sent' : ℕ) (out : List (List ℕ)) → 0 < z →
     (h : IsCarried ps struck z p held next last sent out) → next' ≡ (next + 1) % frame_counts → p'.size ≡ p.size → IsAt p' ps (h.taken + 1) → sent' ≡ min (h.taken + 1) (length struck) →
     get_or struck h.taken false ≡ true → IsCarried ps struck z p' held next' last sent' out
 carried_struck ps struck z p p' held next next' last sent sent' out pos h en es at nm lost =
@@ -109,7 +110,7 @@ carried_struck ps struck z p p' held next next' last sent sent' out pos h en es 
     }
 
 -- the end: no whole zone is left
-pub carried_all : (ps : List (List ℕ)) (struck : List Bool) (size : ℕ) (p : PackerState) (held : List ℕ) (next : ℕ) (last : Option ℕ) (sent : ℕ) (out : List (List ℕ)) →
+pub carried_all : (ps : List (List ℕ)) (struck : List Bool) (size : ℕ) (p : PackerState) (held : List ℕ) (next : ℕ) (last : Option SeenCount) (sent : ℕ) (out : List (List ℕ)) →
     IsCarried ps struck size p held next last sent out → length p.waiting < p.size → AreSurvivors ps struck size out
 carried_all ps struck size p held next last sent out h less =
     let same : h.taken * p.size ≡ h.taken * size = ap (λ k. h.taken * k) h.sized in
@@ -164,7 +165,7 @@ flush_is ps p taken size es ef h less =
     rw (ef, m2, m1, es) refl
 
 -- a flush
-pub carried_flush : (ps : List (List ℕ)) (struck : List Bool) (size : ℕ) (p p' : PackerState) (held : List ℕ) (next : ℕ) (last : Option ℕ) (sent : ℕ) (out : List (List ℕ)) →
+pub carried_flush : (ps : List (List ℕ)) (struck : List Bool) (size : ℕ) (p p' : PackerState) (held : List ℕ) (next : ℕ) (last : Option SeenCount) (sent : ℕ) (out : List (List ℕ)) →
     size ≤ 2040 → p'.size ≡ p.size → (h : IsCarried ps struck size p held next last sent out) → IsAt p' (ps ++ flush_of p) h.taken →
     IsCarried (ps ++ flush_of p) struck size p' held next last sent out
 carried_flush ps struck size p p' held next last sent out hi es h at =

@@ -2,7 +2,8 @@
 use Rattle.std.proofs.Common.{◌≡◌, ℕ, zero, suc, ◌+◌, ◌-◌, ◌%◌, ◌==◌, ◌<◌, ◌≤◌, Bool, true, false, List, [], ◌∷◌, length, get_or, Option, Some, None, refl, sym, subst, ◌∙◌, inl, inr, arith}
 use Rattle.std.proofs.lemmas.Bool.{cases_lt, cases_Bool, eqb-true}
 use Rattle.std.specs.Option.{IfSome}
-use Rattle.aos_frame.specs.Counts.{frame_counts, follows}
+use Rattle.aos_frame.specs.Counts.{frame_counts, with_cycle, follows, CountsFrame}
+use Rattle.aos_frame.specs.declared.count.SeenCount.{SeenCount}
 use Rattle.mpdu.proofs.Following.{held_follows}
 use Rattle.mpdu.specs.Reading.{held_at}
 use Rattle.mpdu.specs.Carrying.{AreFewInARow}
@@ -20,12 +21,12 @@ mark-inside (b ∷ bs) (suc i) d e h = mark-inside bs i d e (omega arith)
 pub counts_none : (struck : List Bool) → IsCounted struck 0 0 0 None []
 counts_none struck = record { counted = refl; within = omega arith; run = λ k h lt. absurd (omega arith); seen = tt; unseen = λ e. refl }
 
-seen_more : (last : Option ℕ) (taken missed : ℕ) → IfSome last (λ l. (n : ℕ) × (l ≡ n % frame_counts) × (taken ≡ n + 1 + missed)) →
-    IfSome last (λ l. (n : ℕ) × (l ≡ n % frame_counts) × (taken + 1 ≡ n + 1 + suc missed))
+seen_more : (last : Option SeenCount) (taken missed : ℕ) → IfSome last (λ l. (n : ℕ) × CountsFrame true n l × (taken ≡ n + 1 + missed)) →
+    IfSome last (λ l. (n : ℕ) × CountsFrame true n l × (taken + 1 ≡ n + 1 + suc missed))
 seen_more None taken missed h = tt
 seen_more (Some l) taken missed (n, e, f) = (n, e, omega arith)
 
-pub counts_struck : (struck : List Bool) (taken missed next next' : ℕ) (last : Option ℕ) (held : List ℕ) → IsCounted struck taken missed next last held →
+pub counts_struck : (struck : List Bool) (taken missed next next' : ℕ) (last : Option SeenCount) (held : List ℕ) → IsCounted struck taken missed next last held →
     get_or struck taken false ≡ true → next' ≡ (next + 1) % frame_counts → IsCounted struck (taken + 1) (suc missed) next' last held
 counts_struck struck taken missed next next' last held h lost e =
     record {
@@ -39,19 +40,19 @@ counts_struck struck taken missed next next' last held h lost e =
       unseen = h.unseen;
     }
 
-pub counts_read : (struck : List Bool) (taken missed next next' : ℕ) (last : Option ℕ) (held held' : List ℕ) → IsCounted struck taken missed next last held →
-    next' ≡ (next + 1) % frame_counts → IsCounted struck (taken + 1) 0 next' (Some next) held'
+pub counts_read : (struck : List Bool) (taken missed next next' : ℕ) (last : Option SeenCount) (held held' : List ℕ) → IsCounted struck taken missed next last held →
+    next' ≡ (next + 1) % frame_counts → IsCounted struck (taken + 1) 0 next' (Some (with_cycle next)) held'
 counts_read struck taken missed next next' last held held' h e =
     record {
       counted = omega (arith, h.counted);
       within = omega arith;
       run = λ k le lt. absurd (omega arith);
-      seen = (taken, h.counted, omega arith);
+      seen = (taken, record { count = h.counted; cycle = λ e. e }, omega arith);
       unseen = λ bad. absurd (cc);
     }
 
 -- fewer frames than there are counts are missed
-few : (struck : List Bool) (taken missed next : ℕ) (last : Option ℕ) (held : List ℕ) → AreFewInARow struck → IsCounted struck taken missed next last held → missed < frame_counts
+few : (struck : List Bool) (taken missed next : ℕ) (last : Option SeenCount) (held : List ℕ) → AreFewInARow struck → IsCounted struck taken missed next last held → missed < frame_counts
 few struck taken missed next last held runs h =
     let some : (k : ℕ) × (taken - missed ≤ k) × (k < taken - missed + frame_counts) × (get_or struck k false ≡ false) = runs (taken - missed) in
     let k : ℕ = some.0 in
@@ -62,10 +63,10 @@ few struck taken missed next last held runs h =
     elim (cases_lt missed frame_counts) [ inl c ↦ c | inr c ↦ absurd (many c) ]
 
 -- What is held at the next zone, where its frame is the next count's.
-pub told_right : (struck : List Bool) (taken missed next count : ℕ) (last : Option ℕ) (held : List ℕ) → AreFewInARow struck → IsCounted struck taken missed next last held →
-    count ≡ next → held_at (follows last count) held ≡ held_at (missed == 0) held
+pub told_right : (struck : List Bool) (taken missed next count : ℕ) (last : Option SeenCount) (held : List ℕ) → AreFewInARow struck → IsCounted struck taken missed next last held →
+    count ≡ next → held_at (follows last (with_cycle count)) held ≡ held_at (missed == 0) held
 told_right struck taken missed next count last held runs h e =
-    (held_follows last count taken missed held (few struck taken missed next last held runs h) h.seen h.unseen (e ∙ h.counted)).0
+    (held_follows true last (with_cycle count) taken missed held (few struck taken missed next last held runs h) h.seen h.unseen (record { count = e ∙ h.counted; cycle = λ e. e })).0
 
 get_or-past : (bs : List Bool) (i : ℕ) (d : Bool) → length bs ≤ i → get_or bs i d ≡ d
 get_or-past [] i d h = refl

@@ -1,22 +1,23 @@
 -- Proof-only: what `carry` keeps between its zones. No public clause speaks of it.
 use Rattle.std.specs.Prelude.{◌≡◌, ℕ, ◌+◌, ◌%◌, ◌==◌, ◌<◌, ◌≤◌, Bool, true, false, min, Option, None, IfSome, slice_index_or, List, [], length}
-use Rattle.aos_frame.specs.Counts.{frame_counts}
+use Rattle.aos_frame.specs.Counts.{frame_counts, CountsFrame}
+use Rattle.aos_frame.specs.declared.count.SeenCount.{SeenCount}
 use Rattle.mpdu.specs.Stream.{begun, survivors}
 use Rattle.mpdu.specs.Reading.{held_at}
 use Rattle.mpdu.specs.Packing.{PackerState, IsAt}
 use Rattle.mpdu.specs.Carrying.{marks_of}
 
 -- So many frames were counted, the last `missed` of them struck, the one before those seen last.
-pub record IsCounted (struck : List Bool) (taken missed next : ℕ) (last : Option ℕ) (held : List ℕ) : Type 0 where
+pub record IsCounted (struck : List Bool) (taken missed next : ℕ) (last : Option SeenCount) (held : List ℕ) : Type 0 where
   pub counted : next ≡ taken % frame_counts
   pub within : missed ≤ taken
   pub run : (k : ℕ) → taken ≤ k + missed → k < taken → slice_index_or struck k false ≡ true
-  pub seen : IfSome last (λ l. (n : ℕ) × (l ≡ n % frame_counts) × (taken ≡ n + 1 + missed))
+  pub seen : IfSome last (λ l. (n : ℕ) × CountsFrame true n l × (taken ≡ n + 1 + missed))
   pub unseen : last ≡ None → held ≡ []
 
 -- Of the stream of these packets all zones that were taken have been struck or read; `next` is the
 -- count of the next frame, `last` the count seen last.
-pub record IsCarried (ps : List (List ℕ)) (struck : List Bool) (size : ℕ) (packer : PackerState) (held : List ℕ) (next : ℕ) (last : Option ℕ) (sent : ℕ) (out : List (List ℕ)) : Type 0 where
+pub record IsCarried (ps : List (List ℕ)) (struck : List Bool) (size : ℕ) (packer : PackerState) (held : List ℕ) (next : ℕ) (last : Option SeenCount) (sent : ℕ) (out : List (List ℕ)) : Type 0 where
   pub taken : ℕ
   pub packed : IsAt packer ps taken
   pub sized : packer.size ≡ size

@@ -38,9 +38,9 @@ struct Counts {
     monitor: VcMonitor,
 }
 
-/// Whether so few frames in a row are lost that the 24 bit frame counts tell each loss.
+/// Whether so few frames in a row are lost that the 28-bit frame counts tell each loss.
 ///
-/// Fewer than 16,777,216 are. Frame n is lost where `struck[n]` is true.
+/// Fewer than 268,435,456 are. Frame n is lost where `struck[n]` is true.
 pub fn are_few_in_a_row(struck: &[bool]) -> bool
     ensures { IsTrue result ↔ AreFewInARow struck.now }
 {
@@ -89,7 +89,7 @@ fn drain(
         if lost {
             continue;
         }
-        let in_order = counts.monitor.follows(count);
+        let in_order = counts.monitor.follows(count, true);
         reassembler.feed(pointer, buffer, in_order, out)?;
     }
     Ok(())
@@ -98,12 +98,12 @@ fn drain(
 /// Sends packets over a channel that loses frames, and gives back those that come whole.
 ///
 /// Packs the packets into zones of `zone` octets (16 to 2,040), flushes, strikes frame n where
-/// `struck[n]` is true, and puts packets together again from the zones of the others, whose 24 bit
+/// `struck[n]` is true, and puts packets together again from the zones of the others, whose 28-bit
 /// frame counts tell where some are missing. A frame past the list's end is not struck.
 ///
 /// What comes back are exactly the packets that aren't idle and of which no frame was struck, in
 /// order. Each item of `packets` is one whole packet, which [`are_packets`](crate::are_packets)
-/// tests, and fewer than 16,777,216 frames in a row are struck, which [`are_few_in_a_row`] tests.
+/// tests, and fewer than 268,435,456 frames in a row are struck, which [`are_few_in_a_row`] tests.
 /// `AllocError` comes only where a growth was refused.
 pub fn carry(
     alloc: Global,

@@ -1,23 +1,25 @@
 //! Frames (`aos_frame`), of a link with spacecraft 42, channel 5, zones of 32 octets and packets of
 //! the process 100.
 //!
-//!     encode SPACECRAFT CHANNEL COUNT OCTETS      to write a header into these octets
-//!     again COUNT OCTETS                          to write one of the link, and to read it again
+//!     encode SPACECRAFT CHANNEL COUNT CYCLE OCTETS   to write a header into these octets
+//!     again COUNT CYCLE OCTETS                    to write one of the link, and to read it again
 //!     decode OCTETS                               to read a frame of the link: its header, and
 //!                                                 what stands behind it
 //!     any ZONE OCTETS                             to read a frame of the link that it names
-//!     writable SPACECRAFT CHANNEL COUNT           whether a header can be written
+//!     writable SPACECRAFT CHANNEL COUNT CYCLE     whether a header can be written
 //!     valid SPACECRAFT CHANNEL ZONE PROCESS       whether there is such a link
 //!     next                                        to tell the next count
-//!     see COUNT, follows COUNT                    to hear of a frame, and to tell what is missing
+//!     see COUNT CYCLE, follows COUNT CYCLE        to hear of a frame, and to tell what is missing
+//!
+//! CYCLE is `true` with the usage flag of the count cycle, where a count has 28 bits, else `false`.
 ghost use Rattle.std.specs.Prelude.{◌≡◌, ◌+◌, ◌<◌, length};
 ghost use Rattle.aos_frame.specs.Frame.{FitsHeader};
 
 use crate::bench::{Bench, played, unknown};
-use crate::words::{half, narrow, octet, octets, pair, tell_octets, word};
+use crate::words::{flag, half, narrow, octet, octets, pair, tell_octets, word};
 use aos_frame::{
-    Continuity, FRAME_COUNTS, FrameError, FrameHeader, LinkConfig, VcCounter, VcMonitor, decode,
-    encode, written_frame_is_read,
+    Continuity, FrameError, FrameHeader, LinkConfig, VcCounter, VcMonitor, decode, encode,
+    written_frame_is_read,
 };
 use std::alloc::{AllocError, Global};
 
@@ -54,8 +56,8 @@ impl Bench for FrameBench {
     fn does(&mut self, verb: &str, words: &str, out: &mut String) -> Result<(), AllocError> {
         match verb {
             "next" => write!(out, " {}\n", self.counter.next()),
-            "see" => tell_missing(self.see(narrow(words)), out),
-            "follows" => write!(out, " {}\n", self.follows(narrow(words))),
+            "see" => tell_missing(self.see(words), out),
+            "follows" => write!(out, " {}\n", self.follows(words)),
             "encode" => encodes(self.alloc, words, out),
             "again" => encodes_again(self.alloc, words, out),
             "decode" => reads(&octets(self.alloc, words)?, self.alloc, out),
@@ -65,12 +67,14 @@ impl Bench for FrameBench {
 }
 
 impl FrameBench {
-    fn see(&mut self, count: u32) -> Continuity {
-        self.monitor.see(count % FRAME_COUNTS)
+    fn see(&mut self, words: &str) -> Continuity {
+        let (count, cycle) = pair(words);
+        self.monitor.see(narrow(count), flag(cycle))
     }
 
-    fn follows(&mut self, count: u32) -> bool {
-        self.monitor.follows(count % FRAME_COUNTS)
+    fn follows(&mut self, words: &str) -> bool {
+        let (count, cycle) = pair(words);
+        self.monitor.follows(narrow(count), flag(cycle))
     }
 }
 
@@ -90,12 +94,13 @@ fn tell_missing(seen: Continuity, out: &mut String) -> Result<(), AllocError> {
     }
 }
 
-/// The header that three words describe.
+/// The header that four words describe.
 fn header(words: &str) -> FrameHeader {
     FrameHeader {
         spacecraft: octet(word(words, 0)),
         channel: octet(word(words, 1)),
         count: narrow(word(words, 2)),
+        cycle: flag(word(words, 3)),
     }
 }
 
@@ -110,7 +115,7 @@ fn link(words: &str) -> LinkConfig {
 }
 
 fn encodes(alloc: Global, words: &str, out: &mut String) -> Result<(), AllocError> {
-    let mut octets = octets(alloc, word(words, 3))?;
+    let mut octets = octets(alloc, word(words, 4))?;
     write_header(&header(words), &mut octets);
     tell_octets(alloc, &octets, out)
 }
@@ -122,17 +127,18 @@ fn write_header(header: &FrameHeader, octets: &mut [u8]) {
 }
 
 fn encodes_again(alloc: Global, words: &str, out: &mut String) -> Result<(), AllocError> {
-    let (count, digits) = pair(words);
-    let mut octets = octets(alloc, digits)?;
-    write!(out, " {}\n", count_again(narrow(count), &mut octets))?;
+    let mut octets = octets(alloc, word(words, 2))?;
+    let (count, cycle) = (narrow(word(words, 0)), flag(word(words, 1)));
+    write!(out, " {}\n", count_again(count, cycle, &mut octets))?;
     tell_octets(alloc, &octets, out)
 }
 
-fn count_again(count: u32, octets: &mut [u8]) -> u32 {
+fn count_again(count: u32, cycle: bool, octets: &mut [u8]) -> u32 {
     let header = FrameHeader {
         spacecraft: 42,
         channel: 5,
         count,
+        cycle,
     };
     if octets.len() != FRAME_LEN || !header.is_writable() {
         return u32::MAX;
@@ -180,7 +186,7 @@ fn tell_read(
     out: &mut String,
 ) -> Result<(), AllocError> {
     let (spacecraft, channel, count) = (header.spacecraft, header.channel, header.count);
-    write!(out, " {spacecraft} {channel} {count}\n")?;
+    write!(out, " {spacecraft} {channel} {count} {}\n", header.cycle)?;
     tell_octets(alloc, rest, out)
 }
 

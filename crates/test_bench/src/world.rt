@@ -23,7 +23,7 @@ use crate::words::{narrow, number, pair, tell_octets, text};
 use cfdp_directives::Octets;
 use cfdp_station::StationConfig;
 use cfdp_store::{Files, FuseInbox, FuseOutbox, MemoryInbox, MemoryOutbox};
-use link_sim::{Applied, Event, FrameLink, LossRun, Mark, Side, World, WorldConfig};
+use link_sim::{Applied, Event, FrameLink, LossRun, MOST_STRUCK, Mark, Side, World, WorldConfig};
 use std::alloc::{AllocError, Global};
 use std::marker::Model;
 
@@ -141,7 +141,7 @@ impl WorldBench {
     }
 
     fn begins(&mut self, losses: u32) {
-        self.losses = LossRun::from(losses.min(16_777_215));
+        self.losses = LossRun::from(losses.min(MOST_STRUCK));
     }
 
     fn applies(&mut self, event: &Event, out: &mut String) -> Result<(), AllocError> {

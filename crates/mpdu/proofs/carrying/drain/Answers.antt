@@ -1,5 +1,7 @@
 use Rattle.std.proofs.Common.{◌≡◌, ℕ, ◌+◌, true, false, length, get_or, ◌∙◌, arith}
 use Rattle.std.proofs.Common.{Option, Some, ◌==◌, sym, ap, subst}
+use Rattle.aos_frame.specs.Counts.{with_cycle}
+use Rattle.aos_frame.specs.declared.count.SeenCount.{SeenCount}
 use Rattle.mpdu.specs.Reading.{held_at}
 use Rattle.mpdu.proofs.Counted.{told_right}
 use Rattle.mpdu.specs.Packing.{IsAt, ZoneOf}
@@ -45,8 +47,8 @@ loop-pointer-preserved c =
           ∙ told_right c.args.struck.now h.taken h.missed c.loop-pointer.counts.counter c.next-count.result c.loop-pointer.counts.monitor c.loop-pointer.reassembler c.requires.few h.counts c.next-count.ensures.count in
           let next : IsNext ps (marks_of h.taken c.args.struck.now) (held_at c.follows-in_order.result c.loop-pointer.reassembler) c.in-Some.pointer c.zone.new.out =
           next_of ps c.args.struck.now z c.loop-pointer.packer c.loop-pointer.reassembler c.loop-pointer.counts.counter c.loop-pointer.counts.monitor c.loop-pointer.sent (octets_of_each c.loop-pointer.out.items) c.in-Some.pointer c.zone.new.out c.follows-in_order.result len h both.0 told in
-          let seen : Some c.loop-pointer.counts.counter ≡ c.follows-in_order.new.self = sym (c.follows-in_order.ensures.seen ∙ ap Some c.next-count.ensures.count) in
-          subst (λ (l : Option ℕ). IsCarried ps c.args.struck.now z c.zone.new.self c.feed.new.self c.next-count.new.self l c.next_mark-lost.result.1 (octets_of_each c.feed.new.out.items)) seen
+          let seen : Some (with_cycle c.loop-pointer.counts.counter) ≡ c.follows-in_order.new.self = sym (c.follows-in_order.ensures.seen ∙ ap (λ n. Some (with_cycle n)) c.next-count.ensures.count) in
+          subst (λ (l : Option SeenCount). IsCarried ps c.args.struck.now z c.zone.new.self c.feed.new.self c.next-count.new.self l c.next_mark-lost.result.1 (octets_of_each c.feed.new.out.items)) seen
           (carried_read ps c.args.struck.now z c.loop-pointer.packer c.zone.new.self c.loop-pointer.reassembler c.feed.new.self c.loop-pointer.counts.counter c.next-count.new.self c.loop-pointer.counts.monitor c.loop-pointer.sent c.next_mark-lost.result.1 (octets_of_each c.loop-pointer.out.items) (octets_of_each c.feed.new.out.items) c.zone.new.out len h c.next-count.ensures.after es both.1
           (c.next_mark-lost.ensures.sent h.taken h.next_mark) here
           (c.in_ok-feed.ensures.stream ps (marks_of h.taken c.args.struck.now) next));
