@@ -1,11 +1,13 @@
 -- Pairs of offsets, one behind the other.
-use Rattle.std.proofs.Common.{◌≡◌, ℕ, zero, suc, ◌*◌, ◌/◌, ◌%◌, ◌<◌, List, [], ◌∷◌, ◌++◌, length, take, drop, refl, sym, ap, ◌∙◌, arith, length-drop, append_assoc}
-use Rattle.std.proofs.lemmas.List.{take-append-drop, drop-drop, nil_from_length}
+use Rattle.std.proofs.Common.{◌≡◌, ℕ, zero, suc, add-one, ◌+◌, ◌*◌, ◌/◌, ◌%◌, ◌<◌, List, [], ◌∷◌, ◌++◌, length, take, drop, slice_index_or, get_or, refl, sym, ap, ◌∙◌, arith, length-drop, append_assoc}
+use Rattle.std.proofs.lemmas.List.{take-append-drop, drop-drop, nil_from_length, drop_more}
 use Rattle.std.proofs.lemmas.List.Concat.{flat_map-cons}
+use Rattle.std.specs.Int.{w32, from_le_bytes, from_be_bytes, to_le_bytes, swap_bytes}
+use Rattle.std.proofs.lemmas.Nat.{le_bytes_4}
 use Rattle.std.specs.List.{flat_map, AllByRecursion}
 use Rattle.cfd_bits.specs.Field.{field, octets}
 use Rattle.cfd_bits.proofs.BitFields.{field-below_octets}
-use Rattle.cfd_bits.proofs.Fields.{IsBytes, IsBytes-drop, octets-field}
+use Rattle.cfd_bits.proofs.Fields.{IsBytes, IsBytes-drop, octets-field, field-drop, field_octet}
 use Rattle.cfdp_directives.specs.Pair.{pair, pairs_of, ArePairs, IsPair}
 
 pub pairs_spelled_at : (n : ℕ) (octets : List ℕ) → length octets ≡ 8 * n → ArePairs 4 (pairs_of 4 n octets) octets
@@ -69,6 +71,49 @@ first_pair o whole h =
     let n : ℕ = length (drop 8 o) / 8 in
     let more : length o / 8 ≡ suc n = omega (arith, length-drop 8 o) in
     rw more refl
+
+-- the pair at a place, and those behind it
+pair_at_in : (n i : ℕ) (o : List ℕ) → i < n → drop i (pairs_of 4 n o) ≡ (field (drop (8 * i) o) 0 32, field (drop 4 (drop (8 * i) o)) 0 32) ∷ drop (suc i) (pairs_of 4 n o)
+unfolding pairs_of
+pair_at_in zero i o h = absurd (omega (arith, h))
+pair_at_in (suc n) zero o h = rw (field-drop 4 o 0 32) refl
+pair_at_in (suc n) (suc i) o h =
+    let place : 8 * suc i ≡ 8 + 8 * i = omega arith in
+    rw (place, ← drop-drop (8 * i) 8 o) (pair_at_in n i (drop 8 o) (omega (arith, h)))
+
+pub pair_at : (o : List ℕ) (i : ℕ) → i < length o / 8 → drop i (pairs_of 4 (length o / 8) o) ≡ (field (drop (8 * i) o) 0 32, field (drop 4 (drop (8 * i) o)) 0 32) ∷ drop (i + 1) (pairs_of 4 (length o / 8) o)
+pair_at o i h = rw add-one (pair_at_in (length o / 8) i o h)
+
+-- four octets that were read as a number the other way round, and turned back
+four_below : (a b c d : ℕ) → a < 256 → b < 256 → c < 256 → d < 256 → (i : ℕ) → get_or (a ∷ b ∷ c ∷ d ∷ []) i 0 < 256
+four_below a b c d h0 h1 h2 h3 zero = h0
+four_below a b c d h0 h1 h2 h3 (suc zero) = h1
+four_below a b c d h0 h1 h2 h3 (suc (suc zero)) = h2
+four_below a b c d h0 h1 h2 h3 (suc (suc (suc zero))) = h3
+four_below a b c d h0 h1 h2 h3 (suc (suc (suc (suc i)))) = omega arith
+
+four_spelled : (o : List ℕ) (a b c d : ℕ) → get_or o 0 0 ≡ a → get_or o 1 0 ≡ b → get_or o 2 0 ≡ c → get_or o 3 0 ≡ d → a < 256 → b < 256 → c < 256 → d < 256 → field o 0 32 ≡ a * 16777216 + b * 65536 + c * 256 + d
+four_spelled o a b c d ea eb ec ed ha hb hc hd =
+    let f0 : field o 0 0 < 1 = field-below_octets o 0 0 in
+    let f1 : field o 0 8 ≡ 256 * field o 0 0 + a = field_octet o 0 0 0 a 8 refl ea ha refl in
+    let f2 : field o 0 16 ≡ 256 * field o 0 8 + b = field_octet o 0 0 1 b 16 refl eb hb refl in
+    let f3 : field o 0 24 ≡ 256 * field o 0 16 + c = field_octet o 0 0 2 c 24 refl ec hc refl in
+    let f4 : field o 0 32 ≡ 256 * field o 0 24 + d = field_octet o 0 0 3 d 32 refl ed hd refl in
+    omega (arith, f0, f1, f2, f3, f4)
+
+four_turned : (a b c d n : ℕ) → a < 256 → b < 256 → c < 256 → d < 256 → n ≡ from_le_bytes w32 (a ∷ b ∷ c ∷ d ∷ []) → swap_bytes w32 n ≡ a * 16777216 + b * 65536 + c * 256 + d
+four_turned a b c d n ha hb hc hd is =
+    let back : to_le_bytes w32 n ≡ a ∷ b ∷ c ∷ d ∷ [] = le_bytes_4 (a ∷ b ∷ c ∷ d ∷ []) n refl (four_below a b c d ha hb hc hd) is in
+    let whole : swap_bytes w32 n ≡ from_be_bytes w32 (a ∷ b ∷ c ∷ d ∷ []) = ap (from_be_bytes w32) back in
+    whole ∙ omega arith
+
+pub number_turned : (o : List ℕ) (n : ℕ) → IsBytes o → n ≡ from_le_bytes w32 (get_or o 0 0 ∷ get_or o 1 0 ∷ get_or o 2 0 ∷ get_or o 3 0 ∷ []) → swap_bytes w32 n ≡ field o 0 32
+number_turned o n b is =
+    four_turned (get_or o 0 0) (get_or o 1 0) (get_or o 2 0) (get_or o 3 0) n (b 0) (b 1) (b 2) (b 3) is
+    ∙ sym (four_spelled o (get_or o 0 0) (get_or o 1 0) (get_or o 2 0) (get_or o 3 0) refl refl refl refl (b 0) (b 1) (b 2) (b 3))
+
+pub pair_given : (ps : List (ℕ × ℕ)) (i : ℕ) → i < length ps → drop i ps ≡ slice_index_or ps i (0, 0) ∷ drop (i + 1) ps
+pair_given ps i h = drop_more ps i (0, 0) h
 
 pub no_pair : (o : List ℕ) → length o ≡ 0 → pairs_of 4 (length o / 8) o ≡ []
 unfolding pairs_of

@@ -1,4 +1,4 @@
-ghost use Rattle.std.specs.Prelude.{◌≡◌, Some, length, IfSome};
+ghost use Rattle.std.specs.Prelude.{◌≡◌, Some, length, drop, IfSome};
 ghost use Rattle.std.specs.Iterator.{at_most, item_count, UpTo, YieldsFirst};
 ghost use Rattle.std.specs.Iterator.SizeHint.{IsWithinCount};
 
@@ -9,15 +9,17 @@ use std::marker::Model;
 /// ends. Contracts see it as the list of those that are left.
 #[derive(Debug, Drop)]
 pub struct PairIter<'a> {
-    rest: Pairs<'a>,
+    pairs: Pairs<'a>,
+    // How many of them were given.
+    given: usize,
 }
 
 impl<'a> Model for PairIter<'a> {
-    ghost use Rattle.std.specs.Prelude.{List, ℕ};
+    ghost use Rattle.std.specs.Prelude.{List, ℕ, drop};
 
     ghost Value = { List (ℕ × ℕ) };
 
-    ghost view = { λ i. i.rest };
+    ghost view = { λ i. drop i.given i.pairs };
 }
 
 impl<'a> PairIter<'a> {
@@ -25,7 +27,7 @@ impl<'a> PairIter<'a> {
     pub(crate) fn over(pairs: Pairs<'a>) -> Self
         ensures { result ≡ pairs.entry }
     {
-        PairIter { rest: pairs }
+        PairIter { pairs, given: 0 }
     }
 }
 
@@ -37,9 +39,12 @@ impl<'a> Iterator for PairIter<'a> {
     ghost remaining = { item_count (λ i. i) };
 
     fn next(&mut self) -> Option<(u64, u64)> {
-        let (start, end, rest) = self.rest.split_first()?;
-        self.rest = rest;
-        Some((start, end))
+        if self.given >= self.pairs.len() {
+            return None;
+        }
+        let pair = self.pairs.at(self.given);
+        self.given += 1;
+        Some(pair)
     }
 
     fn size_hint(&self) -> (usize, Option<usize>)
@@ -47,7 +52,7 @@ impl<'a> Iterator for PairIter<'a> {
         ensures upper { IfSome result.1 (UpTo (at_most (length self.now))) }
         ensures exact { (result.0 ≡ length self.now) × (result.1 ≡ Some result.0) }
     {
-        let left = self.rest.len();
+        let left = self.pairs.len().saturating_sub(self.given);
         (left, Some(left))
     }
 }

@@ -3,6 +3,7 @@ ghost use Rattle.std.specs.Cmp.{partial_equiv_from_equiv};
 ghost use Rattle.std.specs.Cmp.Lexicographic.{on_texts_equal, pointwise};
 ghost use Rattle.std.specs.Ordering.{on};
 ghost use Rattle.std.specs.List.{flat_map, AllByRecursion};
+ghost use Rattle.cfd_bits.specs.Field.{field};
 ghost use Rattle.cfdp_directives.specs.Codes.{file_size_octets};
 ghost use Rattle.cfdp_directives.specs.Pair.{pair, pair_octets, pairs_of, ArePairs, IsPair, numbers, pairs_in, IsWhole};
 
@@ -102,6 +103,18 @@ impl<'a> Pairs<'a> {
         }
     }
 
+    /// The start and the end of the range at a place, from 0 on.
+    #[tactic(auto, using(crate::proofs::Ranges::pairs_count))]
+    pub(crate) fn at(&self, place: usize) -> (u64, u64)
+        requires { place < length self.now }
+        ensures { drop place self.now ≡ result ∷ drop (place + 1) self.now }
+    {
+        match self.form {
+            Form::Read(octets) => pair_read(octets, place),
+            Form::Given(pairs) => pair_given(pairs, place),
+        }
+    }
+
     /// The pairs one by one.
     pub fn iter(&self) -> PairIter<'a>
         ensures { result ≡ self.now }
@@ -178,6 +191,37 @@ fn are_same(mut one: PairIter<'_>, mut other: PairIter<'_>) -> bool
         }
     }
     other.next().is_none()
+}
+
+/// The pair at a place in octets that pairs fill.
+#[tactic(auto, using(crate::proofs::Ranges::pair_at))]
+fn pair_read(octets: &[u8], place: usize) -> (u64, u64)
+    requires { place < length octets.now / pair_octets }
+    ensures { drop place (pairs_of file_size_octets (length octets.now / pair_octets) octets.now)
+        ≡ result ∷ drop (place + 1) (pairs_of file_size_octets (length octets.now / pair_octets) octets.now) }
+{
+    let (_, start) = octets.split_at(PAIR_OCTETS * place);
+    let (_, end) = start.split_at(FILE_SIZE_OCTETS);
+    (number_at_front(start), number_at_front(end))
+}
+
+/// The pair at a place.
+#[tactic(auto, using(crate::proofs::Ranges::pair_given))]
+fn pair_given(pairs: &[(u64, u64)], place: usize) -> (u64, u64)
+    requires { place < length pairs.now }
+    ensures { drop place pairs.now ≡ result ∷ drop (place + 1) pairs.now }
+{
+    pairs[place]
+}
+
+/// The number that the first octets spell, those of a file-size field. They are loaded as one
+/// number, which turns them round, and then turned back: so that many are read at once.
+fn number_at_front(octets: &[u8]) -> u64
+    requires { file_size_octets ≤ length octets.now }
+    ensures { result ≡ field octets.now 0 (8 * file_size_octets) }
+{
+    let turned = u32::from_le_bytes([octets[0], octets[1], octets[2], octets[3]]);
+    u64::from(turned.swap_bytes())
 }
 
 /// The octets, of which it is known that pairs fill them.

@@ -63,8 +63,8 @@ impl Record {
         ensures { (staged : Option OctetMap) → result ≡ is_due (seen staged self.now) }
     {
         match self {
-            Record::Sends(sender) => sender.due().is_some(),
-            Record::Receives(receiver) => receiver.due().is_some(),
+            Record::Sends(sender) => sender.is_due(),
+            Record::Receives(receiver) => receiver.is_due(),
         }
     }
 
@@ -473,7 +473,7 @@ fn take_of_receiver(
     ensures ready { (staged : Staged) → IsReady staged receiver.old → IsReady staged receiver.new }
     ensures addressing { receiver.new.addressing ≡ receiver.old.addressing }
 {
-    if receiver.due().is_none() {
+    if !receiver.is_due() {
         return 0;
     }
     receiver.take_pdu(timers, policy, out)

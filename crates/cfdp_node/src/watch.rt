@@ -42,12 +42,14 @@ impl Watch {
     /// Notes what became of these frames in one event: any number were sent, and at most one
     /// arrived or was lost.
     pub fn look(&mut self, link: &FrameLink, log: &mut Log) {
-        for frame in link.frames().get(self.sent..).unwrap_or(&[]) {
-            self.leaves(frame, log);
+        for place in self.sent..link.count() {
+            if let Some(frame) = link.frame(place) {
+                self.leaves(frame, log);
+            }
         }
-        self.sent = link.frames().len();
+        self.sent = link.count();
         if let Some(mark) = link.mark(self.taken)
-            && let Some(frame) = link.frames().get(self.taken)
+            && let Some(frame) = link.frame(self.taken)
         {
             self.look_at(mark, frame, log);
         }

@@ -1,5 +1,5 @@
 // What a receiver sends.
-ghost use Rattle.std.specs.Prelude.{◌≡◌, ◌≤◌, Option, Some, IsSome, IfSome, take, drop, length, true};
+ghost use Rattle.std.specs.Prelude.{◌≡◌, ◌≤◌, Option, Some, is_some, IsSome, IfSome, take, drop, length, true};
 ghost use Rattle.std.specs.FinSet as set;
 ghost use Rattle.cfdp_header.specs.declared.value.TransactionId.{TransactionId};
 ghost use Rattle.cfdp_directives.specs.Addressing as addressings;
@@ -37,6 +37,14 @@ impl Receiver {
     {
         let due = self.next_due()?;
         Some(self.len_of(&due))
+    }
+
+    /// Whether a PDU is due: whether [`due`](Self::due) answers a length, for which a NAK has to be
+    /// made. Takes no memory.
+    pub fn is_due(&self) -> bool
+        ensures { result ≡ is_some (receiver_due self.now) }
+    {
+        self.next_due().is_some()
     }
 
     /// Writes the PDU that is due into the first octets of `out`, and says how many they are. The

@@ -46,6 +46,13 @@ impl Sender {
         Some(self.addressing.written_len(&self.says(&due)) + carried)
     }
 
+    /// Whether a PDU is due: whether [`due`](Self::due) answers a length, which costs more.
+    pub fn is_due(&self) -> bool
+        ensures { result ≡ is_some (sender_due self.now) }
+    {
+        self.next().is_some()
+    }
+
     // Where the octets of the file begin that a PDU carries, and how many they are.
     pub(crate) fn extent(&self, due: &SenderDue) -> (u64, usize)
         requires { sender_due self.now ≡ Some due.now }

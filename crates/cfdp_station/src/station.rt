@@ -49,12 +49,13 @@ use std::marker::Model;
 /// `next_frame` take no memory, and `poll` none but what the entity's indications need.
 #[derive(Drop)]
 pub struct Station<O: Outbox, I: Inbox> {
-    alloc: Global,
     entity: Entity<O, I>,
     down: Down,
     up: Up,
     // room for one PDU of the capacity
     buffer: Vec<u8>,
+    // The PDUs that a frame gives, while they are heard: kept for its room.
+    given: Vec<Vec<u8>>,
 }
 
 impl<O: Outbox, I: Inbox> Model for Station<O, I> {
@@ -108,11 +109,11 @@ impl<O: Outbox, I: Inbox> Station<O, I> {
         // Last, so that no error lets an entity go.
         let entity = Entity::new(alloc, config.entity, outbox, inbox)?;
         Ok(Station {
-            alloc,
             entity,
             down,
             up,
             buffer,
+            given: Vec::new(alloc),
         })
     }
 
@@ -350,9 +351,9 @@ impl<O: Outbox, I: Inbox> Station<O, I> {
     pub fn take(&mut self, frame: &[u8])
         ensures { TakesFrame frame.now self.old self.new }
     {
-        let mut pdus = Vec::new(self.alloc);
-        self.up.take(frame, &mut pdus);
-        hear_all(&mut self.entity, &pdus);
+        self.given.clear();
+        self.up.take(frame, &mut self.given);
+        hear_all(&mut self.entity, &self.given);
     }
 
     /// Tells the time: each timer that is due as the call begins expires once, in the order of

@@ -2,6 +2,7 @@ pub mod Sending
 pub mod Sends
 pub mod Arriving
 pub mod Receiving
+pub mod Placing
 pub mod Pulling
 pub mod Carried
 pub mod AtStations

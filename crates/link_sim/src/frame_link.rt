@@ -1,6 +1,5 @@
 //! The frames of one direction of a link.
-ghost use Rattle.std.specs.Prelude.{◌≡◌, ◌≢◌, ℕ, ◌+◌, ◌*◌, ◌<◌, ◌≤◌, ◌↔◌, ◌⊎◌, ◌++◌, List, [], ◌∷◌, true, false, length, take, drop, IfOk, IfErr, OnOk, IsErr, IsSome, IfSome, IfNone, MatchOption, All, vec_len, vec_capacity};
-ghost use Rattle.mpdu.specs.Feeding.{octets_of_each};
+ghost use Rattle.std.specs.Prelude.{◌≡◌, ◌≢◌, ◌+◌, ◌*◌, ◌<◌, ◌≤◌, ◌↔◌, ◌⊎◌, ◌++◌, [], ◌∷◌, true, false, length, take, drop, slice_index_or, OnOk, IfSome, MatchOption};
 ghost use Rattle.cfdp_station.specs.Link.{MakesFrame};
 ghost use Rattle.cfdp_station.specs.Station.{KeepsRest};
 ghost use Rattle.link_sim.specs.FrameLink.{most_struck, mark_at, oldest};
@@ -14,126 +13,113 @@ use cfdp_store::{Inbox, Outbox};
 use std::alloc::{AllocError, Global};
 use std::marker::Model;
 
-/// Makes the oldest whole zone that waits at a station a frame, in this buffer; gives it back where
-/// none waits.
-fn make_frame<O: Outbox, I: Inbox>(
+/// Makes the oldest whole zone that waits at a station a frame, in `len` octets from octet `at` on;
+/// false where none waits. All other octets stay.
+fn write_frame<O: Outbox, I: Inbox>(
     station: &mut Station<O, I>,
-    mut blank: Vec<u8>,
-) -> Result<Vec<u8>, Vec<u8>>
-    requires { length blank.items ≡ 8 + station.old.down.link.zone }
-    ensures none { IsErr result
+    octets: &mut [u8],
+    at: usize,
+    len: usize,
+) -> bool
+    requires room { at + len ≤ length octets.old }
+    requires len { len ≡ 8 + station.old.down.link.zone }
+    ensures none { (result ≡ false)
         ↔ (length station.old.down.waiting < station.old.down.link.zone) }
-    ensures kept { IfErr result (λ b. (station.new ≡ station.old) × (b.items ≡ blank.items)) }
-    ensures made { IfOk result (λ f. MakesFrame f.items station.old.down station.new.down) }
+    ensures kept { result ≡ false → (station.new ≡ station.old) × (octets.new ≡ octets.old) }
+    ensures made { result ≡ true → MakesFrame (take len (drop at octets.new)) station.old.down
+        station.new.down }
+    ensures front { take at octets.new ≡ take at octets.old }
+    ensures whole { length octets.new ≡ length octets.old }
     ensures fixed { IsSameEnd station.old.down station.new.down }
     ensures rest { KeepsRest station.old station.new }
 {
-    if station.next_frame(&mut blank) {
-        Ok(blank)
-    } else {
-        Err(blank)
-    }
+    let (_, behind) = octets.split_at_mut(at);
+    let (frame, _) = behind.split_at_mut(len);
+    station.next_frame(frame)
 }
 
-/// Appends octets, for which there is room.
-fn put(frames: &mut Vec<Vec<u8>>, frame: Vec<u8>)
-    requires { vec_len frames.old < vec_capacity frames.old }
-    ensures items { frames.new.items ≡ frames.old.items ++ frame ∷ [] }
-    ensures len { vec_len frames.new ≡ vec_len frames.old + 1 }
-    ensures capacity { vec_capacity frames.old ≤ vec_capacity frames.new }
+/// How many octets so many frames have, and so many more; `None` where that is no `usize`.
+fn octets_of(frames: usize, more: usize, len: usize) -> Option<usize>
+    ensures { IfSome result (λ n. n ≡ (frames + more) * len) }
 {
-    let _ = frames.push(frame);
-}
-
-/// Makes more buffers of so many octets, until there are `count`.
-fn add_blanks(
-    alloc: Global,
-    blanks: &mut Vec<Vec<u8>>,
-    count: usize,
-    len: usize,
-) -> Result<(), AllocError>
-    requires fewer { vec_len blanks.old ≤ count }
-    requires len { All (λ b. length b.items ≡ len) blanks.old.items }
-    ensures ok { OnOk result (vec_len blanks.new ≡ count) }
-    ensures least { vec_len blanks.old ≤ vec_len blanks.new }
-    ensures most { vec_len blanks.new ≤ count }
-    ensures all { All (λ b. length b.items ≡ len) blanks.new.items }
-{
-    while blanks.len() < count {
-        blanks.push(vec![in alloc; 0u8; len]?)?;
-    }
-    Ok(())
+    frames.checked_add(more)?.checked_mul(len)
 }
 
 /// The frames that one station sent, in order, and what became of them.
 ///
-/// Frames are taken from the station's end into buffers made ahead, by
-/// [`make_room`](Self::make_room); so to take one needs no memory, nor to mark it.
+/// They stand in one buffer. Room for more is made ahead, by [`make_room`](Self::make_room); so to
+/// take one from the station's end needs no memory, nor to mark it.
 #[derive(Debug, Drop)]
 pub struct FrameLink {
-    alloc: Global,
     // octets of each frame
     len: usize,
-    frames: Vec<Vec<u8>>,
-    // Of those that no longer wait: true where delivered.
+    // how many frames there are
+    count: usize,
+    // how many more have room
+    blanks: usize,
+    // The frames, one behind the other, and behind them the octets of those to come.
+    octets: Vec<u8>,
+    // Of those that no longer wait: true where delivered. All frames have room, those to come too.
     marks: Vec<bool>,
     run: LossRun,
-    // Buffers for frames to come. There is room for each of them, and for its mark.
-    blanks: Vec<Vec<u8>>,
 }
 
 impl Model for FrameLink {
-    ghost use Rattle.std.specs.Prelude.{◌≡◌, ◌+◌, ◌≤◌, vec_len, vec_capacity, length, All};
-    ghost use Rattle.mpdu.specs.Feeding.{octets_of_each};
+    ghost use Rattle.std.specs.Prelude.{◌≡◌, ◌+◌, ◌*◌, ◌≤◌, vec_capacity, length};
     ghost use Rattle.link_sim.specs.FrameLink.{FrameLinkState};
+    ghost use Rattle.link_sim.specs.Pieces.{pieces};
 
     ghost Value = { FrameLinkState };
 
-    ghost view = { λ l. record { frames = octets_of_each l.frames.items; marks = l.marks.items; run = l.run; blanks = vec_len l.blanks; len = l.len } };
+    ghost view = { λ l. record { frames = pieces l.len l.count l.octets.items; marks = l.marks.items; run = l.run; blanks = l.blanks; len = l.len } };
 
-    ghost invariant = { λ l. (vec_len l.frames + vec_len l.blanks ≤ vec_capacity l.frames)
-        × (vec_len l.frames + vec_len l.blanks ≤ vec_capacity l.marks)
-        × All (λ b. length b.items ≡ l.len) l.blanks.items };
+    ghost invariant = { λ l. (length l.octets.items ≡ (l.count + l.blanks) * l.len)
+        × (l.count + l.blanks ≤ vec_capacity l.marks) };
 }
 
 impl FrameLink {
     /// Nothing was sent; frames will have `len` octets. It takes no memory.
+    #[tactic(auto, using(crate::proofs::Placing::pieces_none))]
     pub fn new(alloc: Global, len: usize) -> Self
         ensures { result ≡ record { frames = []; marks = []; run = 0; blanks = 0; len = len } }
     {
         FrameLink {
-            alloc,
             len,
-            frames: Vec::new(alloc),
+            count: 0,
+            blanks: 0,
+            octets: Vec::new(alloc),
             marks: Vec::new(alloc),
             run: LossRun::new(),
-            blanks: Vec::new(alloc),
         }
     }
 
-    /// Makes buffers, and room, until there are so many for frames to come.
+    /// Makes room until so many frames to come have it.
     ///
     /// # Errors
     ///
-    /// `AllocError` where the memory for one was refused; those made so far stay.
+    /// `AllocError` where the memory was refused: as many have room as before.
     pub fn make_room(&mut self, count: usize) -> Result<(), AllocError>
         ensures ok { OnOk result (count ≤ self.new.blanks) }
         ensures grows { self.old.blanks ≤ self.new.blanks }
         ensures kept { (self.new.frames ≡ self.old.frames) × (self.new.marks ≡ self.old.marks)
             × (self.new.run ≡ self.old.run) × (self.new.len ≡ self.old.len) }
     {
-        if count <= self.blanks.len() {
+        if count <= self.blanks {
             return Ok(());
         }
-        self.frames.reserve(count)?;
-        let marks = self.frames.len().saturating_add(count);
+        let Some(octets) = octets_of(self.count, count, self.len) else {
+            return Err(AllocError);
+        };
+        let marks = self.count.saturating_add(count);
         self.marks.reserve(marks.saturating_sub(self.marks.len()))?;
-        add_blanks(self.alloc, &mut self.blanks, count, self.len)
+        self.octets.resize(octets, 0)?;
+        self.blanks = count;
+        Ok(())
     }
 
-    /// Takes the oldest whole zone that waits at a station as a frame, into a buffer made ahead.
+    /// Takes the oldest whole zone that waits at a station as a frame, where it has room.
     ///
-    /// False where none waits, or there is no buffer: nothing changed then.
+    /// False where none waits, or there is no room: nothing changed then.
     pub fn pull<O: Outbox, I: Inbox>(&mut self, station: &mut Station<O, I>) -> bool
         requires { self.old.len ≡ 8 + station.old.down.link.zone }
         ensures none { (result ≡ false)
@@ -151,19 +137,38 @@ impl FrameLink {
         ensures rest { KeepsRest station.old station.new }
         ensures marks { IsSameMarks self.old self.new }
     {
-        let Some(blank) = self.blanks.pop() else {
+        if self.blanks == 0 {
             return false;
-        };
-        match make_frame(station, blank) {
-            Ok(frame) => {
-                put(&mut self.frames, frame);
-                true
-            }
-            Err(blank) => {
-                put(&mut self.blanks, blank);
-                false
-            }
         }
+        let at = self.count * self.len;
+        if !write_frame(station, &mut self.octets, at, self.len) {
+            return false;
+        }
+        self.count += 1;
+        self.blanks -= 1;
+        true
+    }
+
+    /// How many frames were sent.
+    #[tactic(auto, using(crate::proofs::Placing::pieces_len))]
+    pub fn count(&self) -> usize
+        ensures { result ≡ length self.now.frames }
+    {
+        self.count
+    }
+
+    /// The frame at a place, from 0 on, in the order sent; `None` where there is no such frame.
+    #[tactic(auto, using(crate::proofs::Placing::pieces_len, crate::proofs::Placing::pieces_at, crate::proofs::Placing::room_at))]
+    pub fn frame(&self, place: usize) -> Option<&[u8]>
+        ensures { MatchOption result (length self.now.frames ≤ place)
+            (λ f. (place < length self.now.frames) × (f.now ≡ slice_index_or self.now.frames place [])) }
+    {
+        if place >= self.count {
+            return None;
+        }
+        let (_, behind) = self.octets.split_at(place * self.len);
+        let (frame, _) = behind.split_at(self.len);
+        Some(frame)
     }
 
     /// The oldest frame that waits; `None` where none does.
@@ -171,13 +176,11 @@ impl FrameLink {
         ensures { MatchOption result (length self.now.frames ≤ length self.now.marks)
             (λ f. (length self.now.marks < length self.now.frames) × (f.now ≡ oldest self.now)) }
     {
-        match self.frames.get(self.marks.len()) {
-            Some(frame) => Some(frame.as_slice()),
-            None => None,
-        }
+        self.frame(self.marks.len())
     }
 
     /// The oldest frame that waits was delivered; one does.
+    #[tactic(auto, using(crate::proofs::Placing::pieces_len))]
     pub fn deliver(&mut self)
         requires { length self.old.marks < length self.old.frames }
         ensures { self.new ≡ record self.old { marks = self.old.marks ++ true ∷ []; run = 0 } }
@@ -188,6 +191,7 @@ impl FrameLink {
 
     /// Strikes the oldest frame that waits, unless the last [`MOST_STRUCK`](crate::MOST_STRUCK)
     /// frames taken were struck.
+    #[tactic(auto, using(crate::proofs::Placing::pieces_len))]
     pub fn strike(&mut self) -> Loss
         ensures done { result ≡ losses.Done → (length self.old.marks < length self.old.frames)
             × (self.old.run < most_struck) × (self.new ≡ record self.old { marks = self.old.marks ++ false ∷ []; run = self.old.run + 1 }) }
@@ -197,7 +201,7 @@ impl FrameLink {
             ↔ ((length self.old.marks < length self.old.frames) × (self.old.run ≡ most_struck)) }
         ensures kept { result ≢ losses.Done → self.new ≡ self.old }
     {
-        if self.marks.len() >= self.frames.len() {
+        if self.marks.len() >= self.count {
             return Loss::NoneWaits;
         }
         if !self.run.strike() {
@@ -207,19 +211,12 @@ impl FrameLink {
         Loss::Done
     }
 
-    /// All frames sent, in order.
-    pub fn frames(&self) -> &[Vec<u8>]
-        ensures { octets_of_each result.now ≡ self.now.frames }
-    {
-        &self.frames
-    }
-
     /// What became of the frame at a place, from 0 on; `None` where there is no such frame.
     pub fn mark(&self, place: usize) -> Option<Mark>
         ensures { MatchOption result (length self.now.frames ≤ place)
             (λ m. (place < length self.now.frames) × (m ≡ mark_at self.now place)) }
     {
-        if place >= self.frames.len() {
+        if place >= self.count() {
             return None;
         }
         match self.marks.get(place) {

@@ -407,10 +407,10 @@ fn flush_at<O: Outbox, I: Inbox>(
     ensures marks { IsSameMarks link.old link.new }
 {
     link.make_room(station.frames_ahead())?;
-    let before = link.frames().len();
+    let before = link.count();
     station.flush();
     pull_all(link, station);
-    if before < link.frames().len() {
+    if before < link.count() {
         Ok(Applied::Applied)
     } else {
         Ok(Applied::Nothing)

@@ -203,8 +203,10 @@ fn put(alloc: Global, name: &str) -> Result<Event, AllocError> {
 /// The frames of a link that were delivered.
 fn recorded(alloc: Global, link: &FrameLink) -> Result<Vec<Vec<u8>>, AllocError> {
     let mut frames = Vec::new(alloc);
-    for (place, frame) in link.frames().iter().enumerate() {
-        if link.mark(place) == Some(Mark::Delivered) {
+    for place in 0..link.count() {
+        if link.mark(place) == Some(Mark::Delivered)
+            && let Some(frame) = link.frame(place)
+        {
             frames.push(Vec::from_slice(alloc, frame)?)?;
         }
     }
@@ -233,7 +235,7 @@ fn tell_marks(link: &FrameLink, out: &mut String) -> Result<(), AllocError> {
 
 fn count_of(link: &FrameLink, mark: Mark) -> usize {
     let mut count = 0usize;
-    for place in 0..link.frames().len() {
+    for place in 0..link.count() {
         if link.mark(place) == Some(mark) {
             count = count.saturating_add(1);
         }

@@ -1,24 +1,34 @@
-use Rattle.std.proofs.Common.{◌≡◌, ℕ, List, [], ◌∷◌, ◌++◌, length, sym, ap, subst, ◌∙◌, vec_len}
-use Rattle.std.proofs.lemmas.List.{map-append}
-use Rattle.mpdu.specs.Feeding.{octets_of_each}
+use Rattle.std.proofs.Common.{◌≡◌, ℕ, ◌+◌, ◌-◌, ◌*◌, List, [], ◌∷◌, ◌++◌, length, take, drop, refl, sym, ap, subst, ◌∙◌, arith}
 use Rattle.link_stack.specs.Upward.{LinkReceiverState}
 use Rattle.link_sim.specs.FrameLink.{FrameLinkState}
 use Rattle.link_sim.specs.OneWay.{OneWayState, IsOneWay, SendsNone, one_way, packets_sent}
+use Rattle.link_sim.specs.Pieces.{pieces}
+use Rattle.link_sim.proofs.Placing.{pieces_len, pieces_pulled}
 use Rattle.link_sim.proofs.Pulling.{pulls}
 use Rattle.link_sim.proofs.frame_link.FrameLink.pull.Goals as goal
 
-pub returns-in-Ok-clause-way : goal.returns-in-Ok-clause-way
-returns-in-Ok-clause-way g c =
+pub returns-clause-way : goal.returns-clause-way
+returns-clause-way g c =
     let i = c.self.inside in
     let d = c.args.station.now.down in
-    let k : FrameLinkState = record { frames = octets_of_each i.frames.items; marks = i.marks.items; run = i.run; blanks = vec_len i.blanks; len = i.len } in
-    let m : FrameLinkState = record { frames = octets_of_each c.put.new.frames.items; marks = i.marks.items; run = i.run; blanks = vec_len c.pop.new.self; len = i.len } in
-    let grown : octets_of_each c.put.new.frames.items ≡ octets_of_each i.frames.items ++ c.in-Ok.frame.items ∷ [] =
-    ap octets_of_each c.put.ensures.items ∙ map-append (λ v. v.items) i.frames.items (c.in-Ok.frame ∷ []) in
-    let e = c.in-Ok.ensures in
-    let one : (up : LinkReceiverState) → IsOneWay (one_way d k up) → SendsNone (one_way d k up) (one_way c.make_frame.new.station.down m up) = λ (up : LinkReceiverState) (is : IsOneWay (one_way d k up)).
+    let w : List ℕ = c.write_frame.new.octets in
+    let written : List ℕ = take i.octets.len (w ++ drop (length w) i.octets.items) in
+    let frame : List ℕ = take i.len (drop (i.count * i.len) w) in
+    let k : FrameLinkState = record { frames = pieces i.len i.count i.octets.items; marks = i.marks.items; run = i.run; blanks = i.blanks; len = i.len } in
+    let m : FrameLinkState = record { frames = pieces i.len (i.count + 1) written; marks = i.marks.items; run = i.run; blanks = i.blanks - 1; len = i.len } in
+    let whole : length w ≡ i.octets.len = omega (arith, c.write_frame.ensures.whole, c.deref_mut.ensures.len) in
+    let grown : pieces i.len (i.count + 1) written ≡ pieces i.len i.count i.octets.items ++ frame ∷ [] =
+    pieces_pulled i.len i.count i.octets.len w i.octets.items c.deref_mut.result.now whole c.deref_mut.ensures.value c.write_frame.ensures.front in
+    let made = c.if-not-write_frame.ensures.made refl in
+    let one : (up : LinkReceiverState) → IsOneWay (one_way d k up) → SendsNone (one_way d k up) (one_way c.write_frame.new.station.down m up) = λ (up : LinkReceiverState) (is : IsOneWay (one_way d k up)).
     let l : OneWayState = one_way d k up in
-    subst (λ (x : List (List ℕ)). SendsNone l (record l { down = c.make_frame.new.station.down; frames = x })) (sym grown)
-    (pulls l c.make_frame.new.station.down c.in-Ok.frame.items is
-    (e.made.is_next (packets_sent l) (length l.frames) is.sent.made, e.made.inside (packets_sent l) (length l.frames) is.sent.made, e.made.after (packets_sent l) (length l.frames) is.sent.made) e.made.zone e.made.waiting e.made.link) in
-    subst (λ (x : FrameLinkState). (up : LinkReceiverState) → IsOneWay (one_way d x up) → SendsNone (one_way d x up) (one_way c.make_frame.new.station.down m up)) c.self.view_is one
+    subst (λ (x : List (List ℕ)). SendsNone l (record l { down = c.write_frame.new.station.down; frames = x })) (sym grown)
+    (pulls l c.write_frame.new.station.down frame is
+    (made.is_next (packets_sent l) (length l.frames) is.sent.made, made.inside (packets_sent l) (length l.frames) is.sent.made, made.after (packets_sent l) (length l.frames) is.sent.made) made.zone made.waiting made.link) in
+    subst (λ (x : FrameLinkState). (up : LinkReceiverState) → IsOneWay (one_way d x up) → SendsNone (one_way d x up) (one_way c.write_frame.new.station.down m up)) c.self.view_is one
+
+pub returns-clause-grown : goal.returns-clause-grown
+returns-clause-grown g c done =
+    let i = c.self.inside in
+    let before : length c.args.self.now.frames ≡ i.count = ap (λ x. length x.frames) (sym c.self.view_is) ∙ pieces_len i.len i.count i.octets.items in
+    pieces_len i.len (i.count + 1) _ ∙ ap (λ n. n + 1) (sym before)
