@@ -24,3 +24,4 @@ pub mod Turns
 pub mod CallerLemmas
 pub mod Asking
 pub mod Raised
+pub mod Added

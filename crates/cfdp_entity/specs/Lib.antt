@@ -19,6 +19,7 @@ pub mod Calls
 pub mod Hearing
 pub mod Polling
 pub mod Putting
+pub mod Adding
 pub mod History
 pub mod Truth
 pub mod Sending

@@ -170,3 +170,14 @@ impl CallError {
         }
     }
 }
+
+/// Why a file isn't added to an outbox in memory.
+#[derive(Clone, Copy, Debug, PartialEq, Eq, Error)]
+pub enum AddError {
+    /// The outbox has a file of that name already. Told first.
+    #[error("there is a file of that name")]
+    Taken,
+    /// There is no memory for the file.
+    #[error("there is no memory for it")]
+    NoMemory,
+}

@@ -3,6 +3,7 @@
 //! tells it the time, it hears PDUs, and PDUs are taken from it.
 #![tactic(auto)]
 
+mod adding;
 mod call;
 mod calls;
 mod config;
@@ -24,7 +25,7 @@ mod table;
 pub use call::Call;
 pub use config::EntityConfig;
 pub use entity::Entity;
-pub use error::{CallError, EntityDrop, PutError};
+pub use error::{AddError, CallError, EntityDrop, PutError};
 pub use laws::{
     a_table_finishes_a_transaction_once, a_table_keeps_the_truth, a_table_sends_the_truth,
     a_table_tells_no_more, an_entity_goes_on, an_entity_keeps_the_truth, an_entity_sends_the_truth,

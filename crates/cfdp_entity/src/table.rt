@@ -1,5 +1,5 @@
 // Records with their timers and both stores.
-ghost use Rattle.std.specs.Prelude.{◌≡◌, ◌+◌, ◌≤◌, ◌<◌, ◌++◌, ◌*◌, max, true, None, Option, drop, length, slice_get, IfOk, IfSome, MatchOption, OnOk, OnErr, is_ok};
+ghost use Rattle.std.specs.Prelude.{◌≡◌, ◌+◌, ◌≤◌, ◌<◌, ◌++◌, ◌*◌, max, true, None, Option, drop, length, slice_get, IfErr, IfOk, IfSome, MatchOption, OnOk, OnErr, is_ok};
 ghost use Rattle.std.specs.FinMap as map;
 ghost use Rattle.std.specs.Option.{option_map};
 ghost use Rattle.std.specs.List.{IsDistinct};
@@ -13,6 +13,7 @@ ghost use Rattle.cfdp_store.specs.Chains.{Raises};
 ghost use Rattle.cfdp_store.specs.Stores.{Counts, failures_after};
 ghost use Rattle.cfdp_sender.specs.State.{IsSendable};
 ghost use Rattle.cfdp_sender.specs.Does.{HasFile};
+ghost use Rattle.cfdp_entity.specs.Adding.{AddsSource, RefusesToAdd, with_source};
 ghost use Rattle.cfdp_entity.specs.declared.record.Gave.TheVariants as gaves;
 ghost use Rattle.cfdp_entity.specs.Seen as seens;
 ghost use Rattle.cfdp_entity.specs.Calling as calling;
@@ -25,7 +26,7 @@ ghost use Rattle.cfdp_entity.specs.Table as tables;
 ghost use Rattle.cfdp_entity.specs.Table.{heard_at, expired_at, called_at, taken_at, due_at, len_at, data_at, put_in, opened_by, next_due, first_table, all_expired, at_time, Ticks, SpoiledAt, phase_in};
 
 use crate::call::Call;
-use crate::error::CallError;
+use crate::error::{AddError, CallError};
 use crate::opening::Opened;
 use crate::ready::Ready;
 use crate::record::{Gave, Record};
@@ -33,7 +34,7 @@ use crate::steps;
 use cfdp_directives::{Addressing, Indication, Pdu, Phase, Policy};
 use cfdp_header::TransactionId;
 use cfdp_sender::Transfer;
-use cfdp_store::{Inbox, Outbox, StoreError, Stored};
+use cfdp_store::{Inbox, MemoryOutbox, Outbox, StoreError, Stored};
 use cfdp_timers::{Kind, Timers};
 use indexmap::IndexMap;
 use std::alloc::{AllocError, Global};
@@ -428,5 +429,40 @@ impl<O: Outbox, I: Inbox> Table<O, I> {
         ensures failures { I.failures result.now ≡ self.now.inbox_failures }
     {
         &self.inbox
+    }
+}
+
+impl<I: Inbox> Table<MemoryOutbox, I> {
+    /// Adds a file to the outbox.
+    pub fn add_source(&mut self, name: &[u8], octets: &[u8]) -> Result<(), AddError>
+        ensures added { OnOk result (AddsSource name.now octets.now self.old.state
+            self.new.state) }
+        ensures refused { IfErr result (RefusesToAdd name.now self.old.state.sources) }
+        ensures err { OnErr result (self.new.state ≡ self.old.state) }
+        ensures inbox { self.new.inbox_failures ≡ self.old.inbox_failures }
+        ensures outbox { self.new.outbox_failures ≡ self.old.outbox_failures }
+    {
+        match self.outbox.len(name) {
+            Ok(None) => {}
+            Ok(Some(_)) => return Err(AddError::Taken),
+            Err(_) => return Err(AddError::NoMemory),
+        }
+        match self.keep_source(name, octets) {
+            Ok(()) => Ok(()),
+            Err(_) => Err(AddError::NoMemory),
+        }
+    }
+
+    fn keep_source(&mut self, name: &[u8], octets: &[u8]) -> Result<(), AllocError>
+        requires free { map.get self.old.state.sources name.now ≡ None }
+        ensures added { OnOk result (self.new.state
+            ≡ with_source name.now octets.now self.old.state) }
+        ensures err { OnErr result (self.new.state ≡ self.old.state) }
+        ensures inbox { self.new.inbox_failures ≡ self.old.inbox_failures }
+        ensures outbox { self.new.outbox_failures ≡ self.old.outbox_failures }
+    {
+        let name = Vec::from_slice(self.alloc, name)?;
+        let octets = Vec::from_slice(self.alloc, octets)?;
+        self.outbox.add(name, octets)
     }
 }

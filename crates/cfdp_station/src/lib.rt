@@ -22,7 +22,7 @@ mod moving;
 mod polled;
 mod station;
 
-pub use cfdp_entity::{CallError, EntityConfig, PutError};
+pub use cfdp_entity::{AddError, CallError, EntityConfig, PutError};
 pub use config::StationConfig;
 pub use link_stack::LinkConfig;
 pub use polled::Polled;

@@ -10,6 +10,7 @@ ghost use Rattle.cfdp_timers.specs.Due.{due_count};
 ghost use Rattle.cfdp_timers.specs.ButInactivity.{OnlyInactivity, IsLeastOther};
 ghost use Rattle.cfdp_store.specs.Chains.{Raises};
 ghost use Rattle.cfdp_store.specs.Stores.{failures_after};
+ghost use Rattle.cfdp_entity.specs.Adding.{AddsFile, RefusesToAdd};
 ghost use Rattle.cfdp_entity.specs.Calling.{IsRefusal};
 ghost use Rattle.cfdp_entity.specs.Calls.{IsCalled, asks_inbox, call_refusal};
 ghost use Rattle.cfdp_entity.specs.Entity.{first_entity, with_table, phase_told};
@@ -31,9 +32,9 @@ use crate::config::StationConfig;
 use crate::moving::{hear_all, move_one};
 use crate::polled::Polled;
 use cfdp_directives::{Indication, Phase};
-use cfdp_entity::{CallError, Entity, PutError};
+use cfdp_entity::{AddError, CallError, Entity, PutError};
 use cfdp_header::TransactionId;
-use cfdp_store::{Inbox, Outbox};
+use cfdp_store::{Inbox, MemoryOutbox, Outbox};
 use link_stack::{Down, Up};
 use std::alloc::{AllocError, Global};
 use std::marker::Model;
@@ -378,5 +379,26 @@ impl<O: Outbox, I: Inbox> Station<O, I> {
         ensures link { KeepsLink self.old self.new }
     {
         self.entity.tick(now)
+    }
+}
+
+impl<I: Inbox> Station<MemoryOutbox, I> {
+    /// Adds a file to the outbox, under a name that it has no file of: so no file changes that is
+    /// being sent. Its octets are copied, and stay as long as the station.
+    ///
+    /// # Errors
+    ///
+    /// The first cause that holds, in the order of [`AddError`]; nothing changed then.
+    pub fn add_source(&mut self, name: &[u8], octets: &[u8]) -> Result<(), AddError>
+        ensures added { OnOk result (AddsFile name.now octets.now self.old.entity.state
+            self.new.entity.state) }
+        ensures refused { IfErr result (RefusesToAdd name.now
+            self.old.entity.state.table.sources) }
+        ensures err { OnErr result (self.new ≡ self.old) }
+        ensures inbox { self.new.entity.inbox_failures ≡ self.old.entity.inbox_failures }
+        ensures outbox { self.new.entity.outbox_failures ≡ self.old.entity.outbox_failures }
+        ensures link { KeepsLink self.old self.new }
+    {
+        self.entity.add_source(name, octets)
     }
 }

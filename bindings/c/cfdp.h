@@ -1,0 +1,279 @@
+/* A proved CFDP station (CCSDS 727.0-B-5, class 2) over AOS frames, for C and C++.
+ *
+ * Written by hand for crates/cfdp_c. tests/bindings.py compares both: names, arguments, fields and
+ * numbers. The crate proves that each call does what stands here, provided that its caller keeps to
+ * this:
+ *
+ * 1. A pointer isn't null, also where its length is 0, is aligned, and may be read or written for
+ *    that length. No two arguments of a call overlap, but for two that are only read.
+ * 2. A handle begins as all zero octets (CFDP_STATION_INIT), which is a closed one. Nobody but
+ *    these calls writes in it. It may be moved by memcpy if the old one isn't used again; of two
+ *    copies of an open one only one may be used.
+ * 3. One call at a time on a handle, by the thread that opened it. Calls on different handles may
+ *    run side by side, if malloc may. No call from a signal handler.
+ * 4. The program links malloc, realloc and free by rattle_alloc, rattle_realloc and rattle_dealloc
+ *    (docs/EMBEDDING.md), and has 32 KiB of stack for a call.
+ *
+ * There is nothing else to keep to: every value of every number is answered, every frame and every
+ * PDU is taken, and a call on a closed handle answers CFDP_CLOSED. Where the answer isn't CFDP_OK,
+ * what a call lends for its results is as it was. Nothing that a call gives points into a station.
+ */
+#ifndef CFDP_H
+#define CFDP_H
+
+#include <stdbool.h>
+#include <stddef.h>
+#include <stdint.h>
+
+#ifdef __cplusplus
+extern "C" {
+#endif
+
+/* What a call answers. */
+typedef uint32_t cfdp_answer;
+
+enum {
+    CFDP_OK = 0,
+    CFDP_CLOSED = 1,       /* the handle is closed */
+    CFDP_ALREADY_OPEN = 2, /* cfdp_open: the handle is open */
+    CFDP_BAD_ARGUMENT = 3, /* a value is out of its range */
+    CFDP_NO_MEMORY = 4,    /* there is no memory for it */
+    CFDP_NO_ROOM = 5,      /* the lent room has too few octets, or the wrong number */
+    CFDP_NOTHING = 6,      /* there is nothing of the kind */
+    CFDP_NAME_TAKEN = 11,  /* cfdp_add: there is a file of that name */
+
+    /* cfdp_put, the first that holds in the order Name, TableFull, .. as the numbers stand here */
+    CFDP_NO_SUCH_FILE = 21,  /* the outbox has no file of that name; after CFDP_NUMBERS_SPENT */
+    CFDP_BAD_NAME = 22,      /* a name hasn't 1 to 255 octets; the first of all */
+    CFDP_TOO_LARGE = 23,     /* the file has 2^32 octets or more; after CFDP_NO_SUCH_FILE */
+    CFDP_TABLE_FULL = 24,    /* the station has had 4,096 transactions */
+    CFDP_NUMBERS_SPENT = 25, /* the next number doesn't fit number_width */
+    CFDP_SOURCE_FAULT = 26,  /* the outbox failed; one in memory never does */
+
+    /* cfdp_cancel, cfdp_suspend, cfdp_resume, cfdp_prompt */
+    CFDP_UNKNOWN = 31,        /* the transaction has no record here */
+    CFDP_ALREADY_CLOSED = 32, /* it is over */
+    CFDP_WRONG_SIDE = 33,     /* cfdp_prompt: only the file's sender can */
+    CFDP_ALREADY_SO = 34,     /* suspended already, not suspended, or a Prompt is due */
+
+    CFDP_FULL = 41, /* cfdp_poll: the PDU doesn't fit until frames were taken off */
+
+    /* cfdp_decode: 50 and the number of the refusal (docs/FORMATS.md), 51 to 61 */
+    CFDP_BAD_PDU = 50
+};
+
+/* ---- How a station is set up. */
+
+/* One direction of a link. */
+typedef struct cfdp_link {
+    uint16_t zone;      /* octets of the packet zone, 16 to 2040; a frame has 8 more */
+    uint16_t apid;      /* application process of the packets, 0 to 2046 */
+    uint8_t spacecraft; /* spacecraft of the frames */
+    uint8_t channel;    /* virtual channel of the frames, 0 to 62 */
+} cfdp_link;
+
+typedef struct cfdp_config {
+    uint64_t entity;          /* this entity */
+    uint64_t peer;            /* the other one */
+    uint64_t first_number;    /* sequence number of the first put */
+    size_t capacity;          /* octets of packets that may wait to be frames, 8192 to 65536 */
+    uint32_t eof_time;        /* how long an EOF's ACK is waited for, in your unit, 1 or more */
+    uint32_t nak_time;        /* .. what a NAK asked for */
+    uint32_t finished_time;   /* .. the ACK of a Finished */
+    uint32_t inactivity_time; /* .. any PDU of a transaction */
+    cfdp_link down;           /* the frames that it sends */
+    cfdp_link up;             /* the frames that it takes: the peer's down */
+    uint16_t segment;         /* most octets of a file in a PDU, 1 to 4096 */
+    uint8_t id_width;         /* octets of an entity id, 1 to 8 */
+    uint8_t number_width;     /* octets of a sequence number, 1 to 8 */
+    uint8_t checksum;         /* 0 modular, 15 none */
+    uint8_t eof_limit;        /* how often an EOF is sent again */
+    uint8_t nak_limit;        /* .. a NAK */
+    uint8_t finished_limit;   /* .. a Finished */
+    uint8_t on_ack_limit;     /* then: 0 cancel, 1 suspend, 2 go on, 3 abandon */
+    uint8_t on_nak_limit;
+    uint8_t on_inactivity;
+} cfdp_config;
+
+/* Fills in the defaults: those of station 1 of a script, with ids 1 and 2, zones of 256 octets,
+ * spacecraft 42, channel 5 and APID 100 down, 6 and 101 up, times of 10 and of 100 for inactivity,
+ * limits of 3. Station 2 has the ids, and the links, the other way round. */
+void cfdp_defaults(cfdp_config *config);
+
+/* ---- A station. */
+
+/* A handle, in the caller's memory. Its fields are no caller's business. */
+typedef struct cfdp_station {
+    void *at;
+    bool is_open;
+} cfdp_station;
+
+#define CFDP_STATION_INIT {NULL, false}
+
+/* Opens a closed handle on a station that has no transactions and no files. CFDP_OK,
+ * CFDP_ALREADY_OPEN, CFDP_BAD_ARGUMENT where a value of the configuration is out of its range or
+ * both ids are the same, or CFDP_NO_MEMORY. */
+cfdp_answer cfdp_open(cfdp_station *station, const cfdp_config *config);
+
+/* Gives back all memory of the station. The handle is closed then; a closed one stays so. */
+void cfdp_close(cfdp_station *station);
+
+/* ---- What its user asks for. All but cfdp_next_indication only ask; cfdp_poll sends. */
+
+/* Names a transaction: the entity that sends the file, and the number that it gave it. */
+typedef struct cfdp_id {
+    uint64_t source;
+    uint64_t number;
+} cfdp_id;
+
+/* Copies a file into the outbox, under a name that it has no file of. It stays there until the
+ * station is closed. CFDP_OK, CFDP_CLOSED, CFDP_NAME_TAKEN or CFDP_NO_MEMORY. */
+cfdp_answer cfdp_add(cfdp_station *station, const uint8_t *name, size_t name_len,
+                     const uint8_t *octets, size_t octets_len);
+
+/* Sends a file of the outbox, which the peer publishes under the name destination; *id is the
+ * transaction. CFDP_OK, CFDP_CLOSED, 21 to 26 or CFDP_NO_MEMORY; but for CFDP_OK no number is
+ * used. */
+cfdp_answer cfdp_put(cfdp_station *station, const uint8_t *source, size_t source_len,
+                     const uint8_t *destination, size_t destination_len, cfdp_id *id);
+
+/* Gives a transaction up, and tells the peer. CFDP_OK, CFDP_CLOSED, 31 to 34 or CFDP_NO_MEMORY;
+ * but for CFDP_OK nothing has changed. So the three below. */
+cfdp_answer cfdp_cancel(cfdp_station *station, const cfdp_id *id);
+
+/* Sends nothing of a transaction, and lets no time run for it. */
+cfdp_answer cfdp_suspend(cfdp_station *station, const cfdp_id *id);
+
+/* Goes on with a suspended transaction. */
+cfdp_answer cfdp_resume(cfdp_station *station, const cfdp_id *id);
+
+/* Asks the receiver of a file that this station sends for a Keep Alive where true, else for a
+ * NAK. */
+cfdp_answer cfdp_prompt(cfdp_station *station, const cfdp_id *id, bool keep_alive);
+
+/* ---- Down. */
+
+/* Moves the PDU whose turn it is into the frames. CFDP_OK where one was moved: poll again;
+ * CFDP_NOTHING where none is due: flush; CFDP_FULL: take frames off first. CFDP_SOURCE_FAULT,
+ * CFDP_CLOSED, or CFDP_NO_MEMORY: nothing has changed then. */
+cfdp_answer cfdp_poll(cfdp_station *station);
+
+/* Fills the begun frame, so that all that was polled can leave. CFDP_OK or CFDP_CLOSED. */
+cfdp_answer cfdp_flush(cfdp_station *station);
+
+/* Octets of each frame; 0 of a closed handle. */
+size_t cfdp_frame_len(cfdp_station *station);
+
+/* The most frames that can wait after a poll or a flush; 0 of a closed handle. */
+size_t cfdp_frames_ahead(cfdp_station *station);
+
+/* Writes the oldest whole frame, and takes it off. room is cfdp_frame_len octets, no more and no
+ * less, else CFDP_NO_ROOM. CFDP_OK, CFDP_CLOSED, or CFDP_NOTHING where no whole frame waits. */
+cfdp_answer cfdp_next_frame(cfdp_station *station, uint8_t *frame, size_t room);
+
+/* ---- Up. */
+
+/* Takes a frame, of any length and with any octets. What can't be used of it is dropped and
+ * counted. CFDP_OK or CFDP_CLOSED. */
+cfdp_answer cfdp_take(cfdp_station *station, const uint8_t *frame, size_t len);
+
+/* How often a PDU was dropped under a number, 1 to 17, and something of a frame under a number, 1
+ * to 11 (docs/FORMATS.md); 0 of any other number, and of a closed handle. */
+uint64_t cfdp_drops(cfdp_station *station, uint8_t number);
+uint64_t cfdp_link_drops(cfdp_station *station, uint8_t number);
+
+/* ---- Time, in any unit, from any start. */
+
+/* Tells the time: each timer that is due fires once. A time before the last one told counts as
+ * that. CFDP_OK, CFDP_CLOSED, or CFDP_NO_MEMORY: nothing has changed then, the time neither. */
+cfdp_answer cfdp_tick(cfdp_station *station, uint64_t now);
+
+/* The earliest time at which a timer is due, but for inactivity. CFDP_OK, CFDP_CLOSED, or
+ * CFDP_NOTHING. */
+cfdp_answer cfdp_next_deadline(cfdp_station *station, uint64_t *deadline);
+
+/* ---- What it tells its user. */
+
+enum {
+    CFDP_TRANSACTION = 1,    /* a put was accepted */
+    CFDP_EOF_SENT = 2,       /* the EOF was sent for the first time */
+    CFDP_METADATA_RECV = 3,  /* Metadata came: size, both names */
+    CFDP_EOF_RECV = 4,       /* an EOF without an error came */
+    CFDP_FINISHED = 5,       /* it is over here: condition, delivery, status */
+    CFDP_SUSPENDED = 6,      /* condition */
+    CFDP_RESUMED = 7,
+    CFDP_FAULT = 8,          /* condition */
+    CFDP_ABANDONED = 9,      /* condition */
+    CFDP_PROGRESS = 10       /* size: how far the receiver holds the file */
+};
+
+typedef struct cfdp_indication {
+    cfdp_id id;
+    uint64_t size;          /* kinds 3 and 10 */
+    size_t source_len;      /* kind 3: octets of the name at the sender */
+    size_t destination_len; /* kind 3: octets of the name at the receiver */
+    uint8_t kind;
+    uint8_t condition;      /* kinds 5, 6, 8, 9: a condition code, 0 where all went well */
+    uint8_t delivery;       /* kind 5: 0 complete, 1 incomplete */
+    uint8_t status;         /* kind 5: 0 discarded, 1 rejected, 2 retained, 3 not reported */
+} cfdp_indication;
+
+/* Octets that suffice for the names of every indication, and for the name of every file. */
+enum { CFDP_NAMES = 510, CFDP_NAME = 255 };
+
+/* Tells the next indication; names gets the name at the sender, and behind it that at the
+ * receiver. CFDP_OK, CFDP_CLOSED, CFDP_NOTHING where all were told, or CFDP_NO_ROOM: it stays the
+ * next then. */
+cfdp_answer cfdp_next_indication(cfdp_station *station, cfdp_indication *out, uint8_t *names,
+                                 size_t room);
+
+/* ---- The published files. Their places are 0, 1, .. in ascending order of their names; a file
+ * that is published may shift those behind it. */
+
+typedef struct cfdp_file_info {
+    size_t name_len;
+    size_t size;
+} cfdp_file_info;
+
+/* How many there are; 0 of a closed handle. */
+size_t cfdp_file_count(cfdp_station *station);
+
+/* How long one is, and its name. CFDP_OK, CFDP_CLOSED, CFDP_NOTHING where there are not so many,
+ * or CFDP_NO_ROOM. */
+cfdp_answer cfdp_file(cfdp_station *station, size_t place, cfdp_file_info *out, uint8_t *name,
+                      size_t room);
+
+/* Fills all of out with octets of one, from an offset on. CFDP_OK, CFDP_CLOSED, CFDP_NOTHING, or
+ * CFDP_BAD_ARGUMENT where the file ends before. */
+cfdp_answer cfdp_read_file(cfdp_station *station, size_t place, size_t offset, uint8_t *out,
+                           size_t room);
+
+/* ---- One PDU. */
+
+typedef struct cfdp_pdu {
+    cfdp_id id;
+    uint64_t destination;  /* the entity that receives the file */
+    uint64_t offset;       /* of file data; where a NAK's scope starts; progress of a Keep Alive */
+    uint64_t size;         /* of the file; where a NAK's scope ends */
+    size_t data_len;       /* octets of file data: the last ones of the PDU */
+    size_t pairs;          /* ranges that a NAK asks for */
+    uint32_t checksum;     /* of an EOF */
+    uint8_t kind;          /* 0 file data, 4 EOF, 5 Finished, 6 ACK, 7 Metadata, 8 NAK, 9 Prompt,
+                              12 Keep Alive */
+    uint8_t toward_sender; /* 1 where it goes toward the file's sender */
+    uint8_t condition;     /* of an EOF, a Finished or an ACK */
+    uint8_t delivery;      /* of a Finished */
+    uint8_t status;        /* of the file (Finished) or the transaction (ACK) */
+    uint8_t acknowledged;  /* of an ACK: 4 an EOF, 5 a Finished */
+    uint8_t checksum_kind; /* of Metadata */
+    uint8_t keep_alive;    /* of a Prompt: 1 for a Keep Alive, 0 for a NAK */
+} cfdp_pdu;
+
+/* Reads a PDU. CFDP_OK, or CFDP_BAD_PDU and the number of the first thing that is wrong. */
+cfdp_answer cfdp_decode(const uint8_t *pdu, size_t len, cfdp_pdu *out);
+
+#ifdef __cplusplus
+}
+#endif
+
+#endif

@@ -1,0 +1,291 @@
+/* A file by two stations in one process, over a link that loses every seventh frame:
+ *
+ *     transfer [OCTETS]
+ *
+ * or by one station over UDP, with `cfdp_node station` as the other:
+ *
+ *     transfer udp OWN_PORT PEER_PORT [OCTETS]
+ *
+ * Ends with status 0 where the file is published, octet by octet, or over UDP where the peer said
+ * so.
+ */
+#define _POSIX_C_SOURCE 200809L
+#include "cfdp.h"
+
+#include <arpa/inet.h>
+#include <poll.h>
+#include <stdio.h>
+#include <stdlib.h>
+#include <string.h>
+#include <sys/socket.h>
+#include <time.h>
+#include <unistd.h>
+
+enum { MOST_FRAME = 2048, LOST = 7, TURNS = 100000, LIMIT = 255 };
+
+static const uint8_t SOURCE[] = "image.raw";
+static const uint8_t DESTINATION[] = "received.raw";
+
+/* A station, and what it told of its last transaction. */
+struct end {
+    cfdp_station station;
+    size_t frame_len;
+    bool is_finished;
+    bool is_complete;
+};
+
+static int refused(const char *call, cfdp_answer answer)
+{
+    fprintf(stderr, "%s: answer %u\n", call, (unsigned)answer);
+    return 1;
+}
+
+/* Station 1 or 2. What isn't answered is sent again as often as it takes. */
+static int open_end(struct end *end, int number, uint32_t patience)
+{
+    static const cfdp_station closed = CFDP_STATION_INIT;
+    cfdp_config config;
+    cfdp_answer answer;
+
+    cfdp_defaults(&config);
+    if (number == 2) {
+        const cfdp_link down = config.down;
+        config.down = config.up;
+        config.up = down;
+        config.entity = 2;
+        config.peer = 1;
+    }
+    config.eof_time = config.nak_time = config.finished_time = patience;
+    config.inactivity_time = 100 * patience;
+    config.eof_limit = config.nak_limit = config.finished_limit = LIMIT;
+    memset(end, 0, sizeof *end);
+    end->station = closed;
+    answer = cfdp_open(&end->station, &config);
+    if (answer != CFDP_OK)
+        return refused("cfdp_open", answer);
+    end->frame_len = cfdp_frame_len(&end->station);
+    return 0;
+}
+
+/* Octets that no two files have alike. */
+static uint8_t *octets_of_file(size_t len)
+{
+    uint8_t *octets = (uint8_t *)malloc(len != 0 ? len : 1);
+    uint32_t state = 1;
+    size_t at;
+
+    for (at = 0; octets != NULL && at < len; at++) {
+        state = state * 1664525u + 1013904223u;
+        octets[at] = (uint8_t)(state >> 24);
+    }
+    return octets;
+}
+
+static int send_file(struct end *end, const uint8_t *octets, size_t len)
+{
+    cfdp_id id;
+    cfdp_answer answer;
+
+    answer = cfdp_add(&end->station, SOURCE, sizeof SOURCE - 1, octets, len);
+    if (answer != CFDP_OK)
+        return refused("cfdp_add", answer);
+    answer = cfdp_put(&end->station, SOURCE, sizeof SOURCE - 1, DESTINATION,
+                      sizeof DESTINATION - 1, &id);
+    if (answer != CFDP_OK)
+        return refused("cfdp_put", answer);
+    printf("transaction %llu:%llu of %lu octets\n", (unsigned long long)id.source,
+           (unsigned long long)id.number, (unsigned long)len);
+    return 0;
+}
+
+/* Reads what a station tells, and notes how its transaction ended. */
+static void read_indications(struct end *end, int number)
+{
+    cfdp_indication it;
+    uint8_t names[CFDP_NAMES];
+
+    while (cfdp_next_indication(&end->station, &it, names, sizeof names) == CFDP_OK) {
+        if (it.kind == CFDP_METADATA_RECV)
+            printf("station %d: %.*s comes as %.*s, %llu octets\n", number, (int)it.source_len,
+                   (const char *)names, (int)it.destination_len,
+                   (const char *)names + it.source_len, (unsigned long long)it.size);
+        if (it.kind == CFDP_FINISHED) {
+            end->is_finished = true;
+            end->is_complete = it.condition == 0 && it.delivery == 0 && it.status == 2;
+            printf("station %d: finished, condition %u\n", number, (unsigned)it.condition);
+        }
+    }
+}
+
+/* Moves all that is due into frames. */
+static void fill_frames(struct end *end)
+{
+    while (cfdp_poll(&end->station) == CFDP_OK) {
+    }
+    cfdp_flush(&end->station);
+}
+
+/* ---- Two stations in one process. */
+
+struct link {
+    unsigned long frames;
+    unsigned long lost;
+};
+
+static void pass_frames(struct link *link, struct end *from, struct end *to)
+{
+    uint8_t frame[MOST_FRAME];
+
+    fill_frames(from);
+    while (cfdp_next_frame(&from->station, frame, from->frame_len) == CFDP_OK) {
+        if (++link->frames % LOST == 0)
+            link->lost++;
+        else
+            cfdp_take(&to->station, frame, from->frame_len);
+    }
+}
+
+/* Whether the first published file is this one. */
+static bool is_published(struct end *end, const uint8_t *octets, size_t len)
+{
+    cfdp_file_info info;
+    uint8_t name[CFDP_NAME];
+    uint8_t *copy;
+    bool is_equal = false;
+
+    if (cfdp_file(&end->station, 0, &info, name, sizeof name) != CFDP_OK || info.size != len)
+        return false;
+    copy = (uint8_t *)malloc(len != 0 ? len : 1);
+    if (copy != NULL && cfdp_read_file(&end->station, 0, 0, copy, len) == CFDP_OK)
+        is_equal = memcmp(copy, octets, len) == 0;
+    free(copy);
+    return is_equal;
+}
+
+static int run_both(struct end *one, struct end *two, const uint8_t *octets, size_t len)
+{
+    struct link link = {0, 0};
+    uint64_t now;
+
+    if (send_file(one, octets, len) != 0)
+        return 1;
+    for (now = 1; now < TURNS && !(one->is_finished && two->is_finished); now++) {
+        cfdp_tick(&one->station, now);
+        cfdp_tick(&two->station, now);
+        pass_frames(&link, one, two);
+        pass_frames(&link, two, one);
+        read_indications(one, 1);
+        read_indications(two, 2);
+    }
+    printf("%lu frames, %lu lost\n", link.frames, link.lost);
+    if (!one->is_complete || !two->is_complete || !is_published(two, octets, len))
+        return 1;
+    puts("published as it was sent");
+    return 0;
+}
+
+static int transfer_here(const uint8_t *octets, size_t len)
+{
+    struct end one, two;
+    int status = 1;
+
+    if (open_end(&one, 1, 10) != 0)
+        return 1;
+    if (open_end(&two, 2, 10) == 0) {
+        status = run_both(&one, &two, octets, len);
+        cfdp_close(&two.station);
+    }
+    cfdp_close(&one.station);
+    return status;
+}
+
+/* ---- One station over UDP. */
+
+static uint64_t milliseconds(void)
+{
+    struct timespec it;
+
+    clock_gettime(CLOCK_MONOTONIC, &it);
+    return (uint64_t)it.tv_sec * 1000 + (uint64_t)it.tv_nsec / 1000000;
+}
+
+static struct sockaddr_in local_address(const char *port)
+{
+    struct sockaddr_in it;
+
+    memset(&it, 0, sizeof it);
+    it.sin_family = AF_INET;
+    it.sin_port = htons((uint16_t)strtoul(port, NULL, 10));
+    it.sin_addr.s_addr = htonl(INADDR_LOOPBACK);
+    return it;
+}
+
+/* Sends what is due, and takes what comes in a millisecond. */
+static void take_turn(struct end *end, int wire, const struct sockaddr_in *peer)
+{
+    uint8_t frame[MOST_FRAME];
+    struct pollfd ready;
+    ssize_t len;
+
+    cfdp_tick(&end->station, milliseconds());
+    fill_frames(end);
+    while (cfdp_next_frame(&end->station, frame, end->frame_len) == CFDP_OK)
+        sendto(wire, frame, end->frame_len, 0, (const struct sockaddr *)peer, sizeof *peer);
+    ready.fd = wire;
+    ready.events = POLLIN;
+    while (poll(&ready, 1, 1) == 1 && (len = recv(wire, frame, sizeof frame, 0)) >= 0)
+        cfdp_take(&end->station, frame, (size_t)len);
+}
+
+static int run_over_udp(struct end *end, int wire, const struct sockaddr_in *peer,
+                        const uint8_t *octets, size_t len)
+{
+    const uint64_t last = milliseconds() + 60000;
+    uint64_t rest = last;
+
+    if (send_file(end, octets, len) != 0)
+        return 1;
+    /* once it is over, some time for the peer's last words */
+    while (milliseconds() < rest) {
+        take_turn(end, wire, peer);
+        read_indications(end, 1);
+        if (end->is_finished && rest == last)
+            rest = milliseconds() + 500;
+    }
+    return end->is_complete ? 0 : 1;
+}
+
+static int transfer_over_udp(const char *own, const char *peer, const uint8_t *octets, size_t len)
+{
+    const struct sockaddr_in here = local_address(own), there = local_address(peer);
+    const int wire = socket(AF_INET, SOCK_DGRAM, 0);
+    struct end end;
+    int status = 1;
+
+    if (wire < 0 || bind(wire, (const struct sockaddr *)&here, sizeof here) != 0) {
+        perror("socket");
+        return 1;
+    }
+    if (open_end(&end, 1, 200) == 0) {
+        status = run_over_udp(&end, wire, &there, octets, len);
+        cfdp_close(&end.station);
+    }
+    close(wire);
+    return status;
+}
+
+int main(int argc, char **argv)
+{
+    const bool is_udp = argc >= 4 && strcmp(argv[1], "udp") == 0;
+    const int words = is_udp ? 4 : 1;
+    const size_t len = argc > words ? strtoul(argv[words], NULL, 10) : 100000;
+    uint8_t *octets = octets_of_file(len);
+    int status;
+
+    if (octets == NULL)
+        return 1;
+    status = is_udp ? transfer_over_udp(argv[2], argv[3], octets, len)
+                    : transfer_here(octets, len);
+    free(octets);
+    return status;
+}

@@ -1,0 +1,138 @@
+//! A file by two stations in one process, over a link that loses every seventh frame:
+//!
+//!     transfer [OCTETS]
+//!
+//! or by one station over UDP, with `cfdp_node station` as the other:
+//!
+//!     transfer udp OWN_PORT PEER_PORT [OCTETS]
+use cfdp::{Config, Error, Indication, Station};
+use std::net::UdpSocket;
+use std::time::{Duration, Instant};
+
+const LOST: u64 = 7;
+const SOURCE: &[u8] = b"image.raw";
+const DESTINATION: &[u8] = b"received.raw";
+
+type Failure = Box<dyn std::error::Error>;
+
+/// Station 1 or 2. What isn't answered is sent again as often as it takes.
+fn config(number: u8, patience: u32) -> Config {
+    let one = cfdp::defaults();
+    let two = Config { entity: one.peer, peer: one.entity, down: one.up, up: one.down, ..one };
+    Config {
+        eof_time: patience,
+        nak_time: patience,
+        finished_time: patience,
+        inactivity_time: 100 * patience,
+        eof_limit: 255,
+        nak_limit: 255,
+        finished_limit: 255,
+        ..if number == 1 { one } else { two }
+    }
+}
+
+/// Octets that no two files have alike.
+fn octets_of_file(len: usize) -> Vec<u8> {
+    let mut state = 1u32;
+    let next = || {
+        state = state.wrapping_mul(1_664_525).wrapping_add(1_013_904_223);
+        (state >> 24) as u8
+    };
+    std::iter::repeat_with(next).take(len).collect()
+}
+
+fn send_file(station: &mut Station, octets: &[u8]) -> Result<(), Error> {
+    station.add(SOURCE, octets)?;
+    let id = station.put(SOURCE, DESTINATION)?;
+    println!("transaction {}:{} of {} octets", id.source, id.number, octets.len());
+    Ok(())
+}
+
+/// Whether a station told by now that its transaction is over, and if so, that it went well.
+fn ending(station: &mut Station, number: u8) -> Option<bool> {
+    let mut ending = None;
+    for told in station.indications() {
+        if let Indication::Finished { condition, is_complete, is_retained, .. } = told {
+            println!("station {number}: finished, condition {condition}");
+            ending = Some(condition == 0 && is_complete && is_retained);
+        }
+    }
+    ending
+}
+
+/// Passes on all that is due but every seventh frame, counted over both directions.
+fn pass_frames(frames: &mut u64, from: &mut Station, to: &mut Station) -> Result<(), Error> {
+    from.fill_frames()?;
+    while let Some(frame) = from.next_frame() {
+        *frames += 1;
+        if *frames % LOST != 0 {
+            to.take(&frame);
+        }
+    }
+    Ok(())
+}
+
+fn transfer_here(octets: &[u8]) -> Result<bool, Failure> {
+    let (mut one, mut two) = (Station::open(&config(1, 10))?, Station::open(&config(2, 10))?);
+    let (mut frames, mut endings) = (0, [None, None]);
+    send_file(&mut one, octets)?;
+    for now in 1..100_000 {
+        one.tick(now)?;
+        two.tick(now)?;
+        pass_frames(&mut frames, &mut one, &mut two)?;
+        pass_frames(&mut frames, &mut two, &mut one)?;
+        endings[0] = endings[0].or(ending(&mut one, 1));
+        endings[1] = endings[1].or(ending(&mut two, 2));
+        if endings.iter().all(Option::is_some) {
+            break;
+        }
+    }
+    println!("{frames} frames, {} lost", frames / LOST);
+    let is_published = two.file(0).is_some_and(|it| it.name == DESTINATION && it.octets == octets);
+    if is_published {
+        println!("published as it was sent");
+    }
+    Ok(is_published && endings == [Some(true); 2])
+}
+
+fn transfer_over_udp(own: &str, peer: &str, octets: &[u8]) -> Result<bool, Failure> {
+    let wire = UdpSocket::bind(format!("127.0.0.1:{own}"))?;
+    wire.set_read_timeout(Some(Duration::from_millis(1)))?;
+    let peer = format!("127.0.0.1:{peer}");
+    let mut station = Station::open(&config(1, 200))?;
+    let (start, mut over, mut buffer) = (Instant::now(), None::<(bool, Instant)>, [0; 2048]);
+    send_file(&mut station, octets)?;
+    while start.elapsed() < Duration::from_secs(60) {
+        station.tick(start.elapsed().as_millis() as u64)?;
+        station.fill_frames()?;
+        while let Some(frame) = station.next_frame() {
+            let _a_lost_frame = wire.send_to(&frame, &peer);
+        }
+        while let Ok((len, _)) = wire.recv_from(&mut buffer) {
+            station.take(&buffer[..len]);
+        }
+        if let Some(is_good) = ending(&mut station, 1) {
+            over = Some((is_good, Instant::now()));
+        }
+        // once it is over, some time for the peer's last words
+        if let Some((is_good, at)) = over
+            && at.elapsed() > Duration::from_millis(500)
+        {
+            return Ok(is_good);
+        }
+    }
+    Ok(false)
+}
+
+fn main() -> Result<(), Failure> {
+    let words: Vec<String> = std::env::args().skip(1).collect();
+    let words: Vec<&str> = words.iter().map(String::as_str).collect();
+    let len = |word: Option<&&str>| word.map_or(Ok(100_000), |it| it.parse());
+    let is_good = match words.as_slice() {
+        ["udp", own, peer, rest @ ..] => {
+            transfer_over_udp(own, peer, &octets_of_file(len(rest.first())?))?
+        }
+        rest => transfer_here(&octets_of_file(len(rest.first())?))?,
+    };
+    if is_good { Ok(()) } else { Err("the file didn't come".into()) }
+}

@@ -1,0 +1,88 @@
+use std::fmt;
+
+/// Why a call did nothing. `cfdp.h` says which call answers which.
+#[derive(Clone, Copy, Debug, PartialEq, Eq)]
+#[non_exhaustive]
+pub enum Error {
+    /// A value is out of its range.
+    BadArgument,
+    /// There is no memory for it.
+    NoMemory,
+    /// The outbox has a file of that name.
+    NameTaken,
+    /// The outbox has no file of that name.
+    NoSuchFile,
+    /// A name hasn't 1 to 255 octets.
+    BadName,
+    /// The file has 2^32 octets or more.
+    TooLarge,
+    /// The station has had 4,096 transactions.
+    TableFull,
+    /// The next sequence number doesn't fit its width.
+    NumbersSpent,
+    /// The outbox failed.
+    SourceFault,
+    /// The transaction has no record here.
+    Unknown,
+    /// The transaction is over.
+    AlreadyClosed,
+    /// Only the file's sender can prompt.
+    WrongSide,
+    /// It is suspended already, or isn't, or a Prompt is due.
+    AlreadySo,
+    /// The octets are no PDU: the number of the refusal, 1 to 11.
+    BadPdu(u8),
+    /// An answer that isn't known.
+    Other(u32),
+}
+
+impl Error {
+    /// The error that an answer but 0 stands for.
+    pub(crate) fn of(answer: u32) -> Error {
+        match answer {
+            3 => Error::BadArgument,
+            4 => Error::NoMemory,
+            11 => Error::NameTaken,
+            21 => Error::NoSuchFile,
+            22 => Error::BadName,
+            23 => Error::TooLarge,
+            24 => Error::TableFull,
+            25 => Error::NumbersSpent,
+            26 => Error::SourceFault,
+            31 => Error::Unknown,
+            32 => Error::AlreadyClosed,
+            33 => Error::WrongSide,
+            34 => Error::AlreadySo,
+            51..=61 => Error::BadPdu((answer - 50) as u8),
+            other => Error::Other(other),
+        }
+    }
+
+    pub(crate) fn check(answer: u32) -> Result<(), Error> {
+        if answer == 0 { Ok(()) } else { Err(Error::of(answer)) }
+    }
+}
+
+impl fmt::Display for Error {
+    fn fmt(&self, f: &mut fmt::Formatter<'_>) -> fmt::Result {
+        f.write_str(match self {
+            Error::BadArgument => "a value is out of its range",
+            Error::NoMemory => "there is no memory for it",
+            Error::NameTaken => "there is a file of that name",
+            Error::NoSuchFile => "there is no such file",
+            Error::BadName => "a name does not have 1 to 255 octets",
+            Error::TooLarge => "the file is too large",
+            Error::TableFull => "the table is full",
+            Error::NumbersSpent => "the sequence numbers are used up",
+            Error::SourceFault => "the outbox failed",
+            Error::Unknown => "the transaction is not known",
+            Error::AlreadyClosed => "the transaction is over",
+            Error::WrongSide => "only the file's sender can prompt",
+            Error::AlreadySo => "it is so already",
+            Error::BadPdu(number) => return write!(f, "no PDU: refusal {number}"),
+            Error::Other(answer) => return write!(f, "answer {answer}"),
+        })
+    }
+}
+
+impl std::error::Error for Error {}

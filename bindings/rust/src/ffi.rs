@@ -1,0 +1,309 @@
+//! The calls of `cfdp.h`, and the memory that they ask for. All that is `unsafe` stands here: each
+//! method of [`Handle`] passes whole slices and references, so that no caller owes anything.
+
+use std::ffi::c_void;
+use std::marker::PhantomData;
+
+/// What a call answers, as `cfdp.h` names it.
+pub const OK: u32 = 0;
+pub const NOTHING: u32 = 6;
+pub const FULL: u32 = 41;
+
+/// One direction of a link.
+#[repr(C)]
+#[derive(Clone, Copy, Debug, Default, PartialEq, Eq)]
+pub struct Link {
+    pub zone: u16,
+    pub apid: u16,
+    pub spacecraft: u8,
+    pub channel: u8,
+}
+
+/// How a station is set up; `cfdp.h` has the ranges.
+#[repr(C)]
+#[derive(Clone, Copy, Debug, Default, PartialEq, Eq)]
+pub struct Config {
+    pub entity: u64,
+    pub peer: u64,
+    pub first_number: u64,
+    pub capacity: usize,
+    pub eof_time: u32,
+    pub nak_time: u32,
+    pub finished_time: u32,
+    pub inactivity_time: u32,
+    pub down: Link,
+    pub up: Link,
+    pub segment: u16,
+    pub id_width: u8,
+    pub number_width: u8,
+    pub checksum: u8,
+    pub eof_limit: u8,
+    pub nak_limit: u8,
+    pub finished_limit: u8,
+    pub on_ack_limit: u8,
+    pub on_nak_limit: u8,
+    pub on_inactivity: u8,
+}
+
+/// Names a transaction: the entity that sends the file, and its number there.
+#[repr(C)]
+#[derive(Clone, Copy, Debug, Default, PartialEq, Eq, PartialOrd, Ord, Hash)]
+pub struct Id {
+    pub source: u64,
+    pub number: u64,
+}
+
+/// An indication; what its kind hasn't is 0.
+#[repr(C)]
+#[derive(Clone, Copy, Default)]
+pub struct Told {
+    pub id: Id,
+    pub size: u64,
+    pub source_len: usize,
+    pub destination_len: usize,
+    pub kind: u8,
+    pub condition: u8,
+    pub delivery: u8,
+    pub status: u8,
+}
+
+/// How long the name of a file is, and the file.
+#[repr(C)]
+#[derive(Clone, Copy, Default)]
+pub struct FileInfo {
+    pub name_len: usize,
+    pub size: usize,
+}
+
+/// A PDU; what its kind hasn't is 0.
+#[repr(C)]
+#[derive(Clone, Copy, Debug, Default, PartialEq, Eq)]
+pub struct Pdu {
+    pub id: Id,
+    pub destination: u64,
+    pub offset: u64,
+    pub size: u64,
+    pub data_len: usize,
+    pub pairs: usize,
+    pub checksum: u32,
+    pub kind: u8,
+    pub toward_sender: u8,
+    pub condition: u8,
+    pub delivery: u8,
+    pub status: u8,
+    pub acknowledged: u8,
+    pub checksum_kind: u8,
+    pub keep_alive: u8,
+}
+
+/// A handle. Its pointer keeps it on the thread that opened it.
+#[repr(C)]
+pub struct Handle {
+    at: *mut c_void,
+    is_open: bool,
+    on_its_thread: PhantomData<*const ()>,
+}
+
+#[link(name = "cfdp_c", kind = "static")]
+unsafe extern "C" {
+    safe fn cfdp_defaults(config: &mut Config);
+    safe fn cfdp_open(station: &mut Handle, config: &Config) -> u32;
+    safe fn cfdp_close(station: &mut Handle);
+    fn cfdp_add(s: &mut Handle, name: *const u8, n: usize, octets: *const u8, m: usize) -> u32;
+    fn cfdp_put(
+        s: &mut Handle,
+        source: *const u8,
+        n: usize,
+        destination: *const u8,
+        m: usize,
+        id: &mut Id,
+    ) -> u32;
+    safe fn cfdp_cancel(station: &mut Handle, id: &Id) -> u32;
+    safe fn cfdp_suspend(station: &mut Handle, id: &Id) -> u32;
+    safe fn cfdp_resume(station: &mut Handle, id: &Id) -> u32;
+    safe fn cfdp_prompt(station: &mut Handle, id: &Id, keep_alive: bool) -> u32;
+    safe fn cfdp_poll(station: &mut Handle) -> u32;
+    safe fn cfdp_flush(station: &mut Handle) -> u32;
+    safe fn cfdp_frame_len(station: &mut Handle) -> usize;
+    safe fn cfdp_frames_ahead(station: &mut Handle) -> usize;
+    fn cfdp_next_frame(station: &mut Handle, frame: *mut u8, room: usize) -> u32;
+    fn cfdp_take(station: &mut Handle, frame: *const u8, len: usize) -> u32;
+    safe fn cfdp_drops(station: &mut Handle, number: u8) -> u64;
+    safe fn cfdp_link_drops(station: &mut Handle, number: u8) -> u64;
+    safe fn cfdp_tick(station: &mut Handle, now: u64) -> u32;
+    safe fn cfdp_next_deadline(station: &mut Handle, deadline: &mut u64) -> u32;
+    fn cfdp_next_indication(s: &mut Handle, out: &mut Told, names: *mut u8, room: usize) -> u32;
+    safe fn cfdp_file_count(station: &mut Handle) -> usize;
+    fn cfdp_file(
+        s: &mut Handle,
+        place: usize,
+        out: &mut FileInfo,
+        name: *mut u8,
+        room: usize,
+    ) -> u32;
+    fn cfdp_read_file(s: &mut Handle, place: usize, at: usize, out: *mut u8, room: usize) -> u32;
+    fn cfdp_decode(pdu: *const u8, len: usize, out: &mut Pdu) -> u32;
+}
+
+/// The defaults.
+pub fn defaults() -> Config {
+    let mut config = Config::default();
+    cfdp_defaults(&mut config);
+    config
+}
+
+/// Reads a PDU.
+pub fn decode(pdu: &[u8], out: &mut Pdu) -> u32 {
+    // SAFETY: the slice is readable for its length.
+    unsafe { cfdp_decode(pdu.as_ptr(), pdu.len(), out) }
+}
+
+impl Handle {
+    /// A closed one.
+    pub const CLOSED: Handle =
+        Handle { at: std::ptr::null_mut(), is_open: false, on_its_thread: PhantomData };
+
+    pub fn open(&mut self, config: &Config) -> u32 {
+        cfdp_open(self, config)
+    }
+
+    pub fn add(&mut self, name: &[u8], octets: &[u8]) -> u32 {
+        // SAFETY: both slices are readable for their lengths, and only read.
+        unsafe { cfdp_add(self, name.as_ptr(), name.len(), octets.as_ptr(), octets.len()) }
+    }
+
+    pub fn put(&mut self, source: &[u8], destination: &[u8], id: &mut Id) -> u32 {
+        let (n, m) = (source.len(), destination.len());
+        // SAFETY: both slices are readable for their lengths, and only read.
+        unsafe { cfdp_put(self, source.as_ptr(), n, destination.as_ptr(), m, id) }
+    }
+
+    pub fn cancel(&mut self, id: Id) -> u32 {
+        cfdp_cancel(self, &id)
+    }
+
+    pub fn suspend(&mut self, id: Id) -> u32 {
+        cfdp_suspend(self, &id)
+    }
+
+    pub fn resume(&mut self, id: Id) -> u32 {
+        cfdp_resume(self, &id)
+    }
+
+    pub fn prompt(&mut self, id: Id, keep_alive: bool) -> u32 {
+        cfdp_prompt(self, &id, keep_alive)
+    }
+
+    pub fn poll(&mut self) -> u32 {
+        cfdp_poll(self)
+    }
+
+    pub fn flush(&mut self) -> u32 {
+        cfdp_flush(self)
+    }
+
+    pub fn frame_len(&mut self) -> usize {
+        cfdp_frame_len(self)
+    }
+
+    pub fn frames_ahead(&mut self) -> usize {
+        cfdp_frames_ahead(self)
+    }
+
+    pub fn next_frame(&mut self, frame: &mut [u8]) -> u32 {
+        // SAFETY: the slice is writable for its length.
+        unsafe { cfdp_next_frame(self, frame.as_mut_ptr(), frame.len()) }
+    }
+
+    pub fn take(&mut self, frame: &[u8]) -> u32 {
+        // SAFETY: the slice is readable for its length.
+        unsafe { cfdp_take(self, frame.as_ptr(), frame.len()) }
+    }
+
+    pub fn drops(&mut self, number: u8) -> u64 {
+        cfdp_drops(self, number)
+    }
+
+    pub fn link_drops(&mut self, number: u8) -> u64 {
+        cfdp_link_drops(self, number)
+    }
+
+    pub fn tick(&mut self, now: u64) -> u32 {
+        cfdp_tick(self, now)
+    }
+
+    pub fn next_deadline(&mut self, deadline: &mut u64) -> u32 {
+        cfdp_next_deadline(self, deadline)
+    }
+
+    pub fn next_indication(&mut self, out: &mut Told, names: &mut [u8]) -> u32 {
+        // SAFETY: the slice is writable for its length.
+        unsafe { cfdp_next_indication(self, out, names.as_mut_ptr(), names.len()) }
+    }
+
+    pub fn file_count(&mut self) -> usize {
+        cfdp_file_count(self)
+    }
+
+    pub fn file(&mut self, place: usize, out: &mut FileInfo, name: &mut [u8]) -> u32 {
+        // SAFETY: the slice is writable for its length.
+        unsafe { cfdp_file(self, place, out, name.as_mut_ptr(), name.len()) }
+    }
+
+    pub fn read_file(&mut self, place: usize, offset: usize, out: &mut [u8]) -> u32 {
+        // SAFETY: the slice is writable for its length.
+        unsafe { cfdp_read_file(self, place, offset, out.as_mut_ptr(), out.len()) }
+    }
+}
+
+impl Drop for Handle {
+    fn drop(&mut self) {
+        cfdp_close(self);
+    }
+}
+
+/// What the library's memory comes from: malloc, which aligns to 16.
+mod heap {
+    use std::ffi::c_void;
+    use std::ptr::NonNull;
+
+    #[repr(C)]
+    pub struct Block {
+        is_there: bool,
+        at: NonNull<c_void>,
+    }
+
+    unsafe extern "C" {
+        fn malloc(size: usize) -> *mut c_void;
+        fn realloc(at: *mut c_void, size: usize) -> *mut c_void;
+        fn free(at: *mut c_void);
+    }
+
+    fn block(at: *mut c_void) -> Block {
+        Block { is_there: !at.is_null(), at: NonNull::new(at).unwrap_or(NonNull::dangling()) }
+    }
+
+    #[unsafe(no_mangle)]
+    extern "C" fn rattle_alloc(size: usize, align: usize) -> Block {
+        if align > 16 {
+            return block(std::ptr::null_mut());
+        }
+        // SAFETY: any size may be asked for.
+        block(unsafe { malloc(size.max(1)) })
+    }
+
+    #[unsafe(no_mangle)]
+    extern "C" fn rattle_realloc(at: *mut c_void, _old: usize, size: usize, align: usize) -> Block {
+        if align > 16 {
+            return block(std::ptr::null_mut());
+        }
+        // SAFETY: the library gives a block that `malloc` or `realloc` gave.
+        block(unsafe { realloc(at, size.max(1)) })
+    }
+
+    #[unsafe(no_mangle)]
+    extern "C" fn rattle_dealloc(at: *mut c_void) {
+        // SAFETY: the library gives a block that `malloc` or `realloc` gave, once.
+        unsafe { free(at) }
+    }
+}

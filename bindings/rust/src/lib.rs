@@ -1,0 +1,195 @@
+//! A proved CFDP station (CCSDS 727.0-B-5, class 2) over AOS frames, with its files in memory.
+//!
+//! ```no_run
+//! # fn main() -> Result<(), cfdp::Error> {
+//! let mut station = cfdp::Station::open(&cfdp::defaults())?;
+//! station.add(b"a.txt", b"hello")?;
+//! station.put(b"a.txt", b"b.txt")?;
+//! station.fill_frames()?;
+//! while let Some(frame) = station.next_frame() {
+//!     // .. send the frame
+//! }
+//! # Ok(())
+//! # }
+//! ```
+//!
+//! Files, names and frames are any octets. A station lives on the thread that opened it. Its
+//! contracts, and what is proved of them, are those of `bindings/c/cfdp.h`; of this wrapper nothing
+//! is proved.
+#![deny(unsafe_code)]
+
+mod error;
+#[allow(unsafe_code)]
+mod ffi;
+mod indication;
+
+pub use error::Error;
+pub use ffi::{Config, Id, Link, Pdu};
+pub use indication::{Indication, Indications};
+
+/// The defaults of `cfdp_defaults`: those of station 1 of a script.
+pub fn defaults() -> Config {
+    ffi::defaults()
+}
+
+/// What a poll did.
+#[derive(Clone, Copy, Debug, PartialEq, Eq)]
+pub enum Polled {
+    /// A PDU was moved into the frames.
+    Moved,
+    /// None is due.
+    Nothing,
+    /// The one that is due doesn't fit until frames were taken off.
+    Full,
+    /// The outbox failed, and the transaction was cancelled for it.
+    SourceFailed,
+}
+
+/// A published file.
+#[derive(Clone, Debug, PartialEq, Eq)]
+pub struct File {
+    pub name: Vec<u8>,
+    pub octets: Vec<u8>,
+}
+
+/// A station.
+pub struct Station {
+    handle: ffi::Handle,
+    frame_len: usize,
+}
+
+impl Station {
+    /// A station without transactions and files.
+    pub fn open(config: &Config) -> Result<Station, Error> {
+        let mut handle = ffi::Handle::CLOSED;
+        Error::check(handle.open(config))?;
+        let frame_len = handle.frame_len();
+        Ok(Station { handle, frame_len })
+    }
+
+    /// Copies a file into the outbox, under a name that it has no file of.
+    pub fn add(&mut self, name: &[u8], octets: &[u8]) -> Result<(), Error> {
+        Error::check(self.handle.add(name, octets))
+    }
+
+    /// Sends a file of the outbox, which the peer publishes under the name `destination`.
+    pub fn put(&mut self, source: &[u8], destination: &[u8]) -> Result<Id, Error> {
+        let mut id = Id::default();
+        Error::check(self.handle.put(source, destination, &mut id))?;
+        Ok(id)
+    }
+
+    /// Gives a transaction up, and tells the peer.
+    pub fn cancel(&mut self, id: Id) -> Result<(), Error> {
+        Error::check(self.handle.cancel(id))
+    }
+
+    /// Sends nothing of a transaction, and lets no time run for it.
+    pub fn suspend(&mut self, id: Id) -> Result<(), Error> {
+        Error::check(self.handle.suspend(id))
+    }
+
+    /// Goes on with a suspended transaction.
+    pub fn resume(&mut self, id: Id) -> Result<(), Error> {
+        Error::check(self.handle.resume(id))
+    }
+
+    /// Asks the receiver of a file that this station sends for a Keep Alive, or for a NAK.
+    pub fn prompt(&mut self, id: Id, keep_alive: bool) -> Result<(), Error> {
+        Error::check(self.handle.prompt(id, keep_alive))
+    }
+
+    /// Moves the PDU whose turn it is into the frames.
+    pub fn poll(&mut self) -> Result<Polled, Error> {
+        match self.handle.poll() {
+            ffi::OK => Ok(Polled::Moved),
+            ffi::NOTHING => Ok(Polled::Nothing),
+            ffi::FULL => Ok(Polled::Full),
+            26 => Ok(Polled::SourceFailed),
+            other => Err(Error::of(other)),
+        }
+    }
+
+    /// Fills the begun frame.
+    pub fn flush(&mut self) {
+        self.handle.flush();
+    }
+
+    /// Polls as long as that moves a PDU, and flushes.
+    pub fn fill_frames(&mut self) -> Result<(), Error> {
+        while self.poll()? == Polled::Moved {}
+        self.flush();
+        Ok(())
+    }
+
+    /// Octets of each frame.
+    pub fn frame_len(&self) -> usize {
+        self.frame_len
+    }
+
+    /// The most frames that can wait after a poll or a flush.
+    pub fn frames_ahead(&mut self) -> usize {
+        self.handle.frames_ahead()
+    }
+
+    /// Takes off the oldest whole frame.
+    pub fn next_frame(&mut self) -> Option<Vec<u8>> {
+        let mut frame = vec![0; self.frame_len];
+        (self.handle.next_frame(&mut frame) == ffi::OK).then_some(frame)
+    }
+
+    /// Takes a frame, whatever its octets are.
+    pub fn take(&mut self, frame: &[u8]) {
+        self.handle.take(frame);
+    }
+
+    /// How often a PDU was dropped under a number, 1 to 17.
+    pub fn drops(&mut self, number: u8) -> u64 {
+        self.handle.drops(number)
+    }
+
+    /// How often something of a frame was dropped under a number, 1 to 11.
+    pub fn link_drops(&mut self, number: u8) -> u64 {
+        self.handle.link_drops(number)
+    }
+
+    /// Tells the time: each timer that is due fires once.
+    pub fn tick(&mut self, now: u64) -> Result<(), Error> {
+        Error::check(self.handle.tick(now))
+    }
+
+    /// The earliest time at which a timer is due, but for inactivity.
+    pub fn next_deadline(&mut self) -> Option<u64> {
+        let mut deadline = 0;
+        (self.handle.next_deadline(&mut deadline) == ffi::OK).then_some(deadline)
+    }
+
+    /// What it tells its user, from the first indication on that wasn't read yet.
+    pub fn indications(&mut self) -> Indications<'_> {
+        Indications::of(&mut self.handle)
+    }
+
+    /// How many files are published.
+    pub fn file_count(&mut self) -> usize {
+        self.handle.file_count()
+    }
+
+    /// The published file at a place, in ascending order of the names.
+    pub fn file(&mut self, place: usize) -> Option<File> {
+        let (mut info, mut name) = (ffi::FileInfo::default(), vec![0; 255]);
+        if self.handle.file(place, &mut info, &mut name) != ffi::OK {
+            return None;
+        }
+        name.truncate(info.name_len);
+        let mut octets = vec![0; info.size];
+        let answer = self.handle.read_file(place, 0, &mut octets);
+        (answer == ffi::OK).then_some(File { name, octets })
+    }
+}
+
+/// Reads a PDU.
+pub fn decode(pdu: &[u8]) -> Result<Pdu, Error> {
+    let mut out = Pdu::default();
+    Error::check(ffi::decode(pdu, &mut out))?;
+    Ok(out)
+}

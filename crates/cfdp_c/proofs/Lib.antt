@@ -1,0 +1,2 @@
+pub mod HeldAsBox
+pub mod Listed

@@ -1,0 +1,79 @@
+-- What a user's calls answer and do, in the words of the station's own clauses.
+use Rattle.std.specs.Prelude.{◌≡◌, ◌≤◌, ℕ, max, List, Option, MatchOption, Result, IfOk, IfErr, OnOk, OnErr}
+use Rattle.std.specs.FinMap as map
+use Rattle.std.specs.declared.alloc.AllocError.{AllocError}
+use Rattle.cfdp_header.specs.declared.value.TransactionId.{TransactionId}
+use Rattle.cfdp_timers.specs.ButInactivity.{OnlyInactivity, IsLeastOther}
+use Rattle.cfdp_timers.specs.Due.{due_count}
+use Rattle.cfdp_entity.specs.Adding.{AddsFile, RefusesToAdd}
+use Rattle.cfdp_entity.specs.Calling.{IsRefusal}
+use Rattle.cfdp_entity.specs.Calls.{IsCalled, call_refusal}
+use Rattle.cfdp_entity.specs.declared.call.Call.{Call}
+use Rattle.cfdp_entity.specs.declared.error.AddError.{AddError}
+use Rattle.cfdp_entity.specs.declared.error.CallError.{CallError}
+use Rattle.cfdp_entity.specs.declared.error.PutError.{PutError}
+use Rattle.cfdp_entity.specs.Entity.{first_entity, with_table}
+use Rattle.cfdp_entity.specs.Putting.{Accepts, put_refusal, IsPutRefusal, stored_by_error}
+use Rattle.cfdp_entity.specs.Table.{Ticks}
+use Rattle.cfdp_station.specs.Station.{StationState, first_down, first_up, KeepsLink}
+use Rattle.cfdp_station.specs.declared.config.StationConfig.{StationConfig}
+use Rattle.cfdp_c.specs.Codes.{add_answer, put_answer, call_answer, memory_answer}
+use Rattle.cfdp_c.specs.declared.calls.CfdpId.{CfdpId}
+
+-- a transaction, as a caller writes it
+abbrev pub id_of : CfdpId → TransactionId
+id_of id = record { source = id.source; number = id.number }
+
+-- A station without transactions, both of whose stores are empty.
+pub record IsFirst (config : StationConfig) (s : StationState) : Type 0 where
+  pub entity : s.entity.state ≡ first_entity map.empty map.empty config.entity
+  pub down : s.down ≡ first_down config.down config.capacity
+  pub up : s.up ≡ first_up config.up
+
+-- A file was added to the outbox, or this is why not.
+pub record Adds (name octets : List ℕ) (answer : ℕ) (old new : StationState) : Type 0 where
+  pub told : Result (Unit {0}) AddError
+  pub code : answer ≡ add_answer told
+  pub added : OnOk told (AddsFile name octets old.entity.state new.entity.state)
+  pub refused : IfErr told (RefusesToAdd name old.entity.state.table.sources)
+  pub err : OnErr told (new ≡ old)
+  pub link : KeepsLink old new
+
+-- A put was accepted as this transaction, or this is why not.
+pub record Puts (source destination : List ℕ) (answer : ℕ) (id : CfdpId) (old new : StationState)
+    : Type 0 where
+  pub told : Result TransactionId PutError
+  pub code : answer ≡ put_answer told
+  pub named : IfOk told (λ i. id_of id ≡ i)
+  pub accepted : IfOk told (λ i. Accepts source destination i old.entity.state new.entity.state)
+  pub refused : IfErr told (λ by. IsPutRefusal (put_refusal (stored_by_error by)
+      source destination old.entity.state) by)
+  pub err : OnErr told (new.entity.state ≡ old.entity.state)
+  pub link : KeepsLink old new
+
+-- A call on a transaction was carried out, or this is why not.
+pub record Calls (call : Call) (id : TransactionId) (answer : ℕ) (old new : StationState)
+    : Type 0 where
+  pub told : Result (Unit {0}) CallError
+  pub code : answer ≡ call_answer told
+  pub called : OnOk told (IsCalled call id old.entity.state new.entity.state)
+  pub refused : IfErr told (IsRefusal (call_refusal call id old.entity.state.table))
+  pub err : OnErr told (new ≡ old)
+  pub link : KeepsLink old new
+
+-- The time was told, or there was no memory for what is due.
+pub record TellsTime (now answer : ℕ) (old new : StationState) : Type 0 where
+  pub told : Result (Unit {0}) AllocError
+  pub code : answer ≡ memory_answer told
+  pub ticked : OnOk told (Ticks now old.entity.state.table new.entity.state.table)
+  pub table : new.entity.state ≡ with_table old.entity.state new.entity.state.table
+  pub lacks : OnErr told (1 ≤ due_count old.entity.state.table.armed
+      (max old.entity.state.table.now now))
+  pub err : OnErr told (new ≡ old)
+  pub link : KeepsLink old new
+
+-- The earliest deadline of the timers but those of inactivity, if one of them is armed.
+abbrev pub IsDeadline : Option ℕ → StationState → Type 0
+IsDeadline told s =
+    MatchOption told (OnlyInactivity s.entity.state.table.armed)
+    (λ deadline. IsLeastOther s.entity.state.table.armed deadline)

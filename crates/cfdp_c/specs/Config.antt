@@ -1,0 +1,96 @@
+-- How a caller says what a station is set up as.
+use Rattle.std.specs.Prelude.{ℕ, ◌<◌, ◌==◌, if◌then◌else◌}
+use Rattle.aos_frame.specs.declared.config.LinkConfig.{LinkConfig}
+use Rattle.cfdp_directives.specs.declared.handler.Handler.{Handler}
+use Rattle.cfdp_directives.specs.declared.handler.Handler.TheVariants as does
+use Rattle.cfdp_directives.specs.declared.policy.Policy.{Policy}
+use Rattle.cfdp_entity.specs.declared.config.EntityConfig.{EntityConfig}
+use Rattle.cfdp_station.specs.Config.{IsStationConfig}
+use Rattle.cfdp_station.specs.declared.config.StationConfig.{StationConfig}
+use Rattle.cfdp_c.specs.declared.config.CfdpConfig.{CfdpConfig}
+use Rattle.cfdp_c.specs.declared.config.CfdpLink.{CfdpLink}
+
+-- what the number 0, 1, 2 or 3 stands for
+abbrev pub handler_of : ℕ → Handler
+handler_of number =
+    if number == 0 then does.Cancel
+    else if number == 1 then does.Suspend
+    else if number == 2 then does.Ignore
+    else does.Abandon
+
+abbrev pub policy_of : CfdpConfig → Policy
+policy_of c = record {
+  limits = record { eof = c.eof_limit; nak = c.nak_limit; finished = c.finished_limit };
+  times = record {
+    eof = c.eof_time;
+    nak = c.nak_time;
+    finished = c.finished_time;
+    inactivity = c.inactivity_time;
+  };
+  handlers = record {
+    ack = handler_of c.on_ack_limit;
+    nak = handler_of c.on_nak_limit;
+    inactivity = handler_of c.on_inactivity;
+  };
+}
+
+abbrev pub entity_of : CfdpConfig → EntityConfig
+entity_of c = record {
+  entity = c.entity;
+  peer = c.peer;
+  id_width = c.id_width;
+  number_width = c.number_width;
+  first_number = c.first_number;
+  segment = c.segment;
+  checksum_kind = c.checksum;
+  policy = policy_of c;
+}
+
+abbrev pub link_of : CfdpLink → LinkConfig
+link_of l = record { spacecraft = l.spacecraft; channel = l.channel; zone = l.zone; apid = l.apid }
+
+-- the same as the station's own configuration
+abbrev pub config_of : CfdpConfig → StationConfig
+config_of c = record {
+  entity = entity_of c;
+  down = link_of c.down;
+  up = link_of c.up;
+  capacity = c.capacity;
+}
+
+-- The numbers that stand for something do.
+pub record HasNames (c : CfdpConfig) : Type 0 where
+  pub checksum : c.checksum < 16
+  pub ack : c.on_ack_limit < 4
+  pub nak : c.on_nak_limit < 4
+  pub inactivity : c.on_inactivity < 4
+
+-- A station can be set up so.
+pub record IsUsable (c : CfdpConfig) : Type 0 where
+  pub names : HasNames c
+  pub station : IsStationConfig (config_of c)
+
+-- what a script's stations have before it sets anything, as station 1
+abbrev pub default_config : CfdpConfig
+default_config = record {
+  entity = 1;
+  peer = 2;
+  first_number = 1;
+  capacity = 16384;
+  eof_time = 10;
+  nak_time = 10;
+  finished_time = 10;
+  inactivity_time = 100;
+  down = record { zone = 256; apid = 100; spacecraft = 42; channel = 5 };
+  up = record { zone = 256; apid = 101; spacecraft = 42; channel = 6 };
+  segment = 1024;
+  id_width = 2;
+  number_width = 4;
+  checksum = 0;
+  eof_limit = 3;
+  nak_limit = 3;
+  finished_limit = 3;
+  on_ack_limit = 0;
+  on_nak_limit = 0;
+  on_inactivity = 0;
+}

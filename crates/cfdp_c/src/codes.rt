@@ -1,0 +1,88 @@
+// What a call answers to C: a number, of which 0 is that all went well.
+ghost use Rattle.std.specs.Prelude.{◌≡◌};
+ghost use Rattle.cfdp_c.specs.Codes.{add_answer, call_answer, put_answer, poll_answer, memory_answer};
+
+use cfdp_header::TransactionId;
+use cfdp_station::{AddError, CallError, Polled, PutError};
+use std::alloc::AllocError;
+
+/// The call did what it says.
+pub(crate) const OK: u32 = 0;
+/// The handle is closed.
+pub(crate) const CLOSED: u32 = 1;
+/// The handle is open already.
+pub(crate) const ALREADY_OPEN: u32 = 2;
+/// An argument is out of its range.
+pub(crate) const BAD_ARGUMENT: u32 = 3;
+/// There is no memory for it.
+pub(crate) const NO_MEMORY: u32 = 4;
+/// The lent room is too short.
+pub(crate) const NO_ROOM: u32 = 5;
+/// There is nothing of the kind.
+pub(crate) const NOTHING: u32 = 6;
+/// The outbox failed to give octets of a file.
+const SOURCE_FAULT: u32 = 26;
+
+/// What a caller is told of a file that it adds.
+pub(crate) fn of_add(answer: Result<(), AddError>) -> u32
+    ensures { result ≡ add_answer answer }
+{
+    match answer {
+        Ok(()) => OK,
+        Err(AddError::Taken) => 11,
+        Err(AddError::NoMemory) => NO_MEMORY,
+    }
+}
+
+/// What a caller is told of a put.
+pub(crate) fn of_put(answer: Result<TransactionId, PutError>) -> u32
+    ensures { result ≡ put_answer answer }
+{
+    match answer {
+        Ok(_) => OK,
+        Err(PutError::NoSuchFile) => 21,
+        Err(PutError::Name) => 22,
+        Err(PutError::TooLarge) => 23,
+        Err(PutError::TableFull) => 24,
+        Err(PutError::NumbersSpent) => 25,
+        Err(PutError::SourceFault) => SOURCE_FAULT,
+        Err(PutError::NoMemory) => NO_MEMORY,
+    }
+}
+
+/// What a caller is told of a call on a transaction.
+pub(crate) fn of_call(answer: Result<(), CallError>) -> u32
+    ensures { result ≡ call_answer answer }
+{
+    match answer {
+        Ok(()) => OK,
+        Err(CallError::Unknown) => 31,
+        Err(CallError::AlreadyClosed) => 32,
+        Err(CallError::WrongSide) => 33,
+        Err(CallError::AlreadySo) => 34,
+        Err(CallError::NoMemory) => NO_MEMORY,
+    }
+}
+
+/// What a caller is told of a poll.
+pub(crate) fn of_poll(answer: Result<Polled, AllocError>) -> u32
+    ensures { result ≡ poll_answer answer }
+{
+    match answer {
+        Ok(Polled::Moved) => OK,
+        Ok(Polled::Nothing) => NOTHING,
+        Ok(Polled::Full) => 41,
+        Ok(Polled::SourceFailed) => SOURCE_FAULT,
+        Err(_) => NO_MEMORY,
+    }
+}
+
+/// What a caller is told of a tick.
+pub(crate) fn of_tick(answer: Result<(), AllocError>) -> u32
+    ensures { result ≡ memory_answer answer }
+{
+    match answer {
+        Ok(()) => OK,
+        Err(_) => NO_MEMORY,
+    }
+}

@@ -1,0 +1,188 @@
+//! How a caller says what a station is set up as.
+ghost use Rattle.std.specs.Prelude.{◌≡◌, ◌<◌, ◌↔◌, IsSome, IfSome};
+ghost use Rattle.cfdp_c.specs.Config.{config_of, entity_of, handler_of, policy_of, link_of, default_config, HasNames, IsUsable};
+
+use cfdp_directives::{ChecksumKind, Handler, Handlers, Limits, Policy, Times};
+use cfdp_station::{EntityConfig, LinkConfig, StationConfig};
+
+/// One direction of a link, as [`LinkConfig`] has it.
+#[repr(C)]
+#[derive(Clone, Copy)]
+pub struct CfdpLink {
+    /// Octets of the packet zone: 16 to 2,040. A frame has 8 more.
+    pub zone: u16,
+    /// The application process of the packets: 0 to 2,046.
+    pub apid: u16,
+    /// The spacecraft of the frames.
+    pub spacecraft: u8,
+    /// The virtual channel of the frames: 0 to 62.
+    pub channel: u8,
+}
+
+/// A [`StationConfig`] as a plain struct.
+#[repr(C)]
+#[derive(Clone, Copy)]
+pub struct CfdpConfig {
+    /// The id of this entity.
+    pub entity: u64,
+    /// The id of the other one.
+    pub peer: u64,
+    /// The sequence number of the first transaction.
+    pub first_number: u64,
+    /// The most octets of packets that may wait to be made frames: 8,192 to 65,536.
+    pub capacity: usize,
+    /// How long the ACK of an EOF is waited for, in the caller's unit of time: 1 or more.
+    pub eof_time: u32,
+    /// How long what a NAK asked for is waited for.
+    pub nak_time: u32,
+    /// How long the ACK of a Finished is waited for.
+    pub finished_time: u32,
+    /// How long any PDU of a transaction is waited for.
+    pub inactivity_time: u32,
+    /// The frames that it sends.
+    pub down: CfdpLink,
+    /// The frames that it takes: the peer's `down`.
+    pub up: CfdpLink,
+    /// The most octets of a file in one PDU: 1 to 4,096.
+    pub segment: u16,
+    /// Octets of an entity id: 1 to 8.
+    pub id_width: u8,
+    /// Octets of a sequence number: 1 to 8.
+    pub number_width: u8,
+    /// The checksum of the files that it sends: 0 (modular) or 15 (none).
+    pub checksum: u8,
+    /// How often an EOF is sent again.
+    pub eof_limit: u8,
+    /// How often a NAK is sent again.
+    pub nak_limit: u8,
+    /// How often a Finished is sent again.
+    pub finished_limit: u8,
+    /// What is done where no ACK comes: 0 cancels, 1 suspends, 2 goes on, 3 abandons.
+    pub on_ack_limit: u8,
+    /// What is done where nothing comes after NAKs.
+    pub on_nak_limit: u8,
+    /// What is done where nothing at all comes.
+    pub on_inactivity: u8,
+}
+
+impl CfdpLink {
+    fn config(&self) -> LinkConfig
+        ensures { result ≡ link_of self.now }
+    {
+        LinkConfig {
+            spacecraft: self.spacecraft,
+            channel: self.channel,
+            zone: self.zone,
+            apid: self.apid,
+        }
+    }
+}
+
+impl CfdpConfig {
+    /// The station's own configuration, where one can be set up so.
+    pub(crate) fn config(&self) -> Option<StationConfig>
+        ensures some { IsSome result ↔ IsUsable self.now }
+        ensures same { IfSome result (λ config. config ≡ config_of self.now) }
+    {
+        let config = StationConfig {
+            entity: self.entity()?,
+            down: self.down.config(),
+            up: self.up.config(),
+            capacity: self.capacity,
+        };
+        if config.is_valid() {
+            Some(config)
+        } else {
+            None
+        }
+    }
+
+    fn entity(&self) -> Option<EntityConfig>
+        ensures some { IsSome result ↔ HasNames self.now }
+        ensures same { IfSome result (λ entity. entity ≡ entity_of self.now) }
+    {
+        Some(EntityConfig {
+            entity: self.entity,
+            peer: self.peer,
+            id_width: self.id_width,
+            number_width: self.number_width,
+            first_number: self.first_number,
+            segment: self.segment,
+            checksum_kind: ChecksumKind::from_code(self.checksum)?,
+            policy: self.policy()?,
+        })
+    }
+
+    fn policy(&self) -> Option<Policy>
+        ensures some { IsSome result ↔ ((self.now.on_ack_limit < 4)
+            × (self.now.on_nak_limit < 4) × (self.now.on_inactivity < 4)) }
+        ensures same { IfSome result (λ policy. policy ≡ policy_of self.now) }
+    {
+        Some(Policy {
+            limits: Limits {
+                eof: self.eof_limit,
+                nak: self.nak_limit,
+                finished: self.finished_limit,
+            },
+            times: Times {
+                eof: self.eof_time,
+                nak: self.nak_time,
+                finished: self.finished_time,
+                inactivity: self.inactivity_time,
+            },
+            handlers: Handlers {
+                ack: handler(self.on_ack_limit)?,
+                nak: handler(self.on_nak_limit)?,
+                inactivity: handler(self.on_inactivity)?,
+            },
+        })
+    }
+}
+
+fn handler(number: u8) -> Option<Handler>
+    ensures some { IsSome result ↔ (number < 4) }
+    ensures same { IfSome result (λ handler. handler ≡ handler_of number) }
+{
+    Handler::from_number(number)
+}
+
+/// Fills in the defaults: those of a script's station 1. Station 2 has both ids, and both links,
+/// the other way round.
+#[unsafe(no_mangle)]
+pub extern "C" fn cfdp_defaults(config: &mut CfdpConfig)
+    ensures same { config.new ≡ default_config }
+    ensures usable { IsUsable config.new }
+{
+    *config = CfdpConfig {
+        entity: 1,
+        peer: 2,
+        first_number: 1,
+        capacity: 16_384,
+        eof_time: 10,
+        nak_time: 10,
+        finished_time: 10,
+        inactivity_time: 100,
+        down: CfdpLink {
+            zone: 256,
+            apid: 100,
+            spacecraft: 42,
+            channel: 5,
+        },
+        up: CfdpLink {
+            zone: 256,
+            apid: 101,
+            spacecraft: 42,
+            channel: 6,
+        },
+        segment: 1024,
+        id_width: 2,
+        number_width: 4,
+        checksum: 0,
+        eof_limit: 3,
+        nak_limit: 3,
+        finished_limit: 3,
+        on_ack_limit: 0,
+        on_nak_limit: 0,
+        on_inactivity: 0,
+    };
+}

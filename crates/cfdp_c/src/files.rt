@@ -1,0 +1,179 @@
+//! The published files, by their places in ascending order of their names.
+ghost use Rattle.std.specs.Prelude.{◌≡◌, ◌≢◌, ◌+◌, false, length, nat_le, slice_get};
+ghost use Rattle.std.specs.BTreeMap.{IsOrdered};
+ghost use Rattle.std.specs.Cmp.Lexicographic.{slice_cmp};
+ghost use Rattle.std.specs.FinMap.{entries};
+ghost use Rattle.std.specs.Option.{option_map};
+ghost use Rattle.std.specs.Ordering.{nat_cmp};
+ghost use Rattle.cfdp_c.specs.Codes as codes;
+ghost use Rattle.cfdp_c.specs.Files.{NamesFile, ReadsFile, ReadsIf};
+ghost use Rattle.cfdp_c.specs.Handles.{Becomes};
+
+use crate::codes::{BAD_ARGUMENT, CLOSED, NO_ROOM, NOTHING, OK};
+use crate::handle::CfdpStation;
+use crate::held::Held;
+use crate::room::put;
+use cfdp_store::Files;
+use std::alloc::Global;
+use std::collections::BTreeMap;
+
+/// How long the name of a file is, and the file.
+#[repr(C)]
+#[derive(Clone, Copy)]
+pub struct CfdpFile {
+    pub name_len: usize,
+    pub size: usize,
+}
+
+/// The entry at a place of a map.
+fn entry_at(files: &BTreeMap<Vec<u8>, Vec<u8>>, place: usize) -> Option<(&Vec<u8>, &Vec<u8>)>
+    ensures at { option_map (λ e. (e.0.now, e.1.now)) result ≡ slice_get files.now.entries place }
+    ensures ordered { IsOrdered (λ a b. slice_cmp nat_cmp a.items b.items) files.now }
+{
+    files.iter().nth(place)
+}
+
+/// The name and the octets of the file at a place.
+fn file_at(files: &Files, place: usize) -> Option<(&Vec<u8>, &Vec<u8>)>
+    ensures { option_map (λ f. (f.0.now.items, f.1.now.items)) result
+        ≡ slice_get (entries files.now) place }
+{
+    entry_at(files.entries(), place)
+}
+
+/// How many entries a map has.
+fn entry_count(files: &BTreeMap<Vec<u8>, Vec<u8>>) -> usize
+    ensures count { result ≡ length files.now.entries }
+    ensures ordered { IsOrdered (λ a b. slice_cmp nat_cmp a.items b.items) files.now }
+{
+    // What is known of the order of the keys is known of an iterator.
+    let _entries = files.iter();
+    files.len()
+}
+
+/// How many files there are.
+fn count(files: &Files) -> usize
+    ensures { result ≡ length (entries files.now) }
+{
+    entry_count(files.entries())
+}
+
+/// Copies octets from an offset on into lent room, if there are as many.
+fn read(octets: &[u8], offset: usize, room: &mut [u8]) -> u32
+    ensures reads { ReadsIf (nat_le (offset + length room.old) (length octets.now)) octets.now
+        offset result room.old room.new }
+    ensures kept { result ≢ codes.ok → room.new ≡ room.old }
+{
+    if octets.len() < offset || octets.len() - offset < room.len() {
+        return BAD_ARGUMENT;
+    }
+    let end = offset + room.len();
+    room.copy_from_slice(&octets[offset..end]);
+    OK
+}
+
+impl Held {
+    fn file_count(&self) -> usize
+        ensures { result ≡ length (entries self.now.station.entity.state.table.files) }
+    {
+        count(self.station.inbox().published())
+    }
+
+    fn file(&self, place: usize, out: &mut CfdpFile, name: &mut [u8]) -> u32
+        ensures names { NamesFile
+            (slice_get (entries self.now.station.entity.state.table.files) place) result
+            out.old out.new name.old name.new }
+        ensures kept { result ≢ codes.ok → (out.new ≡ out.old) × (name.new ≡ name.old) }
+    {
+        let Some((named, octets)) = file_at(self.station.inbox().published(), place) else {
+            return NOTHING;
+        };
+        if !put(named.as_slice(), name) {
+            return NO_ROOM;
+        }
+        *out = CfdpFile {
+            name_len: named.len(),
+            size: octets.len(),
+        };
+        OK
+    }
+
+    fn read_file(&self, place: usize, offset: usize, out: &mut [u8]) -> u32
+        ensures reads { ReadsFile
+            (slice_get (entries self.now.station.entity.state.table.files) place) offset result
+            out.old out.new }
+        ensures kept { result ≢ codes.ok → out.new ≡ out.old }
+    {
+        match file_at(self.station.inbox().published(), place) {
+            Some((_, octets)) => read(octets.as_slice(), offset, out),
+            None => NOTHING,
+        }
+    }
+}
+
+/// How many files are published; 0 of a closed handle.
+#[unsafe(no_mangle)]
+pub extern "C" fn cfdp_file_count(alloc: Global, station: &mut CfdpStation) -> usize
+    ensures open { station.new.is_open ≡ station.old.is_open }
+    ensures closed { station.old.is_open ≡ false → result ≡ 0 }
+    ensures count { Becomes station.old station.new (λ x y. (y ≡ x)
+        × (result ≡ length (entries x.station.entity.state.table.files))) }
+{
+    let Some(held) = station.lift(alloc) else {
+        return 0;
+    };
+    let count = held.file_count();
+    *station = CfdpStation::holding(held);
+    count
+}
+
+/// Tells the size of the published file at a place, and copies its name into lent room of 255
+/// octets or less. Answers 0, `CLOSED`, `NOTHING` where there are not so many files, or `NO_ROOM`.
+#[unsafe(no_mangle)]
+pub extern "C" fn cfdp_file(
+    alloc: Global,
+    station: &mut CfdpStation,
+    place: usize,
+    out: &mut CfdpFile,
+    name: &mut [u8],
+) -> u32
+    ensures open { station.new.is_open ≡ station.old.is_open }
+    ensures closed { station.old.is_open ≡ false → result ≡ codes.closed }
+    ensures kept { result ≢ codes.ok → (out.new ≡ out.old) × (name.new ≡ name.old) }
+    ensures names { Becomes station.old station.new (λ x y. (y ≡ x)
+        × NamesFile (slice_get (entries x.station.entity.state.table.files) place) result
+        out.old out.new name.old name.new) }
+{
+    let Some(held) = station.lift(alloc) else {
+        return CLOSED;
+    };
+    let answer = held.file(place, out, name);
+    *station = CfdpStation::holding(held);
+    answer
+}
+
+/// Fills lent room with octets of the published file at a place, from an offset on. Answers 0,
+/// `CLOSED`, `NOTHING` where there are not so many files, or `BAD_ARGUMENT` where the file ends
+/// before that.
+#[unsafe(no_mangle)]
+pub extern "C" fn cfdp_read_file(
+    alloc: Global,
+    station: &mut CfdpStation,
+    place: usize,
+    offset: usize,
+    out: &mut [u8],
+) -> u32
+    ensures open { station.new.is_open ≡ station.old.is_open }
+    ensures closed { station.old.is_open ≡ false → result ≡ codes.closed }
+    ensures kept { result ≢ codes.ok → out.new ≡ out.old }
+    ensures reads { Becomes station.old station.new (λ x y. (y ≡ x)
+        × ReadsFile (slice_get (entries x.station.entity.state.table.files) place) offset result
+        out.old out.new) }
+{
+    let Some(held) = station.lift(alloc) else {
+        return CLOSED;
+    };
+    let answer = held.read_file(place, offset, out);
+    *station = CfdpStation::holding(held);
+    answer
+}

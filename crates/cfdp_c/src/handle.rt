@@ -1,0 +1,114 @@
+//! A station in a caller's memory: to open and to close it.
+ghost use Rattle.std.specs.Prelude.{◌≡◌, ◌↔◌, ◌≢◌, true, false, Some, IsSome, IsSomeAnd, MatchOption, IfOk};
+ghost use Rattle.cfdp_station.specs.Config.{IsStationConfig};
+ghost use Rattle.cfdp_c.specs.Calls.{IsFirst};
+ghost use Rattle.cfdp_c.specs.Codes as codes;
+ghost use Rattle.cfdp_c.specs.Config.{config_of, IsUsable};
+
+use crate::codes::{ALREADY_OPEN, BAD_ARGUMENT, NO_MEMORY, OK};
+use crate::config::CfdpConfig;
+use crate::held::Held;
+use crate::parts::Parts;
+use crate::station_slot::StationSlot;
+use cfdp_station::StationConfig;
+use std::alloc::{AllocError, Global};
+use std::mem;
+
+/// A station in a caller's memory. All zero octets are a closed handle.
+#[repr(C)]
+#[derive(Drop)]
+pub struct CfdpStation {
+    pub slot: StationSlot,
+    pub is_open: bool,
+    ghost held: { is_open ≡ true → IsSome slot.value },
+}
+
+impl CfdpStation {
+    fn closed(alloc: Global) -> CfdpStation
+        ensures { result.is_open ≡ false }
+    {
+        CfdpStation {
+            slot: StationSlot::empty(alloc),
+            is_open: false,
+        }
+    }
+
+    /// An open handle on what a box has.
+    pub(crate) fn holding(held: Box<Held>) -> CfdpStation
+        ensures open { result.is_open ≡ true }
+        ensures value { result.slot.value ≡ Some held.value }
+    {
+        CfdpStation {
+            slot: StationSlot::of_parts(Parts::of(held)),
+            is_open: true,
+        }
+    }
+
+    /// Takes out what the handle has, which is closed then: `None` where it was closed before.
+    pub(crate) fn lift(&mut self, alloc: Global) -> Option<Box<Held>>
+        ensures closed { self.new.is_open ≡ false }
+        ensures lifted { MatchOption result (self.old.is_open ≡ false)
+            (λ held. (self.old.is_open ≡ true) × (Some held.value ≡ self.old.slot.value)) }
+    {
+        let taken = mem::replace(self, CfdpStation::closed(alloc));
+        if !taken.is_open {
+            return None;
+        }
+        Some(taken.slot.into_parts().into_box())
+    }
+}
+
+/// Opens a closed handle on a station that has no transactions, and whose stores, both in memory,
+/// are empty.
+///
+/// Answers 0, `ALREADY_OPEN`, `BAD_ARGUMENT` where no station can be set up so, or `NO_MEMORY`. But
+/// for 0 the handle is as it was.
+#[unsafe(no_mangle)]
+pub extern "C" fn cfdp_open(alloc: Global, station: &mut CfdpStation, config: &CfdpConfig) -> u32
+    ensures twice { (result ≡ codes.already_open) ↔ (station.old.is_open ≡ true) }
+    ensures bad { station.old.is_open ≡ false →
+        ((result ≢ codes.bad_argument) ↔ IsUsable config.now) }
+    ensures opened { result ≡ codes.ok → (station.new.is_open ≡ true)
+        × IsSomeAnd station.new.slot.value
+        (λ held. IsFirst (config_of config.now) held.station × (held.told ≡ 0)) }
+    ensures refused { result ≢ codes.ok → station.new ≡ station.old }
+{
+    if station.is_open {
+        return ALREADY_OPEN;
+    }
+    let Some(config) = config.config() else {
+        return BAD_ARGUMENT;
+    };
+    match boxed(alloc, config) {
+        Ok(held) => {
+            *station = CfdpStation::holding(held);
+            OK
+        }
+        Err(_) => NO_MEMORY,
+    }
+}
+
+/// Gives back all that the handle has; it is closed then. A closed one stays so.
+#[unsafe(no_mangle)]
+pub extern "C" fn cfdp_close(alloc: Global, station: &mut CfdpStation)
+    ensures { station.new.is_open ≡ false }
+{
+    let _held = station.lift(alloc);
+}
+
+fn boxed(alloc: Global, config: StationConfig) -> Result<Box<Held>, AllocError>
+    requires { IsStationConfig config }
+    ensures { IfOk result (λ held. IsFirst config held.value.station
+        × (held.value.told ≡ 0)) }
+{
+    match Box::new(alloc, Held::new(alloc, config)?) {
+        Ok(held) => Ok(held),
+        Err(refused) => {
+            let_go(refused);
+            Err(AllocError)
+        }
+    }
+}
+
+/// Lets a value go by code that knows nothing of it, which spares its proof.
+fn let_go<T: Drop>(_value: T) {}

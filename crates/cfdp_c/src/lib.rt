@@ -1,0 +1,34 @@
+//! The stack for programs in C, C++ and Rust: a station with its stores in memory behind a handle,
+//! and what a PDU says, behind plain C functions.
+//!
+//! No part of the protocol stands here. Each function tests what its caller gave, calls the
+//! station, and puts the answer into a number or a plain struct; its contract is the station's own
+//! clause, of what the handle has. `bindings/c/cfdp.h` says what a caller owes.
+#![tactic(auto)]
+
+mod calls;
+mod codes;
+mod config;
+mod decoding;
+mod files;
+mod frames;
+mod handle;
+mod held;
+mod indications;
+mod parts;
+mod room;
+mod station_slot;
+
+pub use calls::{
+    CfdpId, cfdp_add, cfdp_cancel, cfdp_next_deadline, cfdp_prompt, cfdp_put, cfdp_resume,
+    cfdp_suspend, cfdp_tick,
+};
+pub use config::{CfdpConfig, CfdpLink, cfdp_defaults};
+pub use decoding::{CfdpPdu, cfdp_decode};
+pub use files::{CfdpFile, cfdp_file, cfdp_file_count, cfdp_read_file};
+pub use frames::{
+    cfdp_drops, cfdp_flush, cfdp_frame_len, cfdp_frames_ahead, cfdp_link_drops, cfdp_next_frame,
+    cfdp_poll, cfdp_take,
+};
+pub use handle::{CfdpStation, cfdp_close, cfdp_open};
+pub use indications::{CfdpIndication, cfdp_next_indication};

@@ -1,0 +1,55 @@
+-- A file under a new name leaves all records ready.
+use Rattle.std.proofs.Common.{◌≡◌, ℕ, Bool, true, false, cond, List, [], ◌∷◌, length, Some, None, IsSome, refl, sym, ap, subst, ◌∙◌, true≢false}
+use Rattle.std.specs.Prelude.{unwrap_or, Result, Ok, Err, OnOk, OnErr}
+use Rattle.std.specs.Ordering.{nat_cmp, is_eq}
+use Rattle.std.specs.declared.cmp.Ordering.TheVariants.{Less, Equal, Greater}
+use Rattle.std.specs.Cmp.Lexicographic.{slice_cmp, nat_list_cmp_total}
+use Rattle.std.specs.FinMap as map
+use Rattle.std.specs.FinSet as set
+use Rattle.cfdp_header.specs.declared.value.TransactionId.{TransactionId}
+use Rattle.cfdp_header.specs.Ids.{id_cmp}
+use Rattle.cfdp_header.specs.Files.{FileMap}
+use Rattle.cfdp_timers.specs.Armed.{TimersState}
+use Rattle.cfdp_sender.specs.Does.{HasFile}
+use Rattle.cfdp_entity.specs.declared.record.Record.{Record}
+use Rattle.cfdp_entity.specs.declared.record.Record.TheVariants as held
+use Rattle.cfdp_entity.specs.Whole.{Staged, AllReady, IsReadyRecord, IsWhole}
+
+module _ (sources : FileMap) (name octets : List ℕ) (free : map.get sources name ≡ None) where
+  abbrev more : FileMap
+  more = map.insert sources name octets
+
+  -- a file that is there keeps its octets
+  get-kept : (other : List ℕ) → IsSome (map.get sources other) → map.get more other ≡ map.get sources other
+  get-kept other there =
+      map.get-insert nat_list_cmp_total sources name octets other
+      ∙ elim (slice_cmp nat_cmp other name) as (λ o. slice_cmp nat_cmp other name ≡ o → cond (is_eq o) (Some octets) (map.get sources other) ≡ map.get sources other) [
+        | Less ↦ λ same. refl
+        | Equal ↦ λ same. absurd (true≢false (sym (subst IsSome (sym (map.get_tied nat_list_cmp_total sources other name same) ∙ free) there)))
+        | Greater ↦ λ same. refl
+      ] refl
+
+  file-kept : (other : List ℕ) (size : ℕ) → HasFile sources other size → HasFile more other size
+  file-kept other size has =
+      let e = get-kept other has.there in
+      record { there = subst IsSome (sym e) has.there; whole = ap (λ o. length (unwrap_or o [])) e ∙ has.whole }
+
+  record-kept : (staged : Staged) (id : TransactionId) (r : Record) → IsReadyRecord staged sources id r → IsReadyRecord staged more id r
+  unfolding IsReadyRecord
+  record-kept staged id (held.Sends x) ready = (ready.0, file-kept x.source x.size ready.1)
+  record-kept staged id (held.Receives r) ready = ready
+
+  ready-kept : (staged : Staged) (roomy : set.FinSet id_cmp) (es : List (TransactionId × Record)) → AllReady staged sources roomy es → AllReady staged more roomy es
+  unfolding AllReady
+  ready-kept staged roomy [] all = tt
+  ready-kept staged roomy (e ∷ es) all = (record-kept staged e.0 e.1 all.0, all.1, ready-kept staged roomy es all.2)
+
+  pub whole-more : (staged : Staged) (es : List (TransactionId × Record)) (flags : List Bool) (clock : TimersState) → IsWhole staged sources es flags clock → IsWhole staged more es flags clock
+  whole-more staged es flags clock whole = record { distinct = whole.distinct; ready = ready-kept staged clock.roomy es whole.ready; flagged = whole.flagged; few = whole.few }
+
+-- Nor does it where it may not have been added.
+pub whole-added : {T E : Type 0} (r : Result T E) (staged : Staged) (sources new : FileMap) (name octets : List ℕ) (es : List (TransactionId × Record)) (flags : List Bool) (clock : TimersState) → map.get sources name ≡ None → OnOk r (new ≡ map.insert sources name octets) → OnErr r (new ≡ sources) → IsWhole staged sources es flags clock → IsWhole staged new es flags clock
+whole-added (Ok value) staged sources new name octets es flags clock free ok err whole =
+    subst (λ m. IsWhole staged m es flags clock) (sym ok) (whole-more sources name octets free staged es flags clock whole)
+whole-added (Err by) staged sources new name octets es flags clock free ok err whole =
+    subst (λ m. IsWhole staged m es flags clock) (sym err) whole

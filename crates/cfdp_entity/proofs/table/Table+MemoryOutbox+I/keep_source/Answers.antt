@@ -1,0 +1,12 @@
+use Rattle.std.proofs.Common.{None, ap, sym, subst, ◌≡◌, ◌∙◌}
+use Rattle.std.specs.FinMap as map
+use Rattle.cfdp_entity.specs.Roomy.{Roomy}
+use Rattle.cfdp_entity.proofs.Added.{whole-added}
+use Rattle.cfdp_entity.proofs.table.Table+MemoryOutbox+I.keep_source.Goals as goal
+
+pub invariant_of-self : goal.invariant_of-self
+invariant_of-self g c =
+    let free = ap (λ (v : Roomy). map.get v.state.sources c.args.name.now) c.self.view_is ∙ c.requires.free in
+    let named = c.in_ok-name.ensures.items in
+    whole-added c.add.result (g.I.Inbox.staged c.self.inside.inbox) c.self.inside.outbox c.add.new.self c.in_ok-name.name.items c.in_ok-octets.octets.items c.self.inside.records.entries c.self.inside.ready c.self.inside.timers
+    (subst (λ n. map.get c.self.inside.outbox n ≡ None) (sym named) free) c.add.ensures.ok c.add.ensures.err c.self.invariant

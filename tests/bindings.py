@@ -1,0 +1,363 @@
+#!/usr/bin/env python3
+"""Builds and runs what stands in bindings/ over crates/cfdp_c/out/libcfdp_c.a (`.ci/archive`).
+
+    tests/bindings.py                       all of it
+    tests/bindings.py --archive PATH ..     over another archive
+    tests/bindings.py --program PATH ..     with another cfdp_node for the transfer over UDP
+    tests/bindings.py --after 'A passed, B failed'    counts these in the last line
+    tests/bindings.py --figures             tells what the archive takes (docs/GATE.md), and no more
+
+Compares cfdp.h and ffi.rs with the crate's sources, and the archive's names with them; compiles the
+header, the examples and calls.c without warnings; runs them, also under AddressSanitizer and
+valgrind. Where a machine hasn't one of the compilers or checkers, a line says so. The last line is
+'N passed, M failed'.
+"""
+import os
+import re
+import shutil
+import subprocess
+import sys
+import tempfile
+
+HERE = os.path.dirname(os.path.abspath(__file__))
+TOP = os.path.dirname(HERE)
+CRATE, C, RUST = f"{TOP}/crates/cfdp_c", f"{TOP}/bindings/c", f"{TOP}/bindings/rust"
+SECONDS = 300
+
+sys.path.insert(0, HERE)
+sys.dont_write_bytecode = True
+import stations
+
+STRICT = ["-Wall", "-Wextra", "-Wpedantic", "-Werror", f"-I{C}"]
+C99 = ["cc", "-std=c99", "-O2", *STRICT]
+CPP = ["c++", "-std=c++17", "-O2", *STRICT]
+
+
+def text_of(path):
+    with open(path, encoding="utf-8") as it:
+        return it.read()
+
+
+# ---- the header, ffi.rs and the crate, as the same words
+
+TYPES = {"uint8_t": "u8", "uint16_t": "u16", "uint32_t": "u32", "uint64_t": "u64"}
+TYPES |= {"size_t": "usize", "bool": "bool", "void": "()", "cfdp_answer": "u32"}
+
+# the structs of the header, and how the crate and ffi.rs name them
+STRUCTS = {"cfdp_link": ("CfdpLink", "Link"), "cfdp_config": ("CfdpConfig", "Config")}
+STRUCTS |= {"cfdp_station": ("CfdpStation", "Handle"), "cfdp_id": ("CfdpId", "Id")}
+STRUCTS |= {"cfdp_indication": ("CfdpIndication", "Told"), "cfdp_pdu": ("CfdpPdu", "Pdu")}
+STRUCTS |= {"cfdp_file_info": ("CfdpFile", "FileInfo")}
+
+
+def plain(text):
+    """The text without comments, attributes and clauses, each run of spaces as one."""
+    text = re.sub(r"/\*.*?\*/", " ", text, flags=re.S)
+    text = re.sub(r"//.*", " ", text)
+    text = re.sub(r"#(\[[^\]]*\]|define.*|include.*|if.*|else.*|endif.*)", " ", text)
+    return re.sub(r"\s+", " ", text)
+
+
+def c_type(text, place):
+    """The type of a declaration as `u8 count`, with what it points to."""
+    found = re.fullmatch(r"(const )?(\w+) ?(\*?) ?(\w*)", text.strip())
+    is_const, name, is_pointer = found[1], found[2], found[3]
+    if is_pointer and name == "void":
+        return "pointer"
+    name = TYPES.get(name) or STRUCTS[name][place]
+    return f"{'&' if is_const else '&mut '}{name}" if is_pointer else name
+
+
+def in_header(place):
+    """The functions and the structs of the header, in the crate's words, or in those of ffi.rs."""
+    text = plain(text_of(f"{C}/cfdp.h"))
+    functions = {}
+    for result, name, words in re.findall(r"(\w+) (cfdp_\w+)\(([^)]*)\);", text):
+        functions[name] = ([c_type(it, place) for it in words.split(",")], TYPES[result])
+    structs = {}
+    for name, body in re.findall(r"typedef struct (\w+) \{([^}]*)\}", text):
+        fields = []
+        for it in filter(str.strip, body.split(";")):
+            kind, names = re.fullmatch(r" ?((?:const )?\w+ \*?) ?(.*)", it).groups()
+            fields += [(word.strip(), c_type(kind, place)) for word in names.split(",")]
+        structs[STRUCTS[name][place]] = fields
+    return functions, structs
+
+
+def rust_words(text, wide):
+    """The arguments of a function, as the header passes them: a slice by pointer and length."""
+    found = []
+    for name, kind in re.findall(r"(\w+): ([^,]+)", text):
+        kind = kind.strip()
+        if wide and kind in ("&[u8]", "&mut [u8]"):
+            found += [kind.replace("[u8]", "u8"), "usize"]
+        elif kind != "Global":
+            found.append(kind.replace("*const ", "&").replace("*mut ", "&mut "))
+    return found
+
+
+def rust_structs(text):
+    """The fields of each struct of Rust's or Rattle's that C sees."""
+    structs = {}
+    for name, body in re.findall(r"#\[repr\(C\)\].*?pub struct (\w+) \{(.*?)\n\}", text, re.S):
+        body = re.sub(r"ghost \w+: \{[^\n]*\n", "", body)
+        structs[name] = re.findall(r"(\w+): ([\w:*& ]+)", plain(body))
+    return structs
+
+
+def in_crate():
+    """The exports of the crate, and its structs."""
+    functions, structs = {}, {}
+    for name in sorted(os.listdir(f"{CRATE}/src")):
+        text = text_of(f"{CRATE}/src/{name}")
+        text = re.sub(r"//.*", "", text)
+        structs |= rust_structs(text)
+        exported = r'no_mangle\)\]\s+pub extern "C" fn (\w+)\(([^)]*)\)(?: -> (\w+))?'
+        for name, words, result in re.findall(exported, text):
+            functions[name] = (rust_words(re.sub(r"\s+", " ", words), True), result or "()")
+    # what C sees of a handle: the allocator takes no octets
+    structs["CfdpStation"] = [("at", "pointer"), *structs["CfdpStation"][1:]]
+    return functions, structs
+
+
+def in_ffi():
+    """The functions that ffi.rs declares, and its structs."""
+    text = text_of(f"{RUST}/src/ffi.rs")
+    declared = re.search(r'unsafe extern "C" \{(.*?)\n\}', text, re.S)[1]
+    functions = {}
+    for name, words, result in re.findall(r"fn (\w+)\(([^)]*)\)(?: -> (\w+))?;", declared):
+        functions[name] = (rust_words(re.sub(r"\s+", " ", words), False), result or "()")
+    structs = rust_structs(text.split("mod heap")[0])
+    structs["Handle"] = [("at", "pointer"), *structs["Handle"][1:2]]
+    return functions, structs
+
+
+def differences(what, found, wanted):
+    for name in sorted({*found, *wanted}):
+        if found.get(name) != wanted.get(name):
+            yield f"{what} {name}: {found.get(name)}, in the header {wanted.get(name)}"
+
+
+def declaration_mistakes():
+    """Where the crate or ffi.rs declares something else than the header."""
+    for place, (functions, structs) in enumerate((in_crate(), in_ffi())):
+        wanted, wanted_structs = in_header(place)
+        where = ("the crate's", "ffi.rs's")[place]
+        yield from differences(f"{where} function", functions, wanted)
+        structs = {it: structs.get(it) for it in wanted_structs}
+        yield from differences(f"{where} struct", structs, wanted_structs)
+
+
+def number_mistakes():
+    """Where the header has other numbers than specs/Codes.antt."""
+    header = text_of(f"{C}/cfdp.h")
+    answers = header.split("cfdp_link")[0]
+    numbers = {int(it) for it in re.findall(r"^    CFDP_\w+ = (\d+),", answers, re.M)}
+    spec = text_of(f"{CRATE}/specs/Codes.antt")
+    wanted = {int(it) for it in re.findall(r"^\w[\w. ]* = (\d+)$", spec, re.M)}
+    if numbers != wanted:
+        yield f"the header has the answers {sorted(numbers)}, specs/Codes.antt has {sorted(wanted)}"
+
+
+def name_mistakes(archive):
+    """Where the archive defines other names, or wants others, than the header says."""
+    if not shutil.which("nm"):
+        print("no nm: the archive's names aren't compared")
+        return
+    told = subprocess.run(["nm", archive], capture_output=True, text=True, check=True).stdout
+    defined = {it for it in re.findall(r" T (\w+)", told)}
+    wanted = {it for it in re.findall(r" U (\w+)", told)}
+    functions = {*in_header(0)[0]}
+    if {it for it in defined if it.startswith("cfdp_")} != functions:
+        yield f"the archive defines {sorted(defined ^ functions)} and the header doesn't, or not so"
+    allowed = {"rattle_alloc", "rattle_realloc", "rattle_dealloc"}
+    allowed |= {"memcpy", "memmove", "memset", "memcmp", "bcmp"}
+    if not wanted <= allowed:
+        yield f"the archive wants {sorted(wanted - allowed)}"
+
+
+def uncalled_mistakes():
+    """Exports that calls.c doesn't call."""
+    text = text_of(f"{HERE}/calls.c")
+    for name in in_header(0)[0]:
+        if not re.search(rf"\b{name}\(", text):
+            yield f"calls.c doesn't call {name}"
+
+
+# ---- compiling and running
+
+def run_mistakes(*commands, **how):
+    """What is wrong where one of these commands doesn't end with status 0."""
+    for words in commands:
+        try:
+            ran = subprocess.run(words, capture_output=True, text=True, timeout=SECONDS, **how)
+        except subprocess.TimeoutExpired:
+            yield f"{' '.join(words)}: not done in {SECONDS} seconds"
+            return
+        if ran.returncode:
+            yield f"{' '.join(words)}: status {ran.returncode}\n{(ran.stdout + ran.stderr)[-3000:]}"
+            return
+
+
+def has_sanitizer(room):
+    """Whether cc can build and run a program with AddressSanitizer."""
+    with open(f"{room}/empty.c", "w", encoding="utf-8") as it:
+        it.write("int main(void) { return 0; }\n")
+    words = ["cc", "-fsanitize=address,undefined", f"{room}/empty.c", "-o", f"{room}/empty"]
+    return not [*run_mistakes(words, [f"{room}/empty"])]
+
+
+def checkers(room):
+    """How a program may be built and run to look at its memory: a name, flags, words in front."""
+    yield "", [], []
+    if has_sanitizer(room):
+        yield ", AddressSanitizer", ["-g", "-fsanitize=address,undefined"], []
+    else:
+        print("no AddressSanitizer: programs aren't run under it")
+    if shutil.which("valgrind"):
+        words = ["valgrind", "-q", "--leak-check=full", "--error-exitcode=9"]
+        yield ", valgrind", ["-g"], words
+    else:
+        print("no valgrind: programs aren't run under it")
+
+
+class Bindings:
+    """What is built, and the programs that run it."""
+
+    def __init__(self, archive, program, room):
+        self.archive, self.program, self.room = archive, program, room
+
+    def c_mistakes(self, compiler, files, flags, front, words):
+        """What is wrong where these files are compiled, linked to the archive, and run."""
+        made, sources = f"{self.room}/made", []
+        for it in files:
+            sources += ["-x", "c++" if compiler is CPP else "c", it]
+        build = [*compiler, *flags, *sources, "-x", "none", self.archive, "-o", made]
+        return run_mistakes(build, [*front, made, *words])
+
+    def c_runs(self):
+        """Each program in C, by each compiler and checker."""
+        example = [f"{C}/examples/transfer.c", f"{C}/heap.c"]
+        for name, flags, front in checkers(self.room):
+            for octets in ("0", "1", "100000"):
+                what = f"transfer.c, {octets} octets{name}"
+                yield what, self.c_mistakes(C99, example, flags, front, [octets])
+            yield f"calls.c{name}", self.c_mistakes(C99, [f"{HERE}/calls.c"], flags, front, [])
+        yield "a file of 1 MiB", self.c_mistakes(C99, example, [], [], ["1048576"])
+        if shutil.which("c++"):
+            yield "transfer.c as C++", self.c_mistakes(CPP, example, [], [], [])
+        else:
+            print("no c++: nothing is compiled as C++")
+
+    def header_runs(self):
+        """The header alone, by both languages."""
+        for what, words in (("C99", [*C99, "-x", "c"]), ("C++17", [*CPP, "-x", "c++"])):
+            if shutil.which(words[0]):
+                yield f"cfdp.h as {what}", run_mistakes([*words, "-fsyntax-only", f"{C}/cfdp.h"])
+
+    def rust_program(self):
+        """The commands that build the example in Rust, and where it then lies."""
+        rustc = ["rustc", "--edition", "2024", "-O", "-D", "warnings"]
+        library, made = f"{self.room}/libcfdp.rlib", f"{self.room}/transfer_rs"
+        folder = os.path.dirname(self.archive)
+        wrapper = ["--crate-type", "rlib", "--crate-name", "cfdp", f"{RUST}/src/lib.rs"]
+        one = [*rustc, *wrapper, "-L", f"native={folder}", "-o", library]
+        example = ["--extern", f"cfdp={library}", f"{RUST}/examples/transfer.rs"]
+        return [one, [*rustc, *example, "-L", f"native={folder}", "-o", made]], made
+
+    def rust_runs(self):
+        """The example in Rust, as it is and under valgrind."""
+        if not shutil.which("rustc"):
+            print("no rustc: the wrapper and its example aren't compiled")
+            return
+        builds, made = self.rust_program()
+        yield "transfer.rs", run_mistakes(*builds, [made], [made, "0"])
+        if shutil.which("valgrind"):
+            words = ["valgrind", "-q", "--leak-check=full", "--error-exitcode=9"]
+            yield "transfer.rs, valgrind", run_mistakes([*words, made, "20000"])
+
+    def udp_mistakes(self, made):
+        """What is wrong where a program's station sends a file to one of cfdp_node."""
+        ports, octets = stations.free_ports(2), 300_000
+        with tempfile.TemporaryDirectory(dir=self.room) as folder:
+            words = ["--listen", f"127.0.0.1:{ports[1]}", "--to", f"127.0.0.1:{ports[0]}"]
+            ids = ["--id", "2", "--peer", "1", "--inbox", folder, "--idle", "4"]
+            settings = stations.PATIENT.items()
+            sets = [it for key, value in settings for it in ("--set", key, str(value))]
+            node = [self.program, "station", *ids, *words, *sets]
+            with subprocess.Popen(node, stdout=subprocess.PIPE, stderr=subprocess.STDOUT) as peer:
+                yield from run_mistakes([made, "udp", str(ports[0]), str(ports[1]), str(octets)])
+                told = peer.communicate(timeout=SECONDS)[0].decode()
+            size = os.path.getsize(f"{folder}/received.raw") if os.listdir(folder) else None
+            if peer.returncode or size != octets:
+                yield f"cfdp_node: status {peer.returncode}, {size} octets came, {told[-2000:]!r}"
+
+    def udp_runs(self):
+        """One station of each example over UDP, with cfdp_node as the other."""
+        if not os.access(self.program, os.X_OK):
+            print(f"no {self.program}: no transfer over UDP")
+            return
+        made = f"{self.room}/made"
+        example = [f"{C}/examples/transfer.c", f"{C}/heap.c", self.archive]
+        if not [*run_mistakes([*C99, *example, "-o", made])]:
+            yield "transfer.c over UDP", self.udp_mistakes(made)
+        if shutil.which("rustc"):
+            builds, made = self.rust_program()
+            if not [*run_mistakes(*builds)]:
+                yield "transfer.rs over UDP", self.udp_mistakes(made)
+
+    def runs(self):
+        yield "the header, ffi.rs and the crate", declaration_mistakes()
+        yield "the numbers of the answers", number_mistakes()
+        yield "the archive's names", name_mistakes(self.archive)
+        yield "calls.c calls every export", uncalled_mistakes()
+        yield from self.header_runs()
+        if shutil.which("cc"):
+            yield from self.c_runs()
+        else:
+            print("no cc: nothing is compiled as C")
+        yield from self.rust_runs()
+        if shutil.which("cc"):
+            yield from self.udp_runs()
+
+
+def tell_figures(archive, room):
+    """Prints the sizes of the archive and of a stripped program, and what figures.c measures."""
+    made = f"{room}/figures"
+    files = [f"{C}/examples/transfer.c", f"{C}/heap.c", archive]
+    subprocess.run([*C99, *files, "-s", "-Wl,--gc-sections", "-o", made], check=True)
+    print(f"archive {os.path.getsize(archive)} octets, stripped transfer {os.path.getsize(made)}")
+    measured = ["cc", "-O2", f"-I{C}", f"{HERE}/figures.c", *files[1:], "-o", made]
+    subprocess.run(measured, check=True)
+    subprocess.run([made], check=True)
+
+
+def taken(words, name):
+    """The word behind this one, if it is there."""
+    return words[words.index(name) + 1] if name in words else None
+
+
+def main(words):
+    counted = taken(words, "--after") or "0 passed, 0 failed"
+    passed, failed = map(int, re.search(r"(\d+) passed, (\d+) failed", counted).groups())
+    archive = os.path.abspath(taken(words, "--archive") or f"{CRATE}/out/libcfdp_c.a")
+    program = os.path.abspath(taken(words, "--program") or f"{TOP}/crates/cfdp_node/out/cfdp_node")
+    if not os.path.isfile(archive):
+        print(f"there is no {archive}: `.ci/archive` makes it")
+        print(f"{passed} passed, {failed + 1} failed")
+        return 1
+    with tempfile.TemporaryDirectory() as room:
+        if "--figures" in words:
+            tell_figures(archive, room)
+            return 0
+        for what, mistakes in Bindings(archive, program, room).runs():
+            mistakes = [*mistakes]
+            for it in mistakes:
+                print(f"{what}: {it}")
+            passed, failed = passed + (not mistakes), failed + bool(mistakes)
+    print(f"{passed} passed, {failed} failed")
+    return 1 if failed else 0
+
+
+if __name__ == "__main__":
+    sys.exit(main(sys.argv[1:]))

@@ -1,0 +1,507 @@
+/* Calls every export of cfdp.h, on closed and open handles, with good and bad values, and with each
+ * growth of memory refused in turn. Prints what is wrong, and ends with the number of mistakes.
+ * tests/bindings.py builds and runs it. */
+#include "cfdp.h"
+
+#include <stdio.h>
+#include <stdlib.h>
+#include <string.h>
+
+/* ---- memory, of which the Nth growth is refused */
+
+typedef struct block {
+    bool is_there;
+    void *at;
+} block;
+
+block rattle_alloc(size_t size, size_t align);
+block rattle_realloc(void *at, size_t old_size, size_t size, size_t align);
+void rattle_dealloc(void *at);
+
+static long live, asked, refused_at;
+static char nothing;
+
+static block block_at(void *at)
+{
+    block it;
+    it.is_there = at != NULL;
+    it.at = at != NULL ? at : &nothing;
+    return it;
+}
+
+static bool is_refused(void)
+{
+    return ++asked == refused_at;
+}
+
+block rattle_alloc(size_t size, size_t align)
+{
+    void *at = is_refused() || align > 16 ? NULL : malloc(size != 0 ? size : 1);
+    live += at != NULL;
+    return block_at(at);
+}
+
+block rattle_realloc(void *at, size_t old_size, size_t size, size_t align)
+{
+    (void)old_size;
+    return block_at(is_refused() || align > 16 ? NULL : realloc(at, size != 0 ? size : 1));
+}
+
+void rattle_dealloc(void *at)
+{
+    live--;
+    free(at);
+}
+
+/* ---- what is wrong */
+
+static int mistakes;
+
+static void check(int line, const char *what, unsigned long long told, unsigned long long wanted)
+{
+    if (told != wanted) {
+        printf("line %d: %s is %llu, not %llu\n", line, what, told, wanted);
+        mistakes++;
+    }
+}
+
+#define IS(call, wanted) \
+    check(__LINE__, #call, (unsigned long long)(call), (unsigned long long)(wanted))
+
+static const uint8_t NAME_A[] = {'a'}, NAME_B[] = {'b'}, NAME_C[] = {'c'};
+static const uint8_t OCTETS[] = "hello, hello, hello, hello, hello";
+
+static cfdp_config config_of(int number)
+{
+    cfdp_config config;
+    cfdp_defaults(&config);
+    if (number == 2) {
+        const cfdp_link down = config.down;
+        config.down = config.up;
+        config.up = down;
+        config.entity = 2;
+        config.peer = 1;
+    }
+    return config;
+}
+
+static void defaults(void)
+{
+    cfdp_config c;
+    memset(&c, 0xA5, sizeof c);
+    cfdp_defaults(&c);
+    IS(c.entity, 1);
+    IS(c.peer, 2);
+    IS(c.first_number, 1);
+    IS(c.capacity, 16384);
+    IS(c.eof_time, 10);
+    IS(c.nak_time, 10);
+    IS(c.finished_time, 10);
+    IS(c.inactivity_time, 100);
+    IS(c.down.zone, 256);
+    IS(c.down.apid, 100);
+    IS(c.down.spacecraft, 42);
+    IS(c.down.channel, 5);
+    IS(c.up.zone, 256);
+    IS(c.up.apid, 101);
+    IS(c.up.spacecraft, 42);
+    IS(c.up.channel, 6);
+    IS(c.segment, 1024);
+    IS(c.id_width, 2);
+    IS(c.number_width, 4);
+    IS(c.checksum, 0);
+    IS(c.eof_limit, 3);
+    IS(c.nak_limit, 3);
+    IS(c.finished_limit, 3);
+    IS(c.on_ack_limit, 0);
+    IS(c.on_nak_limit, 0);
+    IS(c.on_inactivity, 0);
+}
+
+static void on_a_closed_handle(void)
+{
+    cfdp_station s = CFDP_STATION_INIT;
+    cfdp_id id = {7, 8};
+    cfdp_indication told;
+    cfdp_file_info info = {7, 8};
+    uint64_t deadline = 9;
+    uint8_t room[16] = {1};
+
+    memset(&told, 0x5A, sizeof told);
+    IS(cfdp_add(&s, NAME_A, 1, OCTETS, 5), CFDP_CLOSED);
+    IS(cfdp_put(&s, NAME_A, 1, NAME_B, 1, &id), CFDP_CLOSED);
+    IS(cfdp_cancel(&s, &id), CFDP_CLOSED);
+    IS(cfdp_suspend(&s, &id), CFDP_CLOSED);
+    IS(cfdp_resume(&s, &id), CFDP_CLOSED);
+    IS(cfdp_prompt(&s, &id, true), CFDP_CLOSED);
+    IS(cfdp_poll(&s), CFDP_CLOSED);
+    IS(cfdp_flush(&s), CFDP_CLOSED);
+    IS(cfdp_frame_len(&s), 0);
+    IS(cfdp_frames_ahead(&s), 0);
+    IS(cfdp_next_frame(&s, room, sizeof room), CFDP_CLOSED);
+    IS(cfdp_take(&s, room, sizeof room), CFDP_CLOSED);
+    IS(cfdp_drops(&s, 1), 0);
+    IS(cfdp_link_drops(&s, 1), 0);
+    IS(cfdp_tick(&s, 1), CFDP_CLOSED);
+    IS(cfdp_next_deadline(&s, &deadline), CFDP_CLOSED);
+    IS(cfdp_next_indication(&s, &told, room, sizeof room), CFDP_CLOSED);
+    IS(cfdp_file_count(&s), 0);
+    IS(cfdp_file(&s, 0, &info, room, sizeof room), CFDP_CLOSED);
+    IS(cfdp_read_file(&s, 0, 0, room, sizeof room), CFDP_CLOSED);
+    cfdp_close(&s);
+    cfdp_close(&s);
+    IS(id.source, 7);
+    IS(info.size, 8);
+    IS(deadline, 9);
+    IS(told.kind, 0x5A);
+    IS(room[0], 1);
+    IS(live, 0);
+}
+
+#define REFUSES(change)                          \
+    do {                                         \
+        cfdp_config c = config_of(1);            \
+        change;                                  \
+        IS(cfdp_open(&s, &c), CFDP_BAD_ARGUMENT); \
+    } while (0)
+
+static void opened_so(void)
+{
+    cfdp_station s = CFDP_STATION_INIT;
+    cfdp_config c = config_of(1);
+
+    REFUSES(c.peer = 1);
+    REFUSES(c.entity = 65536);
+    REFUSES(c.peer = 65536);
+    REFUSES(c.id_width = 0);
+    REFUSES(c.id_width = 9);
+    REFUSES(c.number_width = 0);
+    REFUSES(c.number_width = 9);
+    REFUSES(c.segment = 0);
+    REFUSES(c.segment = 4097);
+    REFUSES(c.checksum = 1);
+    REFUSES(c.checksum = 16);
+    REFUSES(c.checksum = 255);
+    REFUSES(c.capacity = 8191);
+    REFUSES(c.capacity = 65537);
+    REFUSES(c.eof_time = 0);
+    REFUSES(c.nak_time = 0);
+    REFUSES(c.finished_time = 0);
+    REFUSES(c.inactivity_time = 0);
+    REFUSES(c.on_ack_limit = 4);
+    REFUSES(c.on_nak_limit = 255);
+    REFUSES(c.on_inactivity = 4);
+    REFUSES(c.down.zone = 15);
+    REFUSES(c.down.apid = 2047);
+    REFUSES(c.down.channel = 63);
+    REFUSES(c.up.zone = 2041);
+    REFUSES(c.up.apid = 65535);
+    REFUSES(c.up.channel = 255);
+    IS(cfdp_open(&s, &c), CFDP_OK);
+    IS(cfdp_open(&s, &c), CFDP_ALREADY_OPEN);
+    IS(cfdp_frame_len(&s), 264);
+    IS(cfdp_frames_ahead(&s), (16384 + 2047) / 256);
+    cfdp_close(&s);
+    IS(cfdp_poll(&s), CFDP_CLOSED);
+    IS(live, 0);
+    /* once more, in the same memory */
+    IS(cfdp_open(&s, &c), CFDP_OK);
+    cfdp_close(&s);
+    IS(live, 0);
+}
+
+static void asked_of(cfdp_station *s)
+{
+    uint8_t long_name[256];
+    cfdp_id id = {9, 9}, other = {1, 77};
+
+    memset(long_name, 'n', sizeof long_name);
+    IS(cfdp_add(s, NAME_A, 1, OCTETS, sizeof OCTETS), CFDP_OK);
+    IS(cfdp_add(s, NAME_A, 1, OCTETS, 1), CFDP_NAME_TAKEN);
+    IS(cfdp_add(s, long_name, sizeof long_name, OCTETS, 0), CFDP_OK);
+    IS(cfdp_put(s, NAME_C, 1, NAME_B, 1, &id), CFDP_NO_SUCH_FILE);
+    IS(cfdp_put(s, NAME_A, 0, NAME_B, 1, &id), CFDP_BAD_NAME);
+    IS(cfdp_put(s, NAME_A, 1, NAME_B, 0, &id), CFDP_BAD_NAME);
+    IS(cfdp_put(s, long_name, sizeof long_name, NAME_B, 1, &id), CFDP_BAD_NAME);
+    IS(id.source, 9);
+    IS(cfdp_put(s, NAME_A, 1, NAME_B, 1, &id), CFDP_OK);
+    IS(id.source, 1);
+    IS(id.number, 1);
+    IS(cfdp_cancel(s, &other), CFDP_UNKNOWN);
+    IS(cfdp_suspend(s, &other), CFDP_UNKNOWN);
+    IS(cfdp_resume(s, &id), CFDP_ALREADY_SO);
+    IS(cfdp_suspend(s, &id), CFDP_OK);
+    IS(cfdp_suspend(s, &id), CFDP_ALREADY_SO);
+    IS(cfdp_poll(s), CFDP_NOTHING);
+    IS(cfdp_resume(s, &id), CFDP_OK);
+    IS(cfdp_prompt(s, &id, true), CFDP_OK);
+    IS(cfdp_prompt(s, &id, false), CFDP_ALREADY_SO);
+}
+
+/* All that waits goes over. */
+static unsigned passed(cfdp_station *from, cfdp_station *to)
+{
+    uint8_t frame[264];
+    unsigned count = 0;
+
+    while (cfdp_poll(from) == CFDP_OK) {
+    }
+    IS(cfdp_next_frame(from, frame, 0), CFDP_NO_ROOM);
+    IS(cfdp_next_frame(from, frame, 263), CFDP_NO_ROOM);
+    IS(cfdp_flush(from), CFDP_OK);
+    while (cfdp_next_frame(from, frame, sizeof frame) == CFDP_OK) {
+        IS(cfdp_take(to, frame, sizeof frame), CFDP_OK);
+        count++;
+    }
+    IS(cfdp_next_frame(from, frame, sizeof frame), CFDP_NOTHING);
+    return count;
+}
+
+static void told_by_sender(cfdp_station *s)
+{
+    static const uint8_t kinds[] = {CFDP_TRANSACTION, CFDP_SUSPENDED, CFDP_RESUMED, CFDP_EOF_SENT,
+                                    CFDP_FINISHED};
+    cfdp_indication it;
+    uint8_t names[1];
+    size_t at;
+
+    for (at = 0; at < sizeof kinds; at++) {
+        IS(cfdp_next_indication(s, &it, names, 0), CFDP_OK);
+        IS(it.kind, kinds[at]);
+        IS(it.id.source, 1);
+        IS(it.id.number, 1);
+        IS(it.condition, it.kind == CFDP_SUSPENDED ? 14 : 0);
+        IS(it.status, it.kind == CFDP_FINISHED ? 2 : 0);
+        IS(it.delivery, 0);
+    }
+    IS(cfdp_next_indication(s, &it, names, 0), CFDP_NOTHING);
+}
+
+static void told_by_receiver(cfdp_station *s)
+{
+    cfdp_indication it;
+    uint8_t names[CFDP_NAMES];
+
+    names[0] = '?';
+    IS(cfdp_next_indication(s, &it, names, 1), CFDP_NO_ROOM);
+    IS(names[0], '?');
+    IS(cfdp_next_indication(s, &it, names, sizeof names), CFDP_OK);
+    IS(it.kind, CFDP_METADATA_RECV);
+    IS(it.size, sizeof OCTETS);
+    IS(it.source_len, 1);
+    IS(it.destination_len, 1);
+    IS(names[0], 'a');
+    IS(names[1], 'b');
+    IS(cfdp_next_indication(s, &it, names, sizeof names), CFDP_OK);
+    IS(it.kind, CFDP_EOF_RECV);
+    IS(cfdp_next_indication(s, &it, names, sizeof names), CFDP_OK);
+    IS(it.kind, CFDP_FINISHED);
+}
+
+static void published_by(cfdp_station *s)
+{
+    cfdp_file_info info = {0, 0};
+    uint8_t name[CFDP_NAME], copy[sizeof OCTETS];
+
+    IS(cfdp_file_count(s), 1);
+    IS(cfdp_file(s, 1, &info, name, sizeof name), CFDP_NOTHING);
+    IS(cfdp_file(s, (size_t)-1, &info, name, sizeof name), CFDP_NOTHING);
+    IS(cfdp_file(s, 0, &info, name, 0), CFDP_NO_ROOM);
+    IS(info.size, 0);
+    IS(cfdp_file(s, 0, &info, name, sizeof name), CFDP_OK);
+    IS(info.size, sizeof OCTETS);
+    IS(info.name_len, 1);
+    IS(name[0], 'b');
+    IS(cfdp_read_file(s, 1, 0, copy, 1), CFDP_NOTHING);
+    IS(cfdp_read_file(s, 0, 1, copy, sizeof copy), CFDP_BAD_ARGUMENT);
+    IS(cfdp_read_file(s, 0, (size_t)-1, copy, 1), CFDP_BAD_ARGUMENT);
+    IS(cfdp_read_file(s, 0, sizeof OCTETS, copy, 0), CFDP_OK);
+    IS(cfdp_read_file(s, 0, 0, copy, sizeof copy), CFDP_OK);
+    IS(memcmp(copy, OCTETS, sizeof copy), 0);
+    IS(cfdp_read_file(s, 0, 7, copy, 5), CFDP_OK);
+    IS(memcmp(copy, OCTETS + 7, 5), 0);
+}
+
+static void transferred(void)
+{
+    cfdp_station one = CFDP_STATION_INIT, two = CFDP_STATION_INIT;
+    const cfdp_config first = config_of(1), second = config_of(2);
+    uint8_t junk[264];
+    uint64_t deadline = 0;
+    cfdp_id id = {1, 1};
+    int round;
+
+    memset(junk, 0xFF, sizeof junk);
+    IS(cfdp_open(&one, &first), CFDP_OK);
+    IS(cfdp_open(&two, &second), CFDP_OK);
+    IS(cfdp_tick(&one, 5), CFDP_OK);
+    IS(cfdp_next_deadline(&one, &deadline), CFDP_NOTHING);
+    asked_of(&one);
+    IS(passed(&one, &two) != 0, 1);
+    IS(cfdp_next_deadline(&one, &deadline), CFDP_OK);
+    IS(deadline, 15);
+    IS(cfdp_prompt(&two, &id, true), CFDP_WRONG_SIDE);
+    for (round = 0; round < 3; round++) {
+        passed(&two, &one);
+        passed(&one, &two);
+    }
+    IS(cfdp_cancel(&one, &id), CFDP_ALREADY_CLOSED);
+    IS(cfdp_cancel(&two, &id), CFDP_ALREADY_CLOSED);
+    told_by_sender(&one);
+    told_by_receiver(&two);
+    published_by(&two);
+    IS(cfdp_link_drops(&two, 1), 0);
+    IS(cfdp_take(&two, junk, 0), CFDP_OK);
+    IS(cfdp_link_drops(&two, 1), 1);
+    IS(cfdp_take(&two, junk, sizeof junk), CFDP_OK);
+    IS(cfdp_link_drops(&two, 0) + cfdp_link_drops(&two, 12) + cfdp_link_drops(&two, 255), 0);
+    IS(cfdp_drops(&two, 0) + cfdp_drops(&two, 1) + cfdp_drops(&two, 255), 0);
+    cfdp_close(&one);
+    cfdp_close(&two);
+    IS(live, 0);
+}
+
+/* The PDU that is due is longer than the room that is left. */
+static void filled(void)
+{
+    cfdp_station s = CFDP_STATION_INIT;
+    cfdp_config c = config_of(1);
+    uint8_t *octets = (uint8_t *)calloc(1, 100000);
+    cfdp_id id;
+    cfdp_answer answer = CFDP_OK;
+    unsigned polls = 0;
+
+    IS(cfdp_open(&s, &c), CFDP_OK);
+    IS(cfdp_add(&s, NAME_A, 1, octets, 100000), CFDP_OK);
+    IS(cfdp_put(&s, NAME_A, 1, NAME_B, 1, &id), CFDP_OK);
+    while (answer == CFDP_OK && polls++ < 100)
+        answer = cfdp_poll(&s);
+    IS(answer, CFDP_FULL);
+    IS(cfdp_cancel(&s, &id), CFDP_OK);
+    IS(cfdp_cancel(&s, &id), CFDP_ALREADY_CLOSED);
+    cfdp_close(&s);
+    free(octets);
+    IS(live, 0);
+}
+
+/* ---- one PDU */
+
+static size_t octets_of(const char *digits, uint8_t *out)
+{
+    size_t count = 0;
+    unsigned octet;
+
+    for (; sscanf(digits, "%2x", &octet) == 1; digits += 2)
+        out[count++] = (uint8_t)octet;
+    return count;
+}
+
+static cfdp_pdu decoded(const char *digits, cfdp_answer wanted)
+{
+    uint8_t octets[64];
+    const size_t len = octets_of(digits, octets);
+    cfdp_pdu pdu;
+
+    memset(&pdu, 0, sizeof pdu);
+    IS(cfdp_decode(octets, len, &pdu), wanted);
+    return pdu;
+}
+
+static void decodes(void)
+{
+    cfdp_pdu it = decoded("3000091300010000000100020000000068656C6C6F", CFDP_OK);
+
+    IS(it.kind, 0);
+    IS(it.data_len, 5);
+    IS(it.id.source, 1);
+    IS(it.id.number, 1);
+    IS(it.destination, 2);
+    IS(it.toward_sender, 0);
+    it = decoded("20001213000100000001000207000000000505612E74787405622E747874", CFDP_OK);
+    IS(it.kind, 7);
+    IS(it.size, 5);
+    IS(it.checksum_kind, 0);
+    it = decoded("20000A1300010000000100020400D7656C6C00000005", CFDP_OK);
+    IS(it.kind, 4);
+    IS(it.checksum, 0xD7656C6C);
+    IS(it.size, 5);
+    it = decoded("280003130001000000010002064102", CFDP_OK);
+    IS(it.kind, 6);
+    IS(it.toward_sender, 1);
+    IS(it.acknowledged, 4);
+    IS(it.status, 2);
+    it = decoded("2000021300010000000100020980", CFDP_OK);
+    IS(it.kind, 9);
+    IS(it.keep_alive, 1);
+    it = decoded("2000", CFDP_BAD_PDU + 1);
+    IS(it.kind, 0);
+}
+
+/* ---- memory refused */
+
+/* A transfer, in which a call may answer that there is no memory, and none anything else. */
+static void short_of_memory(void)
+{
+    cfdp_station one = CFDP_STATION_INIT, two = CFDP_STATION_INIT;
+    const cfdp_config first = config_of(1), second = config_of(2);
+    uint8_t frame[264], names[CFDP_NAMES];
+    cfdp_indication told;
+    cfdp_id id;
+    cfdp_answer answer;
+    uint64_t now;
+    unsigned complete = 0;
+
+    answer = cfdp_open(&one, &first);
+    if (answer == CFDP_OK)
+        answer = cfdp_open(&two, &second);
+    if (answer == CFDP_OK)
+        answer = cfdp_add(&one, NAME_A, 1, OCTETS, sizeof OCTETS);
+    if (answer == CFDP_OK)
+        answer = cfdp_put(&one, NAME_A, 1, NAME_B, 1, &id);
+    IS(answer == CFDP_OK || answer == CFDP_NO_MEMORY, 1);
+    for (now = 1; now < 300 && answer == CFDP_OK; now++) {
+        cfdp_station *from = now % 2 ? &one : &two, *to = now % 2 ? &two : &one;
+        cfdp_answer polled;
+
+        IS(cfdp_tick(from, now) != CFDP_CLOSED, 1);
+        do
+            polled = cfdp_poll(from);
+        while (polled == CFDP_OK);
+        IS(polled == CFDP_NOTHING || polled == CFDP_NO_MEMORY, 1);
+        cfdp_flush(from);
+        while (cfdp_next_frame(from, frame, sizeof frame) == CFDP_OK)
+            cfdp_take(to, frame, sizeof frame);
+        while (cfdp_next_indication(&one, &told, names, sizeof names) == CFDP_OK)
+            complete += told.kind == CFDP_FINISHED && told.condition == 0;
+    }
+    if (complete != 0)
+        IS(cfdp_file_count(&two), 1);
+    if (refused_at == 0)
+        IS(complete, 1);
+    cfdp_close(&one);
+    cfdp_close(&two);
+    IS(live, 0);
+}
+
+int main(void)
+{
+    long most;
+
+    IS(sizeof(cfdp_station), 2 * sizeof(void *));
+    defaults();
+    on_a_closed_handle();
+    opened_so();
+    transferred();
+    filled();
+    decodes();
+    asked = 0;
+    short_of_memory();
+    most = asked;
+    IS(most > 10, 1);
+    for (refused_at = 1; refused_at <= most; refused_at++) {
+        asked = 0;
+        short_of_memory();
+    }
+    printf("%ld growths of memory refused in turn, %d mistakes\n", most, mistakes);
+    return mistakes == 0 ? 0 : 1;
+}
