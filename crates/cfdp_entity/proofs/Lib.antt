@@ -21,6 +21,7 @@ pub mod Routes
 pub mod Sparing
 pub mod Spelled
 pub mod Turns
+mod Walked
 pub mod CallerLemmas
 pub mod Asking
 pub mod Raised

@@ -3,11 +3,8 @@ use Rattle.std.specs.Prelude.{◌≡◌, ◌≢◌, ℕ, ◌≤◌, ◌⊎◌}
 use Rattle.cfdp_header.specs.Header.{FitsWidth, IsWidth}
 use Rattle.cfdp_directives.specs.Codes.{modular, null}
 use Rattle.cfdp_directives.specs.Limits.{IsValidTimes}
+use Rattle.cfdp_sender.specs.State.{most_segment}
 use Rattle.cfdp_entity.specs.declared.config.EntityConfig.{EntityConfig}
-
--- the most octets of a file that one PDU may carry
-abbrev pub most_segment : ℕ
-most_segment = 4096
 
 -- The two entities are two, and their ids fit their width.
 pub record HasIds (c : EntityConfig) : Type 0 where

@@ -1,5 +1,6 @@
 -- The numbers and names of refusals in reports.
-use Rattle.std.specs.Prelude.{ℕ, List, codes}
+use Rattle.std.specs.Prelude.{ℕ, List, codes, Option, Some, None}
+use Rattle.cfdp_directives.specs.declared.error.PduError.{PduError}
 use Rattle.cfdp_directives.specs.Faults.{pdu_refusal_number, pdu_refusal_name}
 use Rattle.cfdp_entity.specs.declared.error.EntityDrop.{EntityDrop}
 use Rattle.cfdp_entity.specs.declared.error.EntityDrop.TheVariants as drops
@@ -25,6 +26,11 @@ drop_name drops.Unknown = codes "Unknown"
 drop_name drops.TableFull = codes "TableFull"
 drop_name drops.NoMemory = codes "NoMemory"
 drop_name drops.NoFile = codes "NoFile"
+
+-- why octets are no PDU, of a drop for that
+abbrev pub drop_source : EntityDrop → Option PduError
+drop_source (drops.Pdu e) = Some e
+drop_source _ = None
 
 abbrev pub put_number : PutError → ℕ
 put_number puts.NoSuchFile = 1

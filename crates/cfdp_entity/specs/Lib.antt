@@ -1,4 +1,5 @@
 pub mod Config
+pub mod Fields
 pub mod Errors
 pub mod Ready
 pub mod Seen
@@ -6,6 +7,7 @@ pub mod Steps
 pub mod Opening
 pub mod Calling
 pub mod Table
+pub mod Walking
 pub mod Storing
 pub mod Timed
 pub mod Whole

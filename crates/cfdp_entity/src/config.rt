@@ -1,11 +1,12 @@
-ghost use Rattle.std.specs.Prelude.{◌↔◌, IsTrue};
+ghost use Rattle.std.specs.Prelude.{◌≡◌, ◌≢◌, ◌↔◌, IsTrue};
+ghost use Rattle.cfdp_header.specs.Header.{FitsWidth};
+ghost use Rattle.cfdp_directives.specs.Codes.{modular};
+ghost use Rattle.cfdp_directives.specs.Policy.{default_policy};
 ghost use Rattle.cfdp_entity.specs.Config.{IsConfig, HasIds, HasSending};
 
 use cfdp_directives::{ChecksumKind, Policy};
 use cfdp_header::fits_width;
-
-/// The most octets of a file that one PDU may carry.
-const MOST_SEGMENT: u16 = 4096;
+use cfdp_sender::MOST_SEGMENT;
 
 /// How an entity is set up: who it is, to whom it sends, and how.
 #[derive(Clone, Copy, Debug, PartialEq, Eq)]
@@ -30,6 +31,34 @@ pub struct EntityConfig {
 }
 
 impl EntityConfig {
+    /// An entity with these two ids, which have to differ. Ids have the least of 1, 2, 4 and 8
+    /// octets that both fit, sequence numbers 4, the first of them 1; a PDU carries 1,024 octets of
+    /// the file at most, and checksums are modular. The policy is the default one.
+    pub fn new(entity: u64, peer: u64) -> EntityConfig
+        ensures valid { entity ≢ peer → IsConfig result }
+        ensures is { result ≡ record {
+          entity = entity;
+          peer = peer;
+          id_width = result.id_width;
+          number_width = 4;
+          first_number = 1;
+          segment = 1024;
+          checksum_kind = modular;
+          policy = default_policy;
+        } }
+    {
+        EntityConfig {
+            entity,
+            peer,
+            id_width: width_of(entity, peer),
+            number_width: 4,
+            first_number: 1,
+            segment: 1024,
+            checksum_kind: ChecksumKind::MODULAR,
+            policy: Policy::default(),
+        }
+    }
+
     /// Whether an entity can be set up so: the ids differ and fit their width, both widths are 1 to
     /// 8 octets, the segment and the times are in their ranges, and the checksum is modular or null.
     pub fn is_valid(&self) -> bool
@@ -56,4 +85,17 @@ impl EntityConfig {
             && self.segment <= MOST_SEGMENT
             && (kind == 0 || kind == 15)
     }
+}
+
+/// The least of 1, 2, 4 and 8 octets that both ids fit.
+fn width_of(one: u64, other: u64) -> u8
+    ensures one { FitsWidth one result }
+    ensures other { FitsWidth other result }
+{
+    for width in [1u8, 2, 4] {
+        if fits_width(one, width) && fits_width(other, width) {
+            return width;
+        }
+    }
+    8
 }

@@ -4,6 +4,7 @@
 #![tactic(auto)]
 
 mod adding;
+mod amiss;
 mod call;
 mod calls;
 mod config;
@@ -11,6 +12,7 @@ mod entity;
 mod error;
 mod hearing;
 mod laws;
+mod looking;
 mod opening;
 mod polled;
 mod polling;
@@ -21,8 +23,16 @@ mod route;
 mod steps;
 mod stray;
 mod table;
+mod transactions;
 
+pub use amiss::EntityField;
 pub use call::Call;
+pub use cfdp_directives::{
+    ChecksumKind, Condition, Delivery, FileStatus, Handler, Handlers, Indication, Limits, Octets,
+    PduError, Phase, Policy, Times,
+};
+pub use cfdp_header::{HeaderError, TransactionId};
+pub use cfdp_store::{Inbox, Outbox, StoreError};
 pub use config::EntityConfig;
 pub use entity::Entity;
 pub use error::{AddError, CallError, EntityDrop, PutError};
@@ -31,7 +41,5 @@ pub use laws::{
     a_table_tells_no_more, an_entity_goes_on, an_entity_keeps_the_truth, an_entity_sends_the_truth,
     calls_are_steps, other_records_stay, records_stay_for_good,
 };
-pub use opening::Opened;
 pub use polled::EntityPolled;
-pub use record::{Gave, Record};
-pub use table::{MOST_RECORDS, Table};
+pub use transactions::Transactions;

@@ -7,7 +7,7 @@ ghost use Rattle.std.specs.Map.{keys_of};
 ghost use Rattle.cfdp_header.specs.Ids.{same_id};
 ghost use Rattle.cfdp_directives.specs.Addressing.{FitsAddressing};
 ghost use Rattle.cfdp_directives.specs.Content.{view};
-ghost use Rattle.cfdp_timers.specs.Due.{AreDue, due_count};
+ghost use Rattle.cfdp_timers.specs.Due.{AreDue, IsLeast, due_count};
 ghost use Rattle.cfdp_timers.specs.ButInactivity.{OnlyInactivity, IsLeastOther};
 ghost use Rattle.cfdp_store.specs.Chains.{Raises};
 ghost use Rattle.cfdp_store.specs.Stores.{Counts, failures_after};
@@ -22,6 +22,7 @@ ghost use Rattle.cfdp_entity.specs.Opening.{closing, AsksInOrder, CountsBoth};
 ghost use Rattle.cfdp_entity.specs.Sound.{longest_pdu};
 ghost use Rattle.cfdp_entity.specs.Spelled.{EntryIsSpelled};
 ghost use Rattle.cfdp_entity.specs.Storing.{AsksToHear, AsksToCall, AsksToExpire, AsksByTimer, AsksToFire, AsksToTick, AsksToOpen};
+ghost use Rattle.cfdp_entity.specs.Walking.{phases_of};
 ghost use Rattle.cfdp_entity.specs.Table as tables;
 ghost use Rattle.cfdp_entity.specs.Table.{heard_at, expired_at, called_at, taken_at, due_at, len_at, data_at, put_in, opened_by, next_due, first_table, all_expired, at_time, Ticks, SpoiledAt, phase_in};
 
@@ -31,6 +32,7 @@ use crate::opening::Opened;
 use crate::ready::Ready;
 use crate::record::{Gave, Record};
 use crate::steps;
+use crate::transactions::Transactions;
 use cfdp_directives::{Addressing, Indication, Pdu, Phase, Policy};
 use cfdp_header::TransactionId;
 use cfdp_sender::Transfer;
@@ -148,6 +150,13 @@ impl<O: Outbox, I: Inbox> Table<O, I> {
         ensures { result ≡ phase_in (slice_get self.now.state.records place) }
     {
         steps::phase_at(&self.records, place)
+    }
+
+    /// The transactions in order of opening, each with how far it has come.
+    pub fn transactions(&self) -> Transactions<'_>
+        ensures { result ≡ phases_of self.now.state }
+    {
+        Transactions::over(self.records.iter())
     }
 
     /// Why a call on the record at a place is refused, if it is.
@@ -342,6 +351,14 @@ impl<O: Outbox, I: Inbox> Table<O, I> {
             (λ deadline. IsLeastOther self.now.state.armed deadline) }
     {
         self.timers.next_but_inactivity()
+    }
+
+    /// The earliest deadline of the armed timers.
+    pub fn next_expiry(&self) -> Option<u64>
+        ensures { MatchOption result (self.now.state.armed ≡ map.empty)
+            (λ deadline. IsLeast self.now.state.armed deadline) }
+    {
+        self.timers.next()
     }
 
     /// Tells the time: the timers that are due fire, one after another.

@@ -1,50 +1,14 @@
 //! What a station dropped of what it took, as far as it was seen.
 use crate::sighting::{Deed, Log};
-use aos_frame::FrameError;
-use cfdp_directives::PduError;
-use cfdp_entity::EntityDrop;
-use cfdp_header::HeaderError;
-use cfdp_station::Station;
-use cfdp_store::{Inbox, Outbox};
+use cfdp_station::{EntityDrop, Inbox, LinkDrop, Outbox, Station};
 use link_sim::Side;
-use link_stack::LinkDrop;
 use std::io::Write;
 use std::{fmt, io};
 
-/// How many causes of drops there are.
-const KINDS: usize = 28;
+/// How many causes there are of frames, zones and packets, and how many of PDUs.
+const OF_LINK: usize = 11;
 
-/// All causes of drops: those of frames, zones and packets, and then those of PDUs.
-static CAUSES: [Cause; KINDS] = [
-    Cause::Link(LinkDrop::Frame(FrameError::Length)),
-    Cause::Link(LinkDrop::Frame(FrameError::Version)),
-    Cause::Link(LinkDrop::Frame(FrameError::OtherProfile)),
-    Cause::Link(LinkDrop::Frame(FrameError::OtherSpacecraft)),
-    Cause::Link(LinkDrop::Frame(FrameError::OtherChannel)),
-    Cause::Link(LinkDrop::Frame(FrameError::OnlyIdle)),
-    Cause::Link(LinkDrop::Resync),
-    Cause::Link(LinkDrop::BadPacket),
-    Cause::Link(LinkDrop::OtherApid),
-    Cause::Link(LinkDrop::Segmented),
-    Cause::Link(LinkDrop::NoMemory),
-    Cause::Pdu(EntityDrop::Pdu(PduError::Header(HeaderError::Short))),
-    Cause::Pdu(EntityDrop::Pdu(PduError::Header(HeaderError::Version))),
-    Cause::Pdu(EntityDrop::Pdu(PduError::Header(HeaderError::CrcPresent))),
-    Cause::Pdu(EntityDrop::Pdu(PduError::Header(HeaderError::Length))),
-    Cause::Pdu(EntityDrop::Pdu(PduError::Header(HeaderError::Unacknowledged))),
-    Cause::Pdu(EntityDrop::Pdu(PduError::Header(HeaderError::LargeFile))),
-    Cause::Pdu(EntityDrop::Pdu(PduError::Directive)),
-    Cause::Pdu(EntityDrop::Pdu(PduError::Truncated)),
-    Cause::Pdu(EntityDrop::Pdu(PduError::Trailing)),
-    Cause::Pdu(EntityDrop::Pdu(PduError::Tlv)),
-    Cause::Pdu(EntityDrop::Pdu(PduError::Condition)),
-    Cause::Pdu(EntityDrop::WrongDirection),
-    Cause::Pdu(EntityDrop::NotForUs),
-    Cause::Pdu(EntityDrop::Unknown),
-    Cause::Pdu(EntityDrop::TableFull),
-    Cause::Pdu(EntityDrop::NoMemory),
-    Cause::Pdu(EntityDrop::NoFile),
-];
+const OF_PDUS: usize = 17;
 
 /// Why a station dropped something of what it took.
 #[derive(Clone, Copy)]
@@ -53,16 +17,6 @@ enum Cause {
     Link(LinkDrop),
     /// A PDU was not heard.
     Pdu(EntityDrop),
-}
-
-impl Cause {
-    /// How often a station dropped something by it.
-    fn count<O: Outbox, I: Inbox>(self, station: &Station<O, I>) -> u64 {
-        match self {
-            Cause::Link(by) => station.link_drops(by.number()),
-            Cause::Pdu(by) => station.drops(by.number()),
-        }
-    }
 }
 
 impl fmt::Display for Cause {
@@ -74,11 +28,12 @@ impl fmt::Display for Cause {
     }
 }
 
-/// How often a station dropped something, as far as it was seen, by the cause.
+/// How often a station dropped something, as far as it was seen, by the causes in their order.
 #[derive(Drop)]
 pub struct Dropped {
     station: Side,
-    counts: [u64; KINDS],
+    link: [u64; OF_LINK],
+    pdus: [u64; OF_PDUS],
 }
 
 impl Dropped {
@@ -86,17 +41,33 @@ impl Dropped {
     pub fn new(station: Side) -> Dropped {
         Dropped {
             station,
-            counts: [0; KINDS],
+            link: [0; OF_LINK],
+            pdus: [0; OF_PDUS],
         }
     }
 
     /// Notes what the station has dropped since the last look, a line for each cause.
     pub fn look<O: Outbox, I: Inbox>(&mut self, station: &Station<O, I>, log: &mut Log) {
-        for (place, cause) in CAUSES.iter().enumerate() {
-            let count = cause.count(station);
-            if count != self.counts[place] {
-                self.counts[place] = count;
-                log.note_words(self.station, Deed::Drops, cause);
+        self.look_at_link(station, log);
+        self.look_at_pdus(station, log);
+    }
+
+    fn look_at_link<O: Outbox, I: Inbox>(&mut self, station: &Station<O, I>, log: &mut Log) {
+        for (place, by) in LinkDrop::ALL.iter().enumerate() {
+            let count = station.link_drops(by.number());
+            if count != self.link[place] {
+                self.link[place] = count;
+                log.note_words(self.station, Deed::Drops, &Cause::Link(*by));
+            }
+        }
+    }
+
+    fn look_at_pdus<O: Outbox, I: Inbox>(&mut self, station: &Station<O, I>, log: &mut Log) {
+        for (place, by) in EntityDrop::ALL.iter().enumerate() {
+            let count = station.drops(by.number());
+            if count != self.pdus[place] {
+                self.pdus[place] = count;
+                log.note_words(self.station, Deed::Drops, &Cause::Pdu(*by));
             }
         }
     }
@@ -107,13 +78,29 @@ impl Dropped {
     ///
     /// That of the writer.
     pub fn write<W: Write>(&self, out: &mut W) -> io::Result<()> {
-        let station = self.station.entity();
-        for (place, cause) in CAUSES.iter().enumerate() {
-            let count = self.counts[place];
-            if count > 0 {
-                writeln!(out, "station {station} dropped: {cause}, {count}")?;
-            }
+        self.write_link(out)?;
+        self.write_pdus(out)
+    }
+
+    fn write_link<W: Write>(&self, out: &mut W) -> io::Result<()> {
+        for (place, by) in LinkDrop::ALL.iter().enumerate() {
+            write_count(self.station, Cause::Link(*by), self.link[place], out)?;
         }
         Ok(())
     }
+
+    fn write_pdus<W: Write>(&self, out: &mut W) -> io::Result<()> {
+        for (place, by) in EntityDrop::ALL.iter().enumerate() {
+            write_count(self.station, Cause::Pdu(*by), self.pdus[place], out)?;
+        }
+        Ok(())
+    }
+}
+
+fn write_count<W: Write>(side: Side, cause: Cause, count: u64, out: &mut W) -> io::Result<()> {
+    if count > 0 {
+        let station = side.entity();
+        writeln!(out, "station {station} dropped: {cause}, {count}")?;
+    }
+    Ok(())
 }

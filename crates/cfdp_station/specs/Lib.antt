@@ -1,4 +1,5 @@
 pub mod Config
+pub mod Fields
 pub mod Station
 pub mod Link
 pub mod Polling

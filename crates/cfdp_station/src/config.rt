@@ -1,4 +1,6 @@
-ghost use Rattle.std.specs.Prelude.{◌↔◌, IsTrue};
+ghost use Rattle.std.specs.Prelude.{◌≡◌, ◌↔◌, IsTrue};
+ghost use Rattle.aos_frame.specs.Frame.{IsLink};
+ghost use Rattle.cfdp_entity.specs.Config.{IsConfig};
 ghost use Rattle.cfdp_station.specs.Config.{IsStationConfig};
 
 use cfdp_entity::EntityConfig;
@@ -18,6 +20,21 @@ pub struct StationConfig {
 }
 
 impl StationConfig {
+    /// A station with this entity, which sends and takes such frames, where 16,384 octets of
+    /// packets may wait.
+    pub fn new(entity: EntityConfig, down: LinkConfig, up: LinkConfig) -> StationConfig
+        ensures valid { IsConfig entity → IsLink down → IsLink up → IsStationConfig result }
+        ensures is { result
+            ≡ record { entity = entity; down = down; up = up; capacity = 16384 } }
+    {
+        StationConfig {
+            entity,
+            down,
+            up,
+            capacity: 16_384,
+        }
+    }
+
     /// Whether a station can be set up so: its entity and both links can, and the capacity is in
     /// its range.
     pub fn is_valid(&self) -> bool

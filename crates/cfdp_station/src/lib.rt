@@ -5,6 +5,17 @@
 //! up, in order.
 //!
 //! ```
+//! let down = LinkConfig {
+//!     spacecraft: 42,
+//!     channel: 1,
+//!     zone: 1024,
+//!     apid: 100,
+//! };
+//! let up = LinkConfig { channel: 2, ..down };
+//! let config = StationConfig::new(EntityConfig::new(1, 2), down, up);
+//! if let Some(field) = config.amiss() {
+//!     eprintln!(rt; "it can't be set up so: {field}")?;
+//! }
 //! let mut station = Station::new(alloc, config, outbox, inbox)?;
 //! station.put(b"a.txt", b"b.txt")?;
 //! while station.poll()? == Polled::Moved {}
@@ -17,13 +28,25 @@
 //! ```
 #![tactic(auto)]
 
+mod amiss;
 mod config;
+mod looking;
 mod moving;
 mod polled;
 mod station;
 
-pub use cfdp_entity::{AddError, CallError, EntityConfig, PutError};
+pub use amiss::{LinkField, StationField};
+pub use aos_frame::FrameError;
+pub use cfdp_directives::{
+    ChecksumKind, Condition, Delivery, FileStatus, Handler, Handlers, Indication, Limits, Octets,
+    PduError, Phase, Policy, Times,
+};
+pub use cfdp_entity::{
+    AddError, CallError, EntityConfig, EntityDrop, EntityField, PutError, Transactions,
+};
+pub use cfdp_header::{HeaderError, TransactionId};
+pub use cfdp_store::{Inbox, Outbox, StoreError};
 pub use config::StationConfig;
-pub use link_stack::LinkConfig;
+pub use link_stack::{LinkConfig, LinkDrop};
 pub use polled::Polled;
 pub use station::Station;

@@ -50,8 +50,8 @@ use std::marker::Model;
 /// `next_frame` take no memory, and `poll` none but what the entity's indications need.
 #[derive(Drop)]
 pub struct Station<O: Outbox, I: Inbox> {
-    entity: Entity<O, I>,
-    down: Down,
+    pub(crate) entity: Entity<O, I>,
+    pub(crate) down: Down,
     up: Up,
     // room for one PDU of the capacity
     buffer: Vec<u8>,
@@ -223,24 +223,27 @@ impl<O: Outbox, I: Inbox> Station<O, I> {
         self.entity.phase(id)
     }
 
-    /// How often a PDU that came up was dropped by the cause with this number, 1 to 17; 0 of any
-    /// other number. The count stays at the greatest `u64`.
+    /// How often a PDU that came up was dropped by the cause with this number, 1 to 17, which
+    /// [`EntityDrop`](crate::EntityDrop) names; 0 of any other number. The count stays at the
+    /// greatest `u64`.
     pub fn drops(&self, number: u8) -> u64
         ensures { result ≡ get_or self.now.entity.state.drops number 0 }
     {
         self.entity.drops(number)
     }
 
-    /// How often something of the frames taken was dropped under a number, 1 to 11; 0 of any other
-    /// number. The count stays at the greatest `u64`.
+    /// How often something of the frames taken was dropped under a number, 1 to 11, which
+    /// [`LinkDrop`](crate::LinkDrop) names; 0 of any other number. The count stays at the greatest
+    /// `u64`.
     pub fn link_drops(&self, number: u8) -> u64
         ensures { result ≡ count_of self.now.up.drops number }
     {
         self.up.drops(number)
     }
 
-    /// The earliest deadline of the armed timers but those of kind Inactivity; `None` where no other
-    /// is armed.
+    /// The earliest deadline of the armed timers but those of kind Inactivity, in units of the clock
+    /// that [`tick`](Self::tick) is told; `None` where no other is armed.
+    /// [`next_expiry`](Self::next_expiry) tells that of all.
     pub fn next_deadline(&self) -> Option<u64>
         ensures { MatchOption result (OnlyInactivity self.now.entity.state.table.armed)
             (λ deadline. IsLeastOther self.now.entity.state.table.armed deadline) }
@@ -312,8 +315,8 @@ impl<O: Outbox, I: Inbox> Station<O, I> {
         self.down.flush();
     }
 
-    /// The most whole frames that can wait after a poll or a flush: a caller that has room for so
-    /// many can take them all.
+    /// The most whole frames that can ever wait after a poll or a flush: a bound that never changes,
+    /// not how many wait now. A caller that has room for so many can take them all.
     pub fn frames_ahead(&self) -> usize
         ensures enough { HoldsAtMost result self.now.down }
         ensures no_more { result * self.now.down.link.zone ≤ self.now.down.capacity + 2047 }

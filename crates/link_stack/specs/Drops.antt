@@ -1,5 +1,6 @@
 -- What is dropped on the way up, and the counts of it.
-use Rattle.std.specs.Prelude.{ℕ, ◌+◌, ◌-◌, ◌^◌, min, max, List, [], ◌∷◌, ◌==◌, if◌then◌else◌, codes, slice_index_or, slice_set}
+use Rattle.std.specs.Prelude.{ℕ, ◌+◌, ◌-◌, ◌^◌, min, max, Option, Some, None, List, [], ◌∷◌, ◌==◌, if◌then◌else◌, codes, slice_index_or, slice_set}
+use Rattle.aos_frame.specs.declared.error.FrameError.{FrameError}
 use Rattle.aos_frame.specs.Frame.{refusal_number, refusal_name}
 use Rattle.link_stack.specs.declared.drops.LinkDrop.{LinkDrop}
 use Rattle.link_stack.specs.declared.drops.LinkDrop.TheVariants.{Frame, Resync, BadPacket, OtherApid, Segmented, NoMemory}
@@ -20,6 +21,11 @@ drop_name BadPacket = codes "BadPacket"
 drop_name OtherApid = codes "OtherApid"
 drop_name Segmented = codes "Segmented"
 drop_name NoMemory = codes "NoMemory"
+
+-- why octets are no frame of the link, of a drop for that
+abbrev pub drop_source : LinkDrop → Option FrameError
+drop_source (Frame error) = Some error
+drop_source _ = None
 
 -- one more, save at the greatest value
 abbrev pub raised : ℕ → ℕ

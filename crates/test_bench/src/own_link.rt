@@ -1,6 +1,5 @@
 //! How a program drives a station over a link of its own. README.md shows it.
-use cfdp_station::{Polled, Station};
-use cfdp_store::{Inbox, Outbox};
+use cfdp_station::{EntityConfig, Inbox, LinkConfig, Outbox, Polled, Station, StationConfig};
 use std::alloc::{AllocError, Global};
 
 /// A link that a program has.
@@ -10,6 +9,24 @@ pub trait Link {
 
     /// The next frame that came from there, if there is one.
     fn receive(&mut self) -> Option<Vec<u8>>;
+}
+
+/// Entity 1, whose peer is entity 2. The other station has the same with both ids exchanged, and
+/// what is `down` here as its `up`.
+pub fn default_station<O: Outbox, I: Inbox>(
+    alloc: Global,
+    outbox: O,
+    inbox: I,
+) -> Result<Station<O, I>, AllocError> {
+    let down = LinkConfig {
+        spacecraft: 42,
+        channel: 1,
+        zone: 1024,
+        apid: 100,
+    };
+    let up = LinkConfig { channel: 2, ..down };
+    let config = StationConfig::new(EntityConfig::new(1, 2), down, up);
+    Station::new(alloc, config, outbox, inbox)
 }
 
 /// One turn of a station: it is told the time, hears a frame, and sends what is due.

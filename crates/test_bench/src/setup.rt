@@ -2,7 +2,11 @@
 //! differ.
 //!
 //!     valid WORDS    whether the first station can be set up so
+//!     amiss WORDS    what stands against it
+//!     new ID ID      of an entity with these ids, its own and its peer's, and all else by default:
+//!                    the width of ids, and whether it can be set up so
 use crate::bench::{Bench, played, unknown};
+use crate::words::{number, pair};
 use cfdp_directives::{ChecksumKind, Handler, Handlers, Limits, Policy, Times};
 use cfdp_station::{EntityConfig, LinkConfig, StationConfig};
 use std::alloc::AllocError;
@@ -20,9 +24,29 @@ impl Bench for SetupBench {
     fn does(&mut self, verb: &str, words: &str, out: &mut String) -> Result<(), AllocError> {
         match verb {
             "valid" => write!(out, " {}\n", first_station(words).is_valid()),
+            "amiss" => tell_amiss(&first_station(words), out),
+            "new" => tell_new(words, out),
             _ => unknown(out),
         }
     }
+}
+
+fn tell_amiss(config: &StationConfig, out: &mut String) -> Result<(), AllocError> {
+    match config.amiss() {
+        Some(field) => write!(out, " {field:?}: {field}\n"),
+        None => write!(out, " nothing\n"),
+    }
+}
+
+fn tell_new(words: &str, out: &mut String) -> Result<(), AllocError> {
+    let (entity, peer) = pair(words);
+    let config = EntityConfig::new(number(entity), number(peer));
+    write!(
+        out,
+        " {} octets an id, {}\n",
+        config.id_width,
+        config.is_valid()
+    )
 }
 
 /// The keys, in the order of their numbers. `octets` says how much of `hello` is in `a.txt`. From

@@ -16,7 +16,14 @@
 //!     tick TIME   to take note of the time
 //!     told        to tell all that was indicated
 //!     of S:N      the same, of one transaction
+//!     since N     to tell what was indicated behind the first N
+//!     phases      to tell how far each transaction has come
+//!     left        to say how many more transactions there is room for
+//!     next        to say when the next timer expires: of those but Inactivity's, and of all
+//!     debug       to write the station as it is written for debugging
+//!     own         to make a station as the documentation does, and to write that
 //!     drops       to tell what was dropped, of the link and of the PDUs that came up, by number
+//!     why         to tell what was dropped, in words, with the refusal of the octets
 //!     inbox       to tell each published file, with its length and its checksum
 //!
 //! And of lines that are parted by `; `, which new stations go through for each number N from 0 on
@@ -30,14 +37,15 @@ use crate::own_link::{self, Link};
 use crate::setup::{first_station, second_station};
 use crate::strangers::{self, Fate, Target};
 use crate::telling::{id_of, tell};
-use crate::words::{id, number, octets, pair, tell_octets};
+use crate::words::{count, id, number, octets, pair, tell_octets};
 use cfdp_directives::Checksum;
 use cfdp_header::TransactionId;
-use cfdp_station::{Polled, Station, StationConfig};
+use cfdp_station::{EntityDrop, LinkDrop, Polled, Station, StationConfig};
 use cfdp_store::{Files, Inbox, MemoryInbox, MemoryOutbox};
 use link_stack::Up;
 use std::alloc::{AllocError, Global};
 use std::collections::VecDeque;
+use std::fmt::{Debug, Display};
 use std::marker::Model;
 
 /// The last of the numbers by which whole frames are refused, by which the link drops anything, and
@@ -264,6 +272,25 @@ fn counted(alloc: Global) -> Result<Vec<u8>, AllocError> {
     Ok(octets)
 }
 
+/// Makes a station as the documentation does, and writes it.
+fn tell_own(alloc: Global, out: &mut String) -> Result<(), AllocError> {
+    let station = own_link::default_station(alloc, files(alloc)?, MemoryInbox::new(alloc))?;
+    write!(out, " {station:?}\n")
+}
+
+/// Tells a cause that dropped something, and its source where it has one.
+fn tell_why<D: Display, S: Debug>(
+    count: u64,
+    by: &D,
+    source: &Option<S>,
+    out: &mut String,
+) -> Result<(), AllocError> {
+    if count != 0 {
+        write!(out, " {count} {by} {source:?}\n")?;
+    }
+    Ok(())
+}
+
 impl Bench for StationBench {
     fn does(&mut self, verb: &str, words: &str, out: &mut String) -> Result<(), AllocError> {
         match verb {
@@ -274,6 +301,7 @@ impl Bench for StationBench {
             "flush" => Ok(self.station.flush()),
             "take" => Ok(self.take(&octets(self.alloc, words)?)),
             "of" => self.tells_of(id(words), out),
+            "since" => self.tells_since(count(words), out),
             "tick" => self.station.tick(number(words)),
             "prefixes" | "replaced" | "storm" => {
                 strangers::asks(self.alloc, self, verb, words, out)
@@ -429,8 +457,53 @@ impl StationBench {
             "told" => self.tells(out),
             "drops" => self.tells_drops(out),
             "inbox" => self.tells_inbox(out),
+            _ => self.shows(verb, out),
+        }
+    }
+
+    /// What a user can look at.
+    fn shows(&self, verb: &str, out: &mut String) -> Result<(), AllocError> {
+        match verb {
+            "phases" => self.tells_phases(out),
+            "left" => write!(out, " {}\n", self.station.records_left()),
+            "next" => self.tells_next(out),
+            "debug" => write!(out, " {:?}\n", self.station),
+            "own" => tell_own(self.alloc, out),
+            "why" => self.tells_why(out),
             _ => unknown(out),
         }
+    }
+
+    fn tells_phases(&self, out: &mut String) -> Result<(), AllocError> {
+        for (id, phase) in self.station.transactions() {
+            write!(out, " {}:{} {phase:?}\n", id.source, id.number)?;
+        }
+        Ok(())
+    }
+
+    fn tells_next(&self, out: &mut String) -> Result<(), AllocError> {
+        let deadline = self.station.next_deadline();
+        let expiry = self.station.next_expiry();
+        write!(out, " {deadline:?} {expiry:?}\n")
+    }
+
+    fn tells_since(&self, mark: usize, out: &mut String) -> Result<(), AllocError> {
+        for told in self.station.indications_since(mark) {
+            tell(told, out)?;
+        }
+        Ok(())
+    }
+
+    fn tells_why(&self, out: &mut String) -> Result<(), AllocError> {
+        for number in 0..=u8::MAX {
+            if let Some(by) = LinkDrop::from_number(number) {
+                tell_why(self.station.link_drops(number), &by, &by.source(), out)?;
+            }
+            if let Some(by) = EntityDrop::from_number(number) {
+                tell_why(self.station.drops(number), &by, &by.source(), out)?;
+            }
+        }
+        Ok(())
     }
 
     fn puts(&mut self, source: &str, out: &mut String) -> Result<(), AllocError> {

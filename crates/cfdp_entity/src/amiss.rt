@@ -1,0 +1,116 @@
+// Which field of a configuration isn't as it has to be.
+ghost use Rattle.std.specs.Prelude.{◌↔◌, IsTrue, MatchOption};
+ghost use Rattle.cfdp_header.specs.Header.{IsWidth};
+ghost use Rattle.cfdp_directives.specs.Limits.{IsValidTimes};
+ghost use Rattle.cfdp_entity.specs.Config.{IsConfig, HasIds, HasSending};
+ghost use Rattle.cfdp_entity.specs.Fields.{Fits};
+
+use crate::config::EntityConfig;
+use cfdp_directives::ChecksumKind;
+use cfdp_header::fits_width;
+use cfdp_sender::MOST_SEGMENT;
+use thiserror::Error;
+
+/// A field of an [`EntityConfig`](crate::EntityConfig) that isn't as it has to be.
+#[derive(Clone, Copy, Debug, PartialEq, Eq, Error)]
+pub enum EntityField {
+    /// The width of ids.
+    #[error("the width of ids is not 1 to 8 octets")]
+    IdWidth,
+    /// The entity's own id.
+    #[error("the entity's id does not fit the width of ids")]
+    Entity,
+    /// The peer's id.
+    #[error("the peer's id does not fit the width of ids, or is the entity's own")]
+    Peer,
+    /// The width of sequence numbers.
+    #[error("the width of sequence numbers is not 1 to 8 octets")]
+    NumberWidth,
+    /// The octets of the file in one PDU.
+    #[error("the segment is not 1 to 4096 octets")]
+    Segment,
+    /// The kind of checksum.
+    #[error("the checksum is neither modular nor null")]
+    ChecksumKind,
+    /// How long the ACK of an EOF is waited for.
+    #[error("the time of EOF is 0")]
+    EofTime,
+    /// How long what a NAK asked for is waited for.
+    #[error("the time of NAK is 0")]
+    NakTime,
+    /// How long the ACK of a Finished is waited for.
+    #[error("the time of Finished is 0")]
+    FinishedTime,
+    /// How long any PDU of a transaction is waited for.
+    #[error("the time of inactivity is 0")]
+    InactivityTime,
+}
+
+impl EntityConfig {
+    /// A field that isn't as it has to be; `None` exactly where the configuration is valid.
+    pub fn amiss(&self) -> Option<EntityField>
+        ensures { MatchOption result (IsConfig self.now) (λ field. Fits field self.now → ⊥) }
+    {
+        if let Some(field) = self.ids_amiss() {
+            return Some(field);
+        }
+        if let Some(field) = self.sending_amiss() {
+            return Some(field);
+        }
+        self.times_amiss()
+    }
+
+    fn ids_amiss(&self) -> Option<EntityField>
+        ensures { MatchOption result (HasIds self.now) (λ field. Fits field self.now → ⊥) }
+    {
+        if !is_width(self.id_width) {
+            Some(EntityField::IdWidth)
+        } else if !fits_width(self.entity, self.id_width) {
+            Some(EntityField::Entity)
+        } else if self.entity == self.peer || !fits_width(self.peer, self.id_width) {
+            Some(EntityField::Peer)
+        } else {
+            None
+        }
+    }
+
+    fn sending_amiss(&self) -> Option<EntityField>
+        ensures { MatchOption result (HasSending self.now) (λ field. Fits field self.now → ⊥) }
+    {
+        let kind = self.checksum_kind.code();
+        if !is_width(self.number_width) {
+            Some(EntityField::NumberWidth)
+        } else if self.segment == 0 || MOST_SEGMENT < self.segment {
+            Some(EntityField::Segment)
+        } else if kind != ChecksumKind::MODULAR.code() && kind != ChecksumKind::NULL.code() {
+            Some(EntityField::ChecksumKind)
+        } else {
+            None
+        }
+    }
+
+    fn times_amiss(&self) -> Option<EntityField>
+        ensures { MatchOption result (IsValidTimes self.now.policy.times)
+            (λ field. Fits field self.now → ⊥) }
+    {
+        let times = &self.policy.times;
+        if times.eof == 0 {
+            Some(EntityField::EofTime)
+        } else if times.nak == 0 {
+            Some(EntityField::NakTime)
+        } else if times.finished == 0 {
+            Some(EntityField::FinishedTime)
+        } else if times.inactivity == 0 {
+            Some(EntityField::InactivityTime)
+        } else {
+            None
+        }
+    }
+}
+
+/// Whether ids or sequence numbers may have so many octets.
+fn is_width(width: u8) -> bool
+    ensures { IsTrue result ↔ IsWidth width }
+{
+    1 <= width && width <= 8
+}

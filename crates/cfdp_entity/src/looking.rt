@@ -1,0 +1,70 @@
+// What a user can look at, beside what every driver asks for.
+ghost use Rattle.std.specs.Prelude.{◌≡◌, ◌+◌, drop, length, MatchOption};
+ghost use Rattle.std.specs.FinMap as map;
+ghost use Rattle.cfdp_timers.specs.Due.{IsLeast};
+ghost use Rattle.cfdp_entity.specs.Walking.{phases_of};
+
+use crate::entity::Entity;
+use crate::table::MOST_RECORDS;
+use crate::transactions::Transactions;
+use cfdp_directives::Indication;
+use cfdp_store::{Inbox, Outbox};
+use std::fmt;
+
+impl<O: Outbox, I: Inbox> Entity<O, I> {
+    /// The transactions that have a record here, closed ones too, in order of opening, each with
+    /// how far it has come.
+    pub fn transactions(&self) -> Transactions<'_>
+        ensures { result ≡ phases_of self.now.state.table }
+    {
+        self.table.transactions()
+    }
+
+    /// How many more transactions there is room for: each has one of 4,096 records, which it keeps
+    /// for good.
+    pub fn records_left(&self) -> usize
+        ensures { result + length self.now.state.table.records ≡ 4096 }
+    {
+        MOST_RECORDS - self.table.len()
+    }
+
+    /// The earliest deadline of all armed timers, those of kind Inactivity among them, in units of
+    /// the clock that `tick` is told; `None` where none is armed. It goes over all records, which
+    /// `next_deadline` doesn't.
+    pub fn next_expiry(&self) -> Option<u64>
+        ensures { MatchOption result (self.now.state.table.armed ≡ map.empty)
+            (λ deadline. IsLeast self.now.state.table.armed deadline) }
+    {
+        self.table.next_expiry()
+    }
+
+    /// What was indicated behind the first so many indications, in order; none where there are no
+    /// more. Who adds up how many it has been given takes out each one once.
+    pub fn indications_since(&self, mark: usize) -> &[Indication]
+        ensures { result.now ≡ drop mark self.now.state.table.told }
+    {
+        behind(self.table.told(), mark)
+    }
+}
+
+/// What stands behind the first so many.
+fn behind(told: &[Indication], mark: usize) -> &[Indication]
+    ensures { result.now ≡ drop mark told.now }
+{
+    match told.get(mark..) {
+        Some(rest) => rest,
+        None => &[],
+    }
+}
+
+impl<O: Outbox, I: Inbox> fmt::Debug for Entity<O, I> {
+    /// Its id and its peer's, and how many records and indications it has.
+    fn fmt<W: fmt::Write>(&self, f: &mut fmt::Formatter<W>) -> fmt::Result {
+        f.debug_struct("Entity")
+            .field("entity", &self.config.entity)
+            .field("peer", &self.config.peer)
+            .field("records", &self.table.len())
+            .field("indications", &self.table.told().len())
+            .finish()
+    }
+}

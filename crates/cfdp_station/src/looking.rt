@@ -1,0 +1,65 @@
+// What a user can look at, beside what every driver asks for.
+ghost use Rattle.std.specs.Prelude.{◌≡◌, ◌+◌, drop, length, MatchOption};
+ghost use Rattle.std.specs.FinMap as map;
+ghost use Rattle.cfdp_timers.specs.Due.{IsLeast};
+ghost use Rattle.cfdp_entity.specs.Walking.{phases_of};
+
+use crate::station::Station;
+use cfdp_directives::Indication;
+use cfdp_entity::Transactions;
+use cfdp_store::{Inbox, Outbox};
+use std::fmt;
+
+impl<O: Outbox, I: Inbox> Station<O, I> {
+    /// The transactions that have a record here, closed ones too, in order of opening, each with
+    /// how far it has come.
+    pub fn transactions(&self) -> Transactions<'_>
+        ensures { result ≡ phases_of self.now.entity.state.table }
+    {
+        self.entity.transactions()
+    }
+
+    /// How many more transactions there is room for: each has one of 4,096 records, which it keeps
+    /// for good.
+    pub fn records_left(&self) -> usize
+        ensures { result + length self.now.entity.state.table.records ≡ 4096 }
+    {
+        self.entity.records_left()
+    }
+
+    /// The earliest deadline of all armed timers, those of kind Inactivity among them, in units of
+    /// the clock that [`tick`](Self::tick) is told; `None` where none is armed. It goes over all
+    /// records, which [`next_deadline`](Self::next_deadline) doesn't.
+    pub fn next_expiry(&self) -> Option<u64>
+        ensures { MatchOption result (self.now.entity.state.table.armed ≡ map.empty)
+            (λ deadline. IsLeast self.now.entity.state.table.armed deadline) }
+    {
+        self.entity.next_expiry()
+    }
+
+    /// What was indicated behind the first so many indications, in order; none where there are no
+    /// more. Who adds up how many it has been given takes out each one once.
+    ///
+    /// ```
+    /// let news = station.indications_since(seen);
+    /// for told in news {
+    ///     // What became of a transaction.
+    /// }
+    /// seen += news.len();
+    /// ```
+    pub fn indications_since(&self, mark: usize) -> &[Indication]
+        ensures { result.now ≡ drop mark self.now.entity.state.table.told }
+    {
+        self.entity.indications_since(mark)
+    }
+}
+
+impl<O: Outbox, I: Inbox> fmt::Debug for Station<O, I> {
+    /// Its entity, and how many octets wait to be made frames.
+    fn fmt<W: fmt::Write>(&self, f: &mut fmt::Formatter<W>) -> fmt::Result {
+        f.debug_struct("Station")
+            .field("entity", &self.entity)
+            .field("waiting", &self.down.waiting_len())
+            .finish()
+    }
+}
