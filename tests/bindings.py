@@ -40,8 +40,8 @@ def text_of(path):
 
 # ---- the header, ffi.rs and the crate, as the same words
 
-TYPES = {"uint8_t": "u8", "uint16_t": "u16", "uint32_t": "u32", "uint64_t": "u64", "size_t": "usize"}
-TYPES |= {"bool": "bool", "void": "()", "cfdp_answer": "u32", "void *": "pointer"}
+TYPES = {"uint8_t": "u8", "uint16_t": "u16", "uint32_t": "u32", "uint64_t": "u64"}
+TYPES |= {"size_t": "usize", "bool": "bool", "void": "()", "cfdp_answer": "u32"}
 
 # the structs of the header, and how the crate and ffi.rs name them
 STRUCTS = {"cfdp_link": ("CfdpLink", "Link"), "cfdp_config": ("CfdpConfig", "Config")}
@@ -151,7 +151,8 @@ def declaration_mistakes():
 def number_mistakes():
     """Where the header has other numbers than specs/Codes.antt."""
     header = text_of(f"{C}/cfdp.h")
-    numbers = {int(it) for it in re.findall(r"^    CFDP_\w+ = (\d+),", header.split("cfdp_link")[0], re.M)}
+    answers = header.split("cfdp_link")[0]
+    numbers = {int(it) for it in re.findall(r"^    CFDP_\w+ = (\d+),", answers, re.M)}
     spec = text_of(f"{CRATE}/specs/Codes.antt")
     wanted = {int(it) for it in re.findall(r"^\w[\w. ]* = (\d+)$", spec, re.M)}
     if numbers != wanted:
@@ -281,9 +282,9 @@ class Bindings:
         with tempfile.TemporaryDirectory(dir=self.room) as folder:
             words = ["--listen", f"127.0.0.1:{ports[1]}", "--to", f"127.0.0.1:{ports[0]}"]
             ids = ["--id", "2", "--peer", "1", "--inbox", folder, "--idle", "4"]
-            patient = [it for key in ("eof", "nak", "finished") for it in ("--set", f"{key}_time", "1")]
-            limits = [it for key in ("eof", "nak", "finished") for it in ("--set", f"{key}_limit", "255")]
-            node = [self.program, "station", *ids, *words, *patient, *limits]
+            settings = stations.PATIENT.items()
+            sets = [it for key, value in settings for it in ("--set", key, str(value))]
+            node = [self.program, "station", *ids, *words, *sets]
             with subprocess.Popen(node, stdout=subprocess.PIPE, stderr=subprocess.STDOUT) as peer:
                 yield from run_mistakes([made, "udp", str(ports[0]), str(ports[1]), str(octets)])
                 told = peer.communicate(timeout=SECONDS)[0].decode()

@@ -65,7 +65,8 @@ static void check(int line, const char *what, unsigned long long told, unsigned 
     }
 }
 
-#define IS(call, wanted) check(__LINE__, #call, (unsigned long long)(call), (unsigned long long)(wanted))
+#define IS(call, wanted) \
+    check(__LINE__, #call, (unsigned long long)(call), (unsigned long long)(wanted))
 
 static const uint8_t NAME_A[] = {'a'}, NAME_B[] = {'b'}, NAME_C[] = {'c'};
 static const uint8_t OCTETS[] = "hello, hello, hello, hello, hello";

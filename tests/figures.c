@@ -1,5 +1,5 @@
-/* What the static library takes: time for a frame down and up, beside memcpy of the same octets; time
- * for a whole file; stack. tests/bindings.py --figures builds and runs it. */
+/* What the static library takes: time for a frame down and up, beside memcpy of the same octets;
+ * time for a whole file; stack. tests/bindings.py --figures builds and runs it. */
 #define _POSIX_C_SOURCE 200809L
 #include "cfdp.h"
 

@@ -1,5 +1,5 @@
 -- What a user's calls answer and do, in the words of the station's own clauses.
-use Rattle.std.specs.Prelude.{◌≡◌, ◌≤◌, ℕ, max, List, [], false, Option, Some, None, MatchOption, Result, IfOk, IfErr, OnOk, OnErr}
+use Rattle.std.specs.Prelude.{◌≡◌, ◌≤◌, ℕ, max, List, Option, MatchOption, Result, IfOk, IfErr, OnOk, OnErr}
 use Rattle.std.specs.FinMap as map
 use Rattle.std.specs.declared.alloc.AllocError.{AllocError}
 use Rattle.cfdp_header.specs.declared.value.TransactionId.{TransactionId}

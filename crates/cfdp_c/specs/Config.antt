@@ -1,7 +1,6 @@
 -- How a caller says what a station is set up as.
 use Rattle.std.specs.Prelude.{ℕ, ◌<◌, ◌==◌, if◌then◌else◌}
 use Rattle.aos_frame.specs.declared.config.LinkConfig.{LinkConfig}
-use Rattle.cfdp_header.specs.declared.value.TransactionId.{TransactionId}
 use Rattle.cfdp_directives.specs.declared.handler.Handler.{Handler}
 use Rattle.cfdp_directives.specs.declared.handler.Handler.TheVariants as does
 use Rattle.cfdp_directives.specs.declared.policy.Policy.{Policy}
@@ -14,13 +13,25 @@ use Rattle.cfdp_c.specs.declared.config.CfdpLink.{CfdpLink}
 -- what the number 0, 1, 2 or 3 stands for
 abbrev pub handler_of : ℕ → Handler
 handler_of number =
-    if number == 0 then does.Cancel else if number == 1 then does.Suspend else if number == 2 then does.Ignore else does.Abandon
+    if number == 0 then does.Cancel
+    else if number == 1 then does.Suspend
+    else if number == 2 then does.Ignore
+    else does.Abandon
 
 abbrev pub policy_of : CfdpConfig → Policy
 policy_of c = record {
   limits = record { eof = c.eof_limit; nak = c.nak_limit; finished = c.finished_limit };
-  times = record { eof = c.eof_time; nak = c.nak_time; finished = c.finished_time; inactivity = c.inactivity_time };
-  handlers = record { ack = handler_of c.on_ack_limit; nak = handler_of c.on_nak_limit; inactivity = handler_of c.on_inactivity };
+  times = record {
+    eof = c.eof_time;
+    nak = c.nak_time;
+    finished = c.finished_time;
+    inactivity = c.inactivity_time;
+  };
+  handlers = record {
+    ack = handler_of c.on_ack_limit;
+    nak = handler_of c.on_nak_limit;
+    inactivity = handler_of c.on_inactivity;
+  };
 }
 
 abbrev pub entity_of : CfdpConfig → EntityConfig
@@ -40,7 +51,12 @@ link_of l = record { spacecraft = l.spacecraft; channel = l.channel; zone = l.zo
 
 -- the same as the station's own configuration
 abbrev pub config_of : CfdpConfig → StationConfig
-config_of c = record { entity = entity_of c; down = link_of c.down; up = link_of c.up; capacity = c.capacity }
+config_of c = record {
+  entity = entity_of c;
+  down = link_of c.down;
+  up = link_of c.up;
+  capacity = c.capacity;
+}
 
 -- The numbers that stand for something do.
 pub record HasNames (c : CfdpConfig) : Type 0 where

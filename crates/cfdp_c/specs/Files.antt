@@ -4,27 +4,34 @@ use Rattle.cfdp_c.specs.Codes.{ok, bad_argument, no_room, nothing}
 use Rattle.cfdp_c.specs.Told.{over}
 use Rattle.cfdp_c.specs.declared.files.CfdpFile.{CfdpFile}
 
-abbrev pub NamesIf : Bool → (name octets : List ℕ) → ℕ → (out_before out_now : CfdpFile) → (room_before room_now : List ℕ) → Type 0
+abbrev pub NamesIf : Bool → (name octets : List ℕ) → ℕ → (out_before out_now : CfdpFile)
+    → (room_before room_now : List ℕ) → Type 0
 NamesIf true name octets answer out_before out_now room_before room_now =
-    (answer ≡ ok) × (out_now ≡ record { name_len = length name; size = length octets }) × (room_now ≡ over name room_before)
+    (answer ≡ ok) × (out_now ≡ record { name_len = length name; size = length octets })
+    × (room_now ≡ over name room_before)
 NamesIf false name octets answer out_before out_now room_before room_now =
     (answer ≡ no_room) × (out_now ≡ out_before) × (room_now ≡ room_before)
 
 -- The name and the size of this file were told, if there is one, and room for its name.
-abbrev pub NamesFile : Option (List ℕ × List ℕ) → ℕ → (out_before out_now : CfdpFile) → (room_before room_now : List ℕ) → Type 0
+abbrev pub NamesFile : Option (List ℕ × List ℕ) → ℕ → (out_before out_now : CfdpFile)
+    → (room_before room_now : List ℕ) → Type 0
 NamesFile None answer out_before out_now room_before room_now =
     (answer ≡ nothing) × (out_now ≡ out_before) × (room_now ≡ room_before)
 NamesFile (Some f) answer out_before out_now room_before room_now =
-    NamesIf (nat_le (length f.0) (length room_before)) f.0 f.1 answer out_before out_now room_before room_now
+    NamesIf (nat_le (length f.0) (length room_before)) f.0 f.1 answer out_before out_now
+    room_before room_now
 
-abbrev pub ReadsIf : Bool → (octets : List ℕ) → (offset answer : ℕ) → (room_before room_now : List ℕ) → Type 0
+abbrev pub ReadsIf : Bool → (octets : List ℕ) → (offset answer : ℕ)
+    → (room_before room_now : List ℕ) → Type 0
 ReadsIf true octets offset answer room_before room_now =
     (answer ≡ ok) × (room_now ≡ take (length room_before) (drop offset octets))
 ReadsIf false octets offset answer room_before room_now =
     (answer ≡ bad_argument) × (room_now ≡ room_before)
 
 -- The room was filled with octets of this file, from an offset on, if it has them all.
-abbrev pub ReadsFile : Option (List ℕ × List ℕ) → (offset answer : ℕ) → (room_before room_now : List ℕ) → Type 0
+abbrev pub ReadsFile : Option (List ℕ × List ℕ) → (offset answer : ℕ)
+    → (room_before room_now : List ℕ) → Type 0
 ReadsFile None offset answer room_before room_now = (answer ≡ nothing) × (room_now ≡ room_before)
 ReadsFile (Some f) offset answer room_before room_now =
-    ReadsIf (nat_le (offset + length room_before) (length f.1)) f.1 offset answer room_before room_now
+    ReadsIf (nat_le (offset + length room_before) (length f.1)) f.1 offset answer
+    room_before room_now

@@ -1,5 +1,5 @@
 -- Indications and PDUs as plain structs.
-use Rattle.std.specs.Prelude.{◌≡◌, ◌++◌, ℕ, Bool, true, false, List, [], length, drop, nat_le, Option, Some, None, if◌then◌else◌}
+use Rattle.std.specs.Prelude.{◌≡◌, ◌++◌, ℕ, Bool, true, false, List, [], length, drop, nat_le, Option, Some, None}
 use Rattle.cfdp_header.specs.declared.value.Header.{Header}
 use Rattle.cfdp_header.specs.declared.value.TransactionId.{TransactionId}
 use Rattle.cfdp_directives.specs.Codes.{delivery_code, file_status_code, transaction_status_code, acknowledged_code}
@@ -31,10 +31,12 @@ abbrev pub told_of : Indication → CfdpIndication
 told_of (told.Transaction id) = of_kind 1 id
 told_of (told.EofSent id) = of_kind 2 id
 told_of (told.MetadataRecv id source destination size) =
-    record (of_kind 3 id) { size = size; source_len = length source; destination_len = length destination }
+    record (of_kind 3 id)
+    { size = size; source_len = length source; destination_len = length destination }
 told_of (told.EofRecv id) = of_kind 4 id
 told_of (told.Finished id condition delivery status) =
-    record (of_kind 5 id) { condition = condition; delivery = delivery_code delivery; status = file_status_code status }
+    record (of_kind 5 id)
+    { condition = condition; delivery = delivery_code delivery; status = file_status_code status }
 told_of (told.Suspended id condition) = record (of_kind 6 id) { condition = condition }
 told_of (told.Resumed id) = of_kind 7 id
 told_of (told.Fault id condition) = record (of_kind 8 id) { condition = condition }
@@ -50,18 +52,21 @@ names_of _ = []
 abbrev pub over : (octets room : List ℕ) → List ℕ
 over octets room = octets ++ drop (length octets) room
 
-abbrev pub TellsIf : Bool → Indication → ℕ → (out_before out_now : CfdpIndication) → (names_before names_now : List ℕ) → Type 0
+abbrev pub TellsIf : Bool → Indication → ℕ → (out_before out_now : CfdpIndication)
+    → (names_before names_now : List ℕ) → Type 0
 TellsIf true i answer out_before out_now names_before names_now =
     (answer ≡ ok) × (out_now ≡ told_of i) × (names_now ≡ over (names_of i) names_before)
 TellsIf false i answer out_before out_now names_before names_now =
     (answer ≡ no_room) × (out_now ≡ out_before) × (names_now ≡ names_before)
 
 -- This indication was told, if there is one, and its names were copied, if there is room for them.
-abbrev pub Tells : Option Indication → ℕ → (out_before out_now : CfdpIndication) → (names_before names_now : List ℕ) → Type 0
+abbrev pub Tells : Option Indication → ℕ → (out_before out_now : CfdpIndication)
+    → (names_before names_now : List ℕ) → Type 0
 Tells None answer out_before out_now names_before names_now =
     (answer ≡ nothing) × (out_now ≡ out_before) × (names_now ≡ names_before)
 Tells (Some i) answer out_before out_now names_before names_now =
-    TellsIf (nat_le (length (names_of i)) (length names_before)) i answer out_before out_now names_before names_now
+    TellsIf (nat_le (length (names_of i)) (length names_before)) i answer out_before out_now
+    names_before names_now
 
 -- ---- PDUs
 abbrev pub bit : Bool → ℕ
@@ -92,9 +97,14 @@ said_by h (FileData offset bytes) = record (pdu_of_kind 0 h) { offset = offset; 
 said_by h (Eof condition checksum size tlvs) =
     record (pdu_of_kind 4 h) { condition = condition; checksum = checksum; size = size }
 said_by h (Finished condition delivery status tlvs) =
-    record (pdu_of_kind 5 h) { condition = condition; delivery = delivery_code delivery; status = file_status_code status }
+    record (pdu_of_kind 5 h)
+    { condition = condition; delivery = delivery_code delivery; status = file_status_code status }
 said_by h (Ack acknowledged condition status) =
-    record (pdu_of_kind 6 h) { acknowledged = acknowledged_code acknowledged; condition = condition; status = transaction_status_code status }
+    record (pdu_of_kind 6 h) {
+      acknowledged = acknowledged_code acknowledged;
+      condition = condition;
+      status = transaction_status_code status;
+    }
 said_by h (Metadata checksum_kind size source destination options) =
     record (pdu_of_kind 7 h) { checksum_kind = checksum_kind; size = size }
 said_by h (Nak start end pairs) =

@@ -1,5 +1,5 @@
 //! What the user asks of a station, and the time.
-ghost use Rattle.std.specs.Prelude.{◌≡◌, ◌⊎◌, ◌≢◌, false, Some, None};
+ghost use Rattle.std.specs.Prelude.{◌≡◌, ◌≢◌, false, Some, None};
 ghost use Rattle.cfdp_entity.specs.declared.call.Call.TheVariants as calls;
 ghost use Rattle.cfdp_c.specs.Calls.{id_of, Adds, Puts, Calls, TellsTime, IsDeadline};
 ghost use Rattle.cfdp_c.specs.Codes as codes;

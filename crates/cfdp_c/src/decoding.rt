@@ -5,7 +5,7 @@ ghost use Rattle.cfdp_directives.specs.Content.{Content, view};
 ghost use Rattle.cfdp_directives.specs.Faults.{pdu_fault};
 ghost use Rattle.cfdp_directives.specs.Grammar.{SpellsPdu};
 ghost use Rattle.cfdp_c.specs.Codes.{ok, pdu_answer};
-ghost use Rattle.cfdp_c.specs.Told.{said_by, pdu_of_kind, bit};
+ghost use Rattle.cfdp_c.specs.Told.{said_by, pdu_of_kind};
 
 use crate::calls::CfdpId;
 use crate::codes::OK;

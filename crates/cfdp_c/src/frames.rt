@@ -44,7 +44,7 @@ impl Held {
 
 /// Moves the PDU whose turn it is down the link, if one is due. Answers 0, `CLOSED`, `NOTHING`
 /// where none is due, `FULL` where it doesn't fit until frames were taken off, `SOURCE_FAULT` where
-/// the outbox failed and the transaction was cancelled for it, or `NO_MEMORY`: nothing changed then.
+/// the outbox failed and the transaction was cancelled for it, or `NO_MEMORY`: nothing changed.
 #[unsafe(no_mangle)]
 pub extern "C" fn cfdp_poll(alloc: Global, station: &mut CfdpStation) -> u32
     ensures open { station.new.is_open ≡ station.old.is_open }
