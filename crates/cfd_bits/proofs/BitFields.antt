@@ -38,11 +38,6 @@ pub field-one : (o : List ℕ) (at : ℕ) → field o at 1 ≡ bit o at
 unfolding field
 field-one o at = let e : at + 0 ≡ at = omega arith in rw e (omega arith)
 
--- one more bit
-pub field-more : (o : List ℕ) (at w : ℕ) → field o at (w + 1) ≡ 2 * field o at w + bit o (at + w)
-unfolding field
-field-more o at w = rw add-one refl
-
 -- two fields, the second behind the first, are one field
 pub field-split : (o : List ℕ) (at v w : ℕ) → field o at (v + w) ≡ field o at v * 2 ^ w + field o (at + v) w
 unfolding field

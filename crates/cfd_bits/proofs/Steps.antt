@@ -5,12 +5,6 @@ use Rattle.std.proofs.Math.Pow.{pow_mono}
 use Rattle.std.proofs.lemmas.Grind.{pow_more}
 use Rattle.cfd_bits.specs.Field.{bit, field, octets}
 
-pub doubled : (i v b : ℕ) → v < 2 ^ i → b < 2 → 2 * v + b < 2 ^ (i + 1)
-doubled i v b h k = let e : 2 ^ (i + 1) ≡ 2 ^ i * 2 = pow_more 2 i in omega arith
-
-pub doubled_fits : (i width v : ℕ) → v < 2 ^ i → i < width → width ≤ 64 → 2 * v + 1 < 2 ^ 64
-doubled_fits i width v h k w = let m = doubled i v 1 h (omega arith) in let p : 2 ^ (i + 1) ≤ 2 ^ 64 = pow_mono {i = i + 1} {j = 64} (omega arith) in omega arith
-
 pub field_more : (o : List ℕ) (at w : ℕ) → field o at (w + 1) ≡ 2 * field o at w + get_or o ((at + w) / 8) 0 / 2 ^ (7 - (at + w) % 8) % 2
 unfolding field bit
 field_more o at w = rw add-one refl

@@ -1,7 +1,7 @@
 -- The numbers that calls answer with.
 use Rattle.std.specs.Prelude.{ℕ, ◌+◌, Option, Some, None, Result, Ok, Err}
-use Rattle.cfdp_directives.specs.declared.error.PduError.{PduError}
-use Rattle.cfdp_directives.specs.Faults.{pdu_refusal_number}
+use Rattle.cfdp_directives.specs.declared.pdu.error.PduError.{PduError}
+use Rattle.cfdp_directives.specs.Pdu.Faults.{pdu_refusal_number}
 use Rattle.cfdp_entity.specs.declared.error.AddError.{AddError}
 use Rattle.cfdp_entity.specs.declared.error.AddError.TheVariants as adds
 use Rattle.cfdp_entity.specs.declared.error.CallError.{CallError}

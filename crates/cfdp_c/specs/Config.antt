@@ -1,9 +1,9 @@
 -- How a caller says what a station is set up as.
 use Rattle.std.specs.Prelude.{ℕ, ◌<◌, ◌==◌, if◌then◌else◌}
 use Rattle.aos_frame.specs.declared.config.LinkConfig.{LinkConfig}
-use Rattle.cfdp_directives.specs.declared.handler.Handler.{Handler}
-use Rattle.cfdp_directives.specs.declared.handler.Handler.TheVariants as does
-use Rattle.cfdp_directives.specs.declared.policy.Policy.{Policy}
+use Rattle.cfdp_directives.specs.declared.user.handler.Handler.{Handler}
+use Rattle.cfdp_directives.specs.declared.user.handler.Handler.TheVariants as does
+use Rattle.cfdp_directives.specs.declared.user.policy.Policy.{Policy}
 use Rattle.cfdp_entity.specs.declared.config.EntityConfig.{EntityConfig}
 use Rattle.cfdp_station.specs.Config.{IsStationConfig}
 use Rattle.cfdp_station.specs.declared.config.StationConfig.{StationConfig}

@@ -2,10 +2,10 @@
 use Rattle.std.specs.Prelude.{◌≡◌, ◌++◌, ℕ, Bool, true, false, List, [], length, drop, nat_le, Option, Some, None}
 use Rattle.cfdp_header.specs.declared.value.Header.{Header}
 use Rattle.cfdp_header.specs.declared.value.TransactionId.{TransactionId}
-use Rattle.cfdp_directives.specs.Codes.{delivery_code, file_status_code, transaction_status_code, acknowledged_code}
-use Rattle.cfdp_directives.specs.Content.{Content, FileData, Metadata, Eof, Finished, Ack, Nak, Prompt, KeepAlive}
-use Rattle.cfdp_directives.specs.declared.indication.Indication.{Indication}
-use Rattle.cfdp_directives.specs.declared.indication.Indication.TheVariants as told
+use Rattle.cfdp_directives.specs.Pdu.Codes.{delivery_code, file_status_code, transaction_status_code, acknowledged_code}
+use Rattle.cfdp_directives.specs.Pdu.Content.{Content, FileData, Metadata, Eof, Finished, Ack, Nak, Prompt, KeepAlive}
+use Rattle.cfdp_directives.specs.declared.user.indication.Indication.{Indication}
+use Rattle.cfdp_directives.specs.declared.user.indication.Indication.TheVariants as told
 use Rattle.cfdp_c.specs.Codes.{ok, no_room, nothing}
 use Rattle.cfdp_c.specs.declared.calls.CfdpId.{CfdpId}
 use Rattle.cfdp_c.specs.declared.indications.CfdpIndication.{CfdpIndication}

@@ -1,9 +1,9 @@
 //! What one PDU says.
 ghost use Rattle.std.specs.Prelude.{◌≡◌, ◌≢◌};
 ghost use Rattle.cfdp_header.specs.declared.value.Header.{Header};
-ghost use Rattle.cfdp_directives.specs.Content.{Content, view};
-ghost use Rattle.cfdp_directives.specs.Faults.{pdu_fault};
-ghost use Rattle.cfdp_directives.specs.Grammar.{SpellsPdu};
+ghost use Rattle.cfdp_directives.specs.Pdu.Content.{Content, view};
+ghost use Rattle.cfdp_directives.specs.Pdu.Faults.{pdu_fault};
+ghost use Rattle.cfdp_directives.specs.Pdu.Grammar.{SpellsPdu};
 ghost use Rattle.cfdp_c.specs.Codes.{ok, pdu_answer};
 ghost use Rattle.cfdp_c.specs.Told.{said_by, pdu_of_kind};
 

@@ -1,12 +1,12 @@
 -- Exported: the header of a content can be written.
 use Rattle.std.proofs.Common.{ℕ, Bool, ◌^◌, ◌<◌, refl}
-use Rattle.cfdp_directives.specs.declared.addressing.Addressing.{Addressing}
-use Rattle.cfdp_directives.specs.Codes.{file_size_octets}
-use Rattle.cfdp_directives.specs.Content.{Content, is_file_data}
-use Rattle.cfdp_directives.specs.Direction.{goes_toward_sender}
+use Rattle.cfdp_directives.specs.declared.pdu.addressing.Addressing.{Addressing}
+use Rattle.cfdp_directives.specs.Pdu.Codes.{file_size_octets}
+use Rattle.cfdp_directives.specs.Pdu.Content.{Content, is_file_data}
+use Rattle.cfdp_directives.specs.Pdu.Direction.{goes_toward_sender}
 use Rattle.cfdp_header.specs.Header.{FitsHeader}
-use Rattle.cfdp_directives.specs.Written.{content_len, FitsContent, CanWrite}
-use Rattle.cfdp_directives.specs.Addressing.{header_by, header_of, FitsAddressing}
+use Rattle.cfdp_directives.specs.Pdu.Written.{content_len, FitsContent, CanWrite}
+use Rattle.cfdp_directives.specs.Pdu.Addressing.{header_by, header_of, FitsAddressing}
 
 pub header_fits : (a : Addressing) (file_data toward_sender : Bool) (length : ℕ) → FitsAddressing a → length < 2 ^ 16 → FitsHeader (header_by a file_data toward_sender length)
 header_fits a file_data toward_sender length fits short = record {

@@ -10,21 +10,21 @@ use Rattle.cfdp_header.specs.declared.value.Header.{Header}
 use Rattle.cfdp_header.specs.Header.{header_len_told, header_len}
 use Rattle.cfd_bits.specs.Field.{flag}
 use Rattle.cfdp_header.proofs.Laws as header
-use Rattle.cfdp_directives.specs.declared.codes.Delivery.{Delivery}
-use Rattle.cfdp_directives.specs.declared.codes.Delivery.TheVariants.{Complete, Incomplete}
-use Rattle.cfdp_directives.specs.declared.codes.FileStatus.{FileStatus}
-use Rattle.cfdp_directives.specs.declared.codes.FileStatus.TheVariants.{Discarded, Rejected, Retained, Unreported}
-use Rattle.cfdp_directives.specs.declared.codes.TransactionStatus.{TransactionStatus}
-use Rattle.cfdp_directives.specs.declared.codes.TransactionStatus.TheVariants.{Undefined, Active, Terminated, Unrecognized}
-use Rattle.cfdp_directives.specs.declared.codes.Acknowledged.{Acknowledged}
-use Rattle.cfdp_directives.specs.declared.codes.Acknowledged.TheVariants as acknowledged
-use Rattle.cfdp_directives.specs.declared.pdu.Pdu.{Pdu}
-use Rattle.cfdp_directives.specs.declared.error.PduError.{PduError}
-use Rattle.cfdp_directives.specs.Codes.{delivery_code, file_status_code, transaction_status_code, acknowledged_code}
-use Rattle.cfdp_directives.specs.Tlv.{Tlv, tlv, tlvs_of}
-use Rattle.cfdp_directives.specs.Content.{Content, FileData, Metadata, Eof, Finished, Ack, Nak, Prompt, KeepAlive, view}
-use Rattle.cfdp_directives.specs.Grammar.{Says, SpellsPdu, IsFileData, IsMetadata, IsEof, IsFinished, IsAck, IsNak, skipped, lv}
-use Rattle.cfdp_directives.specs.Faults.{has_lv, after_lv, file_data_fault, metadata_fault, eof_fault, finished_fault, ack_fault, nak_fault, content_fault, pdu_fault}
+use Rattle.cfdp_directives.specs.declared.pdu.codes.Delivery.{Delivery}
+use Rattle.cfdp_directives.specs.declared.pdu.codes.Delivery.TheVariants.{Complete, Incomplete}
+use Rattle.cfdp_directives.specs.declared.pdu.codes.FileStatus.{FileStatus}
+use Rattle.cfdp_directives.specs.declared.pdu.codes.FileStatus.TheVariants.{Discarded, Rejected, Retained, Unreported}
+use Rattle.cfdp_directives.specs.declared.pdu.codes.TransactionStatus.{TransactionStatus}
+use Rattle.cfdp_directives.specs.declared.pdu.codes.TransactionStatus.TheVariants.{Undefined, Active, Terminated, Unrecognized}
+use Rattle.cfdp_directives.specs.declared.pdu.codes.Acknowledged.{Acknowledged}
+use Rattle.cfdp_directives.specs.declared.pdu.codes.Acknowledged.TheVariants as acknowledged
+use Rattle.cfdp_directives.specs.declared.pdu.content.Pdu.{Pdu}
+use Rattle.cfdp_directives.specs.declared.pdu.error.PduError.{PduError}
+use Rattle.cfdp_directives.specs.Pdu.Codes.{delivery_code, file_status_code, transaction_status_code, acknowledged_code}
+use Rattle.cfdp_directives.specs.Pdu.Tlv.{Tlv, tlv, tlvs_of}
+use Rattle.cfdp_directives.specs.Pdu.Content.{Content, FileData, Metadata, Eof, Finished, Ack, Nak, Prompt, KeepAlive, view}
+use Rattle.cfdp_directives.specs.Pdu.Grammar.{Says, SpellsPdu, IsFileData, IsMetadata, IsEof, IsFinished, IsAck, IsNak, skipped, lv}
+use Rattle.cfdp_directives.specs.Pdu.Faults.{has_lv, after_lv, file_data_fault, metadata_fault, eof_fault, finished_fault, ack_fault, nak_fault, content_fault, pdu_fault}
 use Rattle.cfdp_directives.proofs.Options.{reads}
 use Rattle.cfdp_directives.proofs.Ranges.{same_pairs, pairs_even}
 

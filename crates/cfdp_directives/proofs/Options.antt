@@ -8,7 +8,7 @@ use Rattle.std.specs.Option.{option_map}
 use Rattle.std.specs.List.{flat_map}
 use Rattle.cfd_bits.specs.Field.{field, octets}
 use Rattle.cfd_bits.proofs.Fields.{length-octets, field-drop}
-use Rattle.cfdp_directives.specs.Tlv.{Tlv, tlv, tlvs_at, tlvs_of, fault_location}
+use Rattle.cfdp_directives.specs.Pdu.Tlv.{Tlv, tlv, tlvs_at, tlvs_of, fault_location}
 
 -- more turns than octets change nothing
 enough : (n m : ℕ) (bytes : List ℕ) → length bytes ≤ n → length bytes ≤ m → tlvs_at n bytes ≡ tlvs_at m bytes

@@ -6,12 +6,12 @@ use Rattle.std.proofs.lemmas.List.Sums.{sum_by-append}
 use Rattle.std.proofs.lemmas.Grind.{flat_map-append}
 use Rattle.cfdp_header.specs.declared.value.Header.{Header}
 use Rattle.cfdp_header.specs.declared.value.TransactionId.{TransactionId}
-use Rattle.cfdp_directives.specs.declared.indication.Indication.{Indication}
-use Rattle.cfdp_directives.specs.Content.{Content}
-use Rattle.cfdp_directives.specs.Grammar.{SpellsPdu}
-use Rattle.cfdp_directives.specs.Put.{Put, SomePdu, IsMetadataOf, IsEofOf, Brings, HeardInFull, overwritten, inbox_after}
+use Rattle.cfdp_directives.specs.declared.user.indication.Indication.{Indication}
+use Rattle.cfdp_directives.specs.Pdu.Content.{Content}
+use Rattle.cfdp_directives.specs.Pdu.Grammar.{SpellsPdu}
+use Rattle.cfdp_directives.specs.User.Put.{Put, SomePdu, IsMetadataOf, IsEofOf, Brings, HeardInFull, overwritten, inbox_after}
 use Rattle.cfdp_header.specs.Files.{FileMap}
-use Rattle.cfdp_directives.specs.Completions.{completion, completions, is_finished}
+use Rattle.cfdp_directives.specs.User.Completions.{completion, completions, is_finished}
 
 -- ---- some element
 
@@ -57,9 +57,6 @@ HeardInFull-append put old new heard = record {
 
 pub completions-append : (own : ℕ) (old new : List Indication) → completions own (old ++ new) ≡ completions own old ++ completions own new
 completions-append own old new = flat_map-append (completion own) old new
-
-pub completions-last : (own : ℕ) (old : List Indication) (told : Indication) → completions own (old ++ told ∷ []) ≡ completions own old ++ completion own told
-completions-last own old told = flat_map-append (completion own) old (told ∷ []) ∙ ap (λ (ids : List TransactionId). completions own old ++ ids) (append-nil (completion own told))
 
 pub count_by-append : {X : Type 0} (p : X → Bool) (xs ys : List X) → count_by p (xs ++ ys) ≡ count_by p xs + count_by p ys
 count_by-append p xs ys = sum_by-append (λ x. cond (p x) 1 0) xs ys

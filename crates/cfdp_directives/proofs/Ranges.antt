@@ -8,7 +8,7 @@ use Rattle.std.specs.List.{flat_map, AllByRecursion}
 use Rattle.cfd_bits.specs.Field.{field, octets}
 use Rattle.cfd_bits.proofs.BitFields.{field-below_octets}
 use Rattle.cfd_bits.proofs.Fields.{IsBytes, IsBytes-drop, octets-field, field-drop, field_octet}
-use Rattle.cfdp_directives.specs.Pair.{pair, pairs_of, ArePairs, IsPair}
+use Rattle.cfdp_directives.specs.Pdu.Pair.{pair, pairs_of, ArePairs, IsPair}
 
 pub pairs_spelled_at : (n : ℕ) (octets : List ℕ) → length octets ≡ 8 * n → ArePairs 4 (pairs_of 4 n octets) octets
 unfolding pairs_of

@@ -8,20 +8,20 @@ use Rattle.cfd_bits.proofs.Fields.{field_between, field_in_octet}
 use Rattle.cfdp_header.specs.declared.value.Header.{Header}
 use Rattle.cfdp_header.specs.Header.{FitsHeader, header_len, header_octets}
 use Rattle.cfdp_header.proofs.Laws as header
-use Rattle.cfdp_directives.specs.declared.codes.Delivery.{Delivery}
-use Rattle.cfdp_directives.specs.declared.codes.Delivery.TheVariants.{Complete, Incomplete}
-use Rattle.cfdp_directives.specs.declared.codes.FileStatus.{FileStatus}
-use Rattle.cfdp_directives.specs.declared.codes.FileStatus.TheVariants.{Discarded, Rejected, Retained, Unreported}
-use Rattle.cfdp_directives.specs.declared.codes.TransactionStatus.{TransactionStatus}
-use Rattle.cfdp_directives.specs.declared.codes.TransactionStatus.TheVariants.{Undefined, Active, Terminated, Unrecognized}
-use Rattle.cfdp_directives.specs.declared.codes.Acknowledged.{Acknowledged}
-use Rattle.cfdp_directives.specs.declared.codes.Acknowledged.TheVariants as acknowledged
-use Rattle.cfdp_directives.specs.Codes.{delivery_code, file_status_code, transaction_status_code, acknowledged_code, acknowledged_subtype}
-use Rattle.cfdp_directives.specs.Tlv.{Tlv, tlv}
-use Rattle.cfdp_directives.specs.Pair.{pair, IsPair, ArePairs}
-use Rattle.cfdp_directives.specs.Content.{Content, FileData, Metadata, Eof, Finished, Ack, Nak, Prompt, KeepAlive, is_file_data}
-use Rattle.cfdp_directives.specs.Grammar.{Says, SpellsPdu, IsFileData, IsMetadata, IsEof, IsFinished, IsAck, IsNak, IsPrompt, IsKeepAlive, lv}
-use Rattle.cfdp_directives.specs.Written.{content_octets, content_len, FitsContent, CanWrite, pdu_octets}
+use Rattle.cfdp_directives.specs.declared.pdu.codes.Delivery.{Delivery}
+use Rattle.cfdp_directives.specs.declared.pdu.codes.Delivery.TheVariants.{Complete, Incomplete}
+use Rattle.cfdp_directives.specs.declared.pdu.codes.FileStatus.{FileStatus}
+use Rattle.cfdp_directives.specs.declared.pdu.codes.FileStatus.TheVariants.{Discarded, Rejected, Retained, Unreported}
+use Rattle.cfdp_directives.specs.declared.pdu.codes.TransactionStatus.{TransactionStatus}
+use Rattle.cfdp_directives.specs.declared.pdu.codes.TransactionStatus.TheVariants.{Undefined, Active, Terminated, Unrecognized}
+use Rattle.cfdp_directives.specs.declared.pdu.codes.Acknowledged.{Acknowledged}
+use Rattle.cfdp_directives.specs.declared.pdu.codes.Acknowledged.TheVariants as acknowledged
+use Rattle.cfdp_directives.specs.Pdu.Codes.{delivery_code, file_status_code, transaction_status_code, acknowledged_code, acknowledged_subtype}
+use Rattle.cfdp_directives.specs.Pdu.Tlv.{Tlv, tlv}
+use Rattle.cfdp_directives.specs.Pdu.Pair.{pair, IsPair, ArePairs}
+use Rattle.cfdp_directives.specs.Pdu.Content.{Content, FileData, Metadata, Eof, Finished, Ack, Nak, Prompt, KeepAlive, is_file_data}
+use Rattle.cfdp_directives.specs.Pdu.Grammar.{Says, SpellsPdu, IsFileData, IsMetadata, IsEof, IsFinished, IsAck, IsNak, IsPrompt, IsKeepAlive, lv}
+use Rattle.cfdp_directives.specs.Pdu.Written.{content_octets, content_len, FitsContent, CanWrite, pdu_octets}
 use Rattle.cfdp_directives.proofs.Only.{same}
 use Rattle.cfdp_directives.proofs.Ranges.{pairs_len}
 

@@ -10,58 +10,38 @@
 //! ```
 #![tactic(auto)]
 
-mod addressing;
-mod checksum;
-mod codes;
-mod direction;
-mod error;
-mod file_name;
-mod handler;
-mod indication;
-mod laws;
-mod lengths;
-mod limits;
-mod octets;
-mod pair_iter;
-mod pairs;
 mod pdu;
-mod phase;
-mod policy;
-mod reading;
-mod telling;
-mod tlv;
-mod tlv_iter;
-mod writing;
+mod user;
 
-pub use addressing::{
+pub use pdu::addressing::{
     Addressing, addressed_pdu_can_be_written, addressed_pdu_goes_to_the_other_end,
 };
-pub use checksum::{Checksum, cut_file_has_its_checksum, whole_file_has_its_checksum};
-pub use codes::{
+pub use pdu::checksum::{Checksum, cut_file_has_its_checksum, whole_file_has_its_checksum};
+pub use pdu::codes::{
     Acknowledged, ChecksumKind, Condition, Delivery, FILE_SIZE_OCTETS, FileStatus,
     TransactionStatus, is_file_size,
 };
-pub use direction::{direction_fits, is_for};
-pub use error::PduError;
-pub use file_name::is_file_name;
-pub use handler::{Handler, Handlers};
-pub use indication::Indication;
-pub use laws::{
+pub use pdu::content::Pdu;
+pub use pdu::direction::{direction_fits, is_for};
+pub use pdu::error::PduError;
+pub use pdu::laws::{
     a_pdu_read_can_be_answered, no_pdu_begins_another, written_pdu_is_read, written_pdu_len,
 };
-pub use lengths::{
+pub use pdu::lengths::{
     ack_len, eof_len, fault_location_len, file_data_len, finished_len, keep_alive_len,
     metadata_len, nak_len, prompt_len,
 };
-pub use limits::{Limits, Times};
-pub use octets::Octets;
-pub use pair_iter::PairIter;
-pub use pairs::Pairs;
-pub use pdu::Pdu;
-pub use phase::Phase;
-pub use policy::Policy;
-pub use reading::decode;
-pub use telling::{Outcome, another_try, tell, tell_fault};
-pub use tlv::Tlvs;
-pub use tlv_iter::TlvIter;
-pub use writing::{can_write, encode};
+pub use pdu::octets::Octets;
+pub use pdu::pair_iter::PairIter;
+pub use pdu::pairs::Pairs;
+pub use pdu::reading::decode;
+pub use pdu::tlv::Tlvs;
+pub use pdu::tlv_iter::TlvIter;
+pub use pdu::writing::{can_write, encode};
+pub use user::file_name::is_file_name;
+pub use user::handler::{Handler, Handlers};
+pub use user::indication::Indication;
+pub use user::limits::{Limits, Times};
+pub use user::phase::Phase;
+pub use user::policy::Policy;
+pub use user::telling::{Outcome, another_try, tell, tell_fault};

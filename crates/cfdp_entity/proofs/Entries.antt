@@ -16,9 +16,9 @@ use Rattle.cfdp_header.specs.Files.{FileMap}
 use Rattle.cfdp_timers.specs.Armed.{TimersState}
 use Rattle.cfdp_store.specs.Staged.{OthersKeep}
 use Rattle.cfdp_store.specs.declared.stored.Stored.{Stored}
-use Rattle.cfdp_directives.specs.declared.indication.Indication.{Indication}
-use Rattle.cfdp_directives.specs.declared.policy.Policy.{Policy}
-use Rattle.cfdp_directives.specs.Content.{Content}
+use Rattle.cfdp_directives.specs.declared.user.indication.Indication.{Indication}
+use Rattle.cfdp_directives.specs.declared.user.policy.Policy.{Policy}
+use Rattle.cfdp_directives.specs.Pdu.Content.{Content}
 use Rattle.cfdp_receiver.specs.State.{ReceiverState, IsReady}
 use Rattle.cfdp_sender.specs.Does.{HasFile}
 use Rattle.cfdp_sender.specs.State.{SenderState, opened_sender}

@@ -2,10 +2,10 @@
 use Rattle.std.proofs.Common.{◌≡◌, ℕ, ◌+◌, ◌≤◌, true, List, [], ◌∷◌, ◌++◌, append_assoc, append-nil, length, slice_get, Option, Some, None, refl, sym, ap, ◌∙◌, arith}
 use Rattle.cfdp_header.specs.declared.value.Header.{Header}
 use Rattle.cfdp_header.specs.declared.value.TransactionId.{TransactionId}
-use Rattle.cfdp_directives.specs.declared.error.PduError.{PduError}
-use Rattle.cfdp_directives.specs.declared.indication.Indication.{Indication}
-use Rattle.cfdp_directives.specs.Addressing.{addressing_of}
-use Rattle.cfdp_directives.specs.Content.{Content, Prompt}
+use Rattle.cfdp_directives.specs.declared.pdu.error.PduError.{PduError}
+use Rattle.cfdp_directives.specs.declared.user.indication.Indication.{Indication}
+use Rattle.cfdp_directives.specs.Pdu.Addressing.{addressing_of}
+use Rattle.cfdp_directives.specs.Pdu.Content.{Content, Prompt}
 use Rattle.cfdp_store.specs.declared.stored.Stored.{Stored}
 use Rattle.cfdp_store.specs.Files.{octets_in}
 use Rattle.cfdp_timers.specs.Order.{Timer}

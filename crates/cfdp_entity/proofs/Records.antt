@@ -7,14 +7,14 @@ use Rattle.std.specs.FinSet as set
 use Rattle.std.proofs.lemmas.List.{append-nil}
 use Rattle.cfdp_header.specs.declared.value.TransactionId.{TransactionId}
 use Rattle.cfdp_header.specs.Files.{FileMap}
-use Rattle.cfdp_directives.specs.declared.addressing.Addressing.{Addressing}
-use Rattle.cfdp_directives.specs.declared.indication.Indication.{Indication}
-use Rattle.cfdp_directives.specs.declared.limits.Times.{Times}
-use Rattle.cfdp_directives.specs.declared.policy.Policy.{Policy}
-use Rattle.cfdp_directives.specs.declared.codes.Acknowledged.{Acknowledged}
-use Rattle.cfdp_directives.specs.declared.codes.TransactionStatus.{TransactionStatus}
-use Rattle.cfdp_directives.specs.declared.codes.Acknowledged.TheVariants as acknowledged
-use Rattle.cfdp_directives.specs.Content.{Content, FileData, Metadata, Eof, Finished, Ack, Nak, Prompt, KeepAlive}
+use Rattle.cfdp_directives.specs.declared.pdu.addressing.Addressing.{Addressing}
+use Rattle.cfdp_directives.specs.declared.user.indication.Indication.{Indication}
+use Rattle.cfdp_directives.specs.declared.user.limits.Times.{Times}
+use Rattle.cfdp_directives.specs.declared.user.policy.Policy.{Policy}
+use Rattle.cfdp_directives.specs.declared.pdu.codes.Acknowledged.{Acknowledged}
+use Rattle.cfdp_directives.specs.declared.pdu.codes.TransactionStatus.{TransactionStatus}
+use Rattle.cfdp_directives.specs.declared.pdu.codes.Acknowledged.TheVariants as acknowledged
+use Rattle.cfdp_directives.specs.Pdu.Content.{Content, FileData, Metadata, Eof, Finished, Ack, Nak, Prompt, KeepAlive}
 use Rattle.cfdp_store.specs.declared.stored.Stored.{Stored}
 use Rattle.cfdp_store.specs.Staged.{OctetMap, OthersKeep, staged_for}
 use Rattle.cfdp_timers.specs.Armed.{TimersState}
@@ -30,10 +30,10 @@ use Rattle.cfdp_sender.specs.declared.phase.SenderPhase.TheVariants.{Sending, Ca
 use Rattle.cfdp_sender.specs.declared.due.SenderDue.{SenderDue}
 use Rattle.cfdp_sender.specs.declared.due.SenderDue.TheVariants as due
 use Rattle.cfdp_extents.specs.Offsets.{range}
-use Rattle.cfdp_directives.specs.Codes.{no_error}
-use Rattle.cfdp_directives.specs.Policy.{finished_told, another_try}
-use Rattle.cfdp_directives.specs.declared.handler.Handler.{Handler}
-use Rattle.cfdp_directives.specs.declared.handler.Handler.TheVariants.{Cancel, Suspend, Ignore, Abandon}
+use Rattle.cfdp_directives.specs.Pdu.Codes.{no_error}
+use Rattle.cfdp_directives.specs.User.Policy.{finished_told, another_try}
+use Rattle.cfdp_directives.specs.declared.user.handler.Handler.{Handler}
+use Rattle.cfdp_directives.specs.declared.user.handler.Handler.TheVariants.{Cancel, Suspend, Ignore, Abandon}
 use Rattle.cfdp_store.specs.declared.stored.Stored.TheVariants.{Done, Refused}
 use Rattle.cfdp_timers.specs.declared.kind.Kind.{Kind}
 use Rattle.cfdp_timers.specs.declared.kind.Kind.TheVariants as kind
@@ -58,7 +58,7 @@ use Rattle.cfdp_sender.specs.declared.taken.Taken.TheVariants.{Nothing, Moved, S
 use Rattle.cfdp_sender.specs.declared.transfer.Transfer.{Transfer}
 use Rattle.cfdp_sender.specs.Due.{sender_due, sender_says}
 use Rattle.std.specs.Option.{option_map}
-use Rattle.cfdp_directives.specs.Addressing.{written_len}
+use Rattle.cfdp_directives.specs.Pdu.Addressing.{written_len}
 use Rattle.cfdp_receiver.specs.declared.due.Due.{Due}
 use Rattle.cfdp_receiver.specs.Due.{receiver_due}
 use Rattle.cfdp_sender.specs.Does.{HasFile}
@@ -465,9 +465,6 @@ module _ (times : Times) (id : TransactionId) (s : Record) (r r_now : ReceiverSt
 
   addressed-there : addressing_of (seen (old id) s) ≡ r.addressing
   addressed-there = ap (λ (k : Record). addressing_of (seen (old id) k)) is
-
-  pub len-there : len_of r.addressing (seens.receiver_content r (receiver_due r)) ≡ due_len sources (seen (old id) s)
-  len-there = sym (λ i. len_of (addressed-there i) (content-there (receiver_due r) refl i))
 
   pub took-there : new ≡ old → files_now ≡ files → told_now ≡ told → (n : ℕ) (out out_now : List ℕ) → ReceiverTook times (receiver_due r) r r_now timers timers_now n out out_now
       → Does id (takes Done times sources files (seen (old id) s)) (seen (new id) (held.Receives r_now)) told told_now timers timers_now files_now × Gives (due_octets sources (seen (old id) s)) (due_len sources (seen (old id) s)) (Octets n) out out_now

@@ -6,12 +6,12 @@ use Rattle.cfdp_header.specs.declared.value.Header.{Header}
 use Rattle.cfdp_header.specs.declared.value.TransactionId.{TransactionId}
 use Rattle.cfdp_header.specs.Files.{FileMap}
 use Rattle.cfdp_header.specs.Ids.{same_id}
-use Rattle.cfdp_directives.specs.declared.error.PduError.{PduError}
-use Rattle.cfdp_directives.specs.Addressing.{addressing_of}
-use Rattle.cfdp_directives.specs.Content.{Content, FileData, Metadata, Eof, Finished, Ack, Nak, Prompt, KeepAlive}
-use Rattle.cfdp_directives.specs.Direction.{direction_fits, is_for}
-use Rattle.cfdp_directives.specs.Grammar.{SpellsPdu}
-use Rattle.cfdp_directives.specs.Put.{Put, IsTruthful, IsOfPut, SaysTruth, SaysComplete, SomePdu, IsMetadataOf, IsEofOf, Brings}
+use Rattle.cfdp_directives.specs.declared.pdu.error.PduError.{PduError}
+use Rattle.cfdp_directives.specs.Pdu.Addressing.{addressing_of}
+use Rattle.cfdp_directives.specs.Pdu.Content.{Content, FileData, Metadata, Eof, Finished, Ack, Nak, Prompt, KeepAlive}
+use Rattle.cfdp_directives.specs.Pdu.Direction.{direction_fits, is_for}
+use Rattle.cfdp_directives.specs.Pdu.Grammar.{SpellsPdu}
+use Rattle.cfdp_directives.specs.User.Put.{Put, IsTruthful, IsOfPut, SaysTruth, SaysComplete, SomePdu, IsMetadataOf, IsEofOf, Brings}
 use Rattle.cfdp_store.specs.declared.stored.Stored.{Stored}
 use Rattle.cfdp_store.specs.Files.{octets_in}
 use Rattle.cfdp_sender.specs.declared.transfer.Transfer.{Transfer}

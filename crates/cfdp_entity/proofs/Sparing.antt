@@ -3,7 +3,7 @@ use Rattle.std.proofs.Common.{◌≡◌, ℕ, zero, suc, List, [], ◌∷◌, sl
 use Rattle.std.specs.FinMap as map
 use Rattle.std.specs.FinSet as set
 use Rattle.indexmap.specs.IndexMap.{set_value_at}
-use Rattle.cfdp_directives.specs.Content.{Content, FileData, Metadata, Eof, Finished, Ack, Nak, Prompt, KeepAlive}
+use Rattle.cfdp_directives.specs.Pdu.Content.{Content, FileData, Metadata, Eof, Finished, Ack, Nak, Prompt, KeepAlive}
 use Rattle.cfdp_sender.specs.declared.phase.SenderPhase.{SenderPhase}
 use Rattle.cfdp_sender.specs.declared.phase.SenderPhase.TheVariants as phases
 use Rattle.cfdp_sender.specs.declared.transfer.Transfer.{Transfer}

@@ -5,20 +5,20 @@ use Rattle.std.proofs.lemmas.Bool.{eqb-true}
 use Rattle.cfdp_header.specs.declared.value.Header.{Header}
 use Rattle.cfdp_header.specs.declared.value.TransactionId.{TransactionId}
 use Rattle.cfdp_header.specs.Files.{FileMap}
-use Rattle.cfdp_directives.specs.declared.addressing.Addressing.{Addressing}
-use Rattle.cfdp_directives.specs.declared.codes.Delivery.TheVariants.{Complete}
-use Rattle.cfdp_directives.specs.declared.codes.FileStatus.TheVariants.{Retained}
-use Rattle.cfdp_directives.specs.declared.indication.Indication.{Indication}
-use Rattle.cfdp_directives.specs.declared.indication.Indication.TheVariants as indication
-use Rattle.cfdp_directives.specs.declared.telling.Outcome.{Outcome}
-use Rattle.cfdp_directives.specs.Addressing.{header_of}
-use Rattle.cfdp_directives.specs.Codes.{no_error}
-use Rattle.cfdp_directives.specs.Completions.{completion, completions}
-use Rattle.cfdp_directives.specs.Content.{Content, FileData, Metadata, Eof, Finished, Ack, Nak, Prompt, KeepAlive}
-use Rattle.cfdp_directives.specs.Grammar.{SpellsPdu}
-use Rattle.cfdp_directives.specs.Policy.{finished_told}
-use Rattle.cfdp_directives.specs.Put.{Put, IsTruthful, IsOfPut, SaysTruth}
-use Rattle.cfdp_directives.specs.Tlv.{Tlv}
+use Rattle.cfdp_directives.specs.declared.pdu.addressing.Addressing.{Addressing}
+use Rattle.cfdp_directives.specs.declared.pdu.codes.Delivery.TheVariants.{Complete}
+use Rattle.cfdp_directives.specs.declared.pdu.codes.FileStatus.TheVariants.{Retained}
+use Rattle.cfdp_directives.specs.declared.user.indication.Indication.{Indication}
+use Rattle.cfdp_directives.specs.declared.user.indication.Indication.TheVariants as indication
+use Rattle.cfdp_directives.specs.declared.user.telling.Outcome.{Outcome}
+use Rattle.cfdp_directives.specs.Pdu.Addressing.{header_of}
+use Rattle.cfdp_directives.specs.Pdu.Codes.{no_error}
+use Rattle.cfdp_directives.specs.User.Completions.{completion, completions}
+use Rattle.cfdp_directives.specs.Pdu.Content.{Content, FileData, Metadata, Eof, Finished, Ack, Nak, Prompt, KeepAlive}
+use Rattle.cfdp_directives.specs.Pdu.Grammar.{SpellsPdu}
+use Rattle.cfdp_directives.specs.User.Policy.{finished_told}
+use Rattle.cfdp_directives.specs.User.Put.{Put, IsTruthful, IsOfPut, SaysTruth}
+use Rattle.cfdp_directives.specs.Pdu.Tlv.{Tlv}
 use Rattle.cfdp_directives.proofs.Puts.{Contains-append_left, Contains-append_right}
 use Rattle.cfdp_store.specs.Files.{octets_in}
 use Rattle.cfdp_sender.specs.declared.due.SenderDue.{SenderDue}

@@ -2,11 +2,11 @@
 use Rattle.std.proofs.Common.{◌≡◌, ℕ, ◌≤◌, List, [], ◌∷◌, length, slice_get, Option, Some, None, IfSome, lit<, sym, subst, arith}
 use Rattle.cfdp_header.specs.declared.value.TransactionId.{TransactionId}
 use Rattle.cfdp_header.specs.Files.{FileMap}
-use Rattle.cfdp_directives.specs.declared.addressing.Addressing.{Addressing}
-use Rattle.cfdp_directives.specs.Addressing.{header_of, FitsAddressing}
-use Rattle.cfdp_directives.specs.Codes.{IsCondition}
-use Rattle.cfdp_directives.specs.Content.{Content}
-use Rattle.cfdp_directives.specs.Written.{CanWrite}
+use Rattle.cfdp_directives.specs.declared.pdu.addressing.Addressing.{Addressing}
+use Rattle.cfdp_directives.specs.Pdu.Addressing.{header_of, FitsAddressing}
+use Rattle.cfdp_directives.specs.Pdu.Codes.{IsCondition}
+use Rattle.cfdp_directives.specs.Pdu.Content.{Content}
+use Rattle.cfdp_directives.specs.Pdu.Written.{CanWrite}
 use Rattle.cfdp_directives.proofs.Addressed.{can_write}
 use Rattle.cfdp_directives.proofs.Spelling.{spelled}
 use Rattle.cfdp_store.specs.Staged.{OctetMap}
@@ -65,10 +65,3 @@ pub entry-spells : (sources : FileMap) (o : Option Entry) → EntryIsSpelled sou
 unfolding SeenIsSpelled
 entry-spells sources None is some = absurd (omega (arith, some))
 entry-spells sources (Some e) is some = due-spells _ _ is some
-
-stray-spells : (e : EntityState) (strays : List StrayAck) (next : Option ℕ) → 1 ≤ length strays → FirstIsSpelled strays → SpellsTurn (turn_by strays next) e
-stray-spells e [] next some is = absurd (omega (arith, some))
-stray-spells e (s ∷ strays) next some is = is
-
-pub turn-spells : (e : EntityState) → 1 ≤ length e.strays → FirstIsSpelled e.strays → SpellsTurn (turn e) e
-turn-spells e some is = stray-spells e e.strays _ some is

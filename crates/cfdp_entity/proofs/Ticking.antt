@@ -5,8 +5,8 @@ use Rattle.cfdp_header.specs.Files.{FileMap}
 use Rattle.cfdp_timers.specs.Order.{Timer}
 use Rattle.cfdp_timers.specs.Armed.{Armed, TimersState}
 use Rattle.cfdp_timers.specs.Due.{due_count, still_armed}
-use Rattle.cfdp_directives.specs.declared.indication.Indication.{Indication}
-use Rattle.cfdp_directives.specs.declared.policy.Policy.{Policy}
+use Rattle.cfdp_directives.specs.declared.user.indication.Indication.{Indication}
+use Rattle.cfdp_directives.specs.declared.user.policy.Policy.{Policy}
 use Rattle.cfdp_entity.specs.declared.record.Record.{Record}
 use Rattle.cfdp_store.specs.Chains.{Raises}
 use Rattle.cfdp_entity.specs.Storing.{AsksByTimer, AsksToFire}

@@ -9,18 +9,18 @@ use Rattle.indexmap.specs.IndexMap.{set_value_at}
 use Rattle.cfdp_header.specs.declared.value.TransactionId.{TransactionId}
 use Rattle.cfdp_header.specs.Files.{FileMap}
 use Rattle.cfdp_header.specs.Ids.{same_id}
-use Rattle.cfdp_directives.specs.declared.addressing.Addressing.{Addressing}
-use Rattle.cfdp_directives.specs.declared.codes.Acknowledged.TheVariants as acknowledged
-use Rattle.cfdp_directives.specs.declared.codes.Delivery.{Delivery}
-use Rattle.cfdp_directives.specs.declared.codes.FileStatus.{FileStatus}
-use Rattle.cfdp_directives.specs.declared.indication.Indication.{Indication}
-use Rattle.cfdp_directives.specs.declared.indication.Indication.TheVariants as indication
-use Rattle.cfdp_directives.specs.declared.limits.Times.{Times}
-use Rattle.cfdp_directives.specs.declared.policy.Policy.{Policy}
-use Rattle.cfdp_directives.specs.Completions.{is_complete, completion, completions}
-use Rattle.cfdp_directives.specs.Content.{Content, FileData, Metadata, Eof, Finished, Ack, Nak, Prompt, KeepAlive}
-use Rattle.cfdp_directives.specs.Policy.{finished_told}
-use Rattle.cfdp_directives.specs.Put.{Put, HeardInFull, overwritten, inbox_after}
+use Rattle.cfdp_directives.specs.declared.pdu.addressing.Addressing.{Addressing}
+use Rattle.cfdp_directives.specs.declared.pdu.codes.Acknowledged.TheVariants as acknowledged
+use Rattle.cfdp_directives.specs.declared.pdu.codes.Delivery.{Delivery}
+use Rattle.cfdp_directives.specs.declared.pdu.codes.FileStatus.{FileStatus}
+use Rattle.cfdp_directives.specs.declared.user.indication.Indication.{Indication}
+use Rattle.cfdp_directives.specs.declared.user.indication.Indication.TheVariants as indication
+use Rattle.cfdp_directives.specs.declared.user.limits.Times.{Times}
+use Rattle.cfdp_directives.specs.declared.user.policy.Policy.{Policy}
+use Rattle.cfdp_directives.specs.User.Completions.{is_complete, completion, completions}
+use Rattle.cfdp_directives.specs.Pdu.Content.{Content, FileData, Metadata, Eof, Finished, Ack, Nak, Prompt, KeepAlive}
+use Rattle.cfdp_directives.specs.User.Policy.{finished_told}
+use Rattle.cfdp_directives.specs.User.Put.{Put, HeardInFull, overwritten, inbox_after}
 use Rattle.cfdp_directives.proofs.Puts.{completions-append, finished-append, finished-last, inbox_after-append, HeardInFull-append}
 use Rattle.cfdp_store.specs.declared.stored.Stored.{Stored}
 use Rattle.cfdp_store.specs.declared.stored.Stored.TheVariants.{Done, Refused}

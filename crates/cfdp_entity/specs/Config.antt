@@ -1,8 +1,8 @@
 -- How an entity may be set up.
 use Rattle.std.specs.Prelude.{◌≡◌, ◌≢◌, ℕ, ◌≤◌, ◌⊎◌}
 use Rattle.cfdp_header.specs.Header.{FitsWidth, IsWidth}
-use Rattle.cfdp_directives.specs.Codes.{modular, null}
-use Rattle.cfdp_directives.specs.Limits.{IsValidTimes}
+use Rattle.cfdp_directives.specs.Pdu.Codes.{modular, null}
+use Rattle.cfdp_directives.specs.User.Limits.{IsValidTimes}
 use Rattle.cfdp_sender.specs.State.{most_segment}
 use Rattle.cfdp_entity.specs.declared.config.EntityConfig.{EntityConfig}
 

@@ -2,8 +2,8 @@
 use Rattle.std.specs.Prelude.{◌≡◌, ◌++◌, ◌-◌, ℕ, List, Vec, vec_len, vec_capacity}
 use Rattle.cfdp_header.specs.Files.{FileMap}
 use Rattle.cfdp_header.specs.declared.value.TransactionId.{TransactionId}
-use Rattle.cfdp_directives.specs.declared.indication.Indication.{Indication}
-use Rattle.cfdp_directives.specs.Content.{Content}
+use Rattle.cfdp_directives.specs.declared.user.indication.Indication.{Indication}
+use Rattle.cfdp_directives.specs.Pdu.Content.{Content}
 use Rattle.cfdp_timers.specs.Armed.{TimersState}
 use Rattle.cfdp_entity.specs.Seen.{Seen}
 use Rattle.cfdp_entity.specs.Steps.{After, with_waits, Spoils}

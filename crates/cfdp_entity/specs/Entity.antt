@@ -1,8 +1,9 @@
 -- The state of an entity, and how it is kept.
-use Rattle.std.specs.Prelude.{◌≡◌, ◌≤◌, ℕ, ◌+◌, ◌-◌, ◌^◌, min, max, List, [], replicate, get_or, slice_get, slice_set, Option, Some, None}
+use Rattle.std.specs.Prelude.{◌≡◌, ◌≤◌, ℕ, ◌+◌, ◌-◌, ◌^◌, List, [], replicate, get_or, slice_get, slice_set, Option, Some, None}
+use Rattle.cfd_bits.specs.Counting.{raised}
 use Rattle.cfdp_header.specs.Files.{FileMap}
 use Rattle.cfdp_header.specs.declared.value.TransactionId.{TransactionId}
-use Rattle.cfdp_directives.specs.declared.phase.Phase.{Phase}
+use Rattle.cfdp_directives.specs.declared.user.phase.Phase.{Phase}
 use Rattle.cfdp_entity.specs.declared.config.EntityConfig.{EntityConfig}
 use Rattle.cfdp_entity.specs.declared.error.EntityDrop.{EntityDrop}
 use Rattle.cfdp_entity.specs.Errors.{drop_number}
@@ -53,10 +54,6 @@ next_of (Some n) = n
 next_of None = 2 ^ 64
 
 -- ---- counts of drops
--- one more, save at the greatest value
-abbrev pub raised : ℕ → ℕ
-raised n = max n (min (n + 1) (2 ^ 64 - 1))
-
 abbrev pub counted : EntityDrop → List ℕ → List ℕ
 counted d drops = slice_set drops (drop_number d) (raised (get_or drops (drop_number d) 0))
 

@@ -1,7 +1,7 @@
 -- What each field of a configuration has to be, so that an entity can be set up so.
 use Rattle.std.specs.Prelude.{◌≡◌, ◌≢◌, ◌≤◌, ◌⊎◌}
 use Rattle.cfdp_header.specs.Header.{FitsWidth, IsWidth}
-use Rattle.cfdp_directives.specs.Codes.{modular, null}
+use Rattle.cfdp_directives.specs.Pdu.Codes.{modular, null}
 use Rattle.cfdp_sender.specs.State.{most_segment}
 use Rattle.cfdp_entity.specs.declared.config.EntityConfig.{EntityConfig}
 use Rattle.cfdp_entity.specs.declared.amiss.EntityField.{EntityField}

@@ -1,12 +1,12 @@
 -- What a PDU does that an entity hears.
 use Rattle.std.specs.Prelude.{◌≡◌, ◌==◌, ◌||◌, ℕ, nat_lt, not, Bool, false, List, [], ◌∷◌, ◌++◌, length, Option, Some, None, if◌then◌else◌}
 use Rattle.cfdp_header.specs.declared.value.Header.{Header}
-use Rattle.cfdp_directives.specs.declared.error.PduError.{PduError}
-use Rattle.cfdp_directives.specs.declared.addressing.Addressing.{Addressing}
-use Rattle.cfdp_directives.specs.Addressing.{addressing_of}
-use Rattle.cfdp_directives.specs.Content.{Content, FileData, Metadata, Eof, Finished}
-use Rattle.cfdp_directives.specs.Direction.{direction_fits, is_for}
-use Rattle.cfdp_directives.specs.Grammar.{SpellsPdu}
+use Rattle.cfdp_directives.specs.declared.pdu.error.PduError.{PduError}
+use Rattle.cfdp_directives.specs.declared.pdu.addressing.Addressing.{Addressing}
+use Rattle.cfdp_directives.specs.Pdu.Addressing.{addressing_of}
+use Rattle.cfdp_directives.specs.Pdu.Content.{Content, FileData, Metadata, Eof, Finished}
+use Rattle.cfdp_directives.specs.Pdu.Direction.{direction_fits, is_for}
+use Rattle.cfdp_directives.specs.Pdu.Grammar.{SpellsPdu}
 use Rattle.cfdp_store.specs.declared.stored.Stored.{Stored}
 use Rattle.cfdp_store.specs.Chains.{Raises}
 use Rattle.cfdp_store.specs.Stores.{Counts}

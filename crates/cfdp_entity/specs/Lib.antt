@@ -1,3 +1,4 @@
+pub mod Coded
 pub mod Config
 pub mod Fields
 pub mod Errors

@@ -2,11 +2,11 @@
 use Rattle.std.specs.Prelude.{◌≡◌, ℕ, ◌==◌, [], ◌∷◌, Option, Some, None, if◌then◌else◌}
 use Rattle.std.specs.FinMap as map
 use Rattle.cfdp_header.specs.Files.{FileMap}
-use Rattle.cfdp_directives.specs.declared.addressing.Addressing.{Addressing}
-use Rattle.cfdp_directives.specs.declared.indication.Indication.TheVariants as indication
-use Rattle.cfdp_directives.specs.declared.limits.Times.{Times}
-use Rattle.cfdp_directives.specs.Codes.{no_error}
-use Rattle.cfdp_directives.specs.Content.{Content, Eof}
+use Rattle.cfdp_directives.specs.declared.pdu.addressing.Addressing.{Addressing}
+use Rattle.cfdp_directives.specs.declared.user.indication.Indication.TheVariants as indication
+use Rattle.cfdp_directives.specs.declared.user.limits.Times.{Times}
+use Rattle.cfdp_directives.specs.Pdu.Codes.{no_error}
+use Rattle.cfdp_directives.specs.Pdu.Content.{Content, Eof}
 use Rattle.cfdp_store.specs.declared.stored.Stored.{Stored}
 use Rattle.cfdp_store.specs.declared.stored.Stored.TheVariants.{Done, Refused}
 use Rattle.cfdp_store.specs.Stores.{Counts}

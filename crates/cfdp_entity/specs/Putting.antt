@@ -3,8 +3,8 @@ use Rattle.std.specs.Prelude.{◌≡◌, ℕ, ◌+◌, ◌^◌, ◌<◌, ◌&&�
 use Rattle.std.specs.FinMap as map
 use Rattle.std.specs.Option.{option_or}
 use Rattle.cfdp_header.specs.declared.value.TransactionId.{TransactionId}
-use Rattle.cfdp_directives.specs.declared.addressing.Addressing.{Addressing}
-use Rattle.cfdp_directives.specs.FileName.{IsFileName, is_file_name}
+use Rattle.cfdp_directives.specs.declared.pdu.addressing.Addressing.{Addressing}
+use Rattle.cfdp_directives.specs.User.FileName.{IsFileName, is_file_name}
 use Rattle.cfdp_store.specs.declared.stored.Stored.{Stored}
 use Rattle.cfdp_store.specs.declared.stored.Stored.TheVariants.{Done, Refused}
 use Rattle.cfdp_store.specs.Files.{octets_in}

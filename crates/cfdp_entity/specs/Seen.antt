@@ -2,11 +2,11 @@
 use Rattle.std.specs.Prelude.{ℕ, Bool, false, List, [], is_some, Option, Some, None, unwrap_or, if◌then◌else◌}
 use Rattle.std.specs.FinMap as map
 use Rattle.cfdp_header.specs.Files.{FileMap}
-use Rattle.cfdp_directives.specs.declared.addressing.Addressing.{Addressing}
-use Rattle.cfdp_directives.specs.declared.phase.Phase.{Phase}
-use Rattle.cfdp_directives.specs.Addressing.{header_of, written_len}
-use Rattle.cfdp_directives.specs.Content.{Content}
-use Rattle.cfdp_directives.specs.Written.{pdu_octets}
+use Rattle.cfdp_directives.specs.declared.pdu.addressing.Addressing.{Addressing}
+use Rattle.cfdp_directives.specs.declared.user.phase.Phase.{Phase}
+use Rattle.cfdp_directives.specs.Pdu.Addressing.{header_of, written_len}
+use Rattle.cfdp_directives.specs.Pdu.Content.{Content}
+use Rattle.cfdp_directives.specs.Pdu.Written.{pdu_octets}
 use Rattle.cfdp_store.specs.Staged.{OctetMap}
 use Rattle.cfdp_store.specs.Files.{octets_in}
 use Rattle.cfdp_sender.specs.State.{SenderState}

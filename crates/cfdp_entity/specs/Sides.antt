@@ -1,11 +1,11 @@
 -- How a call of the machine of one side is tied to its step, if it makes one.
 use Rattle.std.specs.Prelude.{◌≡◌, ◌++◌, ℕ, List, [], Option, Some, None}
 use Rattle.cfdp_header.specs.Files.{FileMap}
-use Rattle.cfdp_directives.specs.declared.indication.Indication.{Indication}
-use Rattle.cfdp_directives.specs.declared.limits.Times.{Times}
-use Rattle.cfdp_directives.specs.Content.{Content, FileData, Metadata, Nak}
-use Rattle.cfdp_directives.specs.declared.codes.Acknowledged.{Acknowledged}
-use Rattle.cfdp_directives.specs.declared.codes.Acknowledged.TheVariants as acknowledged
+use Rattle.cfdp_directives.specs.declared.user.indication.Indication.{Indication}
+use Rattle.cfdp_directives.specs.declared.user.limits.Times.{Times}
+use Rattle.cfdp_directives.specs.Pdu.Content.{Content, FileData, Metadata, Nak}
+use Rattle.cfdp_directives.specs.declared.pdu.codes.Acknowledged.{Acknowledged}
+use Rattle.cfdp_directives.specs.declared.pdu.codes.Acknowledged.TheVariants as acknowledged
 use Rattle.cfdp_store.specs.Staged.{OctetMap, OthersKeep, staged_for}
 use Rattle.cfdp_timers.specs.declared.kind.Kind.TheVariants as kind
 use Rattle.cfdp_timers.specs.Armed.{TimersState}

@@ -1,8 +1,8 @@
 -- What is due is spelled by its octets.
 use Rattle.std.specs.Prelude.{List, [], ◌∷◌, Option, Some, None}
 use Rattle.cfdp_header.specs.Files.{FileMap}
-use Rattle.cfdp_directives.specs.declared.addressing.Addressing.{Addressing}
-use Rattle.cfdp_directives.specs.Content.{Content}
+use Rattle.cfdp_directives.specs.declared.pdu.addressing.Addressing.{Addressing}
+use Rattle.cfdp_directives.specs.Pdu.Content.{Content}
 use Rattle.cfdp_entity.specs.declared.polled.EntityPolled.{EntityPolled}
 use Rattle.cfdp_entity.specs.declared.polled.EntityPolled.TheVariants.{Moved}
 use Rattle.cfdp_entity.specs.Entity.{EntityState}

@@ -1,9 +1,9 @@
 -- The ACK of a Finished whose transaction has no record.
 use Rattle.std.specs.Prelude.{ℕ, List, [], ◌∷◌, Some}
-use Rattle.cfdp_directives.specs.declared.addressing.Addressing.{Addressing}
-use Rattle.cfdp_directives.specs.declared.codes.Acknowledged.TheVariants as acknowledged
-use Rattle.cfdp_directives.specs.declared.codes.TransactionStatus.TheVariants.{Unrecognized}
-use Rattle.cfdp_directives.specs.Content.{Content, Ack}
+use Rattle.cfdp_directives.specs.declared.pdu.addressing.Addressing.{Addressing}
+use Rattle.cfdp_directives.specs.declared.pdu.codes.Acknowledged.TheVariants as acknowledged
+use Rattle.cfdp_directives.specs.declared.pdu.codes.TransactionStatus.TheVariants.{Unrecognized}
+use Rattle.cfdp_directives.specs.Pdu.Content.{Content, Ack}
 use Rattle.cfdp_entity.specs.Seen.{octets_of, len_of}
 
 -- what the Finished's header has in common with its answer, and the condition that it told

@@ -7,11 +7,11 @@ use Rattle.indexmap.specs.IndexMap.{set_value_at}
 use Rattle.cfdp_header.specs.declared.value.TransactionId.{TransactionId}
 use Rattle.cfdp_header.specs.Ids.{same_id}
 use Rattle.cfdp_header.specs.Files.{FileMap}
-use Rattle.cfdp_directives.specs.declared.addressing.Addressing.{Addressing}
-use Rattle.cfdp_directives.specs.declared.indication.Indication.{Indication}
-use Rattle.cfdp_directives.specs.declared.phase.Phase.{Phase}
-use Rattle.cfdp_directives.specs.declared.policy.Policy.{Policy}
-use Rattle.cfdp_directives.specs.Content.{Content}
+use Rattle.cfdp_directives.specs.declared.pdu.addressing.Addressing.{Addressing}
+use Rattle.cfdp_directives.specs.declared.user.indication.Indication.{Indication}
+use Rattle.cfdp_directives.specs.declared.user.phase.Phase.{Phase}
+use Rattle.cfdp_directives.specs.declared.user.policy.Policy.{Policy}
+use Rattle.cfdp_directives.specs.Pdu.Content.{Content}
 use Rattle.cfdp_store.specs.declared.stored.Stored.{Stored}
 use Rattle.cfdp_timers.specs.declared.kind.Kind.{Kind}
 use Rattle.cfdp_timers.specs.Order.{Timer}

@@ -1,16 +1,16 @@
 -- What a table tells of files that were delivered: to the other entity, and to its user.
 use Rattle.std.specs.Prelude.{◌≡◌, ℕ, List, slice_get, Some, Contains}
 use Rattle.cfdp_header.specs.declared.value.TransactionId.{TransactionId}
-use Rattle.cfdp_directives.specs.declared.codes.Delivery.TheVariants.{Complete}
-use Rattle.cfdp_directives.specs.declared.codes.FileStatus.TheVariants.{Retained}
-use Rattle.cfdp_directives.specs.declared.indication.Indication.{Indication}
-use Rattle.cfdp_directives.specs.declared.telling.Outcome.{Outcome}
-use Rattle.cfdp_directives.specs.Codes.{no_error}
-use Rattle.cfdp_directives.specs.Completions.{IsToldComplete}
-use Rattle.cfdp_directives.specs.Content.{Finished}
-use Rattle.cfdp_directives.specs.Policy.{finished_told}
-use Rattle.cfdp_directives.specs.Put.{SomePdu, SaysComplete}
-use Rattle.cfdp_directives.specs.Tlv.{Tlv}
+use Rattle.cfdp_directives.specs.declared.pdu.codes.Delivery.TheVariants.{Complete}
+use Rattle.cfdp_directives.specs.declared.pdu.codes.FileStatus.TheVariants.{Retained}
+use Rattle.cfdp_directives.specs.declared.user.indication.Indication.{Indication}
+use Rattle.cfdp_directives.specs.declared.user.telling.Outcome.{Outcome}
+use Rattle.cfdp_directives.specs.Pdu.Codes.{no_error}
+use Rattle.cfdp_directives.specs.User.Completions.{IsToldComplete}
+use Rattle.cfdp_directives.specs.Pdu.Content.{Finished}
+use Rattle.cfdp_directives.specs.User.Policy.{finished_told}
+use Rattle.cfdp_directives.specs.User.Put.{SomePdu, SaysComplete}
+use Rattle.cfdp_directives.specs.Pdu.Tlv.{Tlv}
 use Rattle.cfdp_entity.specs.History.{TableStep, Hears}
 use Rattle.cfdp_entity.specs.Seen.{Seen, Sends, Receives}
 use Rattle.cfdp_entity.specs.Table.{Entry, TableState}

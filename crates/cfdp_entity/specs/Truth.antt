@@ -4,9 +4,9 @@
 use Rattle.std.specs.Prelude.{◌≡◌, ℕ, List, slice_get, Option, Some, IsSome, Contains}
 use Rattle.cfdp_header.specs.declared.value.TransactionId.{TransactionId}
 use Rattle.cfdp_header.specs.Files.{FileMap}
-use Rattle.cfdp_directives.specs.Completions.{completions}
-use Rattle.cfdp_directives.specs.Content.{Content}
-use Rattle.cfdp_directives.specs.Put.{Put, IsTruthful, HeardInFull, inbox_after}
+use Rattle.cfdp_directives.specs.User.Completions.{completions}
+use Rattle.cfdp_directives.specs.Pdu.Content.{Content}
+use Rattle.cfdp_directives.specs.User.Put.{Put, IsTruthful, HeardInFull, inbox_after}
 use Rattle.cfdp_store.specs.Staged.{OctetMap}
 use Rattle.cfdp_receiver.specs.State.{ReceiverState}
 use Rattle.cfdp_receiver.specs.Sound.{Sound, IsAmong}

@@ -1,7 +1,7 @@
 -- What a user can look at: the transactions of a table, each with how far it has come.
 use Rattle.std.specs.Prelude.{List, map, None}
 use Rattle.cfdp_header.specs.declared.value.TransactionId.{TransactionId}
-use Rattle.cfdp_directives.specs.declared.phase.Phase.{Phase}
+use Rattle.cfdp_directives.specs.declared.user.phase.Phase.{Phase}
 use Rattle.cfdp_entity.specs.declared.record.Record.{Record}
 use Rattle.cfdp_entity.specs.Seen.{seen, phase_of}
 use Rattle.cfdp_entity.specs.Table.{Entry, TableState}

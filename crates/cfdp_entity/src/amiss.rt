@@ -1,7 +1,7 @@
 // Which field of a configuration isn't as it has to be.
 ghost use Rattle.std.specs.Prelude.{◌↔◌, IsTrue, MatchOption};
 ghost use Rattle.cfdp_header.specs.Header.{IsWidth};
-ghost use Rattle.cfdp_directives.specs.Limits.{IsValidTimes};
+ghost use Rattle.cfdp_directives.specs.User.Limits.{IsValidTimes};
 ghost use Rattle.cfdp_entity.specs.Config.{IsConfig, HasIds, HasSending};
 ghost use Rattle.cfdp_entity.specs.Fields.{Fits};
 

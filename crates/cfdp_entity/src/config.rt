@@ -1,7 +1,7 @@
 ghost use Rattle.std.specs.Prelude.{◌≡◌, ◌≢◌, ◌↔◌, IsTrue};
 ghost use Rattle.cfdp_header.specs.Header.{FitsWidth};
-ghost use Rattle.cfdp_directives.specs.Codes.{modular};
-ghost use Rattle.cfdp_directives.specs.Policy.{default_policy};
+ghost use Rattle.cfdp_directives.specs.Pdu.Codes.{modular};
+ghost use Rattle.cfdp_directives.specs.User.Policy.{default_policy};
 ghost use Rattle.cfdp_entity.specs.Config.{IsConfig, HasIds, HasSending};
 
 use cfdp_directives::{ChecksumKind, Policy};

@@ -1,8 +1,8 @@
 // What an entity hears.
 ghost use Rattle.std.specs.Prelude.{◌≡◌, ◌<◌, length, None, IfErr, OnOk, OnErr};
-ghost use Rattle.cfdp_directives.specs.Addressing.{addressing_of, FitsAddressing};
-ghost use Rattle.cfdp_directives.specs.Content.{view};
-ghost use Rattle.cfdp_directives.specs.Faults.{pdu_fault};
+ghost use Rattle.cfdp_directives.specs.Pdu.Addressing.{addressing_of, FitsAddressing};
+ghost use Rattle.cfdp_directives.specs.Pdu.Content.{view};
+ghost use Rattle.cfdp_directives.specs.Pdu.Faults.{pdu_fault};
 ghost use Rattle.cfdp_entity.specs.declared.error.EntityDrop.TheVariants as drops;
 ghost use Rattle.cfdp_entity.specs.declared.route.Route.TheVariants as routes;
 ghost use Rattle.cfdp_entity.specs.Entity.{with_table};

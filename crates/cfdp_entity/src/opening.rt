@@ -3,8 +3,8 @@ ghost use Rattle.std.specs.Prelude.{◌≡◌, ◌+◌, ◌≤◌, true, None, I
 ghost use Rattle.std.specs.FinSet as set;
 ghost use Rattle.cfdp_header.specs.Files.{FileMap};
 ghost use Rattle.cfdp_header.specs.declared.value.TransactionId.{TransactionId};
-ghost use Rattle.cfdp_directives.specs.Addressing.{FitsAddressing};
-ghost use Rattle.cfdp_directives.specs.Content.{view};
+ghost use Rattle.cfdp_directives.specs.Pdu.Addressing.{FitsAddressing};
+ghost use Rattle.cfdp_directives.specs.Pdu.Content.{view};
 ghost use Rattle.cfdp_store.specs.Chains.{Makes};
 ghost use Rattle.cfdp_store.specs.Staged.{OthersKeep};
 ghost use Rattle.cfdp_entity.specs.declared.record.Record.TheVariants as variants;

@@ -97,14 +97,14 @@ impl<O: Outbox, I: Inbox> Entity<O, I> {
         if self.table.due_len(place) > room {
             return Ok(EntityPolled::Full);
         }
-        match self.take_at(place, out)? {
+        match self.send_at(place, out)? {
             Gave::Octets(octets) => Ok(EntityPolled::Moved(octets)),
             Gave::Failed => Ok(EntityPolled::SourceFailed),
         }
     }
 
     // Takes the PDU of the record at a place.
-    fn take_at(&mut self, place: usize, out: &mut [u8]) -> Result<Gave, AllocError>
+    fn send_at(&mut self, place: usize, out: &mut [u8]) -> Result<Gave, AllocError>
         requires fits { len_at place self.old.state.table ≤ length out.old }
         requires within { place < 4096 }
         ensures taken { IfOk result (λ gave. self.new.state
@@ -119,7 +119,7 @@ impl<O: Outbox, I: Inbox> Entity<O, I> {
         ensures inbox { self.new.inbox_failures ≡ self.old.inbox_failures }
     {
         self.table.reserve(3)?;
-        let gave = self.table.take(place, out);
+        let gave = self.table.send(place, out);
         self.cursor = place + 1;
         Ok(gave)
     }

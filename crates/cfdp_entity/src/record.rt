@@ -3,8 +3,8 @@ ghost use Rattle.std.specs.Prelude.{◌≡◌, ◌+◌, ◌≤◌, ◌++◌, ◌
 ghost use Rattle.std.specs.FinSet as set;
 ghost use Rattle.cfdp_header.specs.Files.{FileMap};
 ghost use Rattle.cfdp_header.specs.declared.value.TransactionId.{TransactionId};
-ghost use Rattle.cfdp_directives.specs.declared.indication.Indication.TheVariants as indication;
-ghost use Rattle.cfdp_directives.specs.Content.{view};
+ghost use Rattle.cfdp_directives.specs.declared.user.indication.Indication.TheVariants as indication;
+ghost use Rattle.cfdp_directives.specs.Pdu.Content.{view};
 ghost use Rattle.cfdp_store.specs.Staged.{OctetMap, OthersKeep, staged_for};
 ghost use Rattle.cfdp_store.specs.Chains.{Makes, Raises};
 ghost use Rattle.cfdp_store.specs.Stores.{Counts};
@@ -210,7 +210,7 @@ impl Record {
     }
 
     /// Takes the PDU that is due.
-    pub(crate) fn take<O: Outbox, I: Inbox>(
+    pub(crate) fn send<O: Outbox, I: Inbox>(
         &mut self,
         outbox: &mut O,
         inbox: &mut I,
@@ -248,7 +248,7 @@ impl Record {
                 Taken::SourceFailed => Gave::Failed,
             },
             Record::Receives(receiver) => {
-                Gave::Octets(take_of_receiver(receiver, timers, policy, out))
+                Gave::Octets(send_of_receiver(receiver, timers, policy, out))
             }
         }
     }
@@ -459,7 +459,7 @@ fn expire_receiver<I: Inbox>(
 }
 
 // A receiver writes the PDU that is due.
-fn take_of_receiver(
+fn send_of_receiver(
     receiver: &mut Receiver,
     timers: &mut Timers,
     policy: &Policy,

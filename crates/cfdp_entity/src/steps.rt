@@ -6,12 +6,12 @@ ghost use Rattle.std.specs.FinSet as set;
 ghost use Rattle.indexmap.specs.IndexMap.{keys, get, spare as spare_entries};
 ghost use Rattle.cfdp_header.specs.Ids.{same_id};
 ghost use Rattle.cfdp_header.specs.Files.{FileMap};
-ghost use Rattle.cfdp_directives.specs.Content.{view};
+ghost use Rattle.cfdp_directives.specs.Pdu.Content.{view};
 ghost use Rattle.cfdp_store.specs.Chains.{Raises};
 ghost use Rattle.cfdp_store.specs.Stores.{Counts};
 ghost use Rattle.cfdp_sender.specs.State.{IsSendable};
 ghost use Rattle.cfdp_sender.specs.Does.{HasFile};
-ghost use Rattle.cfdp_directives.specs.Addressing.{FitsAddressing};
+ghost use Rattle.cfdp_directives.specs.Pdu.Addressing.{FitsAddressing};
 ghost use Rattle.cfdp_entity.specs.declared.record.Gave.TheVariants as gaves;
 ghost use Rattle.cfdp_entity.specs.Does.{spare};
 ghost use Rattle.cfdp_entity.specs.Opening.{closing, AsksInOrder, CountsBoth};
@@ -210,7 +210,7 @@ pub(crate) fn call_at<O: Outbox, I: Inbox>(
 }
 
 /// Takes the PDU of the record at a place.
-pub(crate) fn take_at<O: Outbox, I: Inbox>(
+pub(crate) fn send_at<O: Outbox, I: Inbox>(
     records: &mut IndexMap<TransactionId, Record>,
     ready: &mut Ready,
     outbox: &mut O,
@@ -245,7 +245,7 @@ pub(crate) fn take_at<O: Outbox, I: Inbox>(
     };
     match records.get_index_mut(place) {
         Some(record) => {
-            let gave = record.take(outbox, inbox, timers, told, policy, id, out);
+            let gave = record.send(outbox, inbox, timers, told, policy, id, out);
             ready.set(place, record.is_due());
             gave
         }

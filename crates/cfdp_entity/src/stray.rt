@@ -1,7 +1,7 @@
 // Acknowledgements of transactions that have no record.
 ghost use Rattle.std.specs.Prelude.{◌≡◌, ◌≤◌, length};
-ghost use Rattle.cfdp_directives.specs.Addressing.{addressing_of, FitsAddressing};
-ghost use Rattle.cfdp_directives.specs.Content.{view};
+ghost use Rattle.cfdp_directives.specs.Pdu.Addressing.{addressing_of, FitsAddressing};
+ghost use Rattle.cfdp_directives.specs.Pdu.Content.{view};
 ghost use Rattle.cfdp_entity.specs.Gives.{Writes};
 ghost use Rattle.cfdp_entity.specs.Sound.{longest_pdu};
 ghost use Rattle.cfdp_entity.specs.Spelled.{StrayIsSpelled};
@@ -19,7 +19,7 @@ pub struct Stray {
 }
 
 impl Model for Stray {
-    ghost use Rattle.cfdp_directives.specs.Addressing.{FitsAddressing};
+    ghost use Rattle.cfdp_directives.specs.Pdu.Addressing.{FitsAddressing};
     ghost use Rattle.cfdp_entity.specs.Strays.{StrayAck};
 
     ghost Value = { StrayAck };

@@ -5,8 +5,8 @@ ghost use Rattle.std.specs.Option.{option_map};
 ghost use Rattle.std.specs.List.{IsDistinct};
 ghost use Rattle.std.specs.Map.{keys_of};
 ghost use Rattle.cfdp_header.specs.Ids.{same_id};
-ghost use Rattle.cfdp_directives.specs.Addressing.{FitsAddressing};
-ghost use Rattle.cfdp_directives.specs.Content.{view};
+ghost use Rattle.cfdp_directives.specs.Pdu.Addressing.{FitsAddressing};
+ghost use Rattle.cfdp_directives.specs.Pdu.Content.{view};
 ghost use Rattle.cfdp_timers.specs.Due.{AreDue, IsLeast, due_count};
 ghost use Rattle.cfdp_timers.specs.ButInactivity.{OnlyInactivity, IsLeastOther};
 ghost use Rattle.cfdp_store.specs.Chains.{Raises};
@@ -59,19 +59,14 @@ pub struct Table<O: Outbox, I: Inbox> {
 }
 
 impl<O: Outbox, I: Inbox> Model for Table<O, I> {
-    ghost use Rattle.std.specs.Coded.{codes, coded_ℕ, coded_list, coded×};
-    ghost use Rattle.std.specs.Ordering.{nat_cmp};
-    ghost use Rattle.std.specs.Cmp.Lexicographic.{slice_cmp};
-    ghost use Rattle.std.specs.FinMap as finmap;
-    ghost use Rattle.std.specs.FinSet as finset;
-    ghost use Rattle.cfdp_timers.specs.Armed.{armed_code};
+    ghost use Rattle.cfdp_entity.specs.Coded.{state_codes};
     ghost use Rattle.cfdp_entity.specs.Does.{spare};
     ghost use Rattle.cfdp_entity.specs.Roomy.{Roomy};
     ghost use Rattle.cfdp_entity.specs.Whole.{IsWhole, state_of};
 
     ghost Value = { Roomy };
 
-    ghost coded = { Prim.hlevel (codes, armed_code, finset.code {R = nat_cmp} coded_ℕ, finmap.code {R = nat_cmp} coded_ℕ coded_ℕ, finmap.code {R = slice_cmp nat_cmp} (coded_list coded_ℕ) (coded_list coded_ℕ)) };
+    ghost coded = { Prim.hlevel (state_codes) };
 
     ghost view = { λ t. record {
       state = state_of (I.staged t.inbox) (I.published t.inbox) (O.files t.outbox) t.policy t.records.entries t.timers t.told.items;
@@ -265,7 +260,7 @@ impl<O: Outbox, I: Inbox> Table<O, I> {
     }
 
     /// Takes the PDU of the record at a place.
-    pub fn take(&mut self, place: usize, out: &mut [u8]) -> Gave
+    pub fn send(&mut self, place: usize, out: &mut [u8]) -> Gave
         requires room { 3 ≤ self.old.spare }
         requires fits { len_at place self.old.state ≤ length out.old }
         ensures taken { self.new.state ≡ taken_at (stored_by_gave result) place self.old.state }
@@ -276,7 +271,7 @@ impl<O: Outbox, I: Inbox> Table<O, I> {
             self.new.outbox_failures }
         ensures inbox { self.new.inbox_failures ≡ self.old.inbox_failures }
     {
-        steps::take_at(
+        steps::send_at(
             &mut self.records,
             &mut self.ready,
             &mut self.outbox,

@@ -20,7 +20,7 @@ pub struct Transactions<'a> {
 impl<'a> Model for Transactions<'a> {
     ghost use Rattle.std.specs.Prelude.{List, map};
     ghost use Rattle.cfdp_header.specs.declared.value.TransactionId.{TransactionId};
-    ghost use Rattle.cfdp_directives.specs.declared.phase.Phase.{Phase};
+    ghost use Rattle.cfdp_directives.specs.declared.user.phase.Phase.{Phase};
     ghost use Rattle.cfdp_entity.specs.Walking.{record_told};
 
     ghost Value = { List (TransactionId × Phase) };

@@ -56,7 +56,3 @@ id_laws = eq_by_cmp_equiv id_total
 -- `==` of ids is what their order ties
 pub id_eq : (x y : TransactionId) → (eq-value).it x y ≡ eq_by_cmp id_cmp x y
 id_eq x y = both_tied _ _ (nat_cmp x.source y.source) (nat_cmp x.number y.number) (unsigned_ties x.source y.source) (unsigned_ties x.number y.number)
-
--- and so is `same_id`
-pub same_id-cmp : (x y : TransactionId) → same_id x y ≡ eq_by_cmp id_cmp x y
-same_id-cmp x y = both_tied _ _ (nat_cmp x.source y.source) (nat_cmp x.number y.number) (sym (unsigned_tied x.source y.source)) (sym (unsigned_tied x.number y.number))

@@ -5,10 +5,10 @@ use Rattle.std.proofs.lemmas.Grind.{flat_map-append}
 use Rattle.std.specs.Io.KnownBytes.{Appends}
 use Rattle.std.specs.List.{AllZip, flat_map}
 use Rattle.std.specs.Result.{OnOk}
-use Rattle.cfdp_node.specs.Chart.{Charts, ChartsSighting, arrow, drawn_octet, head_text, most_lines, rest_text}
-use Rattle.cfdp_node.specs.Dump.{WritesLine, WritesLines, as_line}
-use Rattle.cfdp_node.specs.Trace.{TellsDeed}
-use Rattle.cfdp_node.specs.declared.sighting.Sighting.{Sighting}
+use Rattle.cfdp_node.specs.Watch.Chart.{Charts, ChartsSighting, arrow, drawn_octet, head_text, most_lines, rest_text}
+use Rattle.cfdp_node.specs.Dump.Lines.{WritesLine, WritesLines, as_line}
+use Rattle.cfdp_node.specs.Watch.Trace.{TellsDeed}
+use Rattle.cfdp_node.specs.declared.watch.sighting.Sighting.{Sighting}
 
 -- what stands before what a sighting tells
 abbrev pub front_of : Sighting → List ℕ

@@ -6,16 +6,16 @@ use Rattle.std.specs.FinMap.{empty}
 use Rattle.cfdp_header.specs.declared.value.TransactionId.{TransactionId}
 use Rattle.cfdp_header.specs.Ids.{same_id}
 use Rattle.cfdp_header.proofs.Ids.{same_id-is, same_id-itself}
-use Rattle.cfdp_directives.specs.declared.codes.Delivery.{Delivery}
-use Rattle.cfdp_directives.specs.declared.codes.Delivery.TheVariants.{Complete, Incomplete}
-use Rattle.cfdp_directives.specs.declared.codes.FileStatus.{FileStatus}
-use Rattle.cfdp_directives.specs.declared.codes.FileStatus.TheVariants.{Discarded, Rejected, Retained, Unreported}
-use Rattle.cfdp_directives.specs.declared.indication.Indication.{Indication}
-use Rattle.cfdp_directives.specs.declared.indication.Indication.TheVariants.{Transaction, EofSent, MetadataRecv, EofRecv, Finished, Suspended, Resumed, Fault, Abandoned, Progress}
-use Rattle.cfdp_directives.specs.Codes.{no_error}
-use Rattle.cfdp_directives.specs.Completions.{FinishedOnce, IsToldComplete, is_finished}
+use Rattle.cfdp_directives.specs.declared.pdu.codes.Delivery.{Delivery}
+use Rattle.cfdp_directives.specs.declared.pdu.codes.Delivery.TheVariants.{Complete, Incomplete}
+use Rattle.cfdp_directives.specs.declared.pdu.codes.FileStatus.{FileStatus}
+use Rattle.cfdp_directives.specs.declared.pdu.codes.FileStatus.TheVariants.{Discarded, Rejected, Retained, Unreported}
+use Rattle.cfdp_directives.specs.declared.user.indication.Indication.{Indication}
+use Rattle.cfdp_directives.specs.declared.user.indication.Indication.TheVariants.{Transaction, EofSent, MetadataRecv, EofRecv, Finished, Suspended, Resumed, Fault, Abandoned, Progress}
+use Rattle.cfdp_directives.specs.Pdu.Codes.{no_error}
+use Rattle.cfdp_directives.specs.User.Completions.{FinishedOnce, IsToldComplete, is_finished}
 use Rattle.cfdp_directives.proofs.Puts.{count_by-append}
-use Rattle.cfdp_directives.specs.Put.{Put}
+use Rattle.cfdp_directives.specs.User.Put.{Put}
 use Rattle.link_sim.specs.Clean.{AllComplete, IsCompleteAt}
 use Rattle.link_sim.specs.Observed.{seen}
 use Rattle.link_sim.specs.Recovering.{IsRecovered, Recovers}
@@ -24,7 +24,8 @@ use Rattle.link_sim.specs.Settling.{GoesWell, IsSettled}
 use Rattle.link_sim.specs.Sides.{other}
 use Rattle.link_sim.specs.Spreading.{Many, Times}
 use Rattle.link_sim.specs.Theorem.{WorldSeen, accepted_as, at, put_by, side_of}
-use Rattle.link_sim.specs.World.{WorldState, FindsNoMemory, Steps, WantsMemory, entity_at, side_in}
+use Rattle.link_sim.specs.World.State.{WorldState, entity_at}
+use Rattle.link_sim.specs.World.Steps.{FindsNoMemory, Steps, WantsMemory, side_in}
 use Rattle.link_sim.specs.declared.event.AcceptedPut.{AcceptedPut}
 use Rattle.link_sim.specs.declared.event.Applied.{Applied}
 use Rattle.link_sim.specs.declared.event.Applied.TheVariants as did
@@ -34,14 +35,14 @@ use Rattle.link_sim.specs.declared.recover_error.RecoverError.{RecoverError}
 use Rattle.link_sim.specs.declared.recover_error.RecoverError.TheVariants.{Settle, StillArmed}
 use Rattle.link_sim.specs.declared.side.Side.{Side}
 use Rattle.link_sim.specs.declared.side.Side.TheVariants.{One, Two}
-use Rattle.link_sim.proofs.Leading.{GoesBy, IsNoPut, no-put-same, no-put-settles, row-burst-lacks, row-bursts, row-cause, row-ended, row-puts, row-recovers, row-spread-lacks, row-spreads, row-well}
-use Rattle.cfdp_node.specs.Report.{is_own_completion, puts_asked, puts_completed}
-use Rattle.cfdp_node.specs.Run.{AreAccepted, ForMemory, HappensOften, HappensOnce, IsAccepted, IsDone, Performs, Runs, SettlingEnds, puts_by, puts_in, told}
-use Rattle.cfdp_node.specs.declared.answer.Answer.{Answer}
-use Rattle.cfdp_node.specs.declared.answer.Answer.TheVariants.{Nothing, Refused, Ended}
-use Rattle.cfdp_node.specs.declared.answer.Answered.{Answered}
-use Rattle.cfdp_node.specs.declared.command.Command.{Command}
-use Rattle.cfdp_node.specs.declared.command.Command.TheVariants.{Once, Repeat, Spread, Burst, Settle as SettleAll, Recover}
+use Rattle.link_sim.proofs.Events.Leading.{GoesBy, IsNoPut, no-put-same, no-put-settles, row-burst-lacks, row-bursts, row-cause, row-ended, row-puts, row-recovers, row-spread-lacks, row-spreads, row-well}
+use Rattle.cfdp_node.specs.Report.Lines.{is_own_completion, puts_asked, puts_completed}
+use Rattle.cfdp_node.specs.Script.Run.{AreAccepted, ForMemory, HappensOften, HappensOnce, IsAccepted, IsDone, Performs, Runs, SettlingEnds, puts_by, puts_in, told}
+use Rattle.cfdp_node.specs.declared.report.answer.Answer.{Answer}
+use Rattle.cfdp_node.specs.declared.report.answer.Answer.TheVariants.{Nothing, Refused, Ended}
+use Rattle.cfdp_node.specs.declared.report.answer.Answered.{Answered}
+use Rattle.cfdp_node.specs.declared.script.command.Command.{Command}
+use Rattle.cfdp_node.specs.declared.script.command.Command.TheVariants.{Once, Repeat, Spread, Burst, Settle as SettleAll, Recover}
 use Rattle.cfdp_node.specs.declared.script.Step.{Step}
 use Rattle.cfdp_node.proofs.Leads.{for_memory}
 

@@ -8,16 +8,16 @@ use Rattle.cfdp_header.specs.declared.value.TransactionId.{TransactionId}
 use Rattle.cfdp_header.specs.Files.{FileMap}
 use Rattle.cfdp_header.specs.Ids.{same_id}
 use Rattle.cfdp_header.proofs.Ids.{same_id-is, same_id-itself}
-use Rattle.cfdp_directives.specs.Completions.{IsToldComplete}
-use Rattle.cfdp_directives.specs.Put.{Put, inbox_after, overwritten}
+use Rattle.cfdp_directives.specs.User.Completions.{IsToldComplete}
+use Rattle.cfdp_directives.specs.User.Put.{Put, inbox_after, overwritten}
 use Rattle.cfdp_station.specs.Station.{StationState}
 use Rattle.link_sim.specs.declared.event.AcceptedPut.{AcceptedPut}
 use Rattle.link_sim.specs.declared.side.Side.TheVariants.{One, Two}
 use Rattle.link_sim.specs.declared.world_config.WorldConfig.{WorldConfig}
 use Rattle.link_sim.specs.Observed.{seen}
 use Rattle.link_sim.specs.Theorem.{accepted_as, at, completions_at, put_at, put_by, put_of, with_octets}
-use Rattle.link_sim.specs.World.{WorldState}
-use Rattle.cfdp_node.specs.InOrder.{AreOfWorld, Passage}
+use Rattle.link_sim.specs.World.State.{WorldState}
+use Rattle.cfdp_node.specs.Wire.InOrder.{AreOfWorld, Passage}
 
 -- ---- an inbox after completions of one put
 written : (files : FileMap) (name octets : List ℕ) → get (insert files name octets) name ≡ Some octets

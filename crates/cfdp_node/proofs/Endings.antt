@@ -8,23 +8,23 @@ use Rattle.cfdp_entity.specs.Entity.{EntityState}
 use Rattle.link_sim.specs.Clean.{AllComplete, IsClean}
 use Rattle.link_sim.specs.Running.{KeepsPromises, Led}
 use Rattle.link_sim.specs.Settling.{IsSettled}
-use Rattle.link_sim.specs.World.{WorldState, IsFirst, entity_at}
+use Rattle.link_sim.specs.World.State.{WorldState, IsFirst, entity_at}
 use Rattle.link_sim.specs.declared.side.Side.{Side}
 use Rattle.link_sim.specs.declared.side.Side.TheVariants.{One, Two}
 use Rattle.link_sim.specs.declared.world_config.WorldConfig.{WorldConfig}
-use Rattle.cfdp_node.specs.Ending.{EndsRun, RunsAll}
+use Rattle.cfdp_node.specs.Script.Ending.{EndsRun, RunsAll}
 use Rattle.cfdp_node.proofs.Leads.{runs_lead}
 use Rattle.cfdp_node.proofs.Counting.{completed-all, puts-all}
-use Rattle.cfdp_node.specs.Outboxes.{outbox_of}
-use Rattle.cfdp_node.specs.Report.{puts_asked, puts_completed}
-use Rattle.cfdp_node.specs.Run.{AreAccepted}
-use Rattle.cfdp_node.specs.Script as scripts
-use Rattle.cfdp_node.specs.Script.{IsFirstBad, files_of, settings_of, steps_of}
-use Rattle.cfdp_node.specs.Settings.{world_of}
-use Rattle.cfdp_node.specs.Simulated.{EndsFrom, EndsReading, EndsScript, EndsText, IsSilentAt}
-use Rattle.cfdp_node.specs.declared.command.FileLine.{FileLine}
+use Rattle.cfdp_node.specs.Script.Outboxes.{outbox_of}
+use Rattle.cfdp_node.specs.Report.Lines.{puts_asked, puts_completed}
+use Rattle.cfdp_node.specs.Script.Run.{AreAccepted}
+use Rattle.cfdp_node.specs.Script.Lines as scripts
+use Rattle.cfdp_node.specs.Script.Lines.{IsFirstBad, files_of, settings_of, steps_of}
+use Rattle.cfdp_node.specs.Script.Settings.{world_of}
+use Rattle.cfdp_node.specs.Script.Simulated.{EndsFrom, EndsReading, EndsScript, EndsText, IsSilentAt}
+use Rattle.cfdp_node.specs.declared.script.command.FileLine.{FileLine}
 use Rattle.cfdp_node.specs.declared.script.Step.{Step}
-use Rattle.cfdp_node.specs.declared.settings.Settings.{Settings}
+use Rattle.cfdp_node.specs.declared.script.settings.Settings.{Settings}
 use Rattle.cfdp_node.specs.declared.exit.Exit.{Exit}
 use Rattle.cfdp_node.specs.declared.exit.Exit.TheVariants.{Complete, Incomplete, BadScript, Device}
 use Rattle.cfdp_node.specs.declared.exit.Fault.{Fault}

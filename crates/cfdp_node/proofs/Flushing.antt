@@ -2,12 +2,12 @@
 use Rattle.std.proofs.Common.{◌≡◌, ◌⊎◌, ℕ, List, Option, None, Some, IfSome, subst, sym, ⊎_elim}
 use Rattle.std.specs.Io.KnownBytes.{Keeps}
 use Rattle.std.proofs.KnownBytes.{Appends-kept, Keeps-trans}
-use Rattle.link_sim.specs.World.{WorldState}
-use Rattle.cfdp_node.specs.Dump.{EndsDump, TellsLine, lines}
-use Rattle.cfdp_node.specs.Ending.{RunsAll}
-use Rattle.cfdp_node.specs.Report.{puts_asked, report_text}
-use Rattle.cfdp_node.specs.Script.{steps_of}
-use Rattle.cfdp_node.specs.Simulated.{EndsScript, IsSilentAt, RunsToEnd}
+use Rattle.link_sim.specs.World.State.{WorldState}
+use Rattle.cfdp_node.specs.Dump.Lines.{EndsDump, TellsLine, lines}
+use Rattle.cfdp_node.specs.Script.Ending.{RunsAll}
+use Rattle.cfdp_node.specs.Report.Lines.{puts_asked, report_text}
+use Rattle.cfdp_node.specs.Script.Lines.{steps_of}
+use Rattle.cfdp_node.specs.Script.Simulated.{EndsScript, IsSilentAt, RunsToEnd}
 use Rattle.cfdp_node.specs.declared.arguments.DumpRequest.{DumpRequest}
 use Rattle.cfdp_node.specs.declared.exit.Exit.{Exit}
 use Rattle.cfdp_node.specs.declared.exit.Exit.TheVariants.{Complete, Incomplete, BadScript, Device}

@@ -3,13 +3,13 @@ use Rattle.std.proofs.Common.{◌≡◌, ◌∙◌, ℕ, List, [], ◌∷◌, �
 use Rattle.std.specs.Prelude.{fold}
 use Rattle.std.specs.Option.{option_or}
 use Rattle.std.specs.List.{filter_map, cons_option}
-use Rattle.cfdp_node.specs.declared.command.Line.{Line}
-use Rattle.cfdp_node.specs.declared.command.Line.TheVariants as line
+use Rattle.cfdp_node.specs.declared.script.command.Line.{Line}
+use Rattle.cfdp_node.specs.declared.script.command.Line.TheVariants as line
 use Rattle.cfdp_node.specs.declared.script.Step.{Step}
-use Rattle.cfdp_node.specs.Settings.{set_value}
-use Rattle.cfdp_node.specs.Words.{parts}
-use Rattle.cfdp_node.specs.Script.{ReadLine, read_line, numbered, line_of, lines_of, is_skipped, is_command, front, first_where, misread, file_in, step_in, set_in, is_set}
-use Rattle.cfdp_node.specs.Gathering.{Gathered, at_start, noted, before, taken, gather}
+use Rattle.cfdp_node.specs.Script.Settings.{set_value}
+use Rattle.cfdp_node.specs.Script.Words.{parts}
+use Rattle.cfdp_node.specs.Script.Lines.{ReadLine, read_line, numbered, line_of, lines_of, is_skipped, is_command, front, first_where, misread, file_in, step_in, set_in, is_set}
+use Rattle.cfdp_node.specs.Script.Gathering.{Gathered, at_start, noted, before, taken, gather}
 use Rattle.cfdp_node.proofs.Numerals.{by_test}
 
 -- ---- lines that are skipped do nothing

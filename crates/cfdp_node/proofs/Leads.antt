@@ -4,20 +4,21 @@ use Rattle.link_sim.specs.Recovering.{IsRecovered, Recovers}
 use Rattle.link_sim.specs.Running.{Called, Led}
 use Rattle.link_sim.specs.Settling.{GoesWell, IsSettled}
 use Rattle.link_sim.specs.Spreading.{Times}
-use Rattle.link_sim.specs.World.{WorldState, FindsNoMemory, Steps, WantsMemory, side_in}
+use Rattle.link_sim.specs.World.State.{WorldState}
+use Rattle.link_sim.specs.World.Steps.{FindsNoMemory, Steps, WantsMemory, side_in}
 use Rattle.link_sim.specs.declared.event.Applied.{Applied}
 use Rattle.link_sim.specs.declared.event.Applied.TheVariants as did
 use Rattle.link_sim.specs.declared.event.Event.{Event}
 use Rattle.link_sim.specs.declared.recover_error.RecoverError.{RecoverError}
 use Rattle.link_sim.specs.declared.recover_error.RecoverError.TheVariants.{Settle, StillArmed}
 use Rattle.link_sim.specs.declared.settle_error.SettleError.TheVariants.{NoMemory, StoreFailed, TableFull}
-use Rattle.link_sim.proofs.Leading.{many-both, many-none, many-one, many-times}
-use Rattle.cfdp_node.specs.Run.{ForMemory, HappensOften, HappensOnce, IsDone, Performs, Runs, SettlingEnds}
-use Rattle.cfdp_node.specs.declared.answer.Answer.{Answer}
-use Rattle.cfdp_node.specs.declared.answer.Answer.TheVariants.{Nothing, Refused, Ended}
-use Rattle.cfdp_node.specs.declared.answer.Answered.{Answered}
-use Rattle.cfdp_node.specs.declared.command.Command.{Command}
-use Rattle.cfdp_node.specs.declared.command.Command.TheVariants.{Once, Repeat, Spread, Burst, Settle as SettleAll, Recover}
+use Rattle.link_sim.proofs.Events.Leading.{many-both, many-none, many-one, many-times}
+use Rattle.cfdp_node.specs.Script.Run.{ForMemory, HappensOften, HappensOnce, IsDone, Performs, Runs, SettlingEnds}
+use Rattle.cfdp_node.specs.declared.report.answer.Answer.{Answer}
+use Rattle.cfdp_node.specs.declared.report.answer.Answer.TheVariants.{Nothing, Refused, Ended}
+use Rattle.cfdp_node.specs.declared.report.answer.Answered.{Answered}
+use Rattle.cfdp_node.specs.declared.script.command.Command.{Command}
+use Rattle.cfdp_node.specs.declared.script.command.Command.TheVariants.{Once, Repeat, Spread, Burst, Settle as SettleAll, Recover}
 use Rattle.cfdp_node.specs.declared.script.Step.{Step}
 
 one_call : (a b : WorldState) → Called a b → Led a b

@@ -9,17 +9,17 @@ use Rattle.cfdp_entity.specs.Putting.{Accepts, IsPutRefusal, put_refusal, stored
 use Rattle.cfdp_entity.specs.declared.error.PutError.{PutError}
 use Rattle.cfdp_station.specs.Station.{StationState, KeepsLink, first_down, first_up}
 use Rattle.link_sim.specs.AtStation.{CountsPut, KeepsFailures}
-use Rattle.link_sim.specs.World.{IsFirstAt}
+use Rattle.link_sim.specs.World.State.{IsFirstAt}
 use Rattle.link_sim.specs.declared.world_config.WorldConfig.{WorldConfig}
 use Rattle.std.specs.FinMap.{empty}
-use Rattle.cfdp_node.specs.Settings.{world_of}
+use Rattle.cfdp_node.specs.Script.Settings.{world_of}
 use Rattle.cfdp_station.specs.declared.config.StationConfig.{StationConfig}
 use Rattle.cfdp_header.specs.declared.value.TransactionId.{TransactionId}
-use Rattle.cfdp_node.specs.Looping.{EndsFromOne, EndsLoop, Follows, IsClosed, IsTold, LoopsAll, LoopState, Puts, RunsInPart, RunsTurns, TakesTurn, Turns, TurnsInPart, loop_settings, loop_text}
+use Rattle.cfdp_node.specs.Looping.Turns.{EndsFromOne, EndsLoop, Follows, IsClosed, IsTold, LoopsAll, LoopState, Puts, RunsInPart, RunsTurns, TakesTurn, Turns, TurnsInPart, loop_settings, loop_text}
 use Rattle.cfdp_node.specs.declared.exit.Exit.{Exit}
 use Rattle.cfdp_node.specs.declared.exit.Exit.TheVariants.{Complete, Incomplete, BadScript, Device}
 use Rattle.cfdp_node.specs.declared.exit.Fault.TheVariants.{Unreadable, TooLong, Unwritable, NoMemoryAtStart, NoMemory}
-use Rattle.cfdp_node.specs.Wire.{WireCall}
+use Rattle.cfdp_node.specs.Wire.Calls.{WireCall}
 
 module _ {W : Type 0} (Steps : W → WireCall → W → Type 0) (id : TransactionId) (every now_every : ℕ) (same : now_every ≡ every) where
   pub turned_more : (count : ℕ) (first mid new : LoopState W) → Turns Steps id every count first mid

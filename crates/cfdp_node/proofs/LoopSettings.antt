@@ -6,8 +6,8 @@ use Rattle.cfdp_station.specs.Config.{IsStationConfig}
 use Rattle.link_sim.specs.WorldConfig.{IsWorldConfig}
 use Rattle.link_sim.specs.declared.side.Side.{Side}
 use Rattle.link_sim.specs.declared.side.Side.TheVariants.{One, Two}
-use Rattle.cfdp_node.specs.Looping.{loop_settings}
-use Rattle.cfdp_node.specs.Settings.{FitFields, entity_of, link_of, station_of, world_of}
+use Rattle.cfdp_node.specs.Looping.Turns.{loop_settings}
+use Rattle.cfdp_node.specs.Script.Settings.{FitFields, entity_of, link_of, station_of, world_of}
 
 pub fit : FitFields loop_settings
 fit = (lit< tt, (lit< tt, lit< tt, lit< tt, lit< tt), ((lit< tt, lit< tt, lit< tt), (lit< tt, lit< tt, lit< tt, lit< tt), (lit< tt, lit< tt, lit< tt)))

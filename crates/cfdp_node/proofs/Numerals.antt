@@ -5,7 +5,7 @@ use Rattle.std.specs.List.{list_all}
 use Rattle.std.specs.Char.{is_digit, digit_value}
 use Rattle.std.specs.Str.Parse.{AllDigits, IsNumeral, digits_value}
 use Rattle.std.specs.Prelude.{IsAscii}
-use Rattle.cfdp_node.specs.Numbers.{numeral_of, number_of, octet_of}
+use Rattle.cfdp_node.specs.Script.Numbers.{numeral_of, number_of, octet_of}
 
 -- what holds in both cases of a test
 pub by_test : (b : Bool) (P : Bool → Type 0) → (b ≡ true → P true) → (b ≡ false → P false) → P b

@@ -7,9 +7,9 @@ use Rattle.std.proofs.lemmas.List.Elements.{All-head, All-tail, All-nil, All-con
 use Rattle.std.proofs.lemmas.Bool.{ne_eqb}
 use Rattle.std.specs.Char.{is_digit}
 use Rattle.cfdp_header.specs.declared.value.TransactionId.{TransactionId}
-use Rattle.cfdp_node.specs.Numbers.{number_of}
-use Rattle.cfdp_node.specs.Words.{onto_first, parts, next_word, nothing_of, text_of}
-use Rattle.cfdp_node.specs.Script.{both, id_of_parts}
+use Rattle.cfdp_node.specs.Script.Numbers.{number_of}
+use Rattle.cfdp_node.specs.Script.Words.{onto_first, parts, next_word, nothing_of, text_of}
+use Rattle.cfdp_node.specs.Script.Lines.{both, id_of_parts}
 use Rattle.cfdp_node.proofs.Numerals.{by_test, all_digits, number-none, digits-pass}
 
 -- ---- a text is cut behind its first part

@@ -19,9 +19,6 @@ pub record IsPart (old now : Option (List ℕ)) (left all : List ℕ) : Type 0 w
   pub written : Appends old now front
   pub whole : front ++ left ≡ all
 
-pub nothing_yet : (old : Option (List ℕ)) (all : List ℕ) → IsPart old old all all
-nothing_yet old all = record { front = []; written = Appends-nil old; whole = refl }
-
 -- the next piece is written
 pub one_more : (old now new : Option (List ℕ)) (left piece rest all : List ℕ) → left ≡ piece ++ rest
     → IsPart old now left all → Appends now new piece → IsPart old new rest all
@@ -30,11 +27,6 @@ one_more old now new left piece rest all cut part written = record {
   written = Appends-trans old now new part.front piece part.written written;
   whole = append_assoc part.front piece rest ∙ ap (λ l. part.front ++ l) (sym cut) ∙ part.whole;
 }
-
--- nothing is left
-pub all_written : (old now : Option (List ℕ)) (left all : List ℕ) → left ≡ [] → IsPart old now left all → Appends old now all
-all_written old now left all none part =
-    subst (Appends old now) (sym (append-nil part.front) ∙ ap (λ l. part.front ++ l) (sym none) ∙ part.whole) part.written
 
 -- ---- the files of a map
 abbrev R : List ℕ → List ℕ → Ordering

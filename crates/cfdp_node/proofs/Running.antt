@@ -1,17 +1,17 @@
 -- Commands done one after another, and files put into outboxes one after another.
 use Rattle.std.proofs.Common.{◌≡◌, ℕ, List, [], ◌∷◌, ◌++◌, Option, Bool, true, false, ◌==◌, if◌then◌else◌, refl, subst, sym}
-use Rattle.link_sim.specs.World.{WorldState}
-use Rattle.cfdp_node.specs.declared.answer.Answered.{Answered}
+use Rattle.link_sim.specs.World.State.{WorldState}
+use Rattle.cfdp_node.specs.declared.report.answer.Answered.{Answered}
 use Rattle.cfdp_node.specs.declared.script.Step.{Step}
 use Rattle.std.specs.Io.KnownBytes.{Appends}
 use Rattle.std.specs.List.{list_any}
 use Rattle.cfdp_node.specs.declared.exit.Exit.{Exit}
 use Rattle.cfdp_node.specs.declared.exit.Exit.TheVariants.{Complete, Incomplete, Device}
 use Rattle.cfdp_node.specs.declared.exit.Fault.TheVariants.{NoMemory}
-use Rattle.cfdp_node.specs.Answers.{is_device_fault}
-use Rattle.cfdp_node.specs.Ending.{EndsRun, RunsAll, exit_of}
-use Rattle.cfdp_node.specs.Report.{puts_asked, puts_completed, report_text}
-use Rattle.cfdp_node.specs.Run.{Performs, Runs}
+use Rattle.cfdp_node.specs.Report.Answers.{is_device_fault}
+use Rattle.cfdp_node.specs.Script.Ending.{EndsRun, RunsAll, exit_of}
+use Rattle.cfdp_node.specs.Report.Lines.{puts_asked, puts_completed, report_text}
+use Rattle.cfdp_node.specs.Script.Run.{Performs, Runs}
 
 -- one more command is done
 pub one_more_done : (steps : List Step) (all : List Answered) (step : Step) (done : Answered) (old mid new : WorldState)

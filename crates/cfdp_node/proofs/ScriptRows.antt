@@ -3,12 +3,12 @@ use Rattle.std.proofs.Common.{◌≡◌, ℕ, List, [], ◌∷◌, ◌++◌, tru
 use Rattle.std.specs.Prelude.{codes}
 use Rattle.link_sim.specs.declared.side.Side.TheVariants.{One, Two}
 use Rattle.link_sim.specs.declared.event.Event.TheVariants as event
-use Rattle.cfdp_node.specs.declared.command.Line.TheVariants as line
-use Rattle.cfdp_node.specs.declared.command.Contents.TheVariants.{Text, Fill}
-use Rattle.cfdp_node.specs.declared.command.Command.TheVariants.{Once, Repeat, Settle}
-use Rattle.cfdp_node.specs.declared.settings.Setting.TheVariants as key
-use Rattle.cfdp_node.specs.Words.{onto_first, parts}
-use Rattle.cfdp_node.specs.Script.{line_of, steps_of, settings_of, last_set, first_misread}
+use Rattle.cfdp_node.specs.declared.script.command.Line.TheVariants as line
+use Rattle.cfdp_node.specs.declared.script.command.Contents.TheVariants.{Text, Fill}
+use Rattle.cfdp_node.specs.declared.script.command.Command.TheVariants.{Once, Repeat, Settle}
+use Rattle.cfdp_node.specs.declared.script.settings.Setting.TheVariants as key
+use Rattle.cfdp_node.specs.Script.Words.{onto_first, parts}
+use Rattle.cfdp_node.specs.Script.Lines.{line_of, steps_of, settings_of, last_set, first_misread}
 
 put : line_of (codes "put 1 a.txt b.txt") ≡ Some (line.Command (Once (event.Put One (codes "a.txt") (codes "b.txt"))))
 unfolding parts onto_first

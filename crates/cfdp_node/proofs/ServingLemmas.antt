@@ -6,8 +6,8 @@ use Rattle.std.proofs.KnownBytes.{Appends-kept, Appends-nil, Appends-trans, Keep
 use Rattle.std.proofs.lemmas.Grind.{flat_map-append}
 use Rattle.std.proofs.lemmas.List.{take-append-drop, take-append-le}
 use Rattle.cfdp_header.specs.Files.{FileMap}
-use Rattle.cfdp_directives.specs.declared.indication.Indication.{Indication}
-use Rattle.cfdp_directives.specs.Faults.{pdu_fault}
+use Rattle.cfdp_directives.specs.declared.user.indication.Indication.{Indication}
+use Rattle.cfdp_directives.specs.Pdu.Faults.{pdu_fault}
 use Rattle.cfdp_store.specs.declared.stored.Stored.{Stored}
 use Rattle.cfdp_store.specs.declared.stored.Stored.TheVariants.{Done, Refused}
 use Rattle.cfdp_entity.specs.declared.error.EntityDrop.{EntityDrop}
@@ -20,15 +20,15 @@ use Rattle.cfdp_station.specs.Station.{StationState}
 use Rattle.cfdp_station.specs.Taking.{HearsAll as HearsPdus}
 use Rattle.cfdp_station.specs.declared.polled.Polled.{Polled}
 use Rattle.cfdp_station.specs.declared.polled.Polled.TheVariants.{Moved, Nothing, Full, SourceFailed}
-use Rattle.cfdp_node.specs.Looping.{IsTold, told}
-use Rattle.cfdp_node.specs.Report.{indication_line}
-use Rattle.cfdp_node.specs.Serving.{EndsFrom, EndsStation, IsWritten, Longer, MakesNext, MakesPuts, Putting, ServesTo, station_exit}
-use Rattle.cfdp_node.specs.Turn.{AsksOn, Asks, End, HearsAll, PollMoves, PollsOnce, PollsOut, Sending, Sends, SendsFrame, SendsInPart, SendsWhole, TellsTime, Times}
-use Rattle.cfdp_node.specs.Wire.{WireCall}
+use Rattle.cfdp_node.specs.Looping.Turns.{IsTold, told}
+use Rattle.cfdp_node.specs.Report.Lines.{indication_line}
+use Rattle.cfdp_node.specs.Station.Serving.{EndsFrom, EndsStation, IsWritten, Longer, MakesNext, MakesPuts, Putting, ServesTo, station_exit}
+use Rattle.cfdp_node.specs.Wire.Turn.{AsksOn, Asks, End, HearsAll, PollMoves, PollsOnce, PollsOut, Sending, Sends, SendsFrame, SendsInPart, SendsWhole, TellsTime, Times}
+use Rattle.cfdp_node.specs.Wire.Calls.{WireCall}
 use Rattle.cfdp_node.specs.declared.exit.Exit.{Exit}
 use Rattle.cfdp_node.specs.declared.exit.Exit.TheVariants.{Device}
 use Rattle.cfdp_node.specs.declared.exit.Fault.TheVariants.{Unwritable}
-use Rattle.cfdp_node.specs.declared.serving.PutNames.{PutNames}
+use Rattle.cfdp_node.specs.declared.station.serving.PutNames.{PutNames}
 use Rattle.cfdp_node.specs.declared.wire.WireFault.{WireFault}
 use Rattle.cfdp_station.specs.declared.config.StationConfig.{StationConfig}
 use Rattle.cfdp_node.proofs.LoopLemmas.{told_too}

@@ -8,8 +8,8 @@ use Rattle.std.proofs.KnownBytes.{Appends-kept, Appends-nil, Appends-trans}
 use Rattle.std.proofs.lemmas.List.Elements.{All-head, All-tail}
 use Rattle.std.proofs.lemmas.List.{flat_map_more}
 use Rattle.std.proofs.lemmas.Bool.{ne_eqb}
-use Rattle.cfdp_node.specs.Dump.{lines, as_line, WritesLine, WritesLines}
-use Rattle.cfdp_node.specs.Words.{onto_first}
+use Rattle.cfdp_node.specs.Dump.Lines.{lines, as_line, WritesLine, WritesLines}
+use Rattle.cfdp_node.specs.Script.Words.{onto_first}
 
 -- a line ends at its line feed
 lines-ended : (line rest : List ℕ) → All (λ octet. octet ≢ 10) line → lines (line ++ 10 ∷ rest) ≡ line ∷ lines rest

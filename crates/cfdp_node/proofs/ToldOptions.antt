@@ -1,8 +1,8 @@
 -- The options of a PDU, told one by one.
 use Rattle.std.proofs.Common.{◌≡◌, ℕ, List, [], ◌∷◌, ◌++◌, Option, Some, MatchOption, sym, ap, subst, ◌∙◌, append_assoc, Bor}
 use Rattle.std.specs.List.{flat_map}
-use Rattle.cfdp_directives.specs.Tlv.{Tlv}
-use Rattle.cfdp_node.specs.Dump.{option_text}
+use Rattle.cfdp_directives.specs.Pdu.Tlv.{Tlv}
+use Rattle.cfdp_node.specs.Dump.Lines.{option_text}
 
 -- an option, as an iterator shows it
 abbrev pub shown : ℕ × Bor (List ℕ) → Tlv

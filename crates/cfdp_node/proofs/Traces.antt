@@ -2,16 +2,9 @@
 use Rattle.std.proofs.Common.{◌≡◌, ◌⊎◌, ℕ, List, ◌++◌, Option, codes, decimal, append_assoc, subst, sym, ◌∙◌, ⊎_elim}
 use Rattle.std.specs.Io.KnownBytes.{Appends}
 use Rattle.link_sim.specs.Sides.{entity_of}
-use Rattle.cfdp_node.specs.Trace.{sighting_front}
-use Rattle.cfdp_node.specs.declared.sighting.Deed.{Deed}
-use Rattle.cfdp_node.specs.declared.sighting.Sighting.{Sighting}
-
--- what holds of two deeds, and of three
-pub of_two : (deed a b : Deed) (P : Deed → Type 0) → (deed ≡ a) ⊎ (deed ≡ b) → P a → P b → P deed
-of_two deed a b P is in_a in_b = ⊎_elim (λ e. subst P (sym e) in_a) (λ e. subst P (sym e) in_b) is
-
-pub of_three : (deed a b c : Deed) (P : Deed → Type 0) → (deed ≡ a) ⊎ ((deed ≡ b) ⊎ (deed ≡ c)) → P a → P b → P c → P deed
-of_three deed a b c P is in_a in_b in_c = ⊎_elim (λ e. subst P (sym e) in_a) (λ more. of_two deed b c P more in_b in_c) is
+use Rattle.cfdp_node.specs.Watch.Trace.{sighting_front}
+use Rattle.cfdp_node.specs.declared.watch.sighting.Deed.{Deed}
+use Rattle.cfdp_node.specs.declared.watch.sighting.Sighting.{Sighting}
 
 -- six parts in a row, grouped from the front
 grouped : (a b c d e f : List ℕ) → a ++ b ++ c ++ d ++ e ++ f ≡ a ++ (b ++ (c ++ (d ++ (e ++ f))))

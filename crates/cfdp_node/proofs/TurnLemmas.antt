@@ -1,8 +1,8 @@
 -- A step so many times, and once more; what a wire brings, and frames that leave.
 use Rattle.std.proofs.Common.{◌≡◌, ◌≢◌, ℕ, ◌+◌, ◌==◌, List, add-one, eqb-true, eq-eqb, sym, ◌∙◌, Option, Some, None, Ok, Err, Result, true, false, Bool, IsTrue, ◌↔◌, OnErr}
 use Rattle.cfdp_station.specs.Station.{StationState}
-use Rattle.cfdp_node.specs.Turn.{AsksOn, End, TakesWhat, Times}
-use Rattle.cfdp_node.specs.Wire.{WireCall, Asked}
+use Rattle.cfdp_node.specs.Wire.Turn.{AsksOn, End, TakesWhat, Times}
+use Rattle.cfdp_node.specs.Wire.Calls.{WireCall, Asked}
 use Rattle.cfdp_node.specs.declared.wire.WireFault.{WireFault}
 
 pub once_more : {S : Type 0} (Step : S → S → Type 0) (count : ℕ) (old mid new : S) → Times Step count old mid → Step mid new → Times Step (count + 1) old new

@@ -19,9 +19,9 @@ use Rattle.cfdp_node.specs.declared.arguments.Request.{Request}
 use Rattle.cfdp_node.specs.declared.arguments.Request.TheVariants.{Sim, Dump, Loop, Station, Version}
 use Rattle.cfdp_node.specs.declared.dump.DumpKind.{DumpKind}
 use Rattle.cfdp_node.specs.declared.dump.DumpKind.TheVariants.{Pdus, Frames}
-use Rattle.cfdp_node.specs.LoopRequest.{LoopAsked, loop_app, loop_asked, loop_of}
-use Rattle.cfdp_node.specs.StationRequest.{StationAsked, station_app, station_asked, station_of}
-use Rattle.cfdp_node.specs.Shown.{ShownAsked, asked_shown, flag_rule, is_given, shown_of, with_shown}
+use Rattle.cfdp_node.specs.Looping.Request.{LoopAsked, loop_app, loop_asked, loop_of}
+use Rattle.cfdp_node.specs.Station.Request.{StationAsked, station_app, station_asked, station_of}
+use Rattle.cfdp_node.specs.Watch.Shown.{ShownAsked, asked_shown, flag_rule, is_given, shown_of, with_shown}
 
 -- ---- the grammar
 

@@ -1,14 +1,4 @@
--- Calls of a wire, each with what it answered.
-use Rattle.std.specs.Prelude.{ℕ, List, take, Option, Some, None, Result, Ok, Err}
-use Rattle.cfdp_node.specs.declared.wire.WireFault.{WireFault}
-
--- a frame was to be sent; or it was asked what came, and these octets had, or none
-pub data WireCall : Type 0 where
-  Sent : (frame : List ℕ) (answer : Result (Unit {0}) WireFault) → WireCall
-  Asked : (came : Result (Option (List ℕ)) WireFault) → WireCall
-
--- what came, of which a buffer holds so many octets at its front
-abbrev pub brought : Result (Option ℕ) WireFault → List ℕ → Result (Option (List ℕ)) WireFault
-brought (Ok (Some len)) buffer = Ok (Some (take len buffer))
-brought (Ok None) buffer = Ok None
-brought (Err fault) buffer = Err fault
+-- Wires, and turns of a station over one.
+pub mod Turn
+pub mod Calls
+pub mod InOrder

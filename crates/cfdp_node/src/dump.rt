@@ -5,16 +5,19 @@ ghost use Rattle.std.specs.Result.{result_err};
 ghost use Rattle.std.specs.Option.{option_map};
 ghost use Rattle.aos_frame.specs.Frame.{SpellsFrame, frame_fault, own_link};
 ghost use Rattle.mpdu.specs.MpduHeader.{pointer_of};
-ghost use Rattle.cfdp_node.specs.Dump.{EndsDump, hex_octets, TellsAsFrame, TellsAsPdu, TellsLine, WritesLine, WritesLines};
-ghost use Rattle.cfdp_node.specs.Dump as dumps;
+ghost use Rattle.cfdp_node.specs.Dump.Lines.{EndsDump, hex_octets, TellsAsFrame, TellsAsPdu, TellsLine, WritesLine, WritesLines};
+ghost use Rattle.cfdp_node.specs.Dump.Lines as dumps;
 ghost use Rattle.cfdp_node.specs.Exit.{IsFlushedAt};
 
+pub mod line;
+pub mod refusal;
+
 use crate::arguments::DumpRequest;
-use crate::dump_line::{DumpedFrame, DumpedPdu, FrameLine};
+use crate::dump::line::{DumpedFrame, DumpedPdu, FrameLine};
+use crate::dump::refusal::Refusal;
 use crate::exit::Exit;
 use crate::input::{read_script, write_fault};
-use crate::refusal::Refusal;
-use crate::words::cut_at_first;
+use crate::script::words::cut_at_first;
 use aos_frame::{FrameError, FrameHeader};
 use hex::FromHexError;
 use mpdu::read_pointer;

@@ -1,5 +1,5 @@
 ghost use Rattle.std.specs.Prelude.{◌≡◌, ◌⊎◌, ◌≤◌, IfErr, IfOk, IfSome, vec_len};
-ghost use Rattle.cfdp_node.specs.Simulated.{EndsReading};
+ghost use Rattle.cfdp_node.specs.Script.Simulated.{EndsReading};
 
 use crate::exit::Fault;
 use std::alloc::{AllocError, Global};

@@ -1,3 +1,4 @@
+//! The report of a run.
 ghost use Rattle.std.specs.BTreeMap.{IsOrdered};
 ghost use Rattle.std.specs.Cmp.Lexicographic.{slice_cmp};
 ghost use Rattle.std.specs.FinMap.{entries};
@@ -5,16 +6,21 @@ ghost use Rattle.std.specs.Io.KnownBytes.{Appends};
 ghost use Rattle.std.specs.List.{flat_map};
 ghost use Rattle.std.specs.Ordering.{nat_cmp};
 ghost use Rattle.std.specs.Prelude.{◌≡◌, ◌≤◌, Some, OnOk, count_by, map};
-ghost use Rattle.cfdp_directives.specs.Checksum.{modular_checksum};
-ghost use Rattle.cfdp_node.specs.Run as runs;
-ghost use Rattle.cfdp_node.specs.Report.{answer_line, inbox_line, indication_line, indication_text, is_own_completion, puts_asked, puts_completed, report_text, told_text};
+ghost use Rattle.cfdp_directives.specs.Pdu.Checksum.{modular_checksum};
+ghost use Rattle.cfdp_node.specs.Script.Run as runs;
+ghost use Rattle.cfdp_node.specs.Report.Lines.{answer_line, inbox_line, indication_line, indication_text, is_own_completion, puts_asked, puts_completed, report_text, told_text};
 
-use crate::answer::Answered;
-use crate::command::Command;
-use crate::dump_line::HexNumber;
-use crate::name::Name;
+pub mod answer;
+pub mod condition;
+pub mod name;
+pub mod wording;
+
+use crate::dump::line::HexNumber;
+use crate::report::answer::Answered;
+use crate::report::name::Name;
+use crate::report::wording::{Id, delivery_word, status_word};
 use crate::script::Step;
-use crate::wording::{Id, delivery_word, status_word};
+use crate::script::command::Command;
 use cfdp_directives::{Checksum, Delivery, FileStatus, Indication};
 use cfdp_store::Files;
 use link_sim::{Event, Side, Stations};
@@ -258,7 +264,7 @@ fn asked_puts(steps: &[Step]) -> usize
 }
 
 /// How many files a command asks a station to send: one or none.
-#[tactic(auto, unfolding(crate::specs::Run::puts_in))]
+#[tactic(auto, unfolding(crate::specs::Script::Run::puts_in))]
 fn puts_in(step: &Step) -> usize
     ensures same { result ≡ runs.puts_in step.now }
     ensures one { result ≤ 1 }

@@ -1,15 +1,25 @@
+//! Scripts, from their text to their run.
 ghost use Rattle.std.specs.Prelude.{◌≡◌, ◌≤◌, None, Some, length, option_map, IfOk, IfErr, OnOk};
 ghost use Rattle.link_sim.specs.WorldConfig.{IsWorldConfig};
-ghost use Rattle.cfdp_node.specs.Settings.{world_of};
-ghost use Rattle.cfdp_node.specs.Words.{parts};
-ghost use Rattle.cfdp_node.specs.Script as scripts;
-ghost use Rattle.cfdp_node.specs.Script.{files_of, steps_of, settings_of, line_of, numbered, IsFirst};
-ghost use Rattle.cfdp_node.specs.Gathering.{gathered, noted, taken, read_into, gather};
+ghost use Rattle.cfdp_node.specs.Script.Settings.{world_of};
+ghost use Rattle.cfdp_node.specs.Script.Words.{parts};
+ghost use Rattle.cfdp_node.specs.Script.Lines as scripts;
+ghost use Rattle.cfdp_node.specs.Script.Lines.{files_of, steps_of, settings_of, line_of, numbered, IsFirst};
+ghost use Rattle.cfdp_node.specs.Script.Gathering.{gathered, noted, taken, read_into, gather};
 
-use crate::command::{Command, FileLine, Line, LineError, Unread, parse_line};
+pub mod command;
+pub mod number;
+pub mod outboxes;
+pub mod perform;
+pub mod run;
+pub mod settings;
+pub mod sim;
+pub mod words;
+
 use crate::input::MAX_SCRIPT;
-use crate::settings::{Setting, Settings};
-use crate::words::cut_at_first;
+use crate::script::command::{Command, FileLine, Line, LineError, Unread, parse_line};
+use crate::script::settings::{Setting, Settings};
+use crate::script::words::cut_at_first;
 use link_sim::WorldConfig;
 use std::alloc::{AllocError, Global};
 
@@ -62,11 +72,11 @@ impl Script {
             set_lines: [0; 16],
             first_bad: None,
         };
-        script.take_lines(alloc, text)?;
+        script.read_lines(alloc, text)?;
         Ok(script)
     }
 
-    fn take_lines(&mut self, alloc: Global, text: &[u8]) -> Result<(), AllocError>
+    fn read_lines(&mut self, alloc: Global, text: &[u8]) -> Result<(), AllocError>
         requires { length text.now ≤ MAX_SCRIPT }
         ensures { OnOk result (gathered self.new
             ≡ gather (gathered self.old) (numbered 1 (parts 10 text.now))) }
@@ -76,20 +86,20 @@ impl Script {
         while let Some(lines) = rest {
             line += 1;
             let (first, behind) = cut_at_first(lines, b'\n');
-            self.take_line(alloc, line, first)?;
+            self.read_line(alloc, line, first)?;
             rest = behind;
         }
         Ok(())
     }
 
-    fn take_line(&mut self, alloc: Global, line: usize, text: &[u8]) -> Result<(), AllocError>
+    fn read_line(&mut self, alloc: Global, line: usize, text: &[u8]) -> Result<(), AllocError>
         ensures { OnOk result (gathered self.new ≡ read_into (gathered self.old) line text.now) }
     {
         if is_skipped(text) {
             return Ok(());
         }
         match parse_line(alloc, text) {
-            Ok(meant) => self.take(line, meant),
+            Ok(meant) => self.keep(line, meant),
             Err(Unread::NoMemory) => Err(AllocError),
             Err(Unread::Bad(error)) => {
                 self.note(line, explained(text, error));
@@ -98,20 +108,20 @@ impl Script {
         }
     }
 
-    fn take(&mut self, line: usize, meant: Line) -> Result<(), AllocError>
+    fn keep(&mut self, line: usize, meant: Line) -> Result<(), AllocError>
         ensures { OnOk result (gathered self.new ≡ taken (gathered self.old) line (Some meant)) }
     {
         match meant {
-            Line::Command(command) => self.take_command(line, command),
-            Line::File(file) => self.take_file(line, file),
+            Line::Command(command) => self.keep_command(line, command),
+            Line::File(file) => self.keep_file(line, file),
             Line::Set(setting, value) => {
-                self.take_set(line, setting, value);
+                self.keep_setting(line, setting, value);
                 Ok(())
             }
         }
     }
 
-    fn take_command(&mut self, line: usize, command: Command) -> Result<(), AllocError>
+    fn keep_command(&mut self, line: usize, command: Command) -> Result<(), AllocError>
         ensures { OnOk result (gathered self.new
             ≡ taken (gathered self.old) line (Some (Line.Command command))) }
     {
@@ -119,7 +129,7 @@ impl Script {
         Ok(())
     }
 
-    fn take_file(&mut self, line: usize, file: FileLine) -> Result<(), AllocError>
+    fn keep_file(&mut self, line: usize, file: FileLine) -> Result<(), AllocError>
         ensures { OnOk result (gathered self.new
             ≡ taken (gathered self.old) line (Some (Line.File file))) }
     {
@@ -131,7 +141,7 @@ impl Script {
         Ok(())
     }
 
-    fn take_set(&mut self, line: usize, setting: Setting, value: u64)
+    fn keep_setting(&mut self, line: usize, setting: Setting, value: u64)
         ensures { gathered self.new ≡ taken (gathered self.old) line (Some (Line.Set setting value)) }
     {
         if self.steps.is_empty() {

@@ -1,6 +1,11 @@
 //! What takes frames to another station, and brings frames from it.
 ghost use Rattle.std.specs.Prelude.{◌≡◌, ◌≤◌, Bool, length, IfOk, IfSome};
-ghost use Rattle.cfdp_node.specs.Wire.{WireCall, Asked, Sent, brought};
+ghost use Rattle.cfdp_node.specs.Wire.Calls.{WireCall, Asked, Sent, brought};
+
+pub mod in_order;
+pub mod peer_socket;
+pub mod turn;
+pub mod udp;
 
 /// A frame could not be sent, or none could be asked for.
 #[derive(Clone, Copy)]

@@ -6,8 +6,8 @@ use Rattle.std.proofs.Math.Seq.{take-append_seam}
 use Rattle.std.proofs.lemmas.List.{take_more_set, append-nil, take_all}
 use Rattle.std.proofs.lemmas.Bool.{lt-ltb}
 use Rattle.std.proofs.lemmas.Bool.Decides.{nat_tests}
-use Rattle.cfdp_directives.specs.Codes.{file_size_octets}
-use Rattle.cfdp_directives.specs.Pair.{IsPair}
+use Rattle.cfdp_directives.specs.Pdu.Codes.{file_size_octets}
+use Rattle.cfdp_directives.specs.Pdu.Pair.{IsPair}
 use Rattle.cfdp_extents.specs.Offsets.{LiesIn}
 use Rattle.cfdp_receiver.specs.declared.asked.Asked.{Asked}
 use Rattle.cfdp_receiver.specs.State.{size_limit}

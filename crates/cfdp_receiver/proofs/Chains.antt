@@ -5,7 +5,7 @@ use Rattle.std.specs.FinSet as set
 use Rattle.std.specs.List.{All}
 use Rattle.std.proofs.lemmas.List.{append-nil}
 use Rattle.cfdp_header.specs.declared.value.TransactionId.{TransactionId}
-use Rattle.cfdp_directives.specs.Checksum.{Piece}
+use Rattle.cfdp_directives.specs.Pdu.Checksum.{Piece}
 use Rattle.cfdp_extents.specs.Offsets.{Offsets, is_within, range, union_of, missing_from, LiesIn, AreRangesOf}
 use Rattle.cfdp_extents.specs.Terms.{gaps_of}
 use Rattle.cfdp_extents.proofs.CallerLemmas.{gaps-are, gaps-inside}

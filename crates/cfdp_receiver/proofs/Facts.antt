@@ -7,20 +7,20 @@ use Rattle.std.specs.Cmp.{nat_cmp_total}
 use Rattle.std.proofs.lemmas.Bool.{false≢true, cond_both, le-leb, lt-ltb, and_from, or_left}
 use Rattle.cfdp_header.specs.declared.value.TransactionId.{TransactionId}
 use Rattle.cfdp_header.specs.Files.{FileMap}
-use Rattle.cfdp_directives.specs.declared.addressing.Addressing.{Addressing}
-use Rattle.cfdp_directives.specs.declared.codes.Acknowledged.TheVariants as acknowledged
-use Rattle.cfdp_directives.specs.declared.codes.Delivery.TheVariants.{Incomplete}
-use Rattle.cfdp_directives.specs.declared.codes.FileStatus.TheVariants.{Discarded}
-use Rattle.cfdp_directives.specs.declared.handler.Handler.{Handler}
-use Rattle.cfdp_directives.specs.declared.handler.Handler.TheVariants.{Cancel, Suspend, Ignore, Abandon}
-use Rattle.cfdp_directives.specs.declared.indication.Indication.{Indication}
-use Rattle.cfdp_directives.specs.declared.indication.Indication.TheVariants as indication
-use Rattle.cfdp_directives.specs.declared.policy.Policy.{Policy}
-use Rattle.cfdp_directives.specs.declared.telling.Outcome.{Outcome}
-use Rattle.cfdp_directives.specs.Codes.{no_error, positive_ack_limit, filestore_rejection, file_checksum_failure, file_size_error, nak_limit, inactivity, unsupported_checksum_type, suspend_request, cancel_request}
-use Rattle.cfdp_directives.specs.Completions.{completions}
-use Rattle.cfdp_directives.specs.Content.{Content, FileData, Metadata, Eof, Finished, Ack, Nak, Prompt, KeepAlive}
-use Rattle.cfdp_directives.specs.Policy.{another_try, finished_told, fault_told}
+use Rattle.cfdp_directives.specs.declared.pdu.addressing.Addressing.{Addressing}
+use Rattle.cfdp_directives.specs.declared.pdu.codes.Acknowledged.TheVariants as acknowledged
+use Rattle.cfdp_directives.specs.declared.pdu.codes.Delivery.TheVariants.{Incomplete}
+use Rattle.cfdp_directives.specs.declared.pdu.codes.FileStatus.TheVariants.{Discarded}
+use Rattle.cfdp_directives.specs.declared.user.handler.Handler.{Handler}
+use Rattle.cfdp_directives.specs.declared.user.handler.Handler.TheVariants.{Cancel, Suspend, Ignore, Abandon}
+use Rattle.cfdp_directives.specs.declared.user.indication.Indication.{Indication}
+use Rattle.cfdp_directives.specs.declared.user.indication.Indication.TheVariants as indication
+use Rattle.cfdp_directives.specs.declared.user.policy.Policy.{Policy}
+use Rattle.cfdp_directives.specs.declared.user.telling.Outcome.{Outcome}
+use Rattle.cfdp_directives.specs.Pdu.Codes.{no_error, positive_ack_limit, filestore_rejection, file_checksum_failure, file_size_error, nak_limit, inactivity, unsupported_checksum_type, suspend_request, cancel_request}
+use Rattle.cfdp_directives.specs.User.Completions.{completions}
+use Rattle.cfdp_directives.specs.Pdu.Content.{Content, FileData, Metadata, Eof, Finished, Ack, Nak, Prompt, KeepAlive}
+use Rattle.cfdp_directives.specs.User.Policy.{another_try, finished_told, fault_told}
 use Rattle.cfdp_directives.proofs.Puts.{completions-append, Contains-append_right}
 use Rattle.cfdp_extents.specs.Offsets.{Offsets, range, is_within}
 use Rattle.cfdp_extents.specs.Terms.{end_of}

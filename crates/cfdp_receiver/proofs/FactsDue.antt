@@ -3,8 +3,8 @@ use Rattle.std.proofs.Common.{◌≡◌, ℕ, ◌+◌, true, List, length, Optio
 use Rattle.std.specs.FinSet as set
 use Rattle.std.proofs.lemmas.Bool.{cond_both}
 use Rattle.cfdp_header.specs.Files.{FileMap}
-use Rattle.cfdp_directives.specs.Codes.{file_size_error}
-use Rattle.cfdp_directives.specs.Content.{FileData, Metadata, Eof, Finished, Ack, Nak, Prompt, KeepAlive}
+use Rattle.cfdp_directives.specs.Pdu.Codes.{file_size_error}
+use Rattle.cfdp_directives.specs.Pdu.Content.{FileData, Metadata, Eof, Finished, Ack, Nak, Prompt, KeepAlive}
 use Rattle.cfdp_extents.specs.Offsets.{range}
 use Rattle.cfdp_store.specs.declared.stored.Stored.{Stored}
 use Rattle.cfdp_store.specs.declared.stored.Stored.TheVariants.{Done, Refused}

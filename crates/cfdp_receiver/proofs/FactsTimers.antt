@@ -4,7 +4,7 @@ use Rattle.std.specs.FinMap as map
 use Rattle.std.proofs.lemmas.Bool.{eq-eqb, false≢true, true≢false}
 use Rattle.cfdp_header.specs.declared.value.TransactionId.{TransactionId}
 use Rattle.cfdp_header.specs.Ids.{same_id}
-use Rattle.cfdp_directives.specs.declared.limits.Times.{Times}
+use Rattle.cfdp_directives.specs.declared.user.limits.Times.{Times}
 use Rattle.cfdp_timers.specs.declared.kind.Kind.{Kind}
 use Rattle.cfdp_timers.specs.declared.kind.Kind.TheVariants as kind
 use Rattle.cfdp_timers.specs.declared.wait.Waits.{Waits}
@@ -16,8 +16,8 @@ use Rattle.cfdp_receiver.specs.Steps.{waits}
 use Rattle.cfdp_receiver.specs.Does.{waits_of, timers_set}
 use Rattle.cfdp_timers.specs.Waits.{is_anew}
 use Rattle.cfdp_header.specs.Files.{FileMap}
-use Rattle.cfdp_directives.specs.declared.addressing.Addressing.{Addressing}
-use Rattle.cfdp_directives.specs.Content.{Content}
+use Rattle.cfdp_directives.specs.declared.pdu.addressing.Addressing.{Addressing}
+use Rattle.cfdp_directives.specs.Pdu.Content.{Content}
 use Rattle.cfdp_store.specs.declared.stored.Stored.{Stored}
 use Rattle.cfdp_store.specs.declared.stored.Stored.TheVariants.{Done, Refused}
 use Rattle.cfdp_store.specs.Staged.{OctetMap}

@@ -5,18 +5,18 @@ use Rattle.std.specs.FinMap as map
 use Rattle.std.specs.FinSet as set
 use Rattle.std.specs.Ordering.{nat_cmp}
 use Rattle.cfdp_header.specs.Files.{FileMap}
-use Rattle.cfdp_directives.specs.declared.addressing.Addressing.{Addressing}
-use Rattle.cfdp_directives.specs.declared.codes.Acknowledged.TheVariants as acknowledged
-use Rattle.cfdp_directives.specs.declared.codes.Delivery.TheVariants.{Complete, Incomplete}
-use Rattle.cfdp_directives.specs.declared.codes.FileStatus.TheVariants.{Discarded, Rejected, Retained}
-use Rattle.cfdp_directives.specs.declared.codes.TransactionStatus.TheVariants.{Terminated}
-use Rattle.cfdp_directives.specs.declared.handler.Handler.{Handler}
-use Rattle.cfdp_directives.specs.declared.handler.Handler.TheVariants as handler
-use Rattle.cfdp_directives.specs.declared.indication.Indication.TheVariants as indication
-use Rattle.cfdp_directives.specs.declared.policy.Policy.{Policy}
-use Rattle.cfdp_directives.specs.Content.{Nak, Ack, Finished}
-use Rattle.cfdp_directives.specs.Policy.{default_policy}
-use Rattle.cfdp_directives.specs.Tlv.{fault_location}
+use Rattle.cfdp_directives.specs.declared.pdu.addressing.Addressing.{Addressing}
+use Rattle.cfdp_directives.specs.declared.pdu.codes.Acknowledged.TheVariants as acknowledged
+use Rattle.cfdp_directives.specs.declared.pdu.codes.Delivery.TheVariants.{Complete, Incomplete}
+use Rattle.cfdp_directives.specs.declared.pdu.codes.FileStatus.TheVariants.{Discarded, Rejected, Retained}
+use Rattle.cfdp_directives.specs.declared.pdu.codes.TransactionStatus.TheVariants.{Terminated}
+use Rattle.cfdp_directives.specs.declared.user.handler.Handler.{Handler}
+use Rattle.cfdp_directives.specs.declared.user.handler.Handler.TheVariants as handler
+use Rattle.cfdp_directives.specs.declared.user.indication.Indication.TheVariants as indication
+use Rattle.cfdp_directives.specs.declared.user.policy.Policy.{Policy}
+use Rattle.cfdp_directives.specs.Pdu.Content.{Nak, Ack, Finished}
+use Rattle.cfdp_directives.specs.User.Policy.{default_policy}
+use Rattle.cfdp_directives.specs.Pdu.Tlv.{fault_location}
 use Rattle.cfdp_extents.specs.Offsets.{Offsets, range}
 use Rattle.cfdp_extents.specs.Terms.{ranges_in, gaps_of, joined, end_of}
 use Rattle.cfdp_store.specs.declared.stored.Stored.TheVariants.{Done, Refused}

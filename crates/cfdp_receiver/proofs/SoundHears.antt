@@ -6,18 +6,18 @@ use Rattle.std.specs.FinMap as map
 use Rattle.std.specs.FinSet as set
 use Rattle.std.proofs.lemmas.Bool.{false≢true, both_ways, cond_both, or_from, eqb-true, le-ltb, cases_Bool, and_parts, leb-true, ltb-true, cases_lt}
 use Rattle.cfdp_header.specs.Files.{FileMap}
-use Rattle.cfdp_directives.specs.declared.codes.Acknowledged.TheVariants as acknowledged
-use Rattle.cfdp_directives.specs.declared.handler.Handler.{Handler}
-use Rattle.cfdp_directives.specs.declared.handler.Handler.TheVariants.{Cancel, Suspend, Ignore, Abandon}
-use Rattle.cfdp_directives.specs.declared.indication.Indication.{Indication}
-use Rattle.cfdp_directives.specs.declared.indication.Indication.TheVariants as indication
-use Rattle.cfdp_directives.specs.declared.policy.Policy.{Policy}
-use Rattle.cfdp_directives.specs.Codes.{no_error, positive_ack_limit, filestore_rejection, file_size_error, nak_limit, inactivity, unsupported_checksum_type, suspend_request, cancel_request}
-use Rattle.cfdp_directives.specs.Completions.{completions}
-use Rattle.cfdp_directives.specs.Content.{Content, FileData, Metadata, Eof, Finished, Ack, Nak, Prompt, KeepAlive}
-use Rattle.cfdp_directives.specs.Policy.{another_try, fault_told}
-use Rattle.cfdp_directives.specs.Tlv.{Tlv}
-use Rattle.cfdp_directives.specs.Put.{Put, IsTruthful}
+use Rattle.cfdp_directives.specs.declared.pdu.codes.Acknowledged.TheVariants as acknowledged
+use Rattle.cfdp_directives.specs.declared.user.handler.Handler.{Handler}
+use Rattle.cfdp_directives.specs.declared.user.handler.Handler.TheVariants.{Cancel, Suspend, Ignore, Abandon}
+use Rattle.cfdp_directives.specs.declared.user.indication.Indication.{Indication}
+use Rattle.cfdp_directives.specs.declared.user.indication.Indication.TheVariants as indication
+use Rattle.cfdp_directives.specs.declared.user.policy.Policy.{Policy}
+use Rattle.cfdp_directives.specs.Pdu.Codes.{no_error, positive_ack_limit, filestore_rejection, file_size_error, nak_limit, inactivity, unsupported_checksum_type, suspend_request, cancel_request}
+use Rattle.cfdp_directives.specs.User.Completions.{completions}
+use Rattle.cfdp_directives.specs.Pdu.Content.{Content, FileData, Metadata, Eof, Finished, Ack, Nak, Prompt, KeepAlive}
+use Rattle.cfdp_directives.specs.User.Policy.{another_try, fault_told}
+use Rattle.cfdp_directives.specs.Pdu.Tlv.{Tlv}
+use Rattle.cfdp_directives.specs.User.Put.{Put, IsTruthful}
 use Rattle.cfdp_extents.specs.Offsets.{range, is_within}
 use Rattle.cfdp_extents.specs.Terms.{end_of}
 use Rattle.cfdp_store.specs.declared.stored.Stored.{Stored}

@@ -7,11 +7,11 @@ use Rattle.std.specs.Ordering.{nat_cmp}
 use Rattle.std.proofs.lemmas.Bool.{false≢true}
 use Rattle.cfdp_header.specs.declared.value.Header.{Header}
 use Rattle.cfdp_header.specs.Files.{FileMap}
-use Rattle.cfdp_directives.specs.declared.addressing.Addressing.{Addressing}
-use Rattle.cfdp_directives.specs.Checksum.{modular_checksum}
-use Rattle.cfdp_directives.specs.Content.{Content, FileData, Metadata, Eof, Finished, Ack, Nak, Prompt, KeepAlive}
-use Rattle.cfdp_directives.specs.Grammar.{SpellsPdu}
-use Rattle.cfdp_directives.specs.Put.{Put, IsTruthful, IsMetadataOf, IsEofOf, Brings}
+use Rattle.cfdp_directives.specs.declared.pdu.addressing.Addressing.{Addressing}
+use Rattle.cfdp_directives.specs.Pdu.Checksum.{modular_checksum}
+use Rattle.cfdp_directives.specs.Pdu.Content.{Content, FileData, Metadata, Eof, Finished, Ack, Nak, Prompt, KeepAlive}
+use Rattle.cfdp_directives.specs.Pdu.Grammar.{SpellsPdu}
+use Rattle.cfdp_directives.specs.User.Put.{Put, IsTruthful, IsMetadataOf, IsEofOf, Brings}
 use Rattle.cfdp_directives.proofs.Puts.{SomePdu-append_left, SomePdu-last}
 use Rattle.cfdp_store.specs.declared.stored.Stored.{Stored}
 use Rattle.cfdp_store.specs.declared.stored.Stored.TheVariants.{Done, Refused}

@@ -8,11 +8,11 @@ use Rattle.std.specs.Cmp.{nat_cmp_total}
 use Rattle.std.proofs.lemmas.Bool.{false≢true, both_ways, cond_both, eq-eqb}
 use Rattle.cfdp_header.specs.declared.value.TransactionId.{TransactionId}
 use Rattle.cfdp_header.specs.Files.{FileMap}
-use Rattle.cfdp_directives.specs.declared.indication.Indication.{Indication}
-use Rattle.cfdp_directives.specs.Codes.{filestore_rejection, file_checksum_failure, modular}
-use Rattle.cfdp_directives.specs.Completions.{completions}
-use Rattle.cfdp_directives.specs.Checksum.{modular_checksum}
-use Rattle.cfdp_directives.specs.Put.{Put}
+use Rattle.cfdp_directives.specs.declared.user.indication.Indication.{Indication}
+use Rattle.cfdp_directives.specs.Pdu.Codes.{filestore_rejection, file_checksum_failure, modular}
+use Rattle.cfdp_directives.specs.User.Completions.{completions}
+use Rattle.cfdp_directives.specs.Pdu.Checksum.{modular_checksum}
+use Rattle.cfdp_directives.specs.User.Put.{Put}
 use Rattle.cfdp_directives.proofs.Puts.{completions-append}
 use Rattle.cfdp_extents.specs.Offsets.{Offsets, range, is_within}
 use Rattle.cfdp_extents.specs.Terms.{end_of}
@@ -90,9 +90,6 @@ pub record TrueAfter (put : Put) (heard_pdus : List (List ℕ)) (fits : Type 0) 
   pub sound : Sound put heard_pdus a.receiver a.octets
   pub publishes : PublishesNone files a ⊎ PublishesPut put heard_pdus id files a
   pub faultless : fits → list_any is_file_fault a.told ≡ false
-
-none_some : {X : Type 0} {Y : Type 0} (x : X) → None ≡ Some x → Y
-none_some x e = absurd (false≢true (ap is_some e))
 
 module _ (laws : LowerLaws) (put : Put) (pdus : List (List ℕ)) (fits : Type 0) (files : FileMap) where
   abbrev pub After : ReceiverState → ReceiverAfter → Type 0

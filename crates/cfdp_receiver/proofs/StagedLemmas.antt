@@ -12,11 +12,11 @@ use Rattle.cfdp_header.specs.declared.value.TransactionId.{TransactionId}
 use Rattle.std.specs.Ordering.{nat_cmp}
 use Rattle.cfdp_extents.specs.Offsets.{Offsets, range, is_within, union_of, missing_from, LiesIn, AreRangesOf}
 use Rattle.cfdp_header.specs.Files.{FileMap}
-use Rattle.cfdp_directives.specs.declared.indication.Indication.{Indication}
+use Rattle.cfdp_directives.specs.declared.user.indication.Indication.{Indication}
 use Rattle.cfdp_store.specs.Staged.{OctetMap, Covers, OthersKeep, written, staged_for}
 use Rattle.cfdp_receiver.specs.declared.state.ReceiverPhase.TheVariants.{Receiving}
 use Rattle.cfdp_receiver.specs.State.{ReceiverState, IsReady, opened_receiver}
-use Rattle.cfdp_directives.specs.declared.addressing.Addressing.{Addressing}
+use Rattle.cfdp_directives.specs.declared.pdu.addressing.Addressing.{Addressing}
 use Rattle.cfdp_receiver.specs.Pieces.{piece_in, pieces_in, with_piece, staged_with}
 use Rattle.cfdp_receiver.specs.Does.{Keeps}
 use Rattle.cfdp_receiver.proofs.Held.{within, within_parts, covered, contains-more, contains-missing}

@@ -2,7 +2,7 @@
 use Rattle.std.proofs.Common.{◌≡◌, ℕ, Bool, false, Option, Some, sym, subst, if◌then◌else◌}
 use Rattle.cfdp_header.specs.Files.{FileMap}
 use Rattle.cfdp_header.specs.declared.value.TransactionId.{TransactionId}
-use Rattle.cfdp_directives.specs.Codes.{file_size_error}
+use Rattle.cfdp_directives.specs.Pdu.Codes.{file_size_error}
 use Rattle.cfdp_store.specs.declared.stored.Stored.{Stored}
 use Rattle.cfdp_store.specs.Staged.{OctetMap, staged_for}
 use Rattle.cfdp_receiver.specs.State.{ReceiverState}

@@ -3,7 +3,7 @@ use Rattle.std.proofs.Common.{◌≡◌, ◌⊎◌, inl, inr, ℕ, zero, suc, �
 use Rattle.std.specs.FinSet as set
 use Rattle.std.specs.Ordering.{nat_cmp}
 use Rattle.std.proofs.lemmas.Bool.{cases_lt, cond_both, eqb-true, le-leb, lt-leb, lt-ltb, le-ltb, and_from, and_left, and_right}
-use Rattle.cfdp_directives.specs.Checksum.{weight, sum_at, modular_checksum, added}
+use Rattle.cfdp_directives.specs.Pdu.Checksum.{weight, sum_at, modular_checksum, added}
 use Rattle.cfdp_extents.specs.Offsets.{Offsets, is_within, range}
 use Rattle.cfdp_extents.specs.Terms.{joined, ranges_in, gaps_of}
 use Rattle.cfdp_receiver.specs.Pieces.{pieces_in, new_pieces, sum_with}

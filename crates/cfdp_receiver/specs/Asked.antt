@@ -1,8 +1,8 @@
 -- What one NAK asks for, as it lies in memory.
 use Rattle.std.specs.Prelude.{◌≡◌, ℕ, ◌≤◌, ◌++◌, Bool, List, [], ◌∷◌, length, take, if◌then◌else◌}
 use Rattle.std.specs.List.{AllByRecursion}
-use Rattle.cfdp_directives.specs.Codes.{file_size_octets}
-use Rattle.cfdp_directives.specs.Pair.{IsPair}
+use Rattle.cfdp_directives.specs.Pdu.Codes.{file_size_octets}
+use Rattle.cfdp_directives.specs.Pdu.Pair.{IsPair}
 use Rattle.cfdp_receiver.specs.declared.asked.Asked.{Asked}
 use Rattle.cfdp_receiver.specs.State.{size_limit}
 use Rattle.cfdp_receiver.specs.Missing.{asked, has_more, last_end}

@@ -1,14 +1,14 @@
 -- What a receiver sends next, and what that leaves (CCSDS 727.0-B-5, 4.6.4 and 4.6.5).
 use Rattle.std.specs.Prelude.{◌≡◌, ◌≤◌, ℕ, ◌==◌, Bool, true, false, not, ◌||◌, List, [], ◌∷◌, Option, Some, None, if◌then◌else◌}
-use Rattle.cfdp_directives.specs.declared.addressing.Addressing.{Addressing}
-use Rattle.cfdp_directives.specs.declared.codes.Acknowledged.TheVariants as acknowledged
-use Rattle.cfdp_directives.specs.declared.codes.TransactionStatus.{TransactionStatus}
-use Rattle.cfdp_directives.specs.declared.codes.TransactionStatus.TheVariants.{Active, Terminated}
-use Rattle.cfdp_directives.specs.declared.telling.Outcome.{Outcome}
-use Rattle.cfdp_directives.specs.Addressing.{written_len}
-use Rattle.cfdp_directives.specs.Codes.{no_error, unsupported_checksum_type}
-use Rattle.cfdp_directives.specs.Content.{Content, Finished, Ack, Nak, KeepAlive}
-use Rattle.cfdp_directives.specs.Tlv.{Tlv, fault_location}
+use Rattle.cfdp_directives.specs.declared.pdu.addressing.Addressing.{Addressing}
+use Rattle.cfdp_directives.specs.declared.pdu.codes.Acknowledged.TheVariants as acknowledged
+use Rattle.cfdp_directives.specs.declared.pdu.codes.TransactionStatus.{TransactionStatus}
+use Rattle.cfdp_directives.specs.declared.pdu.codes.TransactionStatus.TheVariants.{Active, Terminated}
+use Rattle.cfdp_directives.specs.declared.user.telling.Outcome.{Outcome}
+use Rattle.cfdp_directives.specs.Pdu.Addressing.{written_len}
+use Rattle.cfdp_directives.specs.Pdu.Codes.{no_error, unsupported_checksum_type}
+use Rattle.cfdp_directives.specs.Pdu.Content.{Content, Finished, Ack, Nak, KeepAlive}
+use Rattle.cfdp_directives.specs.Pdu.Tlv.{Tlv, fault_location}
 use Rattle.cfdp_extents.specs.Terms.{end_of}
 use Rattle.cfdp_receiver.specs.declared.due.Due.{Due}
 use Rattle.cfdp_receiver.specs.declared.due.Due.TheVariants as due

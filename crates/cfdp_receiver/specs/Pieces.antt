@@ -1,6 +1,6 @@
 -- File data of which some octets are held already: the others, as pieces, and what they add.
 use Rattle.std.specs.Prelude.{ℕ, ◌+◌, ◌-◌, List, length, take, drop, fold, map}
-use Rattle.cfdp_directives.specs.Checksum.{Piece, added}
+use Rattle.cfdp_directives.specs.Pdu.Checksum.{Piece, added}
 use Rattle.cfdp_extents.specs.Offsets.{Offsets}
 use Rattle.cfdp_extents.specs.Terms.{gaps_of}
 use Rattle.cfdp_store.specs.Staged.{OctetMap, written}

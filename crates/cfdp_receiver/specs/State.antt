@@ -3,11 +3,11 @@ use Rattle.std.specs.Prelude.{◌≡◌, ℕ, ◌<◌, ◌≤◌, Bool, true, fa
 use Rattle.std.specs.FinMap as map
 use Rattle.std.specs.FinSet as set
 use Rattle.cfdp_header.specs.declared.value.TransactionId.{TransactionId}
-use Rattle.cfdp_directives.specs.declared.addressing.Addressing.{Addressing}
-use Rattle.cfdp_directives.specs.declared.telling.Outcome.{Outcome}
-use Rattle.cfdp_directives.specs.Addressing.{FitsAddressing}
-use Rattle.cfdp_directives.specs.declared.phase.Phase.{Phase}
-use Rattle.cfdp_directives.specs.declared.phase.Phase.TheVariants as phase
+use Rattle.cfdp_directives.specs.declared.pdu.addressing.Addressing.{Addressing}
+use Rattle.cfdp_directives.specs.declared.user.telling.Outcome.{Outcome}
+use Rattle.cfdp_directives.specs.Pdu.Addressing.{FitsAddressing}
+use Rattle.cfdp_directives.specs.declared.user.phase.Phase.{Phase}
+use Rattle.cfdp_directives.specs.declared.user.phase.Phase.TheVariants as phase
 use Rattle.cfdp_extents.specs.Offsets.{Offsets}
 use Rattle.cfdp_store.specs.Staged.{OctetMap, staged_for}
 use Rattle.cfdp_receiver.specs.declared.state.ReceiverPhase.{ReceiverPhase}

@@ -1,7 +1,7 @@
 // How a transaction ends, and the completion test.
 ghost use Rattle.std.specs.Prelude.{◌≡◌, ◌+◌, ◌≤◌, ◌++◌, ◌∷◌, [], ◌-◌, ◌^◌, ◌<◌, None, true, false, vec_len, vec_capacity};
-ghost use Rattle.cfdp_directives.specs.Policy.{finished_told, fault_told};
-ghost use Rattle.cfdp_directives.specs.Codes.{filestore_rejection};
+ghost use Rattle.cfdp_directives.specs.User.Policy.{finished_told, fault_told};
+ghost use Rattle.cfdp_directives.specs.Pdu.Codes.{filestore_rejection};
 ghost use Rattle.cfdp_store.specs.Staged.{OthersKeep, staged_for};
 ghost use Rattle.cfdp_store.specs.Chains.{Makes};
 ghost use Rattle.cfdp_store.specs.Stores.{Counts};

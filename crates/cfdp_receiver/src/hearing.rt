@@ -1,7 +1,7 @@
 // What a receiver hears.
 ghost use Rattle.std.specs.Prelude.{◌≡◌, Option, ◌++◌, ◌∷◌, [], None, ◌+◌, ◌≤◌, ◌<◌, ◌-◌, ◌^◌, ◌&&◌, true, false, Some, IfOk, OnErr, vec_len, vec_capacity, length};
 ghost use Rattle.std.specs.FinSet as set;
-ghost use Rattle.cfdp_directives.specs.Policy.{finished_told};
+ghost use Rattle.cfdp_directives.specs.User.Policy.{finished_told};
 ghost use Rattle.cfdp_store.specs.Staged.{OctetMap, OthersKeep, staged_for};
 ghost use Rattle.cfdp_store.specs.Chains.{Makes};
 ghost use Rattle.cfdp_store.specs.Stores.{Counts};

@@ -1,7 +1,7 @@
 // How the record of a receiving transaction is opened.
 ghost use Rattle.std.specs.Prelude.{◌≡◌, ◌+◌, ◌≤◌, true, IfOk, OnOk, OnErr, vec_len, vec_capacity};
 ghost use Rattle.std.specs.FinSet as set;
-ghost use Rattle.cfdp_directives.specs.Addressing.{FitsAddressing};
+ghost use Rattle.cfdp_directives.specs.Pdu.Addressing.{FitsAddressing};
 ghost use Rattle.cfdp_store.specs.Chains.{Makes};
 ghost use Rattle.cfdp_store.specs.Stores.{Counts};
 ghost use Rattle.cfdp_receiver.specs.State.{IsReady};

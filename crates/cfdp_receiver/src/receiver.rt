@@ -1,6 +1,6 @@
 ghost use Rattle.std.specs.Prelude.{◌≡◌, true, false};
 ghost use Rattle.std.specs.FinSet as set;
-ghost use Rattle.cfdp_directives.specs.Addressing.{FitsAddressing};
+ghost use Rattle.cfdp_directives.specs.Pdu.Addressing.{FitsAddressing};
 ghost use Rattle.cfdp_timers.specs.Waits.{is_anew, wait_by};
 ghost use Rattle.cfdp_receiver.specs.State as states;
 ghost use Rattle.cfdp_receiver.specs.State.{opened_receiver};

@@ -2,12 +2,12 @@
 ghost use Rattle.std.specs.Prelude.{◌≡◌, ◌≤◌, Option, Some, is_some, IsSome, IfSome, take, drop, length, true};
 ghost use Rattle.std.specs.FinSet as set;
 ghost use Rattle.cfdp_header.specs.declared.value.TransactionId.{TransactionId};
-ghost use Rattle.cfdp_directives.specs.Addressing as addressings;
-ghost use Rattle.cfdp_directives.specs.Codes.{file_size_octets};
-ghost use Rattle.cfdp_directives.specs.Content.{view};
-ghost use Rattle.cfdp_directives.specs.Written.{content_len, FitsContent, CanWrite, pdu_octets};
+ghost use Rattle.cfdp_directives.specs.Pdu.Addressing as addressings;
+ghost use Rattle.cfdp_directives.specs.Pdu.Codes.{file_size_octets};
+ghost use Rattle.cfdp_directives.specs.Pdu.Content.{view};
+ghost use Rattle.cfdp_directives.specs.Pdu.Written.{content_len, FitsContent, CanWrite, pdu_octets};
 ghost use Rattle.std.specs.List.{flat_map};
-ghost use Rattle.cfdp_directives.specs.Tlv.{tlv};
+ghost use Rattle.cfdp_directives.specs.Pdu.Tlv.{tlv};
 ghost use Rattle.cfdp_store.specs.Staged.{OctetMap};
 ghost use Rattle.cfdp_receiver.specs.declared.due.Due.TheVariants as due_is;
 ghost use Rattle.cfdp_receiver.specs.State.{IsReady, size_limit};

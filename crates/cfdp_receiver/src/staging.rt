@@ -1,7 +1,7 @@
 // File data on its way into the inbox.
 ghost use Rattle.std.specs.Prelude.{◌≡◌, [], ◌∷◌, ◌+◌, ◌-◌, ◌<◌, ◌^◌, Some, IsSome, length, take, drop};
 ghost use Rattle.std.specs.List.{All};
-ghost use Rattle.cfdp_directives.specs.Checksum.{added};
+ghost use Rattle.cfdp_directives.specs.Pdu.Checksum.{added};
 ghost use Rattle.cfdp_extents.specs.Offsets.{LiesIn};
 ghost use Rattle.cfdp_store.specs.Staged.{OthersKeep, staged_for};
 ghost use Rattle.cfdp_store.specs.Calls.{Write};

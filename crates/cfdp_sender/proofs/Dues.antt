@@ -13,11 +13,11 @@ use Rattle.cfdp_extents.specs.Front.{IsFront}
 use Rattle.cfdp_extents.specs.Terms.{front_of}
 use Rattle.cfdp_extents.proofs.CallerLemmas.{contains-range, front-is}
 use Rattle.std.specs.Option.{option_map}
-use Rattle.cfdp_directives.specs.Content.{Content}
-use Rattle.cfdp_directives.specs.Addressing.{header_of, written_len}
-use Rattle.cfdp_directives.specs.Codes.{file_size_octets, IsCondition, modular}
-use Rattle.cfdp_directives.specs.Tlv.{tlv, fault_location}
-use Rattle.cfdp_directives.specs.Written.{content_len, FitsContent, CanWrite}
+use Rattle.cfdp_directives.specs.Pdu.Content.{Content}
+use Rattle.cfdp_directives.specs.Pdu.Addressing.{header_of, written_len}
+use Rattle.cfdp_directives.specs.Pdu.Codes.{file_size_octets, IsCondition, modular}
+use Rattle.cfdp_directives.specs.Pdu.Tlv.{tlv, fault_location}
+use Rattle.cfdp_directives.specs.Pdu.Written.{content_len, FitsContent, CanWrite}
 use Rattle.cfdp_directives.proofs.Addressed.{can_write}
 use Rattle.cfdp_sender.specs.declared.phase.SenderPhase.{SenderPhase}
 use Rattle.cfdp_sender.specs.declared.phase.SenderPhase.TheVariants.{Sending, Cancelling, Closed}

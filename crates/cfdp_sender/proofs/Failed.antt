@@ -1,7 +1,7 @@
 -- What is left where the outbox failed to give the data that were due.
 use Rattle.std.proofs.Common.{◌≡◌, ℕ, true, List, Some, None, sym, ap, subst, ◌∙◌}
-use Rattle.cfdp_directives.specs.declared.indication.Indication.{Indication}
-use Rattle.cfdp_directives.specs.declared.limits.Times.{Times}
+use Rattle.cfdp_directives.specs.declared.user.indication.Indication.{Indication}
+use Rattle.cfdp_directives.specs.declared.user.limits.Times.{Times}
 use Rattle.cfdp_store.specs.declared.stored.Stored.TheVariants.{Refused}
 use Rattle.cfdp_timers.specs.Armed.{TimersState}
 use Rattle.cfdp_sender.specs.declared.due.SenderDue.{SenderDue}

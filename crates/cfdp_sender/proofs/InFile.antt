@@ -9,11 +9,11 @@ use Rattle.cfdp_extents.specs.Terms.{front_of}
 use Rattle.cfdp_extents.proofs.CallerLemmas.{contains-range, front-is}
 use Rattle.cfdp_timers.specs.declared.kind.Kind.{Kind}
 use Rattle.cfdp_timers.specs.declared.kind.Kind.TheVariants.{EofAck, Nak, FinishedAck, Inactivity}
-use Rattle.cfdp_directives.specs.declared.handler.Handler.{Handler}
-use Rattle.cfdp_directives.specs.declared.handler.Handler.TheVariants.{Cancel, Suspend, Ignore, Abandon}
-use Rattle.cfdp_directives.specs.declared.policy.Policy.{Policy}
-use Rattle.cfdp_directives.specs.Codes.{no_error, positive_ack_limit, filestore_rejection, inactivity, cancel_request}
-use Rattle.cfdp_directives.specs.Policy.{another_try, finished_told}
+use Rattle.cfdp_directives.specs.declared.user.handler.Handler.{Handler}
+use Rattle.cfdp_directives.specs.declared.user.handler.Handler.TheVariants.{Cancel, Suspend, Ignore, Abandon}
+use Rattle.cfdp_directives.specs.declared.user.policy.Policy.{Policy}
+use Rattle.cfdp_directives.specs.Pdu.Codes.{no_error, positive_ack_limit, filestore_rejection, inactivity, cancel_request}
+use Rattle.cfdp_directives.specs.User.Policy.{another_try, finished_told}
 use Rattle.cfdp_store.specs.declared.stored.Stored.{Stored}
 use Rattle.cfdp_store.specs.declared.stored.Stored.TheVariants.{Done, Refused}
 use Rattle.cfdp_sender.specs.declared.phase.SenderPhase.{SenderPhase}

@@ -6,20 +6,20 @@ use Rattle.cfdp_extents.specs.Offsets.{Offsets, range}
 use Rattle.cfdp_extents.specs.Terms.{front_of}
 use Rattle.cfdp_extents.proofs.CallerLemmas.{front-empty}
 use Rattle.cfdp_timers.specs.declared.kind.Kind.TheVariants.{EofAck, Inactivity}
-use Rattle.cfdp_directives.specs.declared.addressing.Addressing.{Addressing}
-use Rattle.cfdp_directives.specs.declared.codes.Acknowledged.TheVariants as acknowledged
-use Rattle.cfdp_directives.specs.declared.codes.Delivery.TheVariants.{Complete, Incomplete}
-use Rattle.cfdp_directives.specs.declared.codes.FileStatus.TheVariants.{Retained, Unreported}
-use Rattle.cfdp_directives.specs.declared.codes.TransactionStatus.TheVariants.{Terminated}
-use Rattle.cfdp_directives.specs.declared.handler.Handler.{Handler}
-use Rattle.cfdp_directives.specs.declared.handler.Handler.TheVariants.{Cancel, Suspend, Ignore, Abandon}
-use Rattle.cfdp_directives.specs.declared.indication.Indication.TheVariants as indication
-use Rattle.cfdp_directives.specs.Content.{FileData, Metadata, Eof, Ack}
-use Rattle.cfdp_directives.specs.Limits.{default_limits, default_times}
-use Rattle.cfdp_directives.specs.Checksum.{added, sum_at}
-use Rattle.cfdp_directives.specs.Tlv.{fault_location}
-use Rattle.cfdp_directives.specs.declared.telling.Outcome.{Outcome}
-use Rattle.cfdp_directives.specs.declared.policy.Policy.{Policy}
+use Rattle.cfdp_directives.specs.declared.pdu.addressing.Addressing.{Addressing}
+use Rattle.cfdp_directives.specs.declared.pdu.codes.Acknowledged.TheVariants as acknowledged
+use Rattle.cfdp_directives.specs.declared.pdu.codes.Delivery.TheVariants.{Complete, Incomplete}
+use Rattle.cfdp_directives.specs.declared.pdu.codes.FileStatus.TheVariants.{Retained, Unreported}
+use Rattle.cfdp_directives.specs.declared.pdu.codes.TransactionStatus.TheVariants.{Terminated}
+use Rattle.cfdp_directives.specs.declared.user.handler.Handler.{Handler}
+use Rattle.cfdp_directives.specs.declared.user.handler.Handler.TheVariants.{Cancel, Suspend, Ignore, Abandon}
+use Rattle.cfdp_directives.specs.declared.user.indication.Indication.TheVariants as indication
+use Rattle.cfdp_directives.specs.Pdu.Content.{FileData, Metadata, Eof, Ack}
+use Rattle.cfdp_directives.specs.User.Limits.{default_limits, default_times}
+use Rattle.cfdp_directives.specs.Pdu.Checksum.{added, sum_at}
+use Rattle.cfdp_directives.specs.Pdu.Tlv.{fault_location}
+use Rattle.cfdp_directives.specs.declared.user.telling.Outcome.{Outcome}
+use Rattle.cfdp_directives.specs.declared.user.policy.Policy.{Policy}
 use Rattle.cfdp_store.specs.declared.stored.Stored.TheVariants.{Done, Refused}
 use Rattle.cfdp_timers.specs.declared.wait.Wait.TheVariants.{Clear, Anew}
 use Rattle.cfdp_sender.specs.Does.{waits_of}

@@ -2,12 +2,12 @@
 use Rattle.std.proofs.Common.{◌≡◌, ℕ, ◌+◌, ◌-◌, ◌≤◌, ◌==◌, List, [], ◌∷◌, ◌++◌, length, take, drop, Some, if◌then◌else◌, refl, sym, ap, subst, ◌∙◌, arith}
 use Rattle.std.proofs.lemmas.List.{take-append-drop, length-take, take_all}
 use Rattle.std.proofs.Math.Seq.{take-append-add}
-use Rattle.cfdp_directives.specs.Codes.{modular, no_error}
-use Rattle.cfdp_directives.specs.Content.{Eof}
-use Rattle.cfdp_directives.specs.Checksum.{modular_checksum, checksum_of, sum_at, added}
+use Rattle.cfdp_directives.specs.Pdu.Codes.{modular, no_error}
+use Rattle.cfdp_directives.specs.Pdu.Content.{Eof}
+use Rattle.cfdp_directives.specs.Pdu.Checksum.{modular_checksum, checksum_of, sum_at, added}
 use Rattle.cfdp_header.specs.declared.value.TransactionId.{TransactionId}
-use Rattle.cfdp_directives.specs.Tlv.{fault_location}
-use Rattle.cfdp_directives.specs.Put.{Put, IsTruthful}
+use Rattle.cfdp_directives.specs.Pdu.Tlv.{fault_location}
+use Rattle.cfdp_directives.specs.User.Put.{Put, IsTruthful}
 use Rattle.cfdp_directives.proofs.Sums.{sum_at-append}
 use Rattle.cfdp_sender.specs.declared.phase.SenderPhase.{SenderPhase}
 use Rattle.cfdp_sender.specs.declared.phase.SenderPhase.TheVariants.{Sending, Cancelling, Closed}

@@ -4,7 +4,7 @@ use Rattle.std.specs.FinMap as map
 use Rattle.cfdp_header.specs.declared.value.TransactionId.{TransactionId}
 use Rattle.cfdp_header.specs.Ids.{same_id}
 use Rattle.cfdp_header.proofs.Ids.{same_id-itself}
-use Rattle.cfdp_directives.specs.declared.limits.Times.{Times}
+use Rattle.cfdp_directives.specs.declared.user.limits.Times.{Times}
 use Rattle.cfdp_timers.specs.declared.kind.Kind.{Kind}
 use Rattle.cfdp_timers.specs.declared.kind.Kind.TheVariants.{EofAck, Nak, FinishedAck, Inactivity}
 use Rattle.cfdp_timers.specs.declared.wait.Waits.{Waits}

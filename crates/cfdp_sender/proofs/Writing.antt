@@ -3,16 +3,16 @@ use Rattle.std.proofs.Common.{◌≡◌, ℕ, ◌+◌, ◌-◌, ◌≤◌, List,
 use Rattle.std.proofs.lemmas.List.{length-append, length-take, length-drop, drop-drop, drop-take, drop_at, append_assoc}
 use Rattle.cfd_bits.specs.Field.{octets}
 use Rattle.cfdp_header.specs.Header.{header_octets}
-use Rattle.cfdp_directives.specs.declared.addressing.Addressing.{Addressing}
-use Rattle.cfdp_directives.specs.Addressing.{header_of, data_front_len}
-use Rattle.cfdp_directives.specs.Content.{FileData}
-use Rattle.cfdp_directives.specs.Written.{pdu_octets}
+use Rattle.cfdp_directives.specs.declared.pdu.addressing.Addressing.{Addressing}
+use Rattle.cfdp_directives.specs.Pdu.Addressing.{header_of, data_front_len}
+use Rattle.cfdp_directives.specs.Pdu.Content.{FileData}
+use Rattle.cfdp_directives.specs.Pdu.Written.{pdu_octets}
 use Rattle.cfdp_sender.specs.declared.due.SenderDue.{SenderDue}
 use Rattle.cfdp_sender.specs.declared.due.SenderDue.TheVariants as due
 use Rattle.cfdp_sender.specs.State.{SenderState}
 use Rattle.cfdp_sender.specs.Due.{sender_due, carried, sender_says}
-use Rattle.cfdp_directives.specs.declared.indication.Indication.{Indication}
-use Rattle.cfdp_directives.specs.declared.limits.Times.{Times}
+use Rattle.cfdp_directives.specs.declared.user.indication.Indication.{Indication}
+use Rattle.cfdp_directives.specs.declared.user.limits.Times.{Times}
 use Rattle.cfdp_store.specs.declared.stored.Stored.TheVariants.{Done}
 use Rattle.cfdp_timers.specs.declared.kind.Kind.{Kind}
 use Rattle.cfdp_timers.specs.Armed.{TimersState}

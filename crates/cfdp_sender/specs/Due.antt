@@ -1,13 +1,13 @@
 -- What a sender sends next, and what that PDU says (CCSDS 727.0-B-5, 4.6.1.1).
 use Rattle.std.specs.Prelude.{ℕ, ◌+◌, ◌-◌, ◌==◌, ◌||◌, not, min, Bool, true, false, nat_lt, List, [], ◌∷◌, take, drop, Option, Some, None, if◌then◌else◌}
 use Rattle.cfdp_extents.specs.Terms.{front_of}
-use Rattle.cfdp_directives.specs.declared.codes.Acknowledged.TheVariants as acknowledged
-use Rattle.cfdp_directives.specs.declared.codes.TransactionStatus.TheVariants.{Terminated}
-use Rattle.cfdp_directives.specs.declared.phase.Phase.{Phase}
-use Rattle.cfdp_directives.specs.declared.phase.Phase.TheVariants as phases
-use Rattle.cfdp_directives.specs.Codes.{no_error, modular}
-use Rattle.cfdp_directives.specs.Content.{Content, FileData, Metadata, Eof, Ack, Prompt}
-use Rattle.cfdp_directives.specs.Tlv.{fault_location}
+use Rattle.cfdp_directives.specs.declared.pdu.codes.Acknowledged.TheVariants as acknowledged
+use Rattle.cfdp_directives.specs.declared.pdu.codes.TransactionStatus.TheVariants.{Terminated}
+use Rattle.cfdp_directives.specs.declared.user.phase.Phase.{Phase}
+use Rattle.cfdp_directives.specs.declared.user.phase.Phase.TheVariants as phases
+use Rattle.cfdp_directives.specs.Pdu.Codes.{no_error, modular}
+use Rattle.cfdp_directives.specs.Pdu.Content.{Content, FileData, Metadata, Eof, Ack, Prompt}
+use Rattle.cfdp_directives.specs.Pdu.Tlv.{fault_location}
 use Rattle.cfdp_sender.specs.declared.phase.SenderPhase.{SenderPhase}
 use Rattle.cfdp_sender.specs.declared.phase.SenderPhase.TheVariants.{Sending, Cancelling, Closed}
 use Rattle.cfdp_sender.specs.declared.due.SenderDue.{SenderDue}

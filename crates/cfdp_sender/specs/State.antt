@@ -2,10 +2,10 @@
 use Rattle.std.specs.Prelude.{◌≡◌, ℕ, ◌^◌, ◌<◌, ◌≤◌, Bool, true, false, List, Option, None, IfSome}
 use Rattle.std.specs.FinSet as set
 use Rattle.cfdp_extents.specs.Offsets.{Offsets}
-use Rattle.cfdp_directives.specs.declared.addressing.Addressing.{Addressing}
-use Rattle.cfdp_directives.specs.Addressing.{FitsAddressing}
-use Rattle.cfdp_directives.specs.Codes.{IsCondition, no_error}
-use Rattle.cfdp_directives.specs.FileName.{IsFileName}
+use Rattle.cfdp_directives.specs.declared.pdu.addressing.Addressing.{Addressing}
+use Rattle.cfdp_directives.specs.Pdu.Addressing.{FitsAddressing}
+use Rattle.cfdp_directives.specs.Pdu.Codes.{IsCondition, no_error}
+use Rattle.cfdp_directives.specs.User.FileName.{IsFileName}
 use Rattle.cfdp_sender.specs.declared.transfer.Transfer.{Transfer}
 use Rattle.cfdp_sender.specs.declared.phase.SenderPhase.{SenderPhase}
 use Rattle.cfdp_sender.specs.declared.phase.SenderPhase.TheVariants.{Sending, Cancelling}

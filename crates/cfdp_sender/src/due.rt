@@ -1,9 +1,9 @@
 // What a sender sends next, and what that PDU says.
 ghost use Rattle.std.specs.Prelude.{◌≡◌, ◌+◌, ◌^◌, ◌<◌, ◌≤◌, ℕ, List, [], length, take, drop, true, Some, is_some, IfSome};
 ghost use Rattle.std.specs.Option.{option_map};
-ghost use Rattle.cfdp_directives.specs.Content.{FileData, view};
-ghost use Rattle.cfdp_directives.specs.Addressing.{header_of, written_len};
-ghost use Rattle.cfdp_directives.specs.Written.{CanWrite};
+ghost use Rattle.cfdp_directives.specs.Pdu.Content.{FileData, view};
+ghost use Rattle.cfdp_directives.specs.Pdu.Addressing.{header_of, written_len};
+ghost use Rattle.cfdp_directives.specs.Pdu.Written.{CanWrite};
 ghost use Rattle.cfdp_sender.specs.Due as dues;
 ghost use Rattle.cfdp_sender.specs.Due.{sender_due, sender_says, pdu_says, carried, carries, extent_of};
 

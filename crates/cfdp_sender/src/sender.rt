@@ -2,7 +2,7 @@
 ghost use Rattle.std.specs.Prelude.{◌≡◌, ◌+◌, ◌<◌, ◌≤◌, ◌++◌, [], ◌∷◌, true, vec_len, vec_capacity, is_some, IfOk, OnOk, OnErr};
 ghost use Rattle.std.specs.FinSet as set;
 ghost use Rattle.cfdp_header.specs.declared.value.TransactionId.{TransactionId};
-ghost use Rattle.cfdp_directives.specs.declared.indication.Indication.TheVariants as indication;
+ghost use Rattle.cfdp_directives.specs.declared.user.indication.Indication.TheVariants as indication;
 ghost use Rattle.cfdp_sender.specs.State.{IsSendable, IsSender, opened_sender};
 ghost use Rattle.cfdp_sender.specs.Due as dues;
 ghost use Rattle.cfdp_sender.specs.Steps as steps;

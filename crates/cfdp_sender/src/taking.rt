@@ -1,8 +1,8 @@
 // Sending the PDU that is due.
 ghost use Rattle.std.specs.Prelude.{◌≡◌, ◌+◌, ◌≤◌, ◌++◌, [], length, take, drop, vec_len, vec_capacity, true, IfOk, IfSome, OnErr, OnOk, IsSome, Some, is_ok};
 ghost use Rattle.std.specs.FinMap as map;
-ghost use Rattle.cfdp_directives.specs.Addressing.{written_len, data_front_len};
-ghost use Rattle.cfdp_directives.specs.Content.{FileData};
+ghost use Rattle.cfdp_directives.specs.Pdu.Addressing.{written_len, data_front_len};
+ghost use Rattle.cfdp_directives.specs.Pdu.Content.{FileData};
 ghost use Rattle.cfdp_store.specs.Files.{octets_in};
 ghost use Rattle.cfdp_store.specs.Stores.{failures_after};
 ghost use Rattle.cfdp_store.specs.declared.stored.Stored.TheVariants as answers;

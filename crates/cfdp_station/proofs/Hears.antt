@@ -1,7 +1,7 @@
 -- PDUs heard, one after another.
 use Rattle.std.proofs.Common.{◌≡◌, ℕ, zero, suc, ◌+◌, ◌<◌, List, [], ◌∷◌, length, get_or, drop, add-one, Vec, Global, Result, Ok, Err, OnOk, IfErr, inl, inr, refl, sym, subst, arith}
 use Rattle.mpdu.specs.Feeding.{octets_of_each}
-use Rattle.cfdp_directives.specs.Faults.{pdu_fault}
+use Rattle.cfdp_directives.specs.Pdu.Faults.{pdu_fault}
 use Rattle.cfdp_entity.specs.declared.error.EntityDrop.{EntityDrop}
 use Rattle.cfdp_entity.specs.Entity.{Counted}
 use Rattle.cfdp_entity.specs.Hearing.{HearsOctets, DropsOctets}

@@ -5,7 +5,7 @@ use Rattle.link_stack.specs.declared.drops.LinkDrop.TheVariants.{NoMemory}
 use Rattle.link_stack.specs.Drops.{counted}
 use Rattle.link_stack.specs.Frames.{pdus_in}
 use Rattle.link_stack.specs.Upward.{LinkReceiverState, Takes, TakesFront, TakesNext, TakesNextOf, TakesNextFront, TakesNextFrontOf, HasZone, IsUp, IsUpOf, IsNextFrame, IsNextFrameOf, frame_read}
-use Rattle.cfdp_directives.specs.Faults.{pdu_fault}
+use Rattle.cfdp_directives.specs.Pdu.Faults.{pdu_fault}
 use Rattle.cfdp_entity.specs.declared.error.EntityDrop.{EntityDrop}
 use Rattle.cfdp_entity.specs.Entity.{Counted}
 use Rattle.cfdp_entity.specs.Hearing.{HearsOctets, DropsOctets}

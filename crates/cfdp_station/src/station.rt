@@ -61,17 +61,12 @@ pub struct Station<O: Outbox, I: Inbox> {
 
 impl<O: Outbox, I: Inbox> Model for Station<O, I> {
     ghost use Rattle.std.specs.Prelude.{◌≡◌, ◌+◌, ◌≤◌, length};
-    ghost use Rattle.std.specs.Coded.{codes, coded_ℕ, coded_list, coded×};
-    ghost use Rattle.std.specs.Ordering.{nat_cmp};
-    ghost use Rattle.std.specs.Cmp.Lexicographic.{slice_cmp};
-    ghost use Rattle.std.specs.FinMap as finmap;
-    ghost use Rattle.std.specs.FinSet as finset;
-    ghost use Rattle.cfdp_timers.specs.Armed.{armed_code};
+    ghost use Rattle.cfdp_entity.specs.Coded.{state_codes};
     ghost use Rattle.cfdp_station.specs.Station.{StationState};
 
     ghost Value = { StationState };
 
-    ghost coded = { Prim.hlevel (codes, armed_code, finset.code {R = nat_cmp} coded_ℕ, finmap.code {R = nat_cmp} coded_ℕ coded_ℕ, finmap.code {R = slice_cmp nat_cmp} (coded_list coded_ℕ) (coded_list coded_ℕ)) };
+    ghost coded = { Prim.hlevel (state_codes) };
 
     ghost view = { λ s. record { entity = s.entity; down = s.down; up = s.up } };
 

@@ -168,19 +168,6 @@ earliest-found (x ∷ xs) d apart e = by (λ y is. earliest-found xs y (IsDistin
         ] refl
 
 -- ---- one transaction more of a walk
-module _ (at : ℕ) (s t : List (TransactionId × Deadlines)) (e : TransactionId × Deadlines) (is : s ≡ e ∷ t) where
-  pub due-more : due at (alarms s) ≡ due at (alarms_of e.0 e.1) ++ due at (alarms t)
-  due-more = ap (λ l. due at (alarms l)) is ∙ due-cons at e t
-
-  pub length-due-more : length (due at (alarms s)) ≡ length (due at (alarms_of e.0 e.1)) + length (due at (alarms t))
-  length-due-more = ap length due-more ∙ length-append (due at (alarms_of e.0 e.1)) (due at (alarms t))
-
--- and all of it
-pub all_collected : (at : ℕ) (found : List (Timer × ℕ)) (left first es : List (TransactionId × Deadlines)) → left ≡ [] → found ++ due at (alarms left) ≡ due at (alarms first) → first ≡ es
-    → found ≡ due at (alarms es)
-all_collected at found left first es none all is =
-    sym (append-nil found) ∙ ap (λ l. found ++ l) (sym (ap (λ l. due at (alarms l)) none ∙ due-nil at)) ∙ all ∙ ap (λ l. due at (alarms l)) is
-
 pub all_counted : (at count : ℕ) (left first : List (TransactionId × Deadlines)) → left ≡ [] → count + length (due at (alarms left)) ≡ length (due at (alarms first))
     → count ≡ length (due at (alarms first))
 all_counted at count left first none all =
@@ -194,11 +181,3 @@ earliest-more s t e is = ap (λ l. earliest (alarms l)) is ∙ earliest-cons e t
 pub length_due_of : (id : TransactionId) (d : Deadlines) (at : ℕ) → length (due at (alarms_of id d))
     ≡ length (due at (alarm_if id EofAck d.eof_ack)) + (length (due at (alarm_if id Nak d.nak)) + (length (due at (alarm_if id FinishedAck d.finished_ack)) + length (due at (alarm_if id Inactivity d.inactivity))))
 length_due_of id d at = length-due_of at id d
-
--- where one of a transaction's timers is due, some of all are
-pub some_due : (at : ℕ) (found : List (Timer × ℕ)) (left behind first es : List (TransactionId × Deadlines)) (e : TransactionId × Deadlines) →
-    due at (alarms left) ≡ due at (alarms_of e.0 e.1) ++ due at (alarms behind) → found ++ due at (alarms left) ≡ due at (alarms first) → first ≡ es →
-    1 ≤ length (due at (alarms_of e.0 e.1)) → 1 ≤ length (due at (alarms es))
-some_due at found left behind first es e more all is some =
-    let size = ap length (sym (ap (λ l. due at (alarms l)) is) ∙ sym all) in
-    omega (arith, size, some, length-append found (due at (alarms left)), ap length more, length-append (due at (alarms_of e.0 e.1)) (due at (alarms behind)))

@@ -53,26 +53,6 @@ bounds-none bounds = record {
   each = λ block l. record { none_before = λ place kind at is h. absurd (none-armed kind at h) };
 }
 
-pub bounds-grown : (es : List (TransactionId × Deadlines)) (bounds : List ℕ) (bound : ℕ) → AreBounds es bounds → AreBounds es (bounds ++ bound ∷ [])
-bounds-grown es bounds bound are =
-    let more = length-append bounds (bound ∷ []) in
-    let cover = are.cover in
-    record {
-      cover = omega (arith, cover, more);
-      each = λ block l. elim (nat_lt block (length bounds)) as (λ b. nat_lt block (length bounds) ≡ b → IsBound es block (get_or (bounds ++ bound ∷ []) block 0)) [
-        | true ↦ λ before.
-            let there : block < length bounds = ltb-true block (length bounds) before in
-            subst (λ b. IsBound es block b) (sym (get_or_append_left bounds (bound ∷ []) 0 block there)) (are.each block there)
-        | false ↦ λ last.
-            let past : length bounds ≤ block = ltb-false block (length bounds) last in
-            record {
-              none_before = λ place kind at is h.
-                  let end : length es ≤ place = omega (arith, cover, past, is) in
-                  absurd (none-armed kind at (ap (λ d. deadline_at d kind) (sym (in-past es place end)) ∙ h));
-            }
-      ] refl;
-    }
-
 pub bounds-pushed : (es : List (TransactionId × Deadlines)) (id : TransactionId) (bounds : List ℕ) → AreBounds es bounds → length es < 64 * length bounds → AreBounds (es ++ (id, no_deadlines) ∷ []) bounds
 bounds-pushed es id bounds are room =
     let more = length-append es ((id, no_deadlines) ∷ []) in
@@ -84,22 +64,6 @@ bounds-pushed es id bounds are room =
     }
 
 -- ---- a bound that is set
-pub bounds-set : (es : List (TransactionId × Deadlines)) (bounds : List ℕ) (block bound : ℕ) → AreBounds es bounds → block < length bounds → IsBound es block bound
-    → AreBounds es (set bounds block bound)
-bounds-set es bounds block bound are within is =
-    let same : length (set bounds block bound) ≡ length bounds = length-set bounds block bound in
-    let cover = are.cover in
-    record {
-      cover = omega (arith, cover, same);
-      each = λ k l. elim (nat_eq k block) as (λ b. nat_eq k block ≡ b → IsBound es k (get_or (set bounds block bound) k 0)) [
-        | true ↦ λ here.
-            let at : block ≡ k = sym (eqb-true k block here) in
-            subst (λ j. IsBound es j (get_or (set bounds block bound) j 0)) at (subst (λ b. IsBound es block b) (sym (get_or-set_same bounds block bound 0 within)) is)
-        | false ↦ λ other.
-            let there : k < length bounds = omega (arith, l, same) in
-            subst (λ b. IsBound es k b) (sym (get_or-set_other bounds block k bound 0 (eqb-false k block other))) (are.each k there)
-      ] refl;
-    }
 
 -- ---- a deadline that is set
 length-lowered : (bounds : List ℕ) (block : ℕ) (o : Option ℕ) → length (lowered bounds block o) ≡ length bounds
@@ -211,12 +175,6 @@ no_later-next d Inactivity at h =
     no_later-right d.eof_ack (earlier d.nak (earlier d.finished_ack d.inactivity)) at
     (no_later-right d.nak (earlier d.finished_ack d.inactivity) at (no_later-right d.finished_ack d.inactivity at (at, h, omega arith)))
 
-pub no_later-bound : (o : Option ℕ) (last at : ℕ) → IsNoLater o at → unwrap_or o last ≤ at
-no_later-bound None last at h = absurd (none-some h.0 h.1)
-no_later-bound (Some x) last at h =
-    let is : x ≡ h.0 = same_Some x h.0 h.1 in
-    let l = h.2 in omega (arith, is, l)
-
 -- those of a block's places up to one are no earlier
 pub record AreNoEarlier (es : List (TransactionId × Deadlines)) (first place : ℕ) (o : Option ℕ) : Type 0 where
   pub each : (q : ℕ) (kind : Kind) (at : ℕ) → first ≤ q → q < place → deadline_at (deadlines_in es q) kind ≡ Some at → IsNoLater o at
@@ -232,12 +190,4 @@ no_earlier-more es first place o are = record {
         let before : q < place = omega (arith, high, apart) in
         no_later-left o (next_of (deadlines_in es place)) at (are.each q kind at low before h)
   ] refl;
-}
-
-pub no_earlier-bound : (es : List (TransactionId × Deadlines)) (block last : ℕ) (o : Option ℕ) → AreNoEarlier es (64 * block) (64 * (block + 1)) o → IsBound es block (unwrap_or o last)
-no_earlier-bound es block last o are = record {
-  none_before = λ place kind at is h.
-      let low : 64 * block ≤ place = omega (arith, is) in
-      let high : place < 64 * (block + 1) = omega (arith, is) in
-      no_later-bound o last at (are.each place kind at low high h);
 }

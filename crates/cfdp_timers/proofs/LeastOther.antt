@@ -173,10 +173,3 @@ module _ (es : List (TransactionId × Deadlines)) (apart : IsDistinct (eq_by_cmp
       }
 
 -- ---- a walk over the entries
-pub others-more : (s t : List (TransactionId × Deadlines)) (e : TransactionId × Deadlines) → s ≡ e ∷ t → earliest_of (others_of s) ≡ earlier (other_of e.1) (earliest_of (others_of t))
-unfolding earliest_of others_of
-others-more s t e is = ap (λ l. earliest_of (others_of l)) is
-
-pub others-nil : earliest_of (others_of []) ≡ None
-unfolding earliest_of others_of
-others-nil = refl

@@ -1,11 +1,11 @@
 -- When nothing went wrong in a world, and when a put is complete.
 use Rattle.std.specs.Prelude.{◌≡◌, ◌≢◌, ℕ, ◌==◌, not, Bool, true, false, get_or, Some, Contains}
 use Rattle.std.specs.List.{list_any}
-use Rattle.cfdp_directives.specs.Completions.{IsToldComplete}
-use Rattle.cfdp_directives.specs.declared.indication.Indication.{Indication}
-use Rattle.cfdp_directives.specs.declared.indication.Indication.TheVariants as indication
-use Rattle.cfdp_directives.specs.declared.phase.Phase.TheVariants.{Closed}
-use Rattle.cfdp_directives.specs.Codes.{no_error}
+use Rattle.cfdp_directives.specs.User.Completions.{IsToldComplete}
+use Rattle.cfdp_directives.specs.declared.user.indication.Indication.{Indication}
+use Rattle.cfdp_directives.specs.declared.user.indication.Indication.TheVariants as indication
+use Rattle.cfdp_directives.specs.declared.user.phase.Phase.TheVariants.{Closed}
+use Rattle.cfdp_directives.specs.Pdu.Codes.{no_error}
 use Rattle.cfdp_sender.specs.declared.phase.SenderPhase.{SenderPhase}
 use Rattle.cfdp_sender.specs.declared.phase.SenderPhase.TheVariants as sending
 use Rattle.cfdp_entity.specs.Entity.{EntityState, phase_told}
@@ -15,7 +15,7 @@ use Rattle.link_stack.specs.Drops.{count_of}
 use Rattle.link_sim.specs.Observed.{seen}
 use Rattle.link_sim.specs.Sides.{other}
 use Rattle.link_sim.specs.Theorem.{completions_at, side_of}
-use Rattle.link_sim.specs.World.{WorldState, entity_at, link_from, station_at}
+use Rattle.link_sim.specs.World.State.{WorldState, entity_at, link_from, station_at}
 use Rattle.link_sim.specs.declared.event.AcceptedPut.{AcceptedPut}
 use Rattle.link_sim.specs.declared.side.Side.{Side}
 

@@ -2,8 +2,8 @@
 -- and what is still owed: each wanted thing is known, on its way, due, or will be asked for.
 use Rattle.std.specs.Prelude.{◌≡◌, ◌⊎◌, ℕ, ◌<◌, ◌≤◌, Bool, true, false, List, length, is_some, Option, Some, None, IfSome}
 use Rattle.std.specs.FinSet as set
-use Rattle.cfdp_directives.specs.Content.{Content}
-use Rattle.cfdp_directives.specs.Put.{Put}
+use Rattle.cfdp_directives.specs.Pdu.Content.{Content}
+use Rattle.cfdp_directives.specs.User.Put.{Put}
 use Rattle.cfdp_sender.specs.declared.phase.SenderPhase.TheVariants as sending
 use Rattle.cfdp_sender.specs.State.{SenderState}
 use Rattle.cfdp_receiver.specs.declared.state.ReceiverPhase.TheVariants.{Receiving}

@@ -3,8 +3,8 @@
 -- first one.
 use Rattle.std.specs.Prelude.{◌≡◌, ◌≢◌, ◌⊎◌, ℕ, ◌≤◌, ◌==◌, ◌||◌, true, false, List, [], length, slice_get, Option, Some, IsSome}
 use Rattle.cfdp_header.specs.declared.value.TransactionId.{TransactionId}
-use Rattle.cfdp_directives.specs.Direction.{direction_fits, is_for}
-use Rattle.cfdp_directives.specs.Put.{Put}
+use Rattle.cfdp_directives.specs.Pdu.Direction.{direction_fits, is_for}
+use Rattle.cfdp_directives.specs.User.Put.{Put}
 use Rattle.cfdp_entity.specs.declared.config.EntityConfig.{EntityConfig}
 use Rattle.cfdp_entity.specs.Entity.{EntityState}
 use Rattle.cfdp_entity.specs.Hearing.{names_no_file}

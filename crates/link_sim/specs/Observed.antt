@@ -1,7 +1,7 @@
 -- What an observer sees of two stations and the frames between them.
 use Rattle.cfdp_station.specs.Station.{StationState}
 use Rattle.link_sim.specs.OneWay.{OneWayState, pdus_sent, pdus_delivered}
-use Rattle.link_sim.specs.World.{WorldState, way_from}
+use Rattle.link_sim.specs.World.State.{WorldState, way_from}
 use Rattle.link_sim.specs.declared.side.Side.TheVariants.{One, Two}
 use Rattle.link_sim.specs.Theorem.{StationSeen, WorldSeen}
 

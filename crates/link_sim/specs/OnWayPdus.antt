@@ -1,6 +1,6 @@
 -- Proof-only: what the octets on their way say.
 use Rattle.std.specs.Prelude.{ℕ, List, [], ◌∷◌}
-use Rattle.cfdp_directives.specs.Grammar.{SpellsPdu}
+use Rattle.cfdp_directives.specs.Pdu.Grammar.{SpellsPdu}
 use Rattle.link_sim.specs.Between.{Pdu}
 
 -- Each text is spelled by its header and content, in order.

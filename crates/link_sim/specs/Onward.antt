@@ -6,7 +6,7 @@ use Rattle.link_sim.specs.Recovering.{Recovers, Round}
 use Rattle.link_sim.specs.Settling.{GoesWellFrom, first_event}
 use Rattle.link_sim.specs.Tracks.{Advances, AllStand, KeepsPutsOf, RunsAlong}
 use Rattle.link_sim.specs.Waiting.{AllWait, IgnoreInactivity}
-use Rattle.link_sim.specs.World.{WorldState}
+use Rattle.link_sim.specs.World.State.{WorldState}
 
 -- All went well, and each transaction made a run of its own.
 pub record GoesOnFrom (from upto : Event) (old new : WorldState) : Type 0 where

@@ -11,7 +11,8 @@ use Rattle.link_sim.specs.declared.settle_error.SettleError.TheVariants.{NoMemor
 use Rattle.link_sim.specs.declared.recover_error.RecoverError.{RecoverError}
 use Rattle.link_sim.specs.declared.recover_error.RecoverError.TheVariants.{Settle, StillArmed}
 use Rattle.link_sim.specs.Settling.{IsSettled, KeepsAll, GoesWell, HasCause, RisesFirst, all_shortages, settle_error_number, settle_error_name}
-use Rattle.link_sim.specs.World.{WorldState, FindsNoMemory, Steps, entity_at}
+use Rattle.link_sim.specs.World.State.{WorldState, entity_at}
+use Rattle.link_sim.specs.World.Steps.{FindsNoMemory, Steps}
 
 -- ---- timers
 -- the timers that are armed at a station

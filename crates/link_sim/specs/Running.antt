@@ -1,7 +1,7 @@
 -- Events that happen one after another, from a first world on.
 use Rattle.std.specs.Prelude.{◌≡◌, ◌≢◌, ◌⊎◌, List, [], ◌∷◌, Contains}
 use Rattle.cfdp_header.specs.Files.{FileMap}
-use Rattle.cfdp_directives.specs.Put.{inbox_after}
+use Rattle.cfdp_directives.specs.User.Put.{inbox_after}
 use Rattle.link_sim.specs.declared.event.AcceptedPut.{AcceptedPut}
 use Rattle.link_sim.specs.declared.event.Event.{Event}
 use Rattle.link_sim.specs.declared.event.Applied.{Applied}
@@ -14,7 +14,8 @@ use Rattle.link_sim.specs.Recovering.{EndsBy, Recovers}
 use Rattle.link_sim.specs.Settling.{GoesWell, HasCause}
 use Rattle.link_sim.specs.Spreading.{BurstFindsNoMemory, Bursts, Many, SpreadFindsNoMemory, Spreads}
 use Rattle.link_sim.specs.Theorem.{HoldsAt, at, put_of, completions_at}
-use Rattle.link_sim.specs.World.{WorldState, FindsNoMemory, IsFirst, Steps, files_at}
+use Rattle.link_sim.specs.World.State.{WorldState, IsFirst, files_at}
+use Rattle.link_sim.specs.World.Steps.{FindsNoMemory, Steps}
 
 -- Each of the events did what stands beside it, in order, and so they led from the old world to the
 -- new one. There are as many answers as events.

@@ -3,12 +3,12 @@
 use Rattle.std.specs.Prelude.{◌≡◌, ◌≢◌, ◌⊎◌, ℕ, zero, suc, ◌||◌, Bool, true, false, List, [], ◌∷◌, ◌++◌, Option, Some, None}
 use Rattle.std.specs.List.{list_any}
 use Rattle.cfdp_header.specs.Files.{FileMap}
-use Rattle.cfdp_directives.specs.declared.addressing.Addressing.{Addressing}
-use Rattle.cfdp_directives.specs.declared.indication.Indication.{Indication}
-use Rattle.cfdp_directives.specs.declared.limits.Times.{Times}
-use Rattle.cfdp_directives.specs.declared.policy.Policy.{Policy}
-use Rattle.cfdp_directives.specs.Content.{Content}
-use Rattle.cfdp_directives.specs.Put.{Put}
+use Rattle.cfdp_directives.specs.declared.pdu.addressing.Addressing.{Addressing}
+use Rattle.cfdp_directives.specs.declared.user.indication.Indication.{Indication}
+use Rattle.cfdp_directives.specs.declared.user.limits.Times.{Times}
+use Rattle.cfdp_directives.specs.declared.user.policy.Policy.{Policy}
+use Rattle.cfdp_directives.specs.Pdu.Content.{Content}
+use Rattle.cfdp_directives.specs.User.Put.{Put}
 use Rattle.cfdp_store.specs.declared.stored.Stored.TheVariants.{Done}
 use Rattle.cfdp_store.specs.Staged.{OctetMap}
 use Rattle.cfdp_timers.specs.declared.kind.Kind.{Kind}

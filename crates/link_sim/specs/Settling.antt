@@ -17,7 +17,8 @@ use Rattle.link_sim.specs.declared.settle_error.SettleError.{SettleError}
 use Rattle.link_sim.specs.declared.settle_error.SettleError.TheVariants.{NoMemory, StoreFailed, TableFull}
 use Rattle.link_sim.specs.Clean.{IsClean}
 use Rattle.link_sim.specs.Theorem.{WorldSeen, HoldsAt, Follows}
-use Rattle.link_sim.specs.World.{WorldState, FindsNoMemory, NoneWaits, NoneWhole, Steps, WantsMemory, station_at, entity_at, side_in}
+use Rattle.link_sim.specs.World.State.{WorldState, station_at, entity_at}
+use Rattle.link_sim.specs.World.Steps.{FindsNoMemory, NoneWaits, NoneWhole, Steps, WantsMemory, side_in}
 
 -- Nothing is due at either station, no whole zone waits there, no flush would make a frame, and no
 -- frame waits.

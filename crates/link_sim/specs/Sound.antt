@@ -2,9 +2,9 @@
 use Rattle.std.specs.Prelude.{◌≡◌, ◌<◌, ℕ, List, Contains}
 use Rattle.cfdp_header.specs.declared.value.Header.{Header}
 use Rattle.cfdp_header.specs.Files.{FileMap}
-use Rattle.cfdp_directives.specs.Content.{Content}
-use Rattle.cfdp_directives.specs.Grammar.{SpellsPdu}
-use Rattle.cfdp_directives.specs.Put.{SaysTruth}
+use Rattle.cfdp_directives.specs.Pdu.Content.{Content}
+use Rattle.cfdp_directives.specs.Pdu.Grammar.{SpellsPdu}
+use Rattle.cfdp_directives.specs.User.Put.{SaysTruth}
 use Rattle.cfdp_entity.specs.Sound.{IsSound as IsSoundEntity, SaysDelivered}
 use Rattle.link_sim.specs.declared.side.Side.{Side}
 use Rattle.link_sim.specs.declared.event.AcceptedPut.{AcceptedPut}
@@ -13,7 +13,7 @@ use Rattle.link_sim.specs.OneWay.{IsOneWay, pdus_sent, pdus_delivered}
 use Rattle.link_sim.specs.Sides.{other}
 use Rattle.link_sim.specs.Theorem.{put_of}
 use Rattle.link_sim.specs.Work.{AreWithin}
-use Rattle.link_sim.specs.World.{WorldState, entity_at, way_from}
+use Rattle.link_sim.specs.World.State.{WorldState, entity_at, way_from}
 use Rattle.link_sim.specs.WorldWork.{most_offset}
 
 -- A PDU that a station sent tells the truth of its puts, and that a file was delivered only where

@@ -4,7 +4,8 @@ use Rattle.link_sim.specs.declared.side.Side.{Side}
 use Rattle.link_sim.specs.declared.event.Event.TheVariants as event
 use Rattle.link_sim.specs.declared.event.Applied.{Applied}
 use Rattle.link_sim.specs.declared.event.Applied.TheVariants as did
-use Rattle.link_sim.specs.World.{WorldState, FindsNoMemory, Steps}
+use Rattle.link_sim.specs.World.State.{WorldState}
+use Rattle.link_sim.specs.World.Steps.{FindsNoMemory, Steps}
 
 -- The same step so many times, one after another.
 abbrev pub Times : (WorldState → WorldState → Type 0) → ℕ → (old new : WorldState) → Type 0

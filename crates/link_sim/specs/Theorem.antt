@@ -6,11 +6,11 @@ use Rattle.cfdp_header.specs.declared.value.Header.{Header}
 use Rattle.cfdp_header.specs.declared.value.TransactionId.{TransactionId}
 use Rattle.cfdp_header.specs.Files.{FileMap}
 use Rattle.cfdp_header.specs.Ids.{same_id}
-use Rattle.cfdp_directives.specs.declared.indication.Indication.{Indication}
-use Rattle.cfdp_directives.specs.Content.{Content}
-use Rattle.cfdp_directives.specs.Grammar.{SpellsPdu}
-use Rattle.cfdp_directives.specs.Put.{Put, HeardInFull, SomePdu, SaysTruth, SaysComplete, inbox_after}
-use Rattle.cfdp_directives.specs.Completions.{completions, FinishedOnce, IsToldComplete}
+use Rattle.cfdp_directives.specs.declared.user.indication.Indication.{Indication}
+use Rattle.cfdp_directives.specs.Pdu.Content.{Content}
+use Rattle.cfdp_directives.specs.Pdu.Grammar.{SpellsPdu}
+use Rattle.cfdp_directives.specs.User.Put.{Put, HeardInFull, SomePdu, SaysTruth, SaysComplete, inbox_after}
+use Rattle.cfdp_directives.specs.User.Completions.{completions, FinishedOnce, IsToldComplete}
 use Rattle.cfdp_entity.specs.Sound.{FindsMore}
 use Rattle.link_sim.specs.declared.side.Side.{Side}
 use Rattle.link_sim.specs.declared.side.Side.TheVariants.{One, Two}

@@ -1,16 +1,16 @@
 -- Proof-only: how far each transaction has come in a recovery.
 use Rattle.std.specs.Prelude.{◌≡◌, ◌⊎◌, Bool, true, false, Option, Some, None}
 use Rattle.cfdp_header.specs.declared.value.TransactionId.{TransactionId}
-use Rattle.cfdp_directives.specs.Put.{Put}
+use Rattle.cfdp_directives.specs.User.Put.{Put}
 use Rattle.cfdp_entity.specs.Seen.{Seen, Sends, Receives}
 use Rattle.cfdp_entity.specs.Table.{record_of}
 use Rattle.link_sim.specs.Exchange.{is_closed}
-use Rattle.link_sim.specs.Exchanges.{HasExchange, IsPutOf, RunsOn}
+use Rattle.link_sim.specs.Found.{HasExchange, IsPutOf, RunsOn}
 use Rattle.link_sim.specs.Runs.{Exchange}
 use Rattle.link_sim.specs.Sides.{other}
 use Rattle.link_sim.specs.Stages.{Stands, IsOver, is_answered}
 use Rattle.link_sim.specs.Waiting.{policy_at, IsUnfinished}
-use Rattle.link_sim.specs.World.{WorldState, entity_at}
+use Rattle.link_sim.specs.World.State.{WorldState, entity_at}
 use Rattle.link_sim.specs.declared.side.Side.{Side}
 
 -- The transaction of a put of this station stands still until a timer of it expires.

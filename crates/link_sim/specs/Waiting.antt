@@ -4,14 +4,14 @@ use Rattle.std.specs.List.{list_any}
 use Rattle.cfdp_header.specs.declared.value.Header.{Header}
 use Rattle.cfdp_header.specs.declared.value.TransactionId.{TransactionId}
 use Rattle.cfdp_header.specs.Ids.{same_id}
-use Rattle.cfdp_directives.specs.declared.handler.Handler.TheVariants.{Ignore}
-use Rattle.cfdp_directives.specs.declared.indication.Indication.{Indication}
-use Rattle.cfdp_directives.specs.declared.indication.Indication.TheVariants as indication
-use Rattle.cfdp_directives.specs.declared.limits.Limits.{Limits}
-use Rattle.cfdp_directives.specs.declared.policy.Policy.{Policy}
-use Rattle.cfdp_directives.specs.Codes.{no_error, inactivity}
-use Rattle.cfdp_directives.specs.Content.{Content}
-use Rattle.cfdp_directives.specs.Grammar.{SpellsPdu}
+use Rattle.cfdp_directives.specs.declared.user.handler.Handler.TheVariants.{Ignore}
+use Rattle.cfdp_directives.specs.declared.user.indication.Indication.{Indication}
+use Rattle.cfdp_directives.specs.declared.user.indication.Indication.TheVariants as indication
+use Rattle.cfdp_directives.specs.declared.user.limits.Limits.{Limits}
+use Rattle.cfdp_directives.specs.declared.user.policy.Policy.{Policy}
+use Rattle.cfdp_directives.specs.Pdu.Codes.{no_error, inactivity}
+use Rattle.cfdp_directives.specs.Pdu.Content.{Content}
+use Rattle.cfdp_directives.specs.Pdu.Grammar.{SpellsPdu}
 use Rattle.cfdp_sender.specs.declared.phase.SenderPhase.{SenderPhase}
 use Rattle.cfdp_sender.specs.declared.phase.SenderPhase.TheVariants as sending
 use Rattle.cfdp_receiver.specs.declared.state.ReceiverPhase.{ReceiverPhase}
@@ -23,7 +23,7 @@ use Rattle.link_sim.specs.Observed.{seen}
 use Rattle.link_sim.specs.OneWay.{on_way}
 use Rattle.link_sim.specs.Sides.{other}
 use Rattle.link_sim.specs.Theorem.{side_of}
-use Rattle.link_sim.specs.World.{WorldState, entity_at, way_from}
+use Rattle.link_sim.specs.World.State.{WorldState, entity_at, way_from}
 use Rattle.link_sim.specs.declared.event.AcceptedPut.{AcceptedPut}
 use Rattle.link_sim.specs.declared.side.Side.{Side}
 

@@ -79,7 +79,7 @@ impl Model for FrameLink {
 
 impl FrameLink {
     /// Nothing was sent; frames will have `len` octets. It takes no memory.
-    #[tactic(auto, using(crate::proofs::Placing::pieces_none))]
+    #[tactic(auto, using(crate::proofs::Ways::Placing::pieces_none))]
     pub fn new(alloc: Global, len: usize) -> Self
         ensures { result ≡ record { frames = []; marks = []; run = 0; blanks = 0; len = len } }
     {
@@ -150,7 +150,7 @@ impl FrameLink {
     }
 
     /// How many frames were sent.
-    #[tactic(auto, using(crate::proofs::Placing::pieces_len))]
+    #[tactic(auto, using(crate::proofs::Ways::Placing::pieces_len))]
     pub fn count(&self) -> usize
         ensures { result ≡ length self.now.frames }
     {
@@ -158,7 +158,7 @@ impl FrameLink {
     }
 
     /// The frame at a place, from 0 on, in the order sent; `None` where there is no such frame.
-    #[tactic(auto, using(crate::proofs::Placing::pieces_len, crate::proofs::Placing::pieces_at, crate::proofs::Placing::room_at))]
+    #[tactic(auto, using(crate::proofs::Ways::Placing::pieces_len, crate::proofs::Ways::Placing::pieces_at, crate::proofs::Ways::Placing::room_at))]
     pub fn frame(&self, place: usize) -> Option<&[u8]>
         ensures { MatchOption result (length self.now.frames ≤ place)
             (λ f. (place < length self.now.frames) × (f.now ≡ slice_index_or self.now.frames place [])) }
@@ -180,7 +180,7 @@ impl FrameLink {
     }
 
     /// The oldest frame that waits was delivered; one does.
-    #[tactic(auto, using(crate::proofs::Placing::pieces_len))]
+    #[tactic(auto, using(crate::proofs::Ways::Placing::pieces_len))]
     pub fn deliver(&mut self)
         requires { length self.old.marks < length self.old.frames }
         ensures { self.new ≡ record self.old { marks = self.old.marks ++ true ∷ []; run = 0 } }
@@ -191,7 +191,7 @@ impl FrameLink {
 
     /// Strikes the oldest frame that waits, unless the last [`MOST_STRUCK`](crate::MOST_STRUCK)
     /// frames taken were struck.
-    #[tactic(auto, using(crate::proofs::Placing::pieces_len))]
+    #[tactic(auto, using(crate::proofs::Ways::Placing::pieces_len))]
     pub fn strike(&mut self) -> Loss
         ensures done { result ≡ losses.Done → (length self.old.marks < length self.old.frames)
             × (self.old.run < most_struck) × (self.new ≡ record self.old { marks = self.old.marks ++ false ∷ []; run = self.old.run + 1 }) }

@@ -4,6 +4,7 @@
 
 mod event;
 mod frame_link;
+mod looking;
 mod loss_run;
 mod mark;
 mod memory_world;

@@ -1,7 +1,7 @@
 //! A world over stores in memory, for callers that only say what happened in it.
 ghost use Rattle.std.specs.FinMap as map;
 ghost use Rattle.std.specs.Prelude.{IfOk};
-ghost use Rattle.link_sim.specs.World.{IsFirst};
+ghost use Rattle.link_sim.specs.World.State.{IsFirst};
 ghost use Rattle.link_sim.specs.WorldConfig.{IsWorldConfig};
 
 use crate::event::{Applied, Event};
@@ -25,17 +25,12 @@ pub struct MemoryWorld<W: Witness = ()> {
 }
 
 impl<W: Witness> Model for MemoryWorld<W> {
-    ghost use Rattle.std.specs.Coded.{codes, coded_ℕ, coded_list, coded×};
-    ghost use Rattle.std.specs.Ordering.{nat_cmp};
-    ghost use Rattle.std.specs.Cmp.Lexicographic.{slice_cmp};
-    ghost use Rattle.std.specs.FinMap as finmap;
-    ghost use Rattle.std.specs.FinSet as finset;
-    ghost use Rattle.cfdp_timers.specs.Armed.{armed_code};
-    ghost use Rattle.link_sim.specs.World.{WorldState};
+    ghost use Rattle.cfdp_entity.specs.Coded.{state_codes};
+    ghost use Rattle.link_sim.specs.World.State.{WorldState};
 
     ghost Value = { WorldState };
 
-    ghost coded = { Prim.hlevel (codes, armed_code, finset.code {R = nat_cmp} coded_ℕ, finmap.code {R = nat_cmp} coded_ℕ coded_ℕ, finmap.code {R = slice_cmp nat_cmp} (coded_list coded_ℕ) (coded_list coded_ℕ)) };
+    ghost coded = { Prim.hlevel (state_codes) };
 
     ghost view = { λ w. w.world };
 }

@@ -1,19 +1,20 @@
 //! What every event keeps of two stations and the frames between them.
 ghost use Rattle.std.specs.Prelude.{◌≡◌, ◌<◌, ℕ, List};
 ghost use Rattle.cfdp_entity.specs.Sound.{FindsMore};
-ghost use Rattle.cfdp_directives.specs.Put.{inbox_after};
+ghost use Rattle.cfdp_directives.specs.User.Put.{inbox_after};
 ghost use Rattle.cfdp_header.specs.Files.{FileMap};
 ghost use Rattle.link_sim.specs.Clean.{AllComplete, IsClean};
-ghost use Rattle.link_sim.specs.Courses.{KeepsPuts};
+ghost use Rattle.link_sim.specs.EveryPut.{KeepsPuts};
 ghost use Rattle.link_sim.specs.Observed.{seen};
 ghost use Rattle.link_sim.specs.OneWay.{IsOneWay, IsRested};
 ghost use Rattle.link_sim.specs.Running.{KeepsPromises, Led};
 ghost use Rattle.link_sim.specs.Settling.{DropsWhereFull, IsOfSettling, IsSettled, KeepsAll, all_shortages};
 ghost use Rattle.link_sim.specs.Sound.{IsSound};
-ghost use Rattle.link_sim.specs.Exchanges.{ExpiresOn};
+ghost use Rattle.link_sim.specs.Found.{ExpiresOn};
 ghost use Rattle.link_sim.specs.Tracks.{KeepsPutsOf, RunsAlong};
 ghost use Rattle.link_sim.specs.Theorem.{HoldsAt, FoldsAt, at, put_of, completions_at};
-ghost use Rattle.link_sim.specs.World.{WorldState, IsFirst, entity_at, Stays, Steps, TakesPut, TellsTime, way_from, files_at};
+ghost use Rattle.link_sim.specs.World.State.{WorldState, IsFirst, entity_at, way_from, files_at};
+ghost use Rattle.link_sim.specs.World.Steps.{Stays, Steps, TakesPut, TellsTime};
 ghost use Rattle.link_sim.specs.WorldConfig.{IsWorldConfig};
 ghost use Rattle.link_sim.specs.WorldWork.{world_work};
 ghost use Rattle.link_sim.specs.declared.event.Applied.TheVariants as dids;

@@ -1,10 +1,10 @@
 //! Recovery: settling, and letting timers fire, by turns.
 ghost use Rattle.std.specs.Prelude.{◌≡◌, ◌≢◌, ◌∷◌, [], true, false, IfErr, IfOk, MatchOption, OnOk};
 ghost use Rattle.cfdp_timers.specs.ButInactivity.{OnlyInactivity};
-ghost use Rattle.cfdp_directives.specs.Put.{Put};
+ghost use Rattle.cfdp_directives.specs.User.Put.{Put};
 ghost use Rattle.cfdp_header.specs.declared.value.TransactionId.{TransactionId};
-ghost use Rattle.link_sim.specs.Courses.{KeepsPuts};
-ghost use Rattle.link_sim.specs.Exchanges.{ExpiresOn, HasExchange};
+ghost use Rattle.link_sim.specs.EveryPut.{KeepsPuts};
+ghost use Rattle.link_sim.specs.Found.{ExpiresOn, HasExchange};
 ghost use Rattle.link_sim.specs.Observed.{seen};
 ghost use Rattle.link_sim.specs.Recovering.{AreRounds, EndsBy, IsNext, IsRecovered, Recovers, Round, RoundEnds, TellsNext, TickEnds, armed_at};
 ghost use Rattle.link_sim.specs.Runs.{Exchange};

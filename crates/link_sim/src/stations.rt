@@ -6,7 +6,8 @@ ghost use Rattle.std.specs.Prelude.{◌≡◌, IfErr, IfOk, OnErr, OnOk};
 ghost use Rattle.link_sim.specs.Recovering.{EndsBy, IsRecovered, Recovers};
 ghost use Rattle.link_sim.specs.Settling.{GoesWell, HasCause, IsSettled};
 ghost use Rattle.link_sim.specs.Spreading.{BurstFindsNoMemory, Bursts, SpreadFindsNoMemory, Spreads};
-ghost use Rattle.link_sim.specs.World.{WorldState, Steps, WantsMemory, entity_at};
+ghost use Rattle.link_sim.specs.World.State.{WorldState, entity_at};
+ghost use Rattle.link_sim.specs.World.Steps.{Steps, WantsMemory};
 
 use crate::event::{Applied, Event};
 use crate::recover_error::RecoverError;

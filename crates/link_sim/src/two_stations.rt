@@ -1,6 +1,7 @@
 //! Two stations and the frames between them, before anything is said of puts and files.
 ghost use Rattle.std.specs.Prelude.{◌≡◌, ◌≢◌, ℕ, ◌+◌, ◌*◌, ◌<◌, ◌≤◌, ◌⊎◌, ◌++◌, [], ◌∷◌, true, length, IfOk, OnErr};
-ghost use Rattle.cfdp_entity.specs.Entity.{with_table, raised};
+ghost use Rattle.cfd_bits.specs.Counting.{raised};
+ghost use Rattle.cfdp_entity.specs.Entity.{with_table};
 ghost use Rattle.cfdp_entity.specs.Table.{Ticks};
 ghost use Rattle.cfdp_entity.specs.declared.call.Call.TheVariants as call_kinds;
 ghost use Rattle.cfdp_station.specs.Link.{WaitAtMost};
@@ -9,8 +10,10 @@ ghost use Rattle.link_stack.specs.Downward.{LinkSenderState};
 ghost use Rattle.link_sim.specs.declared.event.Applied.TheVariants as dids;
 ghost use Rattle.link_sim.specs.AtStation.{AddsNone, CarriesOn, FlushesAt, HearsAt, IsReady, IsSameEnd, IsSameMarks, KeepsAt, KeepsOutbox, PollsAt, PutsAt, StrikesAt, answered};
 ghost use Rattle.link_sim.specs.OneWay.{IsCarried, IsOneWay, IsRested};
-ghost use Rattle.link_sim.specs.World as world;
-ghost use Rattle.link_sim.specs.World.{station_at, link_from, IsFirst, Steps};
+ghost use Rattle.link_sim.specs.World.State as state;
+ghost use Rattle.link_sim.specs.World.Steps as steps;
+ghost use Rattle.link_sim.specs.World.State.{station_at, link_from, IsFirst};
+ghost use Rattle.link_sim.specs.World.Steps.{Steps};
 ghost use Rattle.link_sim.specs.WorldConfig.{IsWorldConfig};
 ghost use Rattle.link_sim.specs.declared.side.Side.{Side};
 ghost use Rattle.link_sim.specs.declared.side.Side.TheVariants as sides;
@@ -43,18 +46,13 @@ pub(crate) struct TwoStations<O: Outbox, I: Inbox> {
 
 impl<O: Outbox, I: Inbox> Model for TwoStations<O, I> {
     ghost use Rattle.std.specs.Prelude.{◌≤◌};
-    ghost use Rattle.std.specs.Coded.{codes, coded_ℕ, coded_list, coded×};
-    ghost use Rattle.std.specs.Ordering.{nat_cmp};
-    ghost use Rattle.std.specs.Cmp.Lexicographic.{slice_cmp};
-    ghost use Rattle.std.specs.FinMap as finmap;
-    ghost use Rattle.std.specs.FinSet as finset;
-    ghost use Rattle.cfdp_timers.specs.Armed.{armed_code};
+    ghost use Rattle.cfdp_entity.specs.Coded.{state_codes};
     ghost use Rattle.link_sim.specs.OneWay.{IsCarried};
-    ghost use Rattle.link_sim.specs.World.{WorldState, seen_link};
+    ghost use Rattle.link_sim.specs.World.State.{WorldState, seen_link};
 
     ghost Value = { WorldState };
 
-    ghost coded = { Prim.hlevel (codes, armed_code, finset.code {R = nat_cmp} coded_ℕ, finmap.code {R = nat_cmp} coded_ℕ coded_ℕ, finmap.code {R = slice_cmp nat_cmp} (coded_list coded_ℕ) (coded_list coded_ℕ)) };
+    ghost coded = { Prim.hlevel (state_codes) };
 
     ghost view = { λ w. record {
       one = w.one;
@@ -83,8 +81,8 @@ impl<O: Outbox, I: Inbox> TwoStations<O, I> {
         ensures first { IfOk result (IsFirst config (O.files outboxes.0, O.files outboxes.1)
             (I.published inboxes.0, I.published inboxes.1)) }
         // Both directions are carried, from the first frame on.
-        ensures ways { IfOk result (λ w. IsOneWay (world.way_from sides.One w)
-            × IsOneWay (world.way_from sides.Two w)) }
+        ensures ways { IfOk result (λ w. IsOneWay (state.way_from sides.One w)
+            × IsOneWay (state.way_from sides.Two w)) }
     {
         let one = Station::new(alloc, config.one, outboxes.0, inboxes.0)?;
         match Station::new(alloc, config.two, outboxes.1, inboxes.1) {
@@ -134,7 +132,7 @@ impl<O: Outbox, I: Inbox> TwoStations<O, I> {
 
     /// The frames that a station sent, with their marks, lent.
     pub(crate) fn frames(&self, side: Side) -> &FrameLink
-        ensures { world.seen_link result.now ≡ link_from side self.now }
+        ensures { state.seen_link result.now ≡ link_from side self.now }
     {
         match side {
             Side::One => &self.from_one,
@@ -144,7 +142,7 @@ impl<O: Outbox, I: Inbox> TwoStations<O, I> {
 
     /// Shows what holds of both directions between events.
     pub(crate) fn show_rest(&self)
-        ensures { (side : Side) → IsRested (world.way_from side self.now) }
+        ensures { (side : Side) → IsRested (state.way_from side self.now) }
     {
         let _ = &self.one;
     }
@@ -153,7 +151,7 @@ impl<O: Outbox, I: Inbox> TwoStations<O, I> {
     pub(crate) fn step(&mut self, event: &Event) -> Result<Applied, AllocError>
         ensures steps { IfOk result (λ did. Steps event.now did self.old self.new) }
         ensures err { OnErr result (self.new ≡ self.old) }
-        ensures lacks { OnErr result (world.WantsMemory event.now) }
+        ensures lacks { OnErr result (steps.WantsMemory event.now) }
     {
         match event {
             Event::Put {
@@ -174,7 +172,7 @@ impl<O: Outbox, I: Inbox> TwoStations<O, I> {
     }
 
     pub(crate) fn poll(&mut self, side: Side) -> Result<Applied, AllocError>
-        ensures polls { IfOk result (λ did. world.Polls did side self.old self.new) }
+        ensures polls { IfOk result (λ did. steps.Polls did side self.old self.new) }
         ensures err { OnErr result (self.new ≡ self.old) }
     {
         match side {
@@ -184,7 +182,7 @@ impl<O: Outbox, I: Inbox> TwoStations<O, I> {
     }
 
     pub(crate) fn flush(&mut self, side: Side) -> Result<Applied, AllocError>
-        ensures flushes { IfOk result (λ did. world.Flushes did side self.old self.new) }
+        ensures flushes { IfOk result (λ did. steps.Flushes did side self.old self.new) }
         ensures err { OnErr result (self.new ≡ self.old) }
     {
         match side {
@@ -194,7 +192,7 @@ impl<O: Outbox, I: Inbox> TwoStations<O, I> {
     }
 
     pub(crate) fn deliver(&mut self, side: Side) -> Applied
-        ensures { world.Delivers result side self.old self.new }
+        ensures { steps.Delivers result side self.old self.new }
     {
         match side {
             Side::One => deliver_to(&mut self.from_one, &mut self.two),
@@ -208,7 +206,7 @@ impl<O: Outbox, I: Inbox> TwoStations<O, I> {
         source: &Octets,
         destination: &Octets,
     ) -> Result<Applied, AllocError>
-        ensures puts { IfOk result (λ did. world.Puts did side source.now destination.now self.old
+        ensures puts { IfOk result (λ did. steps.Puts did side source.now destination.now self.old
             self.new) }
         ensures err { OnErr result (self.new ≡ self.old) }
     {
@@ -220,7 +218,7 @@ impl<O: Outbox, I: Inbox> TwoStations<O, I> {
     }
 
     fn cancel(&mut self, side: Side, id: TransactionId) -> Result<Applied, AllocError>
-        ensures calls { IfOk result (λ did. world.Calls did side call_kinds.Cancel id self.old
+        ensures calls { IfOk result (λ did. steps.Calls did side call_kinds.Cancel id self.old
             self.new) }
         ensures err { OnErr result (self.new ≡ self.old) }
     {
@@ -231,7 +229,7 @@ impl<O: Outbox, I: Inbox> TwoStations<O, I> {
     }
 
     fn suspend(&mut self, side: Side, id: TransactionId) -> Result<Applied, AllocError>
-        ensures calls { IfOk result (λ did. world.Calls did side call_kinds.Suspend id self.old
+        ensures calls { IfOk result (λ did. steps.Calls did side call_kinds.Suspend id self.old
             self.new) }
         ensures err { OnErr result (self.new ≡ self.old) }
     {
@@ -242,7 +240,7 @@ impl<O: Outbox, I: Inbox> TwoStations<O, I> {
     }
 
     fn resume(&mut self, side: Side, id: TransactionId) -> Result<Applied, AllocError>
-        ensures calls { IfOk result (λ did. world.Calls did side call_kinds.Resume id self.old
+        ensures calls { IfOk result (λ did. steps.Calls did side call_kinds.Resume id self.old
             self.new) }
         ensures err { OnErr result (self.new ≡ self.old) }
     {
@@ -258,7 +256,7 @@ impl<O: Outbox, I: Inbox> TwoStations<O, I> {
         id: TransactionId,
         keep_alive: bool,
     ) -> Result<Applied, AllocError>
-        ensures calls { IfOk result (λ did. world.Calls did side (call_kinds.Prompt keep_alive) id
+        ensures calls { IfOk result (λ did. steps.Calls did side (call_kinds.Prompt keep_alive) id
             self.old self.new) }
         ensures err { OnErr result (self.new ≡ self.old) }
     {
@@ -269,7 +267,7 @@ impl<O: Outbox, I: Inbox> TwoStations<O, I> {
     }
 
     fn tick(&mut self, side: Side, now: u64) -> Result<Applied, AllocError>
-        ensures ticks { IfOk result (λ did. world.IsApplied did (world.TellsTime side now self.old
+        ensures ticks { IfOk result (λ did. steps.IsApplied did (steps.TellsTime side now self.old
             self.new)) }
         ensures err { OnErr result (self.new ≡ self.old) }
     {
@@ -280,7 +278,7 @@ impl<O: Outbox, I: Inbox> TwoStations<O, I> {
     }
 
     fn strike(&mut self, side: Side) -> Applied
-        ensures { world.Strikes result side self.old self.new }
+        ensures { steps.Strikes result side self.old self.new }
     {
         match side {
             Side::One => strike_at(&mut self.from_one),

@@ -1,16 +1,17 @@
 //! A world: two stations over two directions of frames.
 ghost use Rattle.std.specs.Prelude.{◌≡◌, ◌⊎◌, ◌<◌, ℕ, List, IfOk, OnErr};
-ghost use Rattle.cfdp_directives.specs.Put.{inbox_after};
+ghost use Rattle.cfdp_directives.specs.User.Put.{inbox_after};
 ghost use Rattle.cfdp_entity.specs.Sound.{FindsMore};
 ghost use Rattle.cfdp_header.specs.Files.{FileMap};
 ghost use Rattle.link_sim.specs.Clean.{IsClean};
-ghost use Rattle.link_sim.specs.Exchanges.{ExpiresOn};
+ghost use Rattle.link_sim.specs.Found.{ExpiresOn};
 ghost use Rattle.link_sim.specs.Observed.{seen};
 ghost use Rattle.link_sim.specs.Running.{Happens, Ran};
 ghost use Rattle.link_sim.specs.Settling.{DropsWhereFull, IsOfSettling, KeepsAll, all_shortages};
 ghost use Rattle.link_sim.specs.Theorem.{HoldsAt, FoldsAt, at, put_of, completions_at};
 ghost use Rattle.link_sim.specs.Tracks.{KeepsPutsOf, RunsAlong};
-ghost use Rattle.link_sim.specs.World.{IsFirst, PublishesAt, Steps, WantsMemory, published_at, station_at, entity_at, link_from, seen_link, files_at};
+ghost use Rattle.link_sim.specs.World.State.{IsFirst, published_at, station_at, entity_at, link_from, seen_link, files_at};
+ghost use Rattle.link_sim.specs.World.Steps.{PublishesAt, Steps, WantsMemory};
 ghost use Rattle.link_sim.specs.WorldConfig.{IsWorldConfig};
 ghost use Rattle.link_sim.specs.WorldWork.{world_work};
 ghost use Rattle.link_sim.specs.declared.event.Applied.TheVariants as dids;
@@ -46,19 +47,14 @@ pub struct World<O: Outbox, I: Inbox, W: Witness = ()> {
 }
 
 impl<O: Outbox, I: Inbox, W: Witness> Model for World<O, I, W> {
-    ghost use Rattle.std.specs.Coded.{codes, coded_ℕ, coded_list, coded×};
-    ghost use Rattle.std.specs.Ordering.{nat_cmp};
-    ghost use Rattle.std.specs.Cmp.Lexicographic.{slice_cmp};
-    ghost use Rattle.std.specs.FinMap as finmap;
-    ghost use Rattle.std.specs.FinSet as finset;
-    ghost use Rattle.cfdp_timers.specs.Armed.{armed_code};
-    ghost use Rattle.link_sim.specs.Courses.{KeepsPuts};
+    ghost use Rattle.cfdp_entity.specs.Coded.{state_codes};
+    ghost use Rattle.link_sim.specs.EveryPut.{KeepsPuts};
     ghost use Rattle.link_sim.specs.Sound.{IsSound};
-    ghost use Rattle.link_sim.specs.World.{WorldState};
+    ghost use Rattle.link_sim.specs.World.State.{WorldState};
 
     ghost Value = { WorldState };
 
-    ghost coded = { Prim.hlevel (codes, armed_code, finset.code {R = nat_cmp} coded_ℕ, finmap.code {R = nat_cmp} coded_ℕ coded_ℕ, finmap.code {R = slice_cmp nat_cmp} (coded_list coded_ℕ) (coded_list coded_ℕ)) };
+    ghost coded = { Prim.hlevel (state_codes) };
 
     ghost view = { λ w. w.stations };
 

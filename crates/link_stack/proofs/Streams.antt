@@ -14,7 +14,8 @@ use Rattle.mpdu.proofs.NextZone.{IsReadRight, next_is_read}
 use Rattle.mpdu.proofs.Struck.{begun-struck}
 use Rattle.link_stack.specs.declared.drops.LinkDrop.TheVariants.{NoMemory}
 use Rattle.link_stack.specs.Frames.{packet_drop, mpdu_in, AreOfLink, pdus_in}
-use Rattle.link_stack.specs.Drops.{raised, counted, all_counted, count_of}
+use Rattle.cfd_bits.specs.Counting.{raised}
+use Rattle.link_stack.specs.Drops.{counted, all_counted, count_of}
 use Rattle.link_stack.specs.Upward.{LinkReceiverState, FrameRead, pdus_of, drops_of, with_pdu, with_drop, zone_drops, idle_read, packets_read, read_unless, frame_read, Takes, TakesFront, HasZone, IsUpOf, IsNextFrameOf, TakesNextOf, TakesNextFrontOf}
 use Rattle.link_stack.proofs.Decoded.{IsDecoded, decoded}
 use Rattle.link_stack.proofs.Grown.{some_counts}

@@ -125,11 +125,3 @@ pub one_bad : (bad i : ℕ) (counts after : List ℕ) (total : List ℕ) → i <
 one_bad bad i counts after total h is more =
     let e : bad - i ≡ suc (bad - (i + 1)) = omega arith in
     ap (λ l. all_counted l (replicate (bad - (i + 1)) BadPacket)) more ∙ sym (ap (λ n. all_counted counts (replicate n BadPacket)) e) ∙ is
-
-pub unpacked_all : (link : LinkConfig) (initial : List (List ℕ)) (first : ℕ) (counts : List ℕ) (packets : List (List ℕ)) (place : ℕ) (now : List ℕ) → length packets ≤ place →
-    IsUnpacked link initial first counts packets place now → (packets ≡ take first initial ++ pdus_of link (drop first initial)) × (now ≡ all_counted counts (drops_of link (drop first initial)))
-unpacked_all link initial first counts packets place now h is =
-    let none : drop place packets ≡ [] = drop_all place packets h in (
-      sym (append-nil packets) ∙ ap (λ l. l ++ []) (sym (take_all place packets h)) ∙ ap (λ l. take place packets ++ pdus_of link l) (sym none) ∙ is.pdus,
-      ap (λ l. all_counted now (drops_of link l)) (sym none) ∙ is.drops,
-    )

@@ -1,5 +1,6 @@
 -- What is dropped on the way up, and the counts of it.
-use Rattle.std.specs.Prelude.{ℕ, ◌+◌, ◌-◌, ◌^◌, min, max, Option, Some, None, List, [], ◌∷◌, ◌==◌, if◌then◌else◌, codes, slice_index_or, slice_set}
+use Rattle.std.specs.Prelude.{ℕ, ◌+◌, ◌-◌, ◌^◌, Option, Some, None, List, [], ◌∷◌, ◌==◌, if◌then◌else◌, codes, slice_index_or, slice_set}
+use Rattle.cfd_bits.specs.Counting.{raised}
 use Rattle.aos_frame.specs.declared.error.FrameError.{FrameError}
 use Rattle.aos_frame.specs.Frame.{refusal_number, refusal_name}
 use Rattle.link_stack.specs.declared.drops.LinkDrop.{LinkDrop}
@@ -26,10 +27,6 @@ drop_name NoMemory = codes "NoMemory"
 abbrev pub drop_source : LinkDrop → Option FrameError
 drop_source (Frame error) = Some error
 drop_source _ = None
-
--- one more, save at the greatest value
-abbrev pub raised : ℕ → ℕ
-raised n = max n (min (n + 1) (2 ^ 64 - 1))
 
 -- Counts stand in the order of their numbers, that of number 1 first.
 abbrev pub count_of : List ℕ → ℕ → ℕ

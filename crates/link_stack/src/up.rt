@@ -5,7 +5,8 @@ ghost use Rattle.mpdu.specs.Feeding.{octets_of_each};
 ghost use Rattle.mpdu.specs.MpduHeader.{pointer_of};
 ghost use Rattle.mpdu.specs.Stream.{ArePackets, survivors};
 ghost use Rattle.link_stack.specs.Frames.{packet_drop, AreOfLink, pdus_in};
-ghost use Rattle.link_stack.specs.Drops.{raised, counted, all_counted, count_of};
+ghost use Rattle.cfd_bits.specs.Counting.{raised};
+ghost use Rattle.link_stack.specs.Drops.{counted, all_counted, count_of};
 ghost use Rattle.link_stack.specs.Upward.{AreLong, pdus_of, drops_of, zone_drops, packets_read, mpdu_read, frame_read, HasZone, Takes, TakesFront, IsUpOf, IsUp, IsNextFrame, IsNextFrameOf, TakesNext, TakesNextOf, TakesNextFront, TakesNextFrontOf};
 ghost use Rattle.link_stack.specs.declared.drops.LinkDrop.TheVariants.{BadPacket, NoMemory};
 

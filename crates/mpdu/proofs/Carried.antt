@@ -121,24 +121,6 @@ carried_all ps struck size p held next last sent out h less =
       survive = h.given;
     }
 
-min_zero : (n : ℕ) → min 0 n ≡ 0
-min_zero n = omega arith
-
-pub carried_none : (struck : List Bool) (size : ℕ) (p : PackerState) → p.size ≡ size → p.waiting ≡ [] → p.first ≡ 0 → IsCarried [] struck size p [] 0 None 0 []
-carried_none struck size p es ew ef =
-    let k0 : 0 * p.size ≡ 0 = omega arith in
-    let k1 : 0 - 0 * p.size ≡ 0 = omega arith in
-    record {
-      taken = 0;
-      packed = record { packets_whole = tt; below = omega arith; rest = ew ∙ sym (ap (λ k. drop k []) k0); start = ef ∙ sym k1 };
-      sized = es;
-      next_mark = sym (min_zero (length struck));
-      missed = 0;
-      counts = counts_none struck;
-      as_left = refl;
-      given = refl;
-    }
-
 pub ArePackets-at : (vs : List (Vec ℕ Global)) (i : ℕ) (v : Vec ℕ Global) → ArePackets (octets_of_each vs) → i < length vs → v ≡ get_or vs i v → IsPacket v.items
 ArePackets-at [] i v h lt is = absurd (omega arith)
 ArePackets-at (w ∷ vs) zero v h lt is = subst (λ (x : Vec ℕ Global). IsPacket x.items) (sym is) h.0

@@ -80,18 +80,11 @@ pub record AreFewBelow (struck : List Bool) (i run : ℕ) : Type 0 where
   pub last : (k : ℕ) → i ≤ k + run → k < i → get_or struck k false ≡ true
   pub before : (j : ℕ) → j + run < i → (k : ℕ) × (j ≤ k) × (k < j + frame_counts) × (get_or struck k false ≡ false)
 
-pub few_none : (struck : List Bool) → AreFewBelow struck 0 0
-few_none struck = record { few = omega arith; within = omega arith; last = λ k h lt. absurd (omega arith); before = λ j h. absurd (omega arith) }
-
 last_more : (struck : List Bool) (i run : ℕ) → AreFewBelow struck i run → get_or struck i false ≡ true → (k : ℕ) → i + 1 ≤ k + (run + 1) → k < i + 1 → get_or struck k false ≡ true
 last_more struck i run h e k le lt =
     let same : i ≤ k → get_or struck k false ≡ true = λ (c : i ≤ k). (let eq : i ≡ k = omega arith in subst (λ (n : ℕ). get_or struck n false ≡ true) eq e) in
     let early : k < i → get_or struck k false ≡ true = λ (c : k < i). h.last k (omega arith) c in
     elim (cases_lt k i) [ inl c ↦ early c | inr c ↦ same c ]
-
-pub few_lost : (struck : List Bool) (i run : ℕ) → AreFewBelow struck i run → get_or struck i false ≡ true → run + 1 < frame_counts → AreFewBelow struck (i + 1) (run + 1)
-few_lost struck i run h e lt =
-    record { few = lt; within = omega (arith, h.within); last = λ k a b. last_more struck i run h e k a b; before = λ j a. h.before j (omega arith) }
 
 pub few_came : (struck : List Bool) (i run : ℕ) → AreFewBelow struck i run → get_or struck i false ≡ false → AreFewBelow struck (i + 1) 0
 few_came struck i run h e =

@@ -13,6 +13,7 @@ use space_packet::encode_idle;
 use space_packet::header::HEADER_LEN;
 use std::alloc::{AllocError, Global};
 use std::marker::Model;
+use thiserror::Error;
 
 /// Octets of the shortest packet.
 const MIN_PACKET: usize = 7;
@@ -21,7 +22,8 @@ const MIN_PACKET: usize = 7;
 const FLUSH_ROOM: usize = 2047;
 
 /// The packer has no room for the packet, and took nothing of it.
-#[derive(Clone, Copy, Debug, PartialEq, Eq)]
+#[derive(Clone, Copy, Debug, PartialEq, Eq, Error)]
+#[error("the packer has no room for the packet")]
 pub struct Full;
 
 /// One of the octets; 0 behind the last.

@@ -1,4 +1,4 @@
-use Rattle.cfdp_directives.specs.Faults.{pdu_fault}
+use Rattle.cfdp_directives.specs.Pdu.Faults.{pdu_fault}
 use Rattle.cfdp_entity.specs.Polling.{turn}
 use Rattle.cfdp_entity.proofs.Growing.{put-goes, called-goes, ticked-goes, heard-goes, dropped-goes, served-goes}
 use Rattle.cfdp_entity.proofs.laws.an_entity_goes_on.Goals as goal

@@ -1,4 +1,4 @@
-use Rattle.cfdp_directives.specs.Faults.{pdu_fault}
+use Rattle.cfdp_directives.specs.Pdu.Faults.{pdu_fault}
 use Rattle.cfdp_entity.specs.Polling.{turn}
 use Rattle.cfdp_entity.proofs.Sounds.{TableLaws, sound-put, sound-called, sound-ticked, sound-heard, sound-dropped, sound-served}
 use Rattle.cfdp_entity.proofs.Timing.{first-timed}

@@ -1,6 +1,6 @@
 use Rattle.std.proofs.Common.{refl, sym, ap, subst}
-use Rattle.cfdp_directives.specs.declared.pdu.Pdu.{Pdu}
-use Rattle.cfdp_directives.specs.Content.{view}
+use Rattle.cfdp_directives.specs.declared.pdu.content.Pdu.{Pdu}
+use Rattle.cfdp_directives.specs.Pdu.Content.{view}
 use Rattle.cfdp_store.specs.declared.stored.Stored.TheVariants.{Done}
 use Rattle.cfdp_store.specs.Staged.{staged_for}
 use Rattle.cfdp_receiver.specs.Steps.{hears_prompt}

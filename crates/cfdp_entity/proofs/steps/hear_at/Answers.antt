@@ -1,6 +1,6 @@
 use Rattle.std.proofs.Common.{refl, sym}
 use Rattle.cfdp_store.specs.declared.stored.Stored.TheVariants.{Done}
-use Rattle.cfdp_directives.specs.Content.{view}
+use Rattle.cfdp_directives.specs.Pdu.Content.{view}
 use Rattle.cfdp_store.specs.Chains.{Raises}
 use Rattle.cfdp_entity.specs.Seen.{seen}
 use Rattle.cfdp_entity.specs.Storing.{AsksHeard}

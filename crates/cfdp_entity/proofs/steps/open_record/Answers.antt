@@ -1,6 +1,6 @@
 use Rattle.std.proofs.Common.{Result, Ok, Err, OnErr, refl, ap, subst, ◌∙◌, arith}
 use Rattle.cfdp_timers.specs.Armed.{TimersState}
-use Rattle.cfdp_directives.specs.Content.{view}
+use Rattle.cfdp_directives.specs.Pdu.Content.{view}
 use Rattle.cfdp_entity.specs.Opening.{closing, opens}
 use Rattle.cfdp_store.specs.Chains.{Raises}
 use Rattle.cfdp_entity.specs.Seen.{Seen, seen}

@@ -1,6 +1,6 @@
 use Rattle.std.proofs.lemmas.Result.{IfOk-weaker}
 use Rattle.clap.specs.Simple.{with_subcommand}
-use Rattle.cfdp_node.specs.LoopRequest.{loop_app}
+use Rattle.cfdp_node.specs.Looping.Request.{loop_app}
 use Rattle.cfdp_node.specs.Request.{dump_app, sim_app, top_app}
 use Rattle.cfdp_node.proofs.CommandWords.{joined}
 use Rattle.cfdp_node.proofs.arguments.files_grammar.Goals as goal

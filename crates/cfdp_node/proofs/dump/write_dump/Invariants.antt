@@ -1,6 +1,6 @@
 use Rattle.std.proofs.Common.{length}
 use Rattle.cfdp_node.proofs.TextLines.{WritesFront}
-use Rattle.cfdp_node.specs.Dump.{TellsLine}
+use Rattle.cfdp_node.specs.Dump.Lines.{TellsLine}
 use Rattle.cfdp_node.proofs.dump.write_dump.Given as goal
 
 -- the lines in front of what is left are told

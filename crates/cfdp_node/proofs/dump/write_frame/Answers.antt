@@ -1,7 +1,7 @@
 use Rattle.std.proofs.Common.{sym, inl, inr, refl}
-use Rattle.cfdp_node.specs.Dump.{TellsAsFrame, frame_line}
-use Rattle.cfdp_node.specs.Refusal.{refusal_text}
-use Rattle.cfdp_node.specs.declared.refusal.Refusal.TheVariants.{Frame}
+use Rattle.cfdp_node.specs.Dump.Lines.{TellsAsFrame, frame_line}
+use Rattle.cfdp_node.specs.Dump.Refusal.{refusal_text}
+use Rattle.cfdp_node.specs.declared.dump.refusal.Refusal.TheVariants.{Frame}
 use Rattle.cfdp_node.proofs.TextLines.{line_is_written}
 use Rattle.cfdp_node.proofs.dump.write_frame.Goals as goal
 

@@ -1,7 +1,7 @@
 use Rattle.std.proofs.Common.{◌≡◌, None, refl}
-use Rattle.cfdp_node.specs.Dump.{TellsLine, hex_octets}
-use Rattle.cfdp_node.specs.Refusal.{refusal_text}
-use Rattle.cfdp_node.specs.declared.refusal.Refusal.TheVariants.{Hex}
+use Rattle.cfdp_node.specs.Dump.Lines.{TellsLine, hex_octets}
+use Rattle.cfdp_node.specs.Dump.Refusal.{refusal_text}
+use Rattle.cfdp_node.specs.declared.dump.refusal.Refusal.TheVariants.{Hex}
 use Rattle.cfdp_node.proofs.TextLines.{line_is_written}
 use Rattle.cfdp_node.proofs.dump.write_line.Goals as goal
 

@@ -1,7 +1,7 @@
 use Rattle.std.proofs.Common.{sym, inr, refl}
-use Rattle.cfdp_node.specs.Dump.{TellsAsPdu}
-use Rattle.cfdp_node.specs.Refusal.{refusal_text}
-use Rattle.cfdp_node.specs.declared.refusal.Refusal.TheVariants.{Pdu}
+use Rattle.cfdp_node.specs.Dump.Lines.{TellsAsPdu}
+use Rattle.cfdp_node.specs.Dump.Refusal.{refusal_text}
+use Rattle.cfdp_node.specs.declared.dump.refusal.Refusal.TheVariants.{Pdu}
 use Rattle.cfdp_node.proofs.TextLines.{line_is_written}
 use Rattle.cfdp_node.proofs.dump.write_pdu.Goals as goal
 

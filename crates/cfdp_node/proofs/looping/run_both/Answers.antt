@@ -1,5 +1,5 @@
 use Rattle.std.proofs.Common.{ap₂, ◌∙◌}
-use Rattle.cfdp_node.specs.Looping.{loop_exit, more_failures}
+use Rattle.cfdp_node.specs.Looping.Turns.{loop_exit, more_failures}
 use Rattle.cfdp_node.proofs.LoopLemmas.{is_told}
 use Rattle.cfdp_node.proofs.looping.run_both.Goals as goal
 

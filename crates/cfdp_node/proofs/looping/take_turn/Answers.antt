@@ -1,5 +1,5 @@
 use Rattle.std.proofs.Common.{subst}
-use Rattle.cfdp_node.specs.Turn.{Sends}
+use Rattle.cfdp_node.specs.Wire.Turn.{Sends}
 use Rattle.cfdp_node.proofs.looping.take_turn.Goals as goal
 
 pub returns-clause-ok : goal.returns-clause-ok

@@ -1,5 +1,5 @@
 use Rattle.std.proofs.Common.{◌∙◌}
-use Rattle.cfdp_node.specs.Looping.{IsClosed}
+use Rattle.cfdp_node.specs.Looping.Turns.{IsClosed}
 use Rattle.cfdp_node.proofs.LoopLemmas.{turned_in_part, turned_more}
 use Rattle.cfdp_node.proofs.TurnLemmas.{not_so, on_err}
 use Rattle.cfdp_node.proofs.looping.take_turns.Goals as goal

@@ -1,6 +1,6 @@
 use Rattle.std.proofs.Common.{◌≡◌, length}
-use Rattle.cfdp_node.specs.Looping.{Turns}
-use Rattle.cfdp_node.specs.Turn.{FitsFrames}
+use Rattle.cfdp_node.specs.Looping.Turns.{Turns}
+use Rattle.cfdp_node.specs.Wire.Turn.{FitsFrames}
 use Rattle.cfdp_node.proofs.looping.take_turns.Given as goal
 
 abbrev pub invariant-loop-before : goal.invariant-loop-before

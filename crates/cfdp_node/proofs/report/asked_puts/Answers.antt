@@ -1,6 +1,6 @@
 use Rattle.std.proofs.Common.{◌≡◌, ap, get_or, arith, take_all, ◌∙◌, sum_by}
 use Rattle.std.proofs.lemmas.List.Sums.{sum_by_more}
-use Rattle.cfdp_node.specs.Run.{puts_in}
+use Rattle.cfdp_node.specs.Script.Run.{puts_in}
 use Rattle.cfdp_node.proofs.report.asked_puts.Goals as goal
 
 pub loop-step-preserved : goal.loop-step-preserved

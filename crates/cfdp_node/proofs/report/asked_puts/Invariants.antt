@@ -1,5 +1,5 @@
 use Rattle.std.proofs.Common.{◌≡◌, ◌≤◌, take, sum_by}
-use Rattle.cfdp_node.specs.Run.{puts_in}
+use Rattle.cfdp_node.specs.Script.Run.{puts_in}
 use Rattle.cfdp_node.proofs.report.asked_puts.Given as goal
 
 -- the puts so far are counted

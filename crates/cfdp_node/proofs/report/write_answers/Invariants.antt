@@ -1,7 +1,7 @@
 use Rattle.std.proofs.Common.{take}
 use Rattle.std.specs.Io.KnownBytes.{Appends}
 use Rattle.std.specs.List.{flat_map}
-use Rattle.cfdp_node.specs.Report.{answer_line}
+use Rattle.cfdp_node.specs.Report.Lines.{answer_line}
 use Rattle.cfdp_node.proofs.report.write_answers.Given as goal
 
 -- the lines so far are written

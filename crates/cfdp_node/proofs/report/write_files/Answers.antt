@@ -2,7 +2,7 @@ use Rattle.std.proofs.Common.{map, ap}
 use Rattle.std.specs.List.{flat_map}
 use Rattle.std.specs.Map.Iter.{deref_pair}
 use Rattle.std.proofs.lemmas.Map.Iter.{rest_more}
-use Rattle.cfdp_node.specs.Report.{inbox_line}
+use Rattle.cfdp_node.specs.Report.Lines.{inbox_line}
 use Rattle.cfdp_node.proofs.Reports.{one_more}
 use Rattle.cfdp_node.proofs.report.write_files.Goals as goal
 

@@ -1,6 +1,6 @@
 use Rattle.std.proofs.Common.{map}
 use Rattle.std.specs.List.{flat_map}
-use Rattle.cfdp_node.specs.Report.{inbox_line}
+use Rattle.cfdp_node.specs.Report.Lines.{inbox_line}
 use Rattle.cfdp_node.proofs.Reports.{IsPart}
 use Rattle.cfdp_node.proofs.report.write_files.Given as goal
 

@@ -1,7 +1,7 @@
 use Rattle.std.proofs.Common.{take}
 use Rattle.std.specs.Io.KnownBytes.{Appends}
 use Rattle.std.specs.List.{flat_map}
-use Rattle.cfdp_node.specs.Report.{indication_line}
+use Rattle.cfdp_node.specs.Report.Lines.{indication_line}
 use Rattle.cfdp_node.proofs.report.write_indications.Given as goal
 
 -- the lines so far are written

@@ -2,7 +2,7 @@ use Rattle.std.proofs.Common.{rules, ◌≡◌, ◌+◌, ◌∷◌, [], Ok, Err,
 use Rattle.std.specs.Prelude.{unwrap_or, Option, IsSome}
 use Rattle.std.specs.FinMap.{empty}
 use Rattle.std.specs.List.{All}
-use Rattle.cfdp_directives.specs.Checksum.{Piece, added}
+use Rattle.cfdp_directives.specs.Pdu.Checksum.{Piece, added}
 use Rattle.cfdp_extents.specs.Offsets.{LiesIn}
 use Rattle.cfdp_store.specs.Staged.{OctetMap, staged_for}
 use Rattle.cfdp_receiver.specs.Pieces.{piece_in, pieces_in, with_piece, staged_with, sum_with}

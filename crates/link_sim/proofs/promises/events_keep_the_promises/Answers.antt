@@ -1,20 +1,20 @@
 use Rattle.link_sim.specs.declared.event.Applied.TheVariants as dids
 use Rattle.link_sim.specs.declared.event.Event.TheVariants as event
-use Rattle.link_sim.proofs.Along.{puts-kept-of, puts-same, settling-puts}
-use Rattle.link_sim.proofs.ExpiresOn.{expires-on}
-use Rattle.link_sim.proofs.RunsWorld.{settles-run}
-use Rattle.link_sim.proofs.CleanEnds.{clean-completes}
-use Rattle.link_sim.proofs.CleanFirst.{first-clean, put-clean}
-use Rattle.link_sim.proofs.CleanFound.{first-found, stays-found, steps-found}
-use Rattle.link_sim.proofs.CleanHears.{HearingLaws}
-use Rattle.link_sim.proofs.CleanSettles.{CleanLaws, settles-clean, spared-at}
-use Rattle.link_sim.proofs.CoursesEvents.{first-courses, steps-courses, stays-courses}
-use Rattle.link_sim.proofs.FullTables.{event-full, stays-full}
-use Rattle.link_sim.proofs.Keeping.{Grounds, holds, sound-next, folds-next}
-use Rattle.link_sim.proofs.Moving.{EntityLaws, Moves, stays-moves}
-use Rattle.link_sim.proofs.Beginning.{sound-first, inbox-first, event-moves}
-use Rattle.link_sim.proofs.SettlingWork.{event-less}
-use Rattle.link_sim.proofs.WithinWorld.{stays-within, event-within}
+use Rattle.link_sim.proofs.Recovery.Along.{puts-kept-of, puts-same, settling-puts}
+use Rattle.link_sim.proofs.Found.ExpiresOn.{expires-on}
+use Rattle.link_sim.proofs.Runs.World.{settles-run}
+use Rattle.link_sim.proofs.Clean.Ends.{clean-completes}
+use Rattle.link_sim.proofs.Clean.First.{first-clean, put-clean}
+use Rattle.link_sim.proofs.Clean.Found.{first-found, stays-found, steps-found}
+use Rattle.link_sim.proofs.Clean.Hears.{HearingLaws}
+use Rattle.link_sim.proofs.Clean.Settles.{CleanLaws, settles-clean, spared-at}
+use Rattle.link_sim.proofs.EveryPut.Events.{first-courses, steps-courses, stays-courses}
+use Rattle.link_sim.proofs.Clean.FullTables.{event-full, stays-full}
+use Rattle.link_sim.proofs.Events.Keeping.{Grounds, holds, sound-next, folds-next}
+use Rattle.link_sim.proofs.Events.Moving.{EntityLaws, Moves, stays-moves}
+use Rattle.link_sim.proofs.Events.Beginning.{sound-first, inbox-first, event-moves}
+use Rattle.link_sim.proofs.Work.Settling.{event-less}
+use Rattle.link_sim.proofs.Work.WithinWorld.{stays-within, event-within}
 use Rattle.link_sim.proofs.promises.events_keep_the_promises.Goals as goal
 
 pub returns-clause-first : goal.returns-clause-first

@@ -1,16 +1,16 @@
 use Rattle.std.proofs.Common.{◌≡◌, ◌∙◌, refl, inl, inr, subst, sym}
-use Rattle.link_sim.specs.Courses.{KeepsPuts}
+use Rattle.link_sim.specs.EveryPut.{KeepsPuts}
 use Rattle.link_sim.specs.Observed.{seen}
 use Rattle.link_sim.specs.OneWay.{IsRested}
 use Rattle.link_sim.specs.Running.{AreApart, Goes, KeepsPromises}
 use Rattle.link_sim.specs.Sound.{IsSound}
 use Rattle.link_sim.specs.Theorem.{Follows}
-use Rattle.link_sim.specs.World.{WorldState, entity_at, files_at, way_from}
+use Rattle.link_sim.specs.World.State.{WorldState, entity_at, files_at, way_from}
 use Rattle.link_sim.specs.declared.side.Side.{Side}
-use Rattle.link_sim.proofs.FirstWays.{first-rests, first-ways}
-use Rattle.link_sim.proofs.Folding.{inbox-follows}
-use Rattle.link_sim.proofs.Leading.{led-keeps}
-use Rattle.link_sim.proofs.Resting.{apart-kept, rests-kept}
+use Rattle.link_sim.proofs.Ways.First.{first-rests, first-ways}
+use Rattle.link_sim.proofs.Events.Folding.{inbox-follows}
+use Rattle.link_sim.proofs.Events.Leading.{led-keeps}
+use Rattle.link_sim.proofs.Events.Resting.{apart-kept, rests-kept}
 use Rattle.link_sim.proofs.promises.worlds_keep_the_promises.Goals as goal
 
 pub returns-clause-keeps : goal.returns-clause-keeps

@@ -1,7 +1,7 @@
 use Rattle.std.proofs.Common.{sym, subst}
 use Rattle.link_sim.specs.FrameLink.{FrameLinkState}
 use Rattle.link_sim.specs.AtStation.{HearsAt}
-use Rattle.link_sim.proofs.AtStations.{delivered_at}
+use Rattle.link_sim.proofs.Events.AtStations.{delivered_at}
 use Rattle.link_sim.proofs.two_stations.deliver_to.Goals as goal
 
 pub returns-clause-hears : goal.returns-clause-hears

@@ -5,7 +5,7 @@ use Rattle.link_stack.specs.Upward.{LinkReceiverState}
 use Rattle.link_sim.specs.FrameLink.{FrameLinkState}
 use Rattle.link_sim.specs.AtStation.{IsSameLink}
 use Rattle.link_sim.specs.OneWay.{IsCarried}
-use Rattle.link_sim.proofs.AtStations.{filled_on, flushed_none}
+use Rattle.link_sim.proofs.Events.AtStations.{filled_on, flushed_none}
 use Rattle.link_sim.proofs.two_stations.flush_at.Goals as goal
 
 pub returns-then-before-count-clause-flushes : goal.returns-then-before-count-clause-flushes

@@ -5,7 +5,7 @@ use Rattle.cfdp_station.specs.declared.polled.Polled.{Polled}
 use Rattle.cfdp_station.specs.declared.polled.Polled.TheVariants.{Moved}
 use Rattle.cfdp_station.specs.Polling.{next_pdu, Polls, stored_by_poll}
 use Rattle.link_sim.specs.OneWay.{IsCarried}
-use Rattle.link_sim.proofs.AtStations.{moved_on}
+use Rattle.link_sim.proofs.Events.AtStations.{moved_on}
 use Rattle.link_sim.proofs.two_stations.poll_at.Goals as goal
 
 pub returns-in-Moved-clause-polls : goal.returns-in-Moved-clause-polls

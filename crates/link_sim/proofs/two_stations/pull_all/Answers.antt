@@ -2,7 +2,7 @@ use Rattle.std.proofs.Common.{◌≡◌, ℕ, ◌+◌, ◌-◌, ◌<◌, ◌≤�
 use Rattle.std.proofs.lemmas.Bool.{cases_lt}
 use Rattle.link_stack.specs.Upward.{LinkReceiverState}
 use Rattle.link_sim.specs.OneWay.{IsOneWay, SendsNone, one_way}
-use Rattle.link_sim.proofs.Pulling.{pulled_more, one_less}
+use Rattle.link_sim.proofs.Ways.Pulling.{pulled_more, one_less}
 use Rattle.link_sim.proofs.two_stations.pull_all.Goals as goal
 
 pub loop-preserved : goal.loop-preserved

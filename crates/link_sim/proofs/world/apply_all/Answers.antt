@@ -1,8 +1,8 @@
 use Rattle.std.proofs.Common.{[], refl}
 use Rattle.std.proofs.lemmas.List.{take_more}
 use Rattle.link_sim.specs.Observed.{seen}
-use Rattle.link_sim.proofs.Folding.{inbox-follows}
-use Rattle.link_sim.proofs.Happening.{happens-more}
+use Rattle.link_sim.proofs.Events.Folding.{inbox-follows}
+use Rattle.link_sim.proofs.Events.Happening.{happens-more}
 use Rattle.link_sim.proofs.world.apply_all.Goals as goal
 
 pub loop-event-init : goal.loop-event-init

@@ -1,6 +1,6 @@
 use Rattle.std.proofs.Common.{◌≡◌, take}
 use Rattle.cfdp_header.specs.Files.{FileMap}
-use Rattle.cfdp_directives.specs.Put.{inbox_after}
+use Rattle.cfdp_directives.specs.User.Put.{inbox_after}
 use Rattle.link_sim.specs.Observed.{seen}
 use Rattle.link_sim.specs.Running.{Happens}
 use Rattle.link_sim.specs.Theorem.{HoldsAt, at, put_of, completions_at}

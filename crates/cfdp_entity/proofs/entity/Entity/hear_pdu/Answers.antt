@@ -1,6 +1,6 @@
 use Rattle.std.proofs.Common.{sym, ap, ◌∙◌}
-use Rattle.cfdp_directives.specs.declared.addressing.Addressing.{Addressing}
-use Rattle.cfdp_directives.specs.Content.{view}
+use Rattle.cfdp_directives.specs.declared.pdu.addressing.Addressing.{Addressing}
+use Rattle.cfdp_directives.specs.Pdu.Content.{view}
 use Rattle.cfdp_entity.proofs.Routes.{opens-peer}
 use Rattle.cfdp_entity.proofs.entity.Entity.hear_pdu.Goals as goal
 

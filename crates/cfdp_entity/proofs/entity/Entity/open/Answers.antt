@@ -1,5 +1,5 @@
 use Rattle.std.proofs.Common.{◌≢◌, refl, sym, ap, ◌∙◌}
-use Rattle.cfdp_directives.specs.Content.{view}
+use Rattle.cfdp_directives.specs.Pdu.Content.{view}
 use Rattle.cfdp_entity.specs.Entity.{Counted, next_of}
 use Rattle.cfdp_entity.proofs.Numbers.{free-opened}
 use Rattle.cfdp_entity.proofs.entity.Entity.open.Goals as goal

@@ -1,5 +1,5 @@
 use Rattle.std.proofs.Common.{ap, ◌∙◌}
-use Rattle.cfdp_directives.specs.Content.{view}
+use Rattle.cfdp_directives.specs.Pdu.Content.{view}
 use Rattle.cfdp_entity.specs.Entity.{Counted, next_of}
 use Rattle.cfdp_entity.proofs.Numbers.{free-heard, free-spoiled}
 use Rattle.cfdp_entity.proofs.Sparing.{on_err, spoiled-so}

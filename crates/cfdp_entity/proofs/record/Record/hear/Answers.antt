@@ -1,6 +1,6 @@
 use Rattle.std.proofs.Common.{◌≡◌, true, refl, sym, subst}
 use Rattle.std.specs.FinSet as set
-use Rattle.cfdp_directives.specs.Content.{view}
+use Rattle.cfdp_directives.specs.Pdu.Content.{view}
 use Rattle.cfdp_entity.specs.Whole.{IsReadyRecord}
 use Rattle.cfdp_entity.proofs.Entries.{ready-sender, ready-receiver}
 use Rattle.cfdp_entity.proofs.Raised.{sender-heard, heard-here}

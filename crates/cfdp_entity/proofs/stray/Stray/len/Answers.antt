@@ -1,5 +1,5 @@
 use Rattle.std.proofs.Common.{subst}
-use Rattle.cfdp_directives.specs.Codes.{IsCondition}
+use Rattle.cfdp_directives.specs.Pdu.Codes.{IsCondition}
 use Rattle.cfdp_entity.specs.Spelled.{StrayIsSpelled}
 use Rattle.cfdp_entity.specs.Strays.{StrayAck}
 use Rattle.cfdp_entity.proofs.Spelled.{stray-spelled}

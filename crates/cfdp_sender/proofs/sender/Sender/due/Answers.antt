@@ -1,8 +1,8 @@
 use Rattle.std.proofs.Common.{◌≡◌, [], Option, Some, IfSome, sym, ap, subst, ◌∙◌, arith}
-use Rattle.cfdp_directives.specs.Content.{view}
-use Rattle.cfdp_directives.specs.Codes.{file_size_octets}
-use Rattle.cfdp_directives.specs.Written.{content_len, CanWrite}
-use Rattle.cfdp_directives.specs.Addressing.{header_of, written_len}
+use Rattle.cfdp_directives.specs.Pdu.Content.{view}
+use Rattle.cfdp_directives.specs.Pdu.Codes.{file_size_octets}
+use Rattle.cfdp_directives.specs.Pdu.Written.{content_len, CanWrite}
+use Rattle.cfdp_directives.specs.Pdu.Addressing.{header_of, written_len}
 use Rattle.cfdp_sender.specs.declared.due.SenderDue.{SenderDue}
 use Rattle.cfdp_sender.specs.State.{SenderState, IsSender}
 use Rattle.cfdp_sender.specs.Due.{sender_due, sender_says}

@@ -1,5 +1,5 @@
 use Rattle.std.proofs.Common.{◌≡◌, ◌≤◌, length, Some, IfSome, arith, sym, subst}
-use Rattle.cfdp_directives.specs.Addressing.{written_len}
+use Rattle.cfdp_directives.specs.Pdu.Addressing.{written_len}
 use Rattle.cfdp_store.specs.Files.{octets_in}
 use Rattle.cfdp_sender.specs.Due.{sender_due, sender_says, carried}
 use Rattle.cfdp_sender.proofs.Dues.{extent-len}

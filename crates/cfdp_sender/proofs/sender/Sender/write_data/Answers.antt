@@ -1,5 +1,5 @@
 use Rattle.std.proofs.Common.{◌≡◌, ℕ, List, ◌+◌, ◌++◌, ap, ◌∙◌, take, drop, subst, arith}
-use Rattle.cfdp_directives.specs.Content.{FileData}
+use Rattle.cfdp_directives.specs.Pdu.Content.{FileData}
 use Rattle.cfdp_store.specs.Files.{octets_in}
 use Rattle.cfdp_sender.specs.State.{SenderState}
 use Rattle.cfdp_sender.specs.Does.{Writes}

@@ -1,5 +1,5 @@
 use Rattle.std.proofs.Common.{◌≡◌, [], IfOk, sym, ap, subst, ◌∙◌, arith}
-use Rattle.cfdp_directives.specs.Content.{FileData}
+use Rattle.cfdp_directives.specs.Pdu.Content.{FileData}
 use Rattle.cfdp_store.specs.Files.{octets_in}
 use Rattle.cfdp_sender.specs.State.{IsSender}
 use Rattle.cfdp_sender.specs.Due.{carried, sender_says}

@@ -1,5 +1,5 @@
 use Rattle.std.proofs.Common.{ap, ◌∙◌}
-use Rattle.link_sim.proofs.Placing.{pieces_grown}
+use Rattle.link_sim.proofs.Ways.Placing.{pieces_grown}
 use Rattle.link_sim.proofs.frame_link.FrameLink.make_room.Goals as goal
 
 pub returns-clause-kept : goal.returns-clause-kept

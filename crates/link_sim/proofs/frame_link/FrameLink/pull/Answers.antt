@@ -3,8 +3,8 @@ use Rattle.link_stack.specs.Upward.{LinkReceiverState}
 use Rattle.link_sim.specs.FrameLink.{FrameLinkState}
 use Rattle.link_sim.specs.OneWay.{OneWayState, IsOneWay, SendsNone, one_way, packets_sent}
 use Rattle.link_sim.specs.Pieces.{pieces}
-use Rattle.link_sim.proofs.Placing.{pieces_len, pieces_pulled}
-use Rattle.link_sim.proofs.Pulling.{pulls}
+use Rattle.link_sim.proofs.Ways.Placing.{pieces_len, pieces_pulled}
+use Rattle.link_sim.proofs.Ways.Pulling.{pulls}
 use Rattle.link_sim.proofs.frame_link.FrameLink.pull.Goals as goal
 
 pub returns-clause-way : goal.returns-clause-way

@@ -1,8 +1,9 @@
 use Rattle.std.proofs.Common.{sym, subst}
 use Rattle.link_sim.specs.declared.side.Side.{Side}
 use Rattle.link_sim.specs.declared.side.Side.TheVariants.{One, Two}
-use Rattle.link_sim.specs.World.{WorldState, Delivers}
-use Rattle.link_sim.proofs.AtStations.{delivers-one, delivers-two, world_of}
+use Rattle.link_sim.specs.World.State.{WorldState}
+use Rattle.link_sim.specs.World.Steps.{Delivers}
+use Rattle.link_sim.proofs.Events.AtStations.{delivers-one, delivers-two, world_of}
 use Rattle.link_sim.proofs.two_stations.TwoStations.deliver.Goals as goal
 
 pub returns-in-One : goal.returns-in-One

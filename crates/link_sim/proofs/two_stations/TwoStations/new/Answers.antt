@@ -1,7 +1,7 @@
 use Rattle.std.proofs.Common.{true, [], sym, ap, ◌∙◌, arith}
 use Rattle.cfdp_station.specs.Station.{first_up}
 use Rattle.link_sim.specs.OneWay.{IsCarried}
-use Rattle.link_sim.proofs.AtStations.{first_carried}
+use Rattle.link_sim.proofs.Events.AtStations.{first_carried}
 use Rattle.link_sim.proofs.two_stations.TwoStations.new.Goals as goal
 
 pub invariant_of-result : goal.invariant_of-result

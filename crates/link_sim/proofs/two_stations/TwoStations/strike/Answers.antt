@@ -1,8 +1,9 @@
 use Rattle.std.proofs.Common.{sym, subst}
 use Rattle.link_sim.specs.declared.side.Side.{Side}
 use Rattle.link_sim.specs.declared.side.Side.TheVariants.{One, Two}
-use Rattle.link_sim.specs.World.{WorldState, Strikes}
-use Rattle.link_sim.proofs.AtStations.{struck_at, strikes-one, strikes-two, world_of}
+use Rattle.link_sim.specs.World.State.{WorldState}
+use Rattle.link_sim.specs.World.Steps.{Strikes}
+use Rattle.link_sim.proofs.Events.AtStations.{struck_at, strikes-one, strikes-two, world_of}
 use Rattle.link_sim.proofs.two_stations.TwoStations.strike.Goals as goal
 
 pub invariant_of-self : goal.invariant_of-self

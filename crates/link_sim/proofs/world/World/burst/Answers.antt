@@ -1,7 +1,7 @@
 use Rattle.link_sim.specs.Observed.{seen}
-use Rattle.link_sim.proofs.Folding.{leads-both}
-use Rattle.link_sim.proofs.Causes.{flushed-rests}
-use Rattle.link_sim.proofs.Sendings.{burst_lacks_flush, burst_lacks_poll, bursts, on_err}
+use Rattle.link_sim.proofs.Events.Folding.{leads-both}
+use Rattle.link_sim.proofs.Clean.Causes.{flushed-rests}
+use Rattle.link_sim.proofs.Ways.Sendings.{burst_lacks_flush, burst_lacks_poll, bursts, on_err}
 use Rattle.link_sim.proofs.world.World.burst.Goals as goal
 
 pub returns-clause-rests : goal.returns-clause-rests

@@ -2,18 +2,19 @@ use Rattle.std.proofs.Common.{◌≡◌, ◌⊎◌, inr, subst}
 use Rattle.cfdp_entity.specs.Sound.{FindsMore}
 use Rattle.std.specs.Prelude.{IfOk}
 use Rattle.link_sim.specs.Clean.{IsClean}
-use Rattle.link_sim.specs.Courses.{KeepsPuts}
-use Rattle.link_sim.specs.Exchanges.{ExpiresOn}
+use Rattle.link_sim.specs.EveryPut.{KeepsPuts}
+use Rattle.link_sim.specs.Found.{ExpiresOn}
 use Rattle.link_sim.specs.Observed.{seen}
 use Rattle.link_sim.specs.Settling.{DropsWhereFull, KeepsAll, all_shortages}
 use Rattle.link_sim.specs.Sound.{IsSound}
 use Rattle.link_sim.specs.Theorem.{FoldsAt, put_of}
 use Rattle.link_sim.specs.Tracks.{KeepsPutsOf, RunsAlong}
-use Rattle.link_sim.specs.World.{WorldState, PublishesAt, Steps, published_at, side_in}
-use Rattle.link_sim.proofs.Along.{told-time}
-use Rattle.link_sim.proofs.FilesKept.{event-files, stays-files}
+use Rattle.link_sim.specs.World.State.{WorldState, published_at}
+use Rattle.link_sim.specs.World.Steps.{PublishesAt, Steps, side_in}
+use Rattle.link_sim.proofs.Recovery.Along.{told-time}
+use Rattle.link_sim.proofs.Events.FilesKept.{event-files, stays-files}
 use Rattle.link_sim.specs.declared.event.Applied.TheVariants as dids
-use Rattle.link_sim.proofs.Stepping.{by-step, ok-then}
+use Rattle.link_sim.proofs.Events.Stepping.{by-step, ok-then}
 use Rattle.link_sim.proofs.world.World.happen.Goals as goal
 
 pub invariant_of-self : goal.invariant_of-self

@@ -1,4 +1,4 @@
-use Rattle.link_sim.proofs.Keeping.{each}
+use Rattle.link_sim.proofs.Events.Keeping.{each}
 use Rattle.link_sim.proofs.world.World.new.Goals as goal
 
 pub invariant_of-result : goal.invariant_of-result

@@ -1,9 +1,9 @@
 use Rattle.std.proofs.Common.{◌≡◌, sym, subst}
 use Rattle.cfdp_entity.specs.Polling.{Rests, turn}
 use Rattle.link_sim.specs.Observed.{seen}
-use Rattle.link_sim.specs.World.{WorldState, entity_at}
-use Rattle.link_sim.proofs.Folding.{leads-none, leads-both}
-use Rattle.link_sim.proofs.Sendings.{on_err, poll_lacks, polled_more, polled_none, polls_all}
+use Rattle.link_sim.specs.World.State.{WorldState, entity_at}
+use Rattle.link_sim.proofs.Events.Folding.{leads-none, leads-both}
+use Rattle.link_sim.proofs.Ways.Sendings.{on_err, poll_lacks, polled_more, polled_none, polls_all}
 use Rattle.link_sim.proofs.world.World.poll_all.Goals as goal
 
 pub loop-init : goal.loop-init

@@ -3,13 +3,13 @@ use Rattle.std.proofs.lemmas.Result.{err_from_is_err_and}
 use Rattle.link_sim.specs.Observed.{seen}
 use Rattle.link_sim.specs.Onward.{RecoversOn}
 use Rattle.link_sim.specs.Recovering.{Recovers, most_rounds}
-use Rattle.link_sim.specs.World.{WorldState}
+use Rattle.link_sim.specs.World.State.{WorldState}
 use Rattle.link_sim.specs.declared.settle_error.SettleError.{SettleError}
-use Rattle.link_sim.proofs.Folding.{leads-both}
-use Rattle.link_sim.proofs.Rounds.{run-none, run-more, stays-armed, ended-by}
-use Rattle.link_sim.proofs.Recovered.{all-completed, not-armed, other-error}
-use Rattle.link_sim.proofs.TrackLaws.{first-laws}
-use Rattle.link_sim.proofs.TracksFirst.{first-stand}
+use Rattle.link_sim.proofs.Events.Folding.{leads-both}
+use Rattle.link_sim.proofs.Recovery.Rounds.{run-none, run-more, stays-armed, ended-by}
+use Rattle.link_sim.proofs.Recovery.Recovered.{all-completed, not-armed, other-error}
+use Rattle.link_sim.proofs.Recovery.Laws.{first-laws}
+use Rattle.link_sim.proofs.Recovery.First.{first-stand}
 use Rattle.link_sim.proofs.world.World.recover.Goals as goal
 
 pub loop-round-init : goal.loop-round-init

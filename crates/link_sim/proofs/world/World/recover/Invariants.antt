@@ -1,6 +1,6 @@
 use Rattle.link_sim.specs.Observed.{seen}
 use Rattle.link_sim.specs.Settling.{LeadsTo}
-use Rattle.link_sim.proofs.Rounds.{HasRun}
+use Rattle.link_sim.proofs.Recovery.Rounds.{HasRun}
 use Rattle.link_sim.proofs.world.World.recover.Given as goal
 
 abbrev pub invariant-loop-round : goal.invariant-loop-round

@@ -2,13 +2,13 @@ use Rattle.std.proofs.Common.{refl, inl, inr}
 use Rattle.std.proofs.lemmas.Result.{err_from_is_err_and}
 use Rattle.link_sim.specs.Observed.{seen}
 use Rattle.link_sim.specs.Recovering.{Round, RoundEnds}
-use Rattle.link_sim.proofs.Causes.{err-then}
-use Rattle.link_sim.proofs.Folding.{leads-both}
+use Rattle.link_sim.proofs.Clean.Causes.{err-then}
+use Rattle.link_sim.proofs.Events.Folding.{leads-both}
 use Rattle.link_sim.specs.Tracks.{Advances}
 use Rattle.link_sim.specs.Waiting.{IgnoreInactivity}
-use Rattle.link_sim.proofs.Rounds.{next-least}
-use Rattle.link_sim.proofs.TrackLaws.{round-laws}
-use Rattle.link_sim.proofs.TracksRound.{advances}
+use Rattle.link_sim.proofs.Recovery.Rounds.{next-least}
+use Rattle.link_sim.proofs.Recovery.Laws.{round-laws}
+use Rattle.link_sim.proofs.Recovery.Round.{advances}
 use Rattle.link_sim.proofs.world.World.recover_round.Goals as goal
 
 pub returns-clause-round : goal.returns-clause-round

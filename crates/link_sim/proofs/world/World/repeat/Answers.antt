@@ -2,12 +2,13 @@ use Rattle.std.proofs.Common.{◌≡◌, ◌≤◌, ◌<◌, inl, inr, refl, sym
 use Rattle.std.proofs.lemmas.Result.{err_from_is_err_and}
 use Rattle.link_sim.specs.Observed.{seen}
 use Rattle.link_sim.specs.Settling.{HasCauseFrom, next_of}
-use Rattle.link_sim.specs.World.{WorldState, Steps}
+use Rattle.link_sim.specs.World.State.{WorldState}
+use Rattle.link_sim.specs.World.Steps.{Steps}
 use Rattle.link_sim.specs.WorldWork.{world_work}
 use Rattle.link_sim.specs.declared.event.Applied.TheVariants as did
 use Rattle.link_sim.specs.declared.settle_error.SettleError.{SettleError}
-use Rattle.link_sim.proofs.Folding.{leads-none, leads-both}
-use Rattle.link_sim.proofs.Causes.{on-then, cause-here, err-then, nothing-same}
+use Rattle.link_sim.proofs.Events.Folding.{leads-none, leads-both}
+use Rattle.link_sim.proofs.Clean.Causes.{on-then, cause-here, err-then, nothing-same}
 use Rattle.link_sim.proofs.world.World.repeat.Goals as goal
 
 pub loop-happened-init : goal.loop-happened-init

@@ -2,7 +2,7 @@ use Rattle.std.proofs.Common.{◌≡◌, ◌≤◌, ◌<◌, true, false}
 use Rattle.link_sim.specs.Observed.{seen}
 use Rattle.link_sim.specs.Settling.{LeadsTo}
 use Rattle.link_sim.specs.WorldWork.{world_work}
-use Rattle.link_sim.proofs.Causes.{OnSoFar}
+use Rattle.link_sim.proofs.Clean.Causes.{OnSoFar}
 use Rattle.link_sim.proofs.world.World.repeat.Given as goal
 
 abbrev pub invariant-loop-happened : goal.invariant-loop-happened

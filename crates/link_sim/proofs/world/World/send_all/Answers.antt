@@ -5,8 +5,8 @@ use Rattle.link_sim.specs.Settling.{HasCauseFrom, next_of}
 use Rattle.link_sim.specs.declared.event.Event.TheVariants as event
 use Rattle.link_sim.specs.WorldWork.{world_work}
 use Rattle.link_sim.specs.declared.settle_error.SettleError.{SettleError}
-use Rattle.link_sim.proofs.Folding.{leads-both}
-use Rattle.link_sim.proofs.Causes.{lowers-most, on-both, cause-then, err-then}
+use Rattle.link_sim.proofs.Events.Folding.{leads-both}
+use Rattle.link_sim.proofs.Clean.Causes.{lowers-most, on-both, cause-then, err-then}
 use Rattle.link_sim.proofs.world.World.send_all.Goals as goal
 
 pub returns-in_err-flushed-clause-leads : goal.returns-in_err-flushed-clause-leads

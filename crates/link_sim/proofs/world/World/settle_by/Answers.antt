@@ -1,12 +1,13 @@
 use Rattle.std.proofs.Common.{◌≡◌, inl, inr, sym, subst}
 use Rattle.link_sim.specs.Clean.{IsClean}
 use Rattle.link_sim.specs.Settling.{IsOfSettling, KeepsAll, all_shortages}
-use Rattle.link_sim.specs.World.{WorldState, Steps}
+use Rattle.link_sim.specs.World.State.{WorldState}
+use Rattle.link_sim.specs.World.Steps.{Steps}
 use Rattle.link_sim.specs.declared.event.Applied.TheVariants as did
 use Rattle.link_sim.specs.declared.event.Event.{Event}
 use Rattle.link_sim.specs.Tracks.{RunsAlong}
-use Rattle.link_sim.proofs.Along.{along-same}
-use Rattle.link_sim.proofs.Causes.{not-refused, nothing-same, only-one}
+use Rattle.link_sim.proofs.Recovery.Along.{along-same}
+use Rattle.link_sim.proofs.Clean.Causes.{not-refused, nothing-same, only-one}
 use Rattle.link_sim.proofs.world.World.settle_by.Goals as goal
 
 pub returns-in-Applied : goal.returns-in-Applied

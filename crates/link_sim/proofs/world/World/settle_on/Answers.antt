@@ -3,8 +3,8 @@ use Rattle.std.proofs.lemmas.Result.{err_from_is_err_and}
 use Rattle.link_sim.specs.Observed.{seen}
 use Rattle.link_sim.specs.Settling.{HasCause, first_event}
 use Rattle.link_sim.specs.declared.settle_error.SettleError.{SettleError}
-use Rattle.link_sim.proofs.Folding.{leads-none, leads-both}
-use Rattle.link_sim.proofs.Causes.{on-then, cause-then, err-then}
+use Rattle.link_sim.proofs.Events.Folding.{leads-none, leads-both}
+use Rattle.link_sim.proofs.Clean.Causes.{on-then, cause-then, err-then}
 use Rattle.link_sim.proofs.world.World.settle_on.Goals as goal
 
 pub loop-init : goal.loop-init

@@ -7,8 +7,8 @@ use Rattle.link_sim.specs.declared.event.Event.TheVariants as event
 use Rattle.link_sim.specs.declared.side.Side.TheVariants.{One, Two}
 use Rattle.link_sim.specs.WorldWork.{world_work}
 use Rattle.link_sim.specs.declared.settle_error.SettleError.{SettleError}
-use Rattle.link_sim.proofs.Folding.{leads-both}
-use Rattle.link_sim.proofs.Causes.{Lowers, lowers-most, lowers-both, any-true, on-both, cause-then, err-then, round-settled}
+use Rattle.link_sim.proofs.Events.Folding.{leads-both}
+use Rattle.link_sim.proofs.Clean.Causes.{Lowers, lowers-most, lowers-both, any-true, on-both, cause-then, err-then, round-settled}
 use Rattle.link_sim.proofs.world.World.settle_round.Goals as goal
 
 pub returns-in_err-two-clause-leads : goal.returns-in_err-two-clause-leads

@@ -1,7 +1,7 @@
 use Rattle.std.proofs.Common.{subst}
 use Rattle.link_sim.specs.Clean.{AllComplete, IsClean}
 use Rattle.link_sim.specs.Settling.{IsSettled}
-use Rattle.link_sim.specs.World.{WorldState}
+use Rattle.link_sim.specs.World.State.{WorldState}
 use Rattle.link_sim.proofs.world.World.show_completion.Goals as goal
 
 pub returns : goal.returns

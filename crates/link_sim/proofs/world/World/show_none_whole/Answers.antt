@@ -1,8 +1,9 @@
 use Rattle.std.proofs.Common.{subst}
-use Rattle.link_sim.specs.World.{WorldState, NoneWhole}
+use Rattle.link_sim.specs.World.State.{WorldState}
+use Rattle.link_sim.specs.World.Steps.{NoneWhole}
 use Rattle.link_sim.specs.declared.side.Side.{Side}
 use Rattle.link_sim.specs.declared.side.Side.TheVariants.{One, Two}
-use Rattle.link_sim.proofs.Keeping.{each}
+use Rattle.link_sim.proofs.Events.Keeping.{each}
 use Rattle.link_sim.proofs.world.World.show_none_whole.Goals as goal
 
 pub returns : goal.returns

@@ -1,12 +1,12 @@
 use Rattle.std.proofs.Common.{subst}
-use Rattle.cfdp_directives.specs.Put.{Put}
-use Rattle.link_sim.specs.Exchanges.{HasExchange}
+use Rattle.cfdp_directives.specs.User.Put.{Put}
+use Rattle.link_sim.specs.Found.{HasExchange}
 use Rattle.link_sim.specs.Runs.{Exchange}
 use Rattle.link_sim.specs.Settling.{IsSettled}
 use Rattle.link_sim.specs.Stages.{IsAtRest}
-use Rattle.link_sim.specs.World.{WorldState}
+use Rattle.link_sim.specs.World.State.{WorldState}
 use Rattle.link_sim.specs.declared.side.Side.{Side}
-use Rattle.link_sim.proofs.ExchangesEnds.{settled-rests}
+use Rattle.link_sim.proofs.Found.Ends.{settled-rests}
 use Rattle.link_sim.proofs.world.World.show_rest.Goals as goal
 
 pub returns : goal.returns

@@ -1,7 +1,7 @@
 use Rattle.std.proofs.Common.{subst}
 use Rattle.link_sim.specs.Observed.{seen}
 use Rattle.link_sim.specs.Theorem.{HoldsAt}
-use Rattle.link_sim.specs.World.{WorldState}
+use Rattle.link_sim.specs.World.State.{WorldState}
 use Rattle.link_sim.proofs.world.World.show_what_holds.Goals as goal
 
 pub returns : goal.returns

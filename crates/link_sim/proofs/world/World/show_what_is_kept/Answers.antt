@@ -1,7 +1,7 @@
 use Rattle.std.proofs.Common.{subst}
-use Rattle.link_sim.specs.Courses.{KeepsPuts}
+use Rattle.link_sim.specs.EveryPut.{KeepsPuts}
 use Rattle.link_sim.specs.Sound.{IsSound}
-use Rattle.link_sim.specs.World.{WorldState}
+use Rattle.link_sim.specs.World.State.{WorldState}
 use Rattle.link_sim.proofs.world.World.show_what_is_kept.Goals as goal
 
 pub returns : goal.returns

@@ -1,9 +1,9 @@
 use Rattle.std.proofs.Common.{◌≡◌, sym, subst}
 use Rattle.cfdp_entity.specs.Polling.{Rests, turn}
 use Rattle.link_sim.specs.Observed.{seen}
-use Rattle.link_sim.specs.World.{WorldState, entity_at}
-use Rattle.link_sim.proofs.Folding.{leads-none, leads-both}
-use Rattle.link_sim.proofs.Sendings.{flush_lacks, on_err, sent_more, sent_none, spread_lacks, spreads}
+use Rattle.link_sim.specs.World.State.{WorldState, entity_at}
+use Rattle.link_sim.proofs.Events.Folding.{leads-none, leads-both}
+use Rattle.link_sim.proofs.Ways.Sendings.{flush_lacks, on_err, sent_more, sent_none, spread_lacks, spreads}
 use Rattle.link_sim.proofs.world.World.spread.Goals as goal
 
 pub loop-self-init : goal.loop-self-init

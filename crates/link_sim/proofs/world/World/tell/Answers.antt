@@ -1,7 +1,7 @@
 use Rattle.std.proofs.Common.{refl, subst}
 use Rattle.link_sim.specs.Settling.{KeepsAll, all_shortages}
-use Rattle.link_sim.specs.World.{WorldState}
-use Rattle.link_sim.proofs.Rounds.{tick-applied}
+use Rattle.link_sim.specs.World.State.{WorldState}
+use Rattle.link_sim.proofs.Recovery.Rounds.{tick-applied}
 use Rattle.link_sim.proofs.world.World.tell.Goals as goal
 
 pub returns-clause-tells : goal.returns-clause-tells

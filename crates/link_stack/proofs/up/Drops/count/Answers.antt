@@ -1,5 +1,6 @@
 use Rattle.std.proofs.Common.{ℕ, ◌-◌, List, slice_set, slice_index_or, ap, ◌∙◌}
-use Rattle.link_stack.specs.Drops.{counted, drop_number, raised}
+use Rattle.cfd_bits.specs.Counting.{raised}
+use Rattle.link_stack.specs.Drops.{counted, drop_number}
 use Rattle.link_stack.proofs.up.Drops.count.Goals as goal
 
 pub returns : goal.returns

@@ -1,5 +1,0 @@
-use Rattle.cfdp_directives.proofs.Spelling.{spelled}
-use Rattle.cfdp_directives.proofs.laws.written_pdu_is_read.Goals as goal
-
-pub returns : goal.returns
-returns c = spelled

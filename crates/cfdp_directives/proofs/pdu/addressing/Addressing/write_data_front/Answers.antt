@@ -1,0 +1,12 @@
+use Rattle.std.proofs.Common.{◌≡◌, ◌+◌, ℕ, List, drop, sym, ap, ◌∙◌}
+use Rattle.std.proofs.lemmas.List.{drop-drop}
+use Rattle.cfdp_directives.proofs.pdu.addressing.Addressing.write_data_front.Goals as goal
+
+-- octets that stayed behind a place also stay behind a later one
+stays : (old middle new : List ℕ) (at n end : ℕ) → end ≡ at + n → drop at middle ≡ drop at old → drop end new ≡ drop end middle → drop end new ≡ drop end old
+stays old middle new at n end is first second =
+    let cut : drop (at + n) middle ≡ drop (at + n) old = sym (drop-drop n at middle) ∙ ap (λ (t : List ℕ). drop n t) first ∙ drop-drop n at old in
+    second ∙ rw is cut
+
+pub returns-clause-behind : goal.returns-clause-behind
+returns-clause-behind c = stays c.args.out.now c.encode-at.new.out c.put_uint.new.out c.encode-at.result 4 c.put_uint.result c.put_uint.ensures.end c.encode-at.ensures.behind c.put_uint.ensures.behind

@@ -1,0 +1,52 @@
+-- The header of each PDU of a transaction, from what they have in common.
+use Rattle.std.specs.Prelude.{ℕ, ◌+◌, ◌^◌, ◌<◌, Bool, false}
+use Rattle.cfdp_header.specs.declared.value.Header.{Header}
+use Rattle.cfdp_header.specs.declared.value.TransactionId.{TransactionId}
+use Rattle.cfdp_header.specs.Header.{IsWidth, header_len}
+use Rattle.cfdp_directives.specs.declared.pdu.addressing.Addressing.{Addressing}
+use Rattle.cfdp_directives.specs.Pdu.Codes.{file_size_octets}
+use Rattle.cfdp_directives.specs.Pdu.Content.{Content, is_file_data}
+use Rattle.cfdp_directives.specs.Pdu.Written.{content_len}
+use Rattle.cfdp_directives.specs.Pdu.Direction.{goes_toward_sender}
+
+-- a header of this kind, direction and length
+abbrev pub header_by : Addressing → Bool → Bool → ℕ → Header
+header_by a file_data toward_sender length = record {
+  file_data = file_data;
+  toward_sender = toward_sender;
+  length = length;
+  segment_metadata = false;
+  id_width = a.id_width;
+  number_width = a.number_width;
+  id = a.id;
+  destination = a.destination;
+}
+
+-- the header of a PDU that says this
+abbrev pub header_of : Addressing → Content → Header
+header_of a v = header_by a (is_file_data v) (goes_toward_sender v) (content_len file_size_octets v)
+
+-- octets of a file data PDU in front of its data
+abbrev pub data_front_len : Addressing → ℕ
+data_front_len a = header_len a.id_width a.number_width + file_size_octets
+
+-- octets of the whole PDU, its header too
+abbrev pub written_len : Addressing → Content → ℕ
+written_len a v = header_len a.id_width a.number_width + content_len file_size_octets v
+
+-- what a header has in common with the others of its transaction
+abbrev pub addressing_of : Header → Addressing
+addressing_of h =
+    record { id = h.id; destination = h.destination; id_width = h.id_width; number_width = h.number_width }
+
+-- The id of a transaction can be written in these widths.
+pub record FitsWidths (ids numbers : ℕ) (id : TransactionId) : Type 0 where
+  pub id_width : IsWidth ids
+  pub number_width : IsWidth numbers
+  pub source : id.source < 256 ^ ids
+  pub number : id.number < 256 ^ numbers
+
+-- Both entity ids and the number can be written in their widths.
+pub record FitsAddressing (a : Addressing) : Type 0 where
+  pub id : FitsWidths a.id_width a.number_width a.id
+  pub destination : a.destination < 256 ^ a.id_width

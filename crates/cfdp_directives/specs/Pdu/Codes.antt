@@ -1,0 +1,98 @@
+-- The codes of the standard's tables, and the octets of a file-size field.
+use Rattle.std.specs.Prelude.{ℕ, Bool, ◌==◌, ◌||◌, ◌≡◌, ◌<◌, false}
+use Rattle.cfdp_directives.specs.declared.pdu.codes.Delivery.{Delivery}
+use Rattle.cfdp_directives.specs.declared.pdu.codes.Delivery.TheVariants.{Complete, Incomplete}
+use Rattle.cfdp_directives.specs.declared.pdu.codes.FileStatus.{FileStatus}
+use Rattle.cfdp_directives.specs.declared.pdu.codes.FileStatus.TheVariants.{Discarded, Rejected, Retained, Unreported}
+use Rattle.cfdp_directives.specs.declared.pdu.codes.TransactionStatus.{TransactionStatus}
+use Rattle.cfdp_directives.specs.declared.pdu.codes.TransactionStatus.TheVariants.{Undefined, Active, Terminated, Unrecognized}
+use Rattle.cfdp_directives.specs.declared.pdu.codes.Acknowledged.{Acknowledged}
+use Rattle.cfdp_directives.specs.declared.pdu.codes.Acknowledged.TheVariants as acknowledged
+
+-- octets of a file-size field, as an offset, where the file is not large (CCSDS 727.0-B-5, 5.1.10)
+abbrev pub file_size_octets : ℕ
+file_size_octets = 4
+
+-- the conditions (CCSDS 727.0-B-5, table 5-5)
+abbrev pub no_error : ℕ
+no_error = 0
+
+abbrev pub positive_ack_limit : ℕ
+positive_ack_limit = 1
+
+abbrev pub keep_alive_limit : ℕ
+keep_alive_limit = 2
+
+abbrev pub invalid_transmission_mode : ℕ
+invalid_transmission_mode = 3
+
+abbrev pub filestore_rejection : ℕ
+filestore_rejection = 4
+
+abbrev pub file_checksum_failure : ℕ
+file_checksum_failure = 5
+
+abbrev pub file_size_error : ℕ
+file_size_error = 6
+
+abbrev pub nak_limit : ℕ
+nak_limit = 7
+
+abbrev pub inactivity : ℕ
+inactivity = 8
+
+abbrev pub check_limit : ℕ
+check_limit = 10
+
+abbrev pub unsupported_checksum_type : ℕ
+unsupported_checksum_type = 11
+
+abbrev pub suspend_request : ℕ
+suspend_request = 14
+
+abbrev pub cancel_request : ℕ
+cancel_request = 15
+
+-- the conditions that are refused
+abbrev pub is_refused : ℕ → Bool
+is_refused condition = (condition == 12) || (condition == 13)
+
+-- A number that a condition may be.
+abbrev pub IsCondition : ℕ → Type 0
+IsCondition condition = (condition < 16) × (is_refused condition ≡ false)
+
+-- checksum types (CCSDS 727.0-B-5, 4.2.2)
+abbrev pub modular : ℕ
+modular = 0
+
+abbrev pub null : ℕ
+null = 15
+
+-- delivery code (CCSDS 727.0-B-5, table 5-7)
+abbrev pub delivery_code : Delivery → ℕ
+delivery_code Complete = 0
+delivery_code Incomplete = 1
+
+-- file status (CCSDS 727.0-B-5, table 5-7)
+abbrev pub file_status_code : FileStatus → ℕ
+file_status_code Discarded = 0
+file_status_code Rejected = 1
+file_status_code Retained = 2
+file_status_code Unreported = 3
+
+-- transaction status (CCSDS 727.0-B-5, table 5-8)
+abbrev pub transaction_status_code : TransactionStatus → ℕ
+transaction_status_code Undefined = 0
+transaction_status_code Active = 1
+transaction_status_code Terminated = 2
+transaction_status_code Unrecognized = 3
+
+-- the directive code that an ACK names (CCSDS 727.0-B-5, table 5-4)
+abbrev pub acknowledged_code : Acknowledged → ℕ
+acknowledged_code acknowledged.Eof = 4
+acknowledged_code acknowledged.Finished = 5
+
+-- the subtype that is written with it: 1 for Finished
+abbrev pub acknowledged_subtype : Acknowledged → ℕ
+acknowledged_subtype acknowledged.Eof = 0
+acknowledged_subtype acknowledged.Finished = 1

@@ -1,0 +1,146 @@
+ghost use Rattle.std.specs.Prelude.{◌≡◌, ◌+◌, ◌^◌, ◌<◌, ◌≤◌, ◌↔◌, ◌++◌, ℕ, List, length, take, drop, true, false, IsTrue};
+ghost use Rattle.cfdp_directives.specs.declared.pdu.addressing.Addressing.{Addressing};
+ghost use Rattle.cfdp_directives.specs.Pdu.Content.{Content, FileData, view};
+ghost use Rattle.cfdp_directives.specs.Pdu.Written.{content_len, FitsContent, CanWrite, pdu_octets};
+ghost use Rattle.cfdp_directives.specs.Pdu.Codes.{file_size_octets};
+ghost use Rattle.cfdp_directives.specs.Pdu.Direction as directions;
+ghost use Rattle.cfdp_directives.specs.Pdu.Direction.{goes_toward_sender};
+ghost use Rattle.cfdp_directives.specs.Pdu.Addressing as addressings;
+ghost use Rattle.cfdp_directives.specs.Pdu.Addressing.{addressing_of, FitsAddressing};
+
+use crate::pdu::codes::FILE_SIZE_OCTETS;
+use crate::pdu::content::Pdu;
+use crate::pdu::writing::encode;
+use cfd_bits::put_uint;
+use cfdp_header::{Header, TransactionId, fits_width};
+
+/// What the headers of a transaction's PDUs have in common: the two entities, the transaction's
+/// number, and how wide they are written (CCSDS 727.0-B-5, table 5-1). It makes the header of each
+/// PDU, and writes PDUs.
+#[derive(Clone, Copy, Debug, PartialEq, Eq)]
+pub struct Addressing {
+    /// The transaction. Its source is the file's sender.
+    pub id: TransactionId,
+    /// The entity id of the file's receiver.
+    pub destination: u64,
+    /// Octets of an entity id: 1 to 8.
+    pub id_width: u8,
+    /// Octets of a sequence number: 1 to 8.
+    pub number_width: u8,
+}
+
+impl Addressing {
+    /// Takes them from the header of a PDU that was heard, as for an answer in the same widths.
+    pub fn of(header: &Header) -> Addressing
+        ensures { result ≡ addressing_of header.now }
+    {
+        Addressing {
+            id: header.id,
+            destination: header.destination,
+            id_width: header.id_width,
+            number_width: header.number_width,
+        }
+    }
+
+    /// Whether PDUs can be written with it: both widths are 1 to 8 octets, and the ids and the
+    /// number fit them.
+    pub fn is_writable(&self) -> bool
+        ensures { IsTrue result ↔ FitsAddressing self.now }
+    {
+        fits_width(self.id.source, self.id_width)
+            && fits_width(self.id.number, self.number_width)
+            && fits_width(self.destination, self.id_width)
+    }
+
+    /// The header of a PDU. Its data field has 65,535 octets at the most.
+    pub fn header_of(&self, pdu: &Pdu<'_>) -> Header
+        requires { content_len file_size_octets (view pdu.now) < 2 ^ 16 }
+        ensures { result ≡ addressings.header_of self.now (view pdu.now) }
+    {
+        self.header(
+            pdu.is_file_data(),
+            pdu.goes_toward_sender(),
+            pdu.len() as u16,
+        )
+    }
+
+    fn header(&self, file_data: bool, toward_sender: bool, length: u16) -> Header
+        ensures { result ≡ addressings.header_by self.now file_data toward_sender length }
+    {
+        Header {
+            file_data,
+            toward_sender,
+            length,
+            segment_metadata: false,
+            id_width: self.id_width,
+            number_width: self.number_width,
+            id: self.id,
+            destination: self.destination,
+        }
+    }
+
+    /// Octets of the whole PDU as `write_pdu` writes it, its header too.
+    pub fn written_len(&self, pdu: &Pdu<'_>) -> usize
+        requires { content_len file_size_octets (view pdu.now) < 2 ^ 16 }
+        ensures { result ≡ addressings.written_len self.now (view pdu.now) }
+    {
+        Header::len_in_widths(self.id_width, self.number_width) + pdu.len()
+    }
+
+    /// Writes a PDU with its header into the first octets of `out`, and says how many they are. The
+    /// octets behind stay. Takes no memory.
+    #[tactic(auto, using(crate::proofs::Addressed::can_write))]
+    pub fn write_pdu(&self, pdu: &Pdu<'_>, out: &mut [u8]) -> usize
+        requires addressing { FitsAddressing self.now }
+        requires content { FitsContent file_size_octets (view pdu.now) }
+        requires short { content_len file_size_octets (view pdu.now) < 2 ^ 16 }
+        requires room { addressings.written_len self.now (view pdu.now) ≤ length out.old }
+        ensures end { result ≡ addressings.written_len self.now (view pdu.now) }
+        ensures front { let v = view pdu.now in take result out.new
+            ≡ pdu_octets (addressings.header_of self.now v) v }
+        ensures behind { drop result out.new ≡ drop result out.old }
+    {
+        let header = self.header_of(pdu);
+        encode(&header, pdu, out)
+    }
+
+    /// Writes a file data PDU but for its data, `count` octets, into the first octets of `out`, and
+    /// says how many it wrote: there the data go, which then make the PDU whole. The octets behind
+    /// stay. Takes no memory.
+    #[tactic(auto, using(crate::proofs::Addressed::header_fits))]
+    pub fn write_data_front(&self, offset: u64, count: usize, out: &mut [u8]) -> usize
+        requires addressing { FitsAddressing self.now }
+        requires offset { offset < 256 ^ file_size_octets }
+        requires short { file_size_octets + count < 2 ^ 16 }
+        requires room { addressings.data_front_len self.now ≤ length out.old }
+        ensures end { result ≡ addressings.data_front_len self.now }
+        ensures front { (octets : List ℕ) → length octets ≡ count →
+            let v = FileData offset octets in
+            take result out.new ++ octets ≡ pdu_octets (addressings.header_of self.now v) v }
+        ensures behind { drop result out.new ≡ drop result out.old }
+    {
+        let header = self.header(true, false, (FILE_SIZE_OCTETS + count) as u16);
+        let at = cfdp_header::encode(&header, out);
+        put_uint(out, at, FILE_SIZE_OCTETS, offset)
+    }
+}
+
+/// A law: a PDU whose ids, number and fields fit can be written behind the header that `header_of`
+/// makes.
+#[tactic(auto, using(crate::proofs::Addressed::can_write))]
+pub fn addressed_pdu_can_be_written()
+    ensures { (a : Addressing) (v : Content) → FitsAddressing a → FitsContent file_size_octets v →
+        content_len file_size_octets v < 2 ^ 16
+        → CanWrite (addressings.header_of a v) v }
+{}
+
+/// A law: the header that `header_of` makes has the direction bit of its PDU, and the PDU is for
+/// the entity that it goes to.
+pub fn addressed_pdu_goes_to_the_other_end()
+    ensures fits { (a : Addressing) (v : Content) →
+        directions.direction_fits (addressings.header_of a v) v ≡ true }
+    ensures toward_sender { (a : Addressing) (v : Content) → goes_toward_sender v ≡ true
+        → directions.is_for a.id.source a.destination (addressings.header_of a v) ≡ true }
+    ensures toward_receiver { (a : Addressing) (v : Content) → goes_toward_sender v ≡ false
+        → directions.is_for a.destination a.id.source (addressings.header_of a v) ≡ true }
+{}

@@ -1,0 +1,179 @@
+ghost use Rattle.std.specs.Prelude.{◌≡◌, ◌^◌, ◌<◌, ◌↔◌, IsTrue};
+ghost use Rattle.cfdp_directives.specs.Pdu.Codes.{file_size_octets};
+ghost use Rattle.cfdp_directives.specs.Pdu.Content.{view, is_file_data};
+ghost use Rattle.cfdp_directives.specs.Pdu.Written.{content_len, FitsContent};
+
+use crate::pdu::codes::{
+    Acknowledged, ChecksumKind, Condition, Delivery, FILE_SIZE_OCTETS, FileStatus,
+    TransactionStatus, is_file_size,
+};
+use crate::pdu::pairs::Pairs;
+use crate::pdu::tlv::Tlvs;
+
+/// What a PDU says (CCSDS 727.0-B-5, 5.2 and 5.3). Texts, data, pairs and options of a PDU that was
+/// read lie in its octets.
+#[derive(Debug, Drop, PartialEq, Eq)]
+pub enum Pdu<'a> {
+    /// Octets of the file.
+    FileData {
+        /// Where the first of them stands in the file.
+        offset: u64,
+        bytes: &'a [u8],
+    },
+    /// The file's size and names.
+    Metadata {
+        checksum_kind: ChecksumKind,
+        /// Octets of the file.
+        size: u64,
+        /// Its name at the sender: 0 to 255 octets.
+        source: &'a [u8],
+        /// Its name at the receiver: 0 to 255 octets.
+        destination: &'a [u8],
+        /// Walked, and not carried out by this stack.
+        options: Tlvs<'a>,
+    },
+    /// The end of the file.
+    Eof {
+        condition: Condition,
+        /// The checksum of the whole file, 0 where its type is null.
+        checksum: u32,
+        /// Octets of the file.
+        size: u64,
+        /// With a condition other than 0, the fault location.
+        tlvs: Tlvs<'a>,
+    },
+    /// How the transaction ended at the receiver.
+    Finished {
+        condition: Condition,
+        delivery: Delivery,
+        status: FileStatus,
+        /// With a condition other than 0 and 11, the fault location.
+        tlvs: Tlvs<'a>,
+    },
+    /// An EOF or a Finished was heard.
+    Ack {
+        of: Acknowledged,
+        /// The condition of the PDU that is acknowledged.
+        condition: Condition,
+        status: TransactionStatus,
+    },
+    /// What is missing at the receiver.
+    Nak {
+        /// The offset at which its scope starts.
+        start: u64,
+        /// The offset at which its scope ends.
+        end: u64,
+        /// The ranges that are asked for. (0, 0) asks for Metadata.
+        pairs: Pairs<'a>,
+    },
+    /// The sender asks for a NAK or a Keep Alive.
+    Prompt {
+        /// For a Keep Alive where true, else for a NAK.
+        keep_alive: bool,
+    },
+    /// How far the receiver came.
+    KeepAlive {
+        /// The offset up to which it holds file data.
+        progress: u64,
+    },
+}
+
+impl Pdu<'_> {
+    /// Octets of the data field that it is written as: the `length` of its header.
+    pub fn len(&self) -> usize
+        requires { content_len file_size_octets (view self.now) < 2 ^ 64 }
+        ensures { result ≡ content_len file_size_octets (view self.now) }
+    {
+        match self {
+            Pdu::FileData { bytes, .. } => FILE_SIZE_OCTETS + bytes.len(),
+            Pdu::Metadata {
+                source,
+                destination,
+                options,
+                ..
+            } => {
+                4 + FILE_SIZE_OCTETS + source.len() + destination.len() + options.octets().len()
+            }
+            Pdu::Eof { tlvs, .. } => 6 + FILE_SIZE_OCTETS + tlvs.octets().len(),
+            Pdu::Finished { tlvs, .. } => 2 + tlvs.octets().len(),
+            Pdu::Ack { .. } => 3,
+            Pdu::Nak { pairs, .. } => 1 + 2 * FILE_SIZE_OCTETS + 2 * FILE_SIZE_OCTETS * pairs.len(),
+            Pdu::Prompt { .. } => 2,
+            Pdu::KeepAlive { .. } => 1 + FILE_SIZE_OCTETS,
+        }
+    }
+
+    /// Whether it is file data, and no directive: the `file_data` of its header.
+    pub fn is_file_data(&self) -> bool
+        ensures { result ≡ is_file_data (view self.now) }
+    {
+        matches!(self, Pdu::FileData { .. })
+    }
+
+    /// Whether its content can be written: sizes and offsets fit a file-size field, and names have
+    /// at most 255 octets.
+    pub fn fits(&self) -> bool
+        ensures { IsTrue result ↔ FitsContent file_size_octets (view self.now) }
+    {
+        match self {
+            Pdu::FileData { offset, .. } => is_file_size(*offset),
+            Pdu::Metadata {
+                checksum_kind,
+                size,
+                source,
+                destination,
+                ..
+            } => {
+                let _any_kind_fits = checksum_kind.code();
+                is_file_size(*size) && source.len() < 256 && destination.len() < 256
+            }
+            Pdu::Eof {
+                condition,
+                checksum,
+                size,
+                ..
+            } => {
+                let _any_fits = (condition.code(), *checksum);
+                is_file_size(*size)
+            }
+            Pdu::Finished { condition, .. } | Pdu::Ack { condition, .. } => {
+                let _any_condition_fits = condition.code();
+                true
+            }
+            Pdu::Nak { start, end, pairs } => {
+                is_file_size(*start) && is_file_size(*end) && pairs.fit()
+            }
+            Pdu::Prompt { .. } => true,
+            Pdu::KeepAlive { progress } => is_file_size(*progress),
+        }
+    }
+
+    /// Whether its data field has this length.
+    pub(crate) fn has_len(&self, len: u16) -> bool
+        ensures { IsTrue result ↔ (content_len file_size_octets (view self.now) ≡ len) }
+    {
+        self.has_short_parts() && self.len() == usize::from(len)
+    }
+
+    /// Whether each part of it may stand in a data field, so that their sum is a number.
+    fn has_short_parts(&self) -> bool
+        ensures short { IsTrue result → content_len file_size_octets (view self.now) < 2 ^ 64 }
+        ensures all { content_len file_size_octets (view self.now) < 2 ^ 16 → IsTrue result }
+    {
+        let most = usize::from(u16::MAX);
+        match self {
+            Pdu::FileData { bytes, .. } => bytes.len() <= most,
+            Pdu::Metadata {
+                source,
+                destination,
+                options,
+                ..
+            } => {
+                source.len() <= most && destination.len() <= most && options.octets().len() <= most
+            }
+            Pdu::Eof { tlvs, .. } | Pdu::Finished { tlvs, .. } => tlvs.octets().len() <= most,
+            Pdu::Nak { pairs, .. } => pairs.len() <= most,
+            Pdu::Ack { .. } | Pdu::Prompt { .. } | Pdu::KeepAlive { .. } => true,
+        }
+    }
+}

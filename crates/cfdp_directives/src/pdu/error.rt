@@ -1,0 +1,67 @@
+ghost use Rattle.std.specs.Prelude.{◌≡◌};
+ghost use Rattle.cfdp_directives.specs.declared.pdu.error.PduError.TheVariants as errors;
+ghost use Rattle.cfdp_directives.specs.Pdu.Faults.{pdu_refusal_number, pdu_refusal_name};
+
+use cfdp_header::HeaderError;
+use thiserror::Error;
+
+/// Why octets are no PDU: the first cause that holds, in the order in which they are told.
+#[derive(Clone, Copy, Debug, PartialEq, Eq, Error)]
+pub enum PduError {
+    /// The header is refused. Told first.
+    #[error("{0}")]
+    Header(HeaderError),
+    /// The directive code isn't known, or an ACK is neither of EOF nor of Finished.
+    #[error("the directive is not known")]
+    Directive,
+    /// A field of the data field passes its end, or the last requested range of a NAK does.
+    #[error("a field passes the end of the data field")]
+    Truncated,
+    /// Octets are left over behind an ACK, a Prompt or a Keep Alive.
+    #[error("octets are left over")]
+    Trailing,
+    /// The octets where options stand aren't whole options.
+    #[error("the octets of options are not whole options")]
+    Tlv,
+    /// The condition is 12 or 13.
+    #[error("the condition is 12 or 13")]
+    Condition,
+}
+
+impl From<HeaderError> for PduError {
+    ghost from_gives = { λ h e. e ≡ errors.Header h };
+
+    fn from(e: HeaderError) -> PduError {
+        PduError::Header(e)
+    }
+}
+
+impl PduError {
+    /// The number that names this refusal in reports.
+    pub fn number(self) -> u8
+        ensures { result ≡ pdu_refusal_number self }
+    {
+        match self {
+            PduError::Header(e) => e.number(),
+            PduError::Directive => 7,
+            PduError::Truncated => 8,
+            PduError::Trailing => 9,
+            PduError::Tlv => 10,
+            PduError::Condition => 11,
+        }
+    }
+
+    /// The name of this refusal in reports: the variant's, or that of the header's refusal.
+    pub fn name(self) -> &'static str
+        ensures { result.now ≡ pdu_refusal_name self }
+    {
+        match self {
+            PduError::Header(e) => e.name(),
+            PduError::Directive => "Directive",
+            PduError::Truncated => "Truncated",
+            PduError::Trailing => "Trailing",
+            PduError::Tlv => "Tlv",
+            PduError::Condition => "Condition",
+        }
+    }
+}

@@ -1,0 +1,100 @@
+// The length of a data field, known before its PDU is made: for a sender that asks whether the next
+// PDU has room.
+ghost use Rattle.std.specs.Prelude.{◌≡◌, ◌+◌, ◌^◌, ◌<◌, ◌∷◌, [], ℕ, Bool, List, length};
+ghost use Rattle.std.specs.List.{flat_map};
+ghost use Rattle.cfdp_directives.specs.declared.pdu.codes.Acknowledged.{Acknowledged};
+ghost use Rattle.cfdp_directives.specs.declared.pdu.codes.Delivery.{Delivery};
+ghost use Rattle.cfdp_directives.specs.declared.pdu.codes.FileStatus.{FileStatus};
+ghost use Rattle.cfdp_directives.specs.declared.pdu.codes.TransactionStatus.{TransactionStatus};
+ghost use Rattle.cfdp_directives.specs.Pdu.Codes.{file_size_octets};
+ghost use Rattle.cfdp_directives.specs.Pdu.Content.{FileData, Metadata, Eof, Finished, Ack, Nak, Prompt, KeepAlive};
+ghost use Rattle.cfdp_directives.specs.Pdu.Tlv.{Tlv, tlv, fault_location};
+ghost use Rattle.cfdp_directives.specs.Pdu.Written.{content_len};
+
+use crate::pdu::codes::FILE_SIZE_OCTETS;
+
+/// Octets of a data field of file data that carries so many octets of the file.
+pub fn file_data_len(octets: usize) -> usize
+    requires { octets < 2 ^ 32 }
+    ensures { (offset : ℕ) (bytes : List ℕ) → length bytes ≡ octets
+        → content_len file_size_octets (FileData offset bytes) ≡ result }
+{
+    FILE_SIZE_OCTETS + octets
+}
+
+/// Octets of the data field of a Metadata whose names and options have so many octets.
+pub fn metadata_len(source: usize, destination: usize, options: usize) -> usize
+    requires source { source < 2 ^ 32 }
+    requires destination { destination < 2 ^ 32 }
+    requires options { options < 2 ^ 32 }
+    ensures { (kind size : ℕ) (from to : List ℕ) (tlvs : List Tlv)
+        → length from ≡ source
+        → length to ≡ destination
+        → length (flat_map tlv tlvs) ≡ options
+        → content_len file_size_octets (Metadata kind size from to tlvs) ≡ result }
+{
+    4 + FILE_SIZE_OCTETS + source + destination + options
+}
+
+/// Octets of the data field of an EOF whose options have so many octets: 0, or those of a fault
+/// location.
+pub fn eof_len(options: usize) -> usize
+    requires { options < 2 ^ 32 }
+    ensures { (condition checksum size : ℕ) (tlvs : List Tlv)
+        → length (flat_map tlv tlvs) ≡ options
+        → content_len file_size_octets (Eof condition checksum size tlvs) ≡ result }
+{
+    6 + FILE_SIZE_OCTETS + options
+}
+
+/// Octets of the data field of a Finished whose options have so many octets: 0, or those of a fault
+/// location.
+pub fn finished_len(options: usize) -> usize
+    requires { options < 2 ^ 32 }
+    ensures { (condition : ℕ) (delivery : Delivery) (status : FileStatus) (tlvs : List Tlv)
+        → length (flat_map tlv tlvs) ≡ options
+        → content_len file_size_octets (Finished condition delivery status tlvs) ≡ result }
+{
+    2 + options
+}
+
+/// Octets of a fault location, as an option, that names its entity by an id of `width` octets.
+#[tactic(auto, using(crate::proofs::Options::location_len))]
+pub fn fault_location_len(width: u8) -> usize
+    ensures len { result ≡ 2 + width }
+    ensures all { (entity : ℕ)
+        → length (flat_map tlv (fault_location entity width ∷ [])) ≡ result }
+{
+    2 + usize::from(width)
+}
+
+/// Octets of the data field of an ACK: 3.
+pub fn ack_len() -> usize
+    ensures { (of : Acknowledged) (condition : ℕ) (status : TransactionStatus)
+        → content_len file_size_octets (Ack of condition status) ≡ result }
+{
+    3
+}
+
+/// Octets of the data field of a NAK that asks for so many ranges.
+pub fn nak_len(pairs: usize) -> usize
+    requires { pairs < 2 ^ 32 }
+    ensures { (start end : ℕ) (ranges : List (ℕ × ℕ)) → length ranges ≡ pairs
+        → content_len file_size_octets (Nak start end ranges) ≡ result }
+{
+    1 + 2 * FILE_SIZE_OCTETS + 2 * FILE_SIZE_OCTETS * pairs
+}
+
+/// Octets of the data field of a Prompt: 2.
+pub fn prompt_len() -> usize
+    ensures { (keep_alive : Bool) → content_len file_size_octets (Prompt keep_alive) ≡ result }
+{
+    2
+}
+
+/// Octets of the data field of a Keep Alive.
+pub fn keep_alive_len() -> usize
+    ensures { (progress : ℕ) → content_len file_size_octets (KeepAlive progress) ≡ result }
+{
+    1 + FILE_SIZE_OCTETS
+}

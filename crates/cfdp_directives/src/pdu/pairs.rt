@@ -1,0 +1,265 @@
+ghost use Rattle.std.specs.Prelude.{◌≡◌, ℕ, ◌+◌, ◌==◌, ◌*◌, ◌/◌, ◌%◌, ◌<◌, ◌≤◌, ◌++◌, [], ◌∷◌, length, take, drop, is_some, IsTrue, ◌↔◌, nat_eq, IfSome, IfNone};
+ghost use Rattle.std.specs.Cmp.{partial_equiv_from_equiv};
+ghost use Rattle.std.specs.Cmp.Lexicographic.{on_texts_equal, pointwise};
+ghost use Rattle.std.specs.Ordering.{on};
+ghost use Rattle.std.specs.List.{flat_map, AllByRecursion};
+ghost use Rattle.cfd_bits.specs.Field.{field};
+ghost use Rattle.cfdp_directives.specs.Pdu.Codes.{file_size_octets};
+ghost use Rattle.cfdp_directives.specs.Pdu.Pair.{pair, pair_octets, pairs_of, ArePairs, IsPair, numbers, pairs_in, IsWhole};
+
+use crate::pdu::codes::{FILE_SIZE_OCTETS, is_file_size};
+use crate::pdu::pair_iter::PairIter;
+use cfd_bits::{get, put_bytes, put_uint};
+use std::marker::Model;
+
+/// Octets of a pair.
+const PAIR_OCTETS: usize = 2 * FILE_SIZE_OCTETS;
+
+/// Where pairs lie.
+#[derive(Clone, Copy, Debug)]
+enum Form<'a> {
+    /// In octets read, which they fill.
+    Read(&'a [u8]),
+    /// As numbers.
+    Given(&'a [(u64, u64)]),
+}
+
+/// The requested ranges of a NAK (CCSDS 727.0-B-5, 5.2.6): pairs of offsets, each the start of a
+/// range and its end. Those of a NAK that was read lie in its octets. Contracts see them as a list.
+#[derive(Debug, Drop)]
+pub struct Pairs<'a> {
+    form: Form<'a>,
+}
+
+impl<'a> Model for Pairs<'a> {
+    ghost use Rattle.std.specs.Prelude.{List, ℕ};
+    ghost use Rattle.cfdp_directives.specs.Pdu.Pair.{pairs_in, IsWhole};
+
+    ghost Value = { List (ℕ × ℕ) };
+
+    ghost view = { λ p. pairs_in p.form };
+
+    ghost invariant = { λ p. IsWhole p.form };
+}
+
+impl<'a> Pairs<'a> {
+    /// Ranges with these starts and ends. To be written, each number has to fit a file-size field.
+    pub fn of(pairs: &'a [(u64, u64)]) -> Self
+        ensures { result ≡ pairs.now }
+    {
+        Pairs {
+            form: Form::Given(pairs),
+        }
+    }
+
+    /// The pairs that fill the octets, if some do.
+    #[tactic(auto, using(crate::proofs::Ranges::pairs_spelled))]
+    pub fn read(octets: &'a [u8]) -> Option<Self>
+        ensures found { IfSome result (λ ps. ArePairs file_size_octets ps octets.now) }
+        ensures none { is_some result ≡ (length octets.now % pair_octets == 0) }
+    {
+        if octets.len() % PAIR_OCTETS == 0 {
+            Some(Pairs {
+                form: Form::Read(octets),
+            })
+        } else {
+            None
+        }
+    }
+
+    /// How many ranges there are.
+    #[tactic(auto, using(crate::proofs::Ranges::pairs_count))]
+    pub fn len(&self) -> usize
+        ensures { result ≡ length self.now }
+    {
+        match self.form {
+            Form::Read(octets) => octets.len() / PAIR_OCTETS,
+            Form::Given(pairs) => pairs.len(),
+        }
+    }
+
+    /// The start and the end of the first range, and the pairs behind it.
+    #[tactic(auto, using(crate::proofs::Ranges::first_pair, crate::proofs::Ranges::no_pair))]
+    pub fn split_first(&self) -> Option<(u64, u64, Pairs<'a>)>
+        ensures some { IfSome result (λ x. self.now ≡ (x.0, x.1) ∷ x.2) }
+        ensures none { IfNone result (self.now ≡ []) }
+    {
+        match self.form {
+            Form::Read(octets) => {
+                if octets.is_empty() {
+                    return None;
+                }
+                let (_, rest) = octets.split_at(PAIR_OCTETS);
+                Some((
+                    get(octets, 0, 8 * FILE_SIZE_OCTETS),
+                    get(octets, 8 * FILE_SIZE_OCTETS, 8 * FILE_SIZE_OCTETS),
+                    Pairs {
+                        form: Form::Read(rest),
+                    },
+                ))
+            }
+            Form::Given([]) => None,
+            Form::Given([(start, end), rest @ ..]) => Some((*start, *end, Pairs::of(rest))),
+        }
+    }
+
+    /// The start and the end of the range at a place, from 0 on.
+    #[tactic(auto, using(crate::proofs::Ranges::pairs_count))]
+    pub(crate) fn at(&self, place: usize) -> (u64, u64)
+        requires { place < length self.now }
+        ensures { drop place self.now ≡ result ∷ drop (place + 1) self.now }
+    {
+        match self.form {
+            Form::Read(octets) => pair_read(octets, place),
+            Form::Given(pairs) => pair_given(pairs, place),
+        }
+    }
+
+    /// The pairs one by one.
+    pub fn iter(&self) -> PairIter<'a>
+        ensures { result ≡ self.now }
+    {
+        PairIter::over(Pairs { form: self.form })
+    }
+
+    /// Whether they can be written: each number fits a file-size field, as those of a NAK that was
+    /// read do.
+    #[tactic(auto, using(crate::proofs::Ranges::pairs_fit))]
+    pub fn fit(&self) -> bool
+        ensures { IsTrue result ↔ AllByRecursion (IsPair file_size_octets) self.now }
+    {
+        match self.form {
+            Form::Read(_) => true,
+            Form::Given(pairs) => are_file_sizes(pairs),
+        }
+    }
+
+    /// Writes the pairs from octet `at` on, and says where they end. The octets before and behind
+    /// stay.
+    pub fn put(&self, out: &mut [u8], at: usize) -> usize
+        requires fits { AllByRecursion (IsPair file_size_octets) self.now }
+        requires room { at + pair_octets * length self.now ≤ length out.old }
+        ensures end { result ≡ at + pair_octets * length self.now }
+        ensures front { take result out.new
+            ≡ take at out.old ++ flat_map (pair file_size_octets) self.now }
+        ensures behind { drop result out.new ≡ drop result out.old }
+    {
+        let out = &mut out[..at + PAIR_OCTETS * self.len()];
+        match self.form {
+            Form::Read(octets) => put_bytes(out, at, as_pairs(octets)),
+            Form::Given(pairs) => put_pairs(out, at, pairs),
+        }
+    }
+}
+
+impl PartialEq for Pairs<'_> {
+    ghost eq = { on numbers (pointwise nat_eq) };
+
+    ghost laws = { partial_equiv_from_equiv (on_texts_equal numbers) };
+
+    fn eq(&self, other: &Self) -> bool {
+        are_same(self.iter(), other.iter())
+    }
+}
+
+impl Eq for Pairs<'_> {
+    ghost laws = { on_texts_equal numbers };
+}
+
+impl<'a> IntoIterator for &Pairs<'a> {
+    type Item = (u64, u64);
+
+    type IntoIter = PairIter<'a>;
+
+    ghost into_iter_gives = { λ pairs iter. iter ≡ pairs.now };
+
+    fn into_iter(self) -> PairIter<'a> {
+        self.iter()
+    }
+}
+
+/// Whether the pairs that are left are the same.
+fn are_same(mut one: PairIter<'_>, mut other: PairIter<'_>) -> bool
+    ensures { result ≡ pointwise nat_eq (numbers one.entry) (numbers other.entry) }
+{
+    while let Some((start, end)) = one.next() {
+        let Some((other_start, other_end)) = other.next() else {
+            return false;
+        };
+        if start != other_start || end != other_end {
+            return false;
+        }
+    }
+    other.next().is_none()
+}
+
+/// The pair at a place in octets that pairs fill.
+#[tactic(auto, using(crate::proofs::Ranges::pair_at))]
+fn pair_read(octets: &[u8], place: usize) -> (u64, u64)
+    requires { place < length octets.now / pair_octets }
+    ensures { drop place (pairs_of file_size_octets (length octets.now / pair_octets) octets.now)
+        ≡ result ∷ drop (place + 1) (pairs_of file_size_octets (length octets.now / pair_octets) octets.now) }
+{
+    let (_, start) = octets.split_at(PAIR_OCTETS * place);
+    let (_, end) = start.split_at(FILE_SIZE_OCTETS);
+    (number_at_front(start), number_at_front(end))
+}
+
+/// The pair at a place.
+#[tactic(auto, using(crate::proofs::Ranges::pair_given))]
+fn pair_given(pairs: &[(u64, u64)], place: usize) -> (u64, u64)
+    requires { place < length pairs.now }
+    ensures { drop place pairs.now ≡ result ∷ drop (place + 1) pairs.now }
+{
+    pairs[place]
+}
+
+/// The number that the first octets spell, those of a file-size field. They are loaded as one
+/// number, which turns them round, and then turned back: so that many are read at once.
+fn number_at_front(octets: &[u8]) -> u64
+    requires { file_size_octets ≤ length octets.now }
+    ensures { result ≡ field octets.now 0 (8 * file_size_octets) }
+{
+    let turned = u32::from_le_bytes([octets[0], octets[1], octets[2], octets[3]]);
+    u64::from(turned.swap_bytes())
+}
+
+/// The octets, of which it is known that pairs fill them.
+#[tactic(auto, using(crate::proofs::Ranges::pairs_whole))]
+fn as_pairs(octets: &[u8]) -> &[u8]
+    requires { length octets.now % pair_octets ≡ 0 }
+    ensures text { result.now ≡ flat_map (pair file_size_octets)
+        (pairs_of file_size_octets (length octets.now / pair_octets) octets.now) }
+    ensures len { length result.now ≡ pair_octets
+        * length (pairs_of file_size_octets (length octets.now / pair_octets) octets.now) }
+{
+    octets
+}
+
+/// Whether each number fits a file-size field.
+fn are_file_sizes(pairs: &[(u64, u64)]) -> bool
+    ensures { IsTrue result ↔ AllByRecursion (IsPair file_size_octets) pairs.now }
+{
+    for (start, end) in pairs {
+        if !is_file_size(*start) || !is_file_size(*end) {
+            return false;
+        }
+    }
+    true
+}
+
+/// Writes each pair.
+fn put_pairs(out: &mut [u8], at: usize, pairs: &[(u64, u64)]) -> usize
+    requires fits { AllByRecursion (IsPair file_size_octets) pairs.now }
+    requires room { at + pair_octets * length pairs.now ≤ length out.old }
+    ensures end { result ≡ at + pair_octets * length pairs.now }
+    ensures front { take result out.new
+        ≡ take at out.old ++ flat_map (pair file_size_octets) pairs.now }
+{
+    let mut place = at;
+    for (start, end) in pairs {
+        place = put_uint(out, place, FILE_SIZE_OCTETS, *start);
+        place = put_uint(out, place, FILE_SIZE_OCTETS, *end);
+    }
+    place
+}

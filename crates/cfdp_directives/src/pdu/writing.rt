@@ -1,0 +1,243 @@
+ghost use Rattle.std.specs.Prelude.{◌≡◌, ℕ, ◌+◌, ◌*◌, ◌^◌, ◌<◌, ◌≤◌, ◌++◌, List, length, take, drop, IsTrue, ◌↔◌};
+ghost use Rattle.cfdp_header.specs.Header.{header_len};
+ghost use Rattle.cfdp_directives.specs.Pdu.Codes.{file_size_octets};
+ghost use Rattle.cfdp_directives.specs.Pdu.Content.{Content, FileData, Metadata, Eof, Finished, Ack, Nak, Prompt, KeepAlive, view};
+ghost use Rattle.cfdp_directives.specs.Pdu.Grammar.{lv};
+ghost use Rattle.cfdp_directives.specs.Pdu.Written.{content_octets, content_len, FitsContent, CanWrite, IsHeaderOf, pdu_octets};
+
+use crate::pdu::codes::{
+    Acknowledged, ChecksumKind, Condition, Delivery, FILE_SIZE_OCTETS, FileStatus,
+    TransactionStatus,
+};
+use crate::pdu::content::Pdu;
+use crate::pdu::pairs::Pairs;
+use crate::pdu::tlv::Tlvs;
+use cfd_bits::{put_bytes, put_uint};
+use cfdp_header::Header;
+
+#[tactic(auto, using(crate::proofs::Spelling::one_octet))]
+fn put_lv(out: &mut [u8], at: usize, value: &[u8]) -> usize
+    requires room { at + 1 + length value.now ≤ length out.old }
+    requires short { length value.now < 256 }
+    ensures end { result ≡ at + 1 + length value.now }
+    ensures front { take result out.new ≡ take at out.old ++ lv value.now }
+{
+    let at = put_uint(out, at, 1, value.len() as u64);
+    put_bytes(out, at, value)
+}
+
+fn put_file_data(out: &mut [u8], at: usize, offset: u64, bytes: &[u8]) -> usize
+    requires fits { FitsContent file_size_octets (FileData offset bytes.now) }
+    requires room { at + content_len file_size_octets (FileData offset bytes.now) ≤ length out.old }
+    ensures end { result ≡ at + content_len file_size_octets (FileData offset bytes.now) }
+    ensures front { take result out.new
+        ≡ take at out.old ++ content_octets file_size_octets (FileData offset bytes.now) }
+{
+    let at = put_uint(out, at, FILE_SIZE_OCTETS, offset);
+    put_bytes(out, at, bytes)
+}
+
+fn put_metadata(
+    out: &mut [u8],
+    at: usize,
+    checksum_kind: ChecksumKind,
+    size: u64,
+    source: &[u8],
+    destination: &[u8],
+    options: &Tlvs<'_>,
+) -> usize
+    requires fits { FitsContent file_size_octets
+        (Metadata checksum_kind size source.now destination.now options.now) }
+    requires room { at + content_len file_size_octets
+        (Metadata checksum_kind size source.now destination.now options.now)
+        ≤ length out.old }
+    ensures end { result
+        ≡ at + content_len file_size_octets (Metadata checksum_kind size source.now destination.now options.now) }
+    ensures front { take result out.new
+        ≡ take at out.old
+        ++ content_octets file_size_octets (Metadata checksum_kind size source.now destination.now options.now) }
+{
+    let at = put_uint(out, at, 1, 7);
+    let at = put_uint(out, at, 1, u64::from(checksum_kind.code()));
+    let at = put_uint(out, at, FILE_SIZE_OCTETS, size);
+    let at = put_lv(out, at, source);
+    let at = put_lv(out, at, destination);
+    put_bytes(out, at, options.octets())
+}
+
+fn put_eof(
+    out: &mut [u8],
+    at: usize,
+    condition: Condition,
+    checksum: u32,
+    size: u64,
+    tlvs: &Tlvs<'_>,
+) -> usize
+    requires fits { FitsContent file_size_octets (Eof condition checksum size tlvs.now) }
+    requires room { at + content_len file_size_octets (Eof condition checksum size tlvs.now)
+        ≤ length out.old }
+    ensures end { result
+        ≡ at + content_len file_size_octets (Eof condition checksum size tlvs.now) }
+    ensures front { take result out.new
+        ≡ take at out.old
+        ++ content_octets file_size_octets (Eof condition checksum size tlvs.now) }
+{
+    let at = put_uint(out, at, 1, 4);
+    let at = put_uint(out, at, 1, 16 * u64::from(condition.code()));
+    let at = put_uint(out, at, 4, u64::from(checksum));
+    let at = put_uint(out, at, FILE_SIZE_OCTETS, size);
+    put_bytes(out, at, tlvs.octets())
+}
+
+#[tactic(auto, using(crate::proofs::Spelling::delivery_below, crate::proofs::Spelling::file_status_below))]
+fn put_finished(
+    out: &mut [u8],
+    at: usize,
+    condition: Condition,
+    delivery: Delivery,
+    status: FileStatus,
+    tlvs: &Tlvs<'_>,
+) -> usize
+    requires room { at + content_len file_size_octets (Finished condition delivery status tlvs.now)
+        ≤ length out.old }
+    ensures end { result
+        ≡ at + content_len file_size_octets (Finished condition delivery status tlvs.now) }
+    ensures front { take result out.new
+        ≡ take at out.old
+        ++ content_octets file_size_octets (Finished condition delivery status tlvs.now) }
+{
+    let second = 16 * u64::from(condition.code())
+        + 4 * u64::from(delivery.code())
+        + u64::from(status.code());
+    let at = put_uint(out, at, 1, 5);
+    let at = put_uint(out, at, 1, second);
+    put_bytes(out, at, tlvs.octets())
+}
+
+#[tactic(auto, using(crate::proofs::Spelling::acknowledged_below, crate::proofs::Spelling::transaction_status_below))]
+fn put_ack(
+    out: &mut [u8],
+    at: usize,
+    of: Acknowledged,
+    condition: Condition,
+    status: TransactionStatus,
+) -> usize
+    requires room { at + content_len file_size_octets (Ack of condition status) ≤ length out.old }
+    ensures end { result ≡ at + content_len file_size_octets (Ack of condition status) }
+    ensures front { take result out.new
+        ≡ take at out.old ++ content_octets file_size_octets (Ack of condition status) }
+{
+    let second = 16 * u64::from(of.code()) + u64::from(of.subtype());
+    let third = 16 * u64::from(condition.code()) + u64::from(status.code());
+    let at = put_uint(out, at, 1, 6);
+    let at = put_uint(out, at, 1, second);
+    put_uint(out, at, 1, third)
+}
+
+fn put_nak(out: &mut [u8], at: usize, start: u64, end: u64, pairs: &Pairs<'_>) -> usize
+    requires fits { FitsContent file_size_octets (Nak start end pairs.now) }
+    requires room { at + content_len file_size_octets (Nak start end pairs.now) ≤ length out.old }
+    ensures end { result ≡ at + content_len file_size_octets (Nak start end pairs.now) }
+    ensures front { take result out.new
+        ≡ take at out.old ++ content_octets file_size_octets (Nak start end pairs.now) }
+{
+    let at = put_uint(out, at, 1, 8);
+    let at = put_uint(out, at, FILE_SIZE_OCTETS, start);
+    let at = put_uint(out, at, FILE_SIZE_OCTETS, end);
+    pairs.put(out, at)
+}
+
+fn put_prompt(out: &mut [u8], at: usize, keep_alive: bool) -> usize
+    requires room { at + content_len file_size_octets (Prompt keep_alive) ≤ length out.old }
+    ensures end { result ≡ at + content_len file_size_octets (Prompt keep_alive) }
+    ensures front { take result out.new
+        ≡ take at out.old ++ content_octets file_size_octets (Prompt keep_alive) }
+{
+    let at = put_uint(out, at, 1, 9);
+    put_uint(out, at, 1, 128 * u64::from(keep_alive))
+}
+
+fn put_keep_alive(out: &mut [u8], at: usize, progress: u64) -> usize
+    requires fits { FitsContent file_size_octets (KeepAlive progress) }
+    requires room { at + content_len file_size_octets (KeepAlive progress) ≤ length out.old }
+    ensures end { result ≡ at + content_len file_size_octets (KeepAlive progress) }
+    ensures front { take result out.new
+        ≡ take at out.old ++ content_octets file_size_octets (KeepAlive progress) }
+{
+    let at = put_uint(out, at, 1, 12);
+    put_uint(out, at, FILE_SIZE_OCTETS, progress)
+}
+
+/// Whether the PDU can be written behind this header: both fit their fields, and the header tells
+/// of this kind and length, and of no segment metadata.
+pub fn can_write(header: &Header, pdu: &Pdu<'_>) -> bool
+    ensures { IsTrue result ↔ CanWrite header.now (view pdu.now) }
+{
+    header.fits() && pdu.fits() && is_header_of(header, pdu)
+}
+
+/// Whether the header tells of this kind of content and of its length.
+fn is_header_of(header: &Header, pdu: &Pdu<'_>) -> bool
+    ensures { IsTrue result ↔ IsHeaderOf header.now (view pdu.now) }
+{
+    header.file_data == pdu.is_file_data() && !header.segment_metadata && pdu.has_len(header.length)
+}
+
+/// Writes the PDU into the first octets of `out`, spare bits as 0, and says how many they are. The
+/// octets behind stay.
+///
+/// `header.length` has to be `pdu.len()`, and `header.file_data` has to say what kind of PDU it is:
+/// `can_write` tells.
+#[tactic(auto, using(crate::proofs::Spelling::behind_data))]
+pub fn encode(header: &Header, pdu: &Pdu<'_>, out: &mut [u8]) -> usize
+    requires fits { CanWrite header.now (view pdu.now) }
+    requires room { header_len header.now.id_width header.now.number_width + header.now.length
+        ≤ length out.old }
+    ensures end { result
+        ≡ header_len header.now.id_width header.now.number_width + header.now.length }
+    ensures front { take result out.new ≡ pdu_octets header.now (view pdu.now) }
+    ensures behind { drop result out.new ≡ drop result out.old }
+{
+    let at = cfdp_header::encode(header, out);
+    put_content(&mut out[..at + header.length as usize], at, pdu)
+}
+
+/// Writes the data field of a PDU behind the first `at` octets, and says where it ends.
+fn put_content(out: &mut [u8], at: usize, pdu: &Pdu<'_>) -> usize
+    requires fits { FitsContent file_size_octets (view pdu.now) }
+    requires room { at + content_len file_size_octets (view pdu.now) ≤ length out.old }
+    ensures end { result ≡ at + content_len file_size_octets (view pdu.now) }
+    ensures front { take result out.new
+        ≡ take at out.old ++ content_octets file_size_octets (view pdu.now) }
+{
+    match pdu {
+        Pdu::FileData { offset, bytes } => put_file_data(out, at, *offset, bytes),
+        Pdu::Metadata {
+            checksum_kind,
+            size,
+            source,
+            destination,
+            options,
+        } => put_metadata(out, at, *checksum_kind, *size, source, destination, options),
+        Pdu::Eof {
+            condition,
+            checksum,
+            size,
+            tlvs,
+        } => put_eof(out, at, *condition, *checksum, *size, tlvs),
+        Pdu::Finished {
+            condition,
+            delivery,
+            status,
+            tlvs,
+        } => put_finished(out, at, *condition, *delivery, *status, tlvs),
+        Pdu::Ack {
+            of,
+            condition,
+            status,
+        } => put_ack(out, at, *of, *condition, *status),
+        Pdu::Nak { start, end, pairs } => put_nak(out, at, *start, *end, pairs),
+        Pdu::Prompt { keep_alive } => put_prompt(out, at, *keep_alive),
+        Pdu::KeepAlive { progress } => put_keep_alive(out, at, *progress),
+    }
+}

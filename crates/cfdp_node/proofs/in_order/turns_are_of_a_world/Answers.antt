@@ -1,5 +1,0 @@
-use Rattle.cfdp_node.proofs.OrderLemmas.{are_of_world}
-use Rattle.cfdp_node.proofs.in_order.turns_are_of_a_world.Goals as goal
-
-pub returns : goal.returns
-returns g c = are_of_world g.W.Wire.steps c.worlds_keep_the_promises.ensures.keeps

@@ -1,0 +1,19 @@
+use Rattle.std.proofs.Common.{◌∙◌, ap, ap₂, length}
+use Rattle.cfdp_node.specs.Looping.Turns.{more_failures}
+use Rattle.cfdp_node.proofs.LoopLemmas.{is_told}
+use Rattle.cfdp_node.proofs.ServingLemmas.{same-exit}
+use Rattle.cfdp_node.proofs.station.serving.run_all.Goals as goal
+
+pub returns-in-Ok : goal.returns-in-Ok
+returns-in-Ok g c =
+    let station = c.serve-served.new.station in
+    let read = c.failures-read.ensures ∙ c.outbox.ensures.failures in
+    let written = c.failures-written.ensures ∙ c.inbox.ensures.failures in
+    let failed = c.have_failed-failed.ensures ∙ ap₂ (λ r w. more_failures r w station station) read written in
+    let asked = ap length c.as_slice.ensures.value in
+    is_told c.exit.result _ (record {
+      short = c.in-Ok.served.short;
+      last = record { station = station; wire = c.serve-served.new.wire; left = c.serve-served.new.turning.losses.left };
+      serves = c.in-Ok.ensures.serves;
+      ends = c.exit.ensures ∙ same-exit c.in-Ok.served.short _ _ _ _ _ _ failed c.in-Ok.ensures.complete asked;
+    })

@@ -1,7 +1,0 @@
-use Rattle.std.proofs.Common.{◌≡◌}
-use Rattle.cfdp_node.specs.Turn.{PollMoves, Times}
-use Rattle.cfdp_node.proofs.turn.poll_out.Given as goal
-
-abbrev pub invariant-loop-poll : goal.invariant-loop-poll
-invariant-loop-poll g l = Times PollMoves l._poll l.initial.station l.station
-    × (l.station.down.link ≡ l.initial.station.down.link)

@@ -1,0 +1,5 @@
+use Rattle.cfdp_node.proofs.OrderLemmas.{are_of_world}
+use Rattle.cfdp_node.proofs.wire.in_order.turns_are_of_a_world.Goals as goal
+
+pub returns : goal.returns
+returns g c = are_of_world g.W.Wire.steps c.worlds_keep_the_promises.ensures.keeps

@@ -1,0 +1,46 @@
+-- What a trace says of what was seen at two stations.
+use Rattle.std.specs.Prelude.{◌≡◌, ℕ, false, List, ◌++◌, codes, decimal}
+use Rattle.link_sim.specs.Sides.{entity_of}
+use Rattle.cfdp_node.specs.Dump.Lines.{TellsAsFrame, TellsAsPdu}
+use Rattle.cfdp_node.specs.declared.watch.sighting.Deed.{Deed}
+use Rattle.cfdp_node.specs.declared.watch.sighting.Deed.TheVariants.{SendsFrame, SendsPdu, TakesFrame, HearsPdu, LosesFrame, Ticks, Drops, Tells}
+use Rattle.cfdp_node.specs.declared.watch.sighting.Sighting.{Sighting}
+
+-- the word for what a station did
+abbrev pub deed_word : Deed → List ℕ
+deed_word SendsFrame = codes "sends"
+deed_word SendsPdu = codes "sends"
+deed_word TakesFrame = codes "takes"
+deed_word HearsPdu = codes "hears"
+deed_word LosesFrame = codes "loses"
+deed_word Ticks = codes "ticks"
+deed_word Drops = codes "drops"
+deed_word Tells = codes "tells"
+
+-- Behind that word stands what a dump says of the frame or the PDU. Of the time, of a drop and of an
+-- indication the words were noted.
+abbrev pub TellsWords : Deed → (zone : ℕ) → List ℕ → List ℕ → Type 0
+TellsWords SendsFrame zone octets = TellsAsFrame false zone octets
+TellsWords SendsPdu zone octets = TellsAsPdu false octets
+TellsWords TakesFrame zone octets = TellsAsFrame false zone octets
+TellsWords HearsPdu zone octets = TellsAsPdu false octets
+TellsWords LosesFrame zone octets = TellsAsFrame false zone octets
+TellsWords Ticks zone octets = λ words. words ≡ octets
+TellsWords Drops zone octets = λ words. words ≡ octets
+TellsWords Tells zone octets = λ words. words ≡ octets
+
+-- What a station did, in words.
+pub record TellsDeed (zone : ℕ) (s : Sighting) (text : List ℕ) : Type 0 where
+  pub words : List ℕ
+  pub tells : TellsWords s.deed zone s.octets.items words
+  pub whole : text ≡ deed_word s.deed ++ codes " " ++ words
+
+-- the line of the script and the number of the event, with a point between, and the station
+abbrev pub sighting_front : Sighting → List ℕ
+sighting_front s = decimal s.step ++ codes "." ++ decimal s.event ++ codes " " ++ decimal (entity_of s.station) ++ codes " "
+
+-- The line of a sighting: behind that, what the station did.
+pub record TellsSighting (zone : ℕ) (s : Sighting) (text : List ℕ) : Type 0 where
+  pub deed : List ℕ
+  pub tells : TellsDeed zone s deed
+  pub whole : text ≡ sighting_front s ++ deed

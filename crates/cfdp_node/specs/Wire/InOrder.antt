@@ -1,0 +1,99 @@
+-- Wires that lose frames, or bring them in the order in which they were sent; and what two stations are
+-- then that were joined by such wires.
+use Rattle.std.specs.Prelude.{◌≡◌, ℕ, zero, suc, ◌+◌, ◌<◌, List, [], ◌∷◌, ◌++◌, length, slice_index_or, Option, Some, Result, Ok}
+use Rattle.aos_frame.specs.Counts.{frame_counts}
+use Rattle.cfdp_header.specs.Files.{FileMap}
+use Rattle.cfdp_header.specs.declared.value.TransactionId.{TransactionId}
+use Rattle.cfdp_station.specs.Station.{StationState}
+use Rattle.link_sim.specs.declared.event.AcceptedPut.{AcceptedPut}
+use Rattle.link_sim.specs.declared.event.Event.{Event}
+use Rattle.link_sim.specs.declared.world_config.WorldConfig.{WorldConfig}
+use Rattle.link_sim.specs.Running.{Happens, KeepsPromises}
+use Rattle.link_sim.specs.World.State.{WorldState, IsFirst}
+use Rattle.cfdp_node.specs.Looping.Turns.{LoopState, TakesTurn, Turns}
+use Rattle.cfdp_node.specs.Wire.Turn.{AsksOn, End, Sending, SendsFrame, Times}
+use Rattle.cfdp_node.specs.Wire.Calls.{WireCall}
+use Rattle.cfdp_node.specs.declared.wire.WireFault.{WireFault}
+
+-- Of the frames that were sent, `taken` were lost or came before. These came now, in the order in
+-- which they were sent; those between them are lost, fewer in a row than there are frame counts.
+-- `then_taken` were lost or came by then.
+abbrev pub ComeInOrder : (sent : List (List ℕ)) → (taken : ℕ) → (came : List (List ℕ))
+    → (then_taken : ℕ) → Type 0
+ComeInOrder sent taken [] then_taken = then_taken ≡ taken
+ComeInOrder sent taken (frame ∷ came) then_taken = (lost : ℕ) × (lost < frame_counts)
+    × (taken + lost < length sent) × (frame ≡ slice_index_or sent (taken + lost) [])
+    × ComeInOrder sent (taken + lost + 1) came then_taken
+
+-- the octets that came, where some did
+abbrev pub what_came : Result (Option (List ℕ)) WireFault → List (List ℕ)
+what_came (Ok (Some frame)) = frame ∷ []
+what_came _ = []
+
+-- What passed between two stations: all frames that left each of them, in order, and how many of
+-- these were lost or came.
+pub record Passage : Type 0 where
+  pub from_one : List (List ℕ)
+  pub from_two : List (List ℕ)
+  pub taken_one : ℕ
+  pub taken_two : ℕ
+
+abbrev pub nothing_passed : Passage
+nothing_passed = record { from_one = []; from_two = []; taken_one = 0; taken_two = 0 }
+
+module _ {W : Type 0} (Steps : W → WireCall → W → Type 0) where
+  -- the frames that left a station, in order
+  abbrev pub frames_left : (every count : ℕ) → (old new : Sending W)
+      → Times (SendsFrame Steps every) count old new → List (List ℕ)
+  frames_left every zero old new same = []
+  frames_left every (suc count) old new (mid, before, step) =
+      frames_left every count old mid before ++ step.frame ∷ []
+
+  -- the datagrams that came to a station, in order
+  abbrev pub frames_came : (count : ℕ) → (old new : End W) → Times (AsksOn Steps) count old new
+      → List (List ℕ)
+  frames_came zero old new same = []
+  frames_came (suc count) old new (mid, before, step) =
+      frames_came count old mid before ++ what_came step.0
+
+  -- What passed in one turn behind what had passed before: what came to each station came in order
+  -- of what had left the other one.
+  pub record PassesInOrder (every now : ℕ) (old new : LoopState W)
+      (turn : TakesTurn Steps every now old new) (before after : Passage) : Type 0 where
+    pub from_one : let sends = turn.one_sends.sends in
+        after.from_one ≡ before.from_one ++ frames_left every sends.count _ _ sends.sent
+    pub from_two : let sends = turn.two_sends.sends in
+        after.from_two ≡ before.from_two ++ frames_left every sends.count _ _ sends.sent
+    pub to_two : let hears = turn.two_hears in
+        ComeInOrder after.from_one before.taken_one (frames_came hears.count _ _ hears.heard)
+        after.taken_one
+    pub to_one : let hears = turn.one_hears in
+        ComeInOrder after.from_two before.taken_two (frames_came hears.count _ _ hears.heard)
+        after.taken_two
+
+  -- In each of so many turns what came did so in order, and this passed in all.
+  abbrev pub PassInOrder : (id : TransactionId) → (every count : ℕ) → (old new : LoopState W)
+      → Turns Steps id every count old new → Passage → Type 0
+  PassInOrder id every zero old new same passed = passed ≡ nothing_passed
+  PassInOrder id every (suc count) old new (mid, before, unclosed, turn) passed = (earlier : Passage)
+      × PassInOrder id every count old mid before earlier
+      × PassesInOrder every (count + 1) mid new turn earlier passed
+
+-- The two stations are those of a world of this configuration, which began with these files to
+-- send and these published, and to which events led. In it this put alone was accepted, exactly
+-- what passed has left the two stations, and as much of it is taken. So the promises hold.
+pub record AreOfWorld (c : WorldConfig) (outboxes inboxes : FileMap × FileMap) (put : AcceptedPut)
+    (passed : Passage) (one two : StationState) : Type 0 where
+  pub first : WorldState
+  pub starts : IsFirst c outboxes inboxes first
+  pub events : List Event
+  pub now : WorldState
+  pub happened : Happens events first now
+  pub is_one : now.one ≡ one
+  pub is_two : now.two ≡ two
+  pub puts : now.puts ≡ put ∷ []
+  pub from_one : now.from_one.frames ≡ passed.from_one
+  pub from_two : now.from_two.frames ≡ passed.from_two
+  pub taken_one : length now.from_one.marks ≡ passed.taken_one
+  pub taken_two : length now.from_two.marks ≡ passed.taken_two
+  pub promises : KeepsPromises inboxes now

@@ -1,0 +1,281 @@
+//! A file sent from one folder into another, by two stations over two sockets of this machine.
+use crate::exit::{Exit, Fault};
+use crate::input::Input;
+use crate::looping::request::LoopRequest;
+use crate::looping::{LoopOptions, loop_config, run_loop};
+use crate::report::name::Name;
+use crate::script::sim::Ran;
+use crate::watch::lookout::{Lookout, Passed};
+use crate::watch::onlooker::Onlooker;
+use crate::watch::progress::{Progress, Reception};
+use crate::watch::show::shown_status;
+use crate::wire::udp::UdpWire;
+use cfdp_header::TransactionId;
+use cfdp_station::{Polled, Station};
+use cfdp_store::{FolderInbox, FolderOutbox, Inbox, Outbox, StoreError, is_folder_name};
+use link_sim::Side;
+use std::alloc::{AllocError, Global};
+use std::cell::Cell;
+use std::fs::Metadata;
+use std::io::BufWriter;
+use std::os::unix::fs::MetadataExt;
+use std::{fs, io};
+
+/// The exit status of bad arguments.
+const MISTAKE: u8 = 2;
+
+/// The exit status where a folder, a file, a socket or memory failed.
+const DEVICE: u8 = 3;
+
+/// Sends the file that is asked for, writes the report to standard output, and says on standard
+/// error what went wrong. Answers the exit status.
+///
+/// What may be wrong is looked for in this order: both names, the folder and the file that is to be
+/// sent, the other folder, the sockets.
+pub fn loop_status(rt: &HostRuntime, request: &LoopRequest) -> u8 {
+    match prepared(rt, request) {
+        Ok((outbox, wires)) => sent_status(rt, request, outbox, wires),
+        Err(status) => status,
+    }
+}
+
+/// What is needed to send the file.
+///
+/// # Errors
+///
+/// The exit status, where something is wrong, which was told on standard error.
+fn prepared(
+    rt: &HostRuntime,
+    request: &LoopRequest,
+) -> Result<(FolderOutbox, (UdpWire, UdpWire)), u8> {
+    check_name(rt, request.source.as_str())?;
+    check_name(rt, request.destination.as_str())?;
+    let from = folder(rt, request.from.as_str())?;
+    let outbox = loaded(rt, request)?;
+    let to = folder(rt, request.to.as_str())?;
+    if from.dev() == to.dev() && from.ino() == to.ino() {
+        let _ = eprintln!(rt; "error: {} and {} are one folder", request.from, request.to);
+        return Err(MISTAKE);
+    }
+    match UdpWire::pair(rt) {
+        Ok(wires) => Ok((outbox, wires)),
+        Err(error) => {
+            let _ = eprintln!(rt; "error: a socket of 127.0.0.1: {error}");
+            Err(DEVICE)
+        }
+    }
+}
+
+/// Looks whether a file in a folder may have this name.
+///
+/// # Errors
+///
+/// The exit status, where it may not, which was told on standard error.
+pub fn check_name(rt: &HostRuntime, name: &str) -> Result<(), u8> {
+    if is_folder_name(name.as_bytes()) {
+        return Ok(());
+    }
+    let _ = eprintln!(rt;
+        "error: a file can't have the name {}: 1 to 64 of A-Z a-z 0-9 . _ -, no point first",
+        Name(name.as_bytes())
+    );
+    Err(MISTAKE)
+}
+
+/// Looks whether this is a folder.
+///
+/// # Errors
+///
+/// The exit status, where it is none, which was told on standard error.
+pub fn folder(rt: &HostRuntime, path: &str) -> Result<Metadata, u8> {
+    match fs::metadata(rt, path) {
+        Ok(found) if found.is_dir() => return Ok(found),
+        Ok(_) => {
+            let _ = eprintln!(rt; "error: {path}: it is no folder");
+        }
+        Err(error) => {
+            let _ = eprintln!(rt; "error: {path}: {}", error.kind());
+        }
+    }
+    Err(DEVICE)
+}
+
+/// The file that is to be sent, where it is there.
+fn loaded(rt: &HostRuntime, request: &LoopRequest) -> Result<FolderOutbox, u8> {
+    let (folder, name) = (request.from.as_str(), request.source.as_str());
+    match FolderOutbox::open(rt, rt.alloc(), folder, name.as_bytes()) {
+        Ok(outbox) => Ok(outbox),
+        Err(error) => {
+            let _ = eprintln!(rt; "error: {folder}/{name}: {error}");
+            Err(DEVICE)
+        }
+    }
+}
+
+/// Sends the file, shows what was seen of that, and answers the exit status.
+fn sent_status(
+    rt: &HostRuntime,
+    request: &LoopRequest,
+    outbox: FolderOutbox,
+    wires: (UdpWire, UdpWire),
+) -> u8 {
+    let (told, progress) = (Cell::new(false), Progress::new(rt));
+    let ran = match sent(rt, request, outbox, wires, &told, &progress) {
+        Ok(ran) => ran,
+        Err(AllocError) => Ran::unseen(Exit::Device(Fault::NoMemoryAtStart)),
+    };
+    if let Exit::Device(fault) = ran.exit
+        && !told.get()
+    {
+        fault.tell(rt, Input::Standard);
+    }
+    shown_status(rt, &request.shown, &ran)
+}
+
+/// Sends the file. The report's buffer is there before the first turn.
+fn sent(
+    rt: &HostRuntime,
+    request: &LoopRequest,
+    outbox: FolderOutbox,
+    wires: (UdpWire, UdpWire),
+    told: &Cell<bool>,
+    progress: &Progress<'_>,
+) -> Result<Ran, AllocError> {
+    let alloc = rt.alloc();
+    let inbox = TellingInbox::new(rt, request.to.as_str(), told, progress)?;
+    let onlooker = Onlooker::new(alloc, loop_config(), request.shown.is_watched())?;
+    let Ok(mut out) = BufWriter::new(alloc, io::writer(rt)) else {
+        return Ok(Ran::unseen(Exit::Device(Fault::NoMemoryAtStart)));
+    };
+    let mut lookout = LoopLookout { onlooker, progress };
+    let options = options(alloc, request)?;
+    let exit = run_loop(alloc, options, outbox, inbox, wires, &mut out, &mut lookout);
+    // What a failed write left in the buffer is let go: a `BufWriter` would write it once more.
+    let _ = out.into_parts();
+    Ok(Ran {
+        exit,
+        seen: lookout.onlooker.into_seen(),
+    })
+}
+
+/// What is to be sent, and how.
+fn options(alloc: Global, request: &LoopRequest) -> Result<LoopOptions, AllocError> {
+    Ok(LoopOptions {
+        source: Vec::from_slice(alloc, request.source.as_bytes())?,
+        destination: Vec::from_slice(alloc, request.destination.as_bytes())?,
+        turns: request.turns,
+        drop_every: request.drop_every,
+    })
+}
+
+/// One who looks on at the turns, and says how far the transfer is.
+#[derive(Drop)]
+pub struct LoopLookout<'a> {
+    pub onlooker: Onlooker,
+    pub progress: &'a Progress<'a>,
+}
+
+impl Lookout for LoopLookout<'_> {
+    fn begins(&mut self, turn: u64) {
+        self.onlooker.begins(turn);
+    }
+
+    fn sees<O: Outbox, I: Inbox>(
+        &mut self,
+        side: Side,
+        passed: Passed<'_>,
+        station: &Station<O, I>,
+    ) {
+        if let Passed::Polled(Polled::Moved) = passed {
+            self.progress.counts_pdu();
+        }
+        self.progress.goes_on();
+        self.onlooker.sees(side, passed, station);
+    }
+
+    fn yields(&mut self) {
+        self.progress.yields();
+    }
+
+    fn ends(&mut self) {
+        self.progress.ends();
+        self.onlooker.ends();
+    }
+}
+
+/// An inbox over a folder, which says on standard error why a file could not be put there.
+#[derive(Drop)]
+pub struct TellingInbox<'a> {
+    rt: &'a HostRuntime,
+    folder: &'a str,
+    inbox: FolderInbox<&'a HostRuntime>,
+    /// Whether it said so.
+    told: &'a Cell<bool>,
+    progress: &'a Progress<'a>,
+    reception: Reception<'a>,
+}
+
+impl<'a> TellingInbox<'a> {
+    /// An inbox over this folder, which is there. It sets `told` once it said so.
+    ///
+    /// # Errors
+    ///
+    /// `AllocError` where there is no memory for the folder's name.
+    pub fn new(
+        rt: &'a HostRuntime,
+        folder: &'a str,
+        told: &'a Cell<bool>,
+        progress: &'a Progress<'a>,
+    ) -> Result<TellingInbox<'a>, AllocError> {
+        Ok(TellingInbox {
+            rt,
+            folder,
+            inbox: FolderInbox::new(rt, rt.alloc(), folder)?,
+            told,
+            progress,
+            reception: Reception::new(rt.alloc(), progress),
+        })
+    }
+
+    fn tell(&self, name: &[u8]) {
+        if let Some(fault) = self.inbox.fault() {
+            self.told.set(true);
+            self.progress.ends();
+            let _ = eprintln!(self.rt; "error: {}/{}: {fault}", self.folder, Name(name));
+        }
+    }
+}
+
+impl<'a> Inbox for TellingInbox<'a> {
+    ghost published = { λ i. ⟦<FolderInbox<&'a HostRuntime> as Inbox>⟧.published i.inbox };
+
+    ghost staged = { λ i. ⟦<FolderInbox<&'a HostRuntime> as Inbox>⟧.staged i.inbox };
+
+    ghost failures = { λ i. ⟦<FolderInbox<&'a HostRuntime> as Inbox>⟧.failures i.inbox };
+
+    fn begin(&mut self, id: TransactionId) -> Result<(), StoreError> {
+        self.reception.begins(id);
+        self.inbox.begin(id)
+    }
+
+    fn write(&mut self, id: TransactionId, offset: u64, octets: &[u8]) -> Result<(), StoreError> {
+        self.reception.notes(id, offset, octets.len());
+        self.inbox.write(id, offset, octets)
+    }
+
+    fn publish(&mut self, id: TransactionId, name: &[u8], size: u64) -> Result<(), StoreError> {
+        let answer = self.inbox.publish(id, name, size);
+        if answer.is_err() {
+            self.tell(name);
+        }
+        answer
+    }
+
+    fn discard(&mut self, id: TransactionId) -> Result<(), StoreError> {
+        self.inbox.discard(id)
+    }
+
+    fn failures(&self) -> u64 {
+        self.inbox.failures()
+    }
+}

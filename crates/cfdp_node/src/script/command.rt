@@ -1,0 +1,489 @@
+ghost use Rattle.std.specs.Prelude.{◌≡◌};
+ghost use Rattle.std.specs.Result.{result_ok};
+ghost use Rattle.cfdp_node.specs.Script.Numbers.{number_of, octet_of};
+ghost use Rattle.cfdp_node.specs.Script.Words.{left};
+ghost use Rattle.cfdp_node.specs.Script.Lines.{Reads, both, line_of, meaning, set_of, file_of, fill_of, fill_count, command_of, put_of, call_of, motion_of, round_of, station_words, transaction_words, number_words, count_words, prompt_of, asked_of, id_of, station_of, setting_of, patience_of, handler_key};
+
+use crate::script::number::{parse_hex_octet, parse_number};
+use crate::script::settings::Setting;
+use crate::script::words::{Words, cut_at_first};
+use cfdp_directives::Octets;
+use cfdp_header::TransactionId;
+use link_sim::{Event, Side};
+use std::alloc::{AllocError, Global};
+use std::fmt;
+
+/// The longest line of a script, in octets, without its line feed.
+pub const MAX_LINE: usize = 4096;
+
+/// The longest file that `fill` makes, in octets.
+pub const MAX_FILL: u64 = 1_048_576;
+
+/// One line of a script.
+#[derive(Drop)]
+pub enum Line {
+    /// `set KEY N`.
+    Set(Setting, u64),
+    /// `file S NAME TEXT` or `fill S NAME N HH`.
+    File(FileLine),
+    /// A command that makes something happen.
+    Command(Command),
+}
+
+/// A file that a script puts into a station's outbox.
+#[derive(Drop)]
+pub struct FileLine {
+    pub at: Side,
+    pub name: Octets,
+    pub contents: Contents,
+}
+
+/// What is in a file that a script makes.
+#[derive(Drop)]
+pub enum Contents {
+    /// These octets.
+    Text(Octets),
+    /// So many times the same octet: at most `MAX_FILL`.
+    Fill { count: u64, octet: u8 },
+}
+
+/// A command of a script: what happens to the stations and the link.
+#[derive(Drop)]
+pub enum Command {
+    /// An event: `put S SRC DST`, `cancel S ID`, `suspend S ID`, `resume S ID`, `prompt S ID nak`,
+    /// `prompt S ID keep`, `poll S`, `flush S`, `tick S N`.
+    Once(Event),
+    /// An event so many times: `deliver S [N]`, `strike S [N]`.
+    Repeat(Event, u64),
+    /// `spread S`: polls until nothing is due, with a flush after each PDU.
+    Spread(Side),
+    /// `burst S`: polls until nothing is due, then one flush.
+    Burst(Side),
+    /// `settle`: polls, flushes and delivers until nothing is due and nothing waits.
+    Settle,
+    /// `recover`: settles, and tells stations the time and settles again, until no timer is armed
+    /// but those of Inactivity.
+    Recover,
+}
+
+/// Why a line was not read.
+#[derive(Clone, Copy)]
+pub enum Unread {
+    /// It is bad.
+    Bad(LineError),
+    /// There is no memory for what it holds.
+    NoMemory,
+}
+
+impl From<LineError> for Unread {
+    ghost use Rattle.std.specs.Prelude.{◌≡◌};
+    ghost use Rattle.cfdp_node.specs.declared.script.command.Unread.TheVariants.{Bad};
+
+    ghost from_gives = { λ error unread. unread ≡ Bad error };
+
+    fn from(error: LineError) -> Unread {
+        Unread::Bad(error)
+    }
+}
+
+impl From<AllocError> for Unread {
+    ghost use Rattle.std.specs.Prelude.{◌≡◌};
+    ghost use Rattle.cfdp_node.specs.declared.script.command.Unread.TheVariants.{NoMemory};
+
+    ghost from_gives = { λ _ unread. unread ≡ NoMemory };
+
+    fn from(_error: AllocError) -> Unread {
+        Unread::NoMemory
+    }
+}
+
+/// Why a line of a script is bad.
+#[derive(Clone, Copy)]
+pub enum LineError {
+    /// It has more than `MAX_LINE` octets.
+    TooLong,
+    /// An octet of it isn't ASCII.
+    NotAscii,
+    /// A word or a text is missing.
+    MissingWord,
+    /// Two spaces stand together, or one begins or ends the line.
+    EmptyWord,
+    /// There are more words than the command takes.
+    ExtraWord,
+    /// There is no such command.
+    UnknownCommand,
+    /// There is no such key to set.
+    UnknownKey,
+    /// The station isn't the number 1 or 2.
+    UnknownStation,
+    /// A number isn't decimal digits below 2^64.
+    BadNumber,
+    /// A transaction isn't two numbers with a colon between.
+    BadId,
+    /// What a prompt asks for isn't `nak` or `keep`.
+    UnknownPrompt,
+    /// A file to fill has more than `MAX_FILL` octets.
+    FileTooLong,
+    /// An octet isn't two hexadecimal digits.
+    BadOctet,
+    /// `set`, `file` or `fill` stands behind another command.
+    TooLate,
+    /// The last `set` leaves a setting out of its range. This is the line that set that one.
+    OutOfRange { setting: Setting, line: usize },
+    /// The last `set` leaves a configuration that isn't valid.
+    BadConfiguration,
+    /// The line is bad, and ends with a carriage return.
+    CarriageReturn,
+}
+
+impl fmt::Display for LineError {
+    /// The sentence that explains it.
+    fn fmt<W: fmt::Write>(&self, f: &mut fmt::Formatter<W>) -> fmt::Result {
+        match self {
+            LineError::TooLong => f.write_str("the line has more than 4,096 octets"),
+            LineError::NotAscii => f.write_str("the line has an octet that is not ASCII"),
+            LineError::MissingWord => f.write_str("a word is missing"),
+            LineError::EmptyWord => {
+                f.write_str("two spaces stand together, or a space begins or ends the line")
+            }
+            LineError::ExtraWord => f.write_str("the line has more words than the command takes"),
+            LineError::UnknownCommand => f.write_str("there is no such command"),
+            LineError::UnknownKey => f.write_str("there is no such setting"),
+            LineError::UnknownStation => f.write_str("a station is 1 or 2"),
+            LineError::BadNumber => f.write_str("a number is decimal digits, below 2^64"),
+            LineError::BadId => f.write_str("a transaction is two numbers with a colon between"),
+            LineError::UnknownPrompt => f.write_str("a prompt asks for nak or keep"),
+            LineError::FileTooLong => f.write_str("a file to fill has at most 1,048,576 octets"),
+            LineError::BadOctet => f.write_str("an octet is two hexadecimal digits"),
+            LineError::TooLate => f.write_str("set, file and fill stand before all other commands"),
+            LineError::OutOfRange { setting, line } => {
+                let (key, range) = (setting.key(), setting.range());
+                write!(f, "line {line}: the range of {key} is {range}")
+            }
+            LineError::BadConfiguration => {
+                f.write_str("after the last set a setting is out of its range")
+            }
+            LineError::CarriageReturn => f.write_str("the line ends with a carriage return"),
+        }
+    }
+}
+
+/// Reads a line that is to be read: it isn't empty and doesn't begin with `#`.
+///
+/// # Errors
+///
+/// `Bad` with any `LineError` but the last four; `NoMemory` where there is no memory for the names
+/// and the text in it.
+pub fn parse_line(alloc: Global, line: &[u8]) -> Result<Line, Unread>
+    ensures { Reads result (line_of line.now) }
+{
+    if line.len() > MAX_LINE {
+        return Err(Unread::Bad(LineError::TooLong));
+    }
+    if !line.is_ascii() {
+        return Err(Unread::Bad(LineError::NotAscii));
+    }
+    parse_words(alloc, Words::of(line))
+}
+
+fn parse_words(alloc: Global, mut words: Words<'_>) -> Result<Line, Unread>
+    ensures { Reads result (meaning (left words.entry)) }
+{
+    let verb = words.next_word()?;
+    if verb == b"set".as_slice() {
+        Ok(parse_set(words)?)
+    } else if verb == b"file".as_slice() {
+        parse_file(alloc, words)
+    } else if verb == b"fill".as_slice() {
+        parse_fill(alloc, words)
+    } else {
+        Ok(Line::Command(parse_command(alloc, verb, words)?))
+    }
+}
+
+fn parse_set(words: Words<'_>) -> Result<Line, LineError>
+    ensures { result_ok result ≡ set_of (left words.entry) }
+{
+    let (key, value) = words.two()?;
+    let setting = parse_setting(key).ok_or(LineError::UnknownKey)?;
+    Ok(Line::Set(setting, parse_value(value)?))
+}
+
+fn parse_file(alloc: Global, mut words: Words<'_>) -> Result<Line, Unread>
+    ensures { Reads result (file_of (left words.entry)) }
+{
+    let station = words.next_word()?;
+    let name = words.next_word()?;
+    let text = words.into_text()?;
+    let at = parse_station(station)?;
+    Ok(Line::File(FileLine {
+        at,
+        name: Octets::copied(alloc, name)?,
+        contents: Contents::Text(Octets::copied(alloc, text)?),
+    }))
+}
+
+fn parse_fill(alloc: Global, words: Words<'_>) -> Result<Line, Unread>
+    ensures { Reads result (fill_of (left words.entry)) }
+{
+    let (station, name, count, octet) = words.four()?;
+    let at = parse_station(station)?;
+    let contents = parse_contents(count, octet)?;
+    let name = Octets::copied(alloc, name)?;
+    Ok(Line::File(FileLine { at, name, contents }))
+}
+
+/// So many times an octet.
+fn parse_contents(count: &[u8], octet: &[u8]) -> Result<Contents, LineError>
+    ensures { result_ok result ≡ both Contents.Fill (fill_count count.now) (octet_of octet.now) }
+{
+    Ok(Contents::Fill {
+        count: parse_fill_count(count)?,
+        octet: parse_octet(octet)?,
+    })
+}
+
+fn parse_fill_count(word: &[u8]) -> Result<u64, LineError>
+    ensures { result_ok result ≡ fill_count word.now }
+{
+    let count = parse_value(word)?;
+    if count > MAX_FILL {
+        return Err(LineError::FileTooLong);
+    }
+    Ok(count)
+}
+
+fn parse_command(alloc: Global, verb: &[u8], words: Words<'_>) -> Result<Command, Unread>
+    ensures { Reads result (command_of verb.now (left words.entry)) }
+{
+    if verb == b"put".as_slice() {
+        parse_put(alloc, words)
+    } else {
+        Ok(parse_call(verb, words)?)
+    }
+}
+
+fn parse_put(alloc: Global, words: Words<'_>) -> Result<Command, Unread>
+    ensures { Reads result (put_of (left words.entry)) }
+{
+    let (station, source, destination) = words.three()?;
+    Ok(Command::Once(Event::Put {
+        at: parse_station(station)?,
+        source: Octets::copied(alloc, source)?,
+        destination: Octets::copied(alloc, destination)?,
+    }))
+}
+
+/// A command that holds no name.
+fn parse_call(verb: &[u8], words: Words<'_>) -> Result<Command, LineError>
+    ensures { result_ok result ≡ call_of verb.now (left words.entry) }
+{
+    if verb == b"cancel".as_slice() {
+        let (at, id) = parse_transaction(words)?;
+        Ok(Command::Once(Event::Cancel { at, id }))
+    } else if verb == b"suspend".as_slice() {
+        let (at, id) = parse_transaction(words)?;
+        Ok(Command::Once(Event::Suspend { at, id }))
+    } else if verb == b"resume".as_slice() {
+        let (at, id) = parse_transaction(words)?;
+        Ok(Command::Once(Event::Resume { at, id }))
+    } else if verb == b"prompt".as_slice() {
+        parse_prompt(words)
+    } else {
+        parse_motion(verb, words)
+    }
+}
+
+/// A command that is of no transaction.
+fn parse_motion(verb: &[u8], words: Words<'_>) -> Result<Command, LineError>
+    ensures { result_ok result ≡ motion_of verb.now (left words.entry) }
+{
+    if verb == b"poll".as_slice() {
+        Ok(Command::Once(Event::Poll(parse_alone(words)?)))
+    } else if verb == b"flush".as_slice() {
+        Ok(Command::Once(Event::Flush(parse_alone(words)?)))
+    } else if verb == b"tick".as_slice() {
+        let (at, now) = parse_number_at(words)?;
+        Ok(Command::Once(Event::Tick { at, now }))
+    } else if verb == b"deliver".as_slice() {
+        let (from, count) = parse_count(words)?;
+        Ok(Command::Repeat(Event::Deliver(from), count))
+    } else if verb == b"strike".as_slice() {
+        let (from, count) = parse_count(words)?;
+        Ok(Command::Repeat(Event::Strike(from), count))
+    } else {
+        parse_round(verb, words)
+    }
+}
+
+/// A command that goes on until nothing is left to do.
+fn parse_round(verb: &[u8], words: Words<'_>) -> Result<Command, LineError>
+    ensures { result_ok result ≡ round_of verb.now (left words.entry) }
+{
+    if verb == b"spread".as_slice() {
+        Ok(Command::Spread(parse_alone(words)?))
+    } else if verb == b"burst".as_slice() {
+        Ok(Command::Burst(parse_alone(words)?))
+    } else if verb == b"settle".as_slice() {
+        words.end()?;
+        Ok(Command::Settle)
+    } else if verb == b"recover".as_slice() {
+        words.end()?;
+        Ok(Command::Recover)
+    } else {
+        Err(LineError::UnknownCommand)
+    }
+}
+
+/// A station, and nothing else.
+fn parse_alone(words: Words<'_>) -> Result<Side, LineError>
+    ensures { result_ok result ≡ station_words (left words.entry) }
+{
+    parse_station(words.one()?)
+}
+
+/// A station and a transaction.
+fn parse_transaction(words: Words<'_>) -> Result<(Side, TransactionId), LineError>
+    ensures { result_ok result ≡ transaction_words (left words.entry) }
+{
+    let (station, id) = words.two()?;
+    Ok((parse_station(station)?, parse_id(id)?))
+}
+
+/// A station and a number.
+fn parse_number_at(words: Words<'_>) -> Result<(Side, u64), LineError>
+    ensures { result_ok result ≡ number_words (left words.entry) }
+{
+    let (station, number) = words.two()?;
+    Ok((parse_station(station)?, parse_value(number)?))
+}
+
+/// A station and how often: once where no number stands there.
+fn parse_count(mut words: Words<'_>) -> Result<(Side, u64), LineError>
+    ensures { result_ok result ≡ count_words (left words.entry) }
+{
+    let station = words.next_word()?;
+    let count = if words.is_empty() {
+        1
+    } else {
+        parse_value(words.one()?)?
+    };
+    Ok((parse_station(station)?, count))
+}
+
+fn parse_prompt(words: Words<'_>) -> Result<Command, LineError>
+    ensures { result_ok result ≡ prompt_of (left words.entry) }
+{
+    let (station, id, asked) = words.three()?;
+    Ok(Command::Once(Event::Prompt {
+        at: parse_station(station)?,
+        id: parse_id(id)?,
+        keep_alive: parse_asked(asked)?,
+    }))
+}
+
+/// Whether a prompt asks for a Keep Alive, or else for a NAK.
+fn parse_asked(word: &[u8]) -> Result<bool, LineError>
+    ensures { result_ok result ≡ asked_of word.now }
+{
+    if word == b"nak".as_slice() {
+        Ok(false)
+    } else if word == b"keep".as_slice() {
+        Ok(true)
+    } else {
+        Err(LineError::UnknownPrompt)
+    }
+}
+
+fn parse_value(word: &[u8]) -> Result<u64, LineError>
+    ensures { result_ok result ≡ number_of word.now }
+{
+    parse_number(word).ok_or(LineError::BadNumber)
+}
+
+fn parse_octet(word: &[u8]) -> Result<u8, LineError>
+    ensures { result_ok result ≡ octet_of word.now }
+{
+    parse_hex_octet(word).ok_or(LineError::BadOctet)
+}
+
+fn parse_id(word: &[u8]) -> Result<TransactionId, LineError>
+    ensures { result_ok result ≡ id_of word.now }
+{
+    let (source, behind) = cut_at_first(word, b':');
+    let Some(number) = behind else {
+        return Err(LineError::BadId);
+    };
+    match (parse_number(source), parse_number(number)) {
+        (Some(source), Some(number)) => Ok(TransactionId { source, number }),
+        _ => Err(LineError::BadId),
+    }
+}
+
+fn parse_station(word: &[u8]) -> Result<Side, LineError>
+    ensures { result_ok result ≡ station_of word.now }
+{
+    match parse_number(word) {
+        Some(1) => Ok(Side::One),
+        Some(2) => Ok(Side::Two),
+        _ => Err(LineError::UnknownStation),
+    }
+}
+
+/// The setting that has this key.
+pub fn parse_setting(word: &[u8]) -> Option<Setting>
+    ensures { result ≡ setting_of word.now }
+{
+    if word == b"zone".as_slice() {
+        Some(Setting::Zone)
+    } else if word == b"segment".as_slice() {
+        Some(Setting::Segment)
+    } else if word == b"id_width".as_slice() {
+        Some(Setting::IdWidth)
+    } else if word == b"number_width".as_slice() {
+        Some(Setting::NumberWidth)
+    } else if word == b"first_number".as_slice() {
+        Some(Setting::FirstNumber)
+    } else if word == b"checksum".as_slice() {
+        Some(Setting::Checksum)
+    } else {
+        parse_patience(word)
+    }
+}
+
+/// The settings of limits and of times, and of what is done at their end.
+fn parse_patience(word: &[u8]) -> Option<Setting>
+    ensures { result ≡ patience_of word.now }
+{
+    if word == b"eof_limit".as_slice() {
+        Some(Setting::EofLimit)
+    } else if word == b"nak_limit".as_slice() {
+        Some(Setting::NakLimit)
+    } else if word == b"finished_limit".as_slice() {
+        Some(Setting::FinishedLimit)
+    } else if word == b"eof_time".as_slice() {
+        Some(Setting::EofTime)
+    } else if word == b"nak_time".as_slice() {
+        Some(Setting::NakTime)
+    } else if word == b"finished_time".as_slice() {
+        Some(Setting::FinishedTime)
+    } else if word == b"inactivity_time".as_slice() {
+        Some(Setting::InactivityTime)
+    } else {
+        parse_handler(word)
+    }
+}
+
+fn parse_handler(word: &[u8]) -> Option<Setting>
+    ensures { result ≡ handler_key word.now }
+{
+    if word == b"on_ack_limit".as_slice() {
+        Some(Setting::OnAckLimit)
+    } else if word == b"on_nak_limit".as_slice() {
+        Some(Setting::OnNakLimit)
+    } else if word == b"on_inactivity".as_slice() {
+        Some(Setting::OnInactivity)
+    } else {
+        None
+    }
+}

@@ -1,0 +1,58 @@
+ghost use Rattle.link_sim.specs.declared.event.Event.{Event};
+ghost use Rattle.cfdp_node.specs.Script.Run.{HappensOften, HappensOnce, Performs};
+
+use crate::report::answer::Answer;
+use crate::script::command::Command;
+use link_sim::{Applied, Event, RecoverError, Stations};
+use std::alloc::AllocError;
+
+/// Does what a command says. Answers why it was not done, or not to its end: the first answer of an
+/// event that isn't that it happened ends the command.
+pub fn perform<S: Stations>(stations: &mut S, command: &Command) -> Option<Answer>
+    ensures { Performs command.now result (S.world stations.old) (S.world stations.new) }
+{
+    match command {
+        Command::Once(event) => once(stations, event),
+        Command::Repeat(event, count) => repeat(stations, event, *count),
+        Command::Spread(side) => match stations.spread(*side) {
+            Ok(()) => None,
+            Err(AllocError) => Some(Answer::NO_MEMORY),
+        },
+        Command::Burst(side) => match stations.burst(*side) {
+            Ok(()) => None,
+            Err(AllocError) => Some(Answer::NO_MEMORY),
+        },
+        Command::Settle => match stations.settle() {
+            Ok(()) => None,
+            Err(error) => Some(Answer::Ended(RecoverError::Settle(error))),
+        },
+        Command::Recover => match stations.recover() {
+            Ok(()) => None,
+            Err(error) => Some(Answer::Ended(error)),
+        },
+    }
+}
+
+/// Lets an event happen. Answers why it didn't.
+fn once<S: Stations>(stations: &mut S, event: &Event) -> Option<Answer>
+    ensures { HappensOnce event.now result (S.world stations.old) (S.world stations.new) }
+{
+    match stations.apply(event) {
+        Ok(Applied::Applied) => None,
+        Ok(Applied::Nothing) => Some(Answer::Nothing),
+        Ok(Applied::Refused(refusal)) => Some(Answer::Refused(refusal)),
+        Err(AllocError) => Some(Answer::NO_MEMORY),
+    }
+}
+
+/// Lets an event happen so many times. Answers why it didn't.
+fn repeat<S: Stations>(stations: &mut S, event: &Event, count: u64) -> Option<Answer>
+    ensures { HappensOften event.now count result (S.world stations.old) (S.world stations.new) }
+{
+    for _ in 0..count {
+        if let Some(answer) = once(stations, event) {
+            return Some(answer);
+        }
+    }
+    None
+}

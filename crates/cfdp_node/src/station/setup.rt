@@ -1,0 +1,98 @@
+//! What the words behind `--set` set.
+ghost use Rattle.std.specs.Prelude.{IfSome};
+ghost use Rattle.link_sim.specs.WorldConfig.{IsWorldConfig};
+
+use crate::script::command::parse_setting;
+use crate::script::settings::{Setting, Settings};
+use cfdp_station::LinkConfig;
+use link_sim::WorldConfig;
+
+/// The frames of one direction, as numbers that may fit no frame.
+#[derive(Clone, Copy)]
+struct Lane {
+    channel: u64,
+    apid: u64,
+}
+
+/// What is set of a station and its link.
+#[derive(Clone, Copy)]
+pub struct StationSetup {
+    settings: Settings,
+    spacecraft: u64,
+    own: Lane,
+    peer: Lane,
+}
+
+impl StationSetup {
+    /// What holds without `--set`: of both stations that with the lesser id sends as the first one
+    /// of a script.
+    pub fn new(is_lesser: bool, first_number: u64) -> StationSetup {
+        let one = Lane {
+            channel: 5,
+            apid: 100,
+        };
+        let two = Lane {
+            channel: 6,
+            apid: 101,
+        };
+        let (own, peer) = if is_lesser { (one, two) } else { (two, one) };
+        StationSetup {
+            settings: Settings {
+                number_width: 8,
+                first_number,
+                ..Settings::DEFAULT
+            },
+            spacecraft: 42,
+            own,
+            peer,
+        }
+    }
+
+    /// Sets the value of a key. False where there is no such key.
+    pub fn set(&mut self, key: &str, value: u64) -> bool {
+        if key == "spacecraft" {
+            self.spacecraft = value;
+        } else if key == "channel" {
+            self.own.channel = value;
+        } else if key == "apid" {
+            self.own.apid = value;
+        } else if key == "peer_channel" {
+            self.peer.channel = value;
+        } else if key == "peer_apid" {
+            self.peer.apid = value;
+        } else if let Some(setting) = parse_setting(key.as_bytes()) {
+            self.settings.set(setting, value);
+        } else {
+            return false;
+        }
+        true
+    }
+
+    /// The first setting of those of scripts whose value is out of its range.
+    pub fn out_of_range(&self) -> Option<Setting> {
+        self.settings.out_of_range()
+    }
+
+    /// The configuration of this station and its peer, of which that with the lesser id is the
+    /// first; `None` where they can't be set up so.
+    pub fn config(&self, id: u64, peer: u64) -> Option<WorldConfig>
+        ensures { IfSome result IsWorldConfig }
+    {
+        let (down, up) = (self.link(self.own)?, self.link(self.peer)?);
+        if id < peer {
+            self.settings.pair(id, peer, down, up)
+        } else {
+            self.settings.pair(peer, id, up, down)
+        }
+    }
+
+    /// A direction of the link, where each value fits its field.
+    fn link(&self, lane: Lane) -> Option<LinkConfig> {
+        Some(LinkConfig {
+            spacecraft: u8::try_from(self.spacecraft).ok()?,
+            channel: u8::try_from(lane.channel).ok()?,
+            zone: u16::try_from(self.settings.zone).ok()?,
+            apid: u16::try_from(lane.apid).ok()?,
+        })
+    }
+}

@@ -1,0 +1,225 @@
+//! One who looks on at a run: at a script's, or at turns over two wires.
+ghost use Rattle.link_sim.specs.WorldConfig.{IsWorldConfig};
+
+use crate::report::condition::Conditions;
+use crate::watch::dropped::Dropped;
+use crate::watch::frames::Watch;
+use crate::watch::lookout::{Lookout, Passed};
+use crate::watch::sighting::{Deed, Log};
+use cfdp_station::Station;
+use cfdp_store::{Inbox, Outbox};
+use link_sim::{Event, FrameLink, Side, Witness, WorldConfig};
+use std::alloc::{AllocError, Global};
+
+/// One who looks on at a run, or nobody.
+#[derive(Drop)]
+pub enum Onlooker {
+    /// Nobody: nothing is seen.
+    Nobody,
+    /// One who sees all that passes.
+    Somebody(Seen),
+}
+
+impl Onlooker {
+    /// Before the first event of two stations with these settings.
+    ///
+    /// # Errors
+    ///
+    /// `AllocError` where there is no memory.
+    pub fn new(alloc: Global, config: WorldConfig, is_watched: bool) -> Result<Onlooker, AllocError>
+        requires { IsWorldConfig config }
+    {
+        if is_watched {
+            Ok(Onlooker::Somebody(Seen::new(alloc, config)?))
+        } else {
+            Ok(Onlooker::Nobody)
+        }
+    }
+
+    /// What was seen; `None` where nobody looked on.
+    pub fn into_seen(self) -> Option<Seen> {
+        match self {
+            Onlooker::Nobody => None,
+            Onlooker::Somebody(seen) => Some(seen),
+        }
+    }
+}
+
+/// The steps of a script are lines of it.
+impl Witness for Onlooker {
+    fn saw<O: Outbox, I: Inbox>(
+        &mut self,
+        event: &Event,
+        stations: (&Station<O, I>, &Station<O, I>),
+        frames: (&FrameLink, &FrameLink),
+    ) {
+        match self {
+            Onlooker::Nobody => {}
+            Onlooker::Somebody(seen) => seen.look(event, stations, frames),
+        }
+    }
+
+    fn comes_to(&mut self, step: usize) {
+        match self {
+            Onlooker::Nobody => {}
+            Onlooker::Somebody(seen) => seen.log.comes_to(step),
+        }
+    }
+}
+
+/// The steps are turns.
+impl Lookout for Onlooker {
+    fn begins(&mut self, turn: u64) {
+        match self {
+            Onlooker::Nobody => {}
+            Onlooker::Somebody(seen) => seen.log.comes_to(turn as usize),
+        }
+    }
+
+    fn sees<O: Outbox, I: Inbox>(
+        &mut self,
+        side: Side,
+        passed: Passed<'_>,
+        station: &Station<O, I>,
+    ) {
+        match self {
+            Onlooker::Nobody => {}
+            Onlooker::Somebody(seen) => seen.look_at(side, passed, station),
+        }
+    }
+
+    fn yields(&mut self) {}
+
+    fn ends(&mut self) {}
+}
+
+/// What was seen so far of a run.
+#[derive(Drop)]
+pub struct Seen {
+    /// The octets of a frame's packet zone.
+    pub zone: u16,
+    /// What the stations did, event by event.
+    pub log: Log,
+    /// Which conditions they told their users.
+    pub conditions: Conditions,
+    /// Either station.
+    pub one: SeenStation,
+    pub two: SeenStation,
+}
+
+impl Seen {
+    /// Before the first event of two stations with these settings.
+    ///
+    /// # Errors
+    ///
+    /// `AllocError` where there is no memory.
+    fn new(alloc: Global, config: WorldConfig) -> Result<Seen, AllocError>
+        requires { IsWorldConfig config }
+    {
+        Ok(Seen {
+            zone: config.one.down.zone,
+            log: Log::new(alloc),
+            conditions: Conditions::new(),
+            one: SeenStation::new(Side::One, Watch::new(alloc, Side::One, config.one.down)?),
+            two: SeenStation::new(Side::Two, Watch::new(alloc, Side::Two, config.two.down)?),
+        })
+    }
+
+    /// Notes what passed in an event of a script: the time that was told, frames and the PDUs in
+    /// them, what was dropped, and what was told to users.
+    fn look<O: Outbox, I: Inbox>(
+        &mut self,
+        event: &Event,
+        stations: (&Station<O, I>, &Station<O, I>),
+        frames: (&FrameLink, &FrameLink),
+    ) {
+        let (log, conditions) = (&mut self.log, &mut self.conditions);
+        log.next_event();
+        if let Event::Tick { at, now } = event {
+            log.note_words(*at, Deed::Ticks, now);
+        }
+        self.one.frames.look(frames.0, log);
+        self.two.frames.look(frames.1, log);
+        self.one.look(stations.0, conditions, log);
+        self.two.look(stations.1, conditions, log);
+    }
+
+    /// Notes the same of what passed at a station in a turn.
+    fn look_at<O: Outbox, I: Inbox>(
+        &mut self,
+        side: Side,
+        passed: Passed<'_>,
+        station: &Station<O, I>,
+    ) {
+        let (one, two, log) = (&mut self.one, &mut self.two, &mut self.log);
+        log.next_event();
+        if let Passed::Ticked(now) = passed {
+            log.note_words(side, Deed::Ticks, &now);
+        }
+        match side {
+            Side::One => {
+                note_frame(passed, &mut one.frames, &mut two.frames, log);
+                one.look(station, &mut self.conditions, log);
+            }
+            Side::Two => {
+                note_frame(passed, &mut two.frames, &mut one.frames, log);
+                two.look(station, &mut self.conditions, log);
+            }
+        }
+    }
+}
+
+/// Notes the frame that passed at a station, if one did, with the PDUs in it. Its own frames are
+/// those that it sends.
+fn note_frame(passed: Passed<'_>, own: &mut Watch, other: &mut Watch, log: &mut Log) {
+    match passed {
+        Passed::Put | Passed::Ticked(_) | Passed::Polled(_) => {}
+        Passed::Left { frame, is_sent } => {
+            own.leaves(frame, log);
+            if !is_sent {
+                own.loses(frame, log);
+            }
+        }
+        Passed::Took(frame) => other.arrives(frame, log),
+    }
+}
+
+/// What was seen so far of a station.
+#[derive(Drop)]
+pub struct SeenStation {
+    side: Side,
+    /// What it dropped.
+    pub dropped: Dropped,
+    // How many of its indications were seen.
+    told: usize,
+    // The frames that it sends.
+    frames: Watch,
+}
+
+impl SeenStation {
+    /// Before its first event.
+    fn new(side: Side, frames: Watch) -> SeenStation {
+        SeenStation {
+            side,
+            dropped: Dropped::new(side),
+            told: 0,
+            frames,
+        }
+    }
+
+    /// Notes what it has dropped since the last look, and what it told its user.
+    fn look<O: Outbox, I: Inbox>(
+        &mut self,
+        station: &Station<O, I>,
+        conditions: &mut Conditions,
+        log: &mut Log,
+    ) {
+        self.dropped.look(station, log);
+        let all = station.indications();
+        for indication in all.get(self.told..).unwrap_or(&[]) {
+            log.note_told(self.side, indication);
+            conditions.note(indication);
+        }
+        self.told = all.len();
+    }
+}

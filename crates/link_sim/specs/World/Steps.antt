@@ -1,0 +1,282 @@
+-- What each event does to two stations and the frames between them.
+use Rattle.std.specs.Prelude.{◌≡◌, ◌≢◌, ◌⊎◌, ◌<◌, ◌≤◌, ℕ, ◌+◌, Bool, true, false, List, [], ◌∷◌, ◌++◌, length, slice_index_or, Some}
+use Rattle.cfd_bits.specs.Counting.{raised}
+use Rattle.cfdp_header.specs.declared.value.TransactionId.{TransactionId}
+use Rattle.mpdu.specs.Packing.{flush_of}
+use Rattle.link_stack.specs.Frames.{packet_of}
+use Rattle.link_stack.specs.Downward.{packing}
+use Rattle.cfdp_store.specs.declared.stored.Stored.TheVariants as storeds
+use Rattle.cfdp_store.specs.Stores.{Counts}
+use Rattle.cfdp_entity.specs.declared.call.Call.{Call}
+use Rattle.cfdp_entity.specs.declared.call.Call.TheVariants as calls
+use Rattle.cfdp_entity.specs.declared.error.PutError.{PutError}
+use Rattle.cfdp_entity.specs.declared.error.PutError.TheVariants as put_errors
+use Rattle.cfdp_entity.specs.declared.error.CallError.{CallError}
+use Rattle.cfdp_entity.specs.declared.error.CallError.TheVariants as call_errors
+use Rattle.cfdp_entity.specs.Calls.{IsCalled, asks_inbox, call_refusal}
+use Rattle.cfdp_entity.specs.Entity.{with_table}
+use Rattle.cfdp_entity.specs.Polling.{Place, Rests, turn, served}
+use Rattle.cfdp_entity.specs.Putting.{Accepts, IsPutRefusal, put_refusal, stored_by_error}
+use Rattle.cfdp_entity.specs.Sound.{SpellsTurn}
+use Rattle.cfdp_entity.specs.Table.{Ticks, data_at}
+use Rattle.cfdp_station.specs.Polling.{next_pdu}
+use Rattle.cfdp_station.specs.Station.{KeepsLink}
+use Rattle.cfdp_station.specs.Taking.{GivesPdus, HearsAll}
+use Rattle.link_sim.specs.declared.side.Side.{Side}
+use Rattle.link_sim.specs.declared.side.Side.TheVariants.{One}
+use Rattle.link_sim.specs.declared.event.Event.{Event}
+use Rattle.link_sim.specs.declared.event.Event.TheVariants as event
+use Rattle.link_sim.specs.declared.event.Applied.{Applied}
+use Rattle.link_sim.specs.declared.event.Applied.TheVariants as did
+use Rattle.link_sim.specs.declared.event.Refusal.TheVariants as refusal
+use Rattle.link_sim.specs.FrameLink.{most_struck}
+use Rattle.link_sim.specs.AtStation.{KeepsFailures, KeepsOutbox, CountsPut}
+use Rattle.link_sim.specs.OneWay.{SendsMore, SendsNone, HearsMore}
+use Rattle.link_sim.specs.Sides.{other}
+use Rattle.link_sim.specs.World.State.{LinkState, WorldState, entity_at, link_from, station_at, way_from}
+
+-- ---- what stays
+-- The other station, and what it sent, are as they were.
+pub record Spares (s : Side) (old new : WorldState) : Type 0 where
+  pub station : station_at (other s) new ≡ station_at (other s) old
+  pub link : link_from (other s) new ≡ link_from (other s) old
+
+-- No put was accepted, and no time told.
+pub record KeepsCounts (old new : WorldState) : Type 0 where
+  pub puts : new.puts ≡ old.puts
+  pub ticks : new.ticks ≡ old.ticks
+
+-- Of both stations and both links only the entity of one station may have changed.
+pub record KeepsLinks (s : Side) (old new : WorldState) : Type 0 where
+  pub ends : KeepsLink (station_at s old) (station_at s new)
+  pub link : link_from s new ≡ link_from s old
+  pub spares : Spares s old new
+
+-- Nothing changed but, at most, how often the stores of one station failed.
+pub record Stays (s : Side) (old new : WorldState) : Type 0 where
+  pub entity : entity_at s new ≡ entity_at s old
+  pub links : KeepsLinks s old new
+  pub counts : KeepsCounts old new
+
+-- Less than a zone waits of what a station sent: every whole one is on the link, as a frame.
+abbrev pub NoneWhole : Side → WorldState → Type 0
+NoneWhole s w = length (station_at s w).down.waiting < (station_at s w).down.link.zone
+
+-- A call at this station found no memory: nothing changed.
+abbrev pub FindsNoMemory : Side → (old new : WorldState) → Type 0
+FindsNoMemory s old new = new ≡ old
+
+-- ---- calls of a station's user
+-- A put was accepted, and is the last one now.
+pub record TakesPut (s : Side) (source destination : List ℕ) (old new : WorldState) : Type 0 where
+  pub id : TransactionId
+  pub accepts : Accepts source destination id (entity_at s old) (entity_at s new)
+  pub failures : KeepsFailures (station_at s old).entity (station_at s new).entity
+  pub links : KeepsLinks s old new
+  pub puts : new.puts
+      ≡ old.puts ++ record { id = id; source = source; destination = destination } ∷ []
+  pub ticks : new.ticks ≡ old.ticks
+
+-- A put was refused by this cause.
+pub record RefusesPut (s : Side) (source destination : List ℕ) (by : PutError)
+    (old new : WorldState) : Type 0 where
+  pub no_memory : by ≢ put_errors.NoMemory
+  pub cause : IsPutRefusal
+      (put_refusal (stored_by_error by) source destination (entity_at s old)) by
+  pub stays : Stays s old new
+  pub failures : CountsPut by (station_at s old).entity (station_at s new).entity
+
+abbrev pub Puts : Applied → Side → (source destination : List ℕ) → (old new : WorldState) → Type 0
+Puts did.Applied s source destination old new = TakesPut s source destination old new
+Puts did.Nothing s source destination old new = ⊥
+Puts (did.Refused (refusal.Put by)) s source destination old new =
+    RefusesPut s source destination by old new
+Puts (did.Refused (refusal.Call by)) s source destination old new = ⊥
+Puts (did.Refused refusal.LossRunTooLong) s source destination old new = ⊥
+
+-- A call on a transaction was one step of its record. Only one that gives up what is received may
+-- ask something of the inbox, and so fail there.
+pub record StepsAt (s : Side) (c : Call) (id : TransactionId) (old new : WorldState) : Type 0 where
+  pub called : IsCalled c id (entity_at s old) (entity_at s new)
+  pub failures : KeepsOutbox (station_at s old).entity (station_at s new).entity
+  pub inbox : asks_inbox c id (entity_at s old).table ≡ false
+      → (station_at s new).entity.inbox_failures ≡ (station_at s old).entity.inbox_failures
+  pub links : KeepsLinks s old new
+  pub counts : KeepsCounts old new
+
+-- It was refused by this cause.
+pub record RefusesCall (s : Side) (c : Call) (id : TransactionId) (by : CallError)
+    (old new : WorldState) : Type 0 where
+  pub no_memory : by ≢ call_errors.NoMemory
+  pub cause : call_refusal c id (entity_at s old).table ≡ Some by
+  pub same : new ≡ old
+
+abbrev pub Calls : Applied → Side → Call → TransactionId → (old new : WorldState) → Type 0
+Calls did.Applied s c id old new = StepsAt s c id old new
+Calls did.Nothing s c id old new = ⊥
+Calls (did.Refused (refusal.Put by)) s c id old new = ⊥
+Calls (did.Refused (refusal.Call by)) s c id old new = RefusesCall s c id by old new
+Calls (did.Refused refusal.LossRunTooLong) s c id old new = ⊥
+
+-- The time was told to a station.
+pub record TellsTime (s : Side) (now : ℕ) (old new : WorldState) : Type 0 where
+  pub ticked : Ticks now (entity_at s old).table (entity_at s new).table
+  pub table : entity_at s new ≡ with_table (entity_at s old) (entity_at s new).table
+  pub failures : KeepsOutbox (station_at s old).entity (station_at s new).entity
+  pub links : KeepsLinks s old new
+  pub puts : new.puts ≡ old.puts
+  pub ticks : new.ticks ≡ raised old.ticks
+
+-- ---- what a station sends
+-- The end that receives, the marks and the run are as they were: only what a station sent grew.
+pub record KeepsMarks (s : Side) (old new : WorldState) : Type 0 where
+  pub up : (station_at s new).up ≡ (station_at s old).up
+  pub marks : (link_from s new).marks ≡ (link_from s old).marks
+  pub run : (link_from s new).run ≡ (link_from s old).run
+  pub spares : Spares s old new
+  pub counts : KeepsCounts old new
+
+-- The PDU whose turn it was was taken, and its one packet is behind all that were sent.
+pub record SendsOne (s : Side) (old new : WorldState) : Type 0 where
+  pub served : entity_at s new ≡ served storeds.Done (turn (entity_at s old)) (entity_at s old)
+  pub spells : SpellsTurn (turn (entity_at s old)) (entity_at s old)
+  pub failures : KeepsFailures (station_at s old).entity (station_at s new).entity
+  pub sends : let down = (station_at s old).down in let pdu = next_pdu (entity_at s old) in
+      SendsMore (way_from s old) (way_from s new) (packet_of down.link down.packet_count pdu ∷ [])
+      (pdu ∷ [])
+  pub none_whole : NoneWhole s new
+  pub unflushed : (station_at s new).down.flushed ≡ false
+  pub marks : KeepsMarks s old new
+
+-- The outbox failed to give the file data that were due, and that was counted: no PDU moved.
+pub record FailsSource (s : Side) (old new : WorldState) : Type 0 where
+  pub place : ℕ
+  pub is_next : turn (entity_at s old) ≡ Place place
+  pub carries : data_at place (entity_at s old).table ≡ true
+  pub failed : Counts storeds.Refused (station_at s old).entity.outbox_failures
+      (station_at s new).entity.outbox_failures
+  pub inbox : (station_at s new).entity.inbox_failures ≡ (station_at s old).entity.inbox_failures
+  pub served : entity_at s new ≡ served storeds.Refused (turn (entity_at s old)) (entity_at s old)
+  pub links : KeepsLinks s old new
+  pub counts : KeepsCounts old new
+
+abbrev pub Polls : Applied → Side → (old new : WorldState) → Type 0
+Polls did.Applied s old new = SendsOne s old new ⊎ FailsSource s old new
+Polls did.Nothing s old new = (turn (entity_at s old) ≡ Rests) × (new ≡ old)
+Polls (did.Refused by) s old new = ⊥
+
+-- The begun frame was filled by at most one idle packet, and left.
+pub record Fills (s : Side) (old new : WorldState) : Type 0 where
+  pub entity : (station_at s new).entity ≡ (station_at s old).entity
+  pub sends : SendsMore (way_from s old) (way_from s new)
+      (flush_of (packing (station_at s old).down)) []
+  pub most : length (flush_of (packing (station_at s old).down)) ≤ 1
+  pub none_whole : NoneWhole s new
+  pub flushed : flush_of (packing (station_at s old).down) ≡ []
+      → (station_at s new).down.flushed ≡ (station_at s old).down.flushed
+  pub marks : KeepsMarks s old new
+
+abbrev pub Flushes : Applied → Side → (old new : WorldState) → Type 0
+Flushes did.Applied s old new = Fills s old new
+    × (length (link_from s old).frames < length (link_from s new).frames)
+Flushes did.Nothing s old new =
+    (flush_of (packing (station_at s old).down) ≡ []) × (new ≡ old)
+Flushes (did.Refused by) s old new = ⊥
+
+-- ---- frames that arrive or are lost
+-- No frame waits of what a station sent.
+abbrev pub NoneWaits : Side → WorldState → Type 0
+NoneWaits s w = length (link_from s w).frames ≤ length (link_from s w).marks
+
+-- the link once its oldest waiting frame was taken
+abbrev pub marked : Bool → ℕ → LinkState → LinkState
+marked mark run k = record k { marks = k.marks ++ mark ∷ []; run = run }
+
+-- the oldest frame that waits on a link
+abbrev pub oldest_of : LinkState → List ℕ
+oldest_of k = slice_index_or k.frames (length k.marks) []
+
+-- The oldest waiting frame reached the other station, whose receiving end took it and gave the PDUs
+-- that came up, and whose entity heard these in order.
+pub record DeliversFrame (s : Side) (old new : WorldState) : Type 0 where
+  pub waits : length (link_from s old).marks < length (link_from s old).frames
+  pub link : link_from s new ≡ marked true 0 (link_from s old)
+  pub given : List (List ℕ)
+  pub gives : GivesPdus (oldest_of (link_from s old)) (station_at (other s) old).up
+      (station_at (other s) new).up given
+  pub hears : HearsMore (way_from s old) (way_from s new) given
+  pub heard : HearsAll given (station_at (other s) old).entity (station_at (other s) new).entity
+  pub down : (station_at (other s) new).down ≡ (station_at (other s) old).down
+  pub station : station_at s new ≡ station_at s old
+  pub back : link_from (other s) new ≡ link_from (other s) old
+  pub counts : KeepsCounts old new
+
+abbrev pub Delivers : Applied → Side → (old new : WorldState) → Type 0
+Delivers did.Applied s old new = DeliversFrame s old new
+Delivers did.Nothing s old new = NoneWaits s old × (new ≡ old)
+Delivers (did.Refused by) s old new = ⊥
+
+-- The oldest waiting frame was lost.
+pub record StrikesFrame (s : Side) (old new : WorldState) : Type 0 where
+  pub waits : length (link_from s old).marks < length (link_from s old).frames
+  pub few : (link_from s old).run < most_struck
+  pub link : link_from s new ≡ marked false ((link_from s old).run + 1) (link_from s old)
+  pub sends : SendsNone (way_from s old) (way_from s new)
+  pub station : station_at s new ≡ station_at s old
+  pub spares : Spares s old new
+  pub counts : KeepsCounts old new
+
+-- One more loss in a row would be taken for none.
+pub record IsTooLong (s : Side) (old new : WorldState) : Type 0 where
+  pub waits : length (link_from s old).marks < length (link_from s old).frames
+  pub run : (link_from s old).run ≡ most_struck
+  pub same : new ≡ old
+
+abbrev pub Strikes : Applied → Side → (old new : WorldState) → Type 0
+Strikes did.Applied s old new = StrikesFrame s old new
+Strikes did.Nothing s old new = NoneWaits s old × (new ≡ old)
+Strikes (did.Refused (refusal.Put by)) s old new = ⊥
+Strikes (did.Refused (refusal.Call by)) s old new = ⊥
+Strikes (did.Refused refusal.LossRunTooLong) s old new = IsTooLong s old new
+
+-- ---- all events
+abbrev pub IsApplied : Applied → Type 0 → Type 0
+IsApplied did.Applied does = does
+IsApplied _ does = ⊥
+
+-- An event did this, and led from the old world to the new one.
+abbrev pub Steps : Event → Applied → (old new : WorldState) → Type 0
+Steps (event.Put s source destination) did old new = Puts did s source destination old new
+Steps (event.Cancel s id) did old new = Calls did s calls.Cancel id old new
+Steps (event.Suspend s id) did old new = Calls did s calls.Suspend id old new
+Steps (event.Resume s id) did old new = Calls did s calls.Resume id old new
+Steps (event.Prompt s id keep_alive) did old new = Calls did s (calls.Prompt keep_alive) id old new
+Steps (event.Poll s) did old new = Polls did s old new
+Steps (event.Flush s) did old new = Flushes did s old new
+Steps (event.Tick s now) did old new = IsApplied did (TellsTime s now old new)
+Steps (event.Deliver s) did old new = Delivers did s old new
+Steps (event.Strike s) did old new = Strikes did s old new
+
+-- the station that an event is about
+abbrev pub side_in : Event → Side
+side_in (event.Put s source destination) = s
+side_in (event.Cancel s id) = s
+side_in (event.Suspend s id) = s
+side_in (event.Resume s id) = s
+side_in (event.Prompt s id keep_alive) = s
+side_in (event.Poll s) = s
+side_in (event.Flush s) = s
+side_in (event.Tick s now) = s
+side_in (event.Deliver s) = s
+side_in (event.Strike s) = s
+
+-- The event needs memory: to take a frame off the link needs none.
+abbrev pub WantsMemory : Event → Type 0
+WantsMemory (event.Deliver s) = ⊥
+WantsMemory (event.Strike s) = ⊥
+WantsMemory _ = Unit {0}
+
+-- The event may publish a file at this station: a frame of the other one reaches it.
+abbrev pub PublishesAt : Side → Event → Type 0
+PublishesAt s (event.Deliver from) = s ≡ other from
+PublishesAt s _ = ⊥

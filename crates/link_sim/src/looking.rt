@@ -1,0 +1,21 @@
+// What a user can look at, beside what every driver asks for.
+use crate::side::Side;
+use crate::witness::Witness;
+use crate::world::World;
+use cfdp_store::{Inbox, Outbox};
+use std::fmt;
+
+impl<O: Outbox, I: Inbox, W: Witness> fmt::Debug for World<O, I, W> {
+    /// Both stations, how many frames each sent, how many puts were accepted, and how often a
+    /// station was told the time.
+    fn fmt<F: fmt::Write>(&self, f: &mut fmt::Formatter<F>) -> fmt::Result {
+        f.debug_struct("World")
+            .field("one", self.station(Side::One))
+            .field("two", self.station(Side::Two))
+            .field("frames_of_one", &self.frames(Side::One).count())
+            .field("frames_of_two", &self.frames(Side::Two).count())
+            .field("puts", &self.puts().len())
+            .field("ticks", &self.ticks())
+            .finish()
+    }
+}
