@@ -1,4 +1,4 @@
--- Timers are armed as the records wait for them: what each step of a table makes of that.
+-- Exported: timers are armed as the records wait for them, and what each step of a table makes of that.
 use Rattle.std.proofs.Common.{◌≡◌, ℕ, zero, suc, ◌<◌, arith, length, get_or, Bool, true, false, not, ◌&&◌, ◌||◌, ◌⊎◌, inl, inr, cond, List, [], ◌∷◌, ◌++◌, nat_lt, min, ◌==◌, slice_get, take, Option, Some, None, is_some, max, refl, sym, ap, subst, ◌∙◌, if◌then◌else◌}
 use Rattle.std.specs.List.{IsDistinct}
 use Rattle.std.specs.Map.{keys_of}

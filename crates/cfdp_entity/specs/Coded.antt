@@ -1,4 +1,4 @@
--- By what the state of an entity is coded, and the state of all that has one.
+-- How states are coded: the sets of codes that `Prim.hlevel` looks through for an entity and all above it.
 use Rattle.std.specs.Coded.{codes, coded_ℕ, coded_list}
 use Rattle.std.specs.Ordering.{nat_cmp}
 use Rattle.std.specs.Cmp.Lexicographic.{slice_cmp}

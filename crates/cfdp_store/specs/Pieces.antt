@@ -1,4 +1,4 @@
--- Only proofs need this file: staged octets kept as the pieces in which they came.
+-- Proof-only: staged octets kept as the pieces in which they came.
 use Rattle.std.specs.Prelude.{List, [], ◌∷◌}
 use Rattle.std.specs.FinMap.{empty}
 use Rattle.cfdp_store.specs.declared.pieces.Piece.{Piece}

@@ -1,4 +1,4 @@
--- The timers of a transaction, once they were set by what it waits for.
+-- Exported: the timers of a transaction, once they were set by what it waits for.
 use Rattle.std.proofs.Common.{◌≡◌, ◌≢◌, ℕ, true, false, true≢false, cond, refl, sym, ap, subst, ◌∙◌}
 use Rattle.std.specs.Cmp.{Equal-is}
 use Rattle.std.specs.FinMap as map

@@ -3,7 +3,7 @@
 use Rattle.std.specs.Prelude.{ℕ, ◌+◌, ◌-◌, ◌*◌, length}
 use Rattle.link_sim.specs.OneWay.{OneWayState, on_way}
 use Rattle.link_sim.specs.Work.{entity_work, texts_work}
-use Rattle.link_sim.specs.World.{WorldState, way_from}
+use Rattle.link_sim.specs.World.State.{WorldState, way_from}
 use Rattle.link_sim.specs.declared.side.Side.TheVariants.{One, Two}
 
 -- no file's size, and no offset that is held, passes this

@@ -1,4 +1,4 @@
--- Exported. Two stations that move as those of a world do, one event after another, but keep their frames back
+-- Exported: two stations that move as those of a world do, one event after another, but keep their frames back
 -- until they were polled and flushed.
 use Rattle.std.proofs.Common.{◌≡◌, ℕ, zero, suc, ◌+◌, ◌*◌, ◌<◌, ◌≤◌, true, false, List, [], ◌∷◌, ◌++◌, length, drop, get_or, replicate, refl, sym, ap, subst, ◌∙◌, inl, inr, arith, length-append}
 use Rattle.std.proofs.lemmas.List.{append-nil, append_assoc}

@@ -1,4 +1,4 @@
--- Exported. A station that keeps its frames back until it was polled and flushed, beside one of a world, whose
+-- A station that keeps its frames back until it was polled and flushed, beside one of a world, whose
 -- frames leave at once: both do the same, and are the same once all frames have left.
 use Rattle.std.proofs.Common.{◌≡◌, ℕ, zero, suc, ◌+◌, ◌-◌, ◌*◌, ◌%◌, ◌<◌, ◌≤◌, Bool, true, false, ◌||◌, ◌==◌, if◌then◌else◌, None, List, [], ◌∷◌, ◌++◌, ◌⊎◌, length, take, drop, get_or, refl, sym, ap, subst, ◌∙◌, inl, inr, arith, length-append, length-drop}
 use Rattle.std.proofs.lemmas.Bool.{cases_lt}

@@ -1,4 +1,4 @@
--- Exported. What every event keeps beside the promises: between events no whole zone waits, and no two puts
+-- What every event keeps beside the promises: between events no whole zone waits, and no two puts
 -- have the same id.
 use Rattle.std.proofs.Common.{◌≡◌, ◌≢◌, ◌<◌, length, List, [], ◌∷◌, ◌++◌, ◌⊎◌, Contains, ℕ, zero, suc, refl, sym, ap, subst, ◌∙◌, inl, inr, arith}
 use Rattle.std.proofs.lemmas.List.Elements.{Contains-append_cases}

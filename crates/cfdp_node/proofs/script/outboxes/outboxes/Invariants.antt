@@ -1,7 +1,7 @@
 use Rattle.std.proofs.Common.{◌≡◌, drop}
 use Rattle.link_sim.specs.declared.side.Side.TheVariants.{One, Two}
-use Rattle.cfdp_node.specs.Outboxes.{outbox_of, with_files}
-use Rattle.cfdp_node.proofs.outboxes.outboxes.Given as goal
+use Rattle.cfdp_node.specs.Script.Outboxes.{outbox_of, with_files}
+use Rattle.cfdp_node.proofs.script.outboxes.outboxes.Given as goal
 
 -- with the files that are left these are all files
 abbrev pub invariant-loop-file : goal.invariant-loop-file
