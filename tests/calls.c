@@ -417,6 +417,7 @@ static void decodes(void)
     IS(it.id.number, 1);
     IS(it.destination, 2);
     IS(it.toward_sender, 0);
+    IS(it.large, 0);
     it = decoded("20001213000100000001000207000000000505612E74787405622E747874", CFDP_OK);
     IS(it.kind, 7);
     IS(it.size, 5);
@@ -425,6 +426,10 @@ static void decodes(void)
     IS(it.kind, 4);
     IS(it.checksum, 0xD7656C6C);
     IS(it.size, 5);
+    it = decoded("21000E1300010000000100020400000000000000000100000000", CFDP_OK);
+    IS(it.kind, 4);
+    IS(it.large, 1);
+    IS(it.size, 0x100000000);
     it = decoded("280003130001000000010002064102", CFDP_OK);
     IS(it.kind, 6);
     IS(it.toward_sender, 1);

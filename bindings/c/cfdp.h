@@ -58,7 +58,7 @@ enum {
 
     CFDP_FULL = 41, /* cfdp_poll: the PDU doesn't fit until frames were taken off */
 
-    /* cfdp_decode: 50 and the number of the refusal (docs/FORMATS.md), 51 to 61 */
+    /* cfdp_decode: 50 and the number of the refusal (docs/FORMATS.md), 51 to 61 but 56 */
     CFDP_BAD_PDU = 50
 };
 
@@ -267,6 +267,7 @@ typedef struct cfdp_pdu {
     uint8_t acknowledged;  /* of an ACK: 4 an EOF, 5 a Finished */
     uint8_t checksum_kind; /* of Metadata */
     uint8_t keep_alive;    /* of a Prompt: 1 for a Keep Alive, 0 for a NAK */
+    uint8_t large;         /* 1 where sizes and offsets have 8 octets, 0 where they have 4 */
 } cfdp_pdu;
 
 /* Reads a PDU. CFDP_OK, or CFDP_BAD_PDU and the number of the first thing that is wrong. */

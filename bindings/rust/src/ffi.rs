@@ -94,6 +94,7 @@ pub struct Pdu {
     pub acknowledged: u8,
     pub checksum_kind: u8,
     pub keep_alive: u8,
+    pub large: u8,
 }
 
 /// A handle. Its pointer keeps it on the thread that opened it.

@@ -90,6 +90,7 @@ pdu_of_kind kind h = record {
   acknowledged = 0;
   checksum_kind = 0;
   keep_alive = 0;
+  large = bit h.large;
 }
 
 abbrev pub said_by : Header → Content → CfdpPdu

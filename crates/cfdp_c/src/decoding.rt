@@ -46,6 +46,8 @@ pub struct CfdpPdu {
     pub checksum_kind: u8,
     /// 1 where a Keep Alive is asked for, 0 where a NAK is (9).
     pub keep_alive: u8,
+    /// 1 where sizes and offsets have 8 octets, 0 where they have 4.
+    pub large: u8,
 }
 
 impl CfdpPdu {
@@ -71,6 +73,7 @@ impl CfdpPdu {
             acknowledged: 0,
             checksum_kind: 0,
             keep_alive: 0,
+            large: u8::from(header.large),
         }
     }
 
@@ -143,7 +146,7 @@ impl CfdpPdu {
 }
 
 /// Reads a PDU. Answers 0, or 50 more than the number of the first thing that is wrong with it, 1
-/// to 11.
+/// to 11, but 6.
 #[unsafe(no_mangle)]
 pub extern "C" fn cfdp_decode(pdu: &[u8], out: &mut CfdpPdu) -> u32
     ensures answer { result ≡ pdu_answer (pdu_fault pdu.now) }

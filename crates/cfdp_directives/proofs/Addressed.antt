@@ -8,8 +8,8 @@ use Rattle.cfdp_header.specs.Header.{FitsHeader}
 use Rattle.cfdp_directives.specs.Pdu.Written.{content_len, FitsContent, CanWrite}
 use Rattle.cfdp_directives.specs.Pdu.Addressing.{header_by, header_of, FitsAddressing}
 
-pub header_fits : (a : Addressing) (file_data toward_sender : Bool) (length : ℕ) → FitsAddressing a → length < 2 ^ 16 → FitsHeader (header_by a file_data toward_sender length)
-header_fits a file_data toward_sender length fits short = record {
+pub header_fits : (a : Addressing) (large file_data toward_sender : Bool) (length : ℕ) → FitsAddressing a → length < 2 ^ 16 → FitsHeader (header_by a large file_data toward_sender length)
+header_fits a large file_data toward_sender length fits short = record {
   id_width = fits.id.id_width;
   number_width = fits.id.number_width;
   length = short;
@@ -18,9 +18,9 @@ header_fits a file_data toward_sender length fits short = record {
   destination = fits.destination;
 }
 
-pub can_write : (a : Addressing) (v : Content) → FitsAddressing a → FitsContent file_size_octets v → content_len file_size_octets v < 2 ^ 16 → CanWrite (header_of a v) v
-can_write a v fits content short = record {
-  header = header_fits a (is_file_data v) (goes_toward_sender v) (content_len file_size_octets v) fits short;
+pub can_write : (a : Addressing) (large : Bool) (v : Content) → FitsAddressing a → FitsContent (file_size_octets large) v → content_len (file_size_octets large) v < 2 ^ 16 → CanWrite (header_of a large v) v
+can_write a large v fits content short = record {
+  header = header_fits a large (is_file_data v) (goes_toward_sender v) (content_len (file_size_octets large) v) fits short;
   content = content;
   kind = refl;
   no_segment_metadata = refl;

@@ -5,3 +5,4 @@ pub mod Spelling
 pub mod Sums
 pub mod Puts
 pub mod Addressed
+pub mod Small

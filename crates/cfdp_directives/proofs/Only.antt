@@ -1,5 +1,5 @@
 -- Exported: octets that spell a PDU have no fault, and spell no other.
-use Rattle.std.proofs.Common.{◌≡◌, ℕ, ◌+◌, ◌-◌, ◌%◌, Bool, true, false, ltb, eqb, List, ◌++◌, length, take, drop, Some, None, Result, Ok, Err, refl, sym, ap, subst, ◌∙◌, arith, length-append, length-drop}
+use Rattle.std.proofs.Common.{◌≡◌, ℕ, ◌+◌, ◌-◌, ◌*◌, ◌%◌, ◌≤◌, Bool, true, false, ltb, eqb, eq-eqb, List, ◌++◌, length, take, drop, Some, None, Result, Ok, Err, refl, sym, ap, subst, ◌∙◌, arith, length-append, length-drop}
 use Rattle.std.specs.Prelude.{IfOk, IsOkAnd}
 use Rattle.std.specs.Result.{result_err}
 use Rattle.std.specs.List.{flat_map}
@@ -20,10 +20,10 @@ use Rattle.cfdp_directives.specs.declared.pdu.codes.Acknowledged.{Acknowledged}
 use Rattle.cfdp_directives.specs.declared.pdu.codes.Acknowledged.TheVariants as acknowledged
 use Rattle.cfdp_directives.specs.declared.pdu.content.Pdu.{Pdu}
 use Rattle.cfdp_directives.specs.declared.pdu.error.PduError.{PduError}
-use Rattle.cfdp_directives.specs.Pdu.Codes.{delivery_code, file_status_code, transaction_status_code, acknowledged_code}
+use Rattle.cfdp_directives.specs.Pdu.Codes.{file_size_octets, delivery_code, file_status_code, transaction_status_code, acknowledged_code}
 use Rattle.cfdp_directives.specs.Pdu.Tlv.{Tlv, tlv, tlvs_of}
 use Rattle.cfdp_directives.specs.Pdu.Content.{Content, FileData, Metadata, Eof, Finished, Ack, Nak, Prompt, KeepAlive, view}
-use Rattle.cfdp_directives.specs.Pdu.Grammar.{Says, SpellsPdu, IsFileData, IsMetadata, IsEof, IsFinished, IsAck, IsNak, skipped, lv}
+use Rattle.cfdp_directives.specs.Pdu.Grammar.{Says, SpellsPdu, IsFileData, IsMetadata, IsEof, IsFinished, IsAck, IsNak, skipped, lv, fss}
 use Rattle.cfdp_directives.specs.Pdu.Faults.{has_lv, after_lv, file_data_fault, metadata_fault, eof_fault, finished_fault, ack_fault, nak_fault, content_fault, pdu_fault}
 use Rattle.cfdp_directives.proofs.Options.{reads}
 use Rattle.cfdp_directives.proofs.Ranges.{same_pairs, pairs_even}
@@ -72,10 +72,15 @@ finished_accepted c i s ts d p =
     let long : ltb (length d) 2 ≡ false = le-ltb _ _ p.room in
     rw (long, p.condition_field, p.allowed, p.rest, reads ts) refl
 
-nak_accepted : (s e : ℕ) (ps : List (ℕ × ℕ)) (d : List ℕ) → IsNak 4 s e ps d → nak_fault 4 d ≡ None
-nak_accepted s e ps d p =
+nak_accepted : (large : Bool) (s e : ℕ) (ps : List (ℕ × ℕ)) (d : List ℕ) → IsNak (file_size_octets large) s e ps d → nak_fault (file_size_octets large) d ≡ None
+nak_accepted true s e ps d p =
+    let long : ltb (length d) 17 ≡ false = le-ltb _ _ p.room in
+    let whole = pairs_even 8 ps (drop 17 d) p.rest in
+    let even : (length d - 17) % 16 ≡ 0 = omega (arith, length-drop 17 d) in
+    rw (long, even) refl
+nak_accepted false s e ps d p =
     let long : ltb (length d) 9 ≡ false = le-ltb _ _ p.room in
-    let whole = pairs_even ps (drop 9 d) p.rest in
+    let whole = pairs_even 4 ps (drop 9 d) p.rest in
     let even : (length d - 9) % 8 ≡ 0 = omega (arith, length-drop 9 d) in
     rw (long, even) refl
 
@@ -87,35 +92,37 @@ told : (b : Bool) → eqb (flag b) 1 ≡ b
 told true = refl
 told false = refl
 
-accepted : (h : Header) (v : Content) (d : List ℕ) → Says h v d → content_fault 4 h.file_data h.segment_metadata d ≡ None
-accepted h (FileData offset bytes) d p = rw p.0 (file_data_accepted 4 h.segment_metadata offset bytes d p.1)
+accepted : (h : Header) (v : Content) (d : List ℕ) → Says h v d → content_fault (fss h) h.file_data h.segment_metadata d ≡ None
+accepted h (FileData offset bytes) d p = rw p.0 (file_data_accepted (fss h) h.segment_metadata offset bytes d p.1)
 accepted h (Metadata kind size source destination options) d p =
     let long : ltb (length d) 1 ≡ false = le-ltb _ _ (let r = p.1.room in omega arith) in
-    rw (p.0, long, p.1.code) (metadata_accepted 4 kind size source destination options d p.1)
+    rw (p.0, long, p.1.code) (metadata_accepted (fss h) kind size source destination options d p.1)
 accepted h (Eof c k z ts) d p =
     let long : ltb (length d) 1 ≡ false = le-ltb _ _ (let r = p.1.room in omega arith) in
-    rw (p.0, long, p.1.code) (eof_accepted 4 c k z ts d p.1)
+    rw (p.0, long, p.1.code) (eof_accepted (fss h) c k z ts d p.1)
 accepted h (Finished c i s ts) d p =
     let long : ltb (length d) 1 ≡ false = le-ltb _ _ (let r = p.1.room in omega arith) in
     rw (p.0, long, p.1.code) (finished_accepted c i s ts d p.1)
 accepted h (Nak s e ps) d p =
     let long : ltb (length d) 1 ≡ false = le-ltb _ _ (let r = p.1.room in omega arith) in
-    rw (p.0, long, p.1.code) (nak_accepted s e ps d p.1)
+    rw (p.0, long, p.1.code) (nak_accepted h.large s e ps d p.1)
 accepted h (Prompt k) d p =
     let long : ltb (length d) 1 ≡ false = le-ltb _ _ (let r = p.1.size_octets in omega arith) in
     rw (p.0, long, p.1.code) (rw p.1.size_octets refl)
 accepted h (KeepAlive k) d p =
     let long : ltb (length d) 1 ≡ false = le-ltb _ _ (let r = p.1.size_octets in omega arith) in
-    rw (p.0, long, p.1.code) (rw p.1.size_octets refl)
+    let more : ltb (length d) (1 + fss h) ≡ false = le-ltb _ _ (let r = p.1.size_octets in omega arith) in
+    let all : eqb (length d) (1 + fss h) ≡ true = eq-eqb _ _ p.1.size_octets in
+    rw (p.0, long, p.1.code) (rw (more, all) refl)
 accepted h (Ack of condition status) d p =
     let long : ltb (length d) 1 ≡ false = le-ltb _ _ (let r = p.1.size_octets in omega arith) in
     rw (p.0, long, p.1.code) (ack_accepted of condition status d p.1)
 
-pdu_accepted : (h : Header) (v : Content) (t : List ℕ) → SpellsPdu h v t → pdu_fault t ≡ None
+pub pdu_accepted : (h : Header) (v : Content) (t : List ℕ) → SpellsPdu h v t → pdu_fault t ≡ None
 pdu_accepted h v t p =
     let q = p.header in
     let len : header_len_told t ≡ header_len h.id_width h.number_width = rw (q.id_width, q.number_width) refl in
-    rw (header.accepted h t q, q.file_data, q.segment_metadata, told h.file_data, told h.segment_metadata, len) (accepted h v (drop (header_len h.id_width h.number_width) t) p.content)
+    rw (header.accepted h t q, q.file_data, q.segment_metadata, q.large, told h.file_data, told h.segment_metadata, told h.large, len) (accepted h v (drop (header_len h.id_width h.number_width) t) p.content)
 
 -- ---- no other
 
@@ -163,6 +170,11 @@ same_code acknowledged.Finished acknowledged.Finished e = refl
 same_code acknowledged.Eof acknowledged.Finished e = absurd cc
 same_code acknowledged.Finished acknowledged.Eof e = absurd cc
 
+-- a file-size field has an octet at least
+some : (large : Bool) → 1 ≤ file_size_octets large
+some true = omega arith
+some false = omega arith
+
 pub same : (h : Header) (v w : Content) (d : List ℕ) → Says h v d → Says h w d → v ≡ w
 same h (FileData a b) (FileData a' b') d p q =
     let p' = p.1 in
@@ -194,7 +206,7 @@ same h (Finished a b c o) w d p q = let k = p.1.code in absurd cc
 same h (Nak a b o) (Nak a' b' o') d p q =
     let p' = p.1 in
     let q' = q.1 in
-    let one = same_pairs o o' (drop 9 d) p'.rest q'.rest in
+    let one = same_pairs (fss h) o o' (drop (1 + 2 * fss h) d) (some h.large) p'.rest q'.rest in
     cc
 same h (Nak a b o) w d p q = let k = p.1.code in absurd cc
 same h (Prompt b) (Prompt b') d p q =

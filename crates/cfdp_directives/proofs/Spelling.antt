@@ -1,10 +1,10 @@
 -- Exported: what is written spells the PDU, and no spelling begins another.
-use Rattle.std.proofs.Common.{◌≡◌, ℕ, ◌+◌, ◌*◌, ◌/◌, ◌%◌, ◌^◌, ◌<◌, ◌≤◌, Bool, false, List, [], ◌∷◌, ◌++◌, length, take, drop, refl, sym, ap, subst, ◌∙◌, append_assoc, arith, length-append}
+use Rattle.std.proofs.Common.{◌≡◌, ℕ, ◌+◌, ◌*◌, ◌/◌, ◌%◌, ◌^◌, ◌<◌, ◌≤◌, Bool, false, List, [], ◌∷◌, ◌++◌, length, take, drop, refl, sym, ap, subst, ◌∙◌, append_assoc, append-nil, arith, length-append}
 use Rattle.std.specs.List.{flat_map, AllByRecursion}
 use Rattle.std.proofs.lemmas.List.{drop_at, drop-drop, length-take-le}
 use Rattle.std.proofs.lemmas.List.Concat.{flat_map-cons}
 use Rattle.cfd_bits.specs.Field.{field, octets, flag}
-use Rattle.cfd_bits.proofs.Fields.{field_between, field_in_octet}
+use Rattle.cfd_bits.proofs.Fields.{length-octets, field_between, field_in_octet}
 use Rattle.cfdp_header.specs.declared.value.Header.{Header}
 use Rattle.cfdp_header.specs.Header.{FitsHeader, header_len, header_octets}
 use Rattle.cfdp_header.proofs.Laws as header
@@ -20,7 +20,7 @@ use Rattle.cfdp_directives.specs.Pdu.Codes.{delivery_code, file_status_code, tra
 use Rattle.cfdp_directives.specs.Pdu.Tlv.{Tlv, tlv}
 use Rattle.cfdp_directives.specs.Pdu.Pair.{pair, IsPair, ArePairs}
 use Rattle.cfdp_directives.specs.Pdu.Content.{Content, FileData, Metadata, Eof, Finished, Ack, Nak, Prompt, KeepAlive, is_file_data}
-use Rattle.cfdp_directives.specs.Pdu.Grammar.{Says, SpellsPdu, IsFileData, IsMetadata, IsEof, IsFinished, IsAck, IsNak, IsPrompt, IsKeepAlive, lv}
+use Rattle.cfdp_directives.specs.Pdu.Grammar.{Says, SpellsPdu, IsFileData, IsMetadata, IsEof, IsFinished, IsAck, IsNak, IsPrompt, IsKeepAlive, lv, fss}
 use Rattle.cfdp_directives.specs.Pdu.Written.{content_octets, content_len, FitsContent, CanWrite, pdu_octets}
 use Rattle.cfdp_directives.proofs.Only.{same}
 use Rattle.cfdp_directives.proofs.Ranges.{pairs_len}
@@ -59,61 +59,71 @@ acknowledged_below acknowledged.Finished = omega arith
 
 -- ---- pairs
 
-pairs_written : (ps : List (ℕ × ℕ)) → AllByRecursion (IsPair 4) ps → ArePairs 4 ps (flat_map (pair 4) ps)
-unfolding octets
-pairs_written [] h = refl
-pairs_written (p ∷ ps) h =
-    let rest = flat_map (pair 4) ps in
-    let whole : flat_map (pair 4) (p ∷ ps) ≡ octets 4 p.0 ++ (octets 4 p.1 ++ rest) = flat_map-cons (pair 4) p ps in
-    let one : field (octets 4 p.0 ++ (octets 4 p.1 ++ rest)) 0 32 ≡ p.0 = field_between [] (octets 4 p.1 ++ rest) 4 p.0 0 32 h.0.0 refl refl in
-    let two : field (octets 4 p.0 ++ (octets 4 p.1 ++ rest)) 32 32 ≡ p.1 = field_between (octets 4 p.0) rest 4 p.1 32 32 h.0.1 refl refl in
-    subst (λ (t : List ℕ). ArePairs 4 (p ∷ ps) t) (sym whole) (omega arith, one, two, pairs_written ps h.1)
+pairs_written : (w : ℕ) (ps : List (ℕ × ℕ)) → AllByRecursion (IsPair w) ps → ArePairs w ps (flat_map (pair w) ps)
+pairs_written w [] h = refl
+pairs_written w (p ∷ ps) h =
+    let rest = flat_map (pair w) ps in
+    let a = octets w p.0 in
+    let b = octets w p.1 in
+    let la = length-octets w p.0 in
+    let lb = length-octets w p.1 in
+    let whole : flat_map (pair w) (p ∷ ps) ≡ a ++ (b ++ rest) = flat_map-cons (pair w) p ps ∙ append_assoc a b rest in
+    let one : field (a ++ (b ++ rest)) 0 (8 * w) ≡ p.0 = field_between [] (b ++ rest) w p.0 0 (8 * w) h.0.0 refl refl in
+    let two : field (a ++ (b ++ rest)) (8 * w) (8 * w) ≡ p.1 = field_between a rest w p.1 (8 * w) (8 * w) h.0.1 (omega (arith, la)) refl in
+    let both : length (a ++ b) ≡ 2 * w = omega (arith, length-append a b, la, lb) in
+    let behind : drop (2 * w) (a ++ (b ++ rest)) ≡ rest = rw (← append_assoc a b rest) (drop_at (a ++ b) rest (2 * w) both) in
+    let room : 2 * w ≤ length (a ++ (b ++ rest)) = omega (arith, length-append a (b ++ rest), length-append b rest, la, lb) in
+    subst (λ (t : List ℕ). ArePairs w (p ∷ ps) t) (sym whole) (room, one, two, subst (λ (t : List ℕ). ArePairs w ps t) (sym behind) (pairs_written w ps h.1))
 
 -- ---- data fields
 
-file_data_written : (offset : ℕ) (bytes : List ℕ) → offset < 2 ^ 32 → IsFileData 4 false offset bytes (content_octets 4 (FileData offset bytes))
-unfolding octets
-file_data_written offset bytes f = record {
-  room = omega arith;
-  offset_field = field_between [] bytes 4 offset 0 32 f refl refl;
-  after = refl;
+file_data_written : (w offset : ℕ) (bytes : List ℕ) → offset < 256 ^ w → IsFileData w false offset bytes (content_octets w (FileData offset bytes))
+file_data_written w offset bytes f = record {
+  room = omega (arith, length-append (octets w offset) bytes, length-octets w offset);
+  offset_field = field_between [] bytes w offset 0 (8 * w) f refl refl;
+  after = drop_at (octets w offset) bytes (0 + w) (omega (arith, length-octets w offset));
 }
 
-metadata_written : (k z : ℕ) (s t : List ℕ) (o : List Tlv) → FitsContent 4 (Metadata k z s t o) → IsMetadata 4 k z s t o (content_octets 4 (Metadata k z s t o))
+metadata_written : (w k z : ℕ) (s t : List ℕ) (o : List Tlv) → FitsContent w (Metadata k z s t o) → IsMetadata w k z s t o (content_octets w (Metadata k z s t o))
 unfolding octets
-metadata_written k z s t o f =
-    let d = octets 1 7 ++ octets 1 k ++ octets 4 z ++ (lv s ++ (lv t ++ flat_map tlv o)) in
-    let grouped : content_octets 4 (Metadata k z s t o) ≡ d = simp append_assoc in
+metadata_written w k z s t o f =
+    let texts = lv s ++ (lv t ++ flat_map tlv o) in
+    let front = octets 1 7 ++ octets 1 k ++ octets w z in
+    let d = front ++ texts in
+    let grouped : content_octets w (Metadata k z s t o) ≡ d = simp append_assoc in
     let low = f.0 in
     let kind = field_in_octet d 12 4 1 4 (k % 256) refl (omega arith) refl in
+    let len : length front ≡ 2 + w = omega (arith, length-octets w z) in
     rw grouped (record {
-      room = omega arith;
+      room = omega (arith, length-append front texts, len);
       code = field_in_octet d 0 8 0 0 7 refl (omega arith) refl;
       kind_field = omega arith;
-      size_field = field_between (octets 1 7 ++ octets 1 k) (lv s ++ (lv t ++ flat_map tlv o)) 4 z 16 32 f.1 refl refl;
-      rest = refl;
+      size_field = field_between (octets 1 7 ++ octets 1 k) texts w z 16 (8 * w) f.1 refl refl;
+      rest = drop_at front texts (2 + w) len;
     })
 
-eof_written : (c k z : ℕ) (o : List Tlv) → FitsContent 4 (Eof c k z o) → IsEof 4 c k z o (content_octets 4 (Eof c k z o))
+eof_written : (w c k z : ℕ) (o : List Tlv) → FitsContent w (Eof c k z o) → IsEof w c k z o (content_octets w (Eof c k z o))
 unfolding octets
-eof_written c k z o f =
-    let d = content_octets 4 (Eof c k z o) in
+eof_written w c k z o f =
+    let d = content_octets w (Eof c k z o) in
+    let front = octets 1 4 ++ octets 1 (16 * c) ++ octets 4 k ++ octets w z in
     let low = f.0.0 in
     let condition = field_in_octet d 8 4 1 0 (16 * c % 256) refl (omega arith) refl in
+    let len : length front ≡ 6 + w = omega (arith, length-octets w z) in
     record {
-      room = omega arith;
+      room = omega (arith, length-append front (flat_map tlv o), len);
       code = field_in_octet d 0 8 0 0 4 refl (omega arith) refl;
       condition_field = omega arith;
       allowed = f.0.1;
-      checksum_field = field_between (octets 1 4 ++ octets 1 (16 * c)) (octets 4 z ++ flat_map tlv o) 4 k 16 32 f.1 refl refl;
-      size_field = field_between (octets 1 4 ++ octets 1 (16 * c) ++ octets 4 k) (flat_map tlv o) 4 z 48 32 f.2 refl refl;
-      rest = refl;
+      checksum_field = field_between (octets 1 4 ++ octets 1 (16 * c)) (octets w z ++ flat_map tlv o) 4 k 16 32 f.1 refl refl;
+      size_field = field_between (octets 1 4 ++ octets 1 (16 * c) ++ octets 4 k) (flat_map tlv o) w z 48 (8 * w) f.2 refl refl;
+      rest = drop_at front (flat_map tlv o) (6 + w) len;
     }
 
-finished_written : (c : ℕ) (i : Delivery) (s : FileStatus) (o : List Tlv) → FitsContent 4 (Finished c i s o) → IsFinished c i s o (content_octets 4 (Finished c i s o))
+finished_written : (w c : ℕ) (i : Delivery) (s : FileStatus) (o : List Tlv) → FitsContent w (Finished c i s o) → IsFinished c i s o (content_octets w (Finished c i s o))
 unfolding octets
-finished_written c i s o f =
-    let d = content_octets 4 (Finished c i s o) in
+finished_written w c i s o f =
+    let d = content_octets w (Finished c i s o) in
     let x : ℕ = (16 * c + 4 * delivery_code i + file_status_code s) % 256 in
     let low = f.0 in
     let low2 = delivery_below i in
@@ -131,44 +141,53 @@ finished_written c i s o f =
       rest = refl;
     }
 
-nak_written : (s e : ℕ) (ps : List (ℕ × ℕ)) → FitsContent 4 (Nak s e ps) → IsNak 4 s e ps (content_octets 4 (Nak s e ps))
+nak_written : (w s e : ℕ) (ps : List (ℕ × ℕ)) → FitsContent w (Nak s e ps) → IsNak w s e ps (content_octets w (Nak s e ps))
 unfolding octets
-nak_written s e ps f =
-    let d = content_octets 4 (Nak s e ps) in
+nak_written w s e ps f =
+    let d = content_octets w (Nak s e ps) in
+    let ranges = flat_map (pair w) ps in
+    let front = octets 1 8 ++ octets w s ++ octets w e in
+    let ls = length-octets w s in
+    let le = length-octets w e in
+    let len : length front ≡ 1 + 2 * w = omega (arith, length-append (octets w s) (octets w e), ls, le) in
+    let grouped : d ≡ octets 1 8 ++ (octets w s ++ (octets w e ++ ranges)) = simp append_assoc in
+    let start : field (octets 1 8 ++ (octets w s ++ (octets w e ++ ranges))) 8 (8 * w) ≡ s = field_between (octets 1 8) (octets w e ++ ranges) w s 8 (8 * w) f.0 refl refl in
+    let end : field (octets 1 8 ++ (octets w s ++ (octets w e ++ ranges))) (8 + 8 * w) (8 * w) ≡ e = field_between (octets 1 8 ++ octets w s) ranges w e (8 + 8 * w) (8 * w) f.1 (omega (arith, ls)) refl in
     record {
-      room = omega arith;
+      room = omega (arith, length-append front ranges, len);
       code = field_in_octet d 0 8 0 0 8 refl (omega arith) refl;
-      start_field = field_between (octets 1 8) (octets 4 e ++ flat_map (pair 4) ps) 4 s 8 32 f.0 refl refl;
-      end_field = field_between (octets 1 8 ++ octets 4 s) (flat_map (pair 4) ps) 4 e 40 32 f.1 refl refl;
-      rest = pairs_written ps f.2;
+      start_field = subst (λ (t : List ℕ). field t 8 (8 * w) ≡ s) (sym grouped) start;
+      end_field = subst (λ (t : List ℕ). field t (8 + 8 * w) (8 * w) ≡ e) (sym grouped) end;
+      rest = subst (λ (t : List ℕ). ArePairs w ps t) (sym (drop_at front ranges (1 + 2 * w) len)) (pairs_written w ps f.2);
     }
 
-prompt_written : (k : Bool) → IsPrompt k (content_octets 4 (Prompt k))
+prompt_written : (w : ℕ) (k : Bool) → IsPrompt k (content_octets w (Prompt k))
 unfolding octets
-prompt_written k =
-    let d = content_octets 4 (Prompt k) in
+prompt_written w k =
+    let d = content_octets w (Prompt k) in
     let low = header.flag_below k in
     let kind = field_in_octet d 8 1 1 0 (128 * flag k % 256) refl (omega arith) refl in
     record { size_octets = refl; code = field_in_octet d 0 8 0 0 9 refl (omega arith) refl; kind_field = omega arith }
 
-keep_alive_written : (n : ℕ) → FitsContent 4 (KeepAlive n) → IsKeepAlive 4 n (content_octets 4 (KeepAlive n))
+keep_alive_written : (w n : ℕ) → FitsContent w (KeepAlive n) → IsKeepAlive w n (content_octets w (KeepAlive n))
 unfolding octets
-keep_alive_written n f =
-    let d = content_octets 4 (KeepAlive n) in
+keep_alive_written w n f =
+    let d = content_octets w (KeepAlive n) in
+    let behind : field (octets 1 12 ++ (octets w n ++ [])) 8 (8 * w) ≡ n = field_between (octets 1 12) [] w n 8 (8 * w) f refl refl in
     record {
-      size_octets = refl;
+      size_octets = omega (arith, length-octets w n);
       code = field_in_octet d 0 8 0 0 12 refl (omega arith) refl;
-      progress_field = field_between (octets 1 12) [] 4 n 8 32 f refl refl;
+      progress_field = subst (λ (t : List ℕ). field (octets 1 12 ++ t) 8 (8 * w) ≡ n) (append-nil (octets w n)) behind;
     }
 
 code_written : (of : Acknowledged) → (16 * acknowledged_code of + acknowledged_subtype of) % 256 / 2 ^ 4 % 2 ^ 4 ≡ acknowledged_code of
 code_written acknowledged.Eof = refl
 code_written acknowledged.Finished = refl
 
-ack_written : (of : Acknowledged) (c : ℕ) (s : TransactionStatus) → FitsContent 4 (Ack of c s) → IsAck of c s (content_octets 4 (Ack of c s))
+ack_written : (w : ℕ) (of : Acknowledged) (c : ℕ) (s : TransactionStatus) → FitsContent w (Ack of c s) → IsAck of c s (content_octets w (Ack of c s))
 unfolding octets
-ack_written of c s f =
-    let d = content_octets 4 (Ack of c s) in
+ack_written w of c s f =
+    let d = content_octets w (Ack of c s) in
     let x : ℕ = (16 * c + transaction_status_code s) % 256 in
     let low = f.0 in
     let low2 = transaction_status_below s in
@@ -183,43 +202,45 @@ ack_written of c s f =
       status_field = omega arith;
     }
 
-said : (h : Header) (v : Content) → FitsContent 4 v → h.file_data ≡ is_file_data v → h.segment_metadata ≡ false → Says h v (content_octets 4 v)
-said h (FileData a b) f k plain = (k, subst (λ (m : Bool). IsFileData 4 m a b (content_octets 4 (FileData a b))) (sym plain) (file_data_written a b f))
-said h (Metadata a b s t o) f k plain = (k, metadata_written a b s t o f)
-said h (Eof a b c o) f k plain = (k, eof_written a b c o f)
-said h (Finished a b c o) f k plain = (k, finished_written a b c o f)
-said h (Ack a b c) f k plain = (k, ack_written a b c f)
-said h (Nak a b o) f k plain = (k, nak_written a b o f)
-said h (Prompt a) f k plain = (k, prompt_written a)
-said h (KeepAlive a) f k plain = (k, keep_alive_written a f)
+said : (h : Header) (v : Content) → FitsContent (fss h) v → h.file_data ≡ is_file_data v → h.segment_metadata ≡ false → Says h v (content_octets (fss h) v)
+said h (FileData a b) f k plain = (k, subst (λ (m : Bool). IsFileData (fss h) m a b (content_octets (fss h) (FileData a b))) (sym plain) (file_data_written (fss h) a b f))
+said h (Metadata a b s t o) f k plain = (k, metadata_written (fss h) a b s t o f)
+said h (Eof a b c o) f k plain = (k, eof_written (fss h) a b c o f)
+said h (Finished a b c o) f k plain = (k, finished_written (fss h) a b c o f)
+said h (Ack a b c) f k plain = (k, ack_written (fss h) a b c f)
+said h (Nak a b o) f k plain = (k, nak_written (fss h) a b o f)
+said h (Prompt a) f k plain = (k, prompt_written (fss h) a)
+said h (KeepAlive a) f k plain = (k, keep_alive_written (fss h) a f)
 
-pub length-content_octets : (v : Content) → length (content_octets 4 v) ≡ content_len 4 v
+pub length-content_octets : (w : ℕ) (v : Content) → length (content_octets w v) ≡ content_len w v
 unfolding octets
-length-content_octets (FileData a b) = omega arith
-length-content_octets (Metadata a b s t o) =
-    let grouped : content_octets 4 (Metadata a b s t o) ≡ octets 1 7 ++ octets 1 a ++ octets 4 b ++ (lv s ++ (lv t ++ flat_map tlv o)) = simp append_assoc in
-    ap length grouped ∙ omega (arith, length-append s (lv t ++ flat_map tlv o), length-append t (flat_map tlv o))
-length-content_octets (Eof a b c o) = omega arith
-length-content_octets (Finished a b c o) = omega arith
-length-content_octets (Ack a b c) = refl
-length-content_octets (Nak a b o) = omega (arith, pairs_len o)
-length-content_octets (Prompt a) = refl
-length-content_octets (KeepAlive a) = refl
+length-content_octets w (FileData a b) = omega (arith, length-append (octets w a) b, length-octets w a)
+length-content_octets w (Metadata a b s t o) =
+    let grouped : content_octets w (Metadata a b s t o) ≡ octets 1 7 ++ octets 1 a ++ octets w b ++ (lv s ++ (lv t ++ flat_map tlv o)) = simp append_assoc in
+    ap length grouped
+    ∙ omega (arith, length-append (octets w b) (lv s ++ (lv t ++ flat_map tlv o)), length-octets w b, length-append s (lv t ++ flat_map tlv o), length-append t (flat_map tlv o))
+length-content_octets w (Eof a b c o) = omega (arith, length-append (octets w c) (flat_map tlv o), length-octets w c)
+length-content_octets w (Finished a b c o) = omega arith
+length-content_octets w (Ack a b c) = refl
+length-content_octets w (Nak a b o) =
+    omega (arith, length-append (octets w a ++ octets w b) (flat_map (pair w) o), length-append (octets w a) (octets w b), length-octets w a, length-octets w b, pairs_len w o)
+length-content_octets w (Prompt a) = refl
+length-content_octets w (KeepAlive a) = omega (arith, length-octets w a)
 
 -- what is written spells the PDU
 pub spelled : (h : Header) (v : Content) → CanWrite h v → SpellsPdu h v (pdu_octets h v)
 spelled h v can =
     let len = can.len in
-    let heads = header.spelled h (content_octets 4 v) can.header (omega (arith, length-content_octets v)) in
+    let heads = header.spelled h (content_octets (fss h) v) can.header (omega (arith, length-content_octets (fss h) v)) in
     record {
       header = heads;
-      content = rw (drop_at (header_octets h) (content_octets 4 v) (header_len h.id_width h.number_width) (header.length-header_octets h)) (said h v can.content can.kind can.no_segment_metadata);
+      content = rw (drop_at (header_octets h) (content_octets (fss h) v) (header_len h.id_width h.number_width) (header.length-header_octets h)) (said h v can.content can.kind can.no_segment_metadata);
     }
 
 pub length-pdu_octets : (h : Header) (v : Content) → CanWrite h v → length (pdu_octets h v) ≡ header_len h.id_width h.number_width + h.length
 length-pdu_octets h v can =
     let len = can.len in
-    omega (arith, length-append (header_octets h) (content_octets 4 v), header.length-header_octets h, length-content_octets v)
+    omega (arith, length-append (header_octets h) (content_octets (fss h) v), header.length-header_octets h, length-content_octets (fss h) v)
 
 -- octets that stayed behind a header also stay behind its data field
 pub behind_data : (out middle front : List ℕ) (at len end : ℕ) → drop at middle ≡ drop at out → length front ≡ length (take (at + len) middle) → at + len ≤ length middle → end ≡ at + len → drop end (front ++ drop (at + len) middle) ≡ drop end out

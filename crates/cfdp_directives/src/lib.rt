@@ -18,12 +18,12 @@ pub use pdu::addressing::{
 };
 pub use pdu::checksum::{Checksum, cut_file_has_its_checksum, whole_file_has_its_checksum};
 pub use pdu::codes::{
-    Acknowledged, ChecksumKind, Condition, Delivery, FILE_SIZE_OCTETS, FileStatus,
-    TransactionStatus, is_file_size,
+    Acknowledged, ChecksumKind, Condition, Delivery, FileStatus, TransactionStatus,
 };
 pub use pdu::content::Pdu;
 pub use pdu::direction::{direction_fits, is_for};
 pub use pdu::error::PduError;
+pub use pdu::file_size::{file_size_octets, is_file_size};
 pub use pdu::laws::{
     a_pdu_read_can_be_answered, no_pdu_begins_another, written_pdu_is_read, written_pdu_len,
 };
@@ -35,6 +35,7 @@ pub use pdu::octets::Octets;
 pub use pdu::pair_iter::PairIter;
 pub use pdu::pairs::Pairs;
 pub use pdu::reading::decode;
+pub use pdu::small::{a_small_pdu_read_can_be_answered, decode_small, no_small_pdu_begins_another};
 pub use pdu::tlv::Tlvs;
 pub use pdu::tlv_iter::TlvIter;
 pub use pdu::writing::{can_write, encode};

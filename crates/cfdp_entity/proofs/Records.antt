@@ -523,15 +523,15 @@ done-counts (Err e) n h = tt
 
 -- ---- how long the PDU of a sender is
 pub len-of-sender : (sources : FileMap) (x : SenderState) (n : Option ℕ) → HasFile sources x.source x.size
-    → ((file : List ℕ) → length file ≡ x.size → n ≡ option_map (λ d. written_len x.addressing (sender_says file x d)) (sender_due x))
+    → ((file : List ℕ) → length file ≡ x.size → n ≡ option_map (λ d. written_len x.addressing false (sender_says file x d)) (sender_due x))
     → unwrap_or n 0 ≡ due_len sources (Sends x)
 len-of-sender sources x n file len = ap (λ o. unwrap_or o 0) (len (octets_in sources x.source) file.whole) ∙ by (sender_due x)
   where
-    by : (o : Option SenderDue) → unwrap_or (option_map (λ d. written_len x.addressing (sender_says (octets_in sources x.source) x d)) o) 0 ≡ len_of x.addressing (seens.sender_content (octets_in sources x.source) x o)
+    by : (o : Option SenderDue) → unwrap_or (option_map (λ d. written_len x.addressing false (sender_says (octets_in sources x.source) x d)) o) 0 ≡ len_of x.addressing (seens.sender_content (octets_in sources x.source) x o)
     by (Some d) = refl
     by None = refl
 
 -- and that it fits
-pub fits-sender : (file : List ℕ) (x : SenderState) (o : Option SenderDue) (n : ℕ) → len_of x.addressing (seens.sender_content file x o) ≤ n → IfSome o (λ d. written_len x.addressing (sender_says file x d) ≤ n)
+pub fits-sender : (file : List ℕ) (x : SenderState) (o : Option SenderDue) (n : ℕ) → len_of x.addressing (seens.sender_content file x o) ≤ n → IfSome o (λ d. written_len x.addressing false (sender_says file x d) ≤ n)
 fits-sender file x (Some d) n h = h
 fits-sender file x None n h = tt

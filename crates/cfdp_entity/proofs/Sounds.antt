@@ -10,7 +10,7 @@ use Rattle.cfdp_directives.specs.declared.pdu.error.PduError.{PduError}
 use Rattle.cfdp_directives.specs.Pdu.Addressing.{addressing_of}
 use Rattle.cfdp_directives.specs.Pdu.Content.{Content, FileData, Metadata, Eof, Finished, Ack, Nak, Prompt, KeepAlive}
 use Rattle.cfdp_directives.specs.Pdu.Direction.{direction_fits, is_for}
-use Rattle.cfdp_directives.specs.Pdu.Grammar.{SpellsPdu}
+use Rattle.cfdp_directives.specs.Pdu.Small.{SpellsSmall}
 use Rattle.cfdp_directives.specs.User.Put.{Put, IsTruthful, IsOfPut, SaysTruth, SaysComplete, SomePdu, IsMetadataOf, IsEofOf, Brings}
 use Rattle.cfdp_store.specs.declared.stored.Stored.{Stored}
 use Rattle.cfdp_store.specs.Files.{octets_in}
@@ -76,13 +76,13 @@ module _ (put_of : TransactionId → Option Put) (heard : List (List ℕ)) (firs
 
   -- ---- a PDU that comes
   module _ (by_id : FindsById put_of) (peer : ℕ) (pdu : List ℕ) (among : Contains heard pdu) (h : Header) where
-    some-pdu : (P : Header → Content → Type 0) (v : Content) → SpellsPdu h v pdu → P h v → SomePdu P heard
+    some-pdu : (P : Header → Content → Type 0) (v : Content) → SpellsSmall h v pdu → P h v → SomePdu P heard
     some-pdu P v s p = (among.0, pdu, among.1, among.2, (h, (v, (s, p))))
 
     true-as : (v : Content) (put : Put) → IsOfPut peer put_of h.id v → put_of h.id ≡ Some put → (h.id ≡ put.id) × IsTruthful put v
     true-as v put t is = (sym (by_id h.id put is), subst (λ p. IsTruthful p v) (same-put t.0 put (sym t.1.1 ∙ is)) t.1.2)
 
-    true-of : (v : Content) → SpellsPdu h v pdu → SaysTruth peer put_of h.id v → IsTrueOf put_of heard h.id v
+    true-of : (v : Content) → SpellsSmall h v pdu → SaysTruth peer put_of h.id v → IsTrueOf put_of heard h.id v
     true-of (FileData offset bytes) s t = λ put is. (let a = true-as (FileData offset bytes) put t is in (a.1, λ n low high. some-pdu (Brings put n) (FileData offset bytes) s (a.0, low, high, a.1)))
     true-of (Metadata kind size source destination options) s t = λ put is. (let a = true-as (Metadata kind size source destination options) put t is in (a.1, some-pdu (IsMetadataOf put) (Metadata kind size source destination options) s a))
     true-of (Eof condition checksum size tlvs) s t = λ put is. (let a = true-as (Eof condition checksum size tlvs) put t is in (a.1, λ fine. some-pdu (IsEofOf put) (Eof condition checksum size tlvs) s (a.0, fine, a.1)))
@@ -146,7 +146,7 @@ module _ (put_of : TransactionId → Option Put) (heard : List (List ℕ)) (firs
 
     -- ---- a PDU that is taken
     module _ (by_id : FindsById put_of) (pdu : List ℕ) (old new : Counted) (comes : ComesTrue old.state.config.peer put_of heard pdu) (h : Header) (k : IsSound put_of heard first old.state) where
-      stepped : (place : ℕ) (v : Content) → SpellsPdu h v pdu → place_of h.id old.state.table.records ≡ Some place → TakesPdu (routes.Steps place) h v old new → IsSound put_of heard first new.state
+      stepped : (place : ℕ) (v : Content) → SpellsSmall h v pdu → place_of h.id old.state.table.records ≡ Some place → TakesPdu (routes.Steps place) h v old new → IsSound put_of heard first new.state
       stepped place v s is t =
           let truth : IsTrueOf put_of heard h.id v = true-of by_id old.state.config.peer pdu comes.among h v s (comes.says h v s) in
           sound-like (with_table old.state (heard_at t.stored place v old.state.table)) new.state (ap (λ (e : EntityState). e.config) t.steps) (ap (λ (e : EntityState). e.table) t.steps)
@@ -154,7 +154,7 @@ module _ (put_of : TransactionId → Option Put) (heard : List (List ℕ)) (firs
           (λ e at tlvs says. some-pdu by_id old.state.config.peer pdu comes.among h (SaysComplete e.0) v s (key-there h.id old.state.table.records place e is at, (tlvs, says)))
           (step-timed _ place old.state.table k.once.distinct (λ e at. hears-set t.stored old.state.table.policy.times old.state.table.files v e.1) k.timed) k)
 
-      opened : (v : Content) → IsForReceiver v → SpellsPdu h v pdu → place_of h.id old.state.table.records ≡ None → IsOfPut old.state.config.peer put_of h.id v → TakesPdu (if nat_lt (length old.state.table.records) most_records then routes.Opens else routes.Drops drops.TableFull) h v old new → IsSound put_of heard first new.state
+      opened : (v : Content) → IsForReceiver v → SpellsSmall h v pdu → place_of h.id old.state.table.records ≡ None → IsOfPut old.state.config.peer put_of h.id v → TakesPdu (if nat_lt (length old.state.table.records) most_records then routes.Opens else routes.Drops drops.TableFull) h v old new → IsSound put_of heard first new.state
       opened v for_it s none put taken =
           let o : OpensOne (addressing_of h) v old new = taken-if (nat_lt (length old.state.table.records) most_records) drops.TableFull routes.Opens h v old new taken in
           let truth : IsTrueOf put_of heard h.id v = true-of by_id old.state.config.peer pdu comes.among h v s (comes.says h v s) in
@@ -164,7 +164,7 @@ module _ (put_of : TransactionId → Option Put) (heard : List (List ℕ)) (firs
           (sound-step old.state (Opens o.begun o.stored (addressing_of h) v) none (not_own, (some, truth)) tt tt
           (push-timed h.id _ old.state.table none (opens-set o.begun o.stored old.state.table.policy.times old.state.table.files v (addressing_of h) for_it) k.timed) k)
 
-      by-place : (o : Option ℕ) (v : Content) → SpellsPdu h v pdu → place_of h.id old.state.table.records ≡ o → TakesPdu (route_by o h v old.state) h v old new → IsSound put_of heard first new.state
+      by-place : (o : Option ℕ) (v : Content) → SpellsSmall h v pdu → place_of h.id old.state.table.records ≡ o → TakesPdu (route_by o h v old.state) h v old new → IsSound put_of heard first new.state
       by-place (Some place) v s is t = stepped place v s is t
       by-place None (FileData offset bytes) s is t = opened (FileData offset bytes) tt s is (comes.says h (FileData offset bytes) s) t
       by-place None (Metadata kind size source destination options) s is t = opened (Metadata kind size source destination options) tt s is (comes.says h (Metadata kind size source destination options) s) t

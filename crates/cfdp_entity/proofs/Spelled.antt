@@ -1,5 +1,5 @@
 -- What is due is spelled by its octets.
-use Rattle.std.proofs.Common.{◌≡◌, ℕ, ◌≤◌, List, [], ◌∷◌, length, slice_get, Option, Some, None, IfSome, lit<, sym, subst, arith}
+use Rattle.std.proofs.Common.{◌≡◌, ℕ, ◌≤◌, List, [], ◌∷◌, length, slice_get, Option, Some, None, IfSome, lit<, refl, sym, subst, arith, false}
 use Rattle.cfdp_header.specs.declared.value.TransactionId.{TransactionId}
 use Rattle.cfdp_header.specs.Files.{FileMap}
 use Rattle.cfdp_directives.specs.declared.pdu.addressing.Addressing.{Addressing}
@@ -8,7 +8,7 @@ use Rattle.cfdp_directives.specs.Pdu.Codes.{IsCondition}
 use Rattle.cfdp_directives.specs.Pdu.Content.{Content}
 use Rattle.cfdp_directives.specs.Pdu.Written.{CanWrite}
 use Rattle.cfdp_directives.proofs.Addressed.{can_write}
-use Rattle.cfdp_directives.proofs.Spelling.{spelled}
+use Rattle.cfdp_directives.proofs.Small.{spelled}
 use Rattle.cfdp_store.specs.Staged.{OctetMap}
 use Rattle.cfdp_store.specs.Files.{octets_in}
 use Rattle.cfdp_sender.specs.State.{SenderState}
@@ -29,12 +29,12 @@ use Rattle.cfdp_entity.specs.Whole.{Staged, entries_seen}
 use Rattle.cfdp_entity.proofs.Entries.{seen_by_entry}
 
 abbrev pub CanWriteOf : Addressing → Content → Type 0
-CanWriteOf a v = CanWrite (header_of a v) v
+CanWriteOf a v = CanWrite (header_of a false v) v
 
 -- ---- what a machine can write is spelled
 sender-content : (file : List ℕ) (x : SenderState) (o : Option SenderDue) → IfSome o (λ d. CanWriteOf x.addressing (sender_says file x d)) → IsSpelled x.addressing (sender_content file x o)
 sender-content file x None can = tt
-sender-content file x (Some d) can = spelled _ _ can
+sender-content file x (Some d) can = spelled _ _ refl can
 
 pub sender-spelled : (sources : FileMap) (x : SenderState) → ((file : List ℕ) → IfSome (sender_due x) (λ d. CanWriteOf x.addressing (sender_says file x d))) → SeenIsSpelled sources (Sends x)
 unfolding SeenIsSpelled
@@ -42,7 +42,7 @@ sender-spelled sources x can = sender-content (octets_in sources x.source) x (se
 
 receiver-content : (r : ReceiverState) (o : Option Due) → IfSome o (λ d. CanWriteOf r.addressing (receiver_says r d)) → IsSpelled r.addressing (receiver_content r o)
 receiver-content r None can = tt
-receiver-content r (Some d) can = spelled _ _ can
+receiver-content r (Some d) can = spelled _ _ refl can
 
 pub receiver-spelled : (sources : FileMap) (r : ReceiverState) (m : OctetMap) → IfSome (receiver_due r) (λ d. CanWriteOf r.addressing (receiver_says r d)) → SeenIsSpelled sources (Receives r m)
 unfolding SeenIsSpelled
@@ -54,7 +54,7 @@ pub entry-spelled : (staged : Staged) (sources : FileMap) (es : List (Transactio
 entry-spelled staged sources es i k r is all = subst (EntryIsSpelled sources) (sym (seen_by_entry staged es i k r is)) (all (staged k) sources)
 
 pub stray-spelled : (s : StrayAck) → FitsAddressing s.addressing → IsCondition s.condition → StrayIsSpelled s
-stray-spelled s fits condition = spelled _ _ (can_write s.addressing (stray_says s) fits condition (lit< tt))
+stray-spelled s fits condition = spelled _ _ refl (can_write s.addressing false (stray_says s) fits condition (lit< tt))
 
 -- ---- whose turn it is
 due-spells : (a : Addressing) (o : Option Content) → IsSpelled a o → 1 ≤ len_of a o → SpellsDue o a (octets_of a o)

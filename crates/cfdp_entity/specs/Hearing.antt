@@ -6,7 +6,7 @@ use Rattle.cfdp_directives.specs.declared.pdu.addressing.Addressing.{Addressing}
 use Rattle.cfdp_directives.specs.Pdu.Addressing.{addressing_of}
 use Rattle.cfdp_directives.specs.Pdu.Content.{Content, FileData, Metadata, Eof, Finished}
 use Rattle.cfdp_directives.specs.Pdu.Direction.{direction_fits, is_for}
-use Rattle.cfdp_directives.specs.Pdu.Grammar.{SpellsPdu}
+use Rattle.cfdp_directives.specs.Pdu.Small.{SpellsSmall}
 use Rattle.cfdp_store.specs.declared.stored.Stored.{Stored}
 use Rattle.cfdp_store.specs.Chains.{Raises}
 use Rattle.cfdp_store.specs.Stores.{Counts}
@@ -108,14 +108,14 @@ DropsBy (Queues s) by v old new = ⊥
 pub record HearsOctets (octets : List ℕ) (old new : Counted) : Type 0 where
   pub header : Header
   pub content : Content
-  pub spells : SpellsPdu header content octets
+  pub spells : SpellsSmall header content octets
   pub takes : Takes (route header content old.state) header content old new
 
 -- The octets are a PDU, and it was dropped.
 pub record DropsPdu (octets : List ℕ) (by : EntityDrop) (old new : Counted) : Type 0 where
   pub header : Header
   pub content : Content
-  pub spells : SpellsPdu header content octets
+  pub spells : SpellsSmall header content octets
   pub drops : DropsBy (route header content old.state) by content old new
 
 -- The octets were dropped: they are no PDU, and by that cause, or they are one.

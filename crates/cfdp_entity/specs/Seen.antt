@@ -53,11 +53,11 @@ due_content sources (Sends x) = sender_content (octets_in sources x.source) x (s
 due_content sources (Receives r m) = receiver_content r (receives.receiver_due r)
 
 abbrev pub octets_of : Addressing → Option Content → List ℕ
-octets_of a (Some v) = pdu_octets (header_of a v) v
+octets_of a (Some v) = pdu_octets (header_of a false v) v
 octets_of a None = []
 
 abbrev pub len_of : Addressing → Option Content → ℕ
-len_of a (Some v) = written_len a v
+len_of a (Some v) = written_len a false v
 len_of a None = 0
 
 -- its octets, and how many they are; none where nothing is due

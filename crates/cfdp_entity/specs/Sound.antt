@@ -1,6 +1,6 @@
 -- What an entity keeps that hears nothing but the truth of puts. `put_of` finds the put of a
 -- transaction, `heard` is the PDUs that came to it, `first` the files published at first.
-use Rattle.std.specs.Prelude.{◌≡◌, ◌≤◌, ◌++◌, ℕ, List, Option, Some, None, slice_get, Contains}
+use Rattle.std.specs.Prelude.{◌≡◌, ◌≤◌, ◌++◌, ℕ, List, Option, Some, None, slice_get, Contains, false}
 use Rattle.cfdp_header.specs.declared.value.Header.{Header}
 use Rattle.cfdp_header.specs.declared.value.TransactionId.{TransactionId}
 use Rattle.cfdp_header.specs.Files.{FileMap}
@@ -12,7 +12,7 @@ use Rattle.cfdp_directives.specs.Pdu.Addressing.{header_of}
 use Rattle.cfdp_directives.specs.Pdu.Codes.{no_error}
 use Rattle.cfdp_directives.specs.User.Completions.{completions}
 use Rattle.cfdp_directives.specs.Pdu.Content.{Content, Finished}
-use Rattle.cfdp_directives.specs.Pdu.Grammar.{SpellsPdu}
+use Rattle.cfdp_directives.specs.Pdu.Small.{SpellsSmall}
 use Rattle.cfdp_directives.specs.User.Put.{Put, SaysTruth}
 use Rattle.cfdp_directives.specs.Pdu.Tlv.{Tlv}
 use Rattle.cfdp_store.specs.Files.{octets_in}
@@ -64,7 +64,7 @@ next_put source destination e = record {
 pub record ComesTrue (peer : ℕ) (put_of : TransactionId → Option Put) (heard : List (List ℕ))
     (pdu : List ℕ) : Type 0 where
   pub among : Contains heard pdu
-  pub says : (h : Header) (v : Content) → SpellsPdu h v pdu → SaysTruth peer put_of h.id v
+  pub says : (h : Header) (v : Content) → SpellsSmall h v pdu → SaysTruth peer put_of h.id v
 
 -- ---- what is sent
 -- A Finished says that a file was delivered only of a transaction that the entity `own` completed.
@@ -75,7 +75,7 @@ SaysDelivered own told id v = (tlvs : List Tlv) → v ≡ Finished no_error Comp
 -- These octets are those of what is due, behind its header.
 abbrev pub SpellsDue : Option Content → Addressing → List ℕ → Type 0
 SpellsDue None a octets = ⊥
-SpellsDue (Some v) a octets = SpellsPdu (header_of a v) v octets
+SpellsDue (Some v) a octets = SpellsSmall (header_of a false v) v octets
 
 abbrev pub SpellsEntry : FileMap → Option Entry → Type 0
 SpellsEntry sources None = ⊥

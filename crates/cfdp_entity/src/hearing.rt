@@ -2,7 +2,7 @@
 ghost use Rattle.std.specs.Prelude.{◌≡◌, ◌<◌, length, None, IfErr, OnOk, OnErr};
 ghost use Rattle.cfdp_directives.specs.Pdu.Addressing.{addressing_of, FitsAddressing};
 ghost use Rattle.cfdp_directives.specs.Pdu.Content.{view};
-ghost use Rattle.cfdp_directives.specs.Pdu.Faults.{pdu_fault};
+ghost use Rattle.cfdp_directives.specs.Pdu.Small.{small_pdu_fault};
 ghost use Rattle.cfdp_entity.specs.declared.error.EntityDrop.TheVariants as drops;
 ghost use Rattle.cfdp_entity.specs.declared.route.Route.TheVariants as routes;
 ghost use Rattle.cfdp_entity.specs.Entity.{with_table};
@@ -17,7 +17,7 @@ use crate::route::Route;
 use crate::stray::Stray;
 use crate::table::MOST_RECORDS;
 use cfdp_directives::{
-    Addressing, Pdu, a_pdu_read_can_be_answered, decode, direction_fits, is_for,
+    Addressing, Pdu, a_small_pdu_read_can_be_answered, decode_small, direction_fits, is_for,
 };
 use cfdp_header::Header;
 use cfdp_store::{Inbox, Outbox};
@@ -52,12 +52,12 @@ impl<O: Outbox, I: Inbox> Entity<O, I> {
     /// count as held. No call of a store failed then.
     pub fn hear(&mut self, pdu: &[u8]) -> Result<(), EntityDrop>
         ensures heard { OnOk result (HearsOctets pdu.now self.old self.new) }
-        ensures dropped { IfErr result (λ by. DropsOctets (pdu_fault pdu.now) pdu.now by self.old
-            self.new) }
+        ensures dropped { IfErr result (λ by. DropsOctets (small_pdu_fault pdu.now) pdu.now by
+            self.old self.new) }
     {
-        match decode(pdu) {
+        match decode_small(pdu) {
             Ok((header, pdu)) => {
-                a_pdu_read_can_be_answered();
+                a_small_pdu_read_can_be_answered();
                 self.hear_pdu(&header, &pdu)
             }
             Err(e) => {

@@ -106,7 +106,7 @@ impl<O: Outbox, I: Inbox> Entity<O, I> {
     {
         match self.table.source_len(source) {
             Ok(Some(size)) => {
-                if is_file_size(size) {
+                if is_file_size(false, size) {
                     Ok(size)
                 } else {
                     Err(PutError::TooLarge)

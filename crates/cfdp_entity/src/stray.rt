@@ -58,7 +58,7 @@ impl Stray {
         ensures spelled { StrayIsSpelled self.now }
     {
         let _any_condition_fits = self.condition.code();
-        self.addressing.written_len(&self.pdu())
+        self.addressing.written_len(false, &self.pdu())
     }
 
     /// Writes it over the first octets of `out`, and says how many they are.
@@ -67,6 +67,6 @@ impl Stray {
         ensures len { result ≡ stray_len self.now }
         ensures writes { Writes (stray_octets self.now) result out.old out.new }
     {
-        self.addressing.write_pdu(&self.pdu(), out)
+        self.addressing.write_pdu(false, &self.pdu(), out)
     }
 }

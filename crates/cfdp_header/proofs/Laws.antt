@@ -16,15 +16,16 @@ same_flag false false e = refl
 same_flag true false e = absurd cc
 same_flag false true e = absurd cc
 
-abbrev made : Bool → Bool → ℕ → Bool → ℕ → ℕ → ℕ → ℕ → ℕ → Header
-made a b l c i n source number d = record { file_data = a; toward_sender = b; length = l; segment_metadata = c; id_width = i; number_width = n; id = record { source = source; number = number }; destination = d }
+abbrev made : Bool → Bool → Bool → ℕ → Bool → ℕ → ℕ → ℕ → ℕ → ℕ → Header
+made a b g l c i n source number d = record { file_data = a; toward_sender = b; large = g; length = l; segment_metadata = c; id_width = i; number_width = n; id = record { source = source; number = number }; destination = d }
 
 pub unique : (h k : Header) (t : List ℕ) → SpellsHeader h t → SpellsHeader k t → h ≡ k
 unique h k t p q =
     let a = same_flag h.file_data k.file_data (sym p.file_data ∙ q.file_data) in
     let b = same_flag h.toward_sender k.toward_sender (sym p.toward_sender ∙ q.toward_sender) in
+    let g = same_flag h.large k.large (sym p.large ∙ q.large) in
     let c = same_flag h.segment_metadata k.segment_metadata (sym p.segment_metadata ∙ q.segment_metadata) in
-    let same : made h.file_data h.toward_sender h.length h.segment_metadata h.id_width h.number_width h.id.source h.id.number h.destination ≡ made k.file_data k.toward_sender k.length k.segment_metadata k.id_width k.number_width k.id.source k.id.number k.destination = cc in
+    let same : made h.file_data h.toward_sender h.large h.length h.segment_metadata h.id_width h.number_width h.id.source h.id.number h.destination ≡ made k.file_data k.toward_sender k.large k.length k.segment_metadata k.id_width k.number_width k.id.source k.id.number k.destination = cc in
     same
 
 pub accepted : (h : Header) (t : List ℕ) → SpellsHeader h t → header_fault t ≡ None
@@ -33,7 +34,7 @@ accepted h t p =
     let long : ltb (length t) 4 ≡ false = le-ltb _ _ (let s = p.size in omega arith) in
     let all : eqb (length t) (header_len h.id_width h.number_width + h.length) ≡ true = eq-eqb _ _ p.size in
     let whole : ltb (length t) (header_len h.id_width h.number_width) ≡ false = le-ltb _ _ (let s = p.size in omega arith) in
-    rw (long, p.version, p.crc_absent, p.acknowledged, p.small_file, p.id_width, p.number_width, whole, p.length_field, all) refl
+    rw (long, p.version, p.crc_absent, p.acknowledged, p.id_width, p.number_width, whole, p.length_field, all) refl
 
 pub is_ok : {A E : Type 0} (r : Result A E) (P : A → Type 0) → result_err r ≡ None → IfOk r P → IsOkAnd r P
 is_ok (Ok x) P e p = p
@@ -67,7 +68,8 @@ spelled h rest fits len =
     let b1 = flag_below h.file_data in
     let b2 = flag_below h.toward_sender in
     let b3 = flag_below h.segment_metadata in
-    let first : ℕ = (32 + 16 * flag h.file_data + 8 * flag h.toward_sender) % 256 in
+    let b4 = flag_below h.large in
+    let first : ℕ = (32 + 16 * flag h.file_data + 8 * flag h.toward_sender + flag h.large) % 256 in
     let widths : ℕ = (16 * (h.id_width - 1) + 8 * flag h.segment_metadata + (h.number_width - 1)) % 256 in
     let version = field_in_octet text 0 3 0 0 first refl (omega arith) refl in
     let kind = field_in_octet text 3 1 0 3 first refl (omega arith) refl in
@@ -91,7 +93,7 @@ spelled h rest fits len =
       toward_sender = omega arith;
       acknowledged = omega arith;
       crc_absent = omega arith;
-      small_file = omega arith;
+      large = omega arith;
       length_field = longs;
       id_width = omega arith;
       segment_metadata = omega arith;

@@ -24,7 +24,7 @@ pub record SpellsHeader (h : Header) (text : List ℕ) : Type 0 where
   pub toward_sender : field text 4 1 ≡ flag h.toward_sender
   pub acknowledged : field text 5 1 ≡ 0
   pub crc_absent : field text 6 1 ≡ 0
-  pub small_file : field text 7 1 ≡ 0
+  pub large : field text 7 1 ≡ flag h.large
   pub length_field : field text 8 16 ≡ h.length
   pub id_width : field text 25 3 + 1 ≡ h.id_width
   pub segment_metadata : field text 28 1 ≡ flag h.segment_metadata
@@ -38,14 +38,13 @@ abbrev pub header_len_told : List ℕ → ℕ
 header_len_told text = header_len (field text 25 3 + 1) (field text 29 3 + 1)
 
 -- what is wrong with octets that are no header and its data field: the first cause in this order,
--- or none
+-- or none. LargeFile is never one.
 abbrev pub header_fault : List ℕ → Option HeaderError
 header_fault text =
     if nat_lt (length text) 4 then Some Short
     else if not (field text 0 3 == 1) then Some Version
     else if not (field text 6 1 == 0) then Some CrcPresent
     else if not (field text 5 1 == 0) then Some Unacknowledged
-    else if not (field text 7 1 == 0) then Some LargeFile
     else if nat_lt (length text) (header_len_told text) then Some Short
     else if not (length text == header_len_told text + field text 8 16) then Some Length
     else None
@@ -66,7 +65,7 @@ pub record FitsHeader (h : Header) : Type 0 where
 -- the four octets that every header has
 abbrev pub fixed_octets : Header → List ℕ
 fixed_octets h =
-    octets 1 (32 + 16 * flag h.file_data + 8 * flag h.toward_sender)
+    octets 1 (32 + 16 * flag h.file_data + 8 * flag h.toward_sender + flag h.large)
     ++ octets 2 h.length
     ++ octets 1 (16 * (h.id_width - 1) + 8 * flag h.segment_metadata + (h.number_width - 1))
 

@@ -40,8 +40,8 @@ fn number_at(bytes: &[u8], at: usize, count: usize) -> u64
 /// # Errors
 ///
 /// The first of these that holds, in this order: `Short`, `Version`, `CrcPresent`,
-/// `Unacknowledged`, `LargeFile`, `Short` again for a header that isn't whole, `Length`.
-/// `HeaderError` says what each means.
+/// `Unacknowledged`, `Short` again for a header that isn't whole, `Length`. `HeaderError` says what
+/// each means.
 pub fn decode(bytes: &[u8]) -> Result<(Header, &[u8]), HeaderError>
     // What is answered is spelled so.
     ensures found { IfOk result (λ x. SpellsHeader x.0 bytes.now) }
@@ -65,9 +65,6 @@ pub fn decode(bytes: &[u8]) -> Result<(Header, &[u8]), HeaderError>
     if get(bytes, 5, 1) != 0 {
         return Err(HeaderError::Unacknowledged);
     }
-    if get(bytes, 7, 1) != 0 {
-        return Err(HeaderError::LargeFile);
-    }
     let id_width = get(bytes, 25, 3) as u8 + 1;
     let number_width = get(bytes, 29, 3) as u8 + 1;
     let length = get(bytes, 8, 16) as u16;
@@ -83,6 +80,7 @@ pub fn decode(bytes: &[u8]) -> Result<(Header, &[u8]), HeaderError>
     let header = Header {
         file_data: get(bytes, 3, 1) == 1,
         toward_sender: get(bytes, 4, 1) == 1,
+        large: get(bytes, 7, 1) == 1,
         length,
         segment_metadata: get(bytes, 28, 1) == 1,
         id_width,
@@ -108,7 +106,10 @@ pub fn encode(header: &Header, out: &mut [u8]) -> usize
     ensures text { take result out.new ≡ header_octets header.now }
     ensures behind { drop result out.new ≡ drop result out.old }
 {
-    let first = 32 + 16 * u64::from(header.file_data) + 8 * u64::from(header.toward_sender);
+    let first = 32
+        + 16 * u64::from(header.file_data)
+        + 8 * u64::from(header.toward_sender)
+        + u64::from(header.large);
     let widths = 16 * (u64::from(header.id_width) - 1)
         + 8 * u64::from(header.segment_metadata)
         + (u64::from(header.number_width) - 1);

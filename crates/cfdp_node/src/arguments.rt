@@ -154,11 +154,13 @@ With --long a line goes on. That of a frame:
 That of a PDU:
   toward receiver destination N     or sender; N is the entity that receives the
                                     file, whichever way the PDU goes
+  large                             sizes and offsets have 8 octets; else 4
   fault-location N                  the entity that a fault location names
   tlv TT:VV..                       each option, type and value in hexadecimal
 Errors of any line: 0 Hex (no such digits).
 Errors of PDUs: 1 Short, 2 Version, 3 CrcPresent, 4 Length, 5 Unacknowledged,
-6 LargeFile, 7 Directive, 8 Truncated, 9 Trailing, 10 Tlv, 11 Condition.
+7 Directive, 8 Truncated, 9 Trailing, 10 Tlv, 11 Condition; never 6 LargeFile,
+by which a station drops PDUs of large files.
 Errors of frames: 1 Length (mostly: another --zone is meant), 2 Version,
 3 OtherProfile, 6 OnlyIdle.
 

@@ -1,18 +1,22 @@
 -- The pairs of a NAK, one after another.
 use Rattle.std.proofs.Common.{◌≡◌, ℕ, suc, ◌+◌, ◌<◌, ◌≤◌, true, false, List, [], ◌∷◌, ◌++◌, length, take, refl, sym, ap, subst, ◌∙◌, arith, append_assoc, length-append}
-use Rattle.std.specs.Prelude.{nat_lt, slice_set}
-use Rattle.std.specs.List.{AllByRecursion}
+use Rattle.std.specs.Prelude.{Bool, zero, ◌^◌, ◌==◌, ◌&&◌, is_none, nat_lt, slice_set, if◌then◌else◌}
+use Rattle.std.specs.List.{All, AllByRecursion}
 use Rattle.std.proofs.Math.Seq.{take-append_seam}
-use Rattle.std.proofs.lemmas.List.{take_more_set, append-nil, take_all}
+use Rattle.std.proofs.lemmas.List.{take_more_set, append-nil, take_all, length-take}
 use Rattle.std.proofs.lemmas.Bool.{lt-ltb}
 use Rattle.std.proofs.lemmas.Bool.Decides.{nat_tests}
 use Rattle.cfdp_directives.specs.Pdu.Codes.{file_size_octets}
 use Rattle.cfdp_directives.specs.Pdu.Pair.{IsPair}
+use Rattle.cfdp_directives.specs.Pdu.Written.{FitsContent}
 use Rattle.cfdp_extents.specs.Offsets.{LiesIn}
+use Rattle.cfdp_extents.specs.Terms.{gaps_of}
 use Rattle.cfdp_receiver.specs.declared.asked.Asked.{Asked}
-use Rattle.cfdp_receiver.specs.State.{size_limit}
-use Rattle.cfdp_receiver.specs.Missing.{asked, has_more, last_end}
-use Rattle.cfdp_receiver.specs.Asked.{pairs_of, IsWritable, AsksFor}
+use Rattle.cfdp_receiver.specs.declared.due.Due.TheVariants as due_is
+use Rattle.cfdp_receiver.specs.State.{size_limit, ReceiverState}
+use Rattle.cfdp_receiver.specs.Missing.{asked, has_more, last_end, missing_pairs, scope_limit}
+use Rattle.cfdp_receiver.specs.Asked.{pairs_of, with_metadata, IsWritable, AsksFor}
+use Rattle.cfdp_receiver.specs.Due.{receiver_says}
 
 pub last_end_added : (end : ℕ) (xs : List (ℕ × ℕ)) (r : ℕ × ℕ) → last_end end (xs ++ r ∷ []) ≡ r.1
 last_end_added end [] r = refl
@@ -88,14 +92,73 @@ pub writable_with_one : (a : Asked) (r : ℕ × ℕ) (start limit : ℕ) → a.c
 writable_with_one a r start limit low few w lies high =
     let some : r.0 < r.1 = lies.1 in
     let below : r.1 ≤ limit = lies.2 in
-    let is_pair : IsPair file_size_octets r = (omega arith, omega arith) in
-    let P : List (ℕ × ℕ) → Type 0 = λ l. AllByRecursion (IsPair file_size_octets) l in
+    let is_pair : IsPair (file_size_octets false) r = (omega arith, omega arith) in
+    let P : List (ℕ × ℕ) → Type 0 = λ l. AllByRecursion (IsPair (file_size_octets false)) l in
     let len : length (pairs_of a) ≡ a.count = w.len in
     record {
       few = omega arith;
       len = ap length (one_more_pair a r low) ∙ length-append (pairs_of a) (r ∷ [])
           ∙ ap (λ n. n + 1) len;
       pairs = subst P (sym (one_more_pair a r low))
-          (all_added (IsPair file_size_octets) (pairs_of a) r w.pairs is_pair);
+          (all_added (IsPair (file_size_octets false)) (pairs_of a) r w.pairs is_pair);
       end = omega arith;
     }
+
+pub all_parts : (P : ℕ × ℕ → Type 0) (x : ℕ × ℕ) (xs ys : List (ℕ × ℕ)) → ys ≡ x ∷ xs → All P ys → P x × All P xs
+all_parts P x xs ys is all =
+    let Q : List (ℕ × ℕ) → Type 0 = λ l. All P l in
+    (subst Q is all 0 x (omega arith), λ k d low. (subst Q is all) (suc k) d (omega arith))
+
+-- ---- how many pairs one NAK has
+pub asked_full : (all : List (ℕ × ℕ)) (count left : ℕ) → count + left ≡ length all → count ≡ 32 → count ≡ length (asked all)
+asked_full all count left is full =
+    let len = length-take 32 all in
+    omega (arith, is, full, len)
+
+pub asked_whole : (all : List (ℕ × ℕ)) (count left : ℕ) → count + left ≡ length all → left ≡ 0 → count ≤ 32 → count ≡ length (asked all)
+asked_whole all count left is none few =
+    let len = length-take 32 all in
+    omega (arith, is, none, few, len)
+
+-- ---- a NAK can be written
+first_fit : (n start limit : ℕ) (gaps : List (ℕ × ℕ)) → All (LiesIn start limit) gaps → limit ≤ size_limit → AllByRecursion (IsPair (file_size_octets false)) (take n gaps)
+first_fit zero start limit gaps all high = tt
+first_fit (suc n) start limit [] all high = tt
+first_fit (suc n) start limit (g ∷ gs) all high =
+    let parts = all_parts (LiesIn start limit) g gs (g ∷ gs) refl all in
+    let some : g.0 < g.1 = parts.0.1 in
+    let below : g.1 ≤ limit = parts.0.2 in
+    ((omega arith, omega arith), first_fit n start limit gs parts.1 high)
+
+asked_fit : (metadata : Bool) (start limit : ℕ) (gaps : List (ℕ × ℕ)) → All (LiesIn start limit) gaps → limit ≤ size_limit →
+    AllByRecursion (IsPair (file_size_octets false)) (asked (with_metadata metadata gaps))
+asked_fit true start limit gaps all high = ((omega arith, omega arith), first_fit 31 start limit gaps all high)
+asked_fit false start limit gaps all high = first_fit 32 start limit gaps all high
+
+last_fits : (end : ℕ) (pairs : List (ℕ × ℕ)) → end < 256 ^ (file_size_octets false) → AllByRecursion (IsPair (file_size_octets false)) pairs → last_end end pairs < 256 ^ (file_size_octets false)
+last_fits end [] low all = low
+last_fits end (p ∷ ps) low all = last_fits p.1 ps all.0.1 all.1
+
+scope_fits : (more : Bool) (end limit : ℕ) → end < 256 ^ (file_size_octets false) → limit ≤ size_limit → (if more then end else limit) < 256 ^ (file_size_octets false)
+scope_fits true end limit low high = low
+scope_fits false end limit low high = omega (arith, high)
+
+its_nak_fits : (r : ReceiverState) (cursor : ℕ) → All (LiesIn cursor (scope_limit r)) (gaps_of r.held cursor (scope_limit r)) → cursor ≤ size_limit → scope_limit r ≤ size_limit →
+    FitsContent (file_size_octets false) (receiver_says r (due_is.Nak cursor))
+its_nak_fits r cursor all low high =
+    let metadata : Bool = is_none r.metadata && (cursor == 0) in
+    let pairs = asked_fit metadata cursor (scope_limit r) (gaps_of r.held cursor (scope_limit r)) all high in
+    let none : 0 < 256 ^ (file_size_octets false) = omega arith in
+    (omega (arith, low), scope_fits (has_more (missing_pairs cursor r)) (last_end 0 (asked (missing_pairs cursor r))) (scope_limit r) (last_fits 0 (asked (missing_pairs cursor r)) none pairs) high, pairs)
+
+module _ (r : ReceiverState) (cursor limit : ℕ) (gaps : List (ℕ × ℕ)) (up_to : limit ≡ scope_limit r) (are : gaps ≡ gaps_of r.held cursor limit) where
+  are_gaps : gaps ≡ gaps_of r.held cursor (scope_limit r)
+  are_gaps = are ∙ ap (λ n. gaps_of r.held cursor n) up_to
+
+  pub nak_fits : All (LiesIn cursor limit) gaps → cursor ≤ size_limit → limit ≤ size_limit → FitsContent (file_size_octets false) (receiver_says r (due_is.Nak cursor))
+  nak_fits all low high =
+      its_nak_fits r cursor (subst (λ (l : List (ℕ × ℕ)). All (LiesIn cursor (scope_limit r)) l) are_gaps (subst (λ n. All (LiesIn cursor n) gaps) up_to all)) low (subst (λ n. n ≤ size_limit) up_to high)
+
+  pub pairs_counted : (metadata : Bool) (count : ℕ) → metadata ≡ (is_none r.metadata && (cursor == 0)) → count ≡ length (asked (with_metadata metadata gaps)) → length (asked (missing_pairs cursor r)) ≡ count
+  pairs_counted metadata count is counted =
+      sym (counted ∙ ap (λ b. length (asked (with_metadata b gaps))) is ∙ ap (λ (l : List (ℕ × ℕ)). length (asked (with_metadata (is_none r.metadata && (cursor == 0)) l))) are_gaps)

@@ -10,7 +10,7 @@ use Rattle.cfdp_header.specs.Files.{FileMap}
 use Rattle.cfdp_directives.specs.declared.pdu.addressing.Addressing.{Addressing}
 use Rattle.cfdp_directives.specs.Pdu.Checksum.{modular_checksum}
 use Rattle.cfdp_directives.specs.Pdu.Content.{Content, FileData, Metadata, Eof, Finished, Ack, Nak, Prompt, KeepAlive}
-use Rattle.cfdp_directives.specs.Pdu.Grammar.{SpellsPdu}
+use Rattle.cfdp_directives.specs.Pdu.Small.{SpellsSmall}
 use Rattle.cfdp_directives.specs.User.Put.{Put, IsTruthful, IsMetadataOf, IsEofOf, Brings}
 use Rattle.cfdp_directives.proofs.Puts.{SomePdu-append_left, SomePdu-last}
 use Rattle.cfdp_store.specs.declared.stored.Stored.{Stored}
@@ -52,7 +52,7 @@ sound-staged put heard r m n same s = record {
 }
 
 -- the PDU that was heard last is among those heard
-pub among-last : (put : Put) (heard : List (List ℕ)) (text : List ℕ) (h : Header) (v : Content) → SpellsPdu h v text → h.id ≡ put.id → IsTruthful put v → IsAmong put (heard ++ text ∷ []) v
+pub among-last : (put : Put) (heard : List (List ℕ)) (text : List ℕ) (h : Header) (v : Content) → SpellsSmall h v text → h.id ≡ put.id → IsTruthful put v → IsAmong put (heard ++ text ∷ []) v
 among-last put heard text h (Metadata kind size source destination options) spells same truth = SomePdu-last (IsMetadataOf put) heard text h (Metadata kind size source destination options) spells (same, truth)
 among-last put heard text h (FileData offset bytes) spells same truth = λ n low high. SomePdu-last (Brings put n) heard text h (FileData offset bytes) spells (same, low, high, truth)
 among-last put heard text h (Eof condition checksum size tlvs) spells same truth = λ fine. SomePdu-last (IsEofOf put) heard text h (Eof condition checksum size tlvs) spells (same, fine, truth)

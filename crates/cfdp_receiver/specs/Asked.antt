@@ -1,5 +1,5 @@
 -- What one NAK asks for, as it lies in memory.
-use Rattle.std.specs.Prelude.{◌≡◌, ℕ, ◌≤◌, ◌++◌, Bool, List, [], ◌∷◌, length, take, if◌then◌else◌}
+use Rattle.std.specs.Prelude.{◌≡◌, ℕ, ◌≤◌, ◌++◌, Bool, List, [], ◌∷◌, length, take, if◌then◌else◌, false}
 use Rattle.std.specs.List.{AllByRecursion}
 use Rattle.cfdp_directives.specs.Pdu.Codes.{file_size_octets}
 use Rattle.cfdp_directives.specs.Pdu.Pair.{IsPair}
@@ -19,7 +19,7 @@ pairs_of a = take a.count a.pairs
 pub record IsWritable (a : Asked) : Type 0 where
   pub few : a.count ≤ 32
   pub len : length (pairs_of a) ≡ a.count
-  pub pairs : AllByRecursion (IsPair file_size_octets) (pairs_of a)
+  pub pairs : AllByRecursion (IsPair (file_size_octets false)) (pairs_of a)
   pub end : a.end ≤ size_limit
 
 -- It is what one NAK asks for, of all that is missing.

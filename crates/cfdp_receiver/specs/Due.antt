@@ -80,7 +80,7 @@ receiver_taken due.KeepAlive r = record r { keep_alive_due = false }
 receiver_taken (due.Finished o) r = record r { finished_due = false; finished_taken = true }
 
 abbrev pub len_of : ReceiverState → Option Due → Option ℕ
-len_of r (Some d) = Some (written_len r.addressing (receiver_says r d))
+len_of r (Some d) = Some (written_len r.addressing false (receiver_says r d))
 len_of r None = None
 
 -- octets of the PDU that is due, its header too

@@ -1,9 +1,10 @@
 // The pairs of a NAK.
-ghost use Rattle.std.specs.Prelude.{◌≡◌, ◌≤◌, [], Some, None, if◌then◌else◌};
+ghost use Rattle.std.specs.Prelude.{◌≡◌, ◌≤◌, [], Some, None, length, if◌then◌else◌};
 ghost use Rattle.std.specs.List.{All};
 ghost use Rattle.cfdp_extents.specs.Offsets.{LiesIn};
 ghost use Rattle.cfdp_receiver.specs.State.{size_limit};
 ghost use Rattle.cfdp_receiver.specs.Asked.{pairs_of, with_metadata, IsWritable, AsksFor};
+ghost use Rattle.cfdp_receiver.specs.Missing.{asked};
 
 use cfdp_directives::Pairs;
 use cfdp_extents::Gaps;
@@ -78,4 +79,19 @@ impl Asked {
     {
         if self.more { Some(self.end) } else { None }
     }
+}
+
+/// How many pairs one NAK has for these gaps, with Metadata ahead of them if it is asked for.
+pub(crate) fn count_asked(metadata: bool, gaps: Gaps<'_>) -> usize
+    ensures count { result ≡ length (asked (with_metadata metadata gaps.entry)) }
+    ensures few { result ≤ 32 }
+{
+    let mut count = usize::from(metadata);
+    for _gap in gaps {
+        if count == MOST_PAIRS {
+            return count;
+        }
+        count += 1;
+    }
+    count
 }

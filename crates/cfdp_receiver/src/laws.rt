@@ -16,7 +16,7 @@ ghost use Rattle.cfdp_directives.specs.Pdu.Checksum.{modular_checksum};
 ghost use Rattle.cfdp_directives.specs.Pdu.Codes.{filestore_rejection};
 ghost use Rattle.cfdp_directives.specs.User.Completions.{is_finished};
 ghost use Rattle.cfdp_directives.specs.Pdu.Content.{Content};
-ghost use Rattle.cfdp_directives.specs.Pdu.Grammar.{SpellsPdu};
+ghost use Rattle.cfdp_directives.specs.Pdu.Small.{SpellsSmall};
 ghost use Rattle.cfdp_directives.specs.User.Policy.{finished_told};
 ghost use Rattle.cfdp_directives.specs.User.Put.{Put, IsTruthful};
 ghost use Rattle.cfdp_extents.specs.Offsets.{Offsets, is_within};
@@ -277,7 +277,7 @@ pub fn more_is_heard()
         ((text : List ℕ) → Contains heard text → Contains others text)
         → Sound put heard r m → Sound put others r m }
     ensures last { (put : Put) (heard : List (List ℕ)) (text : List ℕ) (h : Header)
-        (v : Content) → SpellsPdu h v text → h.id ≡ put.id → IsTruthful put v
+        (v : Content) → SpellsSmall h v text → h.id ≡ put.id → IsTruthful put v
         → IsAmong put (heard ++ text ∷ []) v }
     ensures staged { (put : Put) (heard : List (List ℕ)) (r : ReceiverState) (m n : OctetMap) →
         (r.phase ≡ Receiving → (k : ℕ) → set.contains r.held k ≡ true → map.get n k ≡ map.get m k)

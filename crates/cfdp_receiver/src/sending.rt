@@ -1,5 +1,5 @@
 // What a receiver sends.
-ghost use Rattle.std.specs.Prelude.{◌≡◌, ◌≤◌, Option, Some, is_some, IsSome, IfSome, take, drop, length, true};
+ghost use Rattle.std.specs.Prelude.{◌≡◌, ◌≤◌, Option, Some, is_some, IsSome, IfSome, take, drop, length, true, false};
 ghost use Rattle.std.specs.FinSet as set;
 ghost use Rattle.cfdp_header.specs.declared.value.TransactionId.{TransactionId};
 ghost use Rattle.cfdp_directives.specs.Pdu.Addressing as addressings;
@@ -18,11 +18,14 @@ ghost use Rattle.cfdp_receiver.specs.Due.{receiver_due, receiver_says, receiver_
 ghost use Rattle.cfdp_receiver.specs.Steps as steps;
 ghost use Rattle.cfdp_receiver.specs.Does.{timers_set};
 
-use crate::asked::Asked;
+use crate::asked::{Asked, count_asked};
 use crate::due::Due;
 use crate::receiver::Receiver;
 use crate::state::ReceiverPhase;
-use cfdp_directives::{Acknowledged, Condition, Outcome, Pdu, Policy, Tlvs, TransactionStatus};
+use cfdp_directives::{
+    Acknowledged, Condition, Outcome, Pdu, Policy, Tlvs, TransactionStatus, nak_len,
+};
+use cfdp_header::Header;
 use cfdp_timers::{Kind, Timers};
 
 impl Receiver {
@@ -33,14 +36,14 @@ impl Receiver {
         ensures len { result ≡ due_len self.now }
         ensures short { IfSome result (λ len. len ≤ 4128) }
         ensures can_write { IfSome (receiver_due self.now) (λ d. let v = receiver_says self.now d in
-            CanWrite (addressings.header_of self.now.addressing v) v) }
+            CanWrite (addressings.header_of self.now.addressing false v) v) }
     {
         let due = self.next_due()?;
         Some(self.len_of(&due))
     }
 
-    /// Whether a PDU is due: whether [`due`](Self::due) answers a length, for which a NAK has to be
-    /// made. Takes no memory.
+    /// Whether a PDU is due: whether [`due`](Self::due) answers a length, for which what a NAK asks
+    /// for is counted. Takes no memory.
     pub fn is_due(&self) -> bool
         ensures { result ≡ is_some (receiver_due self.now) }
     {
@@ -55,7 +58,8 @@ impl Receiver {
         requires fits { IfSome (due_len self.old) (λ len. len ≤ length out.old) }
         ensures len { due_len self.old ≡ Some result }
         ensures front { IfSome (receiver_due self.old) (λ d. let v = receiver_says self.old d in
-            take result out.new ≡ pdu_octets (addressings.header_of self.old.addressing v) v) }
+            take result out.new
+            ≡ pdu_octets (addressings.header_of self.old.addressing false v) v) }
         ensures behind { drop result out.new ≡ drop result out.old }
         ensures receiver { IfSome (receiver_due self.old) (λ d.
             self.new ≡ receiver_taken d self.old) }
@@ -124,31 +128,46 @@ impl Receiver {
     fn len_of(&self, due: &Due) -> usize
         requires { IsWritableIn self.now due.now }
         ensures len { result
-            ≡ addressings.written_len self.now.addressing (receiver_says self.now due.now) }
+            ≡ addressings.written_len self.now.addressing false (receiver_says self.now due.now) }
         ensures short { result ≤ 4128 }
         ensures can_write { let v = receiver_says self.now due.now in
-            CanWrite (addressings.header_of self.now.addressing v) v }
+            CanWrite (addressings.header_of self.now.addressing false v) v }
     {
         match due {
-            Due::AckOfEof(condition) => self.addressing.written_len(&self.ack(*condition)),
-            Due::Nak(cursor) => {
-                let asked = self.asked(*cursor);
-                self.addressing.written_len(&self.nak(*cursor, &asked))
-            }
-            Due::KeepAlive => self.addressing.written_len(&self.keep_alive()),
-            Due::Finished(outcome) => self.addressing.written_len(&self.finished(outcome)),
+            Due::AckOfEof(condition) => self.addressing.written_len(false, &self.ack(*condition)),
+            Due::Nak(cursor) => self.len_of_nak(*cursor),
+            Due::KeepAlive => self.addressing.written_len(false, &self.keep_alive()),
+            Due::Finished(outcome) => self.addressing.written_len(false, &self.finished(outcome)),
         }
+    }
+
+    /// Octets of a NAK from an offset on, its header too: what it asks for is counted here, and
+    /// gathered once it is written.
+    #[tactic(auto, using(crate::proofs::AskedLemmas::nak_fits))]
+    fn len_of_nak(&self, cursor: u64) -> usize
+        requires receiving { self.now.phase ≡ ReceiverPhase.Receiving }
+        requires cursor { cursor ≤ size_limit }
+        ensures len { result
+            ≡ addressings.written_len self.now.addressing false (receiver_says self.now (due_is.Nak cursor)) }
+        ensures short { result ≤ 4128 }
+        ensures can_write { let v = receiver_says self.now (due_is.Nak cursor) in
+            CanWrite (addressings.header_of self.now.addressing false v) v }
+    {
+        let gaps = self.held.missing_in(cursor, self.scope_limit());
+        let pairs = count_asked(self.asks_for_metadata(cursor), gaps);
+        Header::len_in_widths(self.addressing.id_width, self.addressing.number_width)
+            + nak_len(false, pairs)
     }
 
     /// Writes the PDU, and goes on behind it.
     fn send(&mut self, due: &Due, out: &mut [u8]) -> usize
         requires writable { IsWritableIn self.old due.now }
-        requires room { addressings.written_len self.old.addressing (receiver_says self.old due.now)
-            ≤ length out.old }
+        requires room { addressings.written_len self.old.addressing false
+            (receiver_says self.old due.now) ≤ length out.old }
         ensures len { result
-            ≡ addressings.written_len self.old.addressing (receiver_says self.old due.now) }
+            ≡ addressings.written_len self.old.addressing false (receiver_says self.old due.now) }
         ensures front { let v = receiver_says self.old due.now in
-            take result out.new ≡ pdu_octets (addressings.header_of self.old.addressing v) v }
+            take result out.new ≡ pdu_octets (addressings.header_of self.old.addressing false v) v }
         ensures behind { drop result out.new ≡ drop result out.old }
         ensures receiver { self.new ≡ receiver_taken due.now self.old }
         ensures ready { (staged : TransactionId → Option OctetMap) →
@@ -157,23 +176,27 @@ impl Receiver {
     {
         match due {
             Due::AckOfEof(condition) => {
-                let len = self.addressing.write_pdu(&self.ack(*condition), out);
+                let len = self.addressing.write_pdu(false, &self.ack(*condition), out);
                 self.ack_due = None;
                 len
             }
             Due::Nak(cursor) => {
                 let asked = self.asked(*cursor);
-                let len = self.addressing.write_pdu(&self.nak(*cursor, &asked), out);
+                let len = self
+                    .addressing
+                    .write_pdu(false, &self.nak(*cursor, &asked), out);
                 self.nak_cursor = asked.next_cursor();
                 len
             }
             Due::KeepAlive => {
-                let len = self.addressing.write_pdu(&self.keep_alive(), out);
+                let len = self.addressing.write_pdu(false, &self.keep_alive(), out);
                 self.keep_alive_due = false;
                 len
             }
             Due::Finished(outcome) => {
-                let len = self.addressing.write_pdu(&self.finished(outcome), out);
+                let len = self
+                    .addressing
+                    .write_pdu(false, &self.finished(outcome), out);
                 self.finished_due = false;
                 self.finished_taken = true;
                 len
@@ -183,8 +206,8 @@ impl Receiver {
 
     fn ack<'a>(&self, condition: Condition) -> Pdu<'a>
         ensures says { view result ≡ receiver_says self.now (due_is.AckOfEof condition) }
-        ensures fits { FitsContent file_size_octets (view result) }
-        ensures short { content_len file_size_octets (view result) ≤ 4100 }
+        ensures fits { FitsContent (file_size_octets false) (view result) }
+        ensures short { content_len (file_size_octets false) (view result) ≤ 4100 }
     {
         let _any_condition_fits = condition.code();
         Pdu::Ack {
@@ -196,8 +219,8 @@ impl Receiver {
 
     fn keep_alive<'a>(&self) -> Pdu<'a>
         ensures says { view result ≡ receiver_says self.now due_is.KeepAlive }
-        ensures fits { FitsContent file_size_octets (view result) }
-        ensures short { content_len file_size_octets (view result) ≤ 4100 }
+        ensures fits { FitsContent (file_size_octets false) (view result) }
+        ensures short { content_len (file_size_octets false) (view result) ≤ 4100 }
     {
         Pdu::KeepAlive {
             progress: self.held_end(),
@@ -206,8 +229,8 @@ impl Receiver {
 
     fn finished<'a>(&self, outcome: &Outcome) -> Pdu<'a>
         ensures says { view result ≡ receiver_says self.now (due_is.Finished outcome.now) }
-        ensures fits { FitsContent file_size_octets (view result) }
-        ensures short { content_len file_size_octets (view result) ≤ 4100 }
+        ensures fits { FitsContent (file_size_octets false) (view result) }
+        ensures short { content_len (file_size_octets false) (view result) ≤ 4100 }
     {
         let condition = outcome.condition;
         let _any_condition_fits = condition.code();
@@ -237,8 +260,8 @@ impl Receiver {
         requires asks { AsksFor (missing_pairs cursor self.now) asked.now }
         requires writable { IsWritable asked.now }
         ensures says { view result ≡ receiver_says self.now (due_is.Nak cursor) }
-        ensures fits { FitsContent file_size_octets (view result) }
-        ensures short { content_len file_size_octets (view result) ≤ 4100 }
+        ensures fits { FitsContent (file_size_octets false) (view result) }
+        ensures short { content_len (file_size_octets false) (view result) ≤ 4100 }
     {
         Pdu::Nak {
             start: cursor,

@@ -128,9 +128,9 @@ told-fits x s = elim (x.checksum_kind == modular) as (λ b. (if b then x.checksu
 
 -- each number fits its field, and the data field is short
 abbrev pub Fits : SenderState → SenderDue → List ℕ → Type 0
-Fits x d bytes = FitsContent file_size_octets (pdu_says bytes x d) × (content_len file_size_octets (pdu_says bytes x d) < 2 ^ 16)
+Fits x d bytes = FitsContent (file_size_octets false) (pdu_says bytes x d) × (content_len (file_size_octets false) (pdu_says bytes x d) < 2 ^ 16)
 
-eof-fits : (x : SenderState) (p : SenderPhase) → IsSender x → FitsContent file_size_octets (eof_says p x) × (content_len file_size_octets (eof_says p x) < 2 ^ 16)
+eof-fits : (x : SenderState) (p : SenderPhase) → IsSender x → FitsContent (file_size_octets false) (eof_says p x) × (content_len (file_size_octets false) (eof_says p x) < 2 ^ 16)
 eof-fits x Sending s = (((lit< tt, refl), told-fits x s, s.transfer.size), lit< tt)
 eof-fits x Cancelling s = ((s.condition, told-fits x s, omega (arith, s.sent, s.transfer.size)), let len = location-len x.addressing.id.source x.addressing.id_width in omega (arith, len, s.transfer.addressing.id.id_width.1))
 eof-fits x Closed s = ((s.condition, told-fits x s, omega (arith, s.sent, s.transfer.size)), let len = location-len x.addressing.id.source x.addressing.id_width in omega (arith, len, s.transfer.addressing.id.id_width.1))
@@ -157,23 +157,23 @@ carried-short x (due.Prompt keep_alive) file part most = omega arith
 carried-short x due.Metadata file part most = omega arith
 carried-short x due.Eof file part most = omega arith
 
-pub due-can_write : (x : SenderState) (d : SenderDue) (file : List ℕ) → IsSender x → sender_due x ≡ Some d → CanWrite (header_of x.addressing (sender_says file x d)) (sender_says file x d)
+pub due-can_write : (x : SenderState) (d : SenderDue) (file : List ℕ) → IsSender x → sender_due x ≡ Some d → CanWrite (header_of x.addressing false (sender_says file x d)) (sender_says file x d)
 due-can_write x d file s is =
     let of = due-is x d is in
     let fits : Fits x d (carried file d) = due-fits x d (carried file d) s of (carried-short x d file (carries-segment x d s of) s.transfer.most) in
-    can_write x.addressing (sender_says file x d) s.transfer.addressing fits.0 fits.1
+    can_write x.addressing false (sender_says file x d) s.transfer.addressing fits.0 fits.1
 
 -- and is no longer than file data of a whole segment
 none-carried : (count : ℕ) → (0 < count → false ≡ true) → count ≡ 0
 none-carried zero some = refl
 none-carried (suc n) some = let e : false ≡ true = some (omega arith) in absurd (cc)
 
-eof-short : (x : SenderState) (p : SenderPhase) → IsSender x → content_len file_size_octets (eof_says p x) ≤ 20
+eof-short : (x : SenderState) (p : SenderPhase) → IsSender x → content_len (file_size_octets false) (eof_says p x) ≤ 20
 eof-short x Sending s = omega arith
 eof-short x Cancelling s = let len = location-len x.addressing.id.source x.addressing.id_width in omega (arith, len, s.transfer.addressing.id.id_width.1)
 eof-short x Closed s = let len = location-len x.addressing.id.source x.addressing.id_width in omega (arith, len, s.transfer.addressing.id.id_width.1)
 
-pub content-short : (x : SenderState) (d : SenderDue) (count : ℕ) → IsSender x → count ≤ 4096 → (0 < count → carries d ≡ true) → content_len file_size_octets (pdu_says [] x d) + count ≤ 4100
+pub content-short : (x : SenderState) (d : SenderDue) (count : ℕ) → IsSender x → count ≤ 4096 → (0 < count → carries d ≡ true) → content_len (file_size_octets false) (pdu_says [] x d) + count ≤ 4100
 content-short x (due.AckOfFinished condition) count s le some = omega (arith, none-carried count some)
 content-short x (due.Prompt keep_alive) count s le some = omega (arith, none-carried count some)
 content-short x due.Metadata count s le some = omega (arith, none-carried count some, s.transfer.source.1, s.transfer.destination.1)
@@ -182,7 +182,7 @@ content-short x (due.NewData start end) count s le some = omega (arith, le)
 content-short x due.Eof count s le some = omega (arith, none-carried count some, eof-short x x.phase s)
 
 -- the octets carried add to the length of a PDU without them
-pub says-len : (x : SenderState) (d : SenderDue) (file : List ℕ) → content_len file_size_octets (pdu_says (carried file d) x d) ≡ content_len file_size_octets (pdu_says [] x d) + length (carried file d)
+pub says-len : (x : SenderState) (d : SenderDue) (file : List ℕ) → content_len (file_size_octets false) (pdu_says (carried file d) x d) ≡ content_len (file_size_octets false) (pdu_says [] x d) + length (carried file d)
 says-len x (due.AckOfFinished condition) file = refl
 says-len x (due.Prompt keep_alive) file = refl
 says-len x due.Metadata file = sym (add-zero _)
@@ -213,12 +213,12 @@ fits-short x d bytes s is le = due-fits x d bytes s (due-is x d is) le
 
 -- the length that is told of what is due
 pub due-len : (x : SenderState) (d : SenderDue) (file : List ℕ) (start len r : ℕ) (v : Content)
-    → sender_due x ≡ Some d → v ≡ pdu_says [] x d → r ≡ written_len x.addressing v
+    → sender_due x ≡ Some d → v ≡ pdu_says [] x d → r ≡ written_len x.addressing false v
     → carried file d ≡ take len (drop start file) → length file ≡ x.size → start + len ≤ x.size
-    → Some (r + len) ≡ option_map (λ d. written_len x.addressing (sender_says file x d)) (sender_due x)
+    → Some (r + len) ≡ option_map (λ d. written_len x.addressing false (sender_says file x d)) (sender_due x)
 due-len x d file start len r v is says written part whole within =
     let add = says-len x d file in
     let same : length (carried file d) ≡ len = extent-len file (carried file d) start len x.size part whole within in
-    let content : content_len file_size_octets v ≡ content_len file_size_octets (pdu_says [] x d) = ap (content_len file_size_octets) says in
-    let total : r + len ≡ written_len x.addressing (sender_says file x d) = omega (arith, add, same, content, written) in
-    ap Some total ∙ ap (option_map (λ d. written_len x.addressing (sender_says file x d))) (sym is)
+    let content : content_len (file_size_octets false) v ≡ content_len (file_size_octets false) (pdu_says [] x d) = ap (content_len (file_size_octets false)) says in
+    let total : r + len ≡ written_len x.addressing false (sender_says file x d) = omega (arith, add, same, content, written) in
+    ap Some total ∙ ap (option_map (λ d. written_len x.addressing false (sender_says file x d))) (sym is)

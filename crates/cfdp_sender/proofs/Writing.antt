@@ -1,10 +1,11 @@
 -- What stands in the octets of a PDU that carries some of the file.
-use Rattle.std.proofs.Common.{◌≡◌, ℕ, ◌+◌, ◌-◌, ◌≤◌, List, [], ◌++◌, length, take, drop, Option, Some, refl, sym, ap, subst, ◌∙◌, arith}
+use Rattle.std.proofs.Common.{◌≡◌, ℕ, ◌+◌, ◌-◌, ◌≤◌, List, [], ◌++◌, length, take, drop, Option, Some, refl, sym, ap, subst, ◌∙◌, arith, false}
 use Rattle.std.proofs.lemmas.List.{length-append, length-take, length-drop, drop-drop, drop-take, drop_at, append_assoc}
 use Rattle.cfd_bits.specs.Field.{octets}
 use Rattle.cfdp_header.specs.Header.{header_octets}
 use Rattle.cfdp_directives.specs.declared.pdu.addressing.Addressing.{Addressing}
 use Rattle.cfdp_directives.specs.Pdu.Addressing.{header_of, data_front_len}
+use Rattle.cfdp_directives.specs.Pdu.Codes.{file_size_octets}
 use Rattle.cfdp_directives.specs.Pdu.Content.{FileData}
 use Rattle.cfdp_directives.specs.Pdu.Written.{pdu_octets}
 use Rattle.cfdp_sender.specs.declared.due.SenderDue.{SenderDue}
@@ -21,8 +22,8 @@ use Rattle.cfdp_sender.specs.Steps.{pdu_sent, sender_sends}
 use Rattle.cfdp_sender.specs.Does.{Leaves, Takes, Writes, timers_set}
 
 -- a front, and then octets of the file behind it, are a whole PDU
-pub data-writes : (a : Addressing) (start count at : ℕ) (file out middle new : List ℕ) → start + count ≤ length file → at ≡ data_front_len a
-    → ((bytes : List ℕ) → length bytes ≡ count → take at middle ++ bytes ≡ pdu_octets (header_of a (FileData start bytes)) (FileData start bytes))
+pub data-writes : (a : Addressing) (start count at : ℕ) (file out middle new : List ℕ) → start + count ≤ length file → at ≡ data_front_len a false
+    → ((bytes : List ℕ) → length bytes ≡ count → take at middle ++ bytes ≡ pdu_octets (header_of a false (FileData start bytes)) (FileData start bytes))
     → drop at middle ≡ drop at out → take (at + count) new ≡ take at middle ++ take count (drop start file) → drop (at + count) new ≡ drop (at + count) middle
     → Writes a (FileData start (take count (drop start file))) (at + count) out new
 data-writes a start count at file out middle new within is front stays put rest =
@@ -52,11 +53,11 @@ pub carried-last : (x : SenderState) (d : SenderDue) (file out new : List ℕ) (
 carried-last x (due.AskedData start end) file out new len count w room some =
     let bytes = carried file (due.AskedData start end) in
     let v = FileData start bytes in
-    at_end (header_octets (header_of x.addressing v) ++ octets 4 start) bytes new len count room (w.front ∙ sym (append_assoc (header_octets (header_of x.addressing v)) (octets 4 start) bytes)) some
+    at_end (header_octets (header_of x.addressing false v) ++ octets (file_size_octets false) start) bytes new len count room (w.front ∙ sym (append_assoc (header_octets (header_of x.addressing false v)) (octets (file_size_octets false) start) bytes)) some
 carried-last x (due.NewData start end) file out new len count w room some =
     let bytes = carried file (due.NewData start end) in
     let v = FileData start bytes in
-    at_end (header_octets (header_of x.addressing v) ++ octets 4 start) bytes new len count room (w.front ∙ sym (append_assoc (header_octets (header_of x.addressing v)) (octets 4 start) bytes)) some
+    at_end (header_octets (header_of x.addressing false v) ++ octets (file_size_octets false) start) bytes new len count room (w.front ∙ sym (append_assoc (header_octets (header_of x.addressing false v)) (octets (file_size_octets false) start) bytes)) some
 carried-last x (due.AckOfFinished condition) file out new len count w room some = nothing_at_end new len count some
 carried-last x (due.Prompt keep_alive) file out new len count w room some = nothing_at_end new len count some
 carried-last x due.Metadata file out new len count w room some = nothing_at_end new len count some

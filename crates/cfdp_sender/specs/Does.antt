@@ -92,8 +92,8 @@ pub record Rests (old new : SenderState) (told_before told_now : List Indication
 -- So many octets were written, those of this PDU, and the octets behind stay.
 pub record Writes (a : Addressing) (v : Content) (octets : ℕ)
     (out_before out_now : List ℕ) : Type 0 where
-  pub end : octets ≡ written_len a v
-  pub front : take octets out_now ≡ pdu_octets (header_of a v) v
+  pub end : octets ≡ written_len a false v
+  pub front : take octets out_now ≡ pdu_octets (header_of a false v) v
   pub behind : drop octets out_now ≡ drop octets out_before
 
 -- What taking a PDU did, by what was due: where that is data which the outbox failed to give, no

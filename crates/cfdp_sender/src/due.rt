@@ -1,5 +1,5 @@
 // What a sender sends next, and what that PDU says.
-ghost use Rattle.std.specs.Prelude.{◌≡◌, ◌+◌, ◌^◌, ◌<◌, ◌≤◌, ℕ, List, [], length, take, drop, true, Some, is_some, IfSome};
+ghost use Rattle.std.specs.Prelude.{◌≡◌, ◌+◌, ◌^◌, ◌<◌, ◌≤◌, ℕ, List, [], length, take, drop, true, Some, is_some, IfSome, false};
 ghost use Rattle.std.specs.Option.{option_map};
 ghost use Rattle.cfdp_directives.specs.Pdu.Content.{FileData, view};
 ghost use Rattle.cfdp_directives.specs.Pdu.Addressing.{header_of, written_len};
@@ -35,15 +35,15 @@ impl Sender {
         ensures short { IfSome result (λ len. len ≤ 4128) }
         ensures can_write { (file : List ℕ) → IfSome (sender_due self.now)
             (λ d. let v = sender_says file self.now d in
-            CanWrite (header_of self.now.addressing v) v) }
+            CanWrite (header_of self.now.addressing false v) v) }
         ensures len { (file : List ℕ) → length file ≡ self.now.size → result
-            ≡ option_map (λ d. written_len self.now.addressing (sender_says file self.now d))
+            ≡ option_map (λ d. written_len self.now.addressing false (sender_says file self.now d))
             (sender_due self.now) }
     {
         let _size = self.size;
         let due = self.next()?;
         let (_, carried) = self.extent(&due);
-        Some(self.addressing.written_len(&self.says(&due)) + carried)
+        Some(self.addressing.written_len(false, &self.says(&due)) + carried)
     }
 
     /// Whether a PDU is due: whether [`due`](Self::due) answers a length, which costs more.

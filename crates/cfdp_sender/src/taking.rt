@@ -1,5 +1,5 @@
 // Sending the PDU that is due.
-ghost use Rattle.std.specs.Prelude.{◌≡◌, ◌+◌, ◌≤◌, ◌++◌, [], length, take, drop, vec_len, vec_capacity, true, IfOk, IfSome, OnErr, OnOk, IsSome, Some, is_ok};
+ghost use Rattle.std.specs.Prelude.{◌≡◌, ◌+◌, ◌≤◌, ◌++◌, [], length, take, drop, vec_len, vec_capacity, true, IfOk, IfSome, OnErr, OnOk, IsSome, Some, is_ok, false};
 ghost use Rattle.std.specs.FinMap as map;
 ghost use Rattle.cfdp_directives.specs.Pdu.Addressing.{written_len, data_front_len};
 ghost use Rattle.cfdp_directives.specs.Pdu.Content.{FileData};
@@ -42,7 +42,8 @@ impl Sender {
         requires room { vec_len told.old + 3 ≤ vec_capacity told.old }
         requires fits { let file = octets_in (O.files outbox.old) self.old.source in
             IfSome (sender_due self.old)
-            (λ d. written_len self.old.addressing (sender_says file self.old d) ≤ length out.old) }
+            (λ d. written_len self.old.addressing false (sender_says file self.old d)
+            ≤ length out.old) }
         ensures takes { Takes policy.now.times (octets_in (O.files outbox.old) self.old.source)
             (sender_due self.old) result self.old self.new told.old.items told.new.items timers.old
             timers.new out.old out.new }
@@ -80,7 +81,8 @@ impl Sender {
         requires due { sender_due self.now ≡ Some due.now }
         requires file { HasFile (O.files outbox.old) self.now.source self.now.size }
         requires fits { let file = octets_in (O.files outbox.old) self.now.source in
-            written_len self.now.addressing (sender_says file self.now due.now) ≤ length out.old }
+            written_len self.now.addressing false (sender_says file self.now due.now)
+            ≤ length out.old }
         ensures written { let file = octets_in (O.files outbox.old) self.now.source in
             IfOk result (λ len. Writes self.now.addressing (sender_says file self.now due.now) len
             out.old out.new) }
@@ -99,7 +101,7 @@ impl Sender {
             SenderDue::AckOfFinished(_)
             | SenderDue::Prompt(_)
             | SenderDue::Metadata
-            | SenderDue::Eof => Ok(self.addressing.write_pdu(&self.says(due), out)),
+            | SenderDue::Eof => Ok(self.addressing.write_pdu(false, &self.says(due), out)),
         }
     }
 
@@ -114,7 +116,7 @@ impl Sender {
         requires file { HasFile (O.files outbox.old) self.now.source self.now.size }
         requires within { start + count ≤ self.now.size }
         requires short { count ≤ 4096 }
-        requires room { data_front_len self.now.addressing + count ≤ length out.old }
+        requires room { data_front_len self.now.addressing false + count ≤ length out.old }
         ensures written { let file = octets_in (O.files outbox.old) self.now.source in
             IfOk result (λ len. Writes self.now.addressing
             (FileData start (take count (drop start file))) len out.old out.new) }
@@ -124,7 +126,7 @@ impl Sender {
         ensures calls { ReadsOnce O.steps self.now.source start count (is_ok result)
             outbox.old outbox.new }
     {
-        let at = self.addressing.write_data_front(start, count, out);
+        let at = self.addressing.write_data_front(false, start, count, out);
         read_to(outbox, self.source.as_slice(), start, out, at, count)?;
         Ok(at + count)
     }

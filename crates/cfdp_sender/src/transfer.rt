@@ -35,6 +35,6 @@ impl Transfer {
             && self.segment <= MOST_SEGMENT
             && is_file_name(self.source.as_slice())
             && is_file_name(self.destination.as_slice())
-            && is_file_size(self.size)
+            && is_file_size(false, self.size)
     }
 }

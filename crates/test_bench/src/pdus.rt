@@ -2,10 +2,12 @@
 //!
 //!     header OCTETS   to tell a header alone and the data field behind it, in hexadecimal digits
 //!     pdu OCTETS      to tell a PDU
+//!     other N OCTETS  to tell the octets of a PDU with the other large file flag, whose data field
+//!                     then has so many octets
 //!     sweep           to tell by what number each prefix of that PDU is refused, shortest first,
 //!                     and whether it is a PDU with some octet in the place of another
 use crate::bench::{Bench, played, unknown};
-use crate::words::{octets, text};
+use crate::words::{half, octets, pair, tell_octets, text};
 use cfdp_directives::{
     Addressing, Pairs, Pdu, Tlvs, can_write, decode, direction_fits, encode, is_for,
 };
@@ -33,6 +35,7 @@ impl Bench for PduBench {
     fn does(&mut self, verb: &str, words: &str, out: &mut String) -> Result<(), AllocError> {
         match verb {
             "sweep" => tell_sweep(&mut self.octets, out),
+            "other" => tell_other(self.alloc, words, out),
             _ => self.reads(verb, words, out),
         }
     }
@@ -96,10 +99,11 @@ fn tell_fields(header: &Header, out: &mut String) -> Result<(), AllocError> {
     } else {
         "receiver"
     };
-    let behind = if header.segment_metadata {
-        ", segment metadata"
-    } else {
-        ""
+    let behind = match (header.segment_metadata, header.large) {
+        (true, true) => ", segment metadata, large",
+        (true, false) => ", segment metadata",
+        (false, true) => ", large",
+        (false, false) => "",
     };
     let id = header.id;
     write!(
@@ -243,15 +247,15 @@ fn is_written_as(octets: &[u8], header: &Header, pdu: &Pdu<'_>) -> bool {
 /// Whether the PDU is written as these octets by what its header tells of its transaction.
 fn is_addressed_as(octets: &[u8], header: &Header, pdu: &Pdu<'_>) -> bool {
     let addressing = Addressing::of(header);
-    if !can_write(header, pdu) || !addressing.is_writable() || !pdu.fits() {
+    if !can_write(header, pdu) || !addressing.is_writable() || !pdu.fits(header.large) {
         return false;
     }
-    let len = addressing.written_len(pdu);
-    if ROOM < len || addressing.header_of(pdu) != *header {
+    let len = addressing.written_len(header.large, pdu);
+    if ROOM < len || addressing.header_of(header.large, pdu) != *header {
         return false;
     }
     let mut out = [0xFFu8; ROOM];
-    addressing.write_pdu(pdu, &mut out) == len && is_front(&out, len, octets)
+    addressing.write_pdu(header.large, pdu, &mut out) == len && is_front(&out, len, octets)
 }
 
 /// Whether these octets stand in front of octets 255.
@@ -375,6 +379,39 @@ fn width_alone(options: &Tlvs<'_>) -> u8 {
         }
         _ => 0,
     }
+}
+
+/// Tells the PDU with the other large file flag, behind a header with this length.
+fn tell_other(alloc: Global, words: &str, out: &mut String) -> Result<(), AllocError> {
+    let (length, digits) = pair(words);
+    let octets = octets(alloc, digits)?;
+    match decode(&octets) {
+        Ok((header, pdu)) => tell_with(alloc, &with_other(&header, half(length)), &pdu, out),
+        Err(e) => write!(out, " error {} {}: {e}\n", e.number(), e.name()),
+    }
+}
+
+fn with_other(header: &Header, length: u16) -> Header {
+    Header {
+        large: !header.large,
+        length,
+        ..*header
+    }
+}
+
+/// Tells the octets of the PDU behind this header.
+fn tell_with(
+    alloc: Global,
+    header: &Header,
+    pdu: &Pdu<'_>,
+    out: &mut String,
+) -> Result<(), AllocError> {
+    let mut written = [0xFFu8; ROOM];
+    if !can_write(header, pdu) || ROOM < header.len() + usize::from(header.length) {
+        return write!(out, " can't be written\n");
+    }
+    let len = encode(header, pdu, &mut written);
+    tell_octets(alloc, &written[..len], out)
 }
 
 fn tell_sweep(octets: &mut Vec<u8>, out: &mut String) -> Result<(), AllocError> {

@@ -8,6 +8,7 @@
 //!     pairs START-END ..        whether these ranges can be written, and how many they are
 //!     len KIND N ..             how many octets a data field has, or a `header` or the fault
 //!                               `location` among options, of which these are lengths
+//!     large VERB ..             to ask `progress`, `size`, `pairs` or `len` of a large file
 //!     condition N, checksum N, handler N   to tell what has this number
 //!     codes                     to tell those of Cancel, of both checksums, and of Suspend
 //!     policy                    to tell the limits, times and handlers of a policy by default
@@ -47,8 +48,10 @@ impl Bench for RuleBench {
             "new" => self.begins(out),
             "sum" => self.adds(words, out),
             "copy" => tell_copy(self.alloc, words, out),
-            "pairs" => tell_pairs(self.alloc, words, out),
-            "len" => write!(out, " {}\n", len_of(words)),
+            "large" => tell_large(self.alloc, words, out),
+            "progress" | "size" | "pairs" | "len" => {
+                tell_sized(self.alloc, false, verb, words, out)
+            }
             "policy" => tell_policy(Policy::default(), out),
             "codes" => tell_codes(out),
             _ => judges(verb, words, out),
@@ -74,12 +77,32 @@ impl RuleBench {
     }
 }
 
+fn tell_large(alloc: Global, words: &str, out: &mut String) -> Result<(), AllocError> {
+    let (verb, words) = pair(words);
+    tell_sized(alloc, true, verb, words, out)
+}
+
+/// Tells what goes by the large file flag.
+fn tell_sized(
+    alloc: Global,
+    large: bool,
+    verb: &str,
+    words: &str,
+    out: &mut String,
+) -> Result<(), AllocError> {
+    match verb {
+        "progress" => write!(out, " {}\n", keep_alive_fits(large, words)),
+        "size" => write!(out, " {}\n", is_file_size(large, number(words))),
+        "pairs" => tell_pairs(alloc, large, words, out),
+        "len" => write!(out, " {}\n", len_of(large, words)),
+        _ => unknown(out),
+    }
+}
+
 fn judges(verb: &str, words: &str, out: &mut String) -> Result<(), AllocError> {
     match verb {
         "condition" | "checksum" | "handler" => tell_named(verb, octet(words), out),
-        "fits" | "ack" | "progress" | "size" | "name" | "times" | "less" => {
-            write!(out, " {}\n", is_so(verb, words))
-        }
+        "fits" | "ack" | "name" | "times" | "less" => { write!(out, " {}\n", is_so(verb, words)) }
         _ => unknown(out),
     }
 }
@@ -88,8 +111,6 @@ fn is_so(verb: &str, words: &str) -> bool {
     match verb {
         "fits" => fits_width(number(word(words, 0)), octet(word(words, 1))),
         "ack" => of_ack(words).fits(),
-        "progress" => keep_alive_fits(words),
-        "size" => is_file_size(number(words)),
         "name" => is_file_name(plain(words)),
         "times" => times_of(words).is_valid(),
         _ => id(word(words, 0)) < id(word(words, 1)),
@@ -101,6 +122,7 @@ fn of_ack(words: &str) -> Header {
     Header {
         file_data: false,
         toward_sender: true,
+        large: false,
         length: 3,
         segment_metadata: false,
         id_width: octet(word(words, 0)),
@@ -113,8 +135,9 @@ fn of_ack(words: &str) -> Header {
     }
 }
 
-fn keep_alive_fits(words: &str) -> bool {
+fn keep_alive_fits(large: bool, words: &str) -> bool {
     let header = Header {
+        large,
         length: half(word(words, 0)),
         ..of_ack("2 4 1")
     };
@@ -132,26 +155,26 @@ fn times_of(words: &str) -> Times {
 }
 
 /// The length that the words ask for, of which the numbers after the first are below 2^16.
-fn len_of(words: &str) -> usize {
+fn len_of(large: bool, words: &str) -> usize {
     let kind = word(words, 0);
     let (first, second) = (len_at(words, 1), len_at(words, 2));
     match kind {
         "header" => Header::len_in_widths(octet(word(words, 1)), octet(word(words, 2))),
-        "data" => file_data_len(first),
-        "metadata" => metadata_len(first, second, len_at(words, 3)),
-        "eof" => eof_len(first),
+        "data" => file_data_len(large, first),
+        "metadata" => metadata_len(large, first, second, len_at(words, 3)),
+        "eof" => eof_len(large, first),
         "finished" => finished_len(first),
-        "nak" => nak_len(first),
+        "nak" => nak_len(large, first),
         "location" => fault_location_len(octet(word(words, 1))),
-        _ => fixed_len(kind),
+        _ => fixed_len(large, kind),
     }
 }
 
-fn fixed_len(kind: &str) -> usize {
+fn fixed_len(large: bool, kind: &str) -> usize {
     match kind {
         "ack" => ack_len(),
         "prompt" => prompt_len(),
-        "keep" => keep_alive_len(),
+        "keep" => keep_alive_len(large),
         _ => 0,
     }
 }
@@ -207,10 +230,10 @@ fn tell_policy(policy: Policy, out: &mut String) -> Result<(), AllocError> {
     )
 }
 
-fn tell_pairs(alloc: Global, words: &str, out: &mut String) -> Result<(), AllocError> {
+fn tell_pairs(alloc: Global, large: bool, words: &str, out: &mut String) -> Result<(), AllocError> {
     let given = ranges_of(alloc, words)?;
     let pairs = Pairs::of(&given);
-    let fit = pairs.fit();
+    let fit = pairs.fit(large);
     write!(out, " {fit} {} {}\n", pairs.len(), pairs.iter().count())
 }
 

@@ -9,11 +9,12 @@ use Rattle.cfdp_directives.specs.Pdu.Content.{Content, is_file_data}
 use Rattle.cfdp_directives.specs.Pdu.Written.{content_len}
 use Rattle.cfdp_directives.specs.Pdu.Direction.{goes_toward_sender}
 
--- a header of this kind, direction and length
-abbrev pub header_by : Addressing → Bool → Bool → ℕ → Header
-header_by a file_data toward_sender length = record {
+-- a header with this large file flag, of this kind, direction and length
+abbrev pub header_by : Addressing → Bool → Bool → Bool → ℕ → Header
+header_by a large file_data toward_sender length = record {
   file_data = file_data;
   toward_sender = toward_sender;
+  large = large;
   length = length;
   segment_metadata = false;
   id_width = a.id_width;
@@ -22,17 +23,19 @@ header_by a file_data toward_sender length = record {
   destination = a.destination;
 }
 
--- the header of a PDU that says this
-abbrev pub header_of : Addressing → Content → Header
-header_of a v = header_by a (is_file_data v) (goes_toward_sender v) (content_len file_size_octets v)
+-- the header of a PDU that says this, with this large file flag
+abbrev pub header_of : Addressing → Bool → Content → Header
+header_of a large v = header_by a large (is_file_data v) (goes_toward_sender v)
+    (content_len (file_size_octets large) v)
 
 -- octets of a file data PDU in front of its data
-abbrev pub data_front_len : Addressing → ℕ
-data_front_len a = header_len a.id_width a.number_width + file_size_octets
+abbrev pub data_front_len : Addressing → Bool → ℕ
+data_front_len a large = header_len a.id_width a.number_width + file_size_octets large
 
 -- octets of the whole PDU, its header too
-abbrev pub written_len : Addressing → Content → ℕ
-written_len a v = header_len a.id_width a.number_width + content_len file_size_octets v
+abbrev pub written_len : Addressing → Bool → Content → ℕ
+written_len a large v =
+    header_len a.id_width a.number_width + content_len (file_size_octets large) v
 
 -- what a header has in common with the others of its transaction
 abbrev pub addressing_of : Header → Addressing

@@ -1,5 +1,5 @@
 -- The codes of the standard's tables, and the octets of a file-size field.
-use Rattle.std.specs.Prelude.{ℕ, Bool, ◌==◌, ◌||◌, ◌≡◌, ◌<◌, false}
+use Rattle.std.specs.Prelude.{ℕ, Bool, ◌==◌, ◌||◌, ◌≡◌, ◌<◌, false, if◌then◌else◌}
 use Rattle.cfdp_directives.specs.declared.pdu.codes.Delivery.{Delivery}
 use Rattle.cfdp_directives.specs.declared.pdu.codes.Delivery.TheVariants.{Complete, Incomplete}
 use Rattle.cfdp_directives.specs.declared.pdu.codes.FileStatus.{FileStatus}
@@ -9,9 +9,10 @@ use Rattle.cfdp_directives.specs.declared.pdu.codes.TransactionStatus.TheVariant
 use Rattle.cfdp_directives.specs.declared.pdu.codes.Acknowledged.{Acknowledged}
 use Rattle.cfdp_directives.specs.declared.pdu.codes.Acknowledged.TheVariants as acknowledged
 
--- octets of a file-size field, as an offset, where the file is not large (CCSDS 727.0-B-5, 5.1.10)
-abbrev pub file_size_octets : ℕ
-file_size_octets = 4
+-- octets of a file-size field, as an offset, where the file is large and where it isn't (CCSDS
+-- 727.0-B-5, 5.1.10)
+abbrev pub file_size_octets : Bool → ℕ
+file_size_octets large = if large then 8 else 4
 
 -- the conditions (CCSDS 727.0-B-5, table 5-5)
 abbrev pub no_error : ℕ

@@ -89,12 +89,12 @@ abbrev pub after_header : Option HeaderError → Option PduError → Option PduE
 after_header None next = next
 after_header (Some e) next = Some (Header e)
 
--- what is wrong with octets that are no PDU: a header that is read tells of no large file
+-- what is wrong with octets that are no PDU: the header tells how many octets a file-size field has
 abbrev pub pdu_fault : List ℕ → Option PduError
 pdu_fault text =
     after_header (header_fault text)
-    (content_fault file_size_octets (field text 3 1 == 1) (field text 28 1 == 1)
-    (drop (header_len_told text) text))
+    (content_fault (file_size_octets (field text 7 1 == 1)) (field text 3 1 == 1)
+    (field text 28 1 == 1) (drop (header_len_told text) text))
 
 -- the number of a refusal
 abbrev pub pdu_refusal_number : PduError → ℕ

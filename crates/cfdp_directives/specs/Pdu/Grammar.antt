@@ -14,10 +14,9 @@ use Rattle.cfdp_directives.specs.Pdu.Tlv.{Tlv, tlv}
 use Rattle.cfdp_directives.specs.Pdu.Pair.{ArePairs}
 use Rattle.cfdp_directives.specs.Pdu.Content.{Content, FileData, Metadata, Eof, Finished, Ack, Nak, Prompt, KeepAlive, is_file_data}
 
--- octets of a file-size field, FSS, in a PDU with this header (CCSDS 727.0-B-5, 5.1.10): a header
--- with the large file flag is never read
+-- octets of a file-size field, FSS, in a PDU with this header (CCSDS 727.0-B-5, 5.1.10)
 abbrev pub fss : Header → ℕ
-fss h = file_size_octets
+fss h = file_size_octets h.large
 
 -- an octet of length, and that many octets: LV (CCSDS 727.0-B-5, 5.1.8)
 abbrev pub lv : List ℕ → List ℕ

@@ -1,5 +1,5 @@
 -- Pairs of offsets, each a file-size field of w octets.
-use Rattle.std.specs.Prelude.{◌≡◌, ◌/◌, ◌%◌, ◌*◌, ◌^◌, ℕ, zero, suc, ◌<◌, ◌≤◌, List, [], ◌∷◌, ◌++◌, length, drop}
+use Rattle.std.specs.Prelude.{◌≡◌, ◌/◌, ◌%◌, ◌*◌, ◌^◌, ℕ, zero, suc, ◌<◌, ◌≤◌, Bool, List, [], ◌∷◌, ◌++◌, length, drop}
 use Rattle.cfd_bits.specs.Field.{field, octets}
 use Rattle.cfdp_directives.specs.Pdu.Codes.{file_size_octets}
 use Rattle.cfdp_directives.specs.declared.pdu.pairs.Form.{Form}
@@ -33,16 +33,21 @@ pairs_of w zero octets = []
 pairs_of w (suc count) octets =
     (field octets 0 (8 * w), field octets (8 * w) (8 * w)) ∷ pairs_of w count (drop (2 * w) octets)
 
--- octets of a pair
-abbrev pub pair_octets : ℕ
-pair_octets = 2 * file_size_octets
+-- octets of a pair of a large file, and of one that isn't
+abbrev pub pair_octets : Bool → ℕ
+pair_octets large = 2 * file_size_octets large
+
+-- the pairs that fill the octets
+abbrev pub pairs_read : Bool → List ℕ → List (ℕ × ℕ)
+pairs_read large octets =
+    pairs_of (file_size_octets large) (length octets / pair_octets large) octets
 
 -- pairs as they lie in octets read, or as numbers
 abbrev pub pairs_in : Form → List (ℕ × ℕ)
-pairs_in (form.Read octets) = pairs_of file_size_octets (length octets.now / pair_octets) octets.now
+pairs_in (form.Read large octets) = pairs_read large octets.now
 pairs_in (form.Given pairs) = pairs.now
 
 -- Octets read are whole pairs.
 abbrev pub IsWhole : Form → Type 0
-IsWhole (form.Read octets) = length octets.now % pair_octets ≡ 0
+IsWhole (form.Read large octets) = length octets.now % pair_octets large ≡ 0
 IsWhole (form.Given pairs) = Unit {0}

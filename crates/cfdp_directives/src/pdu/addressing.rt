@@ -1,4 +1,4 @@
-ghost use Rattle.std.specs.Prelude.{◌≡◌, ◌+◌, ◌^◌, ◌<◌, ◌≤◌, ◌↔◌, ◌++◌, ℕ, List, length, take, drop, true, false, IsTrue};
+ghost use Rattle.std.specs.Prelude.{◌≡◌, ◌+◌, ◌^◌, ◌<◌, ◌≤◌, ◌↔◌, ◌++◌, ℕ, Bool, List, length, take, drop, true, false, IsTrue};
 ghost use Rattle.cfdp_directives.specs.declared.pdu.addressing.Addressing.{Addressing};
 ghost use Rattle.cfdp_directives.specs.Pdu.Content.{Content, FileData, view};
 ghost use Rattle.cfdp_directives.specs.Pdu.Written.{content_len, FitsContent, CanWrite, pdu_octets};
@@ -8,10 +8,9 @@ ghost use Rattle.cfdp_directives.specs.Pdu.Direction.{goes_toward_sender};
 ghost use Rattle.cfdp_directives.specs.Pdu.Addressing as addressings;
 ghost use Rattle.cfdp_directives.specs.Pdu.Addressing.{addressing_of, FitsAddressing};
 
-use crate::pdu::codes::FILE_SIZE_OCTETS;
 use crate::pdu::content::Pdu;
+use crate::pdu::file_size::{file_size_octets, put_file_size};
 use crate::pdu::writing::encode;
-use cfd_bits::put_uint;
 use cfdp_header::{Header, TransactionId, fits_width};
 
 /// What the headers of a transaction's PDUs have in common: the two entities, the transaction's
@@ -52,24 +51,27 @@ impl Addressing {
             && fits_width(self.destination, self.id_width)
     }
 
-    /// The header of a PDU. Its data field has 65,535 octets at the most.
-    pub fn header_of(&self, pdu: &Pdu<'_>) -> Header
-        requires { content_len file_size_octets (view pdu.now) < 2 ^ 16 }
-        ensures { result ≡ addressings.header_of self.now (view pdu.now) }
+    /// The header of a PDU, with this large file flag. Its data field has 65,535 octets at the
+    /// most.
+    pub fn header_of(&self, large: bool, pdu: &Pdu<'_>) -> Header
+        requires { content_len (file_size_octets large) (view pdu.now) < 2 ^ 16 }
+        ensures { result ≡ addressings.header_of self.now large (view pdu.now) }
     {
         self.header(
+            large,
             pdu.is_file_data(),
             pdu.goes_toward_sender(),
-            pdu.len() as u16,
+            pdu.len(large) as u16,
         )
     }
 
-    fn header(&self, file_data: bool, toward_sender: bool, length: u16) -> Header
-        ensures { result ≡ addressings.header_by self.now file_data toward_sender length }
+    fn header(&self, large: bool, file_data: bool, toward_sender: bool, length: u16) -> Header
+        ensures { result ≡ addressings.header_by self.now large file_data toward_sender length }
     {
         Header {
             file_data,
             toward_sender,
+            large,
             length,
             segment_metadata: false,
             id_width: self.id_width,
@@ -80,27 +82,27 @@ impl Addressing {
     }
 
     /// Octets of the whole PDU as `write_pdu` writes it, its header too.
-    pub fn written_len(&self, pdu: &Pdu<'_>) -> usize
-        requires { content_len file_size_octets (view pdu.now) < 2 ^ 16 }
-        ensures { result ≡ addressings.written_len self.now (view pdu.now) }
+    pub fn written_len(&self, large: bool, pdu: &Pdu<'_>) -> usize
+        requires { content_len (file_size_octets large) (view pdu.now) < 2 ^ 16 }
+        ensures { result ≡ addressings.written_len self.now large (view pdu.now) }
     {
-        Header::len_in_widths(self.id_width, self.number_width) + pdu.len()
+        Header::len_in_widths(self.id_width, self.number_width) + pdu.len(large)
     }
 
     /// Writes a PDU with its header into the first octets of `out`, and says how many they are. The
     /// octets behind stay. Takes no memory.
     #[tactic(auto, using(crate::proofs::Addressed::can_write))]
-    pub fn write_pdu(&self, pdu: &Pdu<'_>, out: &mut [u8]) -> usize
+    pub fn write_pdu(&self, large: bool, pdu: &Pdu<'_>, out: &mut [u8]) -> usize
         requires addressing { FitsAddressing self.now }
-        requires content { FitsContent file_size_octets (view pdu.now) }
-        requires short { content_len file_size_octets (view pdu.now) < 2 ^ 16 }
-        requires room { addressings.written_len self.now (view pdu.now) ≤ length out.old }
-        ensures end { result ≡ addressings.written_len self.now (view pdu.now) }
+        requires content { FitsContent (file_size_octets large) (view pdu.now) }
+        requires short { content_len (file_size_octets large) (view pdu.now) < 2 ^ 16 }
+        requires room { addressings.written_len self.now large (view pdu.now) ≤ length out.old }
+        ensures end { result ≡ addressings.written_len self.now large (view pdu.now) }
         ensures front { let v = view pdu.now in take result out.new
-            ≡ pdu_octets (addressings.header_of self.now v) v }
+            ≡ pdu_octets (addressings.header_of self.now large v) v }
         ensures behind { drop result out.new ≡ drop result out.old }
     {
-        let header = self.header_of(pdu);
+        let header = self.header_of(large, pdu);
         encode(&header, pdu, out)
     }
 
@@ -108,20 +110,20 @@ impl Addressing {
     /// says how many it wrote: there the data go, which then make the PDU whole. The octets behind
     /// stay. Takes no memory.
     #[tactic(auto, using(crate::proofs::Addressed::header_fits))]
-    pub fn write_data_front(&self, offset: u64, count: usize, out: &mut [u8]) -> usize
+    pub fn write_data_front(&self, large: bool, offset: u64, count: usize, out: &mut [u8]) -> usize
         requires addressing { FitsAddressing self.now }
-        requires offset { offset < 256 ^ file_size_octets }
-        requires short { file_size_octets + count < 2 ^ 16 }
-        requires room { addressings.data_front_len self.now ≤ length out.old }
-        ensures end { result ≡ addressings.data_front_len self.now }
+        requires offset { offset < 256 ^ file_size_octets large }
+        requires short { file_size_octets large + count < 2 ^ 16 }
+        requires room { addressings.data_front_len self.now large ≤ length out.old }
+        ensures end { result ≡ addressings.data_front_len self.now large }
         ensures front { (octets : List ℕ) → length octets ≡ count →
             let v = FileData offset octets in
-            take result out.new ++ octets ≡ pdu_octets (addressings.header_of self.now v) v }
+            take result out.new ++ octets ≡ pdu_octets (addressings.header_of self.now large v) v }
         ensures behind { drop result out.new ≡ drop result out.old }
     {
-        let header = self.header(true, false, (FILE_SIZE_OCTETS + count) as u16);
+        let header = self.header(large, true, false, (file_size_octets(large) + count) as u16);
         let at = cfdp_header::encode(&header, out);
-        put_uint(out, at, FILE_SIZE_OCTETS, offset)
+        put_file_size(out, at, large, offset)
     }
 }
 
@@ -129,18 +131,21 @@ impl Addressing {
 /// makes.
 #[tactic(auto, using(crate::proofs::Addressed::can_write))]
 pub fn addressed_pdu_can_be_written()
-    ensures { (a : Addressing) (v : Content) → FitsAddressing a → FitsContent file_size_octets v →
-        content_len file_size_octets v < 2 ^ 16
-        → CanWrite (addressings.header_of a v) v }
+    ensures { (a : Addressing) (large : Bool) (v : Content) → FitsAddressing a
+        → FitsContent (file_size_octets large) v
+        → content_len (file_size_octets large) v < 2 ^ 16
+        → CanWrite (addressings.header_of a large v) v }
 {}
 
 /// A law: the header that `header_of` makes has the direction bit of its PDU, and the PDU is for
 /// the entity that it goes to.
 pub fn addressed_pdu_goes_to_the_other_end()
-    ensures fits { (a : Addressing) (v : Content) →
-        directions.direction_fits (addressings.header_of a v) v ≡ true }
-    ensures toward_sender { (a : Addressing) (v : Content) → goes_toward_sender v ≡ true
-        → directions.is_for a.id.source a.destination (addressings.header_of a v) ≡ true }
-    ensures toward_receiver { (a : Addressing) (v : Content) → goes_toward_sender v ≡ false
-        → directions.is_for a.destination a.id.source (addressings.header_of a v) ≡ true }
+    ensures fits { (a : Addressing) (large : Bool) (v : Content) →
+        directions.direction_fits (addressings.header_of a large v) v ≡ true }
+    ensures toward_sender { (a : Addressing) (large : Bool) (v : Content) →
+        goes_toward_sender v ≡ true
+        → directions.is_for a.id.source a.destination (addressings.header_of a large v) ≡ true }
+    ensures toward_receiver { (a : Addressing) (large : Bool) (v : Content) →
+        goes_toward_sender v ≡ false
+        → directions.is_for a.destination a.id.source (addressings.header_of a large v) ≡ true }
 {}

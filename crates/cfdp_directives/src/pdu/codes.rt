@@ -1,22 +1,8 @@
-// The numbers of the standard that have names, and the octets of a file-size field.
-ghost use Rattle.std.specs.Prelude.{◌≡◌, ℕ, ◌<◌, ◌^◌, ◌↔◌, IsSome, IsTrue, IfSome};
-ghost use Rattle.cfdp_directives.specs.Pdu.Codes.{file_size_octets, IsCondition, delivery_code, file_status_code, transaction_status_code, acknowledged_code, acknowledged_subtype};
+// The numbers of the standard that have names.
+ghost use Rattle.std.specs.Prelude.{◌≡◌, ℕ, ◌<◌, ◌↔◌, IsSome, IfSome};
+ghost use Rattle.cfdp_directives.specs.Pdu.Codes.{IsCondition, delivery_code, file_status_code, transaction_status_code, acknowledged_code, acknowledged_subtype};
 
 use std::marker::Model;
-
-/// Octets of a file-size field, as an offset, where the file is not large (CCSDS 727.0-B-5,
-/// 5.1.10): in every PDU of this stack.
-pub const FILE_SIZE_OCTETS: usize = 4;
-
-/// The largest number that a file-size field holds.
-const LARGEST_SIZE: u64 = u64::MAX >> (64 - 8 * FILE_SIZE_OCTETS);
-
-/// Whether a size or an offset fits a file-size field.
-pub fn is_file_size(value: u64) -> bool
-    ensures { IsTrue result ↔ (value < 256 ^ file_size_octets) }
-{
-    value <= LARGEST_SIZE
-}
 
 /// Why a transaction ended, or what went wrong in it: a condition code of 4 bits (CCSDS 727.0-B-5,
 /// table 5-5). Codes 12 and 13 are never one.

@@ -4,9 +4,9 @@ ghost use Rattle.cfdp_directives.specs.Pdu.Content.{view, is_file_data};
 ghost use Rattle.cfdp_directives.specs.Pdu.Written.{content_len, FitsContent};
 
 use crate::pdu::codes::{
-    Acknowledged, ChecksumKind, Condition, Delivery, FILE_SIZE_OCTETS, FileStatus,
-    TransactionStatus, is_file_size,
+    Acknowledged, ChecksumKind, Condition, Delivery, FileStatus, TransactionStatus,
 };
+use crate::pdu::file_size::{file_size_octets, is_file_size};
 use crate::pdu::pairs::Pairs;
 use crate::pdu::tlv::Tlvs;
 
@@ -79,27 +79,27 @@ pub enum Pdu<'a> {
 }
 
 impl Pdu<'_> {
-    /// Octets of the data field that it is written as: the `length` of its header.
-    pub fn len(&self) -> usize
-        requires { content_len file_size_octets (view self.now) < 2 ^ 64 }
-        ensures { result ≡ content_len file_size_octets (view self.now) }
+    /// Octets of the data field that it is written as: the `length` of its header. File-size fields
+    /// have the octets of a large file, or of one that isn't.
+    pub fn len(&self, large: bool) -> usize
+        requires { content_len (file_size_octets large) (view self.now) < 2 ^ 64 }
+        ensures { result ≡ content_len (file_size_octets large) (view self.now) }
     {
+        let width = file_size_octets(large);
         match self {
-            Pdu::FileData { bytes, .. } => FILE_SIZE_OCTETS + bytes.len(),
+            Pdu::FileData { bytes, .. } => width + bytes.len(),
             Pdu::Metadata {
                 source,
                 destination,
                 options,
                 ..
-            } => {
-                4 + FILE_SIZE_OCTETS + source.len() + destination.len() + options.octets().len()
-            }
-            Pdu::Eof { tlvs, .. } => 6 + FILE_SIZE_OCTETS + tlvs.octets().len(),
+            } => 4 + width + source.len() + destination.len() + options.octets().len(),
+            Pdu::Eof { tlvs, .. } => 6 + width + tlvs.octets().len(),
             Pdu::Finished { tlvs, .. } => 2 + tlvs.octets().len(),
             Pdu::Ack { .. } => 3,
-            Pdu::Nak { pairs, .. } => 1 + 2 * FILE_SIZE_OCTETS + 2 * FILE_SIZE_OCTETS * pairs.len(),
+            Pdu::Nak { pairs, .. } => 1 + 2 * width + 2 * width * pairs.len(),
             Pdu::Prompt { .. } => 2,
-            Pdu::KeepAlive { .. } => 1 + FILE_SIZE_OCTETS,
+            Pdu::KeepAlive { .. } => 1 + width,
         }
     }
 
@@ -112,11 +112,11 @@ impl Pdu<'_> {
 
     /// Whether its content can be written: sizes and offsets fit a file-size field, and names have
     /// at most 255 octets.
-    pub fn fits(&self) -> bool
-        ensures { IsTrue result ↔ FitsContent file_size_octets (view self.now) }
+    pub fn fits(&self, large: bool) -> bool
+        ensures { IsTrue result ↔ FitsContent (file_size_octets large) (view self.now) }
     {
         match self {
-            Pdu::FileData { offset, .. } => is_file_size(*offset),
+            Pdu::FileData { offset, .. } => is_file_size(large, *offset),
             Pdu::Metadata {
                 checksum_kind,
                 size,
@@ -125,7 +125,7 @@ impl Pdu<'_> {
                 ..
             } => {
                 let _any_kind_fits = checksum_kind.code();
-                is_file_size(*size) && source.len() < 256 && destination.len() < 256
+                is_file_size(large, *size) && source.len() < 256 && destination.len() < 256
             }
             Pdu::Eof {
                 condition,
@@ -134,31 +134,33 @@ impl Pdu<'_> {
                 ..
             } => {
                 let _any_fits = (condition.code(), *checksum);
-                is_file_size(*size)
+                is_file_size(large, *size)
             }
             Pdu::Finished { condition, .. } | Pdu::Ack { condition, .. } => {
                 let _any_condition_fits = condition.code();
                 true
             }
             Pdu::Nak { start, end, pairs } => {
-                is_file_size(*start) && is_file_size(*end) && pairs.fit()
+                is_file_size(large, *start) && is_file_size(large, *end) && pairs.fit(large)
             }
             Pdu::Prompt { .. } => true,
-            Pdu::KeepAlive { progress } => is_file_size(*progress),
+            Pdu::KeepAlive { progress } => is_file_size(large, *progress),
         }
     }
 
     /// Whether its data field has this length.
-    pub(crate) fn has_len(&self, len: u16) -> bool
-        ensures { IsTrue result ↔ (content_len file_size_octets (view self.now) ≡ len) }
+    pub(crate) fn has_len(&self, large: bool, len: u16) -> bool
+        ensures { IsTrue result ↔ (content_len (file_size_octets large) (view self.now) ≡ len) }
     {
-        self.has_short_parts() && self.len() == usize::from(len)
+        self.has_short_parts(large) && self.len(large) == usize::from(len)
     }
 
     /// Whether each part of it may stand in a data field, so that their sum is a number.
-    fn has_short_parts(&self) -> bool
-        ensures short { IsTrue result → content_len file_size_octets (view self.now) < 2 ^ 64 }
-        ensures all { content_len file_size_octets (view self.now) < 2 ^ 16 → IsTrue result }
+    fn has_short_parts(&self, large: bool) -> bool
+        ensures short { IsTrue result
+            → content_len (file_size_octets large) (view self.now) < 2 ^ 64 }
+        ensures all { content_len (file_size_octets large) (view self.now) < 2 ^ 16
+            → IsTrue result }
     {
         let most = usize::from(u16::MAX);
         match self {

@@ -11,19 +11,20 @@ ghost use Rattle.cfdp_directives.specs.Pdu.Content.{FileData, Metadata, Eof, Fin
 ghost use Rattle.cfdp_directives.specs.Pdu.Tlv.{Tlv, tlv, fault_location};
 ghost use Rattle.cfdp_directives.specs.Pdu.Written.{content_len};
 
-use crate::pdu::codes::FILE_SIZE_OCTETS;
+use crate::pdu::file_size::file_size_octets;
 
 /// Octets of a data field of file data that carries so many octets of the file.
-pub fn file_data_len(octets: usize) -> usize
+pub fn file_data_len(large: bool, octets: usize) -> usize
     requires { octets < 2 ^ 32 }
     ensures { (offset : ℕ) (bytes : List ℕ) → length bytes ≡ octets
-        → content_len file_size_octets (FileData offset bytes) ≡ result }
+        → content_len (file_size_octets large) (FileData offset bytes) ≡ result }
 {
-    FILE_SIZE_OCTETS + octets
+    let width = file_size_octets(large);
+    width + octets
 }
 
 /// Octets of the data field of a Metadata whose names and options have so many octets.
-pub fn metadata_len(source: usize, destination: usize, options: usize) -> usize
+pub fn metadata_len(large: bool, source: usize, destination: usize, options: usize) -> usize
     requires source { source < 2 ^ 32 }
     requires destination { destination < 2 ^ 32 }
     requires options { options < 2 ^ 32 }
@@ -31,29 +32,31 @@ pub fn metadata_len(source: usize, destination: usize, options: usize) -> usize
         → length from ≡ source
         → length to ≡ destination
         → length (flat_map tlv tlvs) ≡ options
-        → content_len file_size_octets (Metadata kind size from to tlvs) ≡ result }
+        → content_len (file_size_octets large) (Metadata kind size from to tlvs) ≡ result }
 {
-    4 + FILE_SIZE_OCTETS + source + destination + options
+    let width = file_size_octets(large);
+    4 + width + source + destination + options
 }
 
 /// Octets of the data field of an EOF whose options have so many octets: 0, or those of a fault
 /// location.
-pub fn eof_len(options: usize) -> usize
+pub fn eof_len(large: bool, options: usize) -> usize
     requires { options < 2 ^ 32 }
     ensures { (condition checksum size : ℕ) (tlvs : List Tlv)
         → length (flat_map tlv tlvs) ≡ options
-        → content_len file_size_octets (Eof condition checksum size tlvs) ≡ result }
+        → content_len (file_size_octets large) (Eof condition checksum size tlvs) ≡ result }
 {
-    6 + FILE_SIZE_OCTETS + options
+    let width = file_size_octets(large);
+    6 + width + options
 }
 
 /// Octets of the data field of a Finished whose options have so many octets: 0, or those of a fault
 /// location.
 pub fn finished_len(options: usize) -> usize
     requires { options < 2 ^ 32 }
-    ensures { (condition : ℕ) (delivery : Delivery) (status : FileStatus) (tlvs : List Tlv)
-        → length (flat_map tlv tlvs) ≡ options
-        → content_len file_size_octets (Finished condition delivery status tlvs) ≡ result }
+    ensures { (large : Bool) (condition : ℕ) (delivery : Delivery) (status : FileStatus)
+        (tlvs : List Tlv) → length (flat_map tlv tlvs) ≡ options
+        → content_len (file_size_octets large) (Finished condition delivery status tlvs) ≡ result }
 {
     2 + options
 }
@@ -70,31 +73,34 @@ pub fn fault_location_len(width: u8) -> usize
 
 /// Octets of the data field of an ACK: 3.
 pub fn ack_len() -> usize
-    ensures { (of : Acknowledged) (condition : ℕ) (status : TransactionStatus)
-        → content_len file_size_octets (Ack of condition status) ≡ result }
+    ensures { (large : Bool) (of : Acknowledged) (condition : ℕ) (status : TransactionStatus)
+        → content_len (file_size_octets large) (Ack of condition status) ≡ result }
 {
     3
 }
 
 /// Octets of the data field of a NAK that asks for so many ranges.
-pub fn nak_len(pairs: usize) -> usize
+pub fn nak_len(large: bool, pairs: usize) -> usize
     requires { pairs < 2 ^ 32 }
     ensures { (start end : ℕ) (ranges : List (ℕ × ℕ)) → length ranges ≡ pairs
-        → content_len file_size_octets (Nak start end ranges) ≡ result }
+        → content_len (file_size_octets large) (Nak start end ranges) ≡ result }
 {
-    1 + 2 * FILE_SIZE_OCTETS + 2 * FILE_SIZE_OCTETS * pairs
+    let width = file_size_octets(large);
+    1 + 2 * width + 2 * width * pairs
 }
 
 /// Octets of the data field of a Prompt: 2.
 pub fn prompt_len() -> usize
-    ensures { (keep_alive : Bool) → content_len file_size_octets (Prompt keep_alive) ≡ result }
+    ensures { (large keep_alive : Bool)
+        → content_len (file_size_octets large) (Prompt keep_alive) ≡ result }
 {
     2
 }
 
 /// Octets of the data field of a Keep Alive.
-pub fn keep_alive_len() -> usize
-    ensures { (progress : ℕ) → content_len file_size_octets (KeepAlive progress) ≡ result }
+pub fn keep_alive_len(large: bool) -> usize
+    ensures { (progress : ℕ) → content_len (file_size_octets large) (KeepAlive progress) ≡ result }
 {
-    1 + FILE_SIZE_OCTETS
+    let width = file_size_octets(large);
+    1 + width
 }

@@ -1,25 +1,32 @@
-ghost use Rattle.std.specs.Prelude.{◌≡◌, ℕ, ◌+◌, ◌==◌, ◌*◌, ◌/◌, ◌%◌, ◌<◌, ◌≤◌, ◌++◌, [], ◌∷◌, length, take, drop, is_some, IsTrue, ◌↔◌, nat_eq, IfSome, IfNone};
+ghost use Rattle.std.specs.Prelude.{◌≡◌, ℕ, ◌+◌, ◌==◌, ◌*◌, ◌/◌, ◌%◌, ◌<◌, ◌≤◌, ◌++◌, [], ◌∷◌, false, length, take, drop, is_some, IsTrue, ◌↔◌, nat_eq, IfSome, IfNone};
 ghost use Rattle.std.specs.Cmp.{partial_equiv_from_equiv};
 ghost use Rattle.std.specs.Cmp.Lexicographic.{on_texts_equal, pointwise};
 ghost use Rattle.std.specs.Ordering.{on};
 ghost use Rattle.std.specs.List.{flat_map, AllByRecursion};
 ghost use Rattle.cfd_bits.specs.Field.{field};
 ghost use Rattle.cfdp_directives.specs.Pdu.Codes.{file_size_octets};
-ghost use Rattle.cfdp_directives.specs.Pdu.Pair.{pair, pair_octets, pairs_of, ArePairs, IsPair, numbers, pairs_in, IsWhole};
+ghost use Rattle.cfdp_directives.specs.Pdu.Pair as specified;
+ghost use Rattle.cfdp_directives.specs.Pdu.Pair.{pair, pairs_read, ArePairs, IsPair, numbers, pairs_in, IsWhole};
 
-use crate::pdu::codes::{FILE_SIZE_OCTETS, is_file_size};
+use crate::pdu::file_size::{file_size_octets, is_file_size, put_file_size, read_file_size};
 use crate::pdu::pair_iter::PairIter;
-use cfd_bits::{get, put_bytes, put_uint};
+use cfd_bits::put_bytes;
 use std::marker::Model;
 
-/// Octets of a pair.
-const PAIR_OCTETS: usize = 2 * FILE_SIZE_OCTETS;
+/// Octets of a pair, of a large file and of one that isn't.
+fn pair_octets(large: bool) -> usize
+    ensures value { result ≡ specified.pair_octets large }
+    ensures some { 1 ≤ result }
+    ensures most { result ≤ 16 }
+{
+    2 * file_size_octets(large)
+}
 
 /// Where pairs lie.
 #[derive(Clone, Copy, Debug)]
 enum Form<'a> {
-    /// In octets read, which they fill.
-    Read(&'a [u8]),
+    /// In octets read, which they fill: of a large file, or of one that isn't.
+    Read { large: bool, octets: &'a [u8] },
     /// As numbers.
     Given(&'a [(u64, u64)]),
 }
@@ -52,15 +59,16 @@ impl<'a> Pairs<'a> {
         }
     }
 
-    /// The pairs that fill the octets, if some do.
+    /// The pairs that fill the octets, if some do: of a large file, or of one that isn't.
     #[tactic(auto, using(crate::proofs::Ranges::pairs_spelled))]
-    pub fn read(octets: &'a [u8]) -> Option<Self>
-        ensures found { IfSome result (λ ps. ArePairs file_size_octets ps octets.now) }
-        ensures none { is_some result ≡ (length octets.now % pair_octets == 0) }
+    pub fn read(large: bool, octets: &'a [u8]) -> Option<Self>
+        ensures found { IfSome result (λ ps. ArePairs (file_size_octets large) ps octets.now) }
+        ensures none { is_some result
+            ≡ (length octets.now % specified.pair_octets large == 0) }
     {
-        if octets.len() % PAIR_OCTETS == 0 {
+        if octets.len() % pair_octets(large) == 0 {
             Some(Pairs {
-                form: Form::Read(octets),
+                form: Form::Read { large, octets },
             })
         } else {
             None
@@ -73,28 +81,32 @@ impl<'a> Pairs<'a> {
         ensures { result ≡ length self.now }
     {
         match self.form {
-            Form::Read(octets) => octets.len() / PAIR_OCTETS,
+            Form::Read { large, octets } => octets.len() / pair_octets(large),
             Form::Given(pairs) => pairs.len(),
         }
     }
 
     /// The start and the end of the first range, and the pairs behind it.
-    #[tactic(auto, using(crate::proofs::Ranges::first_pair, crate::proofs::Ranges::no_pair))]
+    #[tactic(auto, using(crate::proofs::Ranges::first_pair, crate::proofs::Ranges::no_pair, crate::proofs::Options::field_behind))]
     pub fn split_first(&self) -> Option<(u64, u64, Pairs<'a>)>
         ensures some { IfSome result (λ x. self.now ≡ (x.0, x.1) ∷ x.2) }
         ensures none { IfNone result (self.now ≡ []) }
     {
         match self.form {
-            Form::Read(octets) => {
+            Form::Read { large, octets } => {
                 if octets.is_empty() {
                     return None;
                 }
-                let (_, rest) = octets.split_at(PAIR_OCTETS);
+                let (_, end) = octets.split_at(file_size_octets(large));
+                let (_, rest) = octets.split_at(pair_octets(large));
                 Some((
-                    get(octets, 0, 8 * FILE_SIZE_OCTETS),
-                    get(octets, 8 * FILE_SIZE_OCTETS, 8 * FILE_SIZE_OCTETS),
+                    read_file_size(large, octets),
+                    read_file_size(large, end),
                     Pairs {
-                        form: Form::Read(rest),
+                        form: Form::Read {
+                            large,
+                            octets: rest,
+                        },
                     },
                 ))
             }
@@ -110,7 +122,7 @@ impl<'a> Pairs<'a> {
         ensures { drop place self.now ≡ result ∷ drop (place + 1) self.now }
     {
         match self.form {
-            Form::Read(octets) => pair_read(octets, place),
+            Form::Read { large, octets } => pair_read(large, octets, place),
             Form::Given(pairs) => pair_given(pairs, place),
         }
     }
@@ -123,31 +135,36 @@ impl<'a> Pairs<'a> {
     }
 
     /// Whether they can be written: each number fits a file-size field, as those of a NAK that was
-    /// read do.
-    #[tactic(auto, using(crate::proofs::Ranges::pairs_fit))]
-    pub fn fit(&self) -> bool
-        ensures { IsTrue result ↔ AllByRecursion (IsPair file_size_octets) self.now }
+    /// read do where they are written as they were read.
+    pub fn fit(&self, large: bool) -> bool
+        ensures { IsTrue result ↔ AllByRecursion (IsPair (file_size_octets large)) self.now }
     {
         match self.form {
-            Form::Read(_) => true,
-            Form::Given(pairs) => are_file_sizes(pairs),
+            Form::Read {
+                large: read,
+                octets,
+            } => read_pairs_fit(read, octets, large),
+            Form::Given(pairs) => are_file_sizes(large, pairs),
         }
     }
 
     /// Writes the pairs from octet `at` on, and says where they end. The octets before and behind
     /// stay.
-    pub fn put(&self, out: &mut [u8], at: usize) -> usize
-        requires fits { AllByRecursion (IsPair file_size_octets) self.now }
-        requires room { at + pair_octets * length self.now ≤ length out.old }
-        ensures end { result ≡ at + pair_octets * length self.now }
+    pub fn put(&self, out: &mut [u8], at: usize, large: bool) -> usize
+        requires fits { AllByRecursion (IsPair (file_size_octets large)) self.now }
+        requires room { at + specified.pair_octets large * length self.now ≤ length out.old }
+        ensures end { result ≡ at + specified.pair_octets large * length self.now }
         ensures front { take result out.new
-            ≡ take at out.old ++ flat_map (pair file_size_octets) self.now }
+            ≡ take at out.old ++ flat_map (pair (file_size_octets large)) self.now }
         ensures behind { drop result out.new ≡ drop result out.old }
     {
-        let out = &mut out[..at + PAIR_OCTETS * self.len()];
+        let out = &mut out[..at + pair_octets(large) * self.len()];
         match self.form {
-            Form::Read(octets) => put_bytes(out, at, as_pairs(octets)),
-            Form::Given(pairs) => put_pairs(out, at, pairs),
+            Form::Read {
+                large: read,
+                octets,
+            } => put_pairs_read(out, at, large, read, octets),
+            Form::Given(pairs) => put_pairs(out, at, large, pairs),
         }
     }
 }
@@ -195,14 +212,18 @@ fn are_same(mut one: PairIter<'_>, mut other: PairIter<'_>) -> bool
 
 /// The pair at a place in octets that pairs fill.
 #[tactic(auto, using(crate::proofs::Ranges::pair_at))]
-fn pair_read(octets: &[u8], place: usize) -> (u64, u64)
-    requires { place < length octets.now / pair_octets }
-    ensures { drop place (pairs_of file_size_octets (length octets.now / pair_octets) octets.now)
-        ≡ result ∷ drop (place + 1) (pairs_of file_size_octets (length octets.now / pair_octets) octets.now) }
+fn pair_read(large: bool, octets: &[u8], place: usize) -> (u64, u64)
+    requires { place < length octets.now / specified.pair_octets large }
+    ensures { drop place (pairs_read large octets.now)
+        ≡ result ∷ drop (place + 1) (pairs_read large octets.now) }
 {
-    let (_, start) = octets.split_at(PAIR_OCTETS * place);
-    let (_, end) = start.split_at(FILE_SIZE_OCTETS);
-    (number_at_front(start), number_at_front(end))
+    let (_, start) = octets.split_at(pair_octets(large) * place);
+    let (_, end) = start.split_at(file_size_octets(large));
+    if large {
+        (read_file_size(large, start), read_file_size(large, end))
+    } else {
+        (number_at_front(start), number_at_front(end))
+    }
 }
 
 /// The pair at a place.
@@ -214,11 +235,12 @@ fn pair_given(pairs: &[(u64, u64)], place: usize) -> (u64, u64)
     pairs[place]
 }
 
-/// The number that the first octets spell, those of a file-size field. They are loaded as one
-/// number, which turns them round, and then turned back: so that many are read at once.
+/// The number that the first octets spell, those of a file-size field of a file that isn't large.
+/// They are loaded as one number, which turns them round, and then turned back: so that many are
+/// read at once.
 fn number_at_front(octets: &[u8]) -> u64
-    requires { file_size_octets ≤ length octets.now }
-    ensures { result ≡ field octets.now 0 (8 * file_size_octets) }
+    requires { file_size_octets false ≤ length octets.now }
+    ensures { result ≡ field octets.now 0 (8 * file_size_octets false) }
 {
     let turned = u32::from_le_bytes([octets[0], octets[1], octets[2], octets[3]]);
     u64::from(turned.swap_bytes())
@@ -226,40 +248,109 @@ fn number_at_front(octets: &[u8]) -> u64
 
 /// The octets, of which it is known that pairs fill them.
 #[tactic(auto, using(crate::proofs::Ranges::pairs_whole))]
-fn as_pairs(octets: &[u8]) -> &[u8]
-    requires { length octets.now % pair_octets ≡ 0 }
-    ensures text { result.now ≡ flat_map (pair file_size_octets)
-        (pairs_of file_size_octets (length octets.now / pair_octets) octets.now) }
-    ensures len { length result.now ≡ pair_octets
-        * length (pairs_of file_size_octets (length octets.now / pair_octets) octets.now) }
+fn as_pairs(large: bool, octets: &[u8]) -> &[u8]
+    requires { length octets.now % specified.pair_octets large ≡ 0 }
+    ensures text { result.now
+        ≡ flat_map (pair (file_size_octets large)) (pairs_read large octets.now) }
+    ensures len { length result.now
+        ≡ specified.pair_octets large * length (pairs_read large octets.now) }
 {
     octets
 }
 
-/// Whether each number fits a file-size field.
-fn are_file_sizes(pairs: &[(u64, u64)]) -> bool
-    ensures { IsTrue result ↔ AllByRecursion (IsPair file_size_octets) pairs.now }
+/// Whether each number of pairs that were read fits a file-size field.
+#[tactic(auto, using(crate::proofs::Ranges::pairs_fit))]
+fn read_pairs_fit(read: bool, octets: &[u8], large: bool) -> bool
+    requires { length octets.now % specified.pair_octets read ≡ 0 }
+    ensures { IsTrue result
+        ↔ AllByRecursion (IsPair (file_size_octets large)) (pairs_read read octets.now) }
 {
-    for (start, end) in pairs {
-        if !is_file_size(*start) || !is_file_size(*end) {
+    if read == large {
+        return true;
+    }
+    each_fits(large, pairs_over(read, octets))
+}
+
+/// Over the pairs that fill the octets.
+fn pairs_over(large: bool, octets: &[u8]) -> PairIter<'_>
+    requires { length octets.now % specified.pair_octets large ≡ 0 }
+    ensures { result ≡ pairs_read large octets.now }
+{
+    PairIter::over(Pairs {
+        form: Form::Read { large, octets },
+    })
+}
+
+/// Whether each number that is left fits a file-size field.
+fn each_fits(large: bool, mut pairs: PairIter<'_>) -> bool
+    ensures { IsTrue result ↔ AllByRecursion (IsPair (file_size_octets large)) pairs.entry }
+{
+    while let Some((start, end)) = pairs.next() {
+        if !is_file_size(large, start) || !is_file_size(large, end) {
             return false;
         }
     }
     true
 }
 
-/// Writes each pair.
-fn put_pairs(out: &mut [u8], at: usize, pairs: &[(u64, u64)]) -> usize
-    requires fits { AllByRecursion (IsPair file_size_octets) pairs.now }
-    requires room { at + pair_octets * length pairs.now ≤ length out.old }
-    ensures end { result ≡ at + pair_octets * length pairs.now }
+/// Whether each number fits a file-size field.
+fn are_file_sizes(large: bool, pairs: &[(u64, u64)]) -> bool
+    ensures { IsTrue result ↔ AllByRecursion (IsPair (file_size_octets large)) pairs.now }
+{
+    for (start, end) in pairs {
+        if !is_file_size(large, *start) || !is_file_size(large, *end) {
+            return false;
+        }
+    }
+    true
+}
+
+/// Writes pairs that were read: as they were read where their fields have the octets of those that
+/// are written, else one by one.
+fn put_pairs_read(out: &mut [u8], at: usize, large: bool, read: bool, octets: &[u8]) -> usize
+    requires whole { length octets.now % specified.pair_octets read ≡ 0 }
+    requires fits { AllByRecursion (IsPair (file_size_octets large)) (pairs_read read octets.now) }
+    requires room { at + specified.pair_octets large * length (pairs_read read octets.now)
+        ≤ length out.old }
+    ensures end { result
+        ≡ at + specified.pair_octets large * length (pairs_read read octets.now) }
+    ensures front { take result out.new ≡ take at out.old
+        ++ flat_map (pair (file_size_octets large)) (pairs_read read octets.now) }
+{
+    if read == large {
+        return put_bytes(out, at, as_pairs(large, octets));
+    }
+    put_each(out, at, large, pairs_over(read, octets))
+}
+
+/// Writes each pair that is left.
+fn put_each(out: &mut [u8], at: usize, large: bool, mut pairs: PairIter<'_>) -> usize
+    requires fits { AllByRecursion (IsPair (file_size_octets large)) pairs }
+    requires room { at + specified.pair_octets large * length pairs ≤ length out.old }
+    ensures end { result ≡ at + specified.pair_octets large * length pairs.entry }
     ensures front { take result out.new
-        ≡ take at out.old ++ flat_map (pair file_size_octets) pairs.now }
+        ≡ take at out.old ++ flat_map (pair (file_size_octets large)) pairs.entry }
+{
+    let mut place = at;
+    while let Some((start, end)) = pairs.next() {
+        place = put_file_size(out, place, large, start);
+        place = put_file_size(out, place, large, end);
+    }
+    place
+}
+
+/// Writes each pair.
+fn put_pairs(out: &mut [u8], at: usize, large: bool, pairs: &[(u64, u64)]) -> usize
+    requires fits { AllByRecursion (IsPair (file_size_octets large)) pairs.now }
+    requires room { at + specified.pair_octets large * length pairs.now ≤ length out.old }
+    ensures end { result ≡ at + specified.pair_octets large * length pairs.now }
+    ensures front { take result out.new
+        ≡ take at out.old ++ flat_map (pair (file_size_octets large)) pairs.now }
 {
     let mut place = at;
     for (start, end) in pairs {
-        place = put_uint(out, place, FILE_SIZE_OCTETS, *start);
-        place = put_uint(out, place, FILE_SIZE_OCTETS, *end);
+        place = put_file_size(out, place, large, *start);
+        place = put_file_size(out, place, large, *end);
     }
     place
 }

@@ -9,14 +9,14 @@ ghost use Rattle.cfdp_directives.specs.Pdu.Grammar.{Says, SpellsPdu, lv, fss};
 ghost use Rattle.cfdp_directives.specs.Pdu.Faults.{has_lv, after_lv, file_data_fault, metadata_fault, eof_fault, finished_fault, ack_fault, nak_fault, length_fault, directive_fault, content_fault, pdu_fault};
 
 use crate::pdu::codes::{
-    Acknowledged, ChecksumKind, Condition, Delivery, FILE_SIZE_OCTETS, FileStatus,
-    TransactionStatus,
+    Acknowledged, ChecksumKind, Condition, Delivery, FileStatus, TransactionStatus,
 };
 use crate::pdu::content::Pdu;
 use crate::pdu::error::PduError;
+use crate::pdu::file_size::{file_size_octets, read_file_size};
 use crate::pdu::pairs::Pairs;
 use crate::pdu::tlv::Tlvs;
-use cfd_bits::{get, read_uint};
+use cfd_bits::get;
 use cfdp_header::Header;
 
 /// The condition with this code, where it is one.
@@ -56,6 +56,7 @@ fn file_data<'a>(header: &Header, body: &'a [u8]) -> Result<Pdu<'a>, PduError>
     ensures refused { result_err result
         ≡ file_data_fault (fss header.now) header.now.segment_metadata body.now }
 {
+    let width = file_size_octets(header.large);
     let mut skipped = 0;
     if header.segment_metadata {
         if body.is_empty() {
@@ -63,28 +64,30 @@ fn file_data<'a>(header: &Header, body: &'a [u8]) -> Result<Pdu<'a>, PduError>
         }
         skipped = 1 + get(body, 2, 6) as usize;
     }
-    if body.len() < skipped + FILE_SIZE_OCTETS {
+    if body.len() < skipped + width {
         return Err(PduError::Truncated);
     }
     let (_, offset) = body.split_at(skipped);
-    let (_, bytes) = body.split_at(skipped + FILE_SIZE_OCTETS);
+    let (_, bytes) = body.split_at(skipped + width);
     Ok(Pdu::FileData {
-        offset: read_uint(offset, FILE_SIZE_OCTETS),
+        offset: read_file_size(header.large, offset),
         bytes,
     })
 }
 
-#[tactic(auto, using(crate::proofs::Options::spelled_so))]
+#[tactic(auto, using(crate::proofs::Options::spelled_so, crate::proofs::Ranges::behind_two))]
 fn metadata<'a>(header: &Header, body: &'a [u8]) -> Result<Pdu<'a>, PduError>
     requires kind { header.now.file_data ≡ false }
     requires code { field body.now 0 8 ≡ 7 }
     ensures found { IfOk result (λ v. Says header.now (view v) body.now) }
     ensures refused { result_err result ≡ metadata_fault (fss header.now) body.now }
 {
-    if body.len() < 2 + FILE_SIZE_OCTETS {
+    let width = file_size_octets(header.large);
+    if body.len() < 2 + width {
         return Err(PduError::Truncated);
     }
-    let (_, texts) = body.split_at(2 + FILE_SIZE_OCTETS);
+    let (_, size) = body.split_at(2);
+    let (_, texts) = body.split_at(2 + width);
     let Some((source, rest)) = split_lv(texts) else {
         return Err(PduError::Truncated);
     };
@@ -96,7 +99,7 @@ fn metadata<'a>(header: &Header, body: &'a [u8]) -> Result<Pdu<'a>, PduError>
     };
     Ok(Pdu::Metadata {
         checksum_kind: checksum_kind(get(body, 12, 4)),
-        size: get(body, 16, 8 * FILE_SIZE_OCTETS),
+        size: read_file_size(header.large, size),
         source,
         destination,
         options,
@@ -111,25 +114,27 @@ fn checksum_kind(code: u64) -> ChecksumKind
     ChecksumKind::from_code(code as u8).unwrap()
 }
 
-#[tactic(auto, using(crate::proofs::Options::spelled_so))]
+#[tactic(auto, using(crate::proofs::Options::spelled_so, crate::proofs::Ranges::behind_six))]
 fn eof<'a>(header: &Header, body: &'a [u8]) -> Result<Pdu<'a>, PduError>
     requires kind { header.now.file_data ≡ false }
     requires code { field body.now 0 8 ≡ 4 }
     ensures found { IfOk result (λ v. Says header.now (view v) body.now) }
     ensures refused { result_err result ≡ eof_fault (fss header.now) body.now }
 {
-    if body.len() < 6 + FILE_SIZE_OCTETS {
+    let width = file_size_octets(header.large);
+    if body.len() < 6 + width {
         return Err(PduError::Truncated);
     }
     let condition = condition(get(body, 8, 4))?;
-    let (_, behind) = body.split_at(6 + FILE_SIZE_OCTETS);
+    let (_, size) = body.split_at(6);
+    let (_, behind) = body.split_at(6 + width);
     let Some(tlvs) = Tlvs::read(behind) else {
         return Err(PduError::Tlv);
     };
     Ok(Pdu::Eof {
         condition,
         checksum: get(body, 16, 32) as u32,
-        size: get(body, 48, 8 * FILE_SIZE_OCTETS),
+        size: read_file_size(header.large, size),
         tlvs,
     })
 }
@@ -198,22 +203,26 @@ fn ack<'a>(header: &Header, body: &'a [u8]) -> Result<Pdu<'a>, PduError>
     })
 }
 
+#[tactic(auto, using(crate::proofs::Ranges::behind_one, crate::proofs::Ranges::scope_end))]
 fn nak<'a>(header: &Header, body: &'a [u8]) -> Result<Pdu<'a>, PduError>
     requires kind { header.now.file_data ≡ false }
     requires code { field body.now 0 8 ≡ 8 }
     ensures found { IfOk result (λ v. Says header.now (view v) body.now) }
     ensures refused { result_err result ≡ nak_fault (fss header.now) body.now }
 {
-    if body.len() < 1 + 2 * FILE_SIZE_OCTETS {
+    let width = file_size_octets(header.large);
+    if body.len() < 1 + 2 * width {
         return Err(PduError::Truncated);
     }
-    let (_, behind) = body.split_at(1 + 2 * FILE_SIZE_OCTETS);
-    let Some(pairs) = Pairs::read(behind) else {
+    let (_, start) = body.split_at(1);
+    let (_, end) = body.split_at(1 + width);
+    let (_, behind) = body.split_at(1 + 2 * width);
+    let Some(pairs) = Pairs::read(header.large, behind) else {
         return Err(PduError::Truncated);
     };
     Ok(Pdu::Nak {
-        start: get(body, 8, 8 * FILE_SIZE_OCTETS),
-        end: get(body, 8 + 8 * FILE_SIZE_OCTETS, 8 * FILE_SIZE_OCTETS),
+        start: read_file_size(header.large, start),
+        end: read_file_size(header.large, end),
         pairs,
     })
 }
@@ -235,20 +244,23 @@ fn prompt<'a>(header: &Header, body: &'a [u8]) -> Result<Pdu<'a>, PduError>
     })
 }
 
+#[tactic(auto, using(crate::proofs::Ranges::behind_one))]
 fn keep_alive<'a>(header: &Header, body: &'a [u8]) -> Result<Pdu<'a>, PduError>
     requires kind { header.now.file_data ≡ false }
     requires code { field body.now 0 8 ≡ 12 }
     ensures found { IfOk result (λ v. Says header.now (view v) body.now) }
     ensures refused { result_err result ≡ length_fault (1 + fss header.now) body.now }
 {
-    if body.len() < 1 + FILE_SIZE_OCTETS {
+    let width = file_size_octets(header.large);
+    if body.len() < 1 + width {
         return Err(PduError::Truncated);
     }
-    if body.len() != 1 + FILE_SIZE_OCTETS {
+    if body.len() != 1 + width {
         return Err(PduError::Trailing);
     }
+    let (_, progress) = body.split_at(1);
     Ok(Pdu::KeepAlive {
-        progress: get(body, 8, 8 * FILE_SIZE_OCTETS),
+        progress: read_file_size(header.large, progress),
     })
 }
 

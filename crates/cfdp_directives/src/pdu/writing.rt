@@ -1,4 +1,4 @@
-ghost use Rattle.std.specs.Prelude.{◌≡◌, ℕ, ◌+◌, ◌*◌, ◌^◌, ◌<◌, ◌≤◌, ◌++◌, List, length, take, drop, IsTrue, ◌↔◌};
+ghost use Rattle.std.specs.Prelude.{◌≡◌, ℕ, ◌+◌, ◌*◌, ◌^◌, ◌<◌, ◌≤◌, ◌++◌, false, List, length, take, drop, IsTrue, ◌↔◌};
 ghost use Rattle.cfdp_header.specs.Header.{header_len};
 ghost use Rattle.cfdp_directives.specs.Pdu.Codes.{file_size_octets};
 ghost use Rattle.cfdp_directives.specs.Pdu.Content.{Content, FileData, Metadata, Eof, Finished, Ack, Nak, Prompt, KeepAlive, view};
@@ -6,10 +6,10 @@ ghost use Rattle.cfdp_directives.specs.Pdu.Grammar.{lv};
 ghost use Rattle.cfdp_directives.specs.Pdu.Written.{content_octets, content_len, FitsContent, CanWrite, IsHeaderOf, pdu_octets};
 
 use crate::pdu::codes::{
-    Acknowledged, ChecksumKind, Condition, Delivery, FILE_SIZE_OCTETS, FileStatus,
-    TransactionStatus,
+    Acknowledged, ChecksumKind, Condition, Delivery, FileStatus, TransactionStatus,
 };
 use crate::pdu::content::Pdu;
+use crate::pdu::file_size::put_file_size;
 use crate::pdu::pairs::Pairs;
 use crate::pdu::tlv::Tlvs;
 use cfd_bits::{put_bytes, put_uint};
@@ -26,40 +26,44 @@ fn put_lv(out: &mut [u8], at: usize, value: &[u8]) -> usize
     put_bytes(out, at, value)
 }
 
-fn put_file_data(out: &mut [u8], at: usize, offset: u64, bytes: &[u8]) -> usize
-    requires fits { FitsContent file_size_octets (FileData offset bytes.now) }
-    requires room { at + content_len file_size_octets (FileData offset bytes.now) ≤ length out.old }
-    ensures end { result ≡ at + content_len file_size_octets (FileData offset bytes.now) }
+fn put_file_data(out: &mut [u8], at: usize, large: bool, offset: u64, bytes: &[u8]) -> usize
+    requires fits { FitsContent (file_size_octets large) (FileData offset bytes.now) }
+    requires room { at + content_len (file_size_octets large) (FileData offset bytes.now)
+        ≤ length out.old }
+    ensures end { result ≡ at + content_len (file_size_octets large) (FileData offset bytes.now) }
     ensures front { take result out.new
-        ≡ take at out.old ++ content_octets file_size_octets (FileData offset bytes.now) }
+        ≡ take at out.old ++ content_octets (file_size_octets large) (FileData offset bytes.now) }
 {
-    let at = put_uint(out, at, FILE_SIZE_OCTETS, offset);
+    let at = put_file_size(out, at, large, offset);
     put_bytes(out, at, bytes)
 }
 
 fn put_metadata(
     out: &mut [u8],
     at: usize,
+    large: bool,
     checksum_kind: ChecksumKind,
     size: u64,
     source: &[u8],
     destination: &[u8],
     options: &Tlvs<'_>,
 ) -> usize
-    requires fits { FitsContent file_size_octets
+    requires fits { FitsContent (file_size_octets large)
         (Metadata checksum_kind size source.now destination.now options.now) }
-    requires room { at + content_len file_size_octets
+    requires room { at + content_len (file_size_octets large)
         (Metadata checksum_kind size source.now destination.now options.now)
         ≤ length out.old }
     ensures end { result
-        ≡ at + content_len file_size_octets (Metadata checksum_kind size source.now destination.now options.now) }
+        ≡ at + content_len (file_size_octets large)
+        (Metadata checksum_kind size source.now destination.now options.now) }
     ensures front { take result out.new
         ≡ take at out.old
-        ++ content_octets file_size_octets (Metadata checksum_kind size source.now destination.now options.now) }
+        ++ content_octets (file_size_octets large)
+        (Metadata checksum_kind size source.now destination.now options.now) }
 {
     let at = put_uint(out, at, 1, 7);
     let at = put_uint(out, at, 1, u64::from(checksum_kind.code()));
-    let at = put_uint(out, at, FILE_SIZE_OCTETS, size);
+    let at = put_file_size(out, at, large, size);
     let at = put_lv(out, at, source);
     let at = put_lv(out, at, destination);
     put_bytes(out, at, options.octets())
@@ -68,24 +72,25 @@ fn put_metadata(
 fn put_eof(
     out: &mut [u8],
     at: usize,
+    large: bool,
     condition: Condition,
     checksum: u32,
     size: u64,
     tlvs: &Tlvs<'_>,
 ) -> usize
-    requires fits { FitsContent file_size_octets (Eof condition checksum size tlvs.now) }
-    requires room { at + content_len file_size_octets (Eof condition checksum size tlvs.now)
+    requires fits { FitsContent (file_size_octets large) (Eof condition checksum size tlvs.now) }
+    requires room { at + content_len (file_size_octets large) (Eof condition checksum size tlvs.now)
         ≤ length out.old }
     ensures end { result
-        ≡ at + content_len file_size_octets (Eof condition checksum size tlvs.now) }
+        ≡ at + content_len (file_size_octets large) (Eof condition checksum size tlvs.now) }
     ensures front { take result out.new
         ≡ take at out.old
-        ++ content_octets file_size_octets (Eof condition checksum size tlvs.now) }
+        ++ content_octets (file_size_octets large) (Eof condition checksum size tlvs.now) }
 {
     let at = put_uint(out, at, 1, 4);
     let at = put_uint(out, at, 1, 16 * u64::from(condition.code()));
     let at = put_uint(out, at, 4, u64::from(checksum));
-    let at = put_uint(out, at, FILE_SIZE_OCTETS, size);
+    let at = put_file_size(out, at, large, size);
     put_bytes(out, at, tlvs.octets())
 }
 
@@ -98,13 +103,14 @@ fn put_finished(
     status: FileStatus,
     tlvs: &Tlvs<'_>,
 ) -> usize
-    requires room { at + content_len file_size_octets (Finished condition delivery status tlvs.now)
+    requires room { at
+        + content_len (file_size_octets false) (Finished condition delivery status tlvs.now)
         ≤ length out.old }
     ensures end { result
-        ≡ at + content_len file_size_octets (Finished condition delivery status tlvs.now) }
+        ≡ at + content_len (file_size_octets false) (Finished condition delivery status tlvs.now) }
     ensures front { take result out.new
         ≡ take at out.old
-        ++ content_octets file_size_octets (Finished condition delivery status tlvs.now) }
+        ++ content_octets (file_size_octets false) (Finished condition delivery status tlvs.now) }
 {
     let second = 16 * u64::from(condition.code())
         + 4 * u64::from(delivery.code())
@@ -122,10 +128,11 @@ fn put_ack(
     condition: Condition,
     status: TransactionStatus,
 ) -> usize
-    requires room { at + content_len file_size_octets (Ack of condition status) ≤ length out.old }
-    ensures end { result ≡ at + content_len file_size_octets (Ack of condition status) }
+    requires room { at + content_len (file_size_octets false) (Ack of condition status)
+        ≤ length out.old }
+    ensures end { result ≡ at + content_len (file_size_octets false) (Ack of condition status) }
     ensures front { take result out.new
-        ≡ take at out.old ++ content_octets file_size_octets (Ack of condition status) }
+        ≡ take at out.old ++ content_octets (file_size_octets false) (Ack of condition status) }
 {
     let second = 16 * u64::from(of.code()) + u64::from(of.subtype());
     let third = 16 * u64::from(condition.code()) + u64::from(status.code());
@@ -134,38 +141,40 @@ fn put_ack(
     put_uint(out, at, 1, third)
 }
 
-fn put_nak(out: &mut [u8], at: usize, start: u64, end: u64, pairs: &Pairs<'_>) -> usize
-    requires fits { FitsContent file_size_octets (Nak start end pairs.now) }
-    requires room { at + content_len file_size_octets (Nak start end pairs.now) ≤ length out.old }
-    ensures end { result ≡ at + content_len file_size_octets (Nak start end pairs.now) }
+fn put_nak(out: &mut [u8], at: usize, large: bool, start: u64, end: u64, pairs: &Pairs<'_>) -> usize
+    requires fits { FitsContent (file_size_octets large) (Nak start end pairs.now) }
+    requires room { at + content_len (file_size_octets large) (Nak start end pairs.now)
+        ≤ length out.old }
+    ensures end { result ≡ at + content_len (file_size_octets large) (Nak start end pairs.now) }
     ensures front { take result out.new
-        ≡ take at out.old ++ content_octets file_size_octets (Nak start end pairs.now) }
+        ≡ take at out.old ++ content_octets (file_size_octets large) (Nak start end pairs.now) }
 {
     let at = put_uint(out, at, 1, 8);
-    let at = put_uint(out, at, FILE_SIZE_OCTETS, start);
-    let at = put_uint(out, at, FILE_SIZE_OCTETS, end);
-    pairs.put(out, at)
+    let at = put_file_size(out, at, large, start);
+    let at = put_file_size(out, at, large, end);
+    pairs.put(out, at, large)
 }
 
 fn put_prompt(out: &mut [u8], at: usize, keep_alive: bool) -> usize
-    requires room { at + content_len file_size_octets (Prompt keep_alive) ≤ length out.old }
-    ensures end { result ≡ at + content_len file_size_octets (Prompt keep_alive) }
+    requires room { at + content_len (file_size_octets false) (Prompt keep_alive) ≤ length out.old }
+    ensures end { result ≡ at + content_len (file_size_octets false) (Prompt keep_alive) }
     ensures front { take result out.new
-        ≡ take at out.old ++ content_octets file_size_octets (Prompt keep_alive) }
+        ≡ take at out.old ++ content_octets (file_size_octets false) (Prompt keep_alive) }
 {
     let at = put_uint(out, at, 1, 9);
     put_uint(out, at, 1, 128 * u64::from(keep_alive))
 }
 
-fn put_keep_alive(out: &mut [u8], at: usize, progress: u64) -> usize
-    requires fits { FitsContent file_size_octets (KeepAlive progress) }
-    requires room { at + content_len file_size_octets (KeepAlive progress) ≤ length out.old }
-    ensures end { result ≡ at + content_len file_size_octets (KeepAlive progress) }
+fn put_keep_alive(out: &mut [u8], at: usize, large: bool, progress: u64) -> usize
+    requires fits { FitsContent (file_size_octets large) (KeepAlive progress) }
+    requires room { at + content_len (file_size_octets large) (KeepAlive progress)
+        ≤ length out.old }
+    ensures end { result ≡ at + content_len (file_size_octets large) (KeepAlive progress) }
     ensures front { take result out.new
-        ≡ take at out.old ++ content_octets file_size_octets (KeepAlive progress) }
+        ≡ take at out.old ++ content_octets (file_size_octets large) (KeepAlive progress) }
 {
     let at = put_uint(out, at, 1, 12);
-    put_uint(out, at, FILE_SIZE_OCTETS, progress)
+    put_file_size(out, at, large, progress)
 }
 
 /// Whether the PDU can be written behind this header: both fit their fields, and the header tells
@@ -173,14 +182,16 @@ fn put_keep_alive(out: &mut [u8], at: usize, progress: u64) -> usize
 pub fn can_write(header: &Header, pdu: &Pdu<'_>) -> bool
     ensures { IsTrue result ↔ CanWrite header.now (view pdu.now) }
 {
-    header.fits() && pdu.fits() && is_header_of(header, pdu)
+    header.fits() && pdu.fits(header.large) && is_header_of(header, pdu)
 }
 
 /// Whether the header tells of this kind of content and of its length.
 fn is_header_of(header: &Header, pdu: &Pdu<'_>) -> bool
     ensures { IsTrue result ↔ IsHeaderOf header.now (view pdu.now) }
 {
-    header.file_data == pdu.is_file_data() && !header.segment_metadata && pdu.has_len(header.length)
+    header.file_data == pdu.is_file_data()
+        && !header.segment_metadata
+        && pdu.has_len(header.large, header.length)
 }
 
 /// Writes the PDU into the first octets of `out`, spare bits as 0, and says how many they are. The
@@ -199,32 +210,46 @@ pub fn encode(header: &Header, pdu: &Pdu<'_>, out: &mut [u8]) -> usize
     ensures behind { drop result out.new ≡ drop result out.old }
 {
     let at = cfdp_header::encode(header, out);
-    put_content(&mut out[..at + header.length as usize], at, pdu)
+    put_content(
+        &mut out[..at + header.length as usize],
+        at,
+        header.large,
+        pdu,
+    )
 }
 
 /// Writes the data field of a PDU behind the first `at` octets, and says where it ends.
-fn put_content(out: &mut [u8], at: usize, pdu: &Pdu<'_>) -> usize
-    requires fits { FitsContent file_size_octets (view pdu.now) }
-    requires room { at + content_len file_size_octets (view pdu.now) ≤ length out.old }
-    ensures end { result ≡ at + content_len file_size_octets (view pdu.now) }
+fn put_content(out: &mut [u8], at: usize, large: bool, pdu: &Pdu<'_>) -> usize
+    requires fits { FitsContent (file_size_octets large) (view pdu.now) }
+    requires room { at + content_len (file_size_octets large) (view pdu.now) ≤ length out.old }
+    ensures end { result ≡ at + content_len (file_size_octets large) (view pdu.now) }
     ensures front { take result out.new
-        ≡ take at out.old ++ content_octets file_size_octets (view pdu.now) }
+        ≡ take at out.old ++ content_octets (file_size_octets large) (view pdu.now) }
 {
     match pdu {
-        Pdu::FileData { offset, bytes } => put_file_data(out, at, *offset, bytes),
+        Pdu::FileData { offset, bytes } => put_file_data(out, at, large, *offset, bytes),
         Pdu::Metadata {
             checksum_kind,
             size,
             source,
             destination,
             options,
-        } => put_metadata(out, at, *checksum_kind, *size, source, destination, options),
+        } => put_metadata(
+            out,
+            at,
+            large,
+            *checksum_kind,
+            *size,
+            source,
+            destination,
+            options,
+        ),
         Pdu::Eof {
             condition,
             checksum,
             size,
             tlvs,
-        } => put_eof(out, at, *condition, *checksum, *size, tlvs),
+        } => put_eof(out, at, large, *condition, *checksum, *size, tlvs),
         Pdu::Finished {
             condition,
             delivery,
@@ -236,8 +261,8 @@ fn put_content(out: &mut [u8], at: usize, pdu: &Pdu<'_>) -> usize
             condition,
             status,
         } => put_ack(out, at, *of, *condition, *status),
-        Pdu::Nak { start, end, pairs } => put_nak(out, at, *start, *end, pairs),
+        Pdu::Nak { start, end, pairs } => put_nak(out, at, large, *start, *end, pairs),
         Pdu::Prompt { keep_alive } => put_prompt(out, at, *keep_alive),
-        Pdu::KeepAlive { progress } => put_keep_alive(out, at, *progress),
+        Pdu::KeepAlive { progress } => put_keep_alive(out, at, large, *progress),
     }
 }

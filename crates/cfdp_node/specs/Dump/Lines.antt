@@ -98,11 +98,15 @@ location_text (Some entity) = codes " fault-location " ++ decimal entity
 abbrev pub end_word : Bool → List ℕ
 end_word toward_sender = if toward_sender then codes "sender" else codes "receiver"
 
--- where the PDU goes, which entity receives the file, and the options
+-- whether file-size fields have 8 octets (5.1, table 5-1, large file flag)
+abbrev pub large_word : Bool → List ℕ
+large_word large = if large then codes " large" else codes ""
+
+-- where the PDU goes, which entity receives the file, whether that is large, and the options
 abbrev pub long_text : Header → pdus.Pdu → List ℕ
 long_text h p =
     codes " toward " ++ end_word h.toward_sender ++ codes " destination " ++ decimal h.destination
-    ++ location_text (location_of (options_of p)) ++ flat_map option_text (options_of p)
+    ++ large_word h.large ++ location_text (location_of (options_of p)) ++ flat_map option_text (options_of p)
 
 -- the line of a PDU, which may be a long one
 abbrev pub pdu_line : Bool → Header → pdus.Pdu → List ℕ

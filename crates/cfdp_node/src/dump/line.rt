@@ -145,7 +145,8 @@ impl fmt::Display for Ranges<'_> {
     }
 }
 
-/// What a long line has behind a short one: where the PDU goes, and its options.
+/// What a long line has behind a short one: where the PDU goes, whether its file is large, and its
+/// options.
 #[derive(Clone, Copy)]
 struct LongPart<'a> {
     header: Header,
@@ -157,10 +158,11 @@ impl fmt::Display for LongPart<'_> {
 
     fn fmt<W: fmt::Write>(&self, f: &mut fmt::Formatter<W>) -> fmt::Result {
         let (end, destination) = (end_word(self.header.toward_sender), self.header.destination);
+        let large = large_word(self.header.large);
         let (location, options) = (Location(fault_location(self.pdu)), Options(self.pdu));
         write!(
             f,
-            " toward {end} destination {destination}{location}{options}"
+            " toward {end} destination {destination}{large}{location}{options}"
         )
     }
 }
@@ -170,6 +172,13 @@ fn end_word(toward_sender: bool) -> &'static str
     ensures { result.now ≡ Rattle.cfdp_node.specs.Dump.Lines.end_word toward_sender }
 {
     if toward_sender { "sender" } else { "receiver" }
+}
+
+/// The word for a PDU of a large file, with a space before it.
+fn large_word(large: bool) -> &'static str
+    ensures { result.now ≡ Rattle.cfdp_node.specs.Dump.large_word large }
+{
+    if large { " large" } else { "" }
 }
 
 /// The entity that a PDU names as the one at which a fault was found.

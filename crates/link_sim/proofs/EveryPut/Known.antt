@@ -15,7 +15,7 @@ use Rattle.cfdp_directives.specs.Pdu.Addressing.{header_of, addressing_of as add
 use Rattle.cfdp_directives.specs.Pdu.Content.{Content}
 use Rattle.cfdp_directives.specs.Pdu.Direction.{goes_toward_sender, is_for}
 use Rattle.cfdp_directives.specs.User.FileName.{is_file_name}
-use Rattle.cfdp_directives.specs.Pdu.Grammar.{SpellsPdu}
+use Rattle.cfdp_directives.specs.Pdu.Small.{SpellsSmall}
 use Rattle.cfdp_directives.specs.User.Put.{Put}
 use Rattle.cfdp_store.specs.declared.stored.Stored.{Stored}
 use Rattle.cfdp_store.specs.declared.stored.Stored.TheVariants.{Done, Refused}
@@ -249,11 +249,11 @@ pub record TurnSays (e : EntityState) : Type 0 where
   pub at : slice_get e.table.records place ≡ Some entry
   pub content : Content
   pub due : due_content e.table.sources entry.1 ≡ Some content
-  pub spells : SpellsPdu (header_of (addressing_of entry.1) content) content (turn_octets (turn e) e)
+  pub spells : SpellsSmall (header_of (addressing_of entry.1) false content) content (turn_octets (turn e) e)
 
 -- the PDU, as it is on its way
 abbrev pub pdu_of : Entry → Content → Pdu
-pdu_of e v = (header_of (addressing_of e.1) v, v)
+pdu_of e v = (header_of (addressing_of e.1) false v, v)
 
 turn-none : (e : EntityState) → e.strays ≡ [] → turn e ≡ record_turn (next_due e.cursor e.table.records)
 turn-none e none = rw none refl
@@ -261,7 +261,7 @@ turn-none e none = rw none refl
 content-says : (e : EntityState) (place : ℕ) (d : Entry) (o : Option Content) → turn e ≡ Place place → slice_get e.table.records place ≡ Some d → due_content e.table.sources d.1 ≡ o
     → SpellsDue o (addressing_of d.1) (due_octets e.table.sources d.1) → due_octets e.table.sources d.1 ≡ turn_octets (turn e) e → TurnSays e
 content-says e place d None is at due s octets = absurd s
-content-says e place d (Some v) is at due s octets = record { place = place; is_turn = is; entry = d; at = at; content = v; due = due; spells = subst (SpellsPdu (header_of (addressing_of d.1) v) v) octets s }
+content-says e place d (Some v) is at due s octets = record { place = place; is_turn = is; entry = d; at = at; content = v; due = due; spells = subst (SpellsSmall (header_of (addressing_of d.1) false v) v) octets s }
 
 entry-says : (e : EntityState) (place : ℕ) (o : Option Entry) → turn e ≡ Place place → slice_get e.table.records place ≡ o → SpellsEntry e.table.sources o → TurnSays e
 entry-says e place None is at s = absurd s
@@ -342,7 +342,7 @@ module _ (put_of : TransactionId → Option Put) (heard : List (List ℕ)) (mine
   some-put a b put is found = subst (λ i. IsSome (put_of i)) (sym is) (subst IsSome (sym found) refl)
 
   directed-seen : (s : Seen) → due_content mine.table.sources s ≡ Some v → IsWithPeer mine.config s → KnowsTruth mine.config.entity put_of heard id s → SendsItsPut put_of mine.table.sources id s
-      → IsDirected put_of theirs (header_of (addressing_of s) v, v)
+      → IsDirected put_of theirs (header_of (addressing_of s) false v, v)
   directed-seen (Sends x) due peer knows sends =
       let says = sender-down (octets_in mine.table.sources x.source) x (sender_due x) v due peer.1 in
       record {

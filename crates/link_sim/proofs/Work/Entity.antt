@@ -1,5 +1,5 @@
 -- Each PDU that an entity sends, loses or hears lowers what it may still do.
-use Rattle.std.proofs.Common.{◌≡◌, inl, inr, ℕ, zero, suc, ◌+◌, ◌*◌, ◌<◌, ◌≤◌, true, List, [], ◌∷◌, ◌++◌, length, sum_by, take, slice_get, get_or, Option, Some, None, is_some, refl, sym, ap, subst, ◌∙◌, arith}
+use Rattle.std.proofs.Common.{◌≡◌, inl, inr, ℕ, zero, suc, ◌+◌, ◌*◌, ◌<◌, ◌≤◌, true, List, [], ◌∷◌, ◌++◌, length, sum_by, take, slice_get, get_or, Option, Some, None, is_some, refl, sym, ap, subst, ◌∙◌, arith, false}
 use Rattle.std.specs.FinMap as map
 use Rattle.std.proofs.lemmas.List.{length-append}
 use Rattle.std.proofs.lemmas.List.Sums.{sum_by_push, sum_by-cons, sum_by-append}
@@ -11,7 +11,7 @@ use Rattle.cfdp_directives.specs.declared.pdu.error.PduError.{PduError}
 use Rattle.cfdp_directives.specs.declared.user.limits.Times.{Times}
 use Rattle.cfdp_directives.specs.Pdu.Addressing.{header_of}
 use Rattle.cfdp_directives.specs.Pdu.Content.{Content, FileData, Metadata, Eof, Finished, Ack, Nak, Prompt, KeepAlive}
-use Rattle.cfdp_directives.specs.Pdu.Faults.{pdu_fault}
+use Rattle.cfdp_directives.specs.Pdu.Small.{small_pdu_fault}
 use Rattle.cfdp_directives.specs.User.Put.{Put}
 use Rattle.cfdp_store.specs.declared.stored.Stored.{Stored}
 use Rattle.cfdp_store.specs.declared.stored.Stored.TheVariants.{Done, Refused}
@@ -174,7 +174,7 @@ module _ (most : ℕ) (e : EntityState) where
     -- its octets
     due-spelled : (o : Option Content) (a : Addressing) (octets : List ℕ) → SpellsDue o a octets → (v : Content) × ((o ≡ Some v) × (text_work most octets ≡ content_work most v))
     due-spelled None a octets h = absurd h
-    due-spelled (Some v) a octets h = (v, (refl, text-work most (header_of a v) v octets h))
+    due-spelled (Some v) a octets h = (v, (refl, text-work most (header_of a false v) v octets h))
 
     entry-spelled : (place : ℕ) (o : Option Entry) → slice_get e.table.records place ≡ o → SpellsEntry e.table.sources o → (v : Content) × ((turn_says (Place place) e ≡ Some v) × (text_work most (turn_octets (Place place) e) ≡ content_work most v))
     entry-spelled place None at h = absurd h
@@ -389,11 +389,11 @@ module _ (most : ℕ) where
       where
         one : HearsPdu pdu old h.0 → AreWithin most h.0.state.table.records
         one (inl t) = within-heard most limit pdu old h.0 t within
-        one (inr d) = within-dropped most limit (pdu_fault pdu) pdu d.0 old h.0 d.1 within
+        one (inr d) = within-dropped most limit (small_pdu_fault pdu) pdu d.0 old h.0 d.1 within
 
     one-pdu : (pdu : List ℕ) (old new : Counted) → AreWithin most old.state.table.records → HearsPdu pdu old new → entity_work most new.state ≤ entity_work most old.state + text_work most pdu
     one-pdu pdu old new within (inl t) = work-heard pdu old new within t
-    one-pdu pdu old new within (inr d) = work-dropped (pdu_fault pdu) pdu d.0 old new within d.1
+    one-pdu pdu old new within (inr d) = work-dropped (small_pdu_fault pdu) pdu d.0 old new within d.1
 
     pub work-hears-all : (given : List (List ℕ)) (old new : Counted) → AreWithin most old.state.table.records → HearsAll given old new → entity_work most new.state ≤ entity_work most old.state + texts_work most given
     work-hears-all [] old new within h = let same : entity_work most new.state ≡ entity_work most old.state = ap (λ (c : Counted). entity_work most c.state) h in omega (arith, same)

@@ -3,13 +3,8 @@ use Rattle.std.specs.List.{All}
 use Rattle.cfdp_extents.specs.Offsets.{LiesIn}
 use Rattle.cfdp_receiver.specs.declared.asked.Asked.{Asked}
 use Rattle.cfdp_receiver.specs.Asked.{pairs_of}
-use Rattle.cfdp_receiver.proofs.AskedLemmas.{asks_first, asks_all, all_with_one, end_with_one, writable_with_one}
+use Rattle.cfdp_receiver.proofs.AskedLemmas.{all_parts, asks_first, asks_all, all_with_one, end_with_one, writable_with_one}
 use Rattle.cfdp_receiver.proofs.asked.Asked.of.Goals as goal
-
-all_parts : (P : ℕ × ℕ → Type 0) (x : ℕ × ℕ) (xs ys : List (ℕ × ℕ)) → ys ≡ x ∷ xs → All P ys →
-    P x × All P xs
-all_parts P x xs ys is all = let Q : List (ℕ × ℕ) → Type 0 = λ l. All P l in
-    (subst Q is all 0 x (omega arith), λ k d low. (subst Q is all) (suc k) d (omega arith))
 
 pub returns-then-asked-eq-MOST_PAIRS-clause-asks : goal.returns-then-asked-eq-MOST_PAIRS-clause-asks
 returns-then-asked-eq-MOST_PAIRS-clause-asks c =

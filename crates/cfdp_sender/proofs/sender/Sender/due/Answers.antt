@@ -1,4 +1,4 @@
-use Rattle.std.proofs.Common.{◌≡◌, [], Option, Some, IfSome, sym, ap, subst, ◌∙◌, arith}
+use Rattle.std.proofs.Common.{◌≡◌, [], Option, Some, IfSome, sym, ap, subst, ◌∙◌, arith, false}
 use Rattle.cfdp_directives.specs.Pdu.Content.{view}
 use Rattle.cfdp_directives.specs.Pdu.Codes.{file_size_octets}
 use Rattle.cfdp_directives.specs.Pdu.Written.{content_len, CanWrite}
@@ -20,7 +20,7 @@ overflow_add-result c =
     let s : IsSender c.args.self.now = subst IsSender c.self.view_is c.self.invariant in
     let is : sender_due c.args.self.now ≡ Some c.in_ok-due.due = sym c.in_ok-due.ensures in
     let fits = (fits-short c.args.self.now c.in_ok-due.due [] s is (omega arith)).1 in
-    let content = ap (content_len file_size_octets) c.says.ensures in
+    let content = ap (content_len (file_size_octets false)) c.says.ensures in
     let widths = c.self.invariant.transfer.addressing.id in
     omega (arith, c.written_len.ensures, content, fits, widths.id_width.1, widths.number_width.1, c.extent-carried.ensures.short)
 
@@ -28,7 +28,7 @@ pub returns-clause-short : goal.returns-clause-short
 returns-clause-short c =
     let s : IsSender c.args.self.now = subst IsSender c.self.view_is c.self.invariant in
     let short = content-short c.args.self.now c.in_ok-due.due _ s c.extent-carried.ensures.short c.extent-carried.ensures.some in
-    let content = ap (content_len file_size_octets) c.says.ensures in
+    let content = ap (content_len (file_size_octets false)) c.says.ensures in
     let widths = c.self.invariant.transfer.addressing.id in
     omega (arith, c.written_len.ensures, content, short, widths.id_width.1, widths.number_width.1)
 
@@ -36,11 +36,11 @@ pub returns-clause-can_write : goal.returns-clause-can_write
 returns-clause-can_write c = λ file.
     let s : IsSender c.args.self.now = subst IsSender c.self.view_is c.self.invariant in
     let is : sender_due c.args.self.now ≡ Some c.in_ok-due.due = sym c.in_ok-due.ensures in
-    let Can : SenderDue → Type 0 = λ d. CanWrite (header_of c.args.self.now.addressing (sender_says file c.args.self.now d)) (sender_says file c.args.self.now d) in
+    let Can : SenderDue → Type 0 = λ d. CanWrite (header_of c.args.self.now.addressing false (sender_says file c.args.self.now d)) (sender_says file c.args.self.now d) in
     subst (λ (o : Option SenderDue). IfSome o Can) (sym is) (due-can_write c.args.self.now c.in_ok-due.due file s is)
 
 pub returns-clause-len : goal.returns-clause-len
 returns-clause-len c = λ file whole.
     let is : sender_due c.args.self.now ≡ Some c.in_ok-due.due = sym c.in_ok-due.ensures in
-    let written = c.written_len.ensures ∙ ap (λ (x : SenderState). written_len x.addressing (view c.says.result)) c.self.view_is in
+    let written = c.written_len.ensures ∙ ap (λ (x : SenderState). written_len x.addressing false (view c.says.result)) c.self.view_is in
     due-len c.args.self.now c.in_ok-due.due file _ _ _ (view c.says.result) is c.says.ensures written (c.extent-carried.ensures.part file) whole c.extent-carried.ensures.within

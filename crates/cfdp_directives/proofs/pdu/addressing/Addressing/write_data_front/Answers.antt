@@ -1,5 +1,6 @@
 use Rattle.std.proofs.Common.{◌≡◌, ◌+◌, ℕ, List, drop, sym, ap, ◌∙◌}
 use Rattle.std.proofs.lemmas.List.{drop-drop}
+use Rattle.cfdp_directives.specs.Pdu.Codes.{file_size_octets}
 use Rattle.cfdp_directives.proofs.pdu.addressing.Addressing.write_data_front.Goals as goal
 
 -- octets that stayed behind a place also stay behind a later one
@@ -9,4 +10,4 @@ stays old middle new at n end is first second =
     second ∙ rw is cut
 
 pub returns-clause-behind : goal.returns-clause-behind
-returns-clause-behind c = stays c.args.out.now c.encode-at.new.out c.put_uint.new.out c.encode-at.result 4 c.put_uint.result c.put_uint.ensures.end c.encode-at.ensures.behind c.put_uint.ensures.behind
+returns-clause-behind c = stays c.args.out.now c.encode-at.new.out c.put_file_size.new.out c.encode-at.result (file_size_octets c.args.large) c.put_file_size.result c.put_file_size.ensures.end c.encode-at.ensures.behind c.put_file_size.ensures.behind

@@ -1,0 +1,66 @@
+// The octets of a file-size field, as an offset: their number stands here alone.
+ghost use Rattle.std.specs.Prelude.{◌≡◌, ◌+◌, ◌*◌, ◌^◌, ◌<◌, ◌≤◌, ◌++◌, ◌↔◌, length, take, drop, IsTrue};
+ghost use Rattle.cfd_bits.specs.Field.{field, octets};
+ghost use Rattle.cfdp_directives.specs.Pdu.Codes as codes;
+
+use cfd_bits::{put_uint, read_uint};
+
+/// Where the file isn't large.
+const SMALL: usize = 4;
+
+/// Where it is.
+const LARGE: usize = 8;
+
+/// The largest number that a field holds where the file isn't large.
+const LARGEST_SMALL: u64 = u64::MAX >> (64 - 8 * SMALL);
+
+/// Octets of a file-size field, as an offset, where the file is large and where it isn't (CCSDS
+/// 727.0-B-5, 5.1.10): 8 and 4.
+#[inline]
+pub fn file_size_octets(large: bool) -> usize
+    ensures value { result ≡ codes.file_size_octets large }
+    ensures some { 1 ≤ result }
+    ensures most { result ≤ 8 }
+{
+    if large { LARGE } else { SMALL }
+}
+
+/// Whether a size or an offset fits a file-size field.
+#[inline]
+pub fn is_file_size(large: bool, value: u64) -> bool
+    ensures { IsTrue result ↔ (value < 256 ^ codes.file_size_octets large) }
+{
+    large || value <= LARGEST_SMALL
+}
+
+/// The number in the file-size field at the front. Each width is read by a count that is known, so
+/// that no loop is left of it.
+#[inline]
+pub(crate) fn read_file_size(large: bool, bytes: &[u8]) -> u64
+    requires { codes.file_size_octets large ≤ length bytes.now }
+    ensures { result ≡ field bytes.now 0 (8 * codes.file_size_octets large) }
+{
+    if large {
+        read_uint(bytes, LARGE)
+    } else {
+        read_uint(bytes, SMALL)
+    }
+}
+
+/// Writes the number as a file-size field from octet `at` on, and says where it ends. The octets
+/// before and behind stay.
+#[inline]
+pub(crate) fn put_file_size(out: &mut [u8], at: usize, large: bool, value: u64) -> usize
+    requires room { at + codes.file_size_octets large ≤ length out.old }
+    requires fits { value < 256 ^ codes.file_size_octets large }
+    ensures end { result ≡ at + codes.file_size_octets large }
+    ensures front { take result out.new
+        ≡ take at out.old ++ octets (codes.file_size_octets large) value }
+    ensures behind { drop result out.new ≡ drop result out.old }
+{
+    if large {
+        put_uint(out, at, LARGE, value)
+    } else {
+        put_uint(out, at, SMALL, value)
+    }
+}

@@ -1,0 +1,54 @@
+use Rattle.std.proofs.Common.{◌≡◌, ℕ, ◌+◌, ◌*◌, ◌<◌, ◌≤◌, ◌^◌, false, List, length, ap, subst, ◌∙◌, arith}
+use Rattle.cfdp_header.specs.Header.{header_len}
+use Rattle.cfdp_directives.specs.declared.pdu.addressing.Addressing.{Addressing}
+use Rattle.cfdp_directives.specs.Pdu.Addressing.{FitsAddressing}
+use Rattle.cfdp_directives.specs.Pdu.Content.{Content}
+use Rattle.cfdp_directives.proofs.Addressed.{can_write}
+use Rattle.cfdp_extents.specs.Terms.{gaps_of}
+use Rattle.cfdp_receiver.specs.declared.due.Due.TheVariants as due_is
+use Rattle.cfdp_receiver.specs.Due.{receiver_says}
+use Rattle.cfdp_receiver.specs.Missing.{asked, missing_pairs}
+use Rattle.cfdp_receiver.specs.State.{ReceiverState}
+use Rattle.cfdp_receiver.proofs.AskedLemmas.{nak_fits, pairs_counted}
+use Rattle.cfdp_receiver.proofs.receiver.Receiver.len_of_nak.Goals as goal
+
+gaps : (c : goal.After-nak_len) → c.missing_in-gaps.result ≡ gaps_of c.args.self.now.held c.args.cursor c.scope_limit.result
+gaps c = c.missing_in-gaps.ensures.is ∙ ap (λ (r : ReceiverState). gaps_of r.held c.args.cursor c.scope_limit.result) c.self.view_is
+
+counted : (c : goal.After-nak_len) → length (asked (missing_pairs c.args.cursor c.args.self.now)) ≡ c.count_asked-pairs.result
+counted c =
+    pairs_counted c.args.self.now c.args.cursor c.scope_limit.result c.missing_in-gaps.result c.scope_limit.ensures.value (gaps c) c.asks_for_metadata.result c.count_asked-pairs.result c.asks_for_metadata.ensures c.count_asked-pairs.ensures.count
+
+-- nine octets, and eight for each pair
+says : (c : goal.After-nak_len) → 9 + 8 * length (asked (missing_pairs c.args.cursor c.args.self.now)) ≡ c.nak_len.result
+says c = c.nak_len.ensures 0 0 (asked (missing_pairs c.args.cursor c.args.self.now)) (counted c)
+
+short : (c : goal.After-nak_len) → c.len_in_widths.result + c.nak_len.result ≤ 4128
+short c =
+    let a : Addressing = c.self.inside.addressing in
+    let id : a.id_width ≤ 8 = c.self.invariant.addressing_fits.id.id_width.1 in
+    let number : a.number_width ≤ 8 = c.self.invariant.addressing_fits.id.number_width.1 in
+    let header : c.len_in_widths.result ≡ header_len a.id_width a.number_width = c.len_in_widths.ensures in
+    let few : c.count_asked-pairs.result ≤ 32 = c.count_asked-pairs.ensures.few in
+    omega (arith, id, number, header, few, counted c, says c)
+
+pub overflow_add-result : goal.overflow_add-result
+overflow_add-result c = let low = short c in omega (arith, low)
+
+pub returns-clause-len : goal.returns-clause-len
+returns-clause-len c =
+    let header : c.len_in_widths.result ≡ header_len c.args.self.now.addressing.id_width c.args.self.now.addressing.number_width = c.len_in_widths.ensures
+    ∙ ap (λ (r : ReceiverState). header_len r.addressing.id_width r.addressing.number_width) c.self.view_is in
+    omega (arith, header, says c)
+
+pub returns-clause-short : goal.returns-clause-short
+returns-clause-short c = short c
+
+pub returns-clause-can_write : goal.returns-clause-can_write
+returns-clause-can_write c =
+    let it : Content = receiver_says c.args.self.now (due_is.Nak c.args.cursor) in
+    let few : c.count_asked-pairs.result ≤ 32 = c.count_asked-pairs.ensures.few in
+    let addressing = subst (λ (r : ReceiverState). FitsAddressing r.addressing) c.self.view_is c.self.invariant.addressing_fits in
+    can_write c.args.self.now.addressing false it addressing
+    (nak_fits c.args.self.now c.args.cursor c.scope_limit.result c.missing_in-gaps.result c.scope_limit.ensures.value (gaps c) c.missing_in-gaps.ensures.inside c.requires.cursor (c.scope_limit.ensures.fits c.requires.receiving))
+    (omega (arith, few, counted c))
