@@ -60,10 +60,12 @@ written_frame_is_read link h rest fits ours here long =
     let told : Signals h.cycle h.count = signals h.cycle h.count fits.count in
     let below : s < 128 = told.below in
     let bits : s / 16 % 4 ≡ 0 = told.two_bits in
-    let first : (i w : ℕ) → i + w ≤ 16 → field text i w ≡ n / 2 ^ (16 - (i + w)) % 2 ^ w = λ (i w : ℕ) (few : i + w ≤ 16). field_of_octets [] (octets 3 k ++ (octets 1 s ++ rest)) 2 n i i w (omega arith) (omega arith) few in
+    let first : (i w : ℕ) → i + w ≤ 16 → field text i w ≡ n / 2 ^ (16 - (i + w)) % 2 ^ w =
+    λ (i w : ℕ) (few : i + w ≤ 16). field_of_octets [] (octets 3 k ++ (octets 1 s ++ rest)) 2 n i i w (omega arith) (omega arith) few in
     let lower : field text 16 24 ≡ k = field_between (octets 2 n) (octets 1 s ++ rest) 3 k 16 24 (omega arith) (omega arith) refl in
     let turned : (octets 2 n ++ octets 3 k) ++ (octets 1 s ++ rest) ≡ text = simp append_assoc in
-    let last : (at i w : ℕ) → at ≡ 40 + i → i + w ≤ 8 → field text at w ≡ s / 2 ^ (8 - (i + w)) % 2 ^ w = λ (at i w : ℕ) (e : at ≡ 40 + i) (few : i + w ≤ 8). rw (← turned) (field_of_octets (octets 2 n ++ octets 3 k) rest 1 s at i w (omega arith) (omega arith) few) in
+    let last : (at i w : ℕ) → at ≡ 40 + i → i + w ≤ 8 → field text at w ≡ s / 2 ^ (8 - (i + w)) % 2 ^ w =
+    λ (at i w : ℕ) (e : at ≡ 40 + i) (few : i + w ≤ 8). rw (← turned) (field_of_octets (octets 2 n ++ octets 3 k) rest 1 s at i w (omega arith) (omega arith) few) in
     let upper : field text 44 4 ≡ s % 16 = omega (arith, last 44 4 4 (omega arith) (omega arith)) in (
       rw grouped (record {
         size = omega arith;

@@ -37,7 +37,8 @@ continuity (suc n) = Gap (suc n)
 -- was seen
 abbrev pub follows : Option SeenCount → SeenCount → Bool
 follows None this = true
-follows (Some last) this = (last.count + 1) % compared last.cycle this.cycle == this.count % compared last.cycle this.cycle
+follows (Some last) this = (last.count
+    + 1) % compared last.cycle this.cycle == this.count % compared last.cycle this.cycle
 
 -- a count with the usage flag
 abbrev pub with_cycle : ℕ → SeenCount

@@ -71,7 +71,12 @@ frame_fault text link =
 
 -- the link that the header of a frame names, its packet zones of so many octets
 abbrev pub own_link : List ℕ → ℕ → LinkConfig
-own_link text zone = record { spacecraft = field text 2 8; channel = field text 10 6; zone = zone; apid = 0 }
+own_link text zone = record {
+  spacecraft = field text 2 8;
+  channel = field text 10 6;
+  zone = zone;
+  apid = 0;
+}
 
 -- the header can be written: each part fits its field, and its frame isn't for idle data only
 pub record FitsHeader (h : FrameHeader) : Type 0 where
@@ -87,7 +92,8 @@ signaling false count = 0
 -- the written spelling of a header
 abbrev pub header_octets : FrameHeader → List ℕ
 header_octets h =
-    octets 2 (16384 + 64 * h.spacecraft + h.channel) ++ octets 3 (h.count % short_counts) ++ octets 1 (signaling h.cycle h.count)
+    octets 2 (16384 + 64 * h.spacecraft + h.channel) ++ octets 3 (h.count % short_counts)
+    ++ octets 1 (signaling h.cycle h.count)
 
 -- the written spelling of a frame, from the M_PDU header and the packet zone
 abbrev pub frame_octets : FrameHeader → List ℕ → List ℕ

@@ -10,7 +10,8 @@ ghost use Rattle.aos_frame.specs.Frame.{SpellsFrame, FitsHeader, frame_octets};
 pub fn written_frame_is_read()
     ensures { (link : LinkConfig) (h : FrameHeader) (rest : List ℕ) → FitsHeader h → h.spacecraft
         ≡ link.spacecraft → h.channel ≡ link.channel
-        → length rest ≡ 2 + link.zone → SpellsFrame link h (frame_octets h rest) × (drop 6 (frame_octets h rest) ≡ rest) }
+        → length rest ≡ 2 + link.zone → SpellsFrame link h (frame_octets h rest)
+        × (drop 6 (frame_octets h rest) ≡ rest) }
 {}
 
 /// Octets are a frame of the link with one header at most.
@@ -23,9 +24,11 @@ pub fn a_frame_has_one_header()
 /// channel in a row are lost, fewer than the counts that are compared, it is how many they are.
 pub fn one_number_is_missing()
     ensures lost { (n lost : ℕ) (last this : Bool) → lost < compared last this →
-        AreMissing (compared last this) (n % counts_of last) ((n + 1 + lost) % counts_of this) lost }
+        AreMissing (compared last this) (n % counts_of last)
+        ((n + 1 + lost) % counts_of this) lost }
     ensures some { (last this : Bool) (before count : ℕ) → (n : ℕ)
         × AreMissing (compared last this) before count n }
     ensures one { (last this : Bool) (before count n m : ℕ) →
-        AreMissing (compared last this) before count n → AreMissing (compared last this) before count m → n ≡ m }
+        AreMissing (compared last this) before count n →
+        AreMissing (compared last this) before count m → n ≡ m }
 {}

@@ -103,7 +103,8 @@ field-take n o at (suc w) h =
     rw (field-take n o at w (omega arith), one) refl
 
 -- a field within a number's octets
-pub field_of_octets : (a b : List ℕ) (count n at i w : ℕ) → n < 256 ^ count → at ≡ 8 * length a + i → i + w ≤ 8 * count → field (a ++ (octets count n ++ b)) at w ≡ n / 2 ^ (8 * count - (i + w)) % 2 ^ w
+pub field_of_octets : (a b : List ℕ) (count n at i w : ℕ) → n < 256 ^ count → at ≡ 8 * length a + i → i + w ≤ 8 * count → field (a ++ (octets count n ++ b)) at w
+    ≡ n / 2 ^ (8 * count - (i + w)) % 2 ^ w
 field_of_octets a b count n at i w h e room =
     let o = a ++ (octets count n ++ b) in
     let whole : field o (8 * length a) (8 * count) ≡ n = field_between a b count n (8 * length a) (8 * count) h refl refl in

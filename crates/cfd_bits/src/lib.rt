@@ -93,7 +93,8 @@ pub fn put_bits(bytes: &mut [u8], at_bit: usize, width: usize, value: u64)
 fn with_bits(octet: u8, from: usize, width: usize, value: u8) -> u8
     requires room { from + width ≤ 8 }
     requires fits { value < 2 ^ width }
-    ensures { result ≡ (octet / 2 ^ (8 - from) * 2 ^ width + value) * 2 ^ (8 - (from + width)) + octet % 2 ^ (8 - (from + width)) }
+    ensures { result ≡ (octet / 2 ^ (8 - from) * 2 ^ width + value) * 2 ^ (8 - (from + width))
+        + octet % 2 ^ (8 - (from + width)) }
 {
     let behind = 8 - (from + width);
     let front = u32::from(octet) >> (8 - from);

@@ -47,11 +47,13 @@ module _ {Y Z : Type 0} where
       ap entries same ∙ entries-from_sorted R (map show es) sorted
 
   -- the file at a place
-  pub file_listed : (es : List (Vec ℕ Y × Vec ℕ Z)) (n : ℕ) → IsStrictlySortedBy by_items (map (λ e. e.0) es) → option_map show (slice_get es n) ≡ slice_get (entries (from_entries {R = R} (map show es))) n
+  pub file_listed : (es : List (Vec ℕ Y × Vec ℕ Z)) (n : ℕ) → IsStrictlySortedBy by_items (map (λ e. e.0) es) → option_map show (slice_get es n)
+      ≡ slice_get (entries (from_entries {R = R} (map show es))) n
   file_listed es n h = sym (slice_get-map show es n) ∙ ap (λ l. slice_get l n) (sym (entries_listed es h))
 
   -- the same, of borrows of both
-  pub file_lent : (r : Option (Bor (Vec ℕ Y) × Bor (Vec ℕ Z))) (es : List (Vec ℕ Y × Vec ℕ Z)) (n : ℕ) → IsStrictlySortedBy by_items (map (λ e. e.0) es) → option_map (λ e. (e.0.now, e.1.now)) r ≡ slice_get es n
+  pub file_lent : (r : Option (Bor (Vec ℕ Y) × Bor (Vec ℕ Z))) (es : List (Vec ℕ Y × Vec ℕ Z)) (n : ℕ) → IsStrictlySortedBy by_items (map (λ e. e.0) es) → option_map (λ e. (e.0.now, e.1.now)) r
+      ≡ slice_get es n
       → option_map (λ e. (e.0.now.items, e.1.now.items)) r ≡ slice_get (entries (from_entries {R = R} (map show es))) n
   file_lent None es n h at = ap (option_map show) at ∙ file_listed es n h
   file_lent (Some e) es n h at = ap (option_map show) at ∙ file_listed es n h

@@ -94,7 +94,8 @@ pdu_of_kind kind h = record {
 }
 
 abbrev pub said_by : Header → Content → CfdpPdu
-said_by h (FileData offset bytes) = record (pdu_of_kind 0 h) { offset = offset; data_len = length bytes }
+said_by h (FileData offset bytes) = record
+    (pdu_of_kind 0 h) { offset = offset; data_len = length bytes }
 said_by h (Eof condition checksum size tlvs) =
     record (pdu_of_kind 4 h) { condition = condition; checksum = checksum; size = size }
 said_by h (Finished condition delivery status tlvs) =

@@ -18,7 +18,8 @@ header_fits a large file_data toward_sender length fits short = record {
   destination = fits.destination;
 }
 
-pub can_write : (a : Addressing) (large : Bool) (v : Content) → FitsAddressing a → FitsContent (file_size_octets large) v → content_len (file_size_octets large) v < 2 ^ 16 → CanWrite (header_of a large v) v
+pub can_write : (a : Addressing) (large : Bool) (v : Content) → FitsAddressing a → FitsContent (file_size_octets large) v → content_len (file_size_octets large) v < 2 ^ 16 →
+    CanWrite (header_of a large v) v
 can_write a large v fits content short = record {
   header = header_fits a large (is_file_data v) (goes_toward_sender v) (content_len (file_size_octets large) v) fits short;
   content = content;

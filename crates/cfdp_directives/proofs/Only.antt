@@ -122,7 +122,8 @@ pub pdu_accepted : (h : Header) (v : Content) (t : List ℕ) → SpellsPdu h v t
 pdu_accepted h v t p =
     let q = p.header in
     let len : header_len_told t ≡ header_len h.id_width h.number_width = rw (q.id_width, q.number_width) refl in
-    rw (header.accepted h t q, q.file_data, q.segment_metadata, q.large, told h.file_data, told h.segment_metadata, told h.large, len) (accepted h v (drop (header_len h.id_width h.number_width) t) p.content)
+    rw (header.accepted h t q, q.file_data, q.segment_metadata, q.large, told h.file_data, told h.segment_metadata, told h.large, len)
+    (accepted h v (drop (header_len h.id_width h.number_width) t) p.content)
 
 -- ---- no other
 
@@ -230,7 +231,8 @@ same h (Ack a b c) w d p q = let k = p.1.code in absurd cc
 
 -- ---- what is spelled is read
 
-pub only : (r : Result (Header × Pdu) PduError) (t : List ℕ) → IfOk r (λ x. SpellsPdu x.0 (view x.1) t) → result_err r ≡ pdu_fault t → (h : Header) (v : Content) → SpellsPdu h v t → IsOkAnd r (λ x. (x.0 ≡ h) × (view x.1 ≡ v))
+pub only : (r : Result (Header × Pdu) PduError) (t : List ℕ) → IfOk r (λ x. SpellsPdu x.0 (view x.1) t) → result_err r ≡ pdu_fault t → (h : Header) (v : Content) → SpellsPdu h v t →
+    IsOkAnd r (λ x. (x.0 ≡ h) × (view x.1 ≡ v))
 only (Err e) t found refused h v p =
     let none = pdu_accepted h v t p in
     absurd cc

@@ -22,7 +22,8 @@ enough (suc n) zero (a ∷ bytes) h k = absurd (omega arith)
 enough (suc n) (suc m) (a ∷ []) h k = refl
 enough (suc n) (suc m) (a ∷ b ∷ bytes) h k = rw (enough n m (drop b bytes) (omega (arith, length-drop b bytes)) (omega (arith, length-drop b bytes))) refl
 
-pub step : (kind len : ℕ) (rest : List ℕ) → tlvs_of (kind ∷ len ∷ rest) ≡ cond (leb len (length rest)) (option_map (λ ts. record { kind = kind; value = take len rest } ∷ ts) (tlvs_of (drop len rest))) None
+pub step : (kind len : ℕ) (rest : List ℕ) → tlvs_of (kind ∷ len ∷ rest)
+    ≡ cond (leb len (length rest)) (option_map (λ ts. record { kind = kind; value = take len rest } ∷ ts) (tlvs_of (drop len rest))) None
 unfolding tlvs_at tlvs_of
 step kind len rest = rw (enough (suc (length rest)) (length (drop len rest)) (drop len rest) (omega (arith, length-drop len rest)) (omega arith)) refl
 
@@ -126,7 +127,8 @@ nothing (a ∷ bytes) h = absurd cc
 -- ---- a fault location
 
 -- what is written of a fault location spells it
-pub location_read : (entity width kind len : ℕ) (text : List ℕ) → kind ≡ 6 → len ≡ width → width < 256 → text ≡ octets 1 kind ++ octets 1 len ++ octets width entity → tlvs_of text ≡ Some (fault_location entity width ∷ [])
+pub location_read : (entity width kind len : ℕ) (text : List ℕ) → kind ≡ 6 → len ≡ width → width < 256 → text ≡ octets 1 kind ++ octets 1 len ++ octets width entity → tlvs_of text
+    ≡ Some (fault_location entity width ∷ [])
 unfolding octets
 location_read entity width kind len text is_six is_width h e =
     let first : kind % 256 ≡ 6 = omega arith in
@@ -138,7 +140,8 @@ location_read entity width kind len text is_six is_width h e =
 pub location_whole : (entity width kind len : ℕ) (text : List ℕ) → kind ≡ 6 → len ≡ width → width < 256 → text ≡ octets 1 kind ++ octets 1 len ++ octets width entity → is_some (tlvs_of text) ≡ true
 location_whole entity width kind len text is_six is_width h e = rw (location_read entity width kind len text is_six is_width h e) refl
 
-pub location_view : (entity width kind len : ℕ) (text : List ℕ) → kind ≡ 6 → len ≡ width → width < 256 → text ≡ octets 1 kind ++ octets 1 len ++ octets width entity → unwrap_or (tlvs_of text) [] ≡ fault_location entity width ∷ []
+pub location_view : (entity width kind len : ℕ) (text : List ℕ) → kind ≡ 6 → len ≡ width → width < 256 → text ≡ octets 1 kind ++ octets 1 len ++ octets width entity → unwrap_or (tlvs_of text) []
+    ≡ fault_location entity width ∷ []
 location_view entity width kind len text is_six is_width h e = rw (location_read entity width kind len text is_six is_width h e) refl
 
 pub length-location : (entity width : ℕ) (ts : List Tlv) → ts ≡ fault_location entity width ∷ [] → length (flat_map tlv ts) ≡ 2 + width

@@ -82,6 +82,7 @@ Contains-append_right xs ys x a =
 
 -- ---- the inbox
 
-pub inbox_after-append : (put_of : TransactionId → Option Put) (first : FileMap) (old new : List TransactionId) → inbox_after put_of first (old ++ new) ≡ inbox_after put_of (inbox_after put_of first old) new
+pub inbox_after-append : (put_of : TransactionId → Option Put) (first : FileMap) (old new : List TransactionId) → inbox_after put_of first (old ++ new)
+    ≡ inbox_after put_of (inbox_after put_of first old) new
 inbox_after-append put_of first [] new = refl
 inbox_after-append put_of first (id ∷ old) new = inbox_after-append put_of (overwritten first (put_of id)) old new

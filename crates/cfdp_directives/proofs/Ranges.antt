@@ -54,7 +54,8 @@ pairs_text_at w (suc n) o b h =
     let twice : w + w ≡ 2 * w = omega arith in
     let joined : drop w (drop w o) ≡ drop (2 * w) o = drop-drop w w o ∙ ap (λ (n : ℕ). drop n o) twice in
     let parts : take w o ++ (take w (drop w o) ++ drop (2 * w) o) ≡ o = rw (← joined, take-append-drop w (drop w o), take-append-drop w o) refl in
-    let whole : flat_map (pair w) (p ∷ pairs_of w n (drop (2 * w) o)) ≡ (octets w (field o 0 (8 * w)) ++ octets w (field o (8 * w) (8 * w))) ++ flat_map (pair w) (pairs_of w n (drop (2 * w) o)) = flat_map-cons (pair w) p (pairs_of w n (drop (2 * w) o)) in
+    let whole : flat_map (pair w) (p ∷ pairs_of w n (drop (2 * w) o)) ≡ (octets w (field o 0 (8 * w)) ++ octets w (field o (8 * w) (8 * w))) ++ flat_map (pair w) (pairs_of w n (drop (2 * w) o)) =
+    flat_map-cons (pair w) p (pairs_of w n (drop (2 * w) o)) in
     sym (whole ∙ rw (first, second, ← rest, append_assoc) parts)
 
 pub pairs_text : (large : Bool) (o : List ℕ) → IsBytes o → length o % pair_octets large ≡ 0 → o ≡ flat_map (pair (file_size_octets large)) (pairs_read large o)
@@ -98,7 +99,10 @@ pair_at_in w (suc n) (suc i) o h =
     rw (more_octets w i, ← drop-drop (2 * w * i) (2 * w) o) (pair_at_in w n i (drop (2 * w) o) (omega (arith, h)))
 
 pub pair_at : (large : Bool) (o : List ℕ) (i : ℕ) → i < length o / pair_octets large
-    → drop i (pairs_read large o) ≡ (field (drop (pair_octets large * i) o) 0 (8 * file_size_octets large), field (drop (file_size_octets large) (drop (pair_octets large * i) o)) 0 (8 * file_size_octets large)) ∷ drop (i + 1) (pairs_read large o)
+    → drop i (pairs_read large o) ≡ (
+      field (drop (pair_octets large * i) o) 0 (8 * file_size_octets large),
+      field (drop (file_size_octets large) (drop (pair_octets large * i) o)) 0 (8 * file_size_octets large),
+    ) ∷ drop (i + 1) (pairs_read large o)
 pair_at large o i h = rw add-one (pair_at_in (file_size_octets large) (length o / pair_octets large) i o h)
 
 -- four octets that were read as a number the other way round, and turned back
@@ -109,7 +113,8 @@ four_below a b c d h0 h1 h2 h3 (suc (suc zero)) = h2
 four_below a b c d h0 h1 h2 h3 (suc (suc (suc zero))) = h3
 four_below a b c d h0 h1 h2 h3 (suc (suc (suc (suc i)))) = omega arith
 
-four_spelled : (o : List ℕ) (a b c d : ℕ) → get_or o 0 0 ≡ a → get_or o 1 0 ≡ b → get_or o 2 0 ≡ c → get_or o 3 0 ≡ d → a < 256 → b < 256 → c < 256 → d < 256 → field o 0 32 ≡ a * 16777216 + b * 65536 + c * 256 + d
+four_spelled : (o : List ℕ) (a b c d : ℕ) → get_or o 0 0 ≡ a → get_or o 1 0 ≡ b → get_or o 2 0 ≡ c → get_or o 3 0 ≡ d → a < 256 → b < 256 → c < 256 → d < 256 → field o 0 32 ≡ a * 16777216 + b * 65536
+    + c * 256 + d
 four_spelled o a b c d ea eb ec ed ha hb hc hd =
     let f0 : field o 0 0 < 1 = field-below_octets o 0 0 in
     let f1 : field o 0 8 ≡ 256 * field o 0 0 + a = field_octet o 0 0 0 a 8 refl ea ha refl in

@@ -47,7 +47,8 @@ pub one_form : (a b x y : List ℕ) (h k : Header) (v w : Content) → SpellsSma
 one_form a b x y h k v w p q e = spelling.one_form a b x y h k v w (whole h v a p) (whole k w b q) e
 
 -- what is spelled is read
-pub only : (r : Result (Header × Pdu) PduError) (t : List ℕ) → IfOk r (λ x. SpellsSmall x.0 (view x.1) t) → result_err r ≡ small_pdu_fault t → (h : Header) (v : Content) → SpellsSmall h v t → IsOkAnd r (λ x. (x.0 ≡ h) × (view x.1 ≡ v))
+pub only : (r : Result (Header × Pdu) PduError) (t : List ℕ) → IfOk r (λ x. SpellsSmall x.0 (view x.1) t) → result_err r ≡ small_pdu_fault t → (h : Header) (v : Content) → SpellsSmall h v t →
+    IsOkAnd r (λ x. (x.0 ≡ h) × (view x.1 ≡ v))
 only (Err e) t found refused h v s =
     let none = accepted h v t s in
     absurd cc

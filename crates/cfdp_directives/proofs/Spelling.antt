@@ -28,7 +28,8 @@ use Rattle.cfdp_directives.proofs.Ranges.{pairs_len}
 pub one_form : (a b x y : List ℕ) (h k : Header) (v w : Content) → SpellsPdu h v a → SpellsPdu k w b → a ++ x ≡ b ++ y → (a ≡ b) × (h ≡ k) × (v ≡ w)
 one_form a b x y h k v w p q e =
     let r = header.one_form a b x y h k p.header q.header e in
-    let moved : Says k v (drop (header_len k.id_width k.number_width) b) = subst (λ (t : List ℕ). Says k v (drop (header_len k.id_width k.number_width) t)) r.0 (subst (λ (g : Header). Says g v (drop (header_len g.id_width g.number_width) a)) r.1 p.content) in
+    let moved : Says k v (drop (header_len k.id_width k.number_width) b) =
+    subst (λ (t : List ℕ). Says k v (drop (header_len k.id_width k.number_width) t)) r.0 (subst (λ (g : Header). Says g v (drop (header_len g.id_width g.number_width) a)) r.1 p.content) in
     (r.0, r.1, same k v w (drop (header_len k.id_width k.number_width) b) moved q.content)
 
 -- ---- codes fit their fields
@@ -152,7 +153,8 @@ nak_written w s e ps f =
     let len : length front ≡ 1 + 2 * w = omega (arith, length-append (octets w s) (octets w e), ls, le) in
     let grouped : d ≡ octets 1 8 ++ (octets w s ++ (octets w e ++ ranges)) = simp append_assoc in
     let start : field (octets 1 8 ++ (octets w s ++ (octets w e ++ ranges))) 8 (8 * w) ≡ s = field_between (octets 1 8) (octets w e ++ ranges) w s 8 (8 * w) f.0 refl refl in
-    let end : field (octets 1 8 ++ (octets w s ++ (octets w e ++ ranges))) (8 + 8 * w) (8 * w) ≡ e = field_between (octets 1 8 ++ octets w s) ranges w e (8 + 8 * w) (8 * w) f.1 (omega (arith, ls)) refl in
+    let end : field (octets 1 8 ++ (octets w s ++ (octets w e ++ ranges))) (8 + 8 * w) (8 * w) ≡ e =
+    field_between (octets 1 8 ++ octets w s) ranges w e (8 + 8 * w) (8 * w) f.1 (omega (arith, ls)) refl in
     record {
       room = omega (arith, length-append front ranges, len);
       code = field_in_octet d 0 8 0 0 8 refl (omega arith) refl;
@@ -234,7 +236,8 @@ spelled h v can =
     let heads = header.spelled h (content_octets (fss h) v) can.header (omega (arith, length-content_octets (fss h) v)) in
     record {
       header = heads;
-      content = rw (drop_at (header_octets h) (content_octets (fss h) v) (header_len h.id_width h.number_width) (header.length-header_octets h)) (said h v can.content can.kind can.no_segment_metadata);
+      content = rw (drop_at (header_octets h) (content_octets (fss h) v) (header_len h.id_width h.number_width) (header.length-header_octets h))
+          (said h v can.content can.kind can.no_segment_metadata);
     }
 
 pub length-pdu_octets : (h : Header) (v : Content) → CanWrite h v → length (pdu_octets h v) ≡ header_len h.id_width h.number_width + h.length
@@ -243,7 +246,8 @@ length-pdu_octets h v can =
     omega (arith, length-append (header_octets h) (content_octets (fss h) v), header.length-header_octets h, length-content_octets (fss h) v)
 
 -- octets that stayed behind a header also stay behind its data field
-pub behind_data : (out middle front : List ℕ) (at len end : ℕ) → drop at middle ≡ drop at out → length front ≡ length (take (at + len) middle) → at + len ≤ length middle → end ≡ at + len → drop end (front ++ drop (at + len) middle) ≡ drop end out
+pub behind_data : (out middle front : List ℕ) (at len end : ℕ) → drop at middle ≡ drop at out → length front ≡ length (take (at + len) middle) → at + len ≤ length middle → end ≡ at + len →
+    drop end (front ++ drop (at + len) middle) ≡ drop end out
 behind_data out middle front at len end stayed size room ends =
     let whole : length front ≡ at + len = size ∙ length-take-le (at + len) middle room in
     let cut : drop (at + len) middle ≡ drop (at + len) out = sym (drop-drop len at middle) ∙ ap (λ (t : List ℕ). drop len t) stayed ∙ drop-drop len at out in

@@ -33,7 +33,8 @@ pub none : (offset : ℕ) → sum_at offset [] ≡ 0
 unfolding sum_at
 none offset = refl
 
-pub one_more : (old offset i sum place b m : ℕ) (bytes : List ℕ) → i < length bytes → place ≡ (offset + i) % 4 → sum ≡ (old + sum_at offset (take i bytes)) % 2 ^ 32 → b ≡ get_or bytes i 0 → m ≡ b * 2 ^ (8 * (3 - place))
+pub one_more : (old offset i sum place b m : ℕ) (bytes : List ℕ) → i < length bytes → place ≡ (offset + i) % 4 → sum ≡ (old + sum_at offset (take i bytes)) % 2 ^ 32 → b ≡ get_or bytes i 0 → m
+    ≡ b * 2 ^ (8 * (3 - place))
     → (sum + m % 2 ^ 32) % 2 ^ 32 ≡ (old + sum_at offset (take (i + 1) bytes)) % 2 ^ 32
 unfolding sum_at
 one_more old offset i sum place b m bytes h p e is k =
@@ -70,7 +71,8 @@ abbrev words_sum : List (List ℕ) → ℕ
 words_sum words = sum_by (λ word. sum_at 0 word) words
 
 -- one word more
-pub word_more : (old i sum m : ℕ) (words : List (List ℕ)) → i < length words → sum ≡ (old + words_sum (take i words)) % 2 ^ 32 → length (get_or words i []) ≡ 4 → m ≡ from_be_bytes w32 (get_or words i [])
+pub word_more : (old i sum m : ℕ) (words : List (List ℕ)) → i < length words → sum ≡ (old + words_sum (take i words)) % 2 ^ 32 → length (get_or words i []) ≡ 4 → m
+    ≡ from_be_bytes w32 (get_or words i [])
     → (sum + m) % 2 ^ 32 ≡ (old + words_sum (take (i + 1) words)) % 2 ^ 32
 word_more old i sum m words h e four k =
     let cut : words_sum (take (i + 1) words) ≡ words_sum (take i words) + sum_at 0 (get_or words i []) = sum_by_more (λ (w : List ℕ). sum_at 0 w) words i [] h in
@@ -110,7 +112,8 @@ unfolding sum_at
 cut_all offset n bytes h = rw (take_all n bytes h, drop_all n bytes h) (sym (add-zero (sum_at offset bytes)))
 
 -- octets up to where a word begins, whole words, and the octets behind them
-pub by_words : (offset n k : ℕ) (bytes : List ℕ) → (n < length bytes → (offset + n) % 4 ≡ 0) → k * 4 ≤ length (drop n bytes) → sum_at offset (take n bytes) + (words_sum (first_chunks 4 k (drop n bytes)) + sum_at 0 (drop (k * 4) (drop n bytes))) ≡ sum_at offset bytes
+pub by_words : (offset n k : ℕ) (bytes : List ℕ) → (n < length bytes → (offset + n) % 4 ≡ 0) → k * 4 ≤ length (drop n bytes) → sum_at offset (take n bytes)
+    + (words_sum (first_chunks 4 k (drop n bytes)) + sum_at 0 (drop (k * 4) (drop n bytes))) ≡ sum_at offset bytes
 by_words offset n k bytes at within =
     let behind = cut_words k (drop n bytes) within in
     elim (cases_lt n (length bytes)) [
@@ -182,7 +185,8 @@ one_piece file p h =
     let back = drop n (drop p.offset file) in
     let within = h.within in
     let lf : length front ≡ p.offset = omega (arith, length-take p.offset file) in
-    let cut : file ≡ front ++ (p.bytes ++ back) = sym (ap (λ (x : List ℕ). front ++ (x ++ back)) h.same ∙ ap (λ (x : List ℕ). front ++ x) (take-append-drop n (drop p.offset file)) ∙ take-append-drop p.offset file) in
+    let cut : file ≡ front ++ (p.bytes ++ back) = sym (ap (λ (x : List ℕ). front ++ (x ++ back)) h.same ∙ ap (λ (x : List ℕ). front ++ x) (take-append-drop n (drop p.offset file))
+    ∙ take-append-drop p.offset file) in
     let one = weighted-append (mark p) 0 front (p.bytes ++ back) in
     let two = weighted-append (mark p) (0 + length front) p.bytes back in
     let a = weighted_const (mark p) 0 0 front (λ k le lt. below p k (omega arith)) in
@@ -201,7 +205,8 @@ all_pieces file (p ∷ ps) h =
     let ih = all_pieces file ps h.1 in
     let one = one_piece file p h.0 in
     let split = weighted-plus (mark p) (λ n. count_by (covers n) ps) 0 file in
-    let joined : weighted (λ n. count_by (covers n) (p ∷ ps)) 0 file ≡ weighted (λ n. mark p n + count_by (covers n) ps) 0 file = weighted-same _ _ 0 file (λ n. sum_by-cons (λ q. cond (covers n q) 1 0) p ps) in
+    let joined : weighted (λ n. count_by (covers n) (p ∷ ps)) 0 file ≡ weighted (λ n. mark p n + count_by (covers n) ps) 0 file =
+    weighted-same _ _ 0 file (λ n. sum_by-cons (λ q. cond (covers n q) 1 0) p ps) in
     let first : total (p ∷ ps) ≡ sum_at p.offset p.bytes + total ps = sum_by-cons (λ q. sum_at q.offset q.bytes) p ps in
     omega (arith, ih, one, split, joined, first)
 

@@ -48,7 +48,8 @@ module _ (sources : FileMap) (name octets : List ℕ) (free : map.get sources na
   whole-more staged es flags clock whole = record { distinct = whole.distinct; ready = ready-kept staged clock.roomy es whole.ready; flagged = whole.flagged; few = whole.few }
 
 -- Nor does it where it may not have been added.
-pub whole-added : {T E : Type 0} (r : Result T E) (staged : Staged) (sources new : FileMap) (name octets : List ℕ) (es : List (TransactionId × Record)) (flags : List Bool) (clock : TimersState) → map.get sources name ≡ None → OnOk r (new ≡ map.insert sources name octets) → OnErr r (new ≡ sources) → IsWhole staged sources es flags clock → IsWhole staged new es flags clock
+pub whole-added : {T E : Type 0} (r : Result T E) (staged : Staged) (sources new : FileMap) (name octets : List ℕ) (es : List (TransactionId × Record)) (flags : List Bool) (clock : TimersState) →
+    map.get sources name ≡ None → OnOk r (new ≡ map.insert sources name octets) → OnErr r (new ≡ sources) → IsWhole staged sources es flags clock → IsWhole staged new es flags clock
 whole-added (Ok value) staged sources new name octets es flags clock free ok err whole =
     subst (λ m. IsWhole staged m es flags clock) (sym ok) (whole-more sources name octets free staged es flags clock whole)
 whole-added (Err by) staged sources new name octets es flags clock free ok err whole =

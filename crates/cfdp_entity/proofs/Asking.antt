@@ -36,7 +36,8 @@ place-level c (Some place) st n m asks none = by (slice_get st.records place) as
     by None h nothing = h
     by (Some e) h nothing = seen-level c e.1 (calls st.policy.times st.files c e.1).seen n m h nothing
 
-pub calls-level : {X E : Type 0} (r : Result X E) (c : Call) (id : TransactionId) (old new : Counted) → OnOk r (AsksByCall Raises c id old.state.table old.inbox_failures new.inbox_failures) → OnErr r (new ≡ old)
+pub calls-level : {X E : Type 0} (r : Result X E) (c : Call) (id : TransactionId) (old new : Counted) → OnOk r (AsksByCall Raises c id old.state.table old.inbox_failures new.inbox_failures) →
+    OnErr r (new ≡ old)
     → asks_in c (place_of id old.state.table.records) old.state.table ≡ false → new.inbox_failures ≡ old.inbox_failures
 calls-level (Ok x) c id old new raises same none = place-level c (place_of id old.state.table.records) old.state.table old.inbox_failures new.inbox_failures raises none
 calls-level (Err e) c id old new raises same none = ap (λ (v : Counted). v.inbox_failures) same

@@ -47,7 +47,8 @@ step-own (x ∷ xs) (suc n) e s apart at =
     ap (λ b. cond b (Some x.1) (record_of e.0 (set_value_at xs n s))) (same_id-symm x.0 e.0 other) ∙ step-own xs n e s (IsDistinct-tail same_id x.0 (keys_of xs) apart) at
 
 -- every other record is as it was
-pub step-other : (xs : List Entry) (place : ℕ) (id q : TransactionId) (s : Seen) → slice_get (keys_of xs) place ≡ Some id → same_id q id ≡ false → record_of q (set_value_at xs place s) ≡ record_of q xs
+pub step-other : (xs : List Entry) (place : ℕ) (id q : TransactionId) (s : Seen) → slice_get (keys_of xs) place ≡ Some id → same_id q id ≡ false → record_of q (set_value_at xs place s)
+    ≡ record_of q xs
 step-other [] place id q s at apart = refl
 step-other (x ∷ xs) zero id q s at apart =
     let is : x.0 ≡ id = cc in

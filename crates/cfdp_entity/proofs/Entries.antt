@@ -69,7 +69,8 @@ ready-moved old new sources id (held.Receives r) same is_ready =
     )
 
 -- and so is a sender that was just opened, whose file is in the outbox
-pub ready-sends : (staged : Staged) (sources : FileMap) (r : Record) (t : Transfer) → r ≡ held.Sends (opened_sender t) → HasFile sources t.source t.size → IsReadyRecord staged sources t.addressing.id r
+pub ready-sends : (staged : Staged) (sources : FileMap) (r : Record) (t : Transfer) → r ≡ held.Sends (opened_sender t) → HasFile sources t.source t.size →
+    IsReadyRecord staged sources t.addressing.id r
 unfolding IsReadyRecord
 ready-sends staged sources r t is file = subst (IsReadyRecord staged sources t.addressing.id) (sym is) (refl, file)
 
@@ -82,7 +83,8 @@ module _ (old new : Staged) (sources : FileMap) (id : TransactionId) (keep : Oth
       let here : new e.0 ≡ old e.0 = keep e.0 (λ h. differ id e.0 apart.0 (sym h)) in
       λ i. (e.0, seen (here i) e.1) ∷ seen-others es apart.1 i
 
-  pub ready-others : (roomy : set.FinSet id_cmp) (es : List (TransactionId × Record)) → AllByRecursion (λ k. same_id id k ≡ false) (keys_of es) → AllReady old sources roomy es → AllReady new sources roomy es
+  pub ready-others : (roomy : set.FinSet id_cmp) (es : List (TransactionId × Record)) → AllByRecursion (λ k. same_id id k ≡ false) (keys_of es) → AllReady old sources roomy es →
+      AllReady new sources roomy es
   unfolding AllReady
   ready-others roomy [] apart all = tt
   ready-others roomy (e ∷ es) apart all =
@@ -127,7 +129,8 @@ seen_at staged (e ∷ es) zero id r at is =
     λ i. Some (key i, seen (staged (key i)) (value i))
 seen_at staged (e ∷ es) (suc n) id r at is = seen_at staged es n id r at is
 
-pub ready_at : (staged : Staged) (sources : FileMap) (roomy : set.FinSet id_cmp) (es : List (TransactionId × Record)) (i : ℕ) (id : TransactionId) (r : Record) → slice_get (keys_of es) i ≡ Some id → slice_get (values_of es) i ≡ Some r
+pub ready_at : (staged : Staged) (sources : FileMap) (roomy : set.FinSet id_cmp) (es : List (TransactionId × Record)) (i : ℕ) (id : TransactionId) (r : Record) → slice_get (keys_of es) i ≡ Some id →
+    slice_get (values_of es) i ≡ Some r
     → AllReady staged sources roomy es → IsReadyRecord staged sources id r × (set.contains roomy id ≡ true)
 unfolding AllReady
 ready_at staged sources roomy [] i id r at is all = absurd (cc)
@@ -143,7 +146,8 @@ due-set (x ∷ xs) zero s = refl
 due-set (x ∷ xs) (suc n) s = ap (λ bs. has_due x ∷ bs) (due-set xs n s)
 
 -- ---- a step of the record at a place
-module _ (old new : Staged) (files files_now sources sources_now : FileMap) (same_sources : sources_now ≡ sources) (policy : Policy) (es fs : List (TransactionId × Record)) (flags : List Bool) (clock clock_now : TimersState) (told told_now : List Indication)
+module _ (old new : Staged) (files files_now sources sources_now : FileMap) (same_sources : sources_now ≡ sources) (policy : Policy) (es fs : List (TransactionId × Record)) (flags : List Bool)
+    (clock clock_now : TimersState) (told told_now : List Indication)
     (place : ℕ) (id : TransactionId) (r r_now : Record) (whole : IsWhole old sources es flags clock) (at : slice_get (keys_of es) place ≡ Some id) (is : slice_get (values_of es) place ≡ Some r)
     (becomes : fs ≡ set_value_at es place r_now) (keep : OthersKeep id old new) where
   entries-become : entries_seen new fs ≡ set_value_at (entries_seen old es) place (seen (new id) r_now)
@@ -160,10 +164,12 @@ module _ (old new : Staged) (files files_now sources sources_now : FileMap) (sam
       ∙ ap (λ o. step_of f place o st) (sym (seen_at old es place id r at is))
 
   -- and still kept as a table is
-  pub whole-step : clock_now.roomy ≡ clock.roomy → IsReadyRecord new sources_now id r_now → (due : Bool) → due ≡ is_due (seen (new id) r_now) → (flags_now : List Bool) → flags_now ≡ slice_set flags place due → IsWhole new sources_now fs flags_now clock_now
+  pub whole-step : clock_now.roomy ≡ clock.roomy → IsReadyRecord new sources_now id r_now → (due : Bool) → due ≡ is_due (seen (new id) r_now) → (flags_now : List Bool) → flags_now
+      ≡ slice_set flags place due → IsWhole new sources_now fs flags_now clock_now
   whole-step roomy is_ready due is_due_now flags_now set_so = subst (λ f. IsWhole new f fs flags_now clock_now) (sym same_sources) (record {
     distinct = subst (IsDistinct same_id) (sym (ap keys_of becomes ∙ keys_set es place r_now)) whole.distinct;
-    ready = subst (λ s. AllReady new sources s fs) (sym roomy) (subst (AllReady new sources clock.roomy) (sym becomes) (ready-set old new sources id keep clock.roomy es place r_now whole.distinct at (subst (λ f. IsReadyRecord new f id r_now) same_sources is_ready) whole.ready));
+    ready = subst (λ s. AllReady new sources s fs) (sym roomy) (subst (AllReady new sources clock.roomy) (sym becomes)
+        (ready-set old new sources id keep clock.roomy es place r_now whole.distinct at (subst (λ f. IsReadyRecord new f id r_now) same_sources is_ready) whole.ready));
     flagged = set_so ∙ (λ i. slice_set (whole.flagged i) place (is_due_now i)) ∙ sym (due-set (entries_seen old es) place (seen (new id) r_now)) ∙ ap (map has_due) (sym entries-become);
     few = subst (λ n. n ≤ 4096) (sym (ap length becomes ∙ length_set es place r_now)) whole.few;
   })
@@ -174,7 +180,16 @@ module _ (old new : Staged) (files files_now sources sources_now : FileMap) (sam
   state-spoiled v keeps = record {
     seen = seen (new id) r_now;
     spoils = λ e here. (let same : (id, seen (old id) r) ≡ e = some_is (sym (seen_at old es place id r at is) ∙ here) in subst (λ (x : Entry). Spoils v x.1 (seen (new id) r_now)) same keeps.state);
-    table = λ i. record { records = entries-become i; now = (keeps.timers i).time; armed = (keeps.timers i).armed; told = keeps.tells i; files = keeps.files i; sources = same_sources i; policy = policy };
+    table = λ i. record {
+      records = entries-become i;
+      now = (keeps.timers i).time;
+      armed = (keeps.timers i).armed;
+      told = keeps.tells i;
+      files = keeps.files i;
+      sources = same_sources i;
+      policy =
+          policy;
+    };
   }
     where
       some_is : {X : Type 0} {a b : X} → Some a ≡ Some b → a ≡ b
@@ -184,22 +199,26 @@ module _ (old new : Staged) (files files_now sources sources_now : FileMap) (sam
   module _ {E : Type 0} (answer : Result Stored E) (v : Content) (step : Stored → Entry → After)
       (does : IfOk answer (λ s. Does id (step s (id, seen (old id) r)) (seen (new id) r_now) told told_now clock clock_now files_now))
       (keeps : OnErr answer (Keeps v (seen (old id) r) (seen (new id) r_now) told told_now clock clock_now files files_now)) where
-    pub answered : IfOk answer (λ s. state_of new files_now sources_now policy fs clock_now told_now ≡ step_of (step s) place (slice_get (entries_seen old es) place) (state_of old files sources policy es clock told))
+    pub answered : IfOk answer (λ s. state_of new files_now sources_now policy fs clock_now told_now
+        ≡ step_of (step s) place (slice_get (entries_seen old es) place) (state_of old files sources policy es clock told))
     answered = by answer does
       where
         by : (a : Result Stored E) → IfOk a (λ s. Does id (step s (id, seen (old id) r)) (seen (new id) r_now) told told_now clock clock_now files_now)
-            → IfOk a (λ s. state_of new files_now sources_now policy fs clock_now told_now ≡ step_of (step s) place (slice_get (entries_seen old es) place) (state_of old files sources policy es clock told))
+            → IfOk a (λ s. state_of new files_now sources_now policy fs clock_now told_now
+            ≡ step_of (step s) place (slice_get (entries_seen old es) place) (state_of old files sources policy es clock told))
         by (Ok s) h = state-step (step s) h
         by (Err e) h = tt
 
     pub failed : OnErr answer (SpoiledAt place v (state_of old files sources policy es clock told) (state_of new files_now sources_now policy fs clock_now told_now))
     failed = by answer keeps
       where
-        by : (a : Result Stored E) → OnErr a (Keeps v (seen (old id) r) (seen (new id) r_now) told told_now clock clock_now files files_now) → OnErr a (SpoiledAt place v (state_of old files sources policy es clock told) (state_of new files_now sources_now policy fs clock_now told_now))
+        by : (a : Result Stored E) → OnErr a (Keeps v (seen (old id) r) (seen (new id) r_now) told told_now clock clock_now files files_now) →
+            OnErr a (SpoiledAt place v (state_of old files sources policy es clock told) (state_of new files_now sources_now policy fs clock_now told_now))
         by (Ok s) h = tt
         by (Err e) h = state-spoiled v h
 
-    pub whole-after : IsReadyRecord new sources_now id r_now → (due : Bool) → due ≡ is_due (seen (new id) r_now) → (flags_now : List Bool) → flags_now ≡ slice_set flags place due → IsWhole new sources_now fs flags_now clock_now
+    pub whole-after : IsReadyRecord new sources_now id r_now → (due : Bool) → due ≡ is_due (seen (new id) r_now) → (flags_now : List Bool) → flags_now ≡ slice_set flags place due →
+        IsWhole new sources_now fs flags_now clock_now
     whole-after = whole-step (by answer does keeps)
       where
         by : (a : Result Stored E) → IfOk a (λ s. Does id (step s (id, seen (old id) r)) (seen (new id) r_now) told told_now clock clock_now files_now)
@@ -223,10 +242,12 @@ unfolding entries_seen
 length_seen staged [] = refl
 length_seen staged (e ∷ es) = ap suc (length_seen staged es)
 
-pub length_flags : (staged : Staged) (es : List (TransactionId × Record)) (sources : FileMap) (flags : List Bool) (clock : TimersState) → IsWhole staged sources es flags clock → length flags ≡ length es
+pub length_flags : (staged : Staged) (es : List (TransactionId × Record)) (sources : FileMap) (flags : List Bool) (clock : TimersState) → IsWhole staged sources es flags clock → length flags
+    ≡ length es
 length_flags staged es sources flags clock whole = ap length whole.flagged ∙ length_seen staged es
 
-pub below_flags : (staged : Staged) (es : List (TransactionId × Record)) (sources : FileMap) (flags : List Bool) (clock : TimersState) (i : ℕ) (k : TransactionId) → IsWhole staged sources es flags clock → slice_get (keys_of es) i ≡ Some k → i < length flags
+pub below_flags : (staged : Staged) (es : List (TransactionId × Record)) (sources : FileMap) (flags : List Bool) (clock : TimersState) (i : ℕ) (k : TransactionId) →
+    IsWhole staged sources es flags clock → slice_get (keys_of es) i ≡ Some k → i < length flags
 below_flags staged es sources flags clock i k whole at =
     let l = below_length es i k at in
     let m = length_flags staged es sources flags clock whole in
@@ -244,7 +265,8 @@ pub nothing : (staged : Staged) (es : List (TransactionId × Record)) (place : �
 nothing staged es place f st none = ap (λ o. step_of f place o st) (sym (no_entry staged es place none))
 
 -- ---- a record more
-ready-roomier : (staged : Staged) (sources : FileMap) (roomy wider : set.FinSet id_cmp) → ((k : TransactionId) → set.contains roomy k ≡ true → set.contains wider k ≡ true) → (es : List (TransactionId × Record)) → AllReady staged sources roomy es → AllReady staged sources wider es
+ready-roomier : (staged : Staged) (sources : FileMap) (roomy wider : set.FinSet id_cmp) → ((k : TransactionId) → set.contains roomy k ≡ true → set.contains wider k ≡ true) →
+    (es : List (TransactionId × Record)) → AllReady staged sources roomy es → AllReady staged sources wider es
 unfolding AllReady
 ready-roomier staged sources roomy wider more [] all = tt
 ready-roomier staged sources roomy wider more (e ∷ es) all = (all.0, more e.0 all.1, ready-roomier staged sources roomy wider more es all.2)
@@ -255,7 +277,8 @@ whole-roomier staged sources es fs flags clock clock_now whole same more =
     subst (λ l. IsWhole staged sources l flags clock_now) (sym same)
     (record { distinct = whole.distinct; ready = ready-roomier staged sources clock.roomy clock_now.roomy more es whole.ready; flagged = whole.flagged; few = whole.few })
 
-ready-push : (staged : Staged) (sources : FileMap) (roomy : set.FinSet id_cmp) (es : List (TransactionId × Record)) (id : TransactionId) (r : Record) → AllReady staged sources roomy es → IsReadyRecord staged sources id r → set.contains roomy id ≡ true
+ready-push : (staged : Staged) (sources : FileMap) (roomy : set.FinSet id_cmp) (es : List (TransactionId × Record)) (id : TransactionId) (r : Record) → AllReady staged sources roomy es →
+    IsReadyRecord staged sources id r → set.contains roomy id ≡ true
     → AllReady staged sources roomy (es ++ (id, r) ∷ [])
 unfolding AllReady
 ready-push staged sources roomy [] id r all is_ready has_room = (is_ready, has_room, tt)
@@ -277,7 +300,8 @@ module _ (old new : Staged) (sources : FileMap) (policy : Policy) (es fs : List 
   seen-kept = ap (entries_seen new) same ∙ seen-others old new sources id keep es (absent-apart es id absent)
 
   ready-kept : AllReady new sources clock_now.roomy es
-  ready-kept = subst (λ s. AllReady new sources s es) (sym still) (ready-others old new sources id keep roomier.roomy es (absent-apart es id absent) (ready-roomier old sources clock.roomy roomier.roomy more es whole.ready))
+  ready-kept = subst (λ s. AllReady new sources s es) (sym still) (ready-others old new sources id keep roomier.roomy es (absent-apart es id absent)
+      (ready-roomier old sources clock.roomy roomier.roomy more es whole.ready))
 
   -- where the record found no memory
   pub whole-kept : IsWhole new sources fs flags clock_now
@@ -307,7 +331,15 @@ module _ (old new : Staged) (sources : FileMap) (policy : Policy) (es fs : List 
         let time : roomier.time ≡ clock.time = ap (λ (k : TimersState). k.time) same_clock in
         let armed : roomier.armed ≡ clock.armed = ap (λ (k : TimersState). k.armed) same_clock in
         let entries : entries_seen new gs ≡ entries_seen old es ++ (id, f.seen) ∷ [] = seen-added ∙ ap (λ s. entries_seen old es ++ (id, s) ∷ []) does.state in
-        (λ i. record { records = entries i; now = (does.timers i).time; armed = (does.timers i).armed; told = (does.tells ∙ ap (λ l. l ++ f.told) same_told) i; files = does.files i; sources = sources; policy = policy })
+        (λ i. record {
+          records = entries i;
+          now = (does.timers i).time;
+          armed = (does.timers i).armed;
+          told = (does.tells ∙ ap (λ l. l ++ f.told) same_told) i;
+          files = does.files i;
+          sources = sources;
+          policy = policy;
+        })
         ∙ (λ i. record {
           records = entries_seen old es ++ (id, f.seen) ∷ [];
           now = time i;
@@ -318,19 +350,24 @@ module _ (old new : Staged) (sources : FileMap) (policy : Policy) (es fs : List 
           policy = policy;
         })
 
-pub state-same : (old new : Staged) (files files_now sources : FileMap) (policy : Policy) (es fs : List (TransactionId × Record)) (clock clock_now : TimersState) (told told_now : List Indication) → entries_seen new fs ≡ entries_seen old es
-    → clock_now.time ≡ clock.time → clock_now.armed ≡ clock.armed → told_now ≡ told → files_now ≡ files → state_of new files_now sources policy fs clock_now told_now ≡ state_of old files sources policy es clock told
-state-same old new files files_now sources policy es fs clock clock_now told told_now entries time armed tells same = λ i. record { records = entries i; now = time i; armed = armed i; told = tells i; files = same i; sources = sources; policy = policy }
+pub state-same : (old new : Staged) (files files_now sources : FileMap) (policy : Policy) (es fs : List (TransactionId × Record)) (clock clock_now : TimersState) (told told_now : List Indication) →
+    entries_seen new fs ≡ entries_seen old es
+    → clock_now.time ≡ clock.time → clock_now.armed ≡ clock.armed → told_now ≡ told → files_now ≡ files → state_of new files_now sources policy fs clock_now told_now
+    ≡ state_of old files sources policy es clock told
+state-same old new files files_now sources policy es fs clock clock_now told told_now entries time armed tells same =
+    λ i. record { records = entries i; now = time i; armed = armed i; told = tells i; files = same i; sources = sources; policy = policy }
 
 -- ---- what is due at a place
-pub due-here : (staged : Staged) (sources : FileMap) (es : List (TransactionId × Record)) (i : ℕ) (id : TransactionId) (r : Record) → slice_get (keys_of es) i ≡ Some id → slice_get (values_of es) i ≡ Some r
+pub due-here : (staged : Staged) (sources : FileMap) (es : List (TransactionId × Record)) (i : ℕ) (id : TransactionId) (r : Record) → slice_get (keys_of es) i ≡ Some id → slice_get (values_of es) i
+    ≡ Some r
     → octets_due sources (slice_get (entries_seen staged es) i) ≡ due_octets sources (seen (staged id) r)
 due-here staged sources es i id r at is = ap (octets_due sources) (seen_at staged es i id r at is)
 
 pub due-nothing : (staged : Staged) (sources : FileMap) (es : List (TransactionId × Record)) (i : ℕ) → None ≡ slice_get (keys_of es) i → octets_due sources (slice_get (entries_seen staged es) i) ≡ []
 due-nothing staged sources es i none = ap (octets_due sources) (no_entry staged es i none)
 
-pub len-here : (staged : Staged) (sources : FileMap) (es : List (TransactionId × Record)) (i : ℕ) (id : TransactionId) (r : Record) → slice_get (keys_of es) i ≡ Some id → slice_get (values_of es) i ≡ Some r
+pub len-here : (staged : Staged) (sources : FileMap) (es : List (TransactionId × Record)) (i : ℕ) (id : TransactionId) (r : Record) → slice_get (keys_of es) i ≡ Some id → slice_get (values_of es) i
+    ≡ Some r
     → len_due sources (slice_get (entries_seen staged es) i) ≡ due_len sources (seen (staged id) r)
 len-here staged sources es i id r at is = ap (len_due sources) (seen_at staged es i id r at is)
 
@@ -349,7 +386,8 @@ ready_by_entry staged sources roomy [] i k r is all = absurd (cc)
 ready_by_entry staged sources roomy (e ∷ es) zero k r is all = let same : e ≡ (k, r) = cc in subst (λ (x : TransactionId × Record). IsReadyRecord staged sources x.0 x.1) same all.0
 ready_by_entry staged sources roomy (e ∷ es) (suc n) k r is all = ready_by_entry staged sources roomy es n k r is all.2
 
-pub seen_by_entry : (staged : Staged) (es : List (TransactionId × Record)) (i : ℕ) (k : TransactionId) (r : Record) → Some (k, r) ≡ slice_get es i → slice_get (entries_seen staged es) i ≡ Some (k, seen (staged k) r)
+pub seen_by_entry : (staged : Staged) (es : List (TransactionId × Record)) (i : ℕ) (k : TransactionId) (r : Record) → Some (k, r) ≡ slice_get es i → slice_get (entries_seen staged es) i
+    ≡ Some (k, seen (staged k) r)
 unfolding entries_seen
 seen_by_entry staged [] i k r is = absurd (cc)
 seen_by_entry staged (e ∷ es) zero k r is = let same : e ≡ (k, r) = cc in ap (λ (x : TransactionId × Record). Some (x.0, seen (staged x.0) x.1)) same
@@ -362,11 +400,13 @@ seen_nowhere staged (e ∷ es) zero is = absurd (cc)
 seen_nowhere staged (e ∷ es) (suc n) is = seen_nowhere staged es n is
 
 -- ---- what a record that is ready has
-pub ready-sender : (staged : Staged) (sources : FileMap) (id : TransactionId) (x : SenderState) → IsReadyRecord staged sources id (held.Sends x) → (x.addressing.id ≡ id) × HasFile sources x.source x.size
+pub ready-sender : (staged : Staged) (sources : FileMap) (id : TransactionId) (x : SenderState) → IsReadyRecord staged sources id (held.Sends x) → (x.addressing.id ≡ id)
+    × HasFile sources x.source x.size
 unfolding IsReadyRecord
 ready-sender staged sources id x is_ready = is_ready
 
-pub sender-ready : (staged : Staged) (sources : FileMap) (id : TransactionId) (x : SenderState) → (x.addressing.id ≡ id) → HasFile sources x.source x.size → IsReadyRecord staged sources id (held.Sends x)
+pub sender-ready : (staged : Staged) (sources : FileMap) (id : TransactionId) (x : SenderState) → (x.addressing.id ≡ id) → HasFile sources x.source x.size →
+    IsReadyRecord staged sources id (held.Sends x)
 unfolding IsReadyRecord
 sender-ready staged sources id x same file = (same, file)
 

@@ -75,7 +75,8 @@ module _ (n : ℕ) (words : List ℕ) (some : ℕ) (is : IsIndexed n words some)
   -- ---- the first place that is set
 
   module _ (from : ℕ) where
-    place-found : (place : ℕ) → from ≤ place → is_set words place ≡ true → ((k : ℕ) → from ≤ k → k < place → is_set words k ≡ false) → (place < n) × (Some place ≡ option_map (λ i. from + i) (position (λ b. b) (drop from (flags_in n words))))
+    place-found : (place : ℕ) → from ≤ place → is_set words place ≡ true → ((k : ℕ) → from ≤ k → k < place → is_set words k ≡ false) → (place < n)
+        × (Some place ≡ option_map (λ i. from + i) (position (λ b. b) (drop from (flags_in n words))))
     place-found place on here before =
         let len = length-flags n words in
         let low : place < n = ⊎_elim (λ l. l) (λ l. absurd (let none = is.rest place l in cc)) (cases_lt place n) in
@@ -108,10 +109,12 @@ module _ (n : ℕ) (words : List ℕ) (some : ℕ) (is : IsIndexed n words some)
 
       pub behind-none : ((w : ℕ) → from / 64 + 1 ≤ w → w < 64 → bit_at some w ≡ 0) → None ≡ option_map (λ i. from + i) (position (λ b. b) (drop from (flags_in n words)))
       behind-none none = place-none
-          (λ k on l. ⊎_elim (λ row. own-clear k on (sym row)) (⊎_elim (λ after. let few = is.few in far-clear k (omega arith) (none (k / 64) (omega arith) (omega arith))) (λ before. absurd (omega arith))) (cases_order (from / 64) (k / 64)))
+          (λ k on l. ⊎_elim (λ row. own-clear k on (sym row)) (⊎_elim (λ after. let few = is.few in far-clear k (omega arith) (none (k / 64) (omega arith) (omega arith)))
+          (λ before. absurd (omega arith))) (cases_order (from / 64) (k / 64)))
           (omega arith)
 
-      pub behind-found : (w b : ℕ) → from / 64 + 1 ≤ w → w < 64 → b < 64 → bit_at (get_or words w 0) b ≡ 1 → ((v : ℕ) → from / 64 + 1 ≤ v → v < w → bit_at some v ≡ 0) → ((i : ℕ) → i < b → bit_at (get_or words w 0) i ≡ 0) → (64 * w + b < n) × (Some (64 * w + b) ≡ option_map (λ i. from + i) (position (λ b. b) (drop from (flags_in n words))))
+      pub behind-found : (w b : ℕ) → from / 64 + 1 ≤ w → w < 64 → b < 64 → bit_at (get_or words w 0) b ≡ 1 → ((v : ℕ) → from / 64 + 1 ≤ v → v < w → bit_at some v ≡ 0) →
+          ((i : ℕ) → i < b → bit_at (get_or words w 0) i ≡ 0) → (64 * w + b < n) × (Some (64 * w + b) ≡ option_map (λ i. from + i) (position (λ b. b) (drop from (flags_in n words))))
       behind-found w b behind there short here between before =
           let within : (k : ℕ) → k < 64 * w + b → from ≤ k → from / 64 < k / 64 → is_set words k ≡ false = λ k l on after.
           ⊎_elim (λ row. clear-bit words k w row (before (k % 64) (omega arith)))
@@ -119,7 +122,8 @@ module _ (n : ℕ) (words : List ℕ) (some : ℕ) (is : IsIndexed n words some)
           place-found (64 * w + b) (omega arith) (place-bit words (64 * w + b) w b (omega arith) (omega arith) ∙ ap (λ x. x == 1) here)
           (λ k on l. ⊎_elim (λ row. own-clear k on (sym row)) (⊎_elim (λ after. within k l on after) (λ before. absurd (omega arith))) (cases_order (from / 64) (k / 64)))
 
-    pub own-found : (b : ℕ) → from % 64 ≤ b → b < 64 → bit_at (get_or words (from / 64) 0) b ≡ 1 → ((i : ℕ) → from % 64 ≤ i → i < b → bit_at (get_or words (from / 64) 0) i ≡ 0) → (64 * (from / 64) + b < n) × (Some (64 * (from / 64) + b) ≡ option_map (λ i. from + i) (position (λ b. b) (drop from (flags_in n words))))
+    pub own-found : (b : ℕ) → from % 64 ≤ b → b < 64 → bit_at (get_or words (from / 64) 0) b ≡ 1 → ((i : ℕ) → from % 64 ≤ i → i < b → bit_at (get_or words (from / 64) 0) i ≡ 0) →
+        (64 * (from / 64) + b < n) × (Some (64 * (from / 64) + b) ≡ option_map (λ i. from + i) (position (λ b. b) (drop from (flags_in n words))))
     own-found b on short here before =
         place-found (64 * (from / 64) + b) (omega arith) (place-bit words (64 * (from / 64) + b) (from / 64) b (omega arith) (omega arith) ∙ ap (λ x. x == 1) here)
         (λ k low l. clear-bit words k (from / 64) (omega arith) (before (k % 64) (omega arith) (omega arith)))
@@ -181,6 +185,7 @@ module _ (n : ℕ) (words : List ℕ) (some : ℕ) (is : IsIndexed n words some)
         let len_after = length-flags n after in
         let whole : length (flags_in n after) ≡ length (slice_set (flags_in n words) place due) = len_after ∙ sym (length-set (flags_in n words) place due ∙ len) in
         ext_get_or false (flags_in n after) (slice_set (flags_in n words) place due) whole (λ k l. ⊎_elim
-        (λ same. ap (λ i. get_or (flags_in n after) i false) same ∙ flag-is n after marks set-indexed place ∙ place-set ∙ sym (ap (λ i. get_or (slice_set (flags_in n words) place due) i false) same ∙ get_or-set_same (flags_in n words) place due false (omega arith)))
+        (λ same. ap (λ i. get_or (flags_in n after) i false) same ∙ flag-is n after marks set-indexed place ∙ place-set
+        ∙ sym (ap (λ i. get_or (slice_set (flags_in n words) place due) i false) same ∙ get_or-set_same (flags_in n words) place due false (omega arith)))
         (λ apart. flag-is n after marks set-indexed k ∙ other-set k apart ∙ sym (get_or-set_other (flags_in n words) place k due false apart ∙ flag-is n words some is k))
         (cases_eq k place))

@@ -101,7 +101,8 @@ pub ticked-goes : (now : ℕ) (old new : EntityState) → Ticks now old.table ne
 ticked-goes now old new t is =
     let told : TableState = at_time now old.table in
     let next : new.next ≡ old.next = ap (λ (e : EntityState). e.next) is in
-    goes old new (all_expired t.fired told) (grows-then old.table told (all_expired t.fired told) (grows-none old.table told refl refl) (grows-fired t.fired told)) t.ticked (ap (λ (e : EntityState). e.config) is) (omega (arith, next))
+    goes old new (all_expired t.fired told) (grows-then old.table told (all_expired t.fired told) (grows-none old.table told refl refl) (grows-fired t.fired told)) t.ticked
+    (ap (λ (e : EntityState). e.config) is) (omega (arith, next))
 
 taken-goes : (r : Route) (h : Header) (v : Content) (old new : Counted) → TakesPdu r h v old new → GoesOn old.state new.state
 taken-goes (routes.Drops d) h v old new t = absurd t
@@ -119,7 +120,8 @@ dropped-by (routes.Drops d) by v old new t =
 dropped-by (routes.Steps place) by v old new t =
     let f = t.1 in
     let next : new.state.next ≡ old.state.next = ap (λ (e : EntityState). e.next) f.counted in
-    goes old.state new.state (table_step (Spoils place v f.spoiled.seen) old.state.table) (grows-step (Spoils place v f.spoiled.seen) old.state.table) f.spoiled.table (ap (λ (e : EntityState). e.config) f.counted) (omega (arith, next))
+    goes old.state new.state (table_step (Spoils place v f.spoiled.seen) old.state.table) (grows-step (Spoils place v f.spoiled.seen) old.state.table) f.spoiled.table
+    (ap (λ (e : EntityState). e.config) f.counted) (omega (arith, next))
 dropped-by routes.Opens by v old new t =
     stays old.state new.state (ap (λ (c : Counted). c.state.table) t.1) (ap (λ (c : Counted). c.state.config) t.1) (ap (λ (c : Counted). c.state.next) t.1)
 dropped-by (routes.Queues s) by v old new t = absurd t

@@ -53,9 +53,12 @@ use Rattle.cfdp_entity.proofs.Sparing.{spoils-receives}
 -- ---- the laws of both machines
 pub record Machines : Type 0 where
   pub receiver_same : (stored : Stored) (input : ReceiverInput) (m : OctetMap) (files : FileMap) (r : ReceiverState) → (receiver_step stored input m files r).receiver.addressing ≡ r.addressing
-  pub receiver_stays : (stored : Stored) (input : ReceiverInput) (m : OctetMap) (files : FileMap) (r : ReceiverState) → r.phase ≡ receiving.Closed → (receiver_step stored input m files r).receiver.phase ≡ receiving.Closed
-  pub receiver_once : (stored : Stored) (input : ReceiverInput) (m : OctetMap) (files : FileMap) (r : ReceiverState) (id : TransactionId) → finished_count id (receiver_step stored input m files r).told + open_count (receiver_step stored input m files r).receiver.phase ≤ open_count r.phase
-  pub receiver_own : (stored : Stored) (input : ReceiverInput) (m : OctetMap) (files : FileMap) (r : ReceiverState) (id : TransactionId) → same_id r.addressing.id id ≡ false → finished_count id (receiver_step stored input m files r).told ≡ 0
+  pub receiver_stays : (stored : Stored) (input : ReceiverInput) (m : OctetMap) (files : FileMap) (r : ReceiverState) → r.phase ≡ receiving.Closed →
+      (receiver_step stored input m files r).receiver.phase ≡ receiving.Closed
+  pub receiver_once : (stored : Stored) (input : ReceiverInput) (m : OctetMap) (files : FileMap) (r : ReceiverState) (id : TransactionId) →
+      finished_count id (receiver_step stored input m files r).told + open_count (receiver_step stored input m files r).receiver.phase ≤ open_count r.phase
+  pub receiver_own : (stored : Stored) (input : ReceiverInput) (m : OctetMap) (files : FileMap) (r : ReceiverState) (id : TransactionId) → same_id r.addressing.id id ≡ false →
+      finished_count id (receiver_step stored input m files r).told ≡ 0
   pub sender_keeps : (policy : Policy) (file : List ℕ) (input : SenderInput) (x : SenderState) → transfer_of (sender_step policy file input x).sender ≡ transfer_of x
   pub sender_once : (policy : Policy) (file : List ℕ) (input : SenderInput) (x : SenderState) → inputs.MayHappen input x → inputs.FinishesOnce x (sender_step policy file input x)
 
@@ -102,7 +105,8 @@ counted sending.Cancelling q n few closes none stays = still_open q n few closes
 counted sending.Closed q n few closes none stays = let m : n ≡ 0 = none refl in let o : sender_open_count q ≡ 0 = ap sender_open_count (stays refl) in omega (arith, m, o)
 
 module _ (laws : Machines) where
-  by-sender : (times : Times) (files : FileMap) (policy : Policy) (file : List ℕ) (input : SenderInput) (x : SenderState) → inputs.MayHappen input x → Behaves (Sends x) (by_sender times files (sender_step policy file input x))
+  by-sender : (times : Times) (files : FileMap) (policy : Policy) (file : List ℕ) (input : SenderInput) (x : SenderState) → inputs.MayHappen input x →
+      Behaves (Sends x) (by_sender times files (sender_step policy file input x))
   by-sender times files policy file input x may =
       let a : SenderAfter = sender_step policy file input x in
       let f : inputs.FinishesOnce x a = laws.sender_once policy file input x may in
@@ -112,7 +116,8 @@ module _ (laws : Machines) where
         own = f.own;
       }
 
-  by-receiver : (times : Times) (stored : Stored) (input : ReceiverInput) (m : OctetMap) (files : FileMap) (r : ReceiverState) → Behaves (Receives r m) (by_receiver times (receiver_step stored input m files r))
+  by-receiver : (times : Times) (stored : Stored) (input : ReceiverInput) (m : OctetMap) (files : FileMap) (r : ReceiverState) →
+      Behaves (Receives r m) (by_receiver times (receiver_step stored input m files r))
   by-receiver times stored input m files r = record {
     goes_on = (laws.receiver_same stored input m files r, laws.receiver_stays stored input m files r);
     once = laws.receiver_once stored input m files r r.addressing.id;
@@ -123,7 +128,8 @@ module _ (laws : Machines) where
     pub hears-so : (stored : Stored) (v : Content) (s : Seen) → Behaves s (hears stored policy.times files v s)
     hears-so stored (Ack acknowledged.Eof condition status) (Sends x) = by-sender policy.times files policy [] (inputs.HearsAck condition) x tt
     hears-so stored (Nak start end pairs) (Sends x) = by-sender policy.times files policy [] (inputs.HearsNak pairs) x tt
-    hears-so stored (Finished condition delivery status tlvs) (Sends x) = by-sender policy.times files policy [] (inputs.HearsFinished (record { condition = condition; delivery = delivery; status = status })) x tt
+    hears-so stored (Finished condition delivery status tlvs) (Sends x) =
+        by-sender policy.times files policy [] (inputs.HearsFinished (record { condition = condition; delivery = delivery; status = status })) x tt
     hears-so stored (KeepAlive progress) (Sends x) = by-sender policy.times files policy [] (inputs.HearsKeepAlive progress) x tt
     hears-so stored (Ack acknowledged.Finished condition status) (Sends x) = rests files (Sends x)
     hears-so stored (Metadata kind size source destination options) (Sends x) = rests files (Sends x)
@@ -171,7 +177,8 @@ module _ (laws : Machines) where
     same-so s t is = subst (λ u. Behaves s (no_step files u)) (sym is) (rests files s)
 
     pub spoils-so : (v : Content) (s t : Seen) → steps.Spoils v s t → Behaves s (no_step files t)
-    spoils-so v (Receives r m) t h = subst (λ u. Behaves (Receives r m) (no_step files u)) (sym (spoils-receives v r m t h).1.0) (record { goes_on = (refl, λ c. c); once = omega arith; own = λ id other. refl })
+    spoils-so v (Receives r m) t h = subst (λ u. Behaves (Receives r m) (no_step files u)) (sym (spoils-receives v r m t h).1.0)
+        (record { goes_on = (refl, λ c. c); once = omega arith; own = λ id other. refl })
     spoils-so (Nak start end pairs) (Sends x) t h =
         subst (λ u. Behaves (Sends x) (no_step files u)) (sym h.1)
         (let b = by-sender policy.times files policy [] (inputs.HearsNak (take h.0 pairs)) x tt in record { goes_on = b.goes_on; once = b.once; own = λ id other. refl })
@@ -252,7 +259,8 @@ own-push (x ∷ xs) id s is own (suc p) d h = own-push xs id s is (λ q f g. own
 absent : (xs : List Entry) (id : TransactionId) → position_or_len (λ (e : Entry). same_id id e.0) xs ≡ length xs → (record_of id xs ≡ None) × AllByRecursion (λ k. same_id id k ≡ false) (keys_of xs)
 absent [] id none = (refl, tt)
 absent (x ∷ xs) id none =
-    elim (same_id id x.0) as (λ b. same_id id x.0 ≡ b → cond (not b) (1 + position_or_len (λ (e : Entry). same_id id e.0) xs) 0 ≡ suc (length xs) → (cond b (Some x.1) (record_of id xs) ≡ None) × ((same_id id x.0 ≡ false) × AllByRecursion (λ k. same_id id k ≡ false) (keys_of xs))) [
+    elim (same_id id x.0) as (λ b. same_id id x.0 ≡ b → cond (not b) (1 + position_or_len (λ (e : Entry). same_id id e.0) xs) 0 ≡ suc (length xs) → (cond b (Some x.1) (record_of id xs) ≡ None)
+    × ((same_id id x.0 ≡ false) × AllByRecursion (λ k. same_id id k ≡ false) (keys_of xs))) [
       | true ↦ λ t h. absurd (omega (arith, h))
       | false ↦ λ t h. (let n : position_or_len (λ (e : Entry). same_id id e.0) xs ≡ length xs = omega (arith, h) in let rest = absent xs id n in (rest.0, (t, rest.1)))
     ] refl none
@@ -260,11 +268,13 @@ absent (x ∷ xs) id none =
 pub no-record : (xs : List Entry) (id : TransactionId) → place_of id xs ≡ None → (record_of id xs ≡ None) × AllByRecursion (λ k. same_id id k ≡ false) (keys_of xs)
 no-record xs id none = absent xs id (position-none (λ (e : Entry). same_id id e.0) xs none)
 
-all-push : (id own : TransactionId) (s : Seen) (xs : List Entry) → AllByRecursion (λ k. same_id own k ≡ false) (keys_of xs) → same_id own id ≡ false → AllByRecursion (λ k. same_id own k ≡ false) (keys_of (xs ++ (id, s) ∷ []))
+all-push : (id own : TransactionId) (s : Seen) (xs : List Entry) → AllByRecursion (λ k. same_id own k ≡ false) (keys_of xs) → same_id own id ≡ false →
+    AllByRecursion (λ k. same_id own k ≡ false) (keys_of (xs ++ (id, s) ∷ []))
 all-push id own s [] all last = (last, tt)
 all-push id own s (x ∷ xs) all last = (all.0, all-push id own s xs all.1 last)
 
-distinct-push : (xs : List Entry) (id : TransactionId) (s : Seen) → IsDistinct same_id (keys_of xs) → AllByRecursion (λ k. same_id id k ≡ false) (keys_of xs) → IsDistinct same_id (keys_of (xs ++ (id, s) ∷ []))
+distinct-push : (xs : List Entry) (id : TransactionId) (s : Seen) → IsDistinct same_id (keys_of xs) → AllByRecursion (λ k. same_id id k ≡ false) (keys_of xs) →
+    IsDistinct same_id (keys_of (xs ++ (id, s) ∷ []))
 unfolding IsDistinct
 distinct-push [] id s apart none = (tt, tt)
 distinct-push (x ∷ xs) id s apart none = (all-push id x.0 s xs apart.0 (same_id-symm id x.0 none.0), distinct-push xs id s apart.1 none.1)
@@ -310,7 +320,8 @@ module _ (xs : List Entry) (told : List Indication) (place : ℕ) (e : Entry) (a
           let all = was.once id in
           omega (arith, split, none, now, all)
 
-module _ (xs : List Entry) (told : List Indication) (id : TransactionId) (a : After) (none : place_of id xs ≡ None) (is : (addressing_of a.seen).id ≡ id) (once_only : finished_count id a.told + open_in a.seen ≤ 1)
+module _ (xs : List Entry) (told : List Indication) (id : TransactionId) (a : After) (none : place_of id xs ≡ None) (is : (addressing_of a.seen).id ≡ id)
+    (once_only : finished_count id a.told + open_in a.seen ≤ 1)
     (own_only : (other : TransactionId) → same_id id other ≡ false → finished_count other a.told ≡ 0) (was : FinishesOnce xs told) where
   push-once : FinishesOnce (xs ++ (id, a.seen) ∷ []) (told ++ a.told)
   push-once = record {
@@ -377,7 +388,8 @@ pub record OpensOnce (a : Addressing) (after : After) : Type 0 where
   pub own : (other : TransactionId) → same_id a.id other ≡ false → finished_count other after.told ≡ 0
 
 pub record Openings : Type 0 where
-  pub once : (stored : Stored) (files : FileMap) (addressing : Addressing) (id : TransactionId) → finished_count id (receiver.opens stored files addressing).told + open_count (receiver.opens stored files addressing).receiver.phase ≤ 1
+  pub once : (stored : Stored) (files : FileMap) (addressing : Addressing) (id : TransactionId) → finished_count id (receiver.opens stored files addressing).told
+      + open_count (receiver.opens stored files addressing).receiver.phase ≤ 1
   pub own : (stored : Stored) (files : FileMap) (addressing : Addressing) (id : TransactionId) → same_id addressing.id id ≡ false → finished_count id (receiver.opens stored files addressing).told ≡ 0
 
 pub puts-once : (files : FileMap) (t : Transfer) → OpensOnce t.addressing (puts files t)
@@ -416,16 +428,19 @@ module _ (laws : Machines) (openings : Openings) where
   kept-fired [] st = kept-itself st
   kept-fired (t ∷ timers) st = kept-then st (expired t st) (all_expired timers (expired t st)) (kept-expired t st) (kept-fired timers (expired t st))
 
-  kept-spoiled : (place : ℕ) (v : Content) (noted : Seen) (st : TableState) → ((e : Entry) → slice_get st.records place ≡ Some e → steps.Spoils v e.1 noted) → Kept st (record st { records = set_value_at st.records place noted })
+  kept-spoiled : (place : ℕ) (v : Content) (noted : Seen) (st : TableState) → ((e : Entry) → slice_get st.records place ≡ Some e → steps.Spoils v e.1 noted) →
+      Kept st (record st { records = set_value_at st.records place noted })
   kept-spoiled place v noted st may = by (slice_get st.records place) refl
     where
       by : (o : Option Entry) → slice_get st.records place ≡ o → Kept st (record st { records = set_value_at st.records place noted })
-      by None none = let same : set_value_at st.records place noted ≡ st.records = set-nowhere st.records place noted none in subst (λ (l : List Entry). Kept st (record st { records = l })) (sym same) (kept-itself st)
+      by None none = let same : set_value_at st.records place noted ≡ st.records = set-nowhere st.records place noted none in
+          subst (λ (l : List Entry). Kept st (record st { records = l })) (sym same) (kept-itself st)
       by (Some e) at =
           let b : Behaves e.1 (no_step st.files noted) = spoils-so laws st.policy st.files v e.1 noted (may e at) in
           record {
             records = keeps-set st.records place e noted at b.goes_on;
-            once = λ w. subst (λ (l : List Indication). FinishesOnce (set_value_at st.records place noted) l) (append-nil st.told) (set-once st.records st.told place e at (no_step st.files noted) b w);
+            once = λ w. subst (λ (l : List Indication). FinishesOnce (set_value_at st.records place noted) l) (append-nil st.told)
+                (set-once st.records st.told place e at (no_step st.files noted) b w);
           }
 
   pub kept-step : (s : TableStep) (st : TableState) → MayHappen s st → Kept st (table_step s st)
@@ -482,7 +497,8 @@ kept-leads laws openings old new l = subst (Kept old) (sym l.ends) (kept-run law
 
 pub first-once : (records : List Entry) (told : List Indication) → records ≡ [] → told ≡ [] → FinishesOnce records told
 unfolding IsDistinct
-first-once records told none nothing = subst (λ (l : List Entry). FinishesOnce l told) (sym none) (subst (λ (l : List Indication). FinishesOnce [] l) (sym nothing) (record { distinct = tt; own = λ p e h. absurd cc; once = λ id. omega arith }))
+first-once records told none nothing = subst (λ (l : List Entry). FinishesOnce l told) (sym none)
+    (subst (λ (l : List Indication). FinishesOnce [] l) (sym nothing) (record { distinct = tt; own = λ p e h. absurd cc; once = λ id. omega arith }))
 
 pub once-only : (id : TransactionId) (st : TableState) → FinishesOnce st.records st.told → finished_count id st.told ≤ 1
 once-only id st w = let all = w.once id in omega (arith, all)
@@ -495,6 +511,7 @@ stepped-other f place other st apart = by (slice_get st.records place)
     by None = refl
     by (Some e) = other-place st.records place other (f e).seen apart
 
-pub stepped-by_id : (f : Entry → After) (place : ℕ) (st : TableState) (e : Entry) (id : TransactionId) → slice_get st.records place ≡ Some e → same_id id e.0 ≡ false → record_of id (step_at f place st).records ≡ record_of id st.records
+pub stepped-by_id : (f : Entry → After) (place : ℕ) (st : TableState) (e : Entry) (id : TransactionId) → slice_get st.records place ≡ Some e → same_id id e.0 ≡ false →
+    record_of id (step_at f place st).records ≡ record_of id st.records
 stepped-by_id f place st e id at other =
     ap (λ o. record_of id (step_of f place o st).records) at ∙ step-other st.records place e.0 id (f e).seen (key-at st.records place e at) other

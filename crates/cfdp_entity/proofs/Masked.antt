@@ -63,7 +63,8 @@ module _ (files : FileMap) (r : ReceiverState) (over : is_receiving r.phase ≡ 
 
   pub masks-ack : Masks (λ m. hears_ack m files r)
   masks-ack times m =
-      elim (is_finishing r.phase && r.finished_taken) as (λ b. by_receiver times (heard (leaving m files (if b then closed r else r))) ≡ by_receiver times (heard (leaving empty files (if b then closed r else r)))) [
+      elim (is_finishing r.phase && r.finished_taken) as (λ b. by_receiver times (heard (leaving m files (if b then closed r else r)))
+      ≡ by_receiver times (heard (leaving empty files (if b then closed r else r)))) [
         | true ↦ refl
         | false ↦ core times (heard (leaving empty files r)) over m
       ]
@@ -82,14 +83,18 @@ module _ (files : FileMap) (r : ReceiverState) (over : is_receiving r.phase ≡ 
 
   pub masks-suspends : Masks (λ m. suspends m files r)
   masks-suspends times m =
-      ap (λ b. by_receiver times ((if b && not r.suspended then telling (indication.Suspended r.addressing.id suspend_request ∷ []) (leaving m files (record r { suspended = true })) else leaving m files r))) over
+      ap (λ b. by_receiver times ((if b && not r.suspended then telling (indication.Suspended r.addressing.id suspend_request ∷ []) (leaving m files (record r { suspended = true }))
+      else leaving m files r))) over
       ∙ core times ((leaving empty files r)) over m
-      ∙ sym (ap (λ b. by_receiver times ((if b && not r.suspended then telling (indication.Suspended r.addressing.id suspend_request ∷ []) (leaving empty files (record r { suspended = true })) else leaving empty files r))) over)
+      ∙ sym (ap (λ b. by_receiver times ((if b && not r.suspended then telling (indication.Suspended r.addressing.id suspend_request ∷ []) (leaving empty files (record r { suspended = true }))
+      else leaving empty files r))) over)
 
   pub masks-resumes : Masks (λ m. resumes m files r)
   masks-resumes times m =
-      elim r.suspended as (λ b. by_receiver times (if b then telling (indication.Resumed r.addressing.id ∷ []) (leaving m files (record r { suspended = false; nak_count = 0; finished_count = 0 })) else leaving m files r)
-      ≡ by_receiver times (if b then telling (indication.Resumed r.addressing.id ∷ []) (leaving empty files (record r { suspended = false; nak_count = 0; finished_count = 0 })) else leaving empty files r)) [
+      elim r.suspended as (λ b. by_receiver times (if b then telling (indication.Resumed r.addressing.id ∷ []) (leaving m files (record r { suspended = false; nak_count = 0; finished_count = 0 }))
+      else leaving m files r)
+      ≡ by_receiver times (if b then telling (indication.Resumed r.addressing.id ∷ []) (leaving empty files (record r { suspended = false; nak_count = 0; finished_count = 0 }))
+      else leaving empty files r)) [
         | true ↦ core times (telling (indication.Resumed r.addressing.id ∷ []) (leaving empty files (record r { suspended = false; nak_count = 0; finished_count = 0 }))) over m
         | false ↦ core times (leaving empty files r) over m
       ]

@@ -18,7 +18,8 @@ pub roomier-by : (old mid now : TimersState) (id : TransactionId) → mid ≡ re
 roomier-by old mid now id made still k h =
     ap (λ s. set.contains s k) (still ∙ ap (λ (t : TimersState). t.roomy) made) ∙ has_room-kept old.roomy id k h
 
-pub ready-here : (a : Addressing) (staged before : Staged) (r s : ReceiverState) → staged ≡ before → r ≡ s → s.addressing ≡ a → IsReady before s → (sources : FileMap) → IsReadyRecord staged sources a.id (held.Receives r)
+pub ready-here : (a : Addressing) (staged before : Staged) (r s : ReceiverState) → staged ≡ before → r ≡ s → s.addressing ≡ a → IsReady before s → (sources : FileMap) →
+    IsReadyRecord staged sources a.id (held.Receives r)
 ready-here a staged before r s same is addressed ready sources =
     subst (λ x. IsReadyRecord staged sources a.id (held.Receives x)) (sym is)
     (receiver-ready staged sources a.id s (ap (λ (x : Addressing). x.id) addressed) (subst (λ t. IsReady t s) (sym same) ready))

@@ -59,7 +59,8 @@ module _ {S : Type 0} (steps : S → InboxCall → S → Type 0) (failures : S �
 
   -- the record of a receiver
   module _ (k : Record) (r s : ReceiverState) (is : k ≡ held.Receives r) (staged staged_now : Option OctetMap) (old new : S) where
-    here : (Asks : (r s : ReceiverState) → (old new : ℕ) → Type 0) → Asks r s (failures old) (failures new) → AsksAs Raises Asks (seen staged k) (seen staged_now (held.Receives s)) (failures old) (failures new)
+    here : (Asks : (r s : ReceiverState) → (old new : ℕ) → Type 0) → Asks r s (failures old) (failures new) →
+        AsksAs Raises Asks (seen staged k) (seen staged_now (held.Receives s)) (failures old) (failures new)
     here Asks h = subst (λ (q : Record). AsksAs Raises Asks (seen staged q) (seen staged_now (held.Receives s)) (failures old) (failures new)) (sym is) h
 
     pub heard-here : {E : Type 0} (answer : Result Stored E) (v : Content) → IfOk answer (λ stored. AsksHeard (Makes steps failures) v stored r s old new)
@@ -70,11 +71,13 @@ module _ {S : Type 0} (steps : S → InboxCall → S → Type 0) (failures : S �
     pub expired-here : Settles (Makes steps failures) Done r s old new → AsksAs Raises (Settles Raises Done) (seen staged k) (seen staged_now (held.Receives s)) (failures old) (failures new)
     expired-here h = here (Settles Raises Done) (settled Done r s old new h)
 
-    pub called-here : (c : Call) → AsksCalled (Makes steps failures) c r s old new → AsksAs Raises (AsksCalled Raises c) (seen staged k) (seen staged_now (held.Receives s)) (failures old) (failures new)
+    pub called-here : (c : Call) → AsksCalled (Makes steps failures) c r s old new →
+        AsksAs Raises (AsksCalled Raises c) (seen staged k) (seen staged_now (held.Receives s)) (failures old) (failures new)
     called-here c h = here (AsksCalled Raises c) (called c r s old new h)
 
   -- a record more
-  pub opened : (closes : Option ℕ) (begun stored : Stored) (v : Content) (a : Addressing) (s : Seen) (old new : S) → AsksFirst (Makes steps failures) closes begun stored v a s old new → AsksFirst Raises closes begun stored v a s (failures old) (failures new)
+  pub opened : (closes : Option ℕ) (begun stored : Stored) (v : Content) (a : Addressing) (s : Seen) (old new : S) → AsksFirst (Makes steps failures) closes begun stored v a s old new →
+      AsksFirst Raises closes begun stored v a s (failures old) (failures new)
   opened (Some condition) begun stored v a s old new h = h.1
   opened None Done stored v a (Receives r m) old new h =
       (failures h.0, begins (Makes steps failures) Raises failures raised Done a.id old h.0 h.1, heard v stored (opened_receiver a) r h.0 new h.2)
@@ -82,25 +85,32 @@ module _ {S : Type 0} (steps : S → InboxCall → S → Type 0) (failures : S �
   opened None Refused stored v a s old new h = begins (Makes steps failures) Raises failures raised Refused a.id old new h
 
 -- the record of a sender
-pub sender-asks : (Asks : (r s : ReceiverState) → (old new : ℕ) → Type 0) (k : Record) (x : SenderState) → k ≡ held.Sends x → (staged : Option OctetMap) (after : Seen) (n : ℕ) → AsksAs Raises Asks (seen staged k) after n n
+pub sender-asks : (Asks : (r s : ReceiverState) → (old new : ℕ) → Type 0) (k : Record) (x : SenderState) → k ≡ held.Sends x → (staged : Option OctetMap) (after : Seen) (n : ℕ) →
+    AsksAs Raises Asks (seen staged k) after n n
 sender-asks Asks k x is staged after n = subst (λ (q : Record). AsksAs Raises Asks (seen staged q) after n n) (sym is) refl
 
-pub sender-heard : {E : Type 0} (answer : Result Stored E) (v : Content) (k : Record) (x : SenderState) → k ≡ held.Sends x → (staged : Option OctetMap) (after : Seen) (n : ℕ) → IfOk answer (λ stored. AsksAs Raises (AsksHeard Raises v stored) (seen staged k) after n n)
+pub sender-heard : {E : Type 0} (answer : Result Stored E) (v : Content) (k : Record) (x : SenderState) → k ≡ held.Sends x → (staged : Option OctetMap) (after : Seen) (n : ℕ) →
+    IfOk answer (λ stored. AsksAs Raises (AsksHeard Raises v stored) (seen staged k) after n n)
 sender-heard (Ok stored) v k x is staged after n = sender-asks (AsksHeard Raises v stored) k x is staged after n
 sender-heard (Err e) v k x is staged after n = tt
 
 -- ---- the record at a place
-pub asks-there : (Asks : (r s : ReceiverState) → (old new : ℕ) → Type 0) (f : Entry → After) (staged : Staged) (es : List (TransactionId × Record)) (place : ℕ) (id : TransactionId) (k : Record) (now : Seen) (n m : ℕ)
-    → slice_get (keys_of es) place ≡ Some id → slice_get (values_of es) place ≡ Some k → now ≡ (f (id, seen (staged id) k)).seen → AsksAs Raises Asks (seen (staged id) k) now n m → AsksOf Raises Asks f (slice_get (entries_seen staged es) place) n m
+pub asks-there : (Asks : (r s : ReceiverState) → (old new : ℕ) → Type 0) (f : Entry → After) (staged : Staged) (es : List (TransactionId × Record)) (place : ℕ) (id : TransactionId) (k : Record)
+    (now : Seen) (n m : ℕ)
+    → slice_get (keys_of es) place ≡ Some id → slice_get (values_of es) place ≡ Some k → now ≡ (f (id, seen (staged id) k)).seen → AsksAs Raises Asks (seen (staged id) k) now n m →
+    AsksOf Raises Asks f (slice_get (entries_seen staged es) place) n m
 asks-there Asks f staged es place id k now n m at is becomes asks =
     subst (λ o. AsksOf Raises Asks f o n m) (sym (seen_at staged es place id k at is)) (subst (λ s. AsksAs Raises Asks (seen (staged id) k) s n m) becomes asks)
 
-pub answered-there : {E : Type 0} (Asks : Stored → (r s : ReceiverState) → (old new : ℕ) → Type 0) (f : Stored → Entry → After) (staged : Staged) (es : List (TransactionId × Record)) (place : ℕ) (id : TransactionId) (k : Record) (now : Seen) (n m : ℕ)
+pub answered-there : {E : Type 0} (Asks : Stored → (r s : ReceiverState) → (old new : ℕ) → Type 0) (f : Stored → Entry → After) (staged : Staged) (es : List (TransactionId × Record)) (place : ℕ)
+    (id : TransactionId) (k : Record) (now : Seen) (n m : ℕ)
     → slice_get (keys_of es) place ≡ Some id → slice_get (values_of es) place ≡ Some k → (told told_now : List Indication) (clock clock_now : TimersState) (files : FileMap) (answer : Result Stored E)
     → IfOk answer (λ stored. Does id (f stored (id, seen (staged id) k)) now told told_now clock clock_now files) → IfOk answer (λ stored. AsksAs Raises (Asks stored) (seen (staged id) k) now n m)
     → IfOk answer (λ stored. AsksOf Raises (Asks stored) (f stored) (slice_get (entries_seen staged es) place) n m)
-answered-there Asks f staged es place id k now n m at is told told_now clock clock_now files (Ok stored) does asks = asks-there (Asks stored) (f stored) staged es place id k now n m at is does.state asks
+answered-there Asks f staged es place id k now n m at is told told_now clock clock_now files (Ok stored) does asks =
+    asks-there (Asks stored) (f stored) staged es place id k now n m at is does.state asks
 answered-there Asks f staged es place id k now n m at is told told_now clock clock_now files (Err e) does asks = tt
 
-pub asks-nowhere : (Asks : (r s : ReceiverState) → (old new : ℕ) → Type 0) (f : Entry → After) (staged : Staged) (es : List (TransactionId × Record)) (place : ℕ) (n : ℕ) → None ≡ slice_get (keys_of es) place → AsksOf Raises Asks f (slice_get (entries_seen staged es) place) n n
+pub asks-nowhere : (Asks : (r s : ReceiverState) → (old new : ℕ) → Type 0) (f : Entry → After) (staged : Staged) (es : List (TransactionId × Record)) (place : ℕ) (n : ℕ) → None
+    ≡ slice_get (keys_of es) place → AsksOf Raises Asks f (slice_get (entries_seen staged es) place) n n
 asks-nowhere Asks f staged es place n none = subst (λ o. AsksOf Raises Asks f o n n) (sym (no_entry staged es place none)) refl

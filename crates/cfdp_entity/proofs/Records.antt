@@ -79,7 +79,8 @@ module _ (times : Times) (id : TransactionId) (r r_now : ReceiverState) (files f
   receiver-does f masks does_before =
       let m : OctetMap = unwrap_or (old id) empty in
       let m_is : staged_for old r.addressing.id ≡ m = ap (staged_for old) rid in
-      let does : Receives times (f m) r_now told told_now timers timers_now files_now old new = subst (λ k. Receives times (f k) r_now told told_now timers timers_now files_now old new) m_is does_before in
+      let does : Receives times (f m) r_now told told_now timers timers_now files_now old new =
+      subst (λ k. Receives times (f k) r_now told told_now timers timers_now files_now old new) m_is does_before in
       let a : receiver.ReceiverAfter = f m in
       let same : by_receiver times (f m) ≡ by_receiver times (f (octets_seen r m)) =
       elim (is_receiving r.phase) as (λ b. is_receiving r.phase ≡ b → by_receiver times (f m) ≡ by_receiver times (f (if b then m else empty))) [
@@ -111,11 +112,14 @@ module _ (times : Times) (id : TransactionId) (r r_now : ReceiverState) (files f
     files = does.1.0;
   }
 
-  pub receiver-hears : (stored : Stored) (v : Content) → ReceiverDoes times (receiver_after stored v (staged_for old r.addressing.id) files r) r r_now told told_now timers timers_now files files_now old new
+  pub receiver-hears : (stored : Stored) (v : Content) → ReceiverDoes times
+      (receiver_after stored v (staged_for old r.addressing.id) files r) r r_now told told_now timers timers_now files files_now old new
       → Does id (hears stored times files v (seen (old id) (held.Receives r))) (seen (new id) (held.Receives r_now)) told told_now timers timers_now files_now
-  receiver-hears stored (Metadata kind size source destination options) does = receiver-does (λ m. receiver.hears_metadata stored kind size source destination m files r) (λ over. masks-metadata files r over stored kind size source destination) does
+  receiver-hears stored (Metadata kind size source destination options) does =
+      receiver-does (λ m. receiver.hears_metadata stored kind size source destination m files r) (λ over. masks-metadata files r over stored kind size source destination) does
   receiver-hears stored (FileData offset bytes) does = receiver-does (λ m. receiver.hears_data stored offset bytes m files r) (λ over. masks-data files r over stored offset bytes) does
-  receiver-hears stored (Eof condition checksum size tlvs) does = receiver-does (λ m. receiver.hears_eof stored condition checksum size m files r) (λ over. masks-eof files r over stored condition checksum size) does
+  receiver-hears stored (Eof condition checksum size tlvs) does = receiver-does (λ m. receiver.hears_eof stored condition checksum size m files r)
+      (λ over. masks-eof files r over stored condition checksum size) does
   receiver-hears stored (Ack acknowledged.Finished condition status) does = receiver-does (λ m. receiver.hears_ack m files r) (λ over. masks-ack files r over) does
   receiver-hears stored (Ack acknowledged.Eof condition status) does = receiver-rests does
   receiver-hears stored (Prompt keep_alive) does = receiver-does (λ m. receiver.hears_prompt keep_alive m files r) (λ over. masks-prompt files r over keep_alive) does
@@ -182,14 +186,17 @@ kept-ack condition x = by x.phase
   where
     by : (p : SenderPhase) → transfer_of (sender.hears_ack p condition x).sender ≡ transfer_of x
     by Sending = elim (x.eof_taken && (condition == no_error)) as (λ b. transfer_of (if b then record x { acknowledged = true; eof_due = false } else x) ≡ transfer_of x) [ true ↦ refl | false ↦ refl ]
-    by Cancelling = elim (condition == x.condition) as (λ b. transfer_of (if b then sender.hearing (finished_told x.addressing.id (sender.cancelled x) ∷ []) (sender.closed x) else sender.hearing [] x).sender ≡ transfer_of x) [ true ↦ refl | false ↦ refl ]
+    by Cancelling = elim (condition == x.condition) as (λ b. transfer_of
+        (if b then sender.hearing (finished_told x.addressing.id (sender.cancelled x) ∷ []) (sender.closed x) else sender.hearing [] x).sender ≡ transfer_of x) [ true ↦ refl | false ↦ refl ]
     by Closed = refl
 
 kept-asks : (p : ℕ × ℕ) (x : SenderState) → transfer_of (sender.asks p x) ≡ transfer_of x
-kept-asks p x = elim ((p.0 == 0) && (p.1 == 0)) as (λ b. transfer_of (if b then record x { metadata_due = true } else (if nat_lt p.0 (min p.1 x.sent) then record x { asked = set.union x.asked (range p.0 (min p.1 x.sent)) } else x)) ≡ transfer_of x) [
-  | true ↦ refl
-  | false ↦ elim (nat_lt p.0 (min p.1 x.sent)) as (λ b. transfer_of (if b then record x { asked = set.union x.asked (range p.0 (min p.1 x.sent)) } else x) ≡ transfer_of x) [ true ↦ refl | false ↦ refl ]
-]
+kept-asks p x = elim ((p.0 == 0) && (p.1 == 0)) as (λ b. transfer_of (if b then record x { metadata_due = true }
+    else (if nat_lt p.0 (min p.1 x.sent) then record x { asked = set.union x.asked (range p.0 (min p.1 x.sent)) } else x)) ≡ transfer_of x) [
+      | true ↦ refl
+      | false ↦ elim (nat_lt p.0 (min p.1 x.sent)) as (λ b. transfer_of (if b then record x { asked = set.union x.asked (range p.0 (min p.1 x.sent)) } else x)
+          ≡ transfer_of x) [ true ↦ refl | false ↦ refl ]
+    ]
 
 pub kept-asks_all : (ps : List (ℕ × ℕ)) (x : SenderState) → transfer_of (sender.asks_all ps x) ≡ transfer_of x
 kept-asks_all [] x = refl
@@ -268,7 +275,8 @@ kept-sends stored file x due.Eof = refl
 
 -- a step of a receiver that calls no store and indicates nothing
 pub quiet-receives : (times : Times) (a : receiver.ReceiverAfter) (r r_now : ReceiverState) (told : List Indication) (timers timers_now : TimersState) (files : FileMap) (staged : Staged)
-    → r_now ≡ a.receiver → a.told ≡ [] → a.files ≡ files → a.octets ≡ staged_for staged r.addressing.id → r_now.addressing ≡ r.addressing → timers_now ≡ receiver_does.timers_set times a.anew r_now timers
+    → r_now ≡ a.receiver → a.told ≡ [] → a.files ≡ files → a.octets ≡ staged_for staged r.addressing.id → r_now.addressing ≡ r.addressing → timers_now
+    ≡ receiver_does.timers_set times a.anew r_now timers
     → Receives times a r_now told told timers timers_now files staged staged
 quiet-receives times a r r_now told timers timers_now files staged now quiet same octets addr set_so = record {
   receiver = now;
@@ -279,16 +287,19 @@ quiet-receives times a r r_now told timers timers_now files staged now quiet sam
   others = λ other apart. refl;
 }
 
-pub acked-receives : (times : Times) (of : Acknowledged) (condition : ℕ) (status : TransactionStatus) (stored : Stored) (r r_now : ReceiverState) (told : List Indication) (timers timers_now : TimersState) (files : FileMap) (staged : Staged)
+pub acked-receives : (times : Times) (of : Acknowledged) (condition : ℕ) (status : TransactionStatus) (stored : Stored) (r r_now : ReceiverState) (told : List Indication)
+    (timers timers_now : TimersState) (files : FileMap) (staged : Staged)
     → ReceiverAcks times of r r_now timers timers_now → r_now.addressing ≡ r.addressing
     → ReceiverDoes times (receiver_after stored (Ack of condition status) (staged_for staged r.addressing.id) files r) r r_now told told timers timers_now files files staged staged
 acked-receives times acknowledged.Finished condition status stored r r_now told timers timers_now files staged acks addr =
-    quiet-receives times (receiver.hears_ack (staged_for staged r.addressing.id) files r) r r_now told timers timers_now files staged (acks.0 (staged_for staged r.addressing.id) files) refl refl refl addr acks.1
+    quiet-receives times (receiver.hears_ack (staged_for staged r.addressing.id) files r) r r_now told timers timers_now files staged
+    (acks.0 (staged_for staged r.addressing.id) files) refl refl refl addr acks.1
 acked-receives times acknowledged.Eof condition status stored r r_now told timers timers_now files staged acks addr =
     (record { state = acks.0; tells = refl; timers = acks.1 }, (refl, refl))
 
 -- ---- what a call of a sender leaves of its record
-module _ (times : Times) (id : TransactionId) (s : Record) (x x_now : SenderState) (is : s ≡ held.Sends x) (staged : Staged) (sources files : FileMap) (told told_now : List Indication) (timers timers_now : TimersState)
+module _ (times : Times) (id : TransactionId) (s : Record) (x x_now : SenderState) (is : s ≡ held.Sends x) (staged : Staged) (sources files : FileMap) (told told_now : List Indication)
+    (timers timers_now : TimersState)
     (is_ready : IsReadyRecord staged sources id s) where
   has : (x.addressing.id ≡ id) × HasFile sources x.source x.size
   has = ready-sender staged sources id x (subst (IsReadyRecord staged sources id) is is_ready)
@@ -306,7 +317,8 @@ module _ (times : Times) (id : TransactionId) (s : Record) (x x_now : SenderStat
   of-seen : (f : Seen → After) → Does id (f (Sends x)) (Sends x_now) told told_now timers timers_now files → Does id (f (seen (staged id) s)) (Sends x_now) told told_now timers timers_now files
   of-seen f does = subst (λ (k : Record). Does id (f (seen (staged id) k)) (Sends x_now) told told_now timers timers_now files) (sym is) does
 
-  stepped-so : (f : Seen → After) (a : sender.SenderAfter) → f (Sends x) ≡ by_sender times files a → transfer_of a.sender ≡ transfer_of x → sender_does.Does times a x_now told told_now timers timers_now → Steps f
+  stepped-so : (f : Seen → After) (a : sender.SenderAfter) → f (Sends x) ≡ by_sender times files a → transfer_of a.sender ≡ transfer_of x →
+      sender_does.Does times a x_now told told_now timers timers_now → Steps f
   stepped-so f a step kept does = (
     of-seen f (subst (λ (k : After). Does id k (Sends x_now) told told_now timers timers_now files) (sym step)
         (sender-does times id x x_now files told told_now timers timers_now has.0 a (ap (λ (t : Transfer). t.addressing) kept) does)),
@@ -333,10 +345,12 @@ module _ (times : Times) (id : TransactionId) (s : Record) (x x_now : SenderStat
   pub sender-called : (c : Call) → SenderDoes times (Some (called_sender c x)) x x_now told told_now timers timers_now → Steps (calls times files c)
   sender-called c does = stepped-so (calls times files c) _ refl (kept-called c x) does
 
-  pub sender-expired : (policy : Policy) (k : Kind) → policy.times ≡ times → sender_does.Does times (sender.sender_expires k policy x) x_now told told_now timers timers_now → Steps (expires policy files k)
+  pub sender-expired : (policy : Policy) (k : Kind) → policy.times ≡ times → sender_does.Does times (sender.sender_expires k policy x) x_now told told_now timers timers_now →
+      Steps (expires policy files k)
   sender-expired policy k same does = stepped-so (expires policy files k) _ (ap (λ t. by_sender t files (sender.sender_expires k policy x)) same) (kept-expires policy k x) does
 
-  sender-sent : (stored : Stored) (o : Option SenderDue) (d : SenderDue) → sender_due x ≡ o → o ≡ Some d → sender_does.Does times (sender.sender_sends stored (octets_in sources x.source) x d) x_now told told_now timers timers_now
+  sender-sent : (stored : Stored) (o : Option SenderDue) (d : SenderDue) → sender_due x ≡ o → o ≡ Some d →
+      sender_does.Does times (sender.sender_sends stored (octets_in sources x.source) x d) x_now told told_now timers timers_now
       → Steps (takes stored times sources files)
   sender-sent stored o d due_is some does =
       stepped-so (takes stored times sources files) _ (ap (sender_takes stored times files (octets_in sources x.source) x) (due_is ∙ some)) (kept-sends stored (octets_in sources x.source) x d) does
@@ -379,10 +393,12 @@ module _ (times : Times) (id : TransactionId) (s : Record) (x x_now : SenderStat
       by None due_is SourceFailed h = absurd h
       by (Some d) due_is Nothing h = absurd h
 
-  pub sender-keeps : (v : Content) → SenderKeeps v x x_now told told_now timers timers_now → Keeps v (seen (staged id) s) (Sends x_now) told told_now timers timers_now files files × IsReadyRecord staged sources id (held.Sends x_now)
+  pub sender-keeps : (v : Content) → SenderKeeps v x x_now told told_now timers timers_now → Keeps v (seen (staged id) s) (Sends x_now) told told_now timers timers_now files files
+      × IsReadyRecord staged sources id (held.Sends x_now)
   sender-keeps v keeps = (subst (λ (k : Record). Keeps v (seen (staged id) k) (Sends x_now) told told_now timers timers_now files files) (sym is) (by v keeps).0, (by v keeps).1)
     where
-      by : (v : Content) → SenderKeeps v x x_now told told_now timers timers_now → Keeps v (Sends x) (Sends x_now) told told_now timers timers_now files files × IsReadyRecord staged sources id (held.Sends x_now)
+      by : (v : Content) → SenderKeeps v x x_now told told_now timers timers_now → Keeps v (Sends x) (Sends x_now) told told_now timers timers_now files files
+          × IsReadyRecord staged sources id (held.Sends x_now)
       by (Nak start end pairs) keeps = (
         record {
           state = (keeps.0.count, ap Sends (keeps.0.asked ∙ sym (ap (λ p. sender.asks_in p (take keeps.0.count pairs) x) keeps.0.sending)));
@@ -406,7 +422,8 @@ module _ (times : Times) (id : TransactionId) (s : Record) (x x_now : SenderStat
     pub sender-answered : IfOk answer (λ stored. Does id (hears stored times files v (seen (staged id) s)) (Sends x_now) told told_now timers timers_now files)
     sender-answered = by answer does
       where
-        by : (a : Result Stored E) → OnOk a (SenderDoes times (sender_after v x) x x_now told told_now timers timers_now) → IfOk a (λ stored. Does id (hears stored times files v (seen (staged id) s)) (Sends x_now) told told_now timers timers_now files)
+        by : (a : Result Stored E) → OnOk a (SenderDoes times (sender_after v x) x x_now told told_now timers timers_now) →
+            IfOk a (λ stored. Does id (hears stored times files v (seen (staged id) s)) (Sends x_now) told told_now timers timers_now files)
         by (Ok stored) h = (sender-hears stored v h).0
         by (Err e) h = tt
 
@@ -420,12 +437,14 @@ module _ (times : Times) (id : TransactionId) (s : Record) (x x_now : SenderStat
     pub sender-still : IsReadyRecord staged sources id (held.Sends x_now)
     sender-still = by answer does keeps
       where
-        by : (a : Result Stored E) → OnOk a (SenderDoes times (sender_after v x) x x_now told told_now timers timers_now) → OnErr a (SenderKeeps v x x_now told told_now timers timers_now) → IsReadyRecord staged sources id (held.Sends x_now)
+        by : (a : Result Stored E) → OnOk a (SenderDoes times (sender_after v x) x x_now told told_now timers timers_now) → OnErr a (SenderKeeps v x x_now told told_now timers timers_now) →
+            IsReadyRecord staged sources id (held.Sends x_now)
         by (Ok stored) h k = (sender-hears stored v h).1
         by (Err e) h k = (sender-keeps v k).1
 
 -- ---- and of a receiver
-module _ (times : Times) (id : TransactionId) (s : Record) (r r_now : ReceiverState) (is : s ≡ held.Receives r) (sources files files_now : FileMap) (old new : Staged) (told told_now : List Indication) (timers timers_now : TimersState)
+module _ (times : Times) (id : TransactionId) (s : Record) (r r_now : ReceiverState) (is : s ≡ held.Receives r) (sources files files_now : FileMap) (old new : Staged) (told told_now : List Indication)
+    (timers timers_now : TimersState)
     (is_ready : IsReadyRecord old sources id s) (addr : r_now.addressing ≡ r.addressing) where
   pub rid : r.addressing.id ≡ id
   rid = (ready-receiver old sources id r (subst (IsReadyRecord old sources id) is is_ready)).0
@@ -437,7 +456,8 @@ module _ (times : Times) (id : TransactionId) (s : Record) (r r_now : ReceiverSt
       → Does id (f (seen (old id) s)) (seen (new id) (held.Receives r_now)) told told_now timers timers_now files_now
   of-seen-there f does = subst (λ (k : Record). Does id (f (seen (old id) k)) (seen (new id) (held.Receives r_now)) told told_now timers timers_now files_now) (sym is) does
 
-  pub heard-there : (stored : Stored) (v : Content) → ReceiverDoes times (receiver_after stored v (staged_for old r.addressing.id) files r) r r_now told told_now timers timers_now files files_now old new
+  pub heard-there : (stored : Stored) (v : Content) → ReceiverDoes times
+      (receiver_after stored v (staged_for old r.addressing.id) files r) r r_now told told_now timers timers_now files files_now old new
       → Does id (hears stored times files v (seen (old id) s)) (seen (new id) (held.Receives r_now)) told told_now timers timers_now files_now
   heard-there stored v does = of-seen-there (hears stored times files v) (receiver-hears times id r r_now files files_now old new told told_now timers timers_now rid addr stored v does)
 
@@ -445,9 +465,12 @@ module _ (times : Times) (id : TransactionId) (s : Record) (r r_now : ReceiverSt
       → Does id (calls times files c (seen (old id) s)) (seen (new id) (held.Receives r_now)) told told_now timers timers_now files_now
   called-there c does = of-seen-there (calls times files c) (receiver-called times id r r_now files files_now old new told told_now timers timers_now rid addr c does)
 
-  pub expired-there : (policy : Policy) (k : Kind) → policy.times ≡ times → Receives times (receiver.expires k policy (staged_for old r.addressing.id) files r) r_now told told_now timers timers_now files_now old new
+  pub expired-there : (policy : Policy) (k : Kind) → policy.times ≡ times →
+      Receives times (receiver.expires k policy (staged_for old r.addressing.id) files r) r_now told told_now timers timers_now files_now old new
       → Does id (expires policy files k (seen (old id) s)) (seen (new id) (held.Receives r_now)) told told_now timers timers_now files_now
-  expired-there policy k same does = subst (λ t. Does id (by_receiver t (receiver.expires k policy (octets_seen r (unwrap_or (old id) empty)) files r)) (seen (new id) (held.Receives r_now)) told told_now timers timers_now files_now → Does id (expires policy files k (seen (old id) s)) (seen (new id) (held.Receives r_now)) told told_now timers timers_now files_now) same
+  expired-there policy k same does = subst (λ t. Does id (by_receiver t (receiver.expires k policy (octets_seen r (unwrap_or (old id) empty)) files r))
+      (seen (new id) (held.Receives r_now)) told told_now timers timers_now files_now →
+      Does id (expires policy files k (seen (old id) s)) (seen (new id) (held.Receives r_now)) told told_now timers timers_now files_now) same
       (of-seen-there (expires policy files k))
       (receiver-does times id r r_now files files_now old new told told_now timers timers_now rid addr (λ m. receiver.expires k policy m files r) (λ over. masks-expires files r over policy k) does)
 
@@ -467,7 +490,8 @@ module _ (times : Times) (id : TransactionId) (s : Record) (r r_now : ReceiverSt
   addressed-there = ap (λ (k : Record). addressing_of (seen (old id) k)) is
 
   pub took-there : new ≡ old → files_now ≡ files → told_now ≡ told → (n : ℕ) (out out_now : List ℕ) → ReceiverTook times (receiver_due r) r r_now timers timers_now n out out_now
-      → Does id (takes Done times sources files (seen (old id) s)) (seen (new id) (held.Receives r_now)) told told_now timers timers_now files_now × Gives (due_octets sources (seen (old id) s)) (due_len sources (seen (old id) s)) (Octets n) out out_now
+      → Does id (takes Done times sources files (seen (old id) s)) (seen (new id) (held.Receives r_now)) told told_now timers timers_now files_now
+      × Gives (due_octets sources (seen (old id) s)) (due_len sources (seen (old id) s)) (Octets n) out out_now
   took-there same_staged same_files same_told n out out_now took = by (receiver_due r) refl took
     where
       gives : (o : Option Due) → receiver_due r ≡ o → Gives (octets_of r.addressing (seens.receiver_content r o)) (len_of r.addressing (seens.receiver_content r o)) (Octets n) out out_now
@@ -477,23 +501,29 @@ module _ (times : Times) (id : TransactionId) (s : Record) (r r_now : ReceiverSt
           let len : due_len sources (seen (old id) s) ≡ len_of r.addressing (seens.receiver_content r o) = (λ i. len_of (addressed-there i) (content-there o due_is i)) in
           (h.0 ∙ sym len, record { front = h.1.front ∙ sym octets; behind = h.1.behind })
 
-      by : (o : Option Due) → receiver_due r ≡ o → ReceiverTook times o r r_now timers timers_now n out out_now → Does id (takes Done times sources files (seen (old id) s)) (seen (new id) (held.Receives r_now)) told told_now timers timers_now files_now × Gives (due_octets sources (seen (old id) s)) (due_len sources (seen (old id) s)) (Octets n) out out_now
+      by : (o : Option Due) → receiver_due r ≡ o → ReceiverTook times o r r_now timers timers_now n out out_now →
+          Does id (takes Done times sources files (seen (old id) s)) (seen (new id) (held.Receives r_now)) told told_now timers timers_now files_now
+          × Gives (due_octets sources (seen (old id) s)) (due_len sources (seen (old id) s)) (Octets n) out out_now
       by (Some d) due_is h =
           let m : OctetMap = staged_for old r.addressing.id in
-          let quiet : Receives times (receiver.takes d m files r) r_now told told timers timers_now files old old = quiet-receives times (receiver.takes d m files r) r r_now told timers timers_now files old h.0.0 refl refl refl addr h.0.1 in
+          let quiet : Receives times (receiver.takes d m files r) r_now told told timers timers_now files old old =
+          quiet-receives times (receiver.takes d m files r) r r_now told timers timers_now files old h.0.0 refl refl refl addr h.0.1 in
           let does : Receives times (receiver.takes d m files r) r_now told told_now timers timers_now files_now old new =
           subst (λ t. Receives times (receiver.takes d m files r) r_now told t timers timers_now files_now old new) (sym same_told)
           (subst (λ f. Receives times (receiver.takes d m files r) r_now told told timers timers_now f old new) (sym same_files)
           (subst (λ st. Receives times (receiver.takes d m files r) r_now told told timers timers_now files old st) (sym same_staged) quiet)) in (
             of-seen-there (takes Done times sources files)
-                (subst (λ (o : Option Due). Does id (receiver_takes times files r (octets_seen r (unwrap_or (old id) empty)) o) (seen (new id) (held.Receives r_now)) told told_now timers timers_now files_now) (sym due_is)
+                (subst (λ (o : Option Due). Does id (receiver_takes times files r (octets_seen r (unwrap_or (old id) empty)) o)
+                (seen (new id) (held.Receives r_now)) told told_now timers timers_now files_now) (sym due_is)
                 (receiver-does times id r r_now files files_now old new told told_now timers timers_now rid addr (λ k. receiver.takes d k files r) (λ over. masks-takes files r over d) does)),
             gives (Some d) due_is h.1,
           )
       by None due_is h = (
         of-seen-there (takes Done times sources files)
-            (subst (λ (o : Option Due). Does id (receiver_takes times files r (octets_seen r (unwrap_or (old id) empty)) o) (seen (new id) (held.Receives r_now)) told told_now timers timers_now files_now) (sym due_is)
-            (receiver-rests times id r r_now files files_now old new told told_now timers timers_now rid addr (record { state = h.0.0; tells = same_told; timers = h.0.1 }, (same_files, same_staged)))),
+            (subst (λ (o : Option Due). Does id (receiver_takes times files r (octets_seen r (unwrap_or (old id) empty)) o)
+            (seen (new id) (held.Receives r_now)) told told_now timers timers_now files_now) (sym due_is)
+            (receiver-rests times id r r_now files files_now old new told told_now timers timers_now rid addr
+            (record { state = h.0.0; tells = same_told; timers = h.0.1 }, (same_files, same_staged)))),
         gives None due_is h.1,
       )
 
@@ -504,7 +534,8 @@ module _ (times : Times) (id : TransactionId) (s : Record) (r r_now : ReceiverSt
     pub heard-answered : IfOk answer (λ stored. Does id (hears stored times files v (seen (old id) s)) (seen (new id) (held.Receives r_now)) told told_now timers timers_now files_now)
     heard-answered = by answer does
       where
-        by : (a : Result Stored E) → IfOk a (λ stored. ReceiverDoes times (receiver_after stored v (staged_for old r.addressing.id) files r) r r_now told told_now timers timers_now files files_now old new)
+        by : (a : Result Stored E) → IfOk a (λ stored. ReceiverDoes times
+            (receiver_after stored v (staged_for old r.addressing.id) files r) r r_now told told_now timers timers_now files files_now old new)
             → IfOk a (λ stored. Does id (hears stored times files v (seen (old id) s)) (seen (new id) (held.Receives r_now)) told told_now timers timers_now files_now)
         by (Ok stored) h = heard-there stored v h
         by (Err e) h = tt
@@ -512,7 +543,8 @@ module _ (times : Times) (id : TransactionId) (s : Record) (r r_now : ReceiverSt
     pub heard-failed : OnErr answer (Keeps v (seen (old id) s) (seen (new id) (held.Receives r_now)) told told_now timers timers_now files files_now)
     heard-failed = by answer keeps
       where
-        by : (a : Result Stored E) → OnErr a (ReceiverKeeps v r r_now told told_now timers timers_now files files_now old new) → OnErr a (Keeps v (seen (old id) s) (seen (new id) (held.Receives r_now)) told told_now timers timers_now files files_now)
+        by : (a : Result Stored E) → OnErr a (ReceiverKeeps v r r_now told told_now timers timers_now files files_now old new) →
+            OnErr a (Keeps v (seen (old id) s) (seen (new id) (held.Receives r_now)) told told_now timers timers_now files files_now)
         by (Ok stored) h = tt
         by (Err e) h = kept-there v h
 
@@ -527,11 +559,13 @@ pub len-of-sender : (sources : FileMap) (x : SenderState) (n : Option ℕ) → H
     → unwrap_or n 0 ≡ due_len sources (Sends x)
 len-of-sender sources x n file len = ap (λ o. unwrap_or o 0) (len (octets_in sources x.source) file.whole) ∙ by (sender_due x)
   where
-    by : (o : Option SenderDue) → unwrap_or (option_map (λ d. written_len x.addressing false (sender_says (octets_in sources x.source) x d)) o) 0 ≡ len_of x.addressing (seens.sender_content (octets_in sources x.source) x o)
+    by : (o : Option SenderDue) → unwrap_or (option_map (λ d. written_len x.addressing false (sender_says (octets_in sources x.source) x d)) o) 0
+        ≡ len_of x.addressing (seens.sender_content (octets_in sources x.source) x o)
     by (Some d) = refl
     by None = refl
 
 -- and that it fits
-pub fits-sender : (file : List ℕ) (x : SenderState) (o : Option SenderDue) (n : ℕ) → len_of x.addressing (seens.sender_content file x o) ≤ n → IfSome o (λ d. written_len x.addressing false (sender_says file x d) ≤ n)
+pub fits-sender : (file : List ℕ) (x : SenderState) (o : Option SenderDue) (n : ℕ) → len_of x.addressing (seens.sender_content file x o) ≤ n →
+    IfSome o (λ d. written_len x.addressing false (sender_says file x d) ≤ n)
 fits-sender file x (Some d) n h = h
 fits-sender file x None n h = tt

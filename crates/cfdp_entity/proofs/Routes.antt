@@ -46,7 +46,8 @@ first-of-both : (p q : Bool) → not (p && q) ≡ false → p ≡ true
 first-of-both true q h = refl
 first-of-both false q h = absurd (cc)
 
-from-peer : (toward : Bool) (source peer destination own : ℕ) → toward ≡ false → not (if toward then (source == own) && (destination == peer) else (source == peer) && (destination == own)) ≡ false → source ≡ peer
+from-peer : (toward : Bool) (source peer destination own : ℕ) → toward ≡ false → not (if toward then (source == own) && (destination == peer) else (source == peer) && (destination == own)) ≡ false →
+    source ≡ peer
 from-peer true source peer destination own down is = absurd (cc)
 from-peer false source peer destination own down is = eqb-true source peer (first-of-both (source == peer) (destination == own) is)
 

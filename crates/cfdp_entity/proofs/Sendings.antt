@@ -43,14 +43,16 @@ use Rattle.cfdp_entity.proofs.Sparing.{spoils-receives}
 pub record TrueSender : Type 0 where
   pub says : (put : Put) (x : SenderState) (d : SenderDue) → IsInFile x → IsSenderOf put x → sender_due x ≡ Some d → IsTruthful put (sender_says put.octets x d)
   pub opened : (t : Transfer) (file : List ℕ) → length file ≡ t.size → IsSenderOf (inputs.put_of t file) (opened_sender t)
-  pub stays : (put : Put) (policy : Policy) (input : SenderInput) (x : SenderState) → IsInFile x → IsSenderOf put x → inputs.MayHappen input x → IsSenderOf put (sender_step policy put.octets input x).sender
+  pub stays : (put : Put) (policy : Policy) (input : SenderInput) (x : SenderState) → IsInFile x → IsSenderOf put x → inputs.MayHappen input x →
+      IsSenderOf put (sender_step policy put.octets input x).sender
   pub opened_in : (t : Transfer) → 1 ≤ t.segment → IsInFile (opened_sender t)
   pub stays_in : (policy : Policy) (file : List ℕ) (input : SenderInput) (x : SenderState) → IsInFile x → inputs.MayHappen input x → IsInFile (sender_step policy file input x).sender
 
 module _ (laws : TrueSender) (put_of : TransactionId → Option Put) where
   -- ---- one record
   module _ (sources : FileMap) (id : TransactionId) where
-    by-sender : (policy : Policy) (input : SenderInput) (x : SenderState) → inputs.MayHappen input x → (k : SendsPut put_of sources id x) → SendsPut put_of sources id (sender_step policy k.put.octets input x).sender
+    by-sender : (policy : Policy) (input : SenderInput) (x : SenderState) → inputs.MayHappen input x → (k : SendsPut put_of sources id x) →
+        SendsPut put_of sources id (sender_step policy k.put.octets input x).sender
     by-sender policy input x may k =
         let still : IsSenderOf k.put (sender_step policy k.put.octets input x).sender = laws.stays k.put policy input x k.in_file k.sender may in
         record {
@@ -89,7 +91,8 @@ module _ (laws : TrueSender) (put_of : TransactionId → Option Put) where
       calls-put call.Resume (Sends x) k = by-sender policy inputs.Resumes x tt k
       calls-put (call.Prompt keep_alive) (Sends x) k = by-sender policy (inputs.Prompts keep_alive) x tt k
 
-      sender-takes : (stored : Stored) (x : SenderState) (due : Option SenderDue) → sender_due x ≡ due → SendsPut put_of sources id x → SendsItsPut put_of sources id (sender_takes stored policy.times files (octets_in sources x.source) x due).seen
+      sender-takes : (stored : Stored) (x : SenderState) (due : Option SenderDue) → sender_due x ≡ due → SendsPut put_of sources id x →
+          SendsItsPut put_of sources id (sender_takes stored policy.times files (octets_in sources x.source) x due).seen
       sender-takes stored x (Some d) is k =
           subst (λ (file : List ℕ). SendsPut put_of sources id (sender_step policy file (inputs.Sends stored d) x).sender) k.octets (by-sender policy (inputs.Sends stored d) x is k)
       sender-takes stored x None is k = k
@@ -124,7 +127,8 @@ module _ (laws : TrueSender) (put_of : TransactionId → Option Put) where
       opens-put None begun stored v a = begins-put begun stored v a
 
     -- ---- what is due
-    sender-says : (file : List ℕ) (x : SenderState) (o : Option SenderDue) (v : Content) (put : Put) → sender_due x ≡ o → sender_content file x o ≡ Some v → octets_in sources x.source ≡ file → put_of id ≡ Some put → SendsPut put_of sources id x → IsTruthful put v
+    sender-says : (file : List ℕ) (x : SenderState) (o : Option SenderDue) (v : Content) (put : Put) → sender_due x ≡ o → sender_content file x o ≡ Some v → octets_in sources x.source ≡ file →
+        put_of id ≡ Some put → SendsPut put_of sources id x → IsTruthful put v
     sender-says file x (Some d) v put is says same_file finds k =
         let same : sender_says file x d ≡ v = cc in
         let found : Some k.put ≡ Some put = sym k.is_put ∙ finds in
@@ -154,7 +158,8 @@ module _ (laws : TrueSender) (put_of : TransactionId → Option Put) where
   abbrev All : FileMap → List Entry → Type 0
   All sources xs = (place : ℕ) (e : Entry) → slice_get xs place ≡ Some e → SendsItsPut put_of sources e.0 e.1
 
-  all-set : (sources : FileMap) (xs : List Entry) (place : ℕ) (e : Entry) (s : Seen) → slice_get xs place ≡ Some e → SendsItsPut put_of sources e.0 s → All sources xs → All sources (set_value_at xs place s)
+  all-set : (sources : FileMap) (xs : List Entry) (place : ℕ) (e : Entry) (s : Seen) → slice_get xs place ≡ Some e → SendsItsPut put_of sources e.0 s → All sources xs →
+      All sources (set_value_at xs place s)
   all-set sources [] place e s at is all p d h = absurd cc
   all-set sources (x ∷ xs) zero e s at is all zero d h =
       let here : x ≡ e = cc in
@@ -170,7 +175,8 @@ module _ (laws : TrueSender) (put_of : TransactionId → Option Put) where
   all-push sources (x ∷ xs) id s is all zero d h = all zero d h
   all-push sources (x ∷ xs) id s is all (suc p) d h = all-push sources xs id s is (λ q f g. all (suc q) f g) p d h
 
-  sends-of : (f : Entry → After) (place : ℕ) (st : TableState) (o : Option Entry) → slice_get st.records place ≡ o → ((e : Entry) → SendsItsPut put_of st.sources e.0 e.1 → SendsItsPut put_of st.sources e.0 (f e).seen)
+  sends-of : (f : Entry → After) (place : ℕ) (st : TableState) (o : Option Entry) → slice_get st.records place ≡ o →
+      ((e : Entry) → SendsItsPut put_of st.sources e.0 e.1 → SendsItsPut put_of st.sources e.0 (f e).seen)
       → SendsTruth put_of st → SendsTruth put_of (step_of f place o st)
   sends-of f place st None at goes t = t
   sends-of f place st (Some e) at goes t = record { sends = all-set st.sources st.records place e (f e).seen at (goes e (t.sends place e at)) t.sends }
@@ -215,11 +221,13 @@ module _ (laws : TrueSender) (put_of : TransactionId → Option Put) where
         octets = refl;
       } in
       sends-push transfer.addressing.id (puts st.files transfer) st k t
-  sends-step (Opens begun stored a v) st may finds t = sends-push a.id (opens begun stored st.policy.times st.files v a) st (opens-put st.sources a.id st.policy st.files (closing v) begun stored v a) t
+  sends-step (Opens begun stored a v) st may finds t = sends-push a.id (opens begun stored st.policy.times st.files v a) st
+      (opens-put st.sources a.id st.policy st.files (closing v) begun stored v a) t
   sends-step (Tells now) st may finds t = record { sends = t.sends }
   sends-step (Fires timers) st may finds t = sends-fired timers st t
 
-  pub says-truth : (st : TableState) (place : ℕ) (e : Entry) (v : Content) (put : Put) → SendsTruth put_of st → slice_get st.records place ≡ Some e → due_content st.sources e.1 ≡ Some v → put_of e.0 ≡ Some put → IsTruthful put v
+  pub says-truth : (st : TableState) (place : ℕ) (e : Entry) (v : Content) (put : Put) → SendsTruth put_of st → slice_get st.records place ≡ Some e → due_content st.sources e.1 ≡ Some v → put_of e.0
+      ≡ Some put → IsTruthful put v
   says-truth st place e v put t at says finds = says-true st.sources e.0 e.1 v put (t.sends place e at) says finds
 
 -- ---- how it begins, and what more puts leave of it

@@ -43,7 +43,8 @@ pub record TableLaws : Type 0 where
   pub knows : (own : ℕ) (put_of : TransactionId → Option Put) (heard : List (List ℕ)) (first : FileMap) (s : TableStep) (st : TableState) → MayHappen s st → TellsTruth own put_of heard s st
       → IsTrueTable own put_of heard first st → IsTrueTable own put_of heard first (table_step s st)
   pub sends : (put_of : TransactionId → Option Put) (s : TableStep) (st : TableState) → MayHappen s st → FindsPut put_of s st → SendsTruth put_of st → SendsTruth put_of (table_step s st)
-  pub tells : (own : ℕ) (put_of : TransactionId → Option Put) (heard : List (List ℕ)) (first : FileMap) (s : TableStep) (st : TableState) → MayHappen s st → TellsTruth own put_of heard s st → HearsDelivered heard s st
+  pub tells : (own : ℕ) (put_of : TransactionId → Option Put) (heard : List (List ℕ)) (first : FileMap) (s : TableStep) (st : TableState) → MayHappen s st → TellsTruth own put_of heard s st →
+      HearsDelivered heard s st
       → IsTrueTable own put_of heard first st → TellsNoMore own heard st → TellsNoMore own heard (table_step s st)
 
 same-put : (p q : Put) → Some p ≡ Some q → p ≡ q
@@ -84,8 +85,10 @@ module _ (put_of : TransactionId → Option Put) (heard : List (List ℕ)) (firs
 
     true-of : (v : Content) → SpellsSmall h v pdu → SaysTruth peer put_of h.id v → IsTrueOf put_of heard h.id v
     true-of (FileData offset bytes) s t = λ put is. (let a = true-as (FileData offset bytes) put t is in (a.1, λ n low high. some-pdu (Brings put n) (FileData offset bytes) s (a.0, low, high, a.1)))
-    true-of (Metadata kind size source destination options) s t = λ put is. (let a = true-as (Metadata kind size source destination options) put t is in (a.1, some-pdu (IsMetadataOf put) (Metadata kind size source destination options) s a))
-    true-of (Eof condition checksum size tlvs) s t = λ put is. (let a = true-as (Eof condition checksum size tlvs) put t is in (a.1, λ fine. some-pdu (IsEofOf put) (Eof condition checksum size tlvs) s (a.0, fine, a.1)))
+    true-of (Metadata kind size source destination options) s t = λ put is.
+        (let a = true-as (Metadata kind size source destination options) put t is in (a.1, some-pdu (IsMetadataOf put) (Metadata kind size source destination options) s a))
+    true-of (Eof condition checksum size tlvs) s t = λ put is. (let a = true-as (Eof condition checksum size tlvs) put t is in
+        (a.1, λ fine. some-pdu (IsEofOf put) (Eof condition checksum size tlvs) s (a.0, fine, a.1)))
     true-of (Finished condition delivery status tlvs) s t = λ put is. (tt, tt)
     true-of (Ack of condition status) s t = λ put is. (tt, tt)
     true-of (Nak start end pairs) s t = λ put is. (tt, tt)
@@ -105,7 +108,8 @@ module _ (put_of : TransactionId → Option Put) (heard : List (List ℕ)) (firs
       policy = policy-step s e.table ∙ k.policy;
     }
 
-    pub sound-put : (source destination : List ℕ) (id : TransactionId) (old new : EntityState) → Accepts source destination id old new → put_of id ≡ Some (next_put source destination old) → IsSound put_of heard first old → IsSound put_of heard first new
+    pub sound-put : (source destination : List ℕ) (id : TransactionId) (old new : EntityState) → Accepts source destination id old new → put_of id ≡ Some (next_put source destination old) →
+        IsSound put_of heard first old → IsSound put_of heard first new
     sound-put source destination id old new a finds k =
         let t : Transfer = next_transfer source destination (length (octets_in old.table.sources source)) old in
         let fresh : place_of (next_id old) old.table.records ≡ None = subst (λ i. place_of i old.table.records ≡ None) a.is_next a.fresh in
@@ -154,20 +158,23 @@ module _ (put_of : TransactionId → Option Put) (heard : List (List ℕ)) (firs
           (λ e at tlvs says. some-pdu by_id old.state.config.peer pdu comes.among h (SaysComplete e.0) v s (key-there h.id old.state.table.records place e is at, (tlvs, says)))
           (step-timed _ place old.state.table k.once.distinct (λ e at. hears-set t.stored old.state.table.policy.times old.state.table.files v e.1) k.timed) k)
 
-      opened : (v : Content) → IsForReceiver v → SpellsSmall h v pdu → place_of h.id old.state.table.records ≡ None → IsOfPut old.state.config.peer put_of h.id v → TakesPdu (if nat_lt (length old.state.table.records) most_records then routes.Opens else routes.Drops drops.TableFull) h v old new → IsSound put_of heard first new.state
+      opened : (v : Content) → IsForReceiver v → SpellsSmall h v pdu → place_of h.id old.state.table.records ≡ None → IsOfPut old.state.config.peer put_of h.id v →
+          TakesPdu (if nat_lt (length old.state.table.records) most_records then routes.Opens else routes.Drops drops.TableFull) h v old new → IsSound put_of heard first new.state
       opened v for_it s none put taken =
           let o : OpensOne (addressing_of h) v old new = taken-if (nat_lt (length old.state.table.records) most_records) drops.TableFull routes.Opens h v old new taken in
           let truth : IsTrueOf put_of heard h.id v = true-of by_id old.state.config.peer pdu comes.among h v s (comes.says h v s) in
           let some : IsSome (put_of h.id) = subst IsSome (sym put.1.1) refl in
           let not_own : h.id.source ≡ old.state.config.entity → ⊥ = λ own. k.config.ids.apart (sym own ∙ put.1.0) in
-          sound-like (with_table old.state (opened_by o.begun o.stored (addressing_of h) v old.state.table)) new.state (ap (λ (e : EntityState). e.config) o.opens) (ap (λ (e : EntityState). e.table) o.opens)
+          sound-like (with_table old.state (opened_by o.begun o.stored (addressing_of h) v old.state.table)) new.state (ap (λ (e : EntityState). e.config) o.opens)
+          (ap (λ (e : EntityState). e.table) o.opens)
           (sound-step old.state (Opens o.begun o.stored (addressing_of h) v) none (not_own, (some, truth)) tt tt
           (push-timed h.id _ old.state.table none (opens-set o.begun o.stored old.state.table.policy.times old.state.table.files v (addressing_of h) for_it) k.timed) k)
 
       by-place : (o : Option ℕ) (v : Content) → SpellsSmall h v pdu → place_of h.id old.state.table.records ≡ o → TakesPdu (route_by o h v old.state) h v old new → IsSound put_of heard first new.state
       by-place (Some place) v s is t = stepped place v s is t
       by-place None (FileData offset bytes) s is t = opened (FileData offset bytes) tt s is (comes.says h (FileData offset bytes) s) t
-      by-place None (Metadata kind size source destination options) s is t = opened (Metadata kind size source destination options) tt s is (comes.says h (Metadata kind size source destination options) s) t
+      by-place None (Metadata kind size source destination options) s is t =
+          opened (Metadata kind size source destination options) tt s is (comes.says h (Metadata kind size source destination options) s) t
       by-place None (Eof condition checksum size tlvs) s is t = opened (Eof condition checksum size tlvs) tt s is (comes.says h (Eof condition checksum size tlvs) s) t
       by-place None (Finished condition delivery status tlvs) s is t =
           let q = taken-if _ drops.TableFull (routes.Queues (record { addressing = addressing_of h; condition = condition })) h (Finished condition delivery status tlvs) old new t in
@@ -177,7 +184,8 @@ module _ (put_of : TransactionId → Option Put) (heard : List (List ℕ)) (firs
       by-place None (Prompt keep_alive) s is t = absurd t
       by-place None (KeepAlive progress) s is t = absurd t
 
-    pub sound-heard : (by_id : FindsById put_of) (pdu : List ℕ) (old new : Counted) → ComesTrue old.state.config.peer put_of heard pdu → HearsOctets pdu old new → IsSound put_of heard first old.state → IsSound put_of heard first new.state
+    pub sound-heard : (by_id : FindsById put_of) (pdu : List ℕ) (old new : Counted) → ComesTrue old.state.config.peer put_of heard pdu → HearsOctets pdu old new →
+        IsSound put_of heard first old.state → IsSound put_of heard first new.state
     sound-heard by_id pdu old new comes x k =
         let h = x.header in
         let v = x.content in
@@ -201,6 +209,7 @@ module _ (put_of : TransactionId → Option Put) (heard : List (List ℕ)) (firs
     dropped-by routes.Opens by v old new t k = sound-like old.state new.state (ap (λ (c : Counted). c.state.config) t.1) (ap (λ (c : Counted). c.state.table) t.1) k
     dropped-by (routes.Queues s) by v old new t k = absurd t
 
-    pub sound-dropped : (o : Option PduError) (pdu : List ℕ) (by : EntityDrop) (old new : Counted) → DropsOctets o pdu by old new → IsSound put_of heard first old.state → IsSound put_of heard first new.state
+    pub sound-dropped : (o : Option PduError) (pdu : List ℕ) (by : EntityDrop) (old new : Counted) → DropsOctets o pdu by old new → IsSound put_of heard first old.state →
+        IsSound put_of heard first new.state
     sound-dropped (Some e) pdu by old new d k = dropped-by (routes.Drops (drops.Pdu e)) by (Prompt true) old new d k
     sound-dropped None pdu by old new d k = dropped-by (route d.header d.content old.state) by d.content old new d.drops k

@@ -88,7 +88,8 @@ of-put own put_of id (KeepAlive progress) p = tt
 -- ---- what an entity says
 pub record Speakers : Type 0 where
   pub unique : (a b x y : List ℕ) (h k : Header) (v w : Content) → SpellsSmall h v a → SpellsSmall k w b → a ++ x ≡ b ++ y → (a ≡ b) × (h ≡ k) × (v ≡ w)
-  pub truthful : (put_of : TransactionId → Option Put) (st : TableState) (place : ℕ) (e : Entry) (v : Content) (put : Put) → SendsTruth put_of st → slice_get st.records place ≡ Some e → due_content st.sources e.1 ≡ Some v → put_of e.0 ≡ Some put → IsTruthful put v
+  pub truthful : (put_of : TransactionId → Option Put) (st : TableState) (place : ℕ) (e : Entry) (v : Content) (put : Put) → SendsTruth put_of st → slice_get st.records place ≡ Some e →
+      due_content st.sources e.1 ≡ Some v → put_of e.0 ≡ Some put → IsTruthful put v
   pub finished : (r : ReceiverState) (o : Outcome) → receiver_due r ≡ Some (due.Finished o) → r.outcome ≡ Some o
 
 module _ (laws : Speakers) (put_of : TransactionId → Option Put) (heard : List (List ℕ)) (first : FileMap) (e : EntityState) (s : IsSound put_of heard first e) where
@@ -111,7 +112,8 @@ module _ (laws : Speakers) (put_of : TransactionId → Option Put) (heard : List
         (of-put e.config.entity put_of id v (p.put, (k.1, p.is_put, truth)), λ tlvs h. absurd (unfinished (octets_in e.table.sources x.source) x (sender_due x) tlvs (is ∙ ap (λ c. Some c) h)))
 
     -- a Finished says what was indicated
-    delivered : (r : ReceiverState) (m : OctetMap) (o : Outcome) → slice_get e.table.records place ≡ Some (id, Receives r m) → receiver_due r ≡ Some (due.Finished o) → SaysDelivered e.config.entity e.table.told id (receiver_says r (due.Finished o))
+    delivered : (r : ReceiverState) (m : OctetMap) (o : Outcome) → slice_get e.table.records place ≡ Some (id, Receives r m) → receiver_due r ≡ Some (due.Finished o) →
+        SaysDelivered e.config.entity e.table.told id (receiver_says r (due.Finished o))
     delivered r m o at is tlvs h =
         let k : KnowsPut e.config.entity put_of heard id r m = s.knows.knows place (id, Receives r m) at in
         let told : Contains e.table.told (finished_told r.addressing.id o) = s.tells.indicated place (id, Receives r m) at o (laws.finished r o is) in
@@ -121,7 +123,8 @@ module _ (laws : Speakers) (put_of : TransactionId → Option Put) (heard : List
         let same : finished_told r.addressing.id o ≡ indication.Finished id no_error Complete Retained = λ i. indication.Finished (k.same_id i) (condition i) (delivery i) (status i) in
         completed e.config.entity id k.not_own e.table.told (subst (Contains e.table.told) same told)
 
-    receiver-says : (r : ReceiverState) (m : OctetMap) (o : Option Due) (v : Content) → slice_get e.table.records place ≡ Some (id, Receives r m) → receiver_due r ≡ o → receiver_content r o ≡ Some v → Says id v
+    receiver-says : (r : ReceiverState) (m : OctetMap) (o : Option Due) (v : Content) → slice_get e.table.records place ≡ Some (id, Receives r m) → receiver_due r ≡ o → receiver_content r o ≡ Some v →
+        Says id v
     receiver-says r m None v at is says = absurd cc
     receiver-says r m (Some (due.AckOfEof condition)) v at is says = let same : receiver_says r (due.AckOfEof condition) ≡ v = cc in subst (Says id) same (tt, λ tlvs h. absurd cc)
     receiver-says r m (Some (due.Nak cursor)) v at is says = let same : receiver_says r (due.Nak cursor) ≡ v = cc in subst (Says id) same (tt, λ tlvs h. absurd cc)
@@ -132,7 +135,8 @@ module _ (laws : Speakers) (put_of : TransactionId → Option Put) (heard : List
     record-says (Sends x) v at is = sender-says x v at is
     record-says (Receives r m) v at is = receiver-says r m (receiver_due r) v at refl is
 
-  entry-says : (place : ℕ) (o : Option Entry) (h : Header) (v : Content) → slice_get e.table.records place ≡ o → SpellsEntry e.table.sources o → SpellsSmall h v (octets_due e.table.sources o) → Says h.id v
+  entry-says : (place : ℕ) (o : Option Entry) (h : Header) (v : Content) → slice_get e.table.records place ≡ o → SpellsEntry e.table.sources o → SpellsSmall h v (octets_due e.table.sources o) →
+      Says h.id v
   entry-says place None h v at spells p = absurd spells
   entry-says place (Some d) h v at spells p =
       let b = said (due_content e.table.sources d.1) (addressing_of d.1) (due_octets e.table.sources d.1) h v spells p in

@@ -65,7 +65,8 @@ nothing-in x h = let low : h.0 < 0 = h.1 in omega (arith, low)
 abbrev mark : Bool → ℕ
 mark b = cond b 1 0
 
-finished-in : (told : List Indication) (q : TransactionId) (condition : ℕ) (delivery : Delivery) (status : FileStatus) → Contains told (indication.Finished q condition delivery status) → 1 ≤ finished_count q told
+finished-in : (told : List Indication) (q : TransactionId) (condition : ℕ) (delivery : Delivery) (status : FileStatus) → Contains told (indication.Finished q condition delivery status) → 1
+    ≤ finished_count q told
 finished-in [] q condition delivery status h = absurd (nothing-in _ h)
 finished-in (i ∷ rest) q condition delivery status (zero, low, is) =
     let here : i ≡ indication.Finished q condition delivery status = is in
@@ -79,7 +80,8 @@ finished-in (i ∷ rest) q condition delivery status (suc k, low, is) =
     omega (arith, there, all)
 
 -- where no other transaction is indicated finished
-of-own : (id q : TransactionId) (told : List Indication) → ((other : TransactionId) → same_id id other ≡ false → finished_count other told ≡ 0) → Contains told (indication.Finished q no_error Complete Retained) → id ≡ q
+of-own : (id q : TransactionId) (told : List Indication) → ((other : TransactionId) → same_id id other ≡ false → finished_count other told ≡ 0) →
+    Contains told (indication.Finished q no_error Complete Retained) → id ≡ q
 of-own id q told only h =
     elim (same_id id q) as (λ b. same_id id q ≡ b → id ≡ q) [
       | true ↦ λ t. same_id-true id q t
@@ -125,8 +127,10 @@ pub record Tellers : Type 0 where
       → (r.outcome ≡ Some o) ⊎ Contains (receiver_step stored input m files r).told (finished_told r.addressing.id o)
   pub opens_outcome : (stored : Stored) (files : FileMap) (addressing : Addressing) (o : Outcome) → (receiver.opens stored files addressing).receiver.outcome ≡ Some o
       → Contains (receiver.opens stored files addressing).told (finished_told addressing.id o)
-  pub opens_own : (stored : Stored) (files : FileMap) (addressing : Addressing) (id : TransactionId) → same_id addressing.id id ≡ false → finished_count id (receiver.opens stored files addressing).told ≡ 0
-  pub delivered : (policy : Policy) (file : List ℕ) (input : SenderInput) (x : SenderState) (id : TransactionId) → Contains (sender_step policy file input x).told (indication.Finished id no_error Complete Retained) → input ≡ inputs.HearsFinished delivered
+  pub opens_own : (stored : Stored) (files : FileMap) (addressing : Addressing) (id : TransactionId) → same_id addressing.id id ≡ false →
+      finished_count id (receiver.opens stored files addressing).told ≡ 0
+  pub delivered : (policy : Policy) (file : List ℕ) (input : SenderInput) (x : SenderState) (id : TransactionId) →
+      Contains (sender_step policy file input x).told (indication.Finished id no_error Complete Retained) → input ≡ inputs.HearsFinished delivered
 
 module _ (own : ℕ) (heard : List (List ℕ)) where
   -- ---- one record
@@ -148,7 +152,8 @@ module _ (own : ℕ) (heard : List (List ℕ)) where
           told = λ q h. subst (λ i. SomePdu (SaysComplete i) heard) (sym same ∙ of-own x.addressing.id q a.told f.own h.1) (heard_it (tellers.delivered policy file input x q h.1));
         }
 
-    by-receiver : (times : Times) (stored : Stored) (input : ReceiverInput) (files : FileMap) (id : TransactionId) (r : ReceiverState) (m : OctetMap) → Belongs own id (Receives r m) → StepTells (Receives r m) (by_receiver times (receiver_step stored input m files r))
+    by-receiver : (times : Times) (stored : Stored) (input : ReceiverInput) (files : FileMap) (id : TransactionId) (r : ReceiverState) (m : OctetMap) → Belongs own id (Receives r m) →
+        StepTells (Receives r m) (by_receiver times (receiver_step stored input m files r))
     by-receiver times stored input files id r m k =
         let a : receiver.ReceiverAfter = receiver_step stored input m files r in
         let same : r.addressing.id ≡ a.receiver.addressing.id = ap (λ (d : Addressing). d.id) (sym (machines.receiver_same stored input m files r)) in
@@ -161,7 +166,8 @@ module _ (own : ℕ) (heard : List (List ℕ)) where
         }
 
     module _ (policy : Policy) (files : FileMap) (id : TransactionId) where
-      sender-hears : (v : Content) → ((tlvs : List Tlv) → v ≡ Finished no_error Complete Retained tlvs → SomePdu (SaysComplete id) heard) → (stored : Stored) (x : SenderState) → x.addressing.id ≡ id → StepTells (Sends x) (hears stored policy.times files v (Sends x))
+      sender-hears : (v : Content) → ((tlvs : List Tlv) → v ≡ Finished no_error Complete Retained tlvs → SomePdu (SaysComplete id) heard) → (stored : Stored) (x : SenderState) → x.addressing.id ≡ id →
+          StepTells (Sends x) (hears stored policy.times files v (Sends x))
       sender-hears (Ack acknowledged.Eof condition status) d stored x k = by-sender policy.times files policy [] (inputs.HearsAck condition) id x tt k (λ h. absurd cc)
       sender-hears (Nak start end pairs) d stored x k = by-sender policy.times files policy [] (inputs.HearsNak pairs) id x tt k (λ h. absurd cc)
       sender-hears (Finished condition delivery status tlvs) d stored x k =
@@ -185,7 +191,8 @@ module _ (own : ℕ) (heard : List (List ℕ)) where
       receiver-hears stored (Nak start end pairs) r m k = rests files (Receives r m)
       receiver-hears stored (KeepAlive progress) r m k = rests files (Receives r m)
 
-      hears-tells : (stored : Stored) (v : Content) (s : Seen) → ((tlvs : List Tlv) → v ≡ Finished no_error Complete Retained tlvs → SomePdu (SaysComplete id) heard) → Belongs own id s → StepTells s (hears stored policy.times files v s)
+      hears-tells : (stored : Stored) (v : Content) (s : Seen) → ((tlvs : List Tlv) → v ≡ Finished no_error Complete Retained tlvs → SomePdu (SaysComplete id) heard) → Belongs own id s →
+          StepTells s (hears stored policy.times files v s)
       hears-tells stored v (Sends x) d k = sender-hears v d stored x k
       hears-tells stored v (Receives r m) d k = receiver-hears stored v r m k
 
@@ -203,7 +210,8 @@ module _ (own : ℕ) (heard : List (List ℕ)) where
       calls-tells call.Resume (Receives r m) k = by-receiver policy.times Done machine.Resumes files id r m k
       calls-tells (call.Prompt keep_alive) (Receives r m) k = rests files (Receives r m)
 
-      sender-takes : (stored : Stored) (file : List ℕ) (x : SenderState) (due : Option SenderDue) → sender_due x ≡ due → x.addressing.id ≡ id → StepTells (Sends x) (sender_takes stored policy.times files file x due)
+      sender-takes : (stored : Stored) (file : List ℕ) (x : SenderState) (due : Option SenderDue) → sender_due x ≡ due → x.addressing.id ≡ id →
+          StepTells (Sends x) (sender_takes stored policy.times files file x due)
       sender-takes stored file x (Some d) is k = by-sender policy.times files policy file (inputs.Sends stored d) id x is k (λ h. absurd cc)
       sender-takes stored file x None is k = rests files (Sends x)
 
@@ -240,7 +248,8 @@ module _ (own : ℕ) (heard : List (List ℕ)) where
     module _ (policy : Policy) (files : FileMap) (a : Addressing) (not_own : a.id.source ≡ own → ⊥) (v : Content) where
       begins-tells : (begun stored : Stored) → OpensTelling (begins begun stored policy.times files v a)
       begins-tells Done stored =
-          let s : StepTells (Receives (opened_receiver a) map.empty) (begins Done stored policy.times files v a) = receiver-hears policy files a.id stored v (opened_receiver a) map.empty (refl, not_own) in
+          let s : StepTells (Receives (opened_receiver a) map.empty) (begins Done stored policy.times files v a) =
+          receiver-hears policy files a.id stored v (opened_receiver a) map.empty (refl, not_own) in
           record { indicated = λ told. s.indicated told (fresh told (opened_receiver a) map.empty refl); told = s.told }
       begins-tells Refused stored = record {
         indicated = λ told o is. Contains-append_right told (receiver.opens Refused files a).told (finished_told a.id o) (tellers.opens_outcome Refused files a o is);
@@ -255,23 +264,27 @@ module _ (own : ℕ) (heard : List (List ℕ)) where
       opens-tells None begun stored = begins-tells begun stored
 
     -- ---- the table
-    told-next : (st : TableState) (more : List Indication) → TellsNoMore own heard st → ((q : TransactionId) → IsToldComplete own more q → SomePdu (SaysComplete q) heard) → (q : TransactionId) → IsToldComplete own (st.told ++ more) q → SomePdu (SaysComplete q) heard
+    told-next : (st : TableState) (more : List Indication) → TellsNoMore own heard st → ((q : TransactionId) → IsToldComplete own more q → SomePdu (SaysComplete q) heard) → (q : TransactionId) →
+        IsToldComplete own (st.told ++ more) q → SomePdu (SaysComplete q) heard
     told-next st more t says q h =
         elim (Contains-append_cases st.told more (indication.Finished q no_error Complete Retained) h.1) [
           | inl before ↦ t.told q (h.0, before)
           | inr now ↦ says q (h.0, now)
         ]
 
-    tells-of : (f : Entry → After) (place : ℕ) (st : TableState) (o : Option Entry) → slice_get st.records place ≡ o → ((e : Entry) → slice_get st.records place ≡ Some e → StepTells e.1 (f e)) → TellsNoMore own heard st → TellsNoMore own heard (step_of f place o st)
+    tells-of : (f : Entry → After) (place : ℕ) (st : TableState) (o : Option Entry) → slice_get st.records place ≡ o → ((e : Entry) → slice_get st.records place ≡ Some e → StepTells e.1 (f e)) →
+        TellsNoMore own heard st → TellsNoMore own heard (step_of f place o st)
     tells-of f place st None at goes t = t
     tells-of f place st (Some e) at goes t =
         let s : StepTells e.1 (f e) = goes e at in
         record {
-          indicated = holds-set (λ d. WasIndicated (st.told ++ (f e).told) d.1) st.records place e (f e).seen at (s.indicated st.told (t.indicated place e at)) (λ p d h. was-more st.told (f e).told d.1 (t.indicated p d h));
+          indicated = holds-set (λ d. WasIndicated (st.told ++ (f e).told) d.1) st.records place e (f e).seen at (s.indicated st.told (t.indicated place e at))
+              (λ p d h. was-more st.told (f e).told d.1 (t.indicated p d h));
           told = told-next st (f e).told t s.told;
         }
 
-    tells-at : (f : Entry → After) (place : ℕ) (st : TableState) → ((e : Entry) → slice_get st.records place ≡ Some e → StepTells e.1 (f e)) → TellsNoMore own heard st → TellsNoMore own heard (step_at f place st)
+    tells-at : (f : Entry → After) (place : ℕ) (st : TableState) → ((e : Entry) → slice_get st.records place ≡ Some e → StepTells e.1 (f e)) → TellsNoMore own heard st →
+        TellsNoMore own heard (step_at f place st)
     tells-at f place st goes t = tells-of f place st (slice_get st.records place) refl goes t
 
     tells-push : (id : TransactionId) (a : After) (st : TableState) → OpensTelling a → TellsNoMore own heard st → TellsNoMore own heard (with_record id a st)
@@ -280,7 +293,8 @@ module _ (own : ℕ) (heard : List (List ℕ)) where
       told = told-next st a.told t s.told;
     }
 
-    tells-spoiled : (place : ℕ) (v : Content) (noted : Seen) (st : TableState) → ((e : Entry) → slice_get st.records place ≡ Some e → steps.Spoils v e.1 noted) → TellsNoMore own heard st → TellsNoMore own heard (record st { records = set_value_at st.records place noted })
+    tells-spoiled : (place : ℕ) (v : Content) (noted : Seen) (st : TableState) → ((e : Entry) → slice_get st.records place ≡ Some e → steps.Spoils v e.1 noted) → TellsNoMore own heard st →
+        TellsNoMore own heard (record st { records = set_value_at st.records place noted })
     tells-spoiled place v noted st may t = record { indicated = by (slice_get st.records place) refl; told = t.told }
       where
         by : (o : Option Entry) → slice_get st.records place ≡ o → (p : ℕ) (d : Entry) → slice_get (set_value_at st.records place noted) p ≡ Some d → WasIndicated st.told d.1
@@ -288,7 +302,8 @@ module _ (own : ℕ) (heard : List (List ℕ)) where
         by (Some e) at = holds-set (λ d. WasIndicated st.told d.1) st.records place e noted at (spoiled st.policy st.files e.0 st.told v e.1 noted (may e at) (t.indicated place e at)) t.indicated
 
     module _ (put_of : TransactionId → Option Put) (first : FileMap)
-        (keeps : (s : TableStep) (st : TableState) → MayHappen s st → TellsTruth own put_of heard s st → IsTrueTable own put_of heard first st → IsTrueTable own put_of heard first (table_step s st)) where
+        (keeps : (s : TableStep) (st : TableState) → MayHappen s st → TellsTruth own put_of heard s st → IsTrueTable own put_of heard first st →
+        IsTrueTable own put_of heard first (table_step s st)) where
       mine : (st : TableState) (place : ℕ) (e : Entry) → IsTrueTable own put_of heard first st → slice_get st.records place ≡ Some e → Belongs own e.0 e.1
       mine st place e k at = belongs own put_of heard e.0 e.1 (k.knows place e at)
 
@@ -307,15 +322,19 @@ module _ (own : ℕ) (heard : List (List ℕ)) where
           by None = (k, t)
           by (Some place) = (keeps (Expires place timer.1) st tt tt k, tells-expired place timer.1 st k t)
 
-      pub tells-step : (s : TableStep) (st : TableState) → MayHappen s st → TellsTruth own put_of heard s st → HearsDelivered heard s st → IsTrueTable own put_of heard first st → TellsNoMore own heard st → TellsNoMore own heard (table_step s st)
-      tells-step (Hears stored place v) st may tells d k t = tells-at (λ e. hears stored st.policy.times st.files v e.1) place st (λ e at. hears-tells st.policy st.files e.0 stored v e.1 (d e at) (mine st place e k at)) t
+      pub tells-step : (s : TableStep) (st : TableState) → MayHappen s st → TellsTruth own put_of heard s st → HearsDelivered heard s st → IsTrueTable own put_of heard first st →
+          TellsNoMore own heard st → TellsNoMore own heard (table_step s st)
+      tells-step (Hears stored place v) st may tells d k t = tells-at (λ e. hears stored st.policy.times st.files v e.1) place st
+          (λ e at. hears-tells st.policy st.files e.0 stored v e.1 (d e at) (mine st place e k at)) t
       tells-step (Spoils place v noted) st may tells d k t = tells-spoiled place v noted st may t
       tells-step (Expires place kind) st may tells d k t = tells-expired place kind st k t
       tells-step (Calls place c) st may tells d k t = tells-at (λ e. calls st.policy.times st.files c e.1) place st (λ e at. calls-tells st.policy st.files e.0 c e.1 (mine st place e k at)) t
-      tells-step (Takes stored place) st may tells d k t = tells-at (λ e. takes stored st.policy.times st.sources st.files e.1) place st (λ e at. takes-tells st.policy st.files e.0 stored st.sources e.1 (mine st place e k at)) t
+      tells-step (Takes stored place) st may tells d k t = tells-at (λ e. takes stored st.policy.times st.sources st.files e.1) place st
+          (λ e at. takes-tells st.policy st.files e.0 stored st.sources e.1 (mine st place e k at)) t
       tells-step (Puts transfer) st may tells d k t =
           tells-push transfer.addressing.id (puts st.files transfer) st (record { indicated = λ told. tt; told = λ q h. absurd (puts-tells st.files transfer.addressing.id q h) }) t
-      tells-step (Opens begun stored a v) st may tells d k t = tells-push a.id (opens begun stored st.policy.times st.files v a) st (opens-tells st.policy st.files a tells.0 v (closing v) begun stored) t
+      tells-step (Opens begun stored a v) st may tells d k t = tells-push a.id (opens begun stored st.policy.times st.files v a) st
+          (opens-tells st.policy st.files a tells.0 v (closing v) begun stored) t
       tells-step (Tells now) st may tells d k t = record { indicated = t.indicated; told = t.told }
       tells-step (Fires timers) st may tells d k t = tells-fired timers st k t
 

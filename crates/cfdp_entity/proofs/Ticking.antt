@@ -13,7 +13,8 @@ use Rattle.cfdp_entity.specs.Storing.{AsksByTimer, AsksToFire}
 use Rattle.cfdp_entity.specs.Table.{TableState, at_time, expired, all_expired}
 use Rattle.cfdp_entity.specs.Whole.{Staged, state_of}
 
-pub state-fired : {X E : Type 0} (r : Result X E) (staged : Staged) (files sources : FileMap) (policy : Policy) (es : List (TransactionId × Record)) (timers timers_now : TimersState) (told : List Indication) (now : ℕ)
+pub state-fired : {X E : Type 0} (r : Result X E) (staged : Staged) (files sources : FileMap) (policy : Policy) (es : List (TransactionId × Record)) (timers timers_now : TimersState)
+    (told : List Indication) (now : ℕ)
     → OnOk r (timers_now.time ≡ max timers.time now) → OnOk r (timers_now.armed ≡ still_armed timers_now.time timers.armed)
     → (old : TableState) → state_of staged files sources policy es timers told ≡ old → OnOk r (state_of staged files sources policy es timers_now told ≡ at_time now old)
 state-fired (Ok x) staged files sources policy es timers timers_now told now time left old is =
@@ -26,7 +27,8 @@ pub count-fired : {X E : Type 0} (r : Result X E) (f : X → List Timer) (armed 
 count-fired (Ok x) f armed armed_now now time at is count same time_now same_time = count ∙ (λ i. due_count (same i) ((is ∙ ap (λ t. max t now) same_time) i))
 count-fired (Err e) f armed armed_now now time at is count same time_now same_time = tt
 
-pub one_more : (fired : List Timer) (i : ℕ) (d : Timer) (mid now : TableState) → i < length fired → now ≡ expired (get_or fired i d) mid → all_expired (drop (i + 1) fired) now ≡ all_expired (drop i fired) mid
+pub one_more : (fired : List Timer) (i : ℕ) (d : Timer) (mid now : TableState) → i < length fired → now ≡ expired (get_or fired i d) mid → all_expired (drop (i + 1) fired) now
+    ≡ all_expired (drop i fired) mid
 unfolding all_expired
 one_more fired i d mid now low is = rw (add-one, drop-cons fired i d low) (ap (all_expired (drop (suc i) fired)) is)
 

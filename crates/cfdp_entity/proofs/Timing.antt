@@ -240,7 +240,8 @@ set-own now id a armed k s =
 -- One record is another now, the others stay: those that stay may be open still, and so may this one
 -- where its timers weren't set.
 module _ (Open Later : TransactionId → Type 0) (st new : TableState) (id : TransactionId) (a : After)
-    (own : record_of id new.records ≡ Some a.seen) (others : (q : TransactionId) → same_id q id ≡ false → record_of q new.records ≡ record_of q st.records) (armed : new.armed ≡ with_waits st.now id a.waits st.armed)
+    (own : record_of id new.records ≡ Some a.seen) (others : (q : TransactionId) → same_id q id ≡ false → record_of q new.records ≡ record_of q st.records)
+    (armed : new.armed ≡ with_waits st.now id a.waits st.armed)
     (sets : Sets (record_of id st.records) a) (later : (q : TransactionId) → (same_id q id ≡ false) ⊎ (SetsAll a → ⊥) → Open q → Later q) where
   is-set : (k : Kind) → SetsAll a → is_armed id k new ≡ waits_seen k a.seen
   is-set k s = ap (λ m. is_some (map.get m (id, k))) armed ∙ set-own st.now id a st.armed k s
@@ -300,7 +301,8 @@ module _ (Open Later : TransactionId → Type 0) (st : TableState) (apart : IsDi
       (subst (λ o. Sets o a) (sym (at-own st.records place e apart at)) sets) later
 
 -- any step at a place that sets timers so
-pub step-timed : (f : Entry → After) (place : ℕ) (st : TableState) → IsDistinct same_id (keys_of st.records) → ((e : Entry) → slice_get st.records place ≡ Some e → Sets (Some e.1) (f e)) → AreTimed st → AreTimed (step_at f place st)
+pub step-timed : (f : Entry → After) (place : ℕ) (st : TableState) → IsDistinct same_id (keys_of st.records) → ((e : Entry) → slice_get st.records place ≡ Some e → Sets (Some e.1) (f e)) →
+    AreTimed st → AreTimed (step_at f place st)
 step-timed f place st apart sets t = by (slice_get st.records place) refl
   where
     by : (o : Option Entry) → slice_get st.records place ≡ o → AreTimed (step_of f place o st)
@@ -450,7 +452,8 @@ spoils-waits (FileData offset bytes) (Sends x) t k h = ap (waits_seen k) h
 spoils-waits (Eof condition checksum size tlvs) (Sends x) t k h = ap (waits_seen k) h
 spoils-waits (Prompt keep_alive) (Sends x) t k h = ap (waits_seen k) h
 
-pub spoiled-timed : (place : ℕ) (v : Content) (noted : Seen) (st : TableState) → IsDistinct same_id (keys_of st.records) → MayHappen (history.Spoils place v noted) st → AreTimed st → AreTimed (table_step (history.Spoils place v noted) st)
+pub spoiled-timed : (place : ℕ) (v : Content) (noted : Seen) (st : TableState) → IsDistinct same_id (keys_of st.records) → MayHappen (history.Spoils place v noted) st → AreTimed st →
+    AreTimed (table_step (history.Spoils place v noted) st)
 spoiled-timed place v noted st apart may t = by (slice_get st.records place) refl
   where
     by : (o : Option Entry) → slice_get st.records place ≡ o → AreTimed (table_step (history.Spoils place v noted) st)

@@ -60,9 +60,11 @@ use Rattle.cfdp_entity.proofs.Sparing.{spoils-receives}
 pub record TrueReceiver : Type 0 where
   pub stays : (put : Put) (heard : List (List ℕ)) (stored : Stored) (input : ReceiverInput) (m : OctetMap) (files : FileMap) (r : ReceiverState) → IsTrueInput put heard input → Sound put heard r m
       → Sound put heard (receiver_step stored input m files r).receiver (receiver_step stored input m files r).octets
-  pub opened : (put : Put) (heard : List (List ℕ)) (stored : Stored) (files : FileMap) (addressing : Addressing) → Sound put heard (receiver.opens stored files addressing).receiver (receiver.opens stored files addressing).octets
+  pub opened : (put : Put) (heard : List (List ℕ)) (stored : Stored) (files : FileMap) (addressing : Addressing) →
+      Sound put heard (receiver.opens stored files addressing).receiver (receiver.opens stored files addressing).octets
   pub closed : (put : Put) (heard : List (List ℕ)) (condition : ℕ) (addressing : Addressing) (m : OctetMap) → Sound put heard (receiver.opened_closed condition addressing) m
-  pub staged : (put : Put) (heard : List (List ℕ)) (r : ReceiverState) (m n : OctetMap) → (r.phase ≡ Receiving → (k : ℕ) → set.contains r.held k ≡ true → map.get n k ≡ map.get m k) → Sound put heard r m → Sound put heard r n
+  pub staged : (put : Put) (heard : List (List ℕ)) (r : ReceiverState) (m n : OctetMap) → (r.phase ≡ Receiving → (k : ℕ) → set.contains r.held k ≡ true → map.get n k ≡ map.get m k) →
+      Sound put heard r m → Sound put heard r n
   pub publishes : (put : Put) (heard : List (List ℕ)) (stored : Stored) (input : ReceiverInput) (m : OctetMap) (files : FileMap) (r : ReceiverState) → IsTrueInput put heard input → Sound put heard r m
       → PublishesNone files (receiver_step stored input m files r) ⊎ PublishesPut put heard r.addressing.id files (receiver_step stored input m files r)
   pub opens_none : (stored : Stored) (files : FileMap) (addressing : Addressing) → PublishesNone files (receiver.opens stored files addressing)
@@ -97,7 +99,8 @@ module _ (own : ℕ) (id : TransactionId) (is_own : id.source ≡ own) where
   mine (indication.Finished of condition delivery status) only =
       elim (same_id id of) as (λ b. same_id id of ≡ b → completion own (indication.Finished of condition delivery status) ≡ []) [
         | true ↦ λ t. own-finished own of condition delivery status (ap (λ (k : TransactionId). k.source) (sym (same_id-true id of t)) ∙ is_own)
-        | false ↦ λ t. (let n = only of t in let s = finished-last of [] (indication.Finished of condition delivery status) in let one : mark (same_id of of) ≡ mark true = ap mark (same_id-itself of of refl) in absurd (omega (arith, n, s, one)))
+        | false ↦ λ t. (let n = only of t in let s = finished-last of [] (indication.Finished of condition delivery status) in let one : mark (same_id of of) ≡ mark true =
+            ap mark (same_id-itself of of refl) in absurd (omega (arith, n, s, one)))
       ] refl
   mine (indication.Transaction of) only = refl
   mine (indication.EofSent of) only = refl
@@ -134,7 +137,8 @@ module _ (own : ℕ) (put_of : TransactionId → Option Put) (heard : List (List
   rests files id s knows = quiet files id (no_step files s) knows refl refl
 
   module _ (machines : Machines) (laws : TrueReceiver) where
-    true-sender : (times : Times) (files : FileMap) (policy : Policy) (file : List ℕ) (input : SenderInput) (id : TransactionId) (x : SenderState) → inputs.MayHappen input x → KnowsTruth own put_of heard id (Sends x)
+    true-sender : (times : Times) (files : FileMap) (policy : Policy) (file : List ℕ) (input : SenderInput) (id : TransactionId) (x : SenderState) → inputs.MayHappen input x →
+        KnowsTruth own put_of heard id (Sends x)
         → StepsTrue files id (by_sender times files (sender_step policy file input x))
     true-sender times files policy file input id x may k =
         let a : SenderAfter = sender_step policy file input x in
@@ -147,7 +151,8 @@ module _ (own : ℕ) (put_of : TransactionId → Option Put) (heard : List (List
     seen-sound : (put : Put) (r : ReceiverState) (m : OctetMap) → Sound put heard r m → Sound put heard r (octets_seen r m)
     seen-sound put r m s = laws.staged put heard r m (octets_seen r m) (λ is k h. ap (λ p. map.get (if is_receiving p then m else map.empty) k) is) s
 
-    true-receiver : (times : Times) (stored : Stored) (input : ReceiverInput) (files : FileMap) (id : TransactionId) (r : ReceiverState) (m : OctetMap) (k : KnowsPut own put_of heard id r m) → IsTrueInput k.put heard input
+    true-receiver : (times : Times) (stored : Stored) (input : ReceiverInput) (files : FileMap) (id : TransactionId) (r : ReceiverState) (m : OctetMap) (k : KnowsPut own put_of heard id r m) →
+        IsTrueInput k.put heard input
         → StepsTrue files id (by_receiver times (receiver_step stored input m files r))
     true-receiver times stored input files id r m k truth =
         let a : receiver.ReceiverAfter = receiver_step stored input m files r in
@@ -163,7 +168,8 @@ module _ (own : ℕ) (put_of : TransactionId → Option Put) (heard : List (List
           | inr p ↦ published knows p
         ]
       where
-        published : KnowsTruth own put_of heard id (by_receiver times (receiver_step stored input m files r)).seen → PublishesPut k.put heard r.addressing.id files (receiver_step stored input m files r)
+        published : KnowsTruth own put_of heard id (by_receiver times (receiver_step stored input m files r)).seen →
+            PublishesPut k.put heard r.addressing.id files (receiver_step stored input m files r)
             → StepsTrue files id (by_receiver times (receiver_step stored input m files r))
         published knows p =
             let own_put : put_of r.addressing.id ≡ Some k.put = ap put_of k.same_id ∙ k.is_put in
@@ -179,17 +185,20 @@ module _ (own : ℕ) (put_of : TransactionId → Option Put) (heard : List (List
       hears-true : (stored : Stored) (v : Content) (s : Seen) → IsTrueOf put_of heard id v → KnowsTruth own put_of heard id s → StepsTrue files id (hears stored policy.times files v s)
       hears-true stored (Ack acknowledged.Eof condition status) (Sends x) t k = true-sender policy.times files policy [] (inputs.HearsAck condition) id x tt k
       hears-true stored (Nak start end pairs) (Sends x) t k = true-sender policy.times files policy [] (inputs.HearsNak pairs) id x tt k
-      hears-true stored (Finished condition delivery status tlvs) (Sends x) t k = true-sender policy.times files policy [] (inputs.HearsFinished (record { condition = condition; delivery = delivery; status = status })) id x tt k
+      hears-true stored (Finished condition delivery status tlvs) (Sends x) t k =
+          true-sender policy.times files policy [] (inputs.HearsFinished (record { condition = condition; delivery = delivery; status = status })) id x tt k
       hears-true stored (KeepAlive progress) (Sends x) t k = true-sender policy.times files policy [] (inputs.HearsKeepAlive progress) id x tt k
       hears-true stored (Ack acknowledged.Finished condition status) (Sends x) t k = rests files id (Sends x) k
       hears-true stored (Metadata kind size source destination options) (Sends x) t k = rests files id (Sends x) k
       hears-true stored (FileData offset bytes) (Sends x) t k = rests files id (Sends x) k
       hears-true stored (Eof condition checksum size tlvs) (Sends x) t k = rests files id (Sends x) k
       hears-true stored (Prompt keep_alive) (Sends x) t k = rests files id (Sends x) k
-      hears-true stored (Metadata kind size source destination options) (Receives r m) t k = true-receiver policy.times stored (machine.Hears (Metadata kind size source destination options)) files id r m k (t k.put k.is_put)
+      hears-true stored (Metadata kind size source destination options) (Receives r m) t k =
+          true-receiver policy.times stored (machine.Hears (Metadata kind size source destination options)) files id r m k (t k.put k.is_put)
       hears-true stored (FileData offset bytes) (Receives r m) t k = true-receiver policy.times stored (machine.Hears (FileData offset bytes)) files id r m k (t k.put k.is_put)
       hears-true stored (Eof condition checksum size tlvs) (Receives r m) t k = true-receiver policy.times stored (machine.Hears (Eof condition checksum size tlvs)) files id r m k (t k.put k.is_put)
-      hears-true stored (Ack acknowledged.Finished condition status) (Receives r m) t k = true-receiver policy.times stored (machine.Hears (Ack acknowledged.Finished condition status)) files id r m k (t k.put k.is_put)
+      hears-true stored (Ack acknowledged.Finished condition status) (Receives r m) t k =
+          true-receiver policy.times stored (machine.Hears (Ack acknowledged.Finished condition status)) files id r m k (t k.put k.is_put)
       hears-true stored (Prompt keep_alive) (Receives r m) t k = true-receiver policy.times stored (machine.Hears (Prompt keep_alive)) files id r m k (t k.put k.is_put)
       hears-true stored (Ack acknowledged.Eof condition status) (Receives r m) t k = rests files id (Receives r m) k
       hears-true stored (Finished condition delivery status tlvs) (Receives r m) t k = rests files id (Receives r m) k
@@ -210,7 +219,8 @@ module _ (own : ℕ) (put_of : TransactionId → Option Put) (heard : List (List
       calls-true call.Resume (Receives r m) k = true-receiver policy.times Done machine.Resumes files id r m k tt
       calls-true (call.Prompt keep_alive) (Receives r m) k = rests files id (Receives r m) k
 
-      sender-takes : (stored : Stored) (file : List ℕ) (x : SenderState) (due : Option SenderDue) → sender_due x ≡ due → KnowsTruth own put_of heard id (Sends x) → StepsTrue files id (sender_takes stored policy.times files file x due)
+      sender-takes : (stored : Stored) (file : List ℕ) (x : SenderState) (due : Option SenderDue) → sender_due x ≡ due → KnowsTruth own put_of heard id (Sends x) →
+          StepsTrue files id (sender_takes stored policy.times files file x due)
       sender-takes stored file x (Some d) is k = true-sender policy.times files policy file (inputs.Sends stored d) id x is k
       sender-takes stored file x None is k = rests files id (Sends x) k
 
@@ -226,7 +236,14 @@ module _ (own : ℕ) (put_of : TransactionId → Option Put) (heard : List (List
       spoiled : (v : Content) (s t : Seen) → steps.Spoils v s t → KnowsTruth own put_of heard id s → KnowsTruth own put_of heard id t
       spoiled v (Receives r m) t h k =
           let w = spoils-receives v r m t h in
-          subst (KnowsTruth own put_of heard id) (sym w.1.0) (record { put = k.put; is_put = k.is_put; same_id = k.same_id; not_own = k.not_own; sound = laws.staged k.put heard r m w.0 (λ is n there. w.1.1 n there) k.sound })
+          subst (KnowsTruth own put_of heard id) (sym w.1.0) (record {
+            put = k.put;
+            is_put = k.is_put;
+            same_id = k.same_id;
+            not_own = k.not_own;
+            sound =
+                laws.staged k.put heard r m w.0 (λ is n there. w.1.1 n there) k.sound;
+          })
       spoiled (Nak start end pairs) (Sends x) t h k = subst (KnowsTruth own put_of heard id) (sym h.1) ((true-sender policy.times files policy [] (inputs.HearsNak (take h.0 pairs)) id x tt k).knows)
       spoiled (Ack of condition status) (Sends x) t h k = subst (KnowsTruth own put_of heard id) (sym h) k
       spoiled (Finished condition delivery status tlvs) (Sends x) t h k = subst (KnowsTruth own put_of heard id) (sym h) k
@@ -237,17 +254,20 @@ module _ (own : ℕ) (put_of : TransactionId → Option Put) (heard : List (List
       spoiled (Prompt keep_alive) (Sends x) t h k = subst (KnowsTruth own put_of heard id) (sym h) k
 
     -- ---- a record that is opened
-    module _ (policy : Policy) (files : FileMap) (a : Addressing) (not_own : a.id.source ≡ own → ⊥) (put : Put) (is_put : put_of a.id ≡ Some put) (v : Content) (truth : IsTrueOf put_of heard a.id v) where
+    module _ (policy : Policy) (files : FileMap) (a : Addressing) (not_own : a.id.source ≡ own → ⊥) (put : Put) (is_put : put_of a.id ≡ Some put) (v : Content)
+        (truth : IsTrueOf put_of heard a.id v) where
       known : (r : ReceiverState) (m : OctetMap) → r.addressing.id ≡ a.id → Sound put heard r m → KnowsPut own put_of heard a.id r m
       known r m same s = record { put = put; is_put = is_put; same_id = same; not_own = not_own; sound = s }
 
       begins-true : (begun stored : Stored) → StepsTrue files a.id (begins begun stored policy.times files v a)
       begins-true Done stored = hears-true policy files a.id stored v (Receives (opened_receiver a) map.empty) truth (known (opened_receiver a) map.empty refl (laws.opened put heard Done files a))
       begins-true Refused stored =
-          quiet files a.id (begins Refused stored policy.times files v a) (known (receiver.opens Refused files a).receiver map.empty refl (laws.opened put heard Refused files a)) refl ((laws.opens_none Refused files a).no_completion own)
+          quiet files a.id (begins Refused stored policy.times files v a) (known (receiver.opens Refused files a).receiver map.empty refl (laws.opened put heard Refused files a)) refl
+          ((laws.opens_none Refused files a).no_completion own)
 
       opens-true : (o : Option ℕ) (begun stored : Stored) → StepsTrue files a.id (opens_by o begun stored policy.times files v a)
-      opens-true (Some condition) begun stored = rests files a.id (Receives (receiver.opened_closed condition a) map.empty) (known (receiver.opened_closed condition a) map.empty refl (laws.closed put heard condition a map.empty))
+      opens-true (Some condition) begun stored = rests files a.id (Receives (receiver.opened_closed condition a) map.empty)
+          (known (receiver.opened_closed condition a) map.empty refl (laws.closed put heard condition a map.empty))
       opens-true None begun stored = begins-true begun stored
 
     -- ---- the table
@@ -271,19 +291,22 @@ module _ (own : ℕ) (put_of : TransactionId → Option Put) (heard : List (List
     holds-push (x ∷ xs) id s is all (suc p) d h = holds-push xs id s is (λ q f g. all (suc q) f g) p d h
 
     module _ (first : FileMap) where
-      inbox-next : (id : TransactionId) (st : TableState) (a : After) → IsTrueTable own put_of heard first st → StepsTrue st.files id a → a.files ≡ inbox_after put_of first (completions own (st.told ++ a.told))
+      inbox-next : (id : TransactionId) (st : TableState) (a : After) → IsTrueTable own put_of heard first st → StepsTrue st.files id a → a.files
+          ≡ inbox_after put_of first (completions own (st.told ++ a.told))
       inbox-next id st a t s =
           s.inbox ∙ ap (λ files. inbox_after put_of files (completions own a.told)) t.inbox
           ∙ sym (ap (inbox_after put_of first) (completions-append own st.told a.told) ∙ inbox_after-append put_of first (completions own st.told) (completions own a.told))
 
-      caused-next : (id : TransactionId) (st : TableState) (a : After) → IsTrueTable own put_of heard first st → StepsTrue st.files id a → (q : TransactionId) → Contains (completions own (st.told ++ a.told)) q → (put : Put) × ((put_of q ≡ Some put) × HeardInFull put heard)
+      caused-next : (id : TransactionId) (st : TableState) (a : After) → IsTrueTable own put_of heard first st → StepsTrue st.files id a → (q : TransactionId) →
+          Contains (completions own (st.told ++ a.told)) q → (put : Put) × ((put_of q ≡ Some put) × HeardInFull put heard)
       caused-next id st a t s q h =
           elim (Contains-append_cases (completions own st.told) (completions own a.told) q (subst (λ l. Contains l q) (completions-append own st.told a.told) h)) [
             | inl o ↦ t.caused q o
             | inr n ↦ s.caused q n
           ]
 
-      true-of : (f : Entry → After) (place : ℕ) (st : TableState) (o : Option Entry) → slice_get st.records place ≡ o → ((e : Entry) → slice_get st.records place ≡ Some e → KnowsTruth own put_of heard e.0 e.1 → StepsTrue st.files e.0 (f e))
+      true-of : (f : Entry → After) (place : ℕ) (st : TableState) (o : Option Entry) → slice_get st.records place ≡ o →
+          ((e : Entry) → slice_get st.records place ≡ Some e → KnowsTruth own put_of heard e.0 e.1 → StepsTrue st.files e.0 (f e))
           → IsTrueTable own put_of heard first st → IsTrueTable own put_of heard first (step_of f place o st)
       true-of f place st None at goes t = t
       true-of f place st (Some e) at goes t =
@@ -326,12 +349,14 @@ module _ (own : ℕ) (put_of : TransactionId → Option Put) (heard : List (List
       some-put (Some put) h = (put, refl)
       some-put None h = absurd cc
 
-      pub true-step : (s : TableStep) (st : TableState) → MayHappen s st → TellsTruth own put_of heard s st → IsTrueTable own put_of heard first st → IsTrueTable own put_of heard first (table_step s st)
+      pub true-step : (s : TableStep) (st : TableState) → MayHappen s st → TellsTruth own put_of heard s st → IsTrueTable own put_of heard first st →
+          IsTrueTable own put_of heard first (table_step s st)
       true-step (Hears stored place v) st may tells t = true-at (λ e. hears stored st.policy.times st.files v e.1) place st (λ e at k. hears-true st.policy st.files e.0 stored v e.1 (tells e at) k) t
       true-step (Spoils place v noted) st may tells t = true-spoiled place v noted st may t
       true-step (Expires place kind) st may tells t = true-at (λ e. expires st.policy st.files kind e.1) place st (λ e at k. expires-true st.policy st.files e.0 kind e.1 k) t
       true-step (Calls place c) st may tells t = true-at (λ e. calls st.policy.times st.files c e.1) place st (λ e at k. calls-true st.policy st.files e.0 c e.1 k) t
-      true-step (Takes stored place) st may tells t = true-at (λ e. takes stored st.policy.times st.sources st.files e.1) place st (λ e at k. takes-true st.policy st.files e.0 stored st.sources e.1 k) t
+      true-step (Takes stored place) st may tells t = true-at (λ e. takes stored st.policy.times st.sources st.files e.1) place st
+          (λ e at k. takes-true st.policy st.files e.0 stored st.sources e.1 k) t
       true-step (Puts transfer) st may tells t = true-push transfer.addressing.id (puts st.files transfer) st (quiet st.files transfer.addressing.id (puts st.files transfer) (refl, tells) refl refl) t
       true-step (Opens begun stored a v) st may tells t =
           let put = some-put (put_of a.id) tells.1.0 in
@@ -343,7 +368,8 @@ module _ (own : ℕ) (put_of : TransactionId → Option Put) (heard : List (List
 nowhere : (p : ℕ) (e : Entry) → slice_get [] p ≡ Some e → ⊥
 nowhere p e h = cc
 
-pub true-first : (own : ℕ) (put_of : TransactionId → Option Put) (heard : List (List ℕ)) (first : FileMap) (st : TableState) → st.records ≡ [] → st.told ≡ [] → st.files ≡ first → IsTrueTable own put_of heard first st
+pub true-first : (own : ℕ) (put_of : TransactionId → Option Put) (heard : List (List ℕ)) (first : FileMap) (st : TableState) → st.records ≡ [] → st.told ≡ [] → st.files ≡ first →
+    IsTrueTable own put_of heard first st
 true-first own put_of heard first st none nothing same = record {
   knows = λ p e h. absurd (nowhere p e (ap (λ (l : List Entry). slice_get l p) (sym none) ∙ h));
   inbox = same ∙ sym (ap (λ l. inbox_after put_of first (completions own l)) nothing);
@@ -351,7 +377,8 @@ true-first own put_of heard first st none nothing same = record {
 }
 
 -- the folds of two maps agree on ids of which they find the same puts
-after-same : (p q : TransactionId → Option Put) (first : FileMap) (ids : List TransactionId) → ((id : TransactionId) → Contains ids id → p id ≡ q id) → inbox_after p first ids ≡ inbox_after q first ids
+after-same : (p q : TransactionId → Option Put) (first : FileMap) (ids : List TransactionId) → ((id : TransactionId) → Contains ids id → p id ≡ q id) → inbox_after p first ids
+    ≡ inbox_after q first ids
 after-same p q first [] same = refl
 after-same p q first (id ∷ ids) same =
     ap (λ put. inbox_after p (overwritten first put) ids) (same id (0, omega arith, refl))

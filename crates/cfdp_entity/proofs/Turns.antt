@@ -56,7 +56,8 @@ module _ (room place : ℕ) (old new : EntityState) (no_stray : old.strays ≡ [
   pub place-spells : EntryIsSpelled old.table.sources (slice_get old.table.records place) → SpellsTurn (turn old) old
   place-spells is = subst (λ t. SpellsTurn t old) (sym turn-is) (entry-spells old.table.sources (slice_get old.table.records place) is next-len)
 
-  pub moves-place : (n : ℕ) (out out_now : List ℕ) → len_at place old.table ≤ room → n ≡ len_at place old.table → Writes (due_at place old.table) n out out_now → new ≡ served Done (Place place) old → MovesPdu n room old new out out_now
+  pub moves-place : (n : ℕ) (out out_now : List ℕ) → len_at place old.table ≤ room → n ≡ len_at place old.table → Writes (due_at place old.table) n out out_now → new ≡ served Done (Place place) old →
+      MovesPdu n room old new out out_now
   moves-place n out out_now fits len writes is = record {
     some = subst (λ k. 1 ≤ k) (sym len) next-len;
     fits = subst (λ k. k ≤ room) (sym len) fits;
@@ -65,7 +66,8 @@ module _ (room place : ℕ) (old new : EntityState) (no_stray : old.strays ≡ [
     served = is ∙ sym (ap (λ t. served Done t old) turn-is);
   }
 
-  pub moves-gave : (gave : Gave) (n : ℕ) (out out_now : List ℕ) → gave ≡ Octets n → len_at place old.table ≤ room → new ≡ served (stored_by_gave gave) (Place place) old → Gives (due_at place old.table) (len_at place old.table) gave out out_now → MovesPdu n room old new out out_now
+  pub moves-gave : (gave : Gave) (n : ℕ) (out out_now : List ℕ) → gave ≡ Octets n → len_at place old.table ≤ room → new ≡ served (stored_by_gave gave) (Place place) old →
+      Gives (due_at place old.table) (len_at place old.table) gave out out_now → MovesPdu n room old new out out_now
   moves-gave gave n out out_now is fits state gives =
       let given : Gives (due_at place old.table) (len_at place old.table) (Octets n) out out_now = subst (λ g. Gives (due_at place old.table) (len_at place old.table) g out out_now) is gives in
       moves-place n out out_now fits given.0 given.1 (state ∙ ap (λ g. served (stored_by_gave g) (Place place) old) is)

@@ -1,10 +1,19 @@
--- How states are coded: the sets of codes that `Prim.hlevel` looks through for an entity and all above it.
-use Rattle.std.specs.Coded.{codes, coded_ℕ, coded_list}
+-- How states are coded: the codes that `Prim.hlevel` looks through for an entity and all above it.
+use Rattle.std.specs.Coded.{Coded, codes, coded_ℕ, coded_list}
 use Rattle.std.specs.Ordering.{nat_cmp}
-use Rattle.std.specs.Cmp.Lexicographic.{slice_cmp}
 use Rattle.std.specs.FinMap as finmap
 use Rattle.std.specs.FinSet as finset
+use Rattle.cfdp_header.specs.Files.{FileMap}
+use Rattle.cfdp_store.specs.Staged.{OctetMap}
 use Rattle.cfdp_timers.specs.Armed.{armed_code}
 
--- of transactions' records, timers, strays, octets held, and files
-pub ruleset state_codes = (codes, armed_code, finset.code {R = nat_cmp} coded_ℕ, finmap.code {R = nat_cmp} coded_ℕ coded_ℕ, finmap.code {R = slice_cmp nat_cmp} (coded_list coded_ℕ) (coded_list coded_ℕ))
+abbrev pub offsets_code : Coded (finset.FinSet nat_cmp)
+offsets_code = finset.code coded_ℕ
+
+abbrev pub octets_code : Coded OctetMap
+octets_code = finmap.code coded_ℕ coded_ℕ
+
+abbrev pub files_code : Coded FileMap
+files_code = finmap.code (coded_list coded_ℕ) (coded_list coded_ℕ)
+
+pub ruleset state_codes = (codes, armed_code, offsets_code, octets_code, files_code)

@@ -10,7 +10,8 @@ use Rattle.cfdp_entity.specs.Errors.{drop_number}
 use Rattle.cfdp_entity.specs.Strays.{StrayAck}
 use Rattle.cfdp_entity.specs.Table.{Entry, TableState, place_of, first_table, phase_in}
 
--- The table, the stray acknowledgements in their order, the place behind the record served last, the
+-- The table, the stray acknowledgements in their order, the place behind the record served last,
+-- the
 -- number of the next put, the counts of drops by their number, and how it is set up.
 pub record EntityState : Type 0 where
   pub table : TableState

@@ -28,7 +28,8 @@ names_no_file _ = false
 
 -- ---- where a PDU goes
 abbrev pub opens_record : EntityState → Route
-opens_record e = if nat_lt (length e.table.records) most_records then Opens else Drops drops.TableFull
+opens_record e = if nat_lt (length e.table.records) most_records then Opens
+    else Drops drops.TableFull
 
 abbrev pub queues : StrayAck → EntityState → Route
 queues s e = if nat_lt (length e.strays) most_strays then Queues s else Drops drops.TableFull

@@ -47,7 +47,8 @@ served stored (Place place) e =
 served stored Rests e = e
 
 -- The PDU that is due has so many octets: they fit, and were written over the first of `out`.
-pub record MovesPdu (n room : ℕ) (old new : EntityState) (out_before out_now : List ℕ) : Type 0 where
+pub record MovesPdu (n room : ℕ) (old new : EntityState)
+    (out_before out_now : List ℕ) : Type 0 where
   pub some : 1 ≤ n
   pub fits : n ≤ room
   pub len : n ≡ turn_len (turn old) old

@@ -92,8 +92,10 @@ abbrev pub with_put : Transfer → EntityState → EntityState
 with_put t e = record e { table = put_in t e.table; next = e.next + 1 }
 
 -- A put of these names was accepted, and has this id.
-pub record Accepts (source destination : List ℕ) (id : TransactionId) (old new : EntityState) : Type 0 where
+pub record Accepts (source destination : List ℕ) (id : TransactionId)
+    (old new : EntityState) : Type 0 where
   pub fresh : place_of id old.table.records ≡ None
   pub is_next : id ≡ next_id old
   pub allowed : put_refusal Done source destination old ≡ None
-  pub opened : new ≡ with_put (next_transfer source destination (length (octets_in old.table.sources source)) old) old
+  pub opened : new ≡ with_put (next_transfer source destination
+      (length (octets_in old.table.sources source)) old) old

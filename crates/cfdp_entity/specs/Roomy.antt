@@ -1,4 +1,5 @@
--- A table with what its state leaves out: how many more indications fit without memory, and how many
+-- A table with what its state leaves out: how many more indications fit without memory, and how
+-- many
 -- calls of each store failed.
 use Rattle.std.specs.Prelude.{ℕ}
 use Rattle.cfdp_entity.specs.Table.{TableState}

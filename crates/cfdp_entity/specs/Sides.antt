@@ -52,13 +52,15 @@ pub record Receives (times : Times) (a : receiver.ReceiverAfter) (new : Receiver
   pub tells : told_now ≡ told_before ++ a.told
   pub timers : timers_now ≡ receiver_does.timers_set times a.anew new timers_before
   pub files : files_now ≡ a.files
-  pub octets : a.receiver.phase ≡ Receiving → staged_for staged_now a.receiver.addressing.id ≡ a.octets
+  pub octets : a.receiver.phase ≡ Receiving → staged_for staged_now a.receiver.addressing.id
+      ≡ a.octets
   pub others : OthersKeep a.receiver.addressing.id staged_before staged_now
 
 abbrev pub ReceiverDoes : Times → Option receiver.ReceiverAfter → (old new : ReceiverState) →
     (told_before told_now : List Indication) → (timers_before timers_now : TimersState) →
     (files_before files_now : FileMap) → (staged_before staged_now : Staged) → Type 0
-ReceiverDoes times (Some a) old new told told_now timers timers_now files files_now staged staged_now =
+ReceiverDoes times (Some a) old new told told_now timers timers_now files files_now staged
+    staged_now =
     Receives times a new told told_now timers timers_now files_now staged staged_now
 ReceiverDoes times None old new told told_now timers timers_now files files_now staged staged_now =
     Rests old new told told_now timers timers_now × ((files_now ≡ files) × (staged_now ≡ staged))
@@ -75,9 +77,11 @@ pub record KeepsData (old new : ReceiverState) (told_before told_now : List Indi
 abbrev pub ReceiverKeeps : Content → (old new : ReceiverState) →
     (told_before told_now : List Indication) → (timers_before timers_now : TimersState) →
     (files_before files_now : FileMap) → (staged_before staged_now : Staged) → Type 0
-ReceiverKeeps (FileData offset bytes) old new told told_now timers timers_now files files_now staged staged_now =
+ReceiverKeeps (FileData offset bytes) old new told told_now timers timers_now files files_now staged
+    staged_now =
     KeepsData old new told told_now timers timers_now files files_now staged staged_now
-ReceiverKeeps (Metadata kind size source destination options) old new told told_now timers timers_now files files_now staged staged_now =
+ReceiverKeeps (Metadata kind size source destination options) old new told told_now timers
+    timers_now files files_now staged staged_now =
     Rests old new told told_now timers timers_now × ((files_now ≡ files) × (staged_now ≡ staged))
 ReceiverKeeps _ old new told told_now timers timers_now files files_now staged staged_now = ⊥
 
@@ -87,7 +91,8 @@ abbrev pub ReceiverTook : Times → Option Due → (old new : ReceiverState) →
 ReceiverTook times (Some d) old new timers timers_now n out out_now =
     ((new ≡ receiver_taken d old)
     × (timers_now ≡ receiver_does.timers_set times (receiver.anew_once_taken d) new timers))
-    × Gives (octets_of old.addressing (Some (receiver_says old d))) (len_of old.addressing (Some (receiver_says old d)))
+    × Gives (octets_of old.addressing (Some (receiver_says old d)))
+    (len_of old.addressing (Some (receiver_says old d)))
     (Octets n) out out_now
 ReceiverTook times None old new timers timers_now n out out_now =
     ((new ≡ old) × (timers_now ≡ timers)) × Gives [] 0 (Octets n) out out_now

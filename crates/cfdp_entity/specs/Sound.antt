@@ -30,7 +30,8 @@ use Rattle.cfdp_entity.specs.Timed.{AreTimed}
 use Rattle.cfdp_entity.specs.Truth.{IsTrueTable}
 
 -- Each transaction is finished once, each record knows and sends the truth of its put, no more is
--- told of a transaction than was indicated or heard, the timers that are armed are those that records
+-- told of a transaction than was indicated or heard, the timers that are armed are those that
+-- records
 -- wait for, and the table does as it is configured.
 pub record IsSound (put_of : TransactionId → Option Put) (heard : List (List ℕ)) (first : FileMap)
     (e : EntityState) : Type 0 where
@@ -44,7 +45,8 @@ pub record IsSound (put_of : TransactionId → Option Put) (heard : List (List �
 
 -- More puts are found, and those found before are as they were.
 abbrev pub FindsMore : (before after : TransactionId → Option Put) → Type 0
-FindsMore before after = (id : TransactionId) (put : Put) → before id ≡ Some put → after id ≡ Some put
+FindsMore before after = (id : TransactionId) (put : Put) → before id ≡ Some put → after id
+    ≡ Some put
 
 -- each put is found under its own transaction
 abbrev pub FindsById : (TransactionId → Option Put) → Type 0

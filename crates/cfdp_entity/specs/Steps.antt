@@ -129,7 +129,8 @@ called_sender call.Suspend x = sender.sender_suspends x
 called_sender call.Resume x = sender.sender_resumes x
 called_sender (call.Prompt keep_alive) x = sender.sender_prompts keep_alive x
 
-abbrev pub called_receiver : Call → OctetMap → FileMap → ReceiverState → Option receiver.ReceiverAfter
+abbrev pub called_receiver : Call → OctetMap → FileMap → ReceiverState →
+    Option receiver.ReceiverAfter
 called_receiver call.Cancel m files r = Some (receiver.cancels m files r)
 called_receiver call.Suspend m files r = Some (receiver.suspends m files r)
 called_receiver call.Resume m files r = Some (receiver.resumes m files r)

@@ -52,7 +52,8 @@ record_of id records = lookup (same_id id) records
 abbrev pub has_due : Entry → Bool
 has_due e = is_due e.1
 
--- the place of the first record from a place on that has something due, and else of the first of all
+-- the place of the first record from a place on that has something due, and else of the first of
+-- all
 abbrev pub next_due : ℕ → List Entry → Option ℕ
 next_due from records =
     option_or (option_map (λ i. from + i) (position has_due (drop from records)))

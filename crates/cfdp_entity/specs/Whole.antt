@@ -39,7 +39,8 @@ state_of staged files sources policy es timers told = record {
   policy = policy;
 }
 
--- A record is kept under its transaction. What a sender sends is in the outbox, and while a receiver
+-- A record is kept under its transaction. What a sender sends is in the outbox, and while a
+-- receiver
 -- receives, its transaction is begun and what is held is staged.
 unfoldable pub IsReadyRecord : Staged → FileMap → TransactionId → Record → Type 0
 IsReadyRecord staged sources id (held.Sends x) =
@@ -47,7 +48,8 @@ IsReadyRecord staged sources id (held.Sends x) =
 IsReadyRecord staged sources id (held.Receives r) = (r.addressing.id ≡ id) × IsReady staged r
 
 -- each record is ready, and its timers have room
-unfoldable pub AllReady : Staged → FileMap → set.FinSet id_cmp → List (TransactionId × Record) → Type 0
+unfoldable pub AllReady : Staged → FileMap → set.FinSet id_cmp → List (TransactionId × Record) →
+    Type 0
 AllReady staged sources roomy [] = Unit {0}
 AllReady staged sources roomy (e ∷ es) =
     IsReadyRecord staged sources e.0 e.1 × (set.contains roomy e.0 ≡ true)

@@ -61,7 +61,8 @@ impl<O: Outbox, I: Inbox> Model for Entity<O, I> {
       outbox_failures = e.table.outbox_failures;
     } };
 
-    ghost invariant = { λ e. IsConfig e.config × (e.strays.capacity ≡ 64) × AreFree e.config.entity (next_of e.next) e.table.state.records };
+    ghost invariant = { λ e. IsConfig e.config × (e.strays.capacity ≡ 64)
+        × AreFree e.config.entity (next_of e.next) e.table.state.records };
 }
 
 impl<O: Outbox, I: Inbox> Entity<O, I> {

@@ -120,10 +120,12 @@ impl Record {
         requires ready { IsReadyRecord (I.staged inbox.old) (O.files outbox.now) id self.old }
         ensures does { IfOk result (λ stored. Does id (hears stored policy.now.times
             (I.published inbox.old) (view pdu.now) (seen (I.staged inbox.old id) self.old))
-            (seen (I.staged inbox.new id) self.new) told.old.items told.new.items timers.old timers.new (I.published inbox.new)) }
+            (seen (I.staged inbox.new id) self.new) told.old.items told.new.items timers.old
+            timers.new (I.published inbox.new)) }
         ensures keeps { OnErr result (Keeps (view pdu.now) (seen (I.staged inbox.old id) self.old)
             (seen (I.staged inbox.new id) self.new)
-            told.old.items told.new.items timers.old timers.new (I.published inbox.old) (I.published inbox.new)) }
+            told.old.items told.new.items timers.old timers.new (I.published inbox.old)
+            (I.published inbox.new)) }
         ensures counts { IfOk result (λ stored. Counts stored (I.failures inbox.old)
             (I.failures inbox.new)) }
         ensures raises { IfOk result (λ stored. AsksAs Raises (AsksHeard Raises (view pdu.now)
@@ -158,7 +160,8 @@ impl Record {
         requires ready { IsReadyRecord (I.staged inbox.old) (O.files outbox.now) id self.old }
         ensures does { Does id (expires policy.now (I.published inbox.old) kind (seen
             (I.staged inbox.old id) self.old))
-            (seen (I.staged inbox.new id) self.new) told.old.items told.new.items timers.old timers.new (I.published inbox.new) }
+            (seen (I.staged inbox.new id) self.new) told.old.items told.new.items timers.old
+            timers.new (I.published inbox.new) }
         ensures told_room { spare told.old ≤ spare told.new + 3 }
         ensures ready { IsReadyRecord (I.staged inbox.new) (O.files outbox.now) id self.new }
         ensures grows { I.failures inbox.old ≤ I.failures inbox.new }
@@ -192,7 +195,8 @@ impl Record {
         requires ready { IsReadyRecord (I.staged inbox.old) (O.files outbox.now) id self.old }
         ensures does { Does id (steps.calls policy.now.times (I.published inbox.old) call (seen
             (I.staged inbox.old id) self.old))
-            (seen (I.staged inbox.new id) self.new) told.old.items told.new.items timers.old timers.new (I.published inbox.new) }
+            (seen (I.staged inbox.new id) self.new) told.old.items told.new.items timers.old
+            timers.new (I.published inbox.new) }
         ensures ready { IsReadyRecord (I.staged inbox.new) (O.files outbox.now) id self.new }
         ensures grows { I.failures inbox.old ≤ I.failures inbox.new }
         ensures raises { AsksAs Raises (AsksCalled Raises call)
@@ -227,7 +231,8 @@ impl Record {
             ≤ length out.old }
         ensures does { Does id (takes (stored_by_gave result) policy.now.times (O.files outbox.old)
             (I.published inbox.old) (seen (I.staged inbox.old id) self.old))
-            (seen (I.staged inbox.new id) self.new) told.old.items told.new.items timers.old timers.new (I.published inbox.new) }
+            (seen (I.staged inbox.new id) self.new) told.old.items told.new.items timers.old
+            timers.new (I.published inbox.new) }
         ensures gives { Gives (due_octets (O.files outbox.old) (seen
             (I.staged inbox.old id) self.old)) (seens.due_len (O.files outbox.old) (seen
             (I.staged inbox.old id) self.old)) result out.old out.new }
@@ -354,7 +359,9 @@ pub(crate) fn receiver_hears<I: Inbox>(
     ensures does { IfOk result (λ stored. ReceiverDoes policy.now.times (receiver_after stored
         (view pdu.now) (staged_for (I.staged inbox.old) receiver.old.addressing.id)
         (I.published inbox.old) receiver.old)
-        receiver.old receiver.new told.old.items told.new.items timers.old timers.new (I.published inbox.old) (I.published inbox.new) (I.staged inbox.old) (I.staged inbox.new)) }
+        receiver.old receiver.new told.old.items told.new.items timers.old timers.new
+        (I.published inbox.old) (I.published inbox.new) (I.staged inbox.old)
+        (I.staged inbox.new)) }
     ensures keeps { OnErr result (ReceiverKeeps (view pdu.now) receiver.old receiver.new
         told.old.items told.new.items timers.old timers.new
         (I.published inbox.old) (I.published inbox.new)
@@ -445,7 +452,8 @@ fn expire_receiver<I: Inbox>(
     requires ready { IsReady (I.staged inbox.old) receiver.old }
     ensures does { Receives policy.now.times (machine.expires kind policy.now (staged_for
         (I.staged inbox.old) receiver.old.addressing.id) (I.published inbox.old) receiver.old)
-        receiver.new told.old.items told.new.items timers.old timers.new (I.published inbox.new) (I.staged inbox.old) (I.staged inbox.new) }
+        receiver.new told.old.items told.new.items timers.old timers.new (I.published inbox.new)
+        (I.staged inbox.old) (I.staged inbox.new) }
     ensures told_room { spare told.old ≤ spare told.new + 3 }
     ensures grows { I.failures inbox.old ≤ I.failures inbox.new }
     ensures calls { Settles (Makes I.steps I.failures) Stored.Done receiver.old receiver.new
@@ -514,7 +522,9 @@ fn call_receiver<I: Inbox>(
     requires ready { IsReady (I.staged inbox.old) receiver.old }
     ensures does { ReceiverDoes policy.now.times (called_receiver call (staged_for
         (I.staged inbox.old) receiver.old.addressing.id) (I.published inbox.old) receiver.old)
-        receiver.old receiver.new told.old.items told.new.items timers.old timers.new (I.published inbox.old) (I.published inbox.new) (I.staged inbox.old) (I.staged inbox.new) }
+        receiver.old receiver.new told.old.items told.new.items timers.old timers.new
+        (I.published inbox.old) (I.published inbox.new) (I.staged inbox.old)
+        (I.staged inbox.new) }
     ensures grows { I.failures inbox.old ≤ I.failures inbox.new }
     ensures calls { AsksCalled (Makes I.steps I.failures) call receiver.old receiver.new
         inbox.old inbox.new }

@@ -104,7 +104,9 @@ pub(crate) fn hear_at<O: Outbox, I: Inbox>(
     requires room { 3 ≤ spare told.old }
     ensures heard { IfOk result (λ stored. state_of (I.staged inbox.new) (I.published inbox.new)
         (O.files outbox.now) policy.now records.new.entries timers.new told.new.items
-        ≡ heard_at stored place (view pdu.now) (state_of (I.staged inbox.old) (I.published inbox.old) (O.files outbox.now) policy.now records.old.entries timers.old told.old.items)) }
+        ≡ heard_at stored place (view pdu.now)
+        (state_of (I.staged inbox.old) (I.published inbox.old)
+        (O.files outbox.now) policy.now records.old.entries timers.old told.old.items)) }
     ensures err { OnErr result (SpoiledAt place (view pdu.now) (state_of (I.staged inbox.old)
         (I.published inbox.old) (O.files outbox.now) policy.now records.old.entries timers.old
         told.old.items) (state_of (I.staged inbox.new) (I.published inbox.new)
@@ -149,7 +151,8 @@ pub(crate) fn expire_at<O: Outbox, I: Inbox>(
     requires room { 3 ≤ spare told.old }
     ensures stepped { state_of (I.staged inbox.new) (I.published inbox.new)
         (O.files outbox.now) policy.now records.new.entries timers.new told.new.items
-        ≡ expired_at place kind (state_of (I.staged inbox.old) (I.published inbox.old) (O.files outbox.now) policy.now records.old.entries timers.old told.old.items) }
+        ≡ expired_at place kind (state_of (I.staged inbox.old) (I.published inbox.old)
+        (O.files outbox.now) policy.now records.old.entries timers.old told.old.items) }
     ensures room { spare told.old ≤ spare told.new + 3 }
     ensures grows { I.failures inbox.old ≤ I.failures inbox.new }
     ensures raises { AsksToExpire Raises kind place
@@ -188,7 +191,8 @@ pub(crate) fn call_at<O: Outbox, I: Inbox>(
     requires room { 3 ≤ spare told.old }
     ensures stepped { state_of (I.staged inbox.new) (I.published inbox.new)
         (O.files outbox.now) policy.now records.new.entries timers.new told.new.items
-        ≡ called_at place call (state_of (I.staged inbox.old) (I.published inbox.old) (O.files outbox.now) policy.now records.old.entries timers.old told.old.items) }
+        ≡ called_at place call (state_of (I.staged inbox.old) (I.published inbox.old)
+        (O.files outbox.now) policy.now records.old.entries timers.old told.old.items) }
     ensures grows { I.failures inbox.old ≤ I.failures inbox.new }
     ensures raises { AsksToCall Raises call place
         (state_of (I.staged inbox.old) (I.published inbox.old)
@@ -228,7 +232,9 @@ pub(crate) fn send_at<O: Outbox, I: Inbox>(
         (I.staged inbox.old) records.old.entries) place)) ≤ length out.old }
     ensures taken { state_of (I.staged inbox.new) (I.published inbox.new)
         (O.files outbox.new) policy.now records.new.entries timers.new told.new.items
-        ≡ taken_at (stored_by_gave result) place (state_of (I.staged inbox.old) (I.published inbox.old) (O.files outbox.old) policy.now records.old.entries timers.old told.old.items) }
+        ≡ taken_at (stored_by_gave result) place
+        (state_of (I.staged inbox.old) (I.published inbox.old)
+        (O.files outbox.old) policy.now records.old.entries timers.old told.old.items) }
     ensures gives { Gives (octets_due (O.files outbox.old) (slice_get (entries_seen
         (I.staged inbox.old) records.old.entries) place)) (len_due (O.files outbox.old) (slice_get
         (entries_seen (I.staged inbox.old) records.old.entries) place)) result out.old out.new }
@@ -298,10 +304,12 @@ pub(crate) fn put_record<O: Outbox, I: Inbox>(
     requires file { HasFile (O.files outbox.now) transfer.source transfer.size }
     ensures opened { OnOk result (state_of (I.staged inbox.now) (I.published inbox.now)
         (O.files outbox.now) policy.now records.new.entries timers.new told.new.items
-        ≡ put_in transfer (state_of (I.staged inbox.now) (I.published inbox.now) (O.files outbox.now) policy.now records.old.entries timers.old told.old.items)) }
+        ≡ put_in transfer (state_of (I.staged inbox.now) (I.published inbox.now)
+        (O.files outbox.now) policy.now records.old.entries timers.old told.old.items)) }
     ensures err { OnErr result (state_of (I.staged inbox.now) (I.published inbox.now)
         (O.files outbox.now) policy.now records.new.entries timers.new told.new.items
-        ≡ state_of (I.staged inbox.now) (I.published inbox.now) (O.files outbox.now) policy.now records.old.entries timers.old told.old.items) }
+        ≡ state_of (I.staged inbox.now) (I.published inbox.now)
+        (O.files outbox.now) policy.now records.old.entries timers.old told.old.items) }
     ensures whole { IsWhole (I.staged inbox.now) (O.files outbox.now) records.new.entries ready.new
         timers.new }
 {
@@ -333,10 +341,13 @@ pub(crate) fn open_record<O: Outbox, I: Inbox>(
     requires fits { FitsAddressing addressing }
     ensures opened { IfOk result (λ o. state_of (I.staged inbox.new) (I.published inbox.new)
         (O.files outbox.now) policy.now records.new.entries timers.new told.new.items
-        ≡ opened_by o.begun o.stored addressing (view pdu.now) (state_of (I.staged inbox.old) (I.published inbox.old) (O.files outbox.now) policy.now records.old.entries timers.old told.old.items)) }
+        ≡ opened_by o.begun o.stored addressing (view pdu.now)
+        (state_of (I.staged inbox.old) (I.published inbox.old)
+        (O.files outbox.now) policy.now records.old.entries timers.old told.old.items)) }
     ensures err { OnErr result (state_of (I.staged inbox.new) (I.published inbox.new)
         (O.files outbox.now) policy.now records.new.entries timers.new told.new.items
-        ≡ state_of (I.staged inbox.old) (I.published inbox.old) (O.files outbox.now) policy.now records.old.entries timers.old told.old.items) }
+        ≡ state_of (I.staged inbox.old) (I.published inbox.old)
+        (O.files outbox.now) policy.now records.old.entries timers.old told.old.items) }
     ensures counts { IfOk result (λ o. CountsBoth o.begun o.stored (I.failures inbox.old)
         (I.failures inbox.new)) }
     ensures asks { IfOk result (λ o. AsksInOrder (closing (view pdu.now)) o.begun o.stored) }

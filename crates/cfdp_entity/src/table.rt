@@ -69,13 +69,15 @@ impl<O: Outbox, I: Inbox> Model for Table<O, I> {
     ghost coded = { Prim.hlevel (state_codes) };
 
     ghost view = { λ t. record {
-      state = state_of (I.staged t.inbox) (I.published t.inbox) (O.files t.outbox) t.policy t.records.entries t.timers t.told.items;
+      state = state_of (I.staged t.inbox) (I.published t.inbox)
+          (O.files t.outbox) t.policy t.records.entries t.timers t.told.items;
       spare = spare t.told;
       inbox_failures = I.failures t.inbox;
       outbox_failures = O.failures t.outbox;
     } };
 
-    ghost invariant = { λ t. IsWhole (I.staged t.inbox) (O.files t.outbox) t.records.entries t.ready t.timers };
+    ghost invariant = { λ t. IsWhole (I.staged t.inbox)
+        (O.files t.outbox) t.records.entries t.ready t.timers };
 }
 
 impl<O: Outbox, I: Inbox> Table<O, I> {

@@ -8,7 +8,8 @@ use Rattle.cfdp_extents.specs.Offsets.{Offsets, is_within, range, union_of}
 use Rattle.cfdp_extents.proofs.Members.{Decides-within, contains-range, InRanges, Decides-union_of, same_offsets}
 
 -- ranges that hold what others do, and a range
-pub union-more : (new old : List (ℕ × ℕ)) (s e : ℕ) → ((n : ℕ) → InRanges new n → InRanges old n ⊎ ((s ≤ n) × (n < e))) → ((n : ℕ) → InRanges old n ⊎ ((s ≤ n) × (n < e)) → InRanges new n) → union_of new ≡ union (union_of old) (range s e)
+pub union-more : (new old : List (ℕ × ℕ)) (s e : ℕ) → ((n : ℕ) → InRanges new n → InRanges old n ⊎ ((s ≤ n) × (n < e))) → ((n : ℕ) → InRanges old n ⊎ ((s ≤ n) × (n < e)) → InRanges new n) →
+    union_of new ≡ union (union_of old) (range s e)
 union-more new old s e forth back =
     same_offsets _ _ (λ n.
     same_from_decides _ _ (Decides-union_of new n)

@@ -265,8 +265,10 @@ pub other-from : (o : ℕ) (xs : List (ℕ × ℕ)) (last : Option (ℕ × ℕ))
 other-from o xs None q f = sym f
 other-from o xs (Some r) q f = sym (from-found o xs r q f)
 
-pub missed-from : (o : ℕ) (xs : List (ℕ × ℕ)) (last : Option (ℕ × ℕ)) (r : ℕ × ℕ) → AreApart (with_last xs last) → last ≡ Some r → o < r.0 → first_from o xs ≡ None → last ≡ first_from o (with_last xs last)
-missed-from o xs last r h is low f = subst (λ l. AreApart (with_last xs l) → l ≡ first_from o (with_last xs l)) (sym is) (λ k. let some : r.0 < r.1 = last-some xs r k in let high : o ≤ r.1 = omega arith in sym (from-missed o xs r f ∙ from-here o r [] high)) h
+pub missed-from : (o : ℕ) (xs : List (ℕ × ℕ)) (last : Option (ℕ × ℕ)) (r : ℕ × ℕ) → AreApart (with_last xs last) → last ≡ Some r → o < r.0 → first_from o xs ≡ None → last
+    ≡ first_from o (with_last xs last)
+missed-from o xs last r h is low f = subst (λ l. AreApart (with_last xs l) → l ≡ first_from o (with_last xs l)) (sym is)
+    (λ k. let some : r.0 < r.1 = last-some xs r k in let high : o ≤ r.1 = omega arith in sym (from-missed o xs r f ∙ from-here o r [] high)) h
 
 pub missing-from : (o : ℕ) (xs : List (ℕ × ℕ)) (last : Option (ℕ × ℕ)) → last ≡ None → first_from o xs ≡ None → last ≡ first_from o (with_last xs last)
 missing-from o xs last is f = subst (λ l. l ≡ first_from o (with_last xs l)) (sym is) (sym f)
@@ -281,8 +283,10 @@ pub other-past : (o : ℕ) (xs : List (ℕ × ℕ)) (last : Option (ℕ × ℕ))
 other-past o xs None q f = sym f
 other-past o xs (Some r) q f = sym (past-found o xs r q f)
 
-pub missed-past : (o : ℕ) (xs : List (ℕ × ℕ)) (last : Option (ℕ × ℕ)) (r : ℕ × ℕ) → AreApart (with_last xs last) → last ≡ Some r → o < r.0 → first_behind o xs ≡ None → last ≡ first_behind o (with_last xs last)
-missed-past o xs last r h is low f = subst (λ l. AreApart (with_last xs l) → l ≡ first_behind o (with_last xs l)) (sym is) (λ k. let some : r.0 < r.1 = last-some xs r k in let high : o < r.1 = omega arith in sym (past-missed o xs r f ∙ behind-here o r [] high)) h
+pub missed-past : (o : ℕ) (xs : List (ℕ × ℕ)) (last : Option (ℕ × ℕ)) (r : ℕ × ℕ) → AreApart (with_last xs last) → last ≡ Some r → o < r.0 → first_behind o xs ≡ None → last
+    ≡ first_behind o (with_last xs last)
+missed-past o xs last r h is low f = subst (λ l. AreApart (with_last xs l) → l ≡ first_behind o (with_last xs l)) (sym is)
+    (λ k. let some : r.0 < r.1 = last-some xs r k in let high : o < r.1 = omega arith in sym (past-missed o xs r f ∙ behind-here o r [] high)) h
 
 pub missing-past : (o : ℕ) (xs : List (ℕ × ℕ)) (last : Option (ℕ × ℕ)) → last ≡ None → first_behind o xs ≡ None → last ≡ first_behind o (with_last xs last)
 missing-past o xs last is f = subst (λ l. l ≡ first_behind o (with_last xs l)) (sym is) (sym f)
@@ -295,7 +299,8 @@ join-past s e es new last r some h is c put =
     subst (λ l. AreApart (with_last (turned es) l) → turned new ++ ((s, e) ∷ []) ≡ joined_in (low_of s (with_last (turned es) l)) s e (with_last (turned es) l)) (sym is)
     (λ k. ap (λ l. turned l ++ ((s, e) ∷ [])) put ∙ ap (λ l. l ++ ((s, e) ∷ [])) (put_last es r k) ∙ joined-past s e (turned es) r some k c) h
 
-pub untouched-behind : (s e : ℕ) (xs : List (ℕ × ℕ)) (last : Option (ℕ × ℕ)) (r : ℕ × ℕ) → s < e → AreApart (with_last xs last) → last ≡ Some r → r.1 < s → Untouched e (first_from e (with_last xs last))
+pub untouched-behind : (s e : ℕ) (xs : List (ℕ × ℕ)) (last : Option (ℕ × ℕ)) (r : ℕ × ℕ) → s < e → AreApart (with_last xs last) → last ≡ Some r → r.1 < s →
+    Untouched e (first_from e (with_last xs last))
 untouched-behind s e xs last r some h is c =
     subst (λ l. AreApart (with_last xs l) → Untouched e (first_from e (with_last xs l))) (sym is) (λ k. untouched-past s e xs r some k c) h
 
@@ -305,7 +310,8 @@ join-early s e xs new last r some h is c put =
     subst (λ l. AreApart (with_last xs l) → with_last new l ≡ joined_in (low_of s (with_last xs l)) s e (with_last xs l)) (sym is)
     (λ k. ap (λ l. l ++ (r ∷ [])) put ∙ joined-early s e xs r some k c) h
 
-pub untouched-before : (e : ℕ) (xs : List (ℕ × ℕ)) (last : Option (ℕ × ℕ)) (r : ℕ × ℕ) → AreApart (with_last xs last) → last ≡ Some r → e < r.0 → Untouched e (first_from e xs) → Untouched e (first_from e (with_last xs last))
+pub untouched-before : (e : ℕ) (xs : List (ℕ × ℕ)) (last : Option (ℕ × ℕ)) (r : ℕ × ℕ) → AreApart (with_last xs last) → last ≡ Some r → e < r.0 → Untouched e (first_from e xs) →
+    Untouched e (first_from e (with_last xs last))
 untouched-before e xs last r h is c u =
     subst (λ l. AreApart (with_last xs l) → Untouched e (first_from e (with_last xs l))) (sym is) (λ k. untouched-early e xs r c k u) h
 

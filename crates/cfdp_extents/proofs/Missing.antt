@@ -121,7 +121,8 @@ in_gaps-back start limit (r ∷ rs) n w = elim (cases_lt start limit) [
 ]
 
 -- what ranges are those of what lies between two limits and not in others
-pub are-missing : (gaps xs : List (ℕ × ℕ)) (start limit : ℕ) → AreApart gaps → ((n : ℕ) → InRanges gaps n → IsMissing start limit xs n) → ((n : ℕ) → IsMissing start limit xs n → InRanges gaps n) → AreRangesOf (missing_from (union_of xs) start limit) gaps
+pub are-missing : (gaps xs : List (ℕ × ℕ)) (start limit : ℕ) → AreApart gaps → ((n : ℕ) → InRanges gaps n → IsMissing start limit xs n) → ((n : ℕ) → IsMissing start limit xs n → InRanges gaps n) →
+    AreRangesOf (missing_from (union_of xs) start limit) gaps
 are-missing gaps xs start limit h forth back = record {
   apart = h;
   union = same_offsets _ _ (λ n.
@@ -151,7 +152,8 @@ same-end r rs s ss h k e to = elim (cases_lt s.1 r.1) [
 ]
 
 -- what the first list holds behind its first range, the second does
-same-rest : (r : ℕ × ℕ) (rs : List (ℕ × ℕ)) (s : ℕ × ℕ) (ss : List (ℕ × ℕ)) → AreApart (r ∷ rs) → r.1 ≡ s.1 → ((n : ℕ) → InRanges (r ∷ rs) n → InRanges (s ∷ ss) n) → (n : ℕ) → InRanges rs n → InRanges ss n
+same-rest : (r : ℕ × ℕ) (rs : List (ℕ × ℕ)) (s : ℕ × ℕ) (ss : List (ℕ × ℕ)) → AreApart (r ∷ rs) → r.1 ≡ s.1 → ((n : ℕ) → InRanges (r ∷ rs) n → InRanges (s ∷ ss) n) → (n : ℕ) → InRanges rs n →
+    InRanges ss n
 same-rest r rs s ss h e to n w = elim (to n (inr w)) [
   | inl i ↦ let up : r.1 < n = behind_start r.1 rs n h.2 h.1 w in let high : n < s.1 = i.1 in absurd (omega arith)
   | inr i ↦ i

@@ -24,7 +24,8 @@ later passes at limit limit1 [] e h = tt
 later passes at limit limit1 (r ∷ rs) e h =
     (record { low = let l : at + 1 ≤ r.0 = h.0.low in omega arith; some = h.0.some; high = let l : r.1 ≤ limit1 = h.0.high in omega arith; first = h.0.first }, later passes at limit limit1 rs e h.1)
 
-joined-in : (passes : ℕ → Bool) (at limit limit1 : ℕ) (rs : List (ℕ × ℕ)) → passes at ≡ true → limit1 ≡ limit → at < limit → AllRangesIn passes (at + 1) limit1 rs → AllRangesIn passes at limit (joined at rs)
+joined-in : (passes : ℕ → Bool) (at limit limit1 : ℕ) (rs : List (ℕ × ℕ)) → passes at ≡ true → limit1 ≡ limit → at < limit → AllRangesIn passes (at + 1) limit1 rs →
+    AllRangesIn passes at limit (joined at rs)
 joined-in passes at limit limit1 [] p e l h = (record { low = omega arith; some = omega arith; high = omega arith; first = p }, tt)
 joined-in passes at limit limit1 (r ∷ rs) p e l h =
     let up : r.1 ≤ limit1 = h.0.high in
@@ -152,5 +153,6 @@ ranges-members passes at zero k = member-none k ∙ sym (and_left (is_within at 
     empty k = grind (arith, nat_tests)
 ranges-members passes at (suc n) k =
     cond_both (passes at) (joined at (ranges_in passes (at + 1) n)) (ranges_in passes (at + 1) n) (λ l. set.contains (union_of l) k ≡ (is_within at (at + suc n) k && passes k))
-    (λ p. joined-member passes at (at + 1 + n) k (ranges_in passes (at + 1) n) (ranges-in passes (at + 1) n) ∙ ap (λ b. eqb k at || b) (ranges-members passes (at + 1) n k) ∙ here_or_on passes at n k p)
+    (λ p. joined-member passes at (at + 1 + n) k (ranges_in passes (at + 1) n) (ranges-in passes (at + 1) n) ∙ ap (λ b. eqb k at || b) (ranges-members passes (at + 1) n k)
+    ∙ here_or_on passes at n k p)
     (λ p. ranges-members passes (at + 1) n k ∙ not_here passes at n k p)

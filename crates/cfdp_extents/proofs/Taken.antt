@@ -11,7 +11,8 @@ use Rattle.cfdp_extents.proofs.Members.{Decides-within, contains-range, InRanges
 use Rattle.cfdp_extents.proofs.Joined.{Decides-is_subset}
 
 -- ranges that hold what others do, without a range
-pub difference-less : (new old : List (ℕ × ℕ)) (s e : ℕ) → ((n : ℕ) → InRanges new n → InRanges old n × ((s ≤ n) × (n < e) → ⊥)) → ((n : ℕ) → InRanges old n × ((s ≤ n) × (n < e) → ⊥) → InRanges new n) → union_of new ≡ difference (union_of old) (range s e)
+pub difference-less : (new old : List (ℕ × ℕ)) (s e : ℕ) → ((n : ℕ) → InRanges new n → InRanges old n × ((s ≤ n) × (n < e) → ⊥)) →
+    ((n : ℕ) → InRanges old n × ((s ≤ n) × (n < e) → ⊥) → InRanges new n) → union_of new ≡ difference (union_of old) (range s e)
 difference-less new old s e forth back =
     same_offsets _ _ (λ n.
     same_from_decides _ _ (Decides-union_of new n)
@@ -85,7 +86,8 @@ pub record First (xs : List (ℕ × ℕ)) (held : Offsets) (r : ℕ × ℕ) : Ty
 pub whole-rest : (xs : List (ℕ × ℕ)) (held : Offsets) (r : ℕ × ℕ) → First xs held r → union_of (drop 1 xs) ≡ difference held (range r.0 r.1)
 whole-rest xs held r f = union-without_first r (drop 1 xs) f.apart ∙ ap (λ s. difference s (range r.0 r.1)) f.view
 
-pub part-rest : (xs : List (ℕ × ℕ)) (held : Offsets) (r : ℕ × ℕ) (max : ℕ) → First xs held r → (max ≡ 0 → ⊥) → max < r.1 - r.0 → union_of (set xs 0 (r.0 + max, r.1)) ≡ difference held (range r.0 (r.0 + max))
+pub part-rest : (xs : List (ℕ × ℕ)) (held : Offsets) (r : ℕ × ℕ) (max : ℕ) → First xs held r → (max ≡ 0 → ⊥) → max < r.1 - r.0 → union_of (set xs 0 (r.0 + max, r.1))
+    ≡ difference held (range r.0 (r.0 + max))
 part-rest xs held r max f pos h =
     let pos' : 0 < max = grind (arith, pos) in
     ap (λ v. union_of (set v 0 (r.0 + max, r.1))) f.is

@@ -1,4 +1,5 @@
--- Proof-only: how ranges are kept, by their ends, and what is left to give of the gaps between them.
+-- Proof-only: how ranges are kept, by their ends, and what is left to give of the gaps between
+-- them.
 use Rattle.std.specs.Prelude.{ℕ, ◌<◌, ◌++◌, nat_lt, nat_le, min, List, [], ◌∷◌, Option, None, Some, if◌then◌else◌}
 
 -- entries, each an end with its start, as ranges
@@ -69,5 +70,6 @@ unfoldable pub gaps_between : ℕ → ℕ → List (ℕ × ℕ) → List (ℕ ×
 gaps_between start limit [] = if nat_lt start limit then (start, limit) ∷ [] else []
 gaps_between start limit (r ∷ rs) =
     if nat_lt start limit
-    then (if nat_lt r.0 limit then (start, r.0) ∷ gaps_between r.1 limit rs else (start, limit) ∷ [])
+    then (if nat_lt r.0 limit then (start, r.0) ∷ gaps_between r.1 limit rs
+    else (start, limit) ∷ [])
     else []

@@ -17,7 +17,18 @@ same_flag true false e = absurd cc
 same_flag false true e = absurd cc
 
 abbrev made : Bool → Bool → Bool → ℕ → Bool → ℕ → ℕ → ℕ → ℕ → ℕ → Header
-made a b g l c i n source number d = record { file_data = a; toward_sender = b; large = g; length = l; segment_metadata = c; id_width = i; number_width = n; id = record { source = source; number = number }; destination = d }
+made a b g l c i n source number d = record {
+  file_data = a;
+  toward_sender = b;
+  large = g;
+  length = l;
+  segment_metadata = c;
+  id_width = i;
+  number_width = n;
+  id =
+      record { source = source; number = number };
+  destination = d;
+}
 
 pub unique : (h k : Header) (t : List ℕ) → SpellsHeader h t → SpellsHeader k t → h ≡ k
 unique h k t p q =
@@ -25,7 +36,8 @@ unique h k t p q =
     let b = same_flag h.toward_sender k.toward_sender (sym p.toward_sender ∙ q.toward_sender) in
     let g = same_flag h.large k.large (sym p.large ∙ q.large) in
     let c = same_flag h.segment_metadata k.segment_metadata (sym p.segment_metadata ∙ q.segment_metadata) in
-    let same : made h.file_data h.toward_sender h.large h.length h.segment_metadata h.id_width h.number_width h.id.source h.id.number h.destination ≡ made k.file_data k.toward_sender k.large k.length k.segment_metadata k.id_width k.number_width k.id.source k.id.number k.destination = cc in
+    let same : made h.file_data h.toward_sender h.large h.length h.segment_metadata h.id_width h.number_width h.id.source h.id.number h.destination
+    ≡ made k.file_data k.toward_sender k.large k.length k.segment_metadata k.id_width k.number_width k.id.source k.id.number k.destination = cc in
     same
 
 pub accepted : (h : Header) (t : List ℕ) → SpellsHeader h t → header_fault t ≡ None

@@ -31,7 +31,8 @@ pub record SpellsHeader (h : Header) (text : List ℕ) : Type 0 where
   pub number_width : field text 29 3 + 1 ≡ h.number_width
   pub source : field text 32 (8 * h.id_width) ≡ h.id.source
   pub number : field text (32 + 8 * h.id_width) (8 * h.number_width) ≡ h.id.number
-  pub destination : field text (32 + 8 * h.id_width + 8 * h.number_width) (8 * h.id_width) ≡ h.destination
+  pub destination : field text (32 + 8 * h.id_width + 8 * h.number_width) (8 * h.id_width)
+      ≡ h.destination
 
 -- the octets of the header that the fourth octet tells of
 abbrev pub header_len_told : List ℕ → ℕ

@@ -19,14 +19,14 @@ pub struct Header {
     pub file_data: bool,
     /// Direction: toward the file's sender where true, else toward its receiver.
     pub toward_sender: bool,
-    /// The large file flag: a file-size field, as an offset, has 8 octets where true, else 4 (CCSDS
-    /// 727.0-B-5, 5.1 and 5.1.10).
-    pub large: bool,
     /// Octets of the data field, behind the header: 0 to 65,535.
     pub length: u16,
     /// Whether segment metadata stands before each offset of file data. This stack's senders never
     /// set it.
     pub segment_metadata: bool,
+    /// The large file flag: a file-size field, as an offset, has 8 octets where true, else 4 (CCSDS
+    /// 727.0-B-5, 5.1 and 5.1.10).
+    pub large: bool,
     /// Octets of an entity id: 1 to 8.
     pub id_width: u8,
     /// Octets of a sequence number: 1 to 8.

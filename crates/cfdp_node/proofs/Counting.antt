@@ -143,7 +143,8 @@ both-true : (a b : Bool) → (a && b) ≡ true → (a ≡ true) × (b ≡ true)
 both-true true b e = (refl, e)
 both-true false b e = absurd cc
 
-own-finished : (own : ℕ) (id : TransactionId) (condition : ℕ) (delivery : Delivery) (status : FileStatus) → is_own_completion own (Finished id condition delivery status) ≡ true → IsOwn own (Finished id condition delivery status)
+own-finished : (own : ℕ) (id : TransactionId) (condition : ℕ) (delivery : Delivery) (status : FileStatus) → is_own_completion own (Finished id condition delivery status) ≡ true →
+    IsOwn own (Finished id condition delivery status)
 own-finished own id condition Complete Retained e =
     let p = both-true (condition == no_error) (id.source == own) e in
     record { id = id; is = ap (λ (c : ℕ). Finished id c Complete Retained) (eqb-true condition no_error p.0); source = eqb-true id.source own p.1 }
@@ -267,13 +268,15 @@ ids-distinct own (p ∷ puts) is = cond_both (p.id.source == own) (p.id ∷ ids_
     (λ _. ((λ y c same. (let r = ids-in own puts y c in is.0 r.0 r.1 (r.2 ∙ same))), ids-distinct own puts is.1))
     (λ _. ids-distinct own puts is.1)
 
-ids-first : (p : AcceptedPut) (puts : List AcceptedPut) → p.id.source ≡ 1 → length (ids_of 1 puts) + length (ids_of 2 puts) ≡ length puts → length (ids_of 1 (p ∷ puts)) + length (ids_of 2 (p ∷ puts)) ≡ length (p ∷ puts)
+ids-first : (p : AcceptedPut) (puts : List AcceptedPut) → p.id.source ≡ 1 → length (ids_of 1 puts) + length (ids_of 2 puts) ≡ length puts → length (ids_of 1 (p ∷ puts)) + length (ids_of 2 (p ∷ puts))
+    ≡ length (p ∷ puts)
 ids-first p puts one rest =
     let a : length (ids_of 1 (p ∷ puts)) ≡ suc (length (ids_of 1 puts)) = rw one refl in
     let b : length (ids_of 2 (p ∷ puts)) ≡ length (ids_of 2 puts) = rw one refl in
     omega (arith, rest, a, b)
 
-ids-second : (p : AcceptedPut) (puts : List AcceptedPut) → p.id.source ≡ 2 → length (ids_of 1 puts) + length (ids_of 2 puts) ≡ length puts → length (ids_of 1 (p ∷ puts)) + length (ids_of 2 (p ∷ puts)) ≡ length (p ∷ puts)
+ids-second : (p : AcceptedPut) (puts : List AcceptedPut) → p.id.source ≡ 2 → length (ids_of 1 puts) + length (ids_of 2 puts) ≡ length puts → length (ids_of 1 (p ∷ puts)) + length (ids_of 2 (p ∷ puts))
+    ≡ length (p ∷ puts)
 ids-second p puts two rest =
     let a : length (ids_of 1 (p ∷ puts)) ≡ length (ids_of 1 puts) = rw two refl in
     let b : length (ids_of 2 (p ∷ puts)) ≡ suc (length (ids_of 2 puts)) = rw two refl in
@@ -392,7 +395,8 @@ often-puts : (e : Event) (count : ℕ) (answer : Option Answer) (a b : WorldStat
 often-puts e count None a b is all = times-puts e count a b is all
 often-puts e count (Some answer) a b is h = (let first = times-puts e h.0 a h.2 is h.3 in let last = once-puts e (Some answer) h.2 b is h.4 in omega (arith, first, last))
 
-done-puts : (answer : Option Answer) (a b : WorldState) (Done : Type 0) (Ends : RecoverError → Type 0) → IsDone answer Done Ends → (Done → Many (GoesBy IsNoPut) a b) → ((error : RecoverError) → Ends error → Many (GoesBy IsNoPut) a b) → length b.puts ≡ length a.puts + 0
+done-puts : (answer : Option Answer) (a b : WorldState) (Done : Type 0) (Ends : RecoverError → Type 0) → IsDone answer Done Ends → (Done → Many (GoesBy IsNoPut) a b) →
+    ((error : RecoverError) → Ends error → Many (GoesBy IsNoPut) a b) → length b.puts ≡ length a.puts + 0
 done-puts None a b Done Ends h done ended = same-puts a b (row-puts a b (done h))
 done-puts (Some Nothing) a b Done Ends h done ended = absurd h
 done-puts (Some (Refused by)) a b Done Ends h done ended = absurd h
@@ -403,7 +407,8 @@ settling-row a b (Settle error) h = row-cause IsNoPut no-put-settles no-tick err
 settling-row a b StillArmed h = absurd h
 
 -- A put that is accepted is one more; no other event is.
-put-puts : (s : Side) (source destination : List ℕ) (answer : Option Answer) (a b : WorldState) → answer ≡ None → HappensOnce (event.Put s source destination) answer a b → length b.puts ≡ length a.puts + 1
+put-puts : (s : Side) (source destination : List ℕ) (answer : Option Answer) (a b : WorldState) → answer ≡ None → HappensOnce (event.Put s source destination) answer a b → length b.puts
+    ≡ length a.puts + 1
 put-puts s source destination None a b is h = ap length h.puts ∙ length-append a.puts _
 put-puts s source destination (Some answer) a b is h = absurd cc
 

@@ -52,7 +52,8 @@ module _ (w : WorldState) (put : AcceptedPut) (only : w.puts ≡ put ∷ []) whe
       let side : put_by (seen w) (Some put) ≡ put_at (at One (seen w)) put = ap (λ b. put_at (at (if b then One else Two) (seen w)) put) (eq-eqb put.id.source w.one.entity.state.config.entity own) in
       sym (ap (put_by (seen w)) found ∙ side) ∙ is
 
-same_file : (files : FileMap) (kind : ℕ) (put : AcceptedPut) (p : Put) (found : Option (List ℕ)) → with_octets kind put found ≡ Some p → get files p.destination ≡ Some p.octets → get files put.destination ≡ found
+same_file : (files : FileMap) (kind : ℕ) (put : AcceptedPut) (p : Put) (found : Option (List ℕ)) → with_octets kind put found ≡ Some p → get files p.destination ≡ Some p.octets →
+    get files put.destination ≡ found
 same_file files kind put p None is have = absurd cc
 same_file files kind put p (Some octets) is have =
     let as_put : Put = record { id = put.id; source = put.source; destination = put.destination; octets = octets; checksum_kind = kind } in
@@ -60,7 +61,8 @@ same_file files kind put p (Some octets) is have =
     ap (λ (x : Put). get files x.destination) same ∙ have ∙ ap (λ (x : Put). Some x.octets) (sym same)
 
 pub published : (c : WorldConfig) (outboxes inboxes : FileMap × FileMap) (put : AcceptedPut) (passed : Passage) (one two : StationState) → AreOfWorld c outboxes inboxes put passed one two →
-    (id : TransactionId) → IsToldComplete one.entity.state.config.entity one.entity.state.table.told id → get two.entity.state.table.files put.destination ≡ get one.entity.state.table.sources put.source
+    (id : TransactionId) → IsToldComplete one.entity.state.config.entity one.entity.state.table.told id → get two.entity.state.table.files put.destination
+    ≡ get one.entity.state.table.sources put.source
 published c outboxes inboxes put passed one two is id told =
     let w : WorldState = is.now in
     let told_there : IsToldComplete w.one.entity.state.config.entity w.one.entity.state.table.told id =

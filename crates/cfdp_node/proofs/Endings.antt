@@ -109,10 +109,34 @@ module _ (text : List ℕ) (old new : Option (List ℕ)) (law : Promises (world_
   run_to_end : (exit : Exit) (first : WorldState) → IsFirstBad text None
       → IsFirst (world_of (settings_of text)) (outbox_of One (files_of text), outbox_of Two (files_of text)) (empty, empty) first
       → EndsRun exit (steps_of text) first old new → EndsText exit text old new
-  run_to_end Complete first good starts ran = record { good = good; first = first; starts = starts; ran = ran; promised = kept_to_end _ first starts ran; completed = completed_to_end _ first starts ran }
-  run_to_end Incomplete first good starts ran = record { good = good; first = first; starts = starts; ran = ran; promised = kept_to_end _ first starts ran; completed = completed_to_end _ first starts ran }
+  run_to_end Complete first good starts ran = record {
+    good = good;
+    first = first;
+    starts = starts;
+    ran = ran;
+    promised = kept_to_end _ first starts ran;
+    completed =
+        completed_to_end _ first starts ran;
+  }
+  run_to_end Incomplete first good starts ran = record {
+    good = good;
+    first = first;
+    starts = starts;
+    ran = ran;
+    promised = kept_to_end _ first starts ran;
+    completed =
+        completed_to_end _ first starts ran;
+  }
   run_to_end (BadScript bad) first good starts ran = absurd ran
-  run_to_end (Device NoMemory) first good starts ran = record { good = good; first = first; starts = starts; ran = ran; promised = kept_to_end _ first starts ran; completed = completed_to_end _ first starts ran }
+  run_to_end (Device NoMemory) first good starts ran = record {
+    good = good;
+    first = first;
+    starts = starts;
+    ran = ran;
+    promised = kept_to_end _ first starts ran;
+    completed =
+        completed_to_end _ first starts ran;
+  }
   run_to_end (Device NoMemoryAtStart) first good starts ran = tt
   run_to_end (Device Unwritable) first good starts ran = tt
   run_to_end (Device Unreadable) first good starts ran = absurd ran

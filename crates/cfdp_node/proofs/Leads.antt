@@ -50,7 +50,8 @@ often_leads e count None a b all = so_often e count a b all
 often_leads e count (Some answer) a b h = many-both Called a h.2 b (so_often e h.0 a h.2 h.3) (once_leads e (Some answer) h.2 b h.4)
 
 -- all was done, or an error ended it before
-done_leads : (answer : Option Answer) (a b : WorldState) (Done : Type 0) (Ends : RecoverError → Type 0) → IsDone answer Done Ends → (Done → Called a b) → ((error : RecoverError) → Ends error → Called a b) → Led a b
+done_leads : (answer : Option Answer) (a b : WorldState) (Done : Type 0) (Ends : RecoverError → Type 0) → IsDone answer Done Ends → (Done → Called a b) →
+    ((error : RecoverError) → Ends error → Called a b) → Led a b
 done_leads None a b Done Ends h done ended = one_call a b (done h)
 done_leads (Some Nothing) a b Done Ends h done ended = absurd h
 done_leads (Some (Refused by)) a b Done Ends h done ended = absurd h

@@ -39,7 +39,8 @@ module _ (s : Side) (b : StationState) (m : FrameLinkState) (puts : List Accepte
   polled_more first d k ticks sent (suc count) l now (mid, before, (answer, more, once)) g =
       polled_once first mid now d k ticks sent (polled_more first d k ticks sent count l mid before g) answer once
 
-  polled_out : (first l now : StationState) (d : LinkSenderState) (k : FrameLinkState) (ticks sent : ℕ) → PollsOut l now → GoesAside s first l d b k m puts ticks sent → GoesAside s first now d b k m puts ticks sent
+  polled_out : (first l now : StationState) (d : LinkSenderState) (k : FrameLinkState) (ticks sent : ℕ) → PollsOut l now → GoesAside s first l d b k m puts ticks sent →
+      GoesAside s first now d b k m puts ticks sent
   polled_out first l now d k ticks sent p g =
       let h : GoesAside s first p.last d b k m puts ticks sent = polled_more first d k ticks sent p.count l p.last p.moved g in
       elim p.ends [
@@ -91,7 +92,8 @@ module _ {W : Type 0} (Steps : W → WireCall → W → Type 0) where
     pub frames : link.frames ≡ k.frames ++ left
     pub led : Reaches (world_at s l b k m puts ticks) (world_at s now b link m puts then_ticks)
 
-  has_sent : (s : Side) (every now : ℕ) (old new : Sending W) (b : StationState) (k m : FrameLinkState) (puts : List AcceptedPut) (ticks : ℕ) → IsCarried old.station.down k b.up → IsCarried b.down m old.station.up
+  has_sent : (s : Side) (every now : ℕ) (old new : Sending W) (b : StationState) (k m : FrameLinkState) (puts : List AcceptedPut) (ticks : ℕ) → IsCarried old.station.down k b.up →
+      IsCarried b.down m old.station.up
       → (h : Sends Steps every now old new) → HasSent s old.station new.station b k m puts ticks (frames_left Steps every h.sends.count _ _ h.sends.sent)
   has_sent s every now old new b k m puts ticks forth back h =
       let l : StationState = old.station in
@@ -120,7 +122,8 @@ module _ {W : Type 0} (Steps : W → WireCall → W → Type 0) where
 
   -- ---- frames that come
   -- what came first, and what came behind it
-  come-apart : (sent : List (List ℕ)) (taken : ℕ) (xs ys : List (List ℕ)) (after : ℕ) → ComeInOrder sent taken (xs ++ ys) after → (mid : ℕ) × ComeInOrder sent taken xs mid × ComeInOrder sent mid ys after
+  come-apart : (sent : List (List ℕ)) (taken : ℕ) (xs ys : List (List ℕ)) (after : ℕ) → ComeInOrder sent taken (xs ++ ys) after → (mid : ℕ) × ComeInOrder sent taken xs mid
+      × ComeInOrder sent mid ys after
   come-apart sent taken [] ys after h = (taken, refl, h)
   come-apart sent taken (x ∷ xs) ys after (lost, few, there, is, rest) =
       let r = come-apart sent (taken + lost + 1) xs ys after rest in
@@ -223,7 +226,8 @@ module _ {W : Type 0} (Steps : W → WireCall → W → Type 0) where
         led = reaches_both _ _ _ at.led (reaches_both _ _ _ one.led (reaches_both _ _ _ two.led (reaches_both _ _ _ hears_one.led hears_two.led)));
       }
 
-  take_turns : (id : TransactionId) (every : ℕ) (count : ℕ) (old new : LoopState W) (turns : Turns Steps id every count old new) (passed : Passage) → PassInOrder Steps id every count old new turns passed
+  take_turns : (id : TransactionId) (every : ℕ) (count : ℕ) (old new : LoopState W) (turns : Turns Steps id every count old new) (passed : Passage) →
+      PassInOrder Steps id every count old new turns passed
       → (first : WorldState) (puts : List AcceptedPut) → AreAt first puts old.one old.two nothing_passed → AreAt first puts new.one new.two passed
   take_turns id every zero old new same passed none first puts at =
       subst (λ (p : Passage). AreAt first puts new.one new.two p) (sym none) (subst (λ (x : LoopState W). AreAt first puts x.one x.two nothing_passed) (sym same) at)
@@ -231,8 +235,10 @@ module _ {W : Type 0} (Steps : W → WireCall → W → Type 0) where
       takes_turn every (count + 1) mid new turn earlier passed now first puts (take_turns id every count old mid before earlier pass first puts at)
 
   -- ---- the whole
-  pub are_of_world : ((c : WorldConfig) (outboxes inboxes : FileMap × FileMap) (first now : WorldState) → IsWorldConfig c → IsFirst c outboxes inboxes first → Led first now → KeepsPromises inboxes now)
-      → (c : WorldConfig) (outboxes inboxes : FileMap × FileMap) (source destination : List ℕ) (id : TransactionId) (every count : ℕ) (first : LoopState W) (one : StationState) (last : LoopState W) (passed : Passage)
+  pub are_of_world : ((c : WorldConfig) (outboxes inboxes : FileMap × FileMap) (first now : WorldState) → IsWorldConfig c → IsFirst c outboxes inboxes first → Led first now →
+      KeepsPromises inboxes now)
+      → (c : WorldConfig) (outboxes inboxes : FileMap × FileMap) (source destination : List ℕ) (id : TransactionId) (every count : ℕ) (first : LoopState W) (one : StationState) (last : LoopState W)
+      (passed : Passage)
       → IsWorldConfig c → IsFirstAt c.one outboxes.0 inboxes.0 first.one → IsFirstAt c.two outboxes.1 inboxes.1 first.two → Puts source destination (Ok id) first.one one
       → (turns : Turns Steps id every count (record first { one = one }) last) → PassInOrder Steps id every count (record first { one = one }) last turns passed
       → AreOfWorld c outboxes inboxes (record { id = id; source = source; destination = destination }) passed last.one last.two

@@ -103,7 +103,8 @@ front-all P text rest old new end all =
 
 -- ---- one line
 -- what is written is one line
-pub line_is_written : {E : Type 0} (P : List ℕ → Type 0) (r : Result (Unit {0}) E) (text : List ℕ) (old new : Option (List ℕ)) → P text → OnOk r (Appends old new (as_line text)) → OnOk r (WritesLine P old new)
+pub line_is_written : {E : Type 0} (P : List ℕ → Type 0) (r : Result (Unit {0}) E) (text : List ℕ) (old new : Option (List ℕ)) → P text → OnOk r (Appends old new (as_line text)) →
+    OnOk r (WritesLine P old new)
 line_is_written P (Ok x) text old new such written = record { text = text; such = such; written = written }
 line_is_written P (Err e) text old new such written = tt
 

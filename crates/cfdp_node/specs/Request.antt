@@ -48,17 +48,21 @@ sim_app = with_rule (with_shown (new_app (codes "sim"))) input_rule
 
 -- how lines are told, and the file with them
 abbrev pub told_dump_app : App
-told_dump_app = with_rule (with_rule (with_rule (new_app (codes "dump")) kind_rule) zone_rule) (flag_rule (codes "long"))
+told_dump_app = with_rule (with_rule (with_rule (new_app (codes "dump")) kind_rule) zone_rule)
+    (flag_rule (codes "long"))
 
 abbrev pub dump_app : App
 dump_app = with_rule told_dump_app input_rule
 
 -- the program alone, which shows its help where it gets no word
 abbrev pub top_app : App
-top_app = with_rule (on_top (λ s. record s { arg_required_else_help = true }) (new_app (codes "cfdp_node"))) (flag_rule (codes "version"))
+top_app = with_rule (on_top (λ s. record s { arg_required_else_help = true })
+    (new_app (codes "cfdp_node"))) (flag_rule (codes "version"))
 
 abbrev pub program_app : App
-program_app = with_subcommand (with_subcommand (with_subcommand (with_subcommand top_app sim_app.top) dump_app.top) loop_app.top) station_app.top
+program_app = with_subcommand (with_subcommand
+    (with_subcommand (with_subcommand top_app sim_app.top) dump_app.top) loop_app.top)
+    station_app.top
 
 -- No argument of the command is one of its subcommands too.
 abbrev pub HasNoGlobals : Command → Type 0
@@ -91,17 +95,20 @@ word_of name m = first_of name (rows_of (found_of m))
 -- what a word says of the kind of the lines
 abbrev pub kind_of_word : Text → Option DumpKind
 kind_of_word word =
-    if bytes_eq word (codes "pdus") then Some Pdus else (if bytes_eq word (codes "frames") then Some Frames else None)
+    if bytes_eq word (codes "pdus") then Some Pdus
+    else (if bytes_eq word (codes "frames") then Some Frames else None)
 
 -- the number of octets that decimal digits spell, which a plus sign may begin
 abbrev pub zone_of_word : Text → Option ℕ
-zone_of_word word = if is_unsigned_in 16 2040 word then Some (digits_value 10 (without_leading_plus word)) else None
+zone_of_word word = if is_unsigned_in 16 2040 word
+    then Some (digits_value 10 (without_leading_plus word)) else None
 
 abbrev pub sim_of : List Row → Asked
 sim_of rows = sim (shown_of rows) (first_of (codes "file") rows)
 
 abbrev pub lines_of : List Row → Option Lines
-lines_of rows = option_and_then (λ kind. option_map (λ zone. (kind, zone, is_given (codes "long") rows))
+lines_of rows = option_and_then (λ kind. option_map
+    (λ zone. (kind, zone, is_given (codes "long") rows))
     (option_and_then zone_of_word (first_of (codes "zone") rows)))
     (option_and_then kind_of_word (first_of (codes "kind") rows))
 
@@ -115,7 +122,8 @@ asked_by (Some found) =
     if bytes_eq found.0 (codes "sim") then Some (sim_of found.1)
     else (if bytes_eq found.0 (codes "dump") then dump_of found.1
     else (if bytes_eq found.0 (codes "loop") then option_map loop (loop_of found.1)
-    else (if bytes_eq found.0 (codes "station") then option_map station (station_of found.1) else None)))
+    else (if bytes_eq found.0 (codes "station") then option_map station (station_of found.1)
+    else None)))
 
 -- what words that fit the grammar ask for
 abbrev pub asked_of : List Text → Option Asked
@@ -124,7 +132,8 @@ asked_of words = asked_by (subcommand_of program_app words)
 -- Why words are not done: help was asked for, or they don't fit the grammar, or the kind of the
 -- lines is none. Words that are done have no such reason.
 abbrev pub refusals : List Text → Kinds
-refusals words = or_else (fault_of program_app words) (if is_some (asked_of words) then [] else InvalidValue ∷ [])
+refusals words = or_else (fault_of program_app words)
+    (if is_some (asked_of words) then [] else InvalidValue ∷ [])
 
 -- ---- what the program makes of it
 
@@ -132,7 +141,8 @@ abbrev pub asked_lines : DumpRequest → Lines
 asked_lines request = (request.kind, request.zone, request.long)
 
 abbrev pub asked : Request → Asked
-asked (Sim request) = sim (asked_shown request.shown) (option_map (λ file. file.bytes.items) request.file)
+asked (Sim request) = sim (asked_shown request.shown)
+    (option_map (λ file. file.bytes.items) request.file)
 asked (Dump lines file) = dump (asked_lines lines) (option_map (λ name. name.bytes.items) file)
 asked (Loop request) = loop (loop_asked request)
 asked (Station request) = station (station_asked request)
@@ -153,7 +163,8 @@ refusal_status DisplayVersion = 0
 refusal_status OutOfMemory = 3
 refusal_status mistake = 2
 
--- The process ends with the status of this kind; where help can't be printed, with that of a device.
+-- The process ends with the status of this kind; where help can't be printed, with that of a
+-- device.
 abbrev pub IsStatusOf : ErrorKind → ℕ → Type 0
 IsStatusOf kind status = (status ≡ refusal_status kind) ⊎ ((refusal_status kind ≡ 0) × (status ≡ 3))
 

@@ -188,7 +188,8 @@ pub fn write_frame<W: Write>(octets: &[u8], zone: u16, long: bool, out: &mut W) 
 /// `Length`, `Version`, `OtherProfile` or `OnlyIdle`, the first that holds: the frame is never one
 /// of another link.
 fn read_frame(octets: &[u8], zone: u16) -> Result<FrameLine, FrameError>
-    ensures found { IfOk result (λ frame. SpellsFrame (own_link octets.now zone) frame.header octets.now) }
+    ensures found { IfOk result (λ frame. SpellsFrame
+        (own_link octets.now zone) frame.header octets.now) }
     ensures pointer { IfOk result (λ frame. frame.pointer ≡ pointer_of (drop 6 octets.now)) }
     ensures refused { result_err result ≡ frame_fault octets.now (own_link octets.now zone) }
     ensures own { (result_err result ≢ Some FrameError.OtherSpacecraft)

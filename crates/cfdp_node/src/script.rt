@@ -142,7 +142,8 @@ impl Script {
     }
 
     fn keep_setting(&mut self, line: usize, setting: Setting, value: u64)
-        ensures { gathered self.new ≡ taken (gathered self.old) line (Some (Line.Set setting value)) }
+        ensures { gathered self.new ≡ taken (gathered self.old) line
+            (Some (Line.Set setting value)) }
     {
         if self.steps.is_empty() {
             self.settings.set(setting, value);
@@ -172,7 +173,8 @@ impl Script {
         ensures same { IfOk result (λ config. config ≡ world_of self.now.settings) }
         ensures good { OnOk result (IsFirst (option_map (λ bad. bad.line) self.now.first_bad)
             self.now.last_set self.now.settings None) }
-        ensures bad { IfErr result (λ told. IsFirst (option_map (λ bad. bad.line) self.now.first_bad)
+        ensures bad { IfErr result (λ told. IsFirst
+            (option_map (λ bad. bad.line) self.now.first_bad)
             self.now.last_set self.now.settings (Some told.line)) }
     {
         let Some(config) = self.settings.config() else {

@@ -148,8 +148,11 @@ its_nak_fits : (r : ReceiverState) (cursor : ℕ) → All (LiesIn cursor (scope_
 its_nak_fits r cursor all low high =
     let metadata : Bool = is_none r.metadata && (cursor == 0) in
     let pairs = asked_fit metadata cursor (scope_limit r) (gaps_of r.held cursor (scope_limit r)) all high in
-    let none : 0 < 256 ^ (file_size_octets false) = omega arith in
-    (omega (arith, low), scope_fits (has_more (missing_pairs cursor r)) (last_end 0 (asked (missing_pairs cursor r))) (scope_limit r) (last_fits 0 (asked (missing_pairs cursor r)) none pairs) high, pairs)
+    let none : 0 < 256 ^ (file_size_octets false) = omega arith in (
+      omega (arith, low),
+      scope_fits (has_more (missing_pairs cursor r)) (last_end 0 (asked (missing_pairs cursor r))) (scope_limit r) (last_fits 0 (asked (missing_pairs cursor r)) none pairs) high,
+      pairs,
+    )
 
 module _ (r : ReceiverState) (cursor limit : ℕ) (gaps : List (ℕ × ℕ)) (up_to : limit ≡ scope_limit r) (are : gaps ≡ gaps_of r.held cursor limit) where
   are_gaps : gaps ≡ gaps_of r.held cursor (scope_limit r)
@@ -157,8 +160,10 @@ module _ (r : ReceiverState) (cursor limit : ℕ) (gaps : List (ℕ × ℕ)) (up
 
   pub nak_fits : All (LiesIn cursor limit) gaps → cursor ≤ size_limit → limit ≤ size_limit → FitsContent (file_size_octets false) (receiver_says r (due_is.Nak cursor))
   nak_fits all low high =
-      its_nak_fits r cursor (subst (λ (l : List (ℕ × ℕ)). All (LiesIn cursor (scope_limit r)) l) are_gaps (subst (λ n. All (LiesIn cursor n) gaps) up_to all)) low (subst (λ n. n ≤ size_limit) up_to high)
+      its_nak_fits r cursor (subst (λ (l : List (ℕ × ℕ)). All (LiesIn cursor (scope_limit r)) l) are_gaps (subst (λ n. All (LiesIn cursor n) gaps) up_to all)) low
+      (subst (λ n. n ≤ size_limit) up_to high)
 
-  pub pairs_counted : (metadata : Bool) (count : ℕ) → metadata ≡ (is_none r.metadata && (cursor == 0)) → count ≡ length (asked (with_metadata metadata gaps)) → length (asked (missing_pairs cursor r)) ≡ count
+  pub pairs_counted : (metadata : Bool) (count : ℕ) → metadata ≡ (is_none r.metadata && (cursor == 0)) → count ≡ length (asked (with_metadata metadata gaps)) → length (asked (missing_pairs cursor r))
+      ≡ count
   pairs_counted metadata count is counted =
       sym (counted ∙ ap (λ b. length (asked (with_metadata b gaps))) is ∙ ap (λ (l : List (ℕ × ℕ)). length (asked (with_metadata (is_none r.metadata && (cursor == 0)) l))) are_gaps)

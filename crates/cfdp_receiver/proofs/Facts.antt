@@ -130,7 +130,8 @@ module _ (stored : Stored) (files : FileMap) where
     ];
   }
 
-publication : RangesHold → (stored : Stored) (files : FileMap) (info : FileInfo) (ending : Ending) (m : OctetMap) (r : ReceiverState) → r.phase ≡ Receiving → r.metadata ≡ Some info → r.ending ≡ Some ending
+publication : RangesHold → (stored : Stored) (files : FileMap) (info : FileInfo) (ending : Ending) (m : OctetMap) (r : ReceiverState) → r.phase ≡ Receiving → r.metadata ≡ Some info → r.ending
+    ≡ Some ending
     → set.is_subset (range 0 ending.size) r.held ≡ true → After stored files r (published_by stored info ending m files r)
 publication ranges Done files info ending m r is named ended whole = record {
   ends = λ o e. inr (subst (λ (x : Outcome). Contains (finished_told r.addressing.id complete ∷ []) (finished_told r.addressing.id x)) (only_one complete o e) (0, omega arith, refl));
@@ -224,8 +225,10 @@ module _ (ranges : RangesHold) (stored : Stored) (files : FileMap) (m : OctetMap
       let end : ℕ = offset + length bytes in
       let all : Offsets = set.union r.held (range offset end) in
       let P : ReceiverAfter → Type 0 = MayEnd stored r.addressing r.phase r.outcome all files in
-      let more : (n : ℕ) → set.contains r.held n ≡ true → set.contains all n ≡ true = λ n was. set.contains-union nat_cmp_total r.held (range offset end) n ∙ or_left (set.contains r.held n) (set.contains (range offset end) n) was in
-      cond_both (exceeds r.ending end) (faulted file_size_error m files r) (if set.is_subset (range offset end) r.held then completed stored m files r else receives_new stored offset bytes m files r) P
+      let more : (n : ℕ) → set.contains r.held n ≡ true → set.contains all n ≡ true = λ n was. set.contains-union nat_cmp_total r.held (range offset end) n
+      ∙ or_left (set.contains r.held n) (set.contains (range offset end) n) was in
+      cond_both (exceeds r.ending end) (faulted file_size_error m files r)
+      (if set.is_subset (range offset end) r.held then completed stored m files r else receives_new stored offset bytes m files r) P
       (λ _. wider stored files r all (faulted file_size_error m files r) more (faults stored files file_size_error m r))
       (λ _. cond_both (set.is_subset (range offset end) r.held) (completed stored m files r) (receives_new stored offset bytes m files r) P
       (λ _. wider stored files r all (completed stored m files r) more (completes ranges stored files m r is))
@@ -261,7 +264,8 @@ module _ (ranges : RangesHold) (stored : Stored) (files : FileMap) (m : OctetMap
   hears-ends (FileData offset bytes) =
       let step : ReceiverAfter = receives_data stored offset bytes m files r in
       let all : Offsets = set.union r.held (range offset (offset + length bytes)) in
-      let more : (n : ℕ) → set.contains r.held n ≡ true → set.contains all n ≡ true = λ n was. set.contains-union nat_cmp_total r.held (range offset (offset + length bytes)) n ∙ or_left (set.contains r.held n) (set.contains (range offset (offset + length bytes)) n) was in
+      let more : (n : ℕ) → set.contains r.held n ≡ true → set.contains all n ≡ true = λ n was. set.contains-union nat_cmp_total r.held (range offset (offset + length bytes)) n
+      ∙ or_left (set.contains r.held n) (set.contains (range offset (offset + length bytes)) n) was in
       timed stored files (Some kind.Inactivity) (record r { held = all }) (if is_receiving r.phase then step else leaving m files r)
       (receiving-only all step (leaving m files r) (data-ends offset bytes) (wider stored files r all (leaving m files r) more same))
   hears-ends (Eof condition checksum size tlvs) =
@@ -273,9 +277,11 @@ module _ (ranges : RangesHold) (stored : Stored) (files : FileMap) (m : OctetMap
       heard-quiet (acknowledged_by r) (cond_both (is_finishing r.phase && r.finished_taken) (closed r) r (λ (x : ReceiverState). x.outcome ≡ r.outcome) (λ _. refl) (λ _. refl))
   hears-ends (Ack acknowledged.Eof condition status) = same
   hears-ends (Prompt true) =
-      heard-quiet (if is_receiving r.phase then prompted_for true r else r) (cond_both (is_receiving r.phase) (prompted_for true r) r (λ (x : ReceiverState). x.outcome ≡ r.outcome) (λ _. refl) (λ _. refl))
+      heard-quiet (if is_receiving r.phase then prompted_for true r else r)
+      (cond_both (is_receiving r.phase) (prompted_for true r) r (λ (x : ReceiverState). x.outcome ≡ r.outcome) (λ _. refl) (λ _. refl))
   hears-ends (Prompt false) =
-      heard-quiet (if is_receiving r.phase then prompted_for false r else r) (cond_both (is_receiving r.phase) (prompted_for false r) r (λ (x : ReceiverState). x.outcome ≡ r.outcome) (λ _. refl) (λ _. refl))
+      heard-quiet (if is_receiving r.phase then prompted_for false r else r)
+      (cond_both (is_receiving r.phase) (prompted_for false r) r (λ (x : ReceiverState). x.outcome ≡ r.outcome) (λ _. refl) (λ _. refl))
   hears-ends (Finished condition delivery status tlvs) = same
   hears-ends (Nak start end pairs) = same
   hears-ends (KeepAlive progress) = same

@@ -86,7 +86,8 @@ module _ (ranges : RangesHold) (unions : UnionsHold) (differences : DifferencesH
 
   missing-is : (held : Offsets) (start limit k : ℕ) → set.contains (union_of (gaps_of held start limit)) k ≡ true → (k < limit) × (set.contains held k ≡ false)
   missing-is held start limit k h =
-      let both : (set.contains (range start limit) k && not (set.contains held k)) ≡ true = sym (ap (λ s. set.contains s k) (gaps held start limit).union ∙ differences (range start limit) held k) ∙ h in
+      let both : (set.contains (range start limit) k && not (set.contains held k)) ≡ true = sym (ap (λ s. set.contains s k) (gaps held start limit).union ∙ differences (range start limit) held k)
+      ∙ h in
       let parts = and_parts (set.contains (range start limit) k) (not (set.contains held k)) both in
       let inside = and_parts (nat_le start k) (nat_lt k limit) (sym (ranges start limit k) ∙ parts.0) in
       (ltb-true k limit inside.1, not_true (set.contains held k) parts.1)
@@ -133,9 +134,11 @@ module _ (ranges : RangesHold) (unions : UnionsHold) (differences : DifferencesH
     still r1 cursor missing = ap (λ o. asks_from o r1) cursor ∙ asks-same r.nak_cursor r r1 missing ∙ was
 
     hears-tidy : (v : Content) → Tidy (receiver_hears stored v m files r)
-    hears-tidy (Metadata checksum_kind size source destination options) = tidied-tidy (if is_receiving r.phase then receives_metadata stored checksum_kind size source destination m files r else leaving m files r).receiver
+    hears-tidy (Metadata checksum_kind size source destination options) =
+        tidied-tidy (if is_receiving r.phase then receives_metadata stored checksum_kind size source destination m files r else leaving m files r).receiver
     hears-tidy (FileData offset bytes) = tidied-tidy (if is_receiving r.phase then receives_data stored offset bytes m files r else leaving m files r).receiver
-    hears-tidy (Eof condition checksum size tlvs) = tidied-tidy (if is_receiving r.phase then receives_eof stored condition checksum size m files r else leaving m files (record r { ack_due = Some condition })).receiver
+    hears-tidy (Eof condition checksum size tlvs) = tidied-tidy (if is_receiving r.phase then receives_eof stored condition checksum size m files r
+        else leaving m files (record r { ack_due = Some condition })).receiver
     hears-tidy (Ack acknowledged.Finished condition status) = tidied-tidy (acknowledged_by r)
     hears-tidy (Ack acknowledged.Eof condition status) = was
     hears-tidy (Prompt keep_alive) = tidied-tidy (if is_receiving r.phase then prompted_for keep_alive r else r)
@@ -159,7 +162,9 @@ module _ (ranges : RangesHold) (unions : UnionsHold) (differences : DifferencesH
     step-tidy Cancels = cond_both (is_receiving r.phase) (ends (failed cancel_request) m files r) (leaving m files r) Tidy (λ _. refl) (λ _. was)
     step-tidy Suspends =
         let told : List Indication = indication.Suspended r.addressing.id suspend_request ∷ [] in
-        cond_both (is_receiving r.phase && not r.suspended) (telling told (leaving m files (record r { suspended = true }))) (leaving m files r) Tidy (λ _. still (record r { suspended = true }) refl (λ c. refl)) (λ _. was)
+        cond_both (is_receiving r.phase && not r.suspended) (telling told (leaving m files (record r { suspended = true }))) (leaving m files r) Tidy
+        (λ _. still (record r { suspended = true }) refl (λ c. refl)) (λ _. was)
     step-tidy Resumes =
         let told : List Indication = indication.Resumed r.addressing.id ∷ [] in
-        cond_both r.suspended (telling told (leaving m files (record r { suspended = false; nak_count = 0; finished_count = 0 }))) (leaving m files r) Tidy (λ _. still (record r { suspended = false; nak_count = 0; finished_count = 0 }) refl (λ c. refl)) (λ _. was)
+        cond_both r.suspended (telling told (leaving m files (record r { suspended = false; nak_count = 0; finished_count = 0 }))) (leaving m files r) Tidy
+        (λ _. still (record r { suspended = false; nak_count = 0; finished_count = 0 }) refl (λ c. refl)) (λ _. was)

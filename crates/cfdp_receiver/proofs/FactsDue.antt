@@ -16,14 +16,17 @@ use Rattle.cfdp_receiver.specs.Pieces.{new_pieces, staged_with}
 use Rattle.cfdp_receiver.specs.Steps.{ReceiverAfter, leaving, faulted, completed, completed_by, exceeds, with_data, receives_new, receives_data}
 use Rattle.cfdp_receiver.specs.Sound.{ReceiverInput, Hears, Takes, Expires, Cancels, Suspends, Resumes, receiver_step, owes_finished}
 
-completed-owes : (stored : Stored) (metadata : Option FileInfo) (ending : Option Ending) (m : OctetMap) (files : FileMap) (r : ReceiverState) → owes_finished r ≡ true → owes_finished (completed_by stored metadata ending m files r).receiver ≡ true
+completed-owes : (stored : Stored) (metadata : Option FileInfo) (ending : Option Ending) (m : OctetMap) (files : FileMap) (r : ReceiverState) → owes_finished r ≡ true →
+    owes_finished (completed_by stored metadata ending m files r).receiver ≡ true
 completed-owes stored metadata ending m files r h = search rules
 
-new-owes : (stored : Stored) (offset : ℕ) (bytes : List ℕ) (m : OctetMap) (files : FileMap) (r : ReceiverState) → owes_finished r ≡ true → owes_finished (receives_new stored offset bytes m files r).receiver ≡ true
+new-owes : (stored : Stored) (offset : ℕ) (bytes : List ℕ) (m : OctetMap) (files : FileMap) (r : ReceiverState) → owes_finished r ≡ true →
+    owes_finished (receives_new stored offset bytes m files r).receiver ≡ true
 new-owes Done offset bytes m files r h = (let r1 : ReceiverState = with_data offset bytes r in completed-owes Done r1.metadata r1.ending (staged_with m (new_pieces r.held offset bytes)) files r1 h)
 new-owes Refused offset bytes m files r h = refl
 
-data-owes : (stored : Stored) (offset : ℕ) (bytes : List ℕ) (m : OctetMap) (files : FileMap) (r : ReceiverState) → owes_finished r ≡ true → owes_finished (receiver_step stored (Hears (FileData offset bytes)) m files r).receiver ≡ true
+data-owes : (stored : Stored) (offset : ℕ) (bytes : List ℕ) (m : OctetMap) (files : FileMap) (r : ReceiverState) → owes_finished r ≡ true →
+    owes_finished (receiver_step stored (Hears (FileData offset bytes)) m files r).receiver ≡ true
 data-owes stored offset bytes m files r h =
     let Owes : ReceiverAfter → Type 0 = λ a. owes_finished a.receiver ≡ true in
     cond_both (is_receiving r.phase) (receives_data stored offset bytes m files r) (leaving m files r) Owes
@@ -35,7 +38,8 @@ data-owes stored offset bytes m files r h =
     (λ _. new-owes stored offset bytes m files r h)))
     (λ _. h)
 
-pub step-owes : (stored : Stored) (input : ReceiverInput) (m : OctetMap) (files : FileMap) (r : ReceiverState) → owes_finished r ≡ true → owes_finished (receiver_step stored input m files r).receiver ≡ true
+pub step-owes : (stored : Stored) (input : ReceiverInput) (m : OctetMap) (files : FileMap) (r : ReceiverState) → owes_finished r ≡ true → owes_finished (receiver_step stored input m files r).receiver
+    ≡ true
 step-owes stored (Hears (FileData offset bytes)) m files r h = data-owes stored offset bytes m files r h
 step-owes stored (Hears (Metadata checksum_kind size source destination options)) m files r h = search rules
 step-owes stored (Hears (Eof condition checksum size tlvs)) m files r h = search rules

@@ -24,11 +24,13 @@ use Rattle.cfdp_receiver.specs.Pieces.{new_pieces, staged_with}
 use Rattle.cfdp_receiver.specs.Steps.{ReceiverAfter, leaving, faulted, completed, completed_by, exceeds, with_data, receives_new, receives_data, hears_data}
 use Rattle.cfdp_receiver.specs.Sound.{ReceiverInput, Hears, Takes, Expires, Cancels, Suspends, Resumes, receiver_step, held_after}
 
-completed-octets : (stored : Stored) (metadata : Option FileInfo) (ending : Option Ending) (m : OctetMap) (files : FileMap) (r : ReceiverState) → (completed_by stored metadata ending m files r).octets ≡ m
+completed-octets : (stored : Stored) (metadata : Option FileInfo) (ending : Option Ending) (m : OctetMap) (files : FileMap) (r : ReceiverState) → (completed_by stored metadata ending m files r).octets
+    ≡ m
 completed-octets stored metadata ending m files r = search rules
 
 -- of what is held while it receives
-completed-held : (stored : Stored) (metadata : Option FileInfo) (ending : Option Ending) (m : OctetMap) (files : FileMap) (r : ReceiverState) → (completed_by stored metadata ending m files r).receiver.phase ≡ Receiving
+completed-held : (stored : Stored) (metadata : Option FileInfo) (ending : Option Ending) (m : OctetMap) (files : FileMap) (r : ReceiverState) →
+    (completed_by stored metadata ending m files r).receiver.phase ≡ Receiving
     → (completed_by stored metadata ending m files r).receiver.held ≡ r.held
 completed-held stored metadata ending m files r = search rules
 
@@ -141,8 +143,11 @@ module _ (staged : StagedNew) (sets : SetsHold) (stored : Stored) (m : OctetMap)
 
   pub step-octets : (input : ReceiverInput) → set.contains r.held n ≡ true → map.get (receiver_step stored input m files r).octets n ≡ map.get m n
   step-octets (Hears (FileData offset bytes)) was = data-octets staged sets offset bytes n stored m files r was
-  step-octets (Hears (Metadata checksum_kind size source destination options)) was = from_leaves (receiver_step stored (Hears (Metadata checksum_kind size source destination options)) m files r) (hears-leaves stored m files r (Metadata checksum_kind size source destination options) refl)
-  step-octets (Hears (Eof condition checksum size tlvs)) was = from_leaves (receiver_step stored (Hears (Eof condition checksum size tlvs)) m files r) (hears-leaves stored m files r (Eof condition checksum size tlvs) refl)
+  step-octets (Hears (Metadata checksum_kind size source destination options)) was =
+      from_leaves (receiver_step stored (Hears (Metadata checksum_kind size source destination options)) m files r)
+      (hears-leaves stored m files r (Metadata checksum_kind size source destination options) refl)
+  step-octets (Hears (Eof condition checksum size tlvs)) was = from_leaves (receiver_step stored (Hears (Eof condition checksum size tlvs)) m files r)
+      (hears-leaves stored m files r (Eof condition checksum size tlvs) refl)
   step-octets (Hears (Ack of condition status)) was = from_leaves (receiver_step stored (Hears (Ack of condition status)) m files r) (hears-leaves stored m files r (Ack of condition status) refl)
   step-octets (Hears (Prompt keep_alive)) was = refl
   step-octets (Hears (Finished condition delivery status tlvs)) was = refl
@@ -154,10 +159,14 @@ module _ (staged : StagedNew) (sets : SetsHold) (stored : Stored) (m : OctetMap)
   step-octets Suspends was = from_leaves (receiver_step stored Suspends m files r) (suspends-leaves stored m files r)
   step-octets Resumes was = from_leaves (receiver_step stored Resumes m files r) (resumes-leaves stored m files r)
 
-  pub step-held : (input : ReceiverInput) → (receiver_step stored input m files r).receiver.phase ≡ Receiving → set.contains (receiver_step stored input m files r).receiver.held n ≡ set.contains (held_after input r.held) n
+  pub step-held : (input : ReceiverInput) → (receiver_step stored input m files r).receiver.phase ≡ Receiving → set.contains (receiver_step stored input m files r).receiver.held n
+      ≡ set.contains (held_after input r.held) n
   step-held (Hears (FileData offset bytes)) = data-held staged sets offset bytes n stored m files r
-  step-held (Hears (Metadata checksum_kind size source destination options)) = held_leaves (receiver_step stored (Hears (Metadata checksum_kind size source destination options)) m files r) (hears-leaves stored m files r (Metadata checksum_kind size source destination options) refl)
-  step-held (Hears (Eof condition checksum size tlvs)) = held_leaves (receiver_step stored (Hears (Eof condition checksum size tlvs)) m files r) (hears-leaves stored m files r (Eof condition checksum size tlvs) refl)
+  step-held (Hears (Metadata checksum_kind size source destination options)) =
+      held_leaves (receiver_step stored (Hears (Metadata checksum_kind size source destination options)) m files r)
+      (hears-leaves stored m files r (Metadata checksum_kind size source destination options) refl)
+  step-held (Hears (Eof condition checksum size tlvs)) = held_leaves (receiver_step stored (Hears (Eof condition checksum size tlvs)) m files r)
+      (hears-leaves stored m files r (Eof condition checksum size tlvs) refl)
   step-held (Hears (Ack of condition status)) = held_leaves (receiver_step stored (Hears (Ack of condition status)) m files r) (hears-leaves stored m files r (Ack of condition status) refl)
   step-held (Hears (Prompt keep_alive)) = held_leaves (receiver_step stored (Hears (Prompt keep_alive)) m files r) (hears-leaves stored m files r (Prompt keep_alive) refl)
   step-held (Hears (Finished condition delivery status tlvs)) = λ _. refl

@@ -102,7 +102,8 @@ abbrev pub OwnClear : Type 0
 OwnClear = (times : Times) (anew : Option Kind) (r : ReceiverState) (timers : TimersState) (k : Kind) → waits k r ≡ false → deadline_of (timers_set times anew r timers) r.addressing.id k ≡ None
 
 abbrev pub OthersKept : Type 0
-OthersKept = (times : Times) (anew : Option Kind) (r : ReceiverState) (timers : TimersState) (id : TransactionId) (k : Kind) → same_id r.addressing.id id ≡ false → deadline_of (timers_set times anew r timers) id k ≡ deadline_of timers id k
+OthersKept = (times : Times) (anew : Option Kind) (r : ReceiverState) (timers : TimersState) (id : TransactionId) (k : Kind) → same_id r.addressing.id id ≡ false →
+    deadline_of (timers_set times anew r timers) id k ≡ deadline_of timers id k
 
 pub opened-armed : OwnArmed → KeepsAddressing → (times : Times) (begun stored : Stored) (v : Content) (files : FileMap) (addressing : Addressing) (timers : TimersState) (k : Kind)
     → waits k (opens_hearing begun stored v files addressing).receiver ≡ true
@@ -120,7 +121,8 @@ opened-clear law keeps times Done stored v files addressing timers k none h =
     subst (λ id. deadline_of (timers_set times a.anew a.receiver timers) id k ≡ None) (own_id keeps stored v files addressing) (law times a.anew a.receiver timers k h)
 opened-clear law keeps times Refused stored v files addressing timers k none h = none
 
-pub opened-others : OthersKept → KeepsAddressing → (times : Times) (begun stored : Stored) (v : Content) (files : FileMap) (addressing : Addressing) (timers : TimersState) (id : TransactionId) (k : Kind)
+pub opened-others : OthersKept → KeepsAddressing → (times : Times) (begun stored : Stored) (v : Content) (files : FileMap) (addressing : Addressing) (timers : TimersState) (id : TransactionId)
+    (k : Kind)
     → same_id addressing.id id ≡ false
     → deadline_of (timers_opened times begun (opens_hearing begun stored v files addressing) timers) id k ≡ deadline_of timers id k
 opened-others law keeps times Done stored v files addressing timers id k other =

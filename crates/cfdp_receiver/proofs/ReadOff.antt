@@ -16,7 +16,8 @@ module _ {A B : Type 0} (By : List InboxCall → A → A → Type 0) (Then : Lis
   pub discards : (id : TransactionId) (old new : A) → Discards By id old new → Discards Then id (f old) (f new)
   discards id old new d = (d.0, read (Discard id d.0 ∷ []) old new d.1)
 
-  pub publishes : (stored : Stored) (id : TransactionId) (info : Option FileInfo) (ending : Option Ending) (old new : A) → Publishes By stored id info ending old new → Publishes Then stored id info ending (f old) (f new)
+  pub publishes : (stored : Stored) (id : TransactionId) (info : Option FileInfo) (ending : Option Ending) (old new : A) → Publishes By stored id info ending old new →
+      Publishes Then stored id info ending (f old) (f new)
   publishes Done id (Some info) (Some ending) old new p = read (Publish id info.destination ending.size (Ok tt) ∷ []) old new p
   publishes Refused id (Some info) (Some ending) old new p = (p.0, p.1, read (Publish id info.destination ending.size (Err p.0) ∷ Discard id p.1 ∷ []) old new p.2)
   publishes Done id (Some info) None old new p = absurd p
@@ -24,7 +25,8 @@ module _ {A B : Type 0} (By : List InboxCall → A → A → Type 0) (Then : Lis
   publishes Done id None ending old new p = absurd p
   publishes Refused id None ending old new p = absurd p
 
-  pub ends-by : (complete : Bool) (stored : Stored) (id : TransactionId) (info : Option FileInfo) (ending : Option Ending) (old new : A) → EndsBy By complete stored id info ending old new → EndsBy Then complete stored id info ending (f old) (f new)
+  pub ends-by : (complete : Bool) (stored : Stored) (id : TransactionId) (info : Option FileInfo) (ending : Option Ending) (old new : A) → EndsBy By complete stored id info ending old new →
+      EndsBy Then complete stored id info ending (f old) (f new)
   ends-by true stored id info ending old new e = publishes Done id info ending old new e
   ends-by false Done id info ending old new e = discards id old new e
   ends-by false Refused id info ending old new e = publishes Refused id info ending old new e

@@ -57,7 +57,8 @@ or_other a b h isnt = sym (ap (λ c. c || b) isnt) ∙ h
 and_new : (a b : Bool) → a ≡ true → b ≡ false → (a && not b) ≡ true
 and_new a b p q = ap (λ c. c && not b) p ∙ ap not q
 
-module _ (laws : LowerLaws) (put : Put) (pdus : List (List ℕ)) (fits : Type 0) (receivable : fits → IsReceivable put) (files : FileMap) (m : OctetMap) (r : ReceiverState) (s : Sound put pdus r m) where
+module _ (laws : LowerLaws) (put : Put) (pdus : List (List ℕ)) (fits : Type 0) (receivable : fits → IsReceivable put) (files : FileMap) (m : OctetMap) (r : ReceiverState)
+    (s : Sound put pdus r m) where
   abbrev To : ReceiverAfter → Type 0
   To a = After laws put pdus fits files r a
 
@@ -79,18 +80,21 @@ module _ (laws : LowerLaws) (put : Put) (pdus : List (List ℕ)) (fits : Type 0)
               was_heard = o.was_heard;
             }
         | inr wasnt ↦
-            let inside : is_within offset end n ≡ true = sym (laws.ranges offset end n) ∙ or_other (set.contains r.held n) (set.contains (range offset end) n) (sym (laws.sets r.held (range offset end) n) ∙ h) wasnt in
+            let inside : is_within offset end n ≡ true = sym (laws.ranges offset end n)
+            ∙ or_other (set.contains r.held n) (set.contains (range offset end) n) (sym (laws.sets r.held (range offset end) n) ∙ h) wasnt in
             let parts = and_parts (nat_le offset n) (nat_lt n end) inside in
             let low : offset ≤ n = leb-true offset n parts.0 in
             let high : n < offset + length bytes = ltb-true n end parts.1 in
             record {
               within = omega (arith, low, high, ap length truth, length-take (length bytes) (drop offset put.octets), length-drop offset put.octets);
-              same = staged ∙ by_and (is_within offset end n) (set.contains r.held n) (slice_get bytes (n - offset)) (map.get m n) (and_new (is_within offset end n) (set.contains r.held n) inside wasnt) ∙ data-is put.octets bytes offset n truth low high;
+              same = staged ∙ by_and (is_within offset end n) (set.contains r.held n) (slice_get bytes (n - offset)) (map.get m n)
+                  (and_new (is_within offset end n) (set.contains r.held n) inside wasnt) ∙ data-is put.octets bytes offset n truth low high;
               was_heard = among n low high;
             }
       ]
 
-  no-excess : (offset : ℕ) (bytes : List ℕ) → IsReceivable put → offset ≤ length put.octets → IsTruthful put (FileData offset bytes) → (ending : Option Ending) → IfSome ending (IsEndOf put pdus) → exceeds ending (offset + length bytes) ≡ false
+  no-excess : (offset : ℕ) (bytes : List ℕ) → IsReceivable put → offset ≤ length put.octets → IsTruthful put (FileData offset bytes) → (ending : Option Ending) → IfSome ending (IsEndOf put pdus) →
+      exceeds ending (offset + length bytes) ≡ false
   no-excess offset bytes f low truth (Some ending) e =
       let end : ℕ = offset + length bytes in
       let within : end ≤ length put.octets = omega (arith, low, ap length truth, length-take (length bytes) (drop offset put.octets), length-drop offset put.octets) in
@@ -103,11 +107,13 @@ module _ (laws : LowerLaws) (put : Put) (pdus : List (List ℕ)) (fits : Type 0)
       let most : length put.octets ≤ size_limit = f.size in
       le-ltb size_limit end (omega (arith, within, most))
 
-  data-true : (stored : Stored) (offset : ℕ) (bytes : List ℕ) → r.phase ≡ Receiving → IsTruthful put (FileData offset bytes) → IsAmong put pdus (FileData offset bytes) → (fits → offset ≤ length put.octets)
+  data-true : (stored : Stored) (offset : ℕ) (bytes : List ℕ) → r.phase ≡ Receiving → IsTruthful put (FileData offset bytes) → IsAmong put pdus (FileData offset bytes) →
+      (fits → offset ≤ length put.octets)
       → To (receives_data stored offset bytes m files r)
   data-true stored offset bytes is truth among begins =
       let end : ℕ = offset + length bytes in
-      cond_both (exceeds r.ending end) (faulted file_size_error m files r) (if set.is_subset (range offset end) r.held then completed stored m files r else receives_new stored offset bytes m files r) To
+      cond_both (exceeds r.ending end) (faulted file_size_error m files r)
+      (if set.is_subset (range offset end) r.held then completed stored m files r else receives_new stored offset bytes m files r) To
       (λ far. faults laws put pdus fits files file_size_error m r known (λ f. absurd (both_ways (exceeds r.ending end) (no-excess offset bytes (receivable f) (begins f) truth r.ending s.end) far)))
       (λ _. cond_both (set.is_subset (range offset end) r.held) (completed stored m files r) (receives_new stored offset bytes m files r) To
       (λ _. completes laws put pdus fits files m r is s stored)
@@ -129,7 +135,8 @@ module _ (laws : LowerLaws) (put : Put) (pdus : List (List ℕ)) (fits : Type 0)
       new Refused = faults laws put pdus fits files filestore_rejection m r known (λ _. refl)
 
   -- ---- Metadata
-  metadata-true : (stored : Stored) (checksum_kind size : ℕ) (source destination : List ℕ) (options : List Tlv) → r.phase ≡ Receiving → IsTruthful put (Metadata checksum_kind size source destination options)
+  metadata-true : (stored : Stored) (checksum_kind size : ℕ) (source destination : List ℕ) (options : List Tlv) → r.phase ≡ Receiving →
+      IsTruthful put (Metadata checksum_kind size source destination options)
       → IsAmong put pdus (Metadata checksum_kind size source destination options) → To (receives_metadata stored checksum_kind size source destination m files r)
   metadata-true stored checksum_kind size source destination options is truth among =
       let i : Indication = indication.MetadataRecv r.addressing.id source destination size in
@@ -148,11 +155,13 @@ module _ (laws : LowerLaws) (put : Put) (pdus : List (List ℕ)) (fits : Type 0)
   -- ---- EOF
   end-within : r.phase ≡ Receiving → (size : ℕ) → size ≡ length put.octets → end_of r.held ≤ size
   end-within is size same = elim (cases_lt 0 (end_of r.held)) [
-    | inl some ↦ let o : HoldsOctet put pdus m (end_of r.held - 1) = s.octets is (end_of r.held - 1) (laws.last r.held some) in let low : end_of r.held - 1 < length put.octets = o.within in omega (arith, low, same)
+    | inl some ↦ let o : HoldsOctet put pdus m (end_of r.held - 1) = s.octets is (end_of r.held - 1) (laws.last r.held some) in let low : end_of r.held - 1 < length put.octets = o.within in
+        omega (arith, low, same)
     | inr none ↦ omega arith
   ]
 
-  eof-true : (stored : Stored) (condition checksum size : ℕ) (tlvs : List Tlv) → r.phase ≡ Receiving → IsTruthful put (Eof condition checksum size tlvs) → IsAmong put pdus (Eof condition checksum size tlvs)
+  eof-true : (stored : Stored) (condition checksum size : ℕ) (tlvs : List Tlv) → r.phase ≡ Receiving → IsTruthful put (Eof condition checksum size tlvs) →
+      IsAmong put pdus (Eof condition checksum size tlvs)
       → To (receives_eof stored condition checksum size m files r)
   eof-true stored condition checksum size tlvs is truth among =
       let again : ReceiverAfter = leaving m files (record r { ack_due = Some no_error; nak_cursor = Some 0 }) in
@@ -161,7 +170,8 @@ module _ (laws : LowerLaws) (put : Put) (pdus : List (List ℕ)) (fits : Type 0)
       let r1 : ReceiverState = record r { ending = Some ending; ack_due = Some no_error; nak_cursor = Some 0 } in
       let tested : ReceiverAfter = if nat_lt size (end_of r.held) || nat_lt size_limit size then faulted file_size_error m files r1 else completed stored m files r1 in
       cond_both (not (condition == no_error)) (cancelled_by condition m files r) (if is_none r.ending then first_eof stored checksum size m files r else again) To
-      (λ _. keeps laws put pdus fits files r.addressing.id (cancelled_by condition m files r) (over laws put pdus fits files Closed r.metadata r.ending set.empty 0 m refl s.name s.end) refl (λ own. refl) refl)
+      (λ _. keeps laws put pdus fits files r.addressing.id (cancelled_by condition m files r) (over laws put pdus fits files Closed r.metadata r.ending set.empty 0 m refl s.name s.end) refl
+      (λ own. refl) refl)
       (λ fine.
       let clean : condition ≡ no_error = eqb-true condition no_error (not_false (condition == no_error) fine) in
       let t = truth clean in
@@ -198,11 +208,13 @@ module _ (laws : LowerLaws) (put : Put) (pdus : List (List ℕ)) (fits : Type 0)
 
   pub hears-true : (stored : Stored) (v : Content) → IsTruthful put v → IsAmong put pdus v → (fits → BeginsWithin put (Hears v)) → To (receiver_hears stored v m files r)
   hears-true stored (Metadata checksum_kind size source destination options) truth among begins =
-      heard-one (receives_metadata stored checksum_kind size source destination m files r) (leaving m files r) (λ is. metadata-true stored checksum_kind size source destination options is truth among) same
+      heard-one (receives_metadata stored checksum_kind size source destination m files r) (leaving m files r)
+      (λ is. metadata-true stored checksum_kind size source destination options is truth among) same
   hears-true stored (FileData offset bytes) truth among begins =
       heard-one (receives_data stored offset bytes m files r) (leaving m files r) (λ is. data-true stored offset bytes is truth among begins) same
   hears-true stored (Eof condition checksum size tlvs) truth among begins =
-      heard-one (receives_eof stored condition checksum size m files r) (leaving m files (record r { ack_due = Some condition })) (λ is. eof-true stored condition checksum size tlvs is truth among) (quiet (record r { ack_due = Some condition }) s)
+      heard-one (receives_eof stored condition checksum size m files r) (leaving m files (record r { ack_due = Some condition })) (λ is. eof-true stored condition checksum size tlvs is truth among)
+      (quiet (record r { ack_due = Some condition }) s)
   hears-true stored (Ack acknowledged.Finished condition status) truth among begins =
       timed laws put pdus fits files (Some kind.Inactivity) r.addressing.id (leaving m files (acknowledged_by r))
       (quiet (acknowledged_by r) (cond_both (is_finishing r.phase && r.finished_taken) (closed r) r (λ (x : ReceiverState). Sound put pdus x m) (λ _. shut) (λ _. s)))
@@ -218,7 +230,8 @@ module _ (laws : LowerLaws) (put : Put) (pdus : List (List ℕ)) (fits : Type 0)
   hears-true stored (KeepAlive progress) truth among begins = same
 
   -- ---- all else
-  tells-quiet : (r1 : ReceiverState) (told : List Indication) → Sound put pdus r1 m → ((own : ℕ) → completions own (told ++ []) ≡ []) → list_any is_file_fault (told ++ []) ≡ false → To (telling told (leaving m files r1))
+  tells-quiet : (r1 : ReceiverState) (told : List Indication) → Sound put pdus r1 m → ((own : ℕ) → completions own (told ++ []) ≡ []) → list_any is_file_fault (told ++ []) ≡ false →
+      To (telling told (leaving m files r1))
   tells-quiet r1 told s1 none fine = keeps laws put pdus fits files r.addressing.id (telling told (leaving m files r1)) s1 refl none fine
 
   ended : (condition : ℕ) → list_any is_file_fault (faulted condition m files r).told ≡ false → To (faulted condition m files r)
@@ -262,10 +275,12 @@ module _ (laws : LowerLaws) (put : Put) (pdus : List (List ℕ)) (fits : Type 0)
   step-true stored (Takes d) t begins = takes-true d
   step-true stored (Expires k policy) t begins =
       let a : ReceiverAfter = expires_by k policy m files r in
-      cond_both (waits k r) (record (tidying a) { anew = anew_once_expired k }) (leaving m files r) To (λ _. timed laws put pdus fits files (anew_once_expired k) r.addressing.id a (expires-true k policy)) (λ _. same)
+      cond_both (waits k r) (record (tidying a) { anew = anew_once_expired k }) (leaving m files r) To
+      (λ _. timed laws put pdus fits files (anew_once_expired k) r.addressing.id a (expires-true k policy)) (λ _. same)
   step-true stored Cancels t begins =
       cond_both (is_receiving r.phase) (ends (failed cancel_request) m files r) (leaving m files r) To
-      (λ _. keeps laws put pdus fits files r.addressing.id (ends (failed cancel_request) m files r) (over laws put pdus fits files Finishing r.metadata r.ending set.empty 0 m refl s.name s.end) refl (λ own. refl) refl) (λ _. same)
+      (λ _. keeps laws put pdus fits files r.addressing.id (ends (failed cancel_request) m files r) (over laws put pdus fits files Finishing r.metadata r.ending set.empty 0 m refl s.name s.end) refl
+      (λ own. refl) refl) (λ _. same)
   step-true stored Suspends t begins =
       let r1 : ReceiverState = record r { suspended = true } in
       let told : List Indication = indication.Suspended r.addressing.id suspend_request ∷ [] in

@@ -43,7 +43,8 @@ sound-more put heard more r m s = record {
 }
 
 -- only what is held matters of what is staged
-pub sound-staged : (put : Put) (heard : List (List ℕ)) (r : ReceiverState) (m n : OctetMap) → (r.phase ≡ Receiving → (k : ℕ) → set.contains r.held k ≡ true → map.get n k ≡ map.get m k) → Sound put heard r m → Sound put heard r n
+pub sound-staged : (put : Put) (heard : List (List ℕ)) (r : ReceiverState) (m n : OctetMap) → (r.phase ≡ Receiving → (k : ℕ) → set.contains r.held k ≡ true → map.get n k ≡ map.get m k) →
+    Sound put heard r m → Sound put heard r n
 sound-staged put heard r m n same s = record {
   name = s.name;
   end = s.end;
@@ -53,7 +54,8 @@ sound-staged put heard r m n same s = record {
 
 -- the PDU that was heard last is among those heard
 pub among-last : (put : Put) (heard : List (List ℕ)) (text : List ℕ) (h : Header) (v : Content) → SpellsSmall h v text → h.id ≡ put.id → IsTruthful put v → IsAmong put (heard ++ text ∷ []) v
-among-last put heard text h (Metadata kind size source destination options) spells same truth = SomePdu-last (IsMetadataOf put) heard text h (Metadata kind size source destination options) spells (same, truth)
+among-last put heard text h (Metadata kind size source destination options) spells same truth =
+    SomePdu-last (IsMetadataOf put) heard text h (Metadata kind size source destination options) spells (same, truth)
 among-last put heard text h (FileData offset bytes) spells same truth = λ n low high. SomePdu-last (Brings put n) heard text h (FileData offset bytes) spells (same, low, high, truth)
 among-last put heard text h (Eof condition checksum size tlvs) spells same truth = λ fine. SomePdu-last (IsEofOf put) heard text h (Eof condition checksum size tlvs) spells (same, fine, truth)
 among-last put heard text h (Finished condition delivery status tlvs) spells same truth = tt
@@ -71,7 +73,8 @@ nothing put heard phase m = record {
   sum = λ _. sym (sum-empty put.octets);
 }
 
-pub sound-opens : (put : Put) (heard : List (List ℕ)) (stored : Stored) (files : FileMap) (addressing : Addressing) → Sound put heard (opens stored files addressing).receiver (opens stored files addressing).octets
+pub sound-opens : (put : Put) (heard : List (List ℕ)) (stored : Stored) (files : FileMap) (addressing : Addressing) →
+    Sound put heard (opens stored files addressing).receiver (opens stored files addressing).octets
 sound-opens put heard Done files addressing = nothing put heard Receiving map.empty
 sound-opens put heard Refused files addressing = nothing put heard Finishing map.empty
 
@@ -79,5 +82,6 @@ pub sound-closed : (put : Put) (heard : List (List ℕ)) (condition : ℕ) (addr
 sound-closed put heard condition addressing m = nothing put heard Closed m
 
 -- ---- the checksum of all
-pub sum-whole : WholeSum → (put : Put) (heard : List (List ℕ)) (r : ReceiverState) (m : OctetMap) → Sound put heard r m → r.phase ≡ Receiving → ((n : ℕ) → n < length put.octets → set.contains r.held n ≡ true) → r.checksum ≡ modular_checksum put.octets
+pub sum-whole : WholeSum → (put : Put) (heard : List (List ℕ)) (r : ReceiverState) (m : OctetMap) → Sound put heard r m → r.phase ≡ Receiving →
+    ((n : ℕ) → n < length put.octets → set.contains r.held n ≡ true) → r.checksum ≡ modular_checksum put.octets
 sum-whole law put heard r m s is all = s.sum is ∙ sum-all law put.octets r.held all

@@ -66,7 +66,8 @@ front-is m [] at (suc size) e h = absurd (omega arith)
 front-is m (x ∷ file) at (suc size) e h =
     let zero_at : at + 0 ≡ at = omega arith in
     let first : map.get m at ≡ Some x = ap (map.get m) (sym zero_at) ∙ h 0 (omega arith) in
-    let rest : front_from m (at + 1) size ≡ file = front-is m file (at + 1) size (omega arith) (λ n low. let next : at + 1 + n ≡ at + suc n = omega arith in ap (map.get m) next ∙ h (suc n) (omega arith)) in
+    let rest : front_from m (at + 1) size ≡ file = front-is m file (at + 1) size (omega arith)
+    (λ n low. let next : at + 1 + n ≡ at + suc n = omega arith in ap (map.get m) next ∙ h (suc n) (omega arith)) in
     ap (λ o. unwrap_or o 0 ∷ front_from m (at + 1) size) first ∙ ap (λ xs. x ∷ xs) rest
 
 -- ---- the checksum agrees
@@ -120,7 +121,8 @@ module _ (laws : LowerLaws) (put : Put) (pdus : List (List ℕ)) (fits : Type 0)
     faultless = fine;
   }
 
-  pub telling-first : (i : Indication) (id : TransactionId) (a : ReceiverAfter) → ((own : ℕ) → completions own (i ∷ []) ≡ []) → is_file_fault i ≡ false → TrueAfter put pdus fits id files a → TrueAfter put pdus fits id files (telling (i ∷ []) a)
+  pub telling-first : (i : Indication) (id : TransactionId) (a : ReceiverAfter) → ((own : ℕ) → completions own (i ∷ []) ≡ []) → is_file_fault i ≡ false → TrueAfter put pdus fits id files a →
+      TrueAfter put pdus fits id files (telling (i ∷ []) a)
   telling-first i id a none fine t = record {
     sound = t.sound;
     publishes = elim t.publishes [
@@ -133,7 +135,8 @@ module _ (laws : LowerLaws) (put : Put) (pdus : List (List ℕ)) (fits : Type 0)
       more : (own : ℕ) → completions own (i ∷ a.told) ≡ completions own a.told
       more own = completions-append own (i ∷ []) a.told ∙ ap (λ (ids : List TransactionId). ids ++ completions own a.told) (none own)
 
-  pub timed : (anew : Option Kind) (id : TransactionId) (a : ReceiverAfter) → TrueAfter put pdus fits id files a → TrueAfter put pdus fits id files (record a { receiver = tidied a.receiver; anew = anew })
+  pub timed : (anew : Option Kind) (id : TransactionId) (a : ReceiverAfter) → TrueAfter put pdus fits id files a →
+      TrueAfter put pdus fits id files (record a { receiver = tidied a.receiver; anew = anew })
   timed anew id a t = record {
     sound = t.sound;
     publishes = elim t.publishes [
@@ -154,7 +157,8 @@ module _ (laws : LowerLaws) (put : Put) (pdus : List (List ℕ)) (fits : Type 0)
         let n : IsNameOf put pdus info = subst (λ o. IfSome o (IsNameOf put pdus)) named s.name in
         let e : IsEndOf put pdus ending = subst (λ o. IfSome o (IsEndOf put pdus)) ended s.end in
         let size : ending.size ≡ length put.octets = e.1 in
-        let here : (k : ℕ) → k < ending.size → HoldsOctet put pdus m k = λ k low. s.octets is k (set.is_subset-contains nat_cmp_total (range 0 ending.size) r.held whole k (in_range laws.ranges 0 ending.size k (omega arith) low)) in
+        let here : (k : ℕ) → k < ending.size → HoldsOctet put pdus m k =
+        λ k low. s.octets is k (set.is_subset-contains nat_cmp_total (range 0 ending.size) r.held whole k (in_range laws.ranges 0 ending.size k (omega arith) low)) in
         let file : front m ending.size ≡ put.octets = front-is m put.octets 0 ending.size size (λ k low. let e : 0 + k ≡ k = omega arith in ap (map.get m) e ∙ (here k low).same) in
         record {
           sound = over Finishing r.metadata r.ending set.empty 0 m refl s.name s.end;
@@ -172,7 +176,8 @@ module _ (laws : LowerLaws) (put : Put) (pdus : List (List ℕ)) (fits : Type 0)
         let n : IsNameOf put pdus info = subst (λ o. IfSome o (IsNameOf put pdus)) named s.name in
         let e : IsEndOf put pdus ending = subst (λ o. IfSome o (IsEndOf put pdus)) ended s.end in
         let size : ending.size ≡ length put.octets = e.1 in
-        let sum : r.checksum ≡ modular_checksum put.octets = s.sum is ∙ sum-all laws.whole_sum put.octets r.held (λ k low. set.is_subset-contains nat_cmp_total (range 0 ending.size) r.held whole k (in_range laws.ranges 0 ending.size k (omega arith) (omega (arith, size)))) in
+        let sum : r.checksum ≡ modular_checksum put.octets = s.sum is ∙ sum-all laws.whole_sum put.octets r.held
+        (λ k low. set.is_subset-contains nat_cmp_total (range 0 ending.size) r.held whole k (in_range laws.ranges 0 ending.size k (omega arith) (omega (arith, size)))) in
         ap (λ k. not (k == modular) || (r.checksum == ending.checksum)) n.0
         ∙ agree (put.checksum_kind == modular) ending.checksum r.checksum (modular_checksum put.octets) e.0 sum
 

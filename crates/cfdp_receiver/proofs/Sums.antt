@@ -183,13 +183,15 @@ sum-part-in p file bytes offset is low =
     let front : List ℕ = take offset file in
     let back : List ℕ = drop n (drop offset file) in
     let len : length front ≡ offset = omega (arith, length-take offset file) in
-    let cut : file ≡ front ++ (bytes ++ back) = sym (ap (λ (x : List ℕ). front ++ (x ++ back)) is ∙ ap (λ (x : List ℕ). front ++ x) (take-append-drop n (drop offset file)) ∙ take-append-drop offset file) in
+    let cut : file ≡ front ++ (bytes ++ back) = sym (ap (λ (x : List ℕ). front ++ (x ++ back)) is ∙ ap (λ (x : List ℕ). front ++ x) (take-append-drop n (drop offset file))
+    ∙ take-append-drop offset file) in
     let zero_more : 0 + length front ≡ offset = omega (arith, len) in
     let first : sum_where q 0 front ≡ 0 = sum-none q 0 front (λ k from to. is_below offset end k (p k) (omega (arith, len))) in
     let last : sum_where q (offset + n) back ≡ 0 = sum-none q (offset + n) back (λ k from to. is_behind offset end k (p k) from) in
     let mid : sum_where q offset bytes ≡ sum_where p offset bytes = sum-same q p offset bytes (λ k from to. ap (λ b. b && p k) (is_inside offset end k from to)) in
     let one : sum_where q 0 (front ++ (bytes ++ back)) ≡ sum_where q 0 front + sum_where q (0 + length front) (bytes ++ back) = sum-append q 0 front (bytes ++ back) in
-    let two : sum_where q (0 + length front) (bytes ++ back) ≡ sum_where q offset bytes + sum_where q (offset + n) back = ap (λ k. sum_where q k (bytes ++ back)) zero_more ∙ sum-append q offset bytes back in
+    let two : sum_where q (0 + length front) (bytes ++ back) ≡ sum_where q offset bytes + sum_where q (offset + n) back = ap (λ k. sum_where q k (bytes ++ back)) zero_more
+    ∙ sum-append q offset bytes back in
     ap (sum_where q 0) cut ∙ omega (arith, first, last, mid, one, two)
 
 sum-part : (p : ℕ → Bool) (file bytes : List ℕ) (offset : ℕ) → bytes ≡ take (length bytes) (drop offset file)

@@ -148,7 +148,8 @@ impl Receiver {
         requires receiving { self.now.phase ≡ ReceiverPhase.Receiving }
         requires cursor { cursor ≤ size_limit }
         ensures len { result
-            ≡ addressings.written_len self.now.addressing false (receiver_says self.now (due_is.Nak cursor)) }
+            ≡ addressings.written_len self.now.addressing false
+            (receiver_says self.now (due_is.Nak cursor)) }
         ensures short { result ≤ 4128 }
         ensures can_write { let v = receiver_says self.now (due_is.Nak cursor) in
             CanWrite (addressings.header_of self.now.addressing false v) v }

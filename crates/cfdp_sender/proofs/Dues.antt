@@ -41,15 +41,16 @@ IsDue x due.Eof = IsEofDue x.phase x
 IsDue x _ = Unit {0}
 
 rest-is : (x : SenderState) (d : SenderDue) → x.phase ≡ Sending → rest_due x ≡ Some d → IsDue x d
-rest-is x d p e = elim (nat_lt x.sent x.size) as (λ b. nat_lt x.sent x.size ≡ b → (if b then Some (due.NewData x.sent (min x.size (x.sent + x.segment))) else (if x.eof_due || not x.eof_taken then Some due.Eof else None)) ≡ Some d → IsDue x d) [
-  | true ↦ λ t h.
-      let same : due.NewData x.sent (min x.size (x.sent + x.segment)) ≡ d = cc in
-      subst (IsDue x) same (refl, ltb-true _ _ t, refl)
-  | false ↦ λ f h. elim (x.eof_due || not x.eof_taken) as (λ b. (if b then Some due.Eof else None) ≡ Some d → IsDue x d) [
-    | true ↦ λ g. let same : due.Eof ≡ d = cc in subst (IsDue x) same (subst (λ q. IsEofDue q x) (sym p) (grind (arith, nat_tests)))
-    | false ↦ λ g. absurd (cc)
-  ] h
-] refl e
+rest-is x d p e = elim (nat_lt x.sent x.size) as (λ b. nat_lt x.sent x.size ≡ b →
+    (if b then Some (due.NewData x.sent (min x.size (x.sent + x.segment))) else (if x.eof_due || not x.eof_taken then Some due.Eof else None)) ≡ Some d → IsDue x d) [
+      | true ↦ λ t h.
+          let same : due.NewData x.sent (min x.size (x.sent + x.segment)) ≡ d = cc in
+          subst (IsDue x) same (refl, ltb-true _ _ t, refl)
+      | false ↦ λ f h. elim (x.eof_due || not x.eof_taken) as (λ b. (if b then Some due.Eof else None) ≡ Some d → IsDue x d) [
+        | true ↦ λ g. let same : due.Eof ≡ d = cc in subst (IsDue x) same (subst (λ q. IsEofDue q x) (sym p) (grind (arith, nat_tests)))
+        | false ↦ λ g. absurd (cc)
+      ] h
+    ] refl e
 
 data-is : (x : SenderState) (d : SenderDue) → x.phase ≡ Sending → (o : Option (ℕ × ℕ)) → front_of x.asked x.segment ≡ o → data_due o x ≡ Some d → IsDue x d
 data-is x d p (Some r) is e = let same : due.AskedData r.0 r.1 ≡ d = cc in subst (IsDue x) same is
@@ -132,8 +133,16 @@ Fits x d bytes = FitsContent (file_size_octets false) (pdu_says bytes x d) × (c
 
 eof-fits : (x : SenderState) (p : SenderPhase) → IsSender x → FitsContent (file_size_octets false) (eof_says p x) × (content_len (file_size_octets false) (eof_says p x) < 2 ^ 16)
 eof-fits x Sending s = (((lit< tt, refl), told-fits x s, s.transfer.size), lit< tt)
-eof-fits x Cancelling s = ((s.condition, told-fits x s, omega (arith, s.sent, s.transfer.size)), let len = location-len x.addressing.id.source x.addressing.id_width in omega (arith, len, s.transfer.addressing.id.id_width.1))
-eof-fits x Closed s = ((s.condition, told-fits x s, omega (arith, s.sent, s.transfer.size)), let len = location-len x.addressing.id.source x.addressing.id_width in omega (arith, len, s.transfer.addressing.id.id_width.1))
+eof-fits x Cancelling s = (
+  (s.condition, told-fits x s, omega (arith, s.sent, s.transfer.size)),
+  let len = location-len x.addressing.id.source x.addressing.id_width in
+      omega (arith, len, s.transfer.addressing.id.id_width.1),
+)
+eof-fits x Closed s = (
+  (s.condition, told-fits x s, omega (arith, s.sent, s.transfer.size)),
+  let len = location-len x.addressing.id.source x.addressing.id_width in
+      omega (arith, len, s.transfer.addressing.id.id_width.1),
+)
 
 pub due-fits : (x : SenderState) (d : SenderDue) (bytes : List ℕ) → IsSender x → IsDue x d → length bytes ≤ 4096 → Fits x d bytes
 due-fits x (due.AckOfFinished condition) bytes s is le = (subst (λ o. IfSome o IsCondition) is s.ack, lit< tt)
@@ -182,7 +191,8 @@ content-short x (due.NewData start end) count s le some = omega (arith, le)
 content-short x due.Eof count s le some = omega (arith, none-carried count some, eof-short x x.phase s)
 
 -- the octets carried add to the length of a PDU without them
-pub says-len : (x : SenderState) (d : SenderDue) (file : List ℕ) → content_len (file_size_octets false) (pdu_says (carried file d) x d) ≡ content_len (file_size_octets false) (pdu_says [] x d) + length (carried file d)
+pub says-len : (x : SenderState) (d : SenderDue) (file : List ℕ) → content_len (file_size_octets false) (pdu_says (carried file d) x d) ≡ content_len (file_size_octets false) (pdu_says [] x d)
+    + length (carried file d)
 says-len x (due.AckOfFinished condition) file = refl
 says-len x (due.Prompt keep_alive) file = refl
 says-len x due.Metadata file = sym (add-zero _)

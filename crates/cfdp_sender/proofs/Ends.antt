@@ -78,10 +78,11 @@ not-closed x start end is h = by_suspended x.suspended refl
     by_ack None (inr e) = let none : phase_due Closed x ≡ Some (due.NewData start end) = ap (λ p. phase_due p x) (sym is) ∙ e in cc
 
     by_suspended : (b : Bool) → x.suspended ≡ b → ⊥
-    by_suspended b e = elim b as (λ c. ((if c then None else ack_first x.ack_due x) ≡ Some (due.AskedData start end)) ⊎ ((if c then None else ack_first x.ack_due x) ≡ Some (due.NewData start end)) → ⊥) [
-      | true ↦ λ g. elim g [ inl k ↦ cc | inr k ↦ cc ]
-      | false ↦ λ g. by_ack x.ack_due g
-    ] (subst (λ c. ((if c then None else ack_first x.ack_due x) ≡ Some (due.AskedData start end)) ⊎ ((if c then None else ack_first x.ack_due x) ≡ Some (due.NewData start end))) e h)
+    by_suspended b e = elim b as (λ c. ((if c then None else ack_first x.ack_due x) ≡ Some (due.AskedData start end)) ⊎ ((if c then None else ack_first x.ack_due x) ≡ Some (due.NewData start end)) →
+        ⊥) [
+          | true ↦ λ g. elim g [ inl k ↦ cc | inr k ↦ cc ]
+          | false ↦ λ g. by_ack x.ack_due g
+        ] (subst (λ c. ((if c then None else ack_first x.ack_due x) ≡ Some (due.AskedData start end)) ⊎ ((if c then None else ack_first x.ack_due x) ≡ Some (due.NewData start end))) e h)
 
 sends-once : (stored : Stored) (file : List ℕ) (x : SenderState) (d : SenderDue) → sender_due x ≡ Some d → FinishesOnce x (sender_sends stored file x d)
 sends-once stored file x (due.AckOfFinished condition) is = none-once x _ (λ _. refl) (λ c. c)
@@ -96,17 +97,19 @@ sends-once stored file x due.Eof is = none-once x _ (eof-untold x.phase x.eof_ta
 -- ---- hearing
 ack-once : (x : SenderState) (p : SenderPhase) (condition : ℕ) → x.phase ≡ p → FinishesOnce x (hears_ack p condition x)
 ack-once x Sending condition is = none-once x _ (λ _. refl) (λ c. absurd (cc))
-ack-once x Cancelling condition is = elim (condition == x.condition) as (λ (b : Bool). FinishesOnce x (if b then hearing (finished_told x.addressing.id (cancelled x) ∷ []) (closed x) else hearing [] x)) [
-  | true ↦ one-once x _ (cancelled x) refl (λ c. absurd (cc)) refl
-  | false ↦ none-once x _ (λ _. refl) (λ c. c)
-]
+ack-once x Cancelling condition is = elim (condition == x.condition) as
+    (λ (b : Bool). FinishesOnce x (if b then hearing (finished_told x.addressing.id (cancelled x) ∷ []) (closed x) else hearing [] x)) [
+      | true ↦ one-once x _ (cancelled x) refl (λ c. absurd (cc)) refl
+      | false ↦ none-once x _ (λ _. refl) (λ c. c)
+    ]
 ack-once x Closed condition is = none-once x _ (λ _. refl) (λ c. c)
 
 asks-phase : (p : ℕ × ℕ) (x : SenderState) → (asks p x).phase ≡ x.phase
-asks-phase p x = elim ((p.0 == 0) && (p.1 == 0)) as (λ b. (if b then record x { metadata_due = true } else (if nat_lt p.0 (min p.1 x.sent) then record x { asked = set.union x.asked (range p.0 (min p.1 x.sent)) } else x)).phase ≡ x.phase) [
-  | true ↦ refl
-  | false ↦ elim (nat_lt p.0 (min p.1 x.sent)) as (λ (b : Bool). (if b then record x { asked = set.union x.asked (range p.0 (min p.1 x.sent)) } else x).phase ≡ x.phase) [ true ↦ refl | false ↦ refl ]
-]
+asks-phase p x = elim ((p.0 == 0) && (p.1 == 0)) as (λ b. (if b then record x { metadata_due = true }
+    else (if nat_lt p.0 (min p.1 x.sent) then record x { asked = set.union x.asked (range p.0 (min p.1 x.sent)) } else x)).phase ≡ x.phase) [
+      | true ↦ refl
+      | false ↦ elim (nat_lt p.0 (min p.1 x.sent)) as (λ (b : Bool). (if b then record x { asked = set.union x.asked (range p.0 (min p.1 x.sent)) } else x).phase ≡ x.phase) [ true ↦ refl | false ↦ refl ]
+    ]
 
 asks_all-phase : (ps : List (ℕ × ℕ)) (x : SenderState) → (asks_all ps x).phase ≡ x.phase
 asks_all-phase [] x = refl
@@ -145,8 +148,10 @@ again-once x None handler open_yet = unacknowledged-once x x.phase handler refl 
 
 -- what is closed waits for nothing
 waits-open : (kind : Kind) (x : SenderState) → sender_waits kind x ≡ true → x.phase ≡ Closed → ⊥
-waits-open EofAck x w is = let none : (not x.suspended && waits_for_eof_ack Closed x) ≡ true = ap (λ p. not x.suspended && waits_for_eof_ack p x) (sym is) ∙ w in false≢true (sym (and-false (not x.suspended)) ∙ none)
-waits-open Inactivity x w is = let none : (not x.suspended && waits_for_anything Closed x) ≡ true = ap (λ p. not x.suspended && waits_for_anything p x) (sym is) ∙ w in false≢true (sym (and-false (not x.suspended)) ∙ none)
+waits-open EofAck x w is = let none : (not x.suspended && waits_for_eof_ack Closed x) ≡ true = ap (λ p. not x.suspended && waits_for_eof_ack p x) (sym is) ∙ w in
+    false≢true (sym (and-false (not x.suspended)) ∙ none)
+waits-open Inactivity x w is = let none : (not x.suspended && waits_for_anything Closed x) ≡ true = ap (λ p. not x.suspended && waits_for_anything p x) (sym is) ∙ w in
+    false≢true (sym (and-false (not x.suspended)) ∙ none)
 waits-open Nak x w is = false≢true w
 waits-open FinishedAck x w is = false≢true w
 

@@ -71,23 +71,26 @@ closed-in x s = kept-in x (closed x) s (refl, refl, refl, refl, tt)
 
 -- hearing
 ack-in : (x : SenderState) (p : SenderPhase) (condition : ℕ) → IsInFile x → IsInFile (hears_ack p condition x).sender
-ack-in x Sending condition s = elim (x.eof_taken && (condition == no_error)) as (λ b. IsInFile (if b then record x { acknowledged = true; eof_due = false } else x)) [ true ↦ kept-in x _ s (refl, refl, refl, refl, s.cause) | false ↦ s ]
-ack-in x Cancelling condition s = elim (condition == x.condition) as (λ (b : Bool). IsInFile (if b then hearing (finished_told x.addressing.id (cancelled x) ∷ []) (closed x) else hearing [] x).sender) [ true ↦ closed-in x s | false ↦ s ]
+ack-in x Sending condition s = elim (x.eof_taken && (condition == no_error)) as
+    (λ b. IsInFile (if b then record x { acknowledged = true; eof_due = false } else x)) [ true ↦ kept-in x _ s (refl, refl, refl, refl, s.cause) | false ↦ s ]
+ack-in x Cancelling condition s = elim (condition == x.condition) as (λ (b : Bool). IsInFile (if b then hearing (finished_told x.addressing.id (cancelled x) ∷ []) (closed x) else hearing [] x).sender)
+    [ true ↦ closed-in x s | false ↦ s ]
 ack-in x Closed condition s = s
 
 asks-in : (p : ℕ × ℕ) (x : SenderState) → IsInFile x → IsInFile (asks p x)
-asks-in p x s = elim ((p.0 == 0) && (p.1 == 0)) as (λ b. IsInFile (if b then record x { metadata_due = true } else (if nat_lt p.0 (min p.1 x.sent) then record x { asked = set.union x.asked (range p.0 (min p.1 x.sent)) } else x))) [
-  | true ↦ kept-in x _ s (refl, refl, refl, refl, s.cause)
-  | false ↦ elim (nat_lt p.0 (min p.1 x.sent)) as (λ b. IsInFile (if b then record x { asked = set.union x.asked (range p.0 (min p.1 x.sent)) } else x)) [
-    | true ↦ record {
-      some = s.some;
-      sent = s.sent;
-      asked = asked-more x.asked (set.union x.asked (range p.0 (min p.1 x.sent))) p.0 (min p.1 x.sent) x.sent s.asked (omega arith) refl;
-      cause = s.cause;
-    }
-    | false ↦ s
-  ]
-]
+asks-in p x s = elim ((p.0 == 0) && (p.1 == 0)) as (λ b. IsInFile (if b then record x { metadata_due = true }
+    else (if nat_lt p.0 (min p.1 x.sent) then record x { asked = set.union x.asked (range p.0 (min p.1 x.sent)) } else x))) [
+      | true ↦ kept-in x _ s (refl, refl, refl, refl, s.cause)
+      | false ↦ elim (nat_lt p.0 (min p.1 x.sent)) as (λ b. IsInFile (if b then record x { asked = set.union x.asked (range p.0 (min p.1 x.sent)) } else x)) [
+        | true ↦ record {
+          some = s.some;
+          sent = s.sent;
+          asked = asked-more x.asked (set.union x.asked (range p.0 (min p.1 x.sent))) p.0 (min p.1 x.sent) x.sent s.asked (omega arith) refl;
+          cause = s.cause;
+        }
+        | false ↦ s
+      ]
+    ]
 
 asks_all-in : (ps : List (ℕ × ℕ)) (x : SenderState) → IsInFile x → IsInFile (asks_all ps x)
 asks_all-in [] x s = s

@@ -47,15 +47,18 @@ still-of put x y of s = record {
 
 -- ---- hearing
 same-ack : (x : SenderState) (p : SenderPhase) (condition : ℕ) → SameFront x (hears_ack p condition x).sender
-same-ack x Sending condition = elim (x.eof_taken && (condition == no_error)) as (λ b. SameFront x (if b then record x { acknowledged = true; eof_due = false } else x)) [ true ↦ same x | false ↦ same x ]
-same-ack x Cancelling condition = elim (condition == x.condition) as (λ (b : Bool). SameFront x (if b then hearing (finished_told x.addressing.id (cancelled x) ∷ []) (closed x) else hearing [] x).sender) [ true ↦ same x | false ↦ same x ]
+same-ack x Sending condition = elim (x.eof_taken && (condition == no_error)) as
+    (λ b. SameFront x (if b then record x { acknowledged = true; eof_due = false } else x)) [ true ↦ same x | false ↦ same x ]
+same-ack x Cancelling condition = elim (condition == x.condition) as (λ (b : Bool). SameFront x
+    (if b then hearing (finished_told x.addressing.id (cancelled x) ∷ []) (closed x) else hearing [] x).sender) [ true ↦ same x | false ↦ same x ]
 same-ack x Closed condition = same x
 
 same-asks : (p : ℕ × ℕ) (x : SenderState) → SameFront x (asks p x)
-same-asks p x = elim ((p.0 == 0) && (p.1 == 0)) as (λ b. SameFront x (if b then record x { metadata_due = true } else (if nat_lt p.0 (min p.1 x.sent) then record x { asked = set.union x.asked (range p.0 (min p.1 x.sent)) } else x))) [
-  | true ↦ same x
-  | false ↦ elim (nat_lt p.0 (min p.1 x.sent)) as (λ b. SameFront x (if b then record x { asked = set.union x.asked (range p.0 (min p.1 x.sent)) } else x)) [ true ↦ same x | false ↦ same x ]
-]
+same-asks p x = elim ((p.0 == 0) && (p.1 == 0)) as (λ b. SameFront x (if b then record x { metadata_due = true }
+    else (if nat_lt p.0 (min p.1 x.sent) then record x { asked = set.union x.asked (range p.0 (min p.1 x.sent)) } else x))) [
+      | true ↦ same x
+      | false ↦ elim (nat_lt p.0 (min p.1 x.sent)) as (λ b. SameFront x (if b then record x { asked = set.union x.asked (range p.0 (min p.1 x.sent)) } else x)) [ true ↦ same x | false ↦ same x ]
+    ]
 
 same-asks_all : (ps : List (ℕ × ℕ)) (x : SenderState) → SameFront x (asks_all ps x)
 same-asks_all [] x = same x

@@ -65,10 +65,11 @@ module _ (p : Indication → Bool) (ignores : Ignores p) where
 
   ack-ignored : (x : SenderState) (q : SenderPhase) (condition : ℕ) → list_any p (hears_ack q condition x).told ≡ false
   ack-ignored x Sending condition = refl
-  ack-ignored x Cancelling condition = elim (condition == x.condition) as (λ (b : Bool). list_any p (if b then hearing (finished_told x.addressing.id (cancelled x) ∷ []) (closed x) else hearing [] x).told ≡ false) [
-    | true ↦ alone _ (ignores.cancelled x.addressing.id x.condition)
-    | false ↦ refl
-  ]
+  ack-ignored x Cancelling condition = elim (condition == x.condition) as
+      (λ (b : Bool). list_any p (if b then hearing (finished_told x.addressing.id (cancelled x) ∷ []) (closed x) else hearing [] x).told ≡ false) [
+        | true ↦ alone _ (ignores.cancelled x.addressing.id x.condition)
+        | false ↦ refl
+      ]
   ack-ignored x Closed condition = refl
 
   progress-ignored : (q : SenderPhase) (own : TransactionId) (octets : ℕ) → list_any p (progress_told q own octets) ≡ false
@@ -98,7 +99,8 @@ module _ (p : Indication → Bool) (ignores : Ignores p) where
   expires-ignored FinishedAck policy x = refl
 
   expired-ignored : (kind : Kind) (policy : Policy) (x : SenderState) → list_any p (sender_expires kind policy x).told ≡ false
-  expired-ignored kind policy x = elim (sender_waits kind x) as (λ (b : Bool). list_any p (if b then expires kind policy x else quiet x).told ≡ false) [ true ↦ expires-ignored kind policy x | false ↦ refl ]
+  expired-ignored kind policy x = elim (sender_waits kind x) as (λ (b : Bool). list_any p (if b then expires kind policy x else quiet x).told
+      ≡ false) [ true ↦ expires-ignored kind policy x | false ↦ refl ]
 
   cancels-ignored : (x : SenderState) (q : SenderPhase) → list_any p (cancels_in q x).told ≡ false
   cancels-ignored x Sending = refl
@@ -141,7 +143,8 @@ ignores-delivered = record {
   unheard = λ id. refl;
 }
 
-complete-is : (condition : ℕ) (delivery : Delivery) (status : FileStatus) → is_complete condition delivery status ≡ true → record { condition = condition; delivery = delivery; status = status } ≡ delivered
+complete-is : (condition : ℕ) (delivery : Delivery) (status : FileStatus) → is_complete condition delivery status ≡ true → record { condition = condition; delivery = delivery; status = status }
+    ≡ delivered
 complete-is condition Complete Retained e = ap make (eqb-true condition no_error e)
   where
     make : ℕ → Outcome

@@ -33,13 +33,15 @@ data-writes a start count at file out middle new within is front stays put rest 
     record { end = omega (arith, is, len); front = put ∙ front bytes len; behind = rest ∙ cut }
 
 -- the octets at the end of a list of octets
-at_end : (front bytes new : List ℕ) (len count : ℕ) → len ≤ length new → take len new ≡ front ++ bytes → length bytes ≡ count → (count ≤ len) × (take (len - (len - count)) (drop (len - count) new) ≡ bytes)
+at_end : (front bytes new : List ℕ) (len count : ℕ) → len ≤ length new → take len new ≡ front ++ bytes → length bytes ≡ count → (count ≤ len)
+    × (take (len - (len - count)) (drop (len - count) new) ≡ bytes)
 at_end front bytes new len count room is some =
     let total : length (take len new) ≡ length front + length bytes = ap length is ∙ length-append front bytes in
     let first : length front ≡ len - count = omega (arith, total, some, length-take len new, room) in
     let cut : drop (len - count) (front ++ bytes) ≡ bytes = drop_at front bytes (len - count) first in
     let whole : len - count + (len - (len - count)) ≡ len = omega arith in
-    let same : drop (len - count) (take len new) ≡ take (len - (len - count)) (drop (len - count) new) = ap (λ (n : ℕ). drop (len - count) (take n new)) (sym whole) ∙ drop-take (len - count) (len - (len - count)) new in
+    let same : drop (len - count) (take len new) ≡ take (len - (len - count)) (drop (len - count) new) = ap (λ (n : ℕ). drop (len - count) (take n new)) (sym whole)
+    ∙ drop-take (len - count) (len - (len - count)) new in
     (omega (arith, total, some, length-take len new, room), sym same ∙ ap (drop (len - count)) is ∙ cut)
 
 nothing_at_end : (new : List ℕ) (len count : ℕ) → 0 ≡ count → (count ≤ len) × (take (len - (len - count)) (drop (len - count) new) ≡ [])
@@ -48,23 +50,27 @@ nothing_at_end new len count is =
     (omega (arith, is), rw none refl)
 
 -- the last octets of a PDU are those of the file that it carries
-pub carried-last : (x : SenderState) (d : SenderDue) (file out new : List ℕ) (len count : ℕ) → Writes x.addressing (sender_says file x d) len out new → len ≤ length new → length (carried file d) ≡ count
+pub carried-last : (x : SenderState) (d : SenderDue) (file out new : List ℕ) (len count : ℕ) → Writes x.addressing (sender_says file x d) len out new → len ≤ length new → length (carried file d)
+    ≡ count
     → (count ≤ len) × (take (len - (len - count)) (drop (len - count) new) ≡ carried file d)
 carried-last x (due.AskedData start end) file out new len count w room some =
     let bytes = carried file (due.AskedData start end) in
     let v = FileData start bytes in
-    at_end (header_octets (header_of x.addressing false v) ++ octets (file_size_octets false) start) bytes new len count room (w.front ∙ sym (append_assoc (header_octets (header_of x.addressing false v)) (octets (file_size_octets false) start) bytes)) some
+    at_end (header_octets (header_of x.addressing false v) ++ octets (file_size_octets false) start) bytes new len count room
+    (w.front ∙ sym (append_assoc (header_octets (header_of x.addressing false v)) (octets (file_size_octets false) start) bytes)) some
 carried-last x (due.NewData start end) file out new len count w room some =
     let bytes = carried file (due.NewData start end) in
     let v = FileData start bytes in
-    at_end (header_octets (header_of x.addressing false v) ++ octets (file_size_octets false) start) bytes new len count room (w.front ∙ sym (append_assoc (header_octets (header_of x.addressing false v)) (octets (file_size_octets false) start) bytes)) some
+    at_end (header_octets (header_of x.addressing false v) ++ octets (file_size_octets false) start) bytes new len count room
+    (w.front ∙ sym (append_assoc (header_octets (header_of x.addressing false v)) (octets (file_size_octets false) start) bytes)) some
 carried-last x (due.AckOfFinished condition) file out new len count w room some = nothing_at_end new len count some
 carried-last x (due.Prompt keep_alive) file out new len count w room some = nothing_at_end new len count some
 carried-last x due.Metadata file out new len count w room some = nothing_at_end new len count some
 carried-last x due.Eof file out new len count w room some = nothing_at_end new len count some
 
 -- what is left where the PDU that was due was written
-pub takes-moved : (times : Times) (file octets : List ℕ) (x new : SenderState) (d : SenderDue) (len : ℕ) (anew : Option Kind) (told told_now : List Indication) (timers timers_now : TimersState) (out out_now : List ℕ)
+pub takes-moved : (times : Times) (file octets : List ℕ) (x new : SenderState) (d : SenderDue) (len : ℕ) (anew : Option Kind) (told told_now : List Indication) (timers timers_now : TimersState)
+    (out out_now : List ℕ)
     → sender_due x ≡ Some d → Writes x.addressing (sender_says file x d) len out out_now → octets ≡ carried file d
     → Leaves (pdu_sent Done octets x d) new told told_now → anew ≡ (pdu_sent Done octets x d).anew → timers_now ≡ timers_set times anew new timers
     → Takes times file (sender_due x) (Moved len) x new told told_now timers timers_now out out_now

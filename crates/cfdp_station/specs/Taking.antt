@@ -23,7 +23,8 @@ HearsAll (pdu ∷ pdus) old new = (mid : Counted) × HearsPdu pdu old mid × Hea
 
 -- The end that receives took a frame, and gave these PDUs: those of the packets that the frame
 -- completes, or where it found no memory a front of them. Of a stream's next frame they are those
--- of the survivors that it completes, also where another implementation makes the frames, and not all
+-- of the survivors that it completes, also where another implementation makes the frames, and not
+-- all
 -- of them have the usage flag of the count cycle.
 pub record GivesPdus (frame : List ℕ) (old new : LinkReceiverState) (pdus : List (List ℕ))
     : Type 0 where
@@ -34,7 +35,8 @@ pub record GivesPdus (frame : List ℕ) (old new : LinkReceiverState) (pdus : Li
       TakesNext old new ps marks missed [] pdus ⊎ TakesNextFront old new ps marks [] pdus
   pub others : (all : Bool) (ps : List (List ℕ)) (marks : List Bool) (missed : ℕ) →
       IsUpOf all old ps marks missed → IsNextFrameOf all old.link ps marks frame →
-      TakesNextOf all old new ps marks missed [] pdus ⊎ TakesNextFrontOf all old new ps marks [] pdus
+      TakesNextOf all old new ps marks missed [] pdus
+      ⊎ TakesNextFrontOf all old new ps marks [] pdus
   pub delivered : (ps : List (List ℕ)) (marks : List Bool) (missed : ℕ) → IsUp old ps marks missed →
       IsNextFrame old.link ps marks frame →
       (pdus_in (survivors old.link.zone (marks ++ true ∷ []) 0 ps)

@@ -41,7 +41,8 @@ module _ {Y Z : Type 0} where
   shown-insert_entry : (es : List (Vec ℕ Y × Vec ℕ Z)) (k : Vec ℕ Y) (v : Vec ℕ Z) → map show (insert_entry by_items es k v) ≡ put R k.items v.items (map show es)
   shown-insert_entry [] k v = refl
   shown-insert_entry (e ∷ es) k v =
-      elim (slice_cmp nat_cmp k.items e.0.items) as (λ o. map show (match_ordering o ((k, v) ∷ e ∷ es) ((e.0, v) ∷ es) (e ∷ insert_entry by_items es k v)) ≡ by_order o ((k.items, v.items) ∷ show e ∷ map show es) ((e.0.items, v.items) ∷ map show es) (show e ∷ put R k.items v.items (map show es))) [
+      elim (slice_cmp nat_cmp k.items e.0.items) as (λ o. map show (match_ordering o ((k, v) ∷ e ∷ es) ((e.0, v) ∷ es) (e ∷ insert_entry by_items es k v))
+      ≡ by_order o ((k.items, v.items) ∷ show e ∷ map show es) ((e.0.items, v.items) ∷ map show es) (show e ∷ put R k.items v.items (map show es))) [
         | Less ↦ refl
         | Equal ↦ refl
         | Greater ↦ ap (λ fs. show e ∷ fs) (shown-insert_entry es k v)

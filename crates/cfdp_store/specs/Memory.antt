@@ -20,5 +20,6 @@ FailsForMemoryAlone (Publish id name size answer) = IsOkUnless answer NoMemory
 FailsForMemoryAlone (Discard id answer) = IsOk answer
 
 -- the octets that a map has for a transaction
-abbrev pub octets_for : {S : Type 0} → HashMap TransactionId OctetMap S → TransactionId → Option OctetMap
+abbrev pub octets_for : {S : Type 0} → HashMap TransactionId OctetMap S → TransactionId →
+    Option OctetMap
 octets_for m id = get same_id m id

@@ -53,7 +53,11 @@ impl<O: Outbox> FuseOutbox<O> {
     /// An outbox over `store` whose call number `call` fails, and all later ones, counting from 1.
     /// `failures` isn't counted as a call. At 0 all calls fail, as at 1.
     pub fn new(store: O, call: u64) -> Self
-        ensures { result ≡ record { store = store; fuse = record { left = call - 1; refused = 0 } } }
+        ensures { result ≡ record {
+          store = store;
+          fuse =
+              record { left = call - 1; refused = 0 };
+        } }
     {
         FuseOutbox {
             store,
@@ -113,7 +117,11 @@ impl<I: Inbox> FuseInbox<I> {
     /// An inbox over `store` whose call number `call` fails, and all later ones, counting from 1.
     /// `failures` isn't counted as a call. At 0 all calls fail, as at 1.
     pub fn new(store: I, call: u64) -> Self
-        ensures { result ≡ record { store = store; fuse = record { left = call - 1; refused = 0 } } }
+        ensures { result ≡ record {
+          store = store;
+          fuse =
+              record { left = call - 1; refused = 0 };
+        } }
     {
         FuseInbox {
             store,

@@ -74,7 +74,8 @@ pub trait Inbox: Drop {
         requires whole { Covers size (staged_for (staged self.old) id) }
         ensures steps { steps self.old (Publish id name.now size result) self.new }
         ensures ok { OnOk result (published self.new
-            ≡ map.insert (published self.old) name.now (front (staged_for (staged self.old) id) size)) }
+            ≡ map.insert (published self.old) name.now
+            (front (staged_for (staged self.old) id) size)) }
         ensures err { OnErr result (published self.new ≡ published self.old) }
         ensures staged { OnOk result (staged self.new id ≡ None) }
         ensures others { OthersKeep id (staged self.old) (staged self.new) }

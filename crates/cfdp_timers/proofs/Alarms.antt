@@ -31,7 +31,8 @@ module _ (at : ℕ) (id : TransactionId) (d : Deadlines) where
       filter-append p e0 (e1 ++ (e2 ++ e3)) ∙ ap (λ l. filter p e0 ++ l) (filter-append p e1 (e2 ++ e3) ∙ ap (λ l. filter p e1 ++ l) (filter-append p e2 e3))
 
   pub length-due_of : length (due at (alarms_of id d))
-      ≡ length (due at (alarm_if id EofAck d.eof_ack)) + (length (due at (alarm_if id Nak d.nak)) + (length (due at (alarm_if id FinishedAck d.finished_ack)) + length (due at (alarm_if id Inactivity d.inactivity))))
+      ≡ length (due at (alarm_if id EofAck d.eof_ack)) + (length (due at (alarm_if id Nak d.nak))
+      + (length (due at (alarm_if id FinishedAck d.finished_ack)) + length (due at (alarm_if id Inactivity d.inactivity))))
   length-due_of =
       let e0 = due at (alarm_if id EofAck d.eof_ack) in
       let e1 = due at (alarm_if id Nak d.nak) in
@@ -179,5 +180,6 @@ earliest-more s t e is = ap (λ l. earliest (alarms l)) is ∙ earliest-cons e t
 
 -- how many of a transaction are due
 pub length_due_of : (id : TransactionId) (d : Deadlines) (at : ℕ) → length (due at (alarms_of id d))
-    ≡ length (due at (alarm_if id EofAck d.eof_ack)) + (length (due at (alarm_if id Nak d.nak)) + (length (due at (alarm_if id FinishedAck d.finished_ack)) + length (due at (alarm_if id Inactivity d.inactivity))))
+    ≡ length (due at (alarm_if id EofAck d.eof_ack)) + (length (due at (alarm_if id Nak d.nak))
+    + (length (due at (alarm_if id FinishedAck d.finished_ack)) + length (due at (alarm_if id Inactivity d.inactivity))))
 length_due_of id d at = length-due_of at id d

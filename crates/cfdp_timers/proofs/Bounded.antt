@@ -53,7 +53,8 @@ bounds-none bounds = record {
   each = λ block l. record { none_before = λ place kind at is h. absurd (none-armed kind at h) };
 }
 
-pub bounds-pushed : (es : List (TransactionId × Deadlines)) (id : TransactionId) (bounds : List ℕ) → AreBounds es bounds → length es < 64 * length bounds → AreBounds (es ++ (id, no_deadlines) ∷ []) bounds
+pub bounds-pushed : (es : List (TransactionId × Deadlines)) (id : TransactionId) (bounds : List ℕ) → AreBounds es bounds → length es < 64 * length bounds →
+    AreBounds (es ++ (id, no_deadlines) ∷ []) bounds
 bounds-pushed es id bounds are room =
     let more = length-append es ((id, no_deadlines) ∷ []) in
     record {
@@ -135,7 +136,8 @@ module _ (es : List (TransactionId × Deadlines)) (bounds : List ℕ) (place : �
           none_before = λ q k x is h. elim (from q k x h) as (λ _. get_or (lowered bounds (place / 64) o) block 0 ≤ x) [
             | inl p ↦
                 let here : place / 64 ≡ block = ap (λ i. i / 64) (sym p.0) ∙ is in
-                let low : get_or (lowered bounds (place / 64) o) (place / 64) 0 ≤ x = subst (λ u. get_or (lowered bounds (place / 64) u) (place / 64) 0 ≤ x) (sym p.1) (lowered-at bounds (place / 64) x block-within) in
+                let low : get_or (lowered bounds (place / 64) o) (place / 64) 0 ≤ x =
+                subst (λ u. get_or (lowered bounds (place / 64) u) (place / 64) 0 ≤ x) (sym p.1) (lowered-at bounds (place / 64) x block-within) in
                 subst (λ b. get_or (lowered bounds (place / 64) o) b 0 ≤ x) here low
             | inr e ↦
                 let there : block < length bounds = omega (arith, l, same) in
@@ -179,7 +181,8 @@ no_later-next d Inactivity at h =
 pub record AreNoEarlier (es : List (TransactionId × Deadlines)) (first place : ℕ) (o : Option ℕ) : Type 0 where
   pub each : (q : ℕ) (kind : Kind) (at : ℕ) → first ≤ q → q < place → deadline_at (deadlines_in es q) kind ≡ Some at → IsNoLater o at
 
-pub no_earlier-more : (es : List (TransactionId × Deadlines)) (first place : ℕ) (o : Option ℕ) → AreNoEarlier es first place o → AreNoEarlier es first (place + 1) (earlier o (next_of (deadlines_in es place)))
+pub no_earlier-more : (es : List (TransactionId × Deadlines)) (first place : ℕ) (o : Option ℕ) → AreNoEarlier es first place o →
+    AreNoEarlier es first (place + 1) (earlier o (next_of (deadlines_in es place)))
 no_earlier-more es first place o are = record {
   each = λ q kind at low high h. elim (nat_eq q place) as (λ b. nat_eq q place ≡ b → IsNoLater (earlier o (next_of (deadlines_in es place))) at) [
     | true ↦ λ here.

@@ -104,10 +104,11 @@ any-due at t (x ∷ xs) apart =
             | true ↦ ap (λ b. b || list_any (eq_by_cmp timer_cmp t) (keys_of (due at xs))) tie
             | false ↦ any_absent t at xs none
           ]
-      | false ↦ λ tie. elim (nat_le x.1 at) as (λ c. list_any (eq_by_cmp timer_cmp t) (keys_of (cond c (x ∷ due at xs) (due at xs))) ≡ option_map_or (λ d. nat_le d at) (lookup (eq_by_cmp timer_cmp t) xs) false) [
-        | true ↦ ap (λ b. b || list_any (eq_by_cmp timer_cmp t) (keys_of (due at xs))) tie ∙ rest
-        | false ↦ rest
-      ]
+      | false ↦ λ tie. elim (nat_le x.1 at) as (λ c. list_any (eq_by_cmp timer_cmp t) (keys_of (cond c (x ∷ due at xs) (due at xs)))
+          ≡ option_map_or (λ d. nat_le d at) (lookup (eq_by_cmp timer_cmp t) xs) false) [
+            | true ↦ ap (λ b. b || list_any (eq_by_cmp timer_cmp t) (keys_of (due at xs))) tie ∙ rest
+            | false ↦ rest
+          ]
     ] refl
 
 pub any-due-alarms : (es : List (TransactionId × Deadlines)) (at : ℕ) (t : Timer) → IsDistinct (eq_by_cmp id_cmp) (keys_of es)

@@ -77,8 +77,10 @@ module _ (es : List (TransactionId × Deadlines)) (at : ℕ) (apart : IsDistinct
 
   armed_so : All (λ a. map.get (armed_of es) (timer_of a) ≡ Some a.deadline) fs
   armed_so =
-      let due_so : All (λ (e : Timer × ℕ). map.get (armed_of es) e.0 ≡ Some e.1) (due at (alarms es)) = All-filter (λ e. nat_le e.1 at) (λ e. map.get (armed_of es) e.0 ≡ Some e.1) (alarms es) (found-alarms es apart) in
-      let entries_so : All (λ (e : Timer × ℕ). map.get (armed_of es) e.0 ≡ Some e.1) (map entry_of ds) = subst (λ l. All (λ (e : Timer × ℕ). map.get (armed_of es) e.0 ≡ Some e.1) l) (sym collected) due_so in
+      let due_so : All (λ (e : Timer × ℕ). map.get (armed_of es) e.0 ≡ Some e.1) (due at (alarms es)) =
+      All-filter (λ e. nat_le e.1 at) (λ e. map.get (armed_of es) e.0 ≡ Some e.1) (alarms es) (found-alarms es apart) in
+      let entries_so : All (λ (e : Timer × ℕ). map.get (armed_of es) e.0 ≡ Some e.1) (map entry_of ds) =
+      subst (λ l. All (λ (e : Timer × ℕ). map.get (armed_of es) e.0 ≡ Some e.1) l) (sym collected) due_so in
       All-permutation (λ a. map.get (armed_of es) (timer_of a) ≡ Some a.deadline) ds fs moved
       (All-from_recursion _ ds (each-entry (armed_of es) ds (recursion_from_All _ (map entry_of ds) entries_so)))
 

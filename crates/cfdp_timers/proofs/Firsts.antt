@@ -216,7 +216,8 @@ module _ (n : ℕ) where
     pub window-changed : (first : Option ℕ) → first ≡ earliest_of before_window → (first ≢ old) ⊎ (earlier old now ≡ now) → earlier first now ≡ earliest_of window
     window-changed first was how =
         ap (λ o. earlier o now) was
-        ∙ sym (earliest_of-set before_window (place % n) now inside (elim how as (λ _. (earliest_of before_window ≢ get_or before_window (place % n) None) ⊎ (earlier (get_or before_window (place % n) None) now ≡ now)) [
+        ∙ sym (earliest_of-set before_window (place % n) now inside (elim how as
+        (λ _. (earliest_of before_window ≢ get_or before_window (place % n) None) ⊎ (earlier (get_or before_window (place % n) None) now ≡ now)) [
           | inl h ↦ inl (λ e. h (was ∙ e ∙ was-old))
           | inr h ↦ inr (ap (λ o. earlier o now) was-old ∙ h)
         ]))

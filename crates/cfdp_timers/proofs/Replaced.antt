@@ -26,7 +26,8 @@ module _ {K X : Type 0} where
   keys-replaced (e ∷ es) (suc i) w = ap (λ l. e.0 ∷ l) (keys-replaced es i w)
 
 -- the entry at the place that was found is the one that was looked for
-pub found-entry : (es : List (TransactionId × Deadlines)) (id : TransactionId) (place : ℕ) → position ((eq-value).it id) (keys_of es) ≡ Some place → slice_get es place ≡ Some (id, deadlines_in es place)
+pub found-entry : (es : List (TransactionId × Deadlines)) (id : TransactionId) (place : ℕ) → position ((eq-value).it id) (keys_of es) ≡ Some place → slice_get es place
+    ≡ Some (id, deadlines_in es place)
 found-entry es id place is =
     let none : TransactionId × Deadlines = (id, no_deadlines) in
     let found = position-Some ((eq-value).it id) (keys_of es) place id is in

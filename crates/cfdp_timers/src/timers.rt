@@ -256,7 +256,10 @@ impl Timers {
     // Arms a timer of a transaction that has room, or clears a timer.
     fn set_deadline(&mut self, id: TransactionId, kind: Kind, deadline: Option<u64>)
         requires { IsSome deadline → set.contains self.old.roomy id ≡ true }
-        ensures { self.new ≡ record self.old { armed = with_timer self.old.armed (id, kind) deadline } }
+        ensures { self.new ≡ record self.old {
+          armed =
+              with_timer self.old.armed (id, kind) deadline;
+        } }
     {
         entries::set_deadline(
             &mut self.entries,
@@ -283,7 +286,8 @@ impl Timers {
         ensures time { self.new.time ≡ self.old.time }
         ensures roomy { self.new.roomy ≡ self.old.roomy }
         ensures cleared { (t : Timer) → map.get self.new.armed t
-            ≡ (if list_any (eq_by_cmp timer_cmp t) timers.now then None else map.get self.old.armed t) }
+            ≡ (if list_any (eq_by_cmp timer_cmp t) timers.now then None
+            else map.get self.old.armed t) }
     {
         for (id, kind) in timers {
             self.clear(*id, *kind);

@@ -14,4 +14,4 @@ pub mod Carried
 -- Both directions of a first world: nothing was sent, and nothing taken.
 pub mod First
 -- Polls and flushes of one station, one after another.
-mod Sendings
+pub mod Sendings

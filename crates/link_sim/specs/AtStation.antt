@@ -84,7 +84,8 @@ KeepsOutbox old new =
 -- A put was refused by this cause: a failure of the outbox was counted where that is it.
 abbrev pub CountsPut : PutError → (old new : Counted) → Type 0
 CountsPut by old new =
-    (new.outbox_failures ≡ failures_after old.outbox_failures (was_answered {X = TransactionId} (Err by)))
+    (new.outbox_failures ≡ failures_after old.outbox_failures
+    (was_answered {X = TransactionId} (Err by)))
     × (new.inbox_failures ≡ old.inbox_failures)
 
 -- ---- calls of the station's user

@@ -20,7 +20,8 @@ use Rattle.link_sim.specs.declared.event.AcceptedPut.{AcceptedPut}
 use Rattle.link_sim.specs.declared.side.Side.{Side}
 
 -- ---- nothing went wrong
--- what is told of any transaction: a fault, inactivity too, a suspension, an abandonment, or an end with an error
+-- what is told of any transaction: a fault, inactivity too, a suspension, an abandonment, or an end
+-- with an error
 -- (conditions as in table 5-5)
 abbrev pub is_bad : Indication → Bool
 is_bad (indication.Fault id condition) = true

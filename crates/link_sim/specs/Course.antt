@@ -26,7 +26,8 @@ abbrev pub IsMaybeTrue : Put → Option ReceiverState → Type 0
 IsMaybeTrue put (Some r) = IsReceiverTrue put r
 IsMaybeTrue put None = Unit {0}
 
--- Of a sender, a receiver or none, the PDUs on their way forth and back, and whether the sender, and
+-- Of a sender, a receiver or none, the PDUs on their way forth and back, and whether the sender,
+-- and
 -- the receiver, told its user that the file was delivered.
 pub record IsTrueBetween (put : Put) (x : SenderState) (o : Option ReceiverState)
     (forth back : List Content) (told told_there : Bool) : Type 0 where
@@ -77,7 +78,8 @@ Maybe Test None = ⊥
 
 -- A wanted thing comes: an EOF comes, or it is due at the sender, brought by a PDU, known by the
 -- receiver, named by a NAK on its way, or by one that is due.
-abbrev pub Comes : (SenderState → Bool) → (Content → Bool) → (ReceiverState → Bool) → (Content → Bool)
+abbrev pub Comes : (SenderState → Bool) → (Content → Bool) → (ReceiverState → Bool) →
+    (Content → Bool)
     → (ReceiverState → Type 0)
     → SenderState → Option ReceiverState → (forth back : List Content) → Type 0
 Comes due brings known named Asks x o forth back =

@@ -53,17 +53,20 @@ pub record RunsTo (s : Side) (put : Put) (old : Exchange) (w : WorldState) : Typ
 
 -- Each transaction made a run of its own.
 abbrev pub RunsOn : (old new : WorldState) → Type 0
-RunsOn old new = (s : Side) (put : Put) → IsPutOf s put old → (e : Exchange) → HasExchange s put old e
+RunsOn old new = (s : Side) (put : Put) → IsPutOf s put old → (e : Exchange) →
+    HasExchange s put old e
     → RunsTo s put e new
 
 -- ---- the time is told at a station
--- Of a put of this station: timers of its sender expired that were waited for, all whose deadline was
+-- Of a put of this station: timers of its sender expired that were waited for, all whose deadline
+-- was
 -- no later.
 pub record ExpiresHere (s : Side) (now : ℕ) (put : Put) (e : Exchange) (old new : WorldState)
     : Type 0 where
   pub kinds : List Kind
   pub waited : AreWaitedBySender e.sender kinds
-  pub all : (k : Kind) (deadline : ℕ) → map.get (entity_at s old).table.armed (put.id, k) ≡ Some deadline
+  pub all : (k : Kind) (deadline : ℕ) → map.get (entity_at s old).table.armed (put.id, k)
+      ≡ Some deadline
       → deadline ≤ now → Contains kinds k
   pub end : Exchange
   pub more : TellsMore (expire_sender (entity_at s old).config.policy put kinds e) end
@@ -74,7 +77,8 @@ pub record ExpiresThere (s : Side) (now : ℕ) (put : Put) (e : Exchange) (old n
     : Type 0 where
   pub kinds : List Kind
   pub waited : AreWaitedByReceiver e.receiver kinds
-  pub all : (k : Kind) (deadline : ℕ) → map.get (entity_at s old).table.armed (put.id, k) ≡ Some deadline
+  pub all : (k : Kind) (deadline : ℕ) → map.get (entity_at s old).table.armed (put.id, k)
+      ≡ Some deadline
       → deadline ≤ now → Contains kinds k
   pub expired : Exchange
   pub expires : ReceiverExpires (entity_at s old).config.policy put kinds e expired
@@ -85,5 +89,6 @@ pub record ExpiresThere (s : Side) (now : ℕ) (put : Put) (e : Exchange) (old n
 pub record ExpiresOn (s : Side) (now : ℕ) (old new : WorldState) : Type 0 where
   pub here : (put : Put) → IsPutOf s put old → (e : Exchange) → HasExchange s put old e
       → ExpiresHere s now put e old new
-  pub there : (put : Put) → IsPutOf (other s) put old → (e : Exchange) → HasExchange (other s) put old e
+  pub there : (put : Put) → IsPutOf (other s) put old → (e : Exchange) →
+      HasExchange (other s) put old e
       → ExpiresThere s now put e old new

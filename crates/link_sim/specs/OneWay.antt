@@ -23,7 +23,13 @@ pub record OneWayState : Type 0 where
 
 -- what lies between these two ends
 abbrev pub one_way : LinkSenderState → FrameLinkState → LinkReceiverState → OneWayState
-one_way down link up = record { down = down; up = up; frames = link.frames; marks = link.marks; run = link.run }
+one_way down link up = record {
+  down = down;
+  up = up;
+  frames = link.frames;
+  marks = link.marks;
+  run = link.run;
+}
 
 -- ---- what was sent and delivered, read from the frames, the marks and the octets that wait
 -- the packet zones of frames, joined: 8 octets of headers stand before each
@@ -89,7 +95,8 @@ pub record EndsStruck (marks : List Bool) (run : ℕ) : Type 0 where
 
 -- The end that receives. `read` says which of the frames taken were delivered and found memory: all
 -- that were delivered, where no drop was counted for want of memory (number 11).
-pub record IsReceived (up : LinkReceiverState) (ps : List (List ℕ)) (marks : List Bool) (run : ℕ) : Type 0 where
+pub record IsReceived (up : LinkReceiverState) (ps : List (List ℕ)) (marks : List Bool)
+    (run : ℕ) : Type 0 where
   pub read : List Bool
   pub end : IsUp up ps read run
   pub among : AreAmong read marks
@@ -112,7 +119,8 @@ pub record IsRested (w : OneWayState) : Type 0 where
       busy (behind (length w.frames * w.down.link.zone) 0 (packets_sent w)) ≡ []
 
 -- between events; and the buffers fit the link's frames
-pub record IsCarried (down : LinkSenderState) (link : FrameLinkState) (up : LinkReceiverState) : Type 0 where
+pub record IsCarried (down : LinkSenderState) (link : FrameLinkState)
+    (up : LinkReceiverState) : Type 0 where
   pub way : IsOneWay (one_way down link up)
   pub rested : IsRested (one_way down link up)
   pub fits : link.len ≡ 8 + down.link.zone

@@ -22,7 +22,8 @@ AllAdvance [] w = Unit {0}
 AllAdvance (r ∷ rounds) w =
     (IgnoreInactivity w → Advances w r.settled) × AllAdvance rounds r.settled
 
--- All was settled, and rounds followed, which brought transactions on. Where all that was unfinished
+-- All was settled, and rounds followed, which brought transactions on. Where all that was
+-- unfinished
 -- waited, it stood after the first settling.
 pub record RecoversOn (old new : WorldState) : Type 0 where
   pub run : Recovers old new

@@ -85,7 +85,8 @@ pub record StaysArmed (old new : WorldState) : Type 0 where
 -- To tell a station the time ended it with this error: that happened then, or no memory was found.
 abbrev pub TickEnds : SettleError → Side → ℕ → (old new : WorldState) → Type 0
 TickEnds error s now old new =
-    (Steps (event.Tick s now) did.Applied old new × RisesFirst error (all_shortages old) (all_shortages new))
+    (Steps (event.Tick s now) did.Applied old new
+    × RisesFirst error (all_shortages old) (all_shortages new))
     ⊎ ((error ≡ NoMemory) × FindsNoMemory s old new)
 
 -- A round ended with this error: when the next time was told, or in the settling behind that.

@@ -39,7 +39,8 @@ pub record Ran (c : WorldConfig) (outboxes inboxes : FileMap × FileMap) (events
 -- ---- any calls of a world
 -- An event happened, or it found no memory.
 abbrev pub Goes : (old new : WorldState) → Type 0
-Goes old new = ((e : Event) × (d : Applied) × Steps e d old new) ⊎ ((s : Side) × FindsNoMemory s old new)
+Goes old new = ((e : Event) × (d : Applied) × Steps e d old new)
+    ⊎ ((s : Side) × FindsNoMemory s old new)
 
 -- One call of a world, done to its end or ended before that: an event, a spread, a burst, a
 -- settling, or a recovery.

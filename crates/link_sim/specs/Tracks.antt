@@ -60,8 +60,10 @@ pub record GetsDone (old new : WorldState) : Type 0 where
 pub record Advances (old new : WorldState) : Type 0 where
   pub keeps : KeepsPutsOf old new
   pub tracked : AllTracked old → AllTracked new
-  pub stands : AllTracked old → (s : Side) (put : Put) → IsPutOf s put old → StandsIn s put old → StandsIn s put new
-  pub done : AllTracked old → (s : Side) (id : TransactionId) → done_at s old id ≡ true → done_at s new id ≡ true
+  pub stands : AllTracked old → (s : Side) (put : Put) → IsPutOf s put old → StandsIn s put old →
+      StandsIn s put new
+  pub done : AllTracked old → (s : Side) (id : TransactionId) → done_at s old id ≡ true →
+      done_at s new id ≡ true
   pub more : AllTracked old → GetsDone old new
 
 -- ---- the first settling

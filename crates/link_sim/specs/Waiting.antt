@@ -88,7 +88,8 @@ IsWaitingIn limits (Some s) = IsWaitingRecord limits s
 IsWaitingIn limits None = Unit {0}
 
 -- ---- a transaction
--- At a station: no fault of it was indicated but for inactivity, no abandonment, no end with an error;
+-- At a station: no fault of it was indicated but for inactivity, no abandonment, no end with an
+-- error;
 -- and its record, if there is one, waits.
 pub record IsWaitingAt (id : TransactionId) (s : Side) (w : WorldState) : Type 0 where
   pub told : one_tells (spoils id) (entity_at s w).table.told ≡ false

@@ -33,7 +33,8 @@ nak_work most = 7 * most + 8
 unfoldable pub nak_due_work : ℕ → ℕ → ℕ
 nak_due_work most from = (most - from + 1) * (nak_work most + 1)
 
--- what it may cause at a record, and 1 for itself: an EOF an ACK (2) and a NAK, a Finished an ACK, a
+-- what it may cause at a record, and 1 for itself: an EOF an ACK (2) and a NAK, a Finished an ACK,
+-- a
 -- Prompt a NAK or a Keep Alive (2)
 abbrev pub heard_work : ℕ → Content → ℕ
 heard_work most (FileData offset bytes) = 1

@@ -12,8 +12,10 @@ most_offset = 4294967295
 
 -- what the entities and the PDUs on their way may still do
 abbrev pub pdus_left : WorldState → ℕ
-pdus_left w = entity_work most_offset w.one.entity.state + entity_work most_offset w.two.entity.state
-    + texts_work most_offset (on_way (way_from One w)) + texts_work most_offset (on_way (way_from Two w))
+pdus_left w = entity_work most_offset w.one.entity.state
+    + entity_work most_offset w.two.entity.state
+    + texts_work most_offset (on_way (way_from One w))
+    + texts_work most_offset (on_way (way_from Two w))
 
 -- the octets and frames of a direction: 2 for each octet that waits, and 1 for each frame that does
 abbrev pub octets_left : OneWayState → ℕ

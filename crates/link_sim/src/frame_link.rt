@@ -71,7 +71,14 @@ impl Model for FrameLink {
 
     ghost Value = { FrameLinkState };
 
-    ghost view = { λ l. record { frames = pieces l.len l.count l.octets.items; marks = l.marks.items; run = l.run; blanks = l.blanks; len = l.len } };
+    ghost view = { λ l. record {
+      frames = pieces l.len l.count l.octets.items;
+      marks =
+          l.marks.items;
+      run = l.run;
+      blanks = l.blanks;
+      len = l.len;
+    } };
 
     ghost invariant = { λ l. (length l.octets.items ≡ (l.count + l.blanks) * l.len)
         × (l.count + l.blanks ≤ vec_capacity l.marks) };
@@ -161,7 +168,8 @@ impl FrameLink {
     #[tactic(auto, using(crate::proofs::Ways::Placing::pieces_len, crate::proofs::Ways::Placing::pieces_at, crate::proofs::Ways::Placing::room_at))]
     pub fn frame(&self, place: usize) -> Option<&[u8]>
         ensures { MatchOption result (length self.now.frames ≤ place)
-            (λ f. (place < length self.now.frames) × (f.now ≡ slice_index_or self.now.frames place [])) }
+            (λ f. (place < length self.now.frames)
+            × (f.now ≡ slice_index_or self.now.frames place [])) }
     {
         if place >= self.count {
             return None;
@@ -194,7 +202,12 @@ impl FrameLink {
     #[tactic(auto, using(crate::proofs::Ways::Placing::pieces_len))]
     pub fn strike(&mut self) -> Loss
         ensures done { result ≡ losses.Done → (length self.old.marks < length self.old.frames)
-            × (self.old.run < most_struck) × (self.new ≡ record self.old { marks = self.old.marks ++ false ∷ []; run = self.old.run + 1 }) }
+            × (self.old.run < most_struck)
+            × (self.new ≡ record self.old {
+              marks = self.old.marks ++ false ∷ [];
+              run =
+                  self.old.run + 1;
+            }) }
         ensures none { (result ≡ losses.NoneWaits)
             ↔ (length self.old.frames ≤ length self.old.marks) }
         ensures long { (result ≡ losses.TooMany)

@@ -26,7 +26,8 @@ ghost use Rattle.link_sim.specs.declared.world_config.WorldConfig.{WorldConfig};
 /// Whatever calls are made on two stations from their start on, the promises hold of them; and
 /// where all is settled and nothing went wrong so far, every put is complete.
 pub fn worlds_keep_the_promises()
-    ensures keeps { (c : WorldConfig) (outboxes inboxes : FileMap × FileMap) (first now : WorldState)
+    ensures keeps { (c : WorldConfig) (outboxes inboxes : FileMap × FileMap)
+        (first now : WorldState)
         → IsWorldConfig c → IsFirst c outboxes inboxes first → Led first now
         → KeepsPromises inboxes now }
     ensures completes { (c : WorldConfig) (outboxes inboxes : FileMap × FileMap)

@@ -82,7 +82,9 @@ impl<O: Outbox, I: Inbox, W: Witness> World<O, I, W> {
         // Each inbox is its first files, overwritten by those of the puts completed there: none so
         // far.
         ensures inboxes { IfOk result (λ w. (side : Side) → (at side (seen w)).inbox
-            ≡ inbox_after (put_of (seen w)) (files_at side (I.published inboxes.0, I.published inboxes.1)) (completions_at side (seen w))) }
+            ≡ inbox_after (put_of (seen w))
+            (files_at side (I.published inboxes.0, I.published inboxes.1))
+            (completions_at side (seen w))) }
         ensures holds { IfOk result (λ w. (side : Side) → HoldsAt side (seen w)) }
         // Nothing went wrong so far.
         ensures clean { IfOk result (λ w. IsClean w) }
@@ -264,7 +266,9 @@ pub fn run<O: Outbox, I: Inbox>(
     // Each inbox is its first files, overwritten in order of the completions there by the files of
     // the puts that they name.
     ensures inboxes { IfOk result (λ w. (side : Side) → (at side (seen w)).inbox
-        ≡ inbox_after (put_of (seen w)) (files_at side (I.published inboxes.0, I.published inboxes.1)) (completions_at side (seen w))) }
+        ≡ inbox_after (put_of (seen w))
+        (files_at side (I.published inboxes.0, I.published inboxes.1))
+        (completions_at side (seen w))) }
     // Finished once, heard in full, told truly and sent truly.
     ensures holds { IfOk result (λ w. (side : Side) → HoldsAt side (seen w)) }
     // From a first world each of the events happened, in order, and nothing else.
@@ -286,7 +290,8 @@ fn apply_all<O: Outbox, I: Inbox>(
     world: &mut World<O, I>,
     events: &[Event],
 ) -> Result<(), AllocError>
-    ensures keeps { IfOk result (λ _. (side : Side) → (first : FileMap) → HoldsAt side (seen world.old)
+    ensures keeps { IfOk result (λ _. (side : Side) → (first : FileMap) →
+        HoldsAt side (seen world.old)
         → (at side (seen world.old)).inbox
         ≡ inbox_after (put_of (seen world.old)) first (completions_at side (seen world.old))
         → HoldsAt side (seen world.new) × ((at side (seen world.new)).inbox

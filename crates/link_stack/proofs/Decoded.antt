@@ -46,7 +46,8 @@ seen_is link h text s =
 long_zone : (link : LinkConfig) (ps : List (List ℕ)) (n : ℕ) → n * link.zone + link.zone ≤ length (stream ps) → length (zone link.zone (n * link.zone) (stream ps)) ≡ link.zone
 long_zone link ps n room = omega (arith, length-take link.zone (drop (n * link.zone) (stream ps)), length-drop (n * link.zone) (stream ps))
 
-pub decoded : (all : Bool) (link : LinkConfig) (ps : List (List ℕ)) (marks : List Bool) (frame : List ℕ) → IsLink link → IsNextFrameOf all link ps marks frame → IsDecoded all link ps (length marks) frame
+pub decoded : (all : Bool) (link : LinkConfig) (ps : List (List ℕ)) (marks : List Bool) (frame : List ℕ) → IsLink link → IsNextFrameOf all link ps marks frame →
+    IsDecoded all link ps (length marks) frame
 decoded all link ps marks frame valid next =
     let n : ℕ = length marks in
     record {
@@ -59,7 +60,8 @@ decoded all link ps marks frame valid next =
     }
 
 -- A frame that a sending end makes is one of a stream whose frames all have the flag.
-pub made_is_next : (link : LinkConfig) (ps : List (List ℕ)) (marks : List Bool) (frame : List ℕ) → IsLink link → link.spacecraft < 256 → IsNextFrame link ps marks frame → IsNextFrameOf true link ps marks frame
+pub made_is_next : (link : LinkConfig) (ps : List (List ℕ)) (marks : List Bool) (frame : List ℕ) → IsLink link → link.spacecraft < 256 → IsNextFrame link ps marks frame →
+    IsNextFrameOf true link ps marks frame
 made_is_next link ps marks frame valid byte next =
     let n : ℕ = length marks in
     let h : FrameHeader = record { spacecraft = link.spacecraft; channel = link.channel; count = n % frame_counts; cycle = true } in

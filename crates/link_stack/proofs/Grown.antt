@@ -23,7 +23,8 @@ seen_missed : (all : Bool) (last : Option SeenCount) (marks : List Bool) (missed
 seen_missed all None marks missed h = tt
 seen_missed all (Some l) marks missed (n, e, f) = (n, e, omega (arith, length-append marks (false ∷ [])))
 
-pub struck_is_missed : {all : Bool} (up : LinkReceiverState) (ps : List (List ℕ)) (marks : List Bool) (missed : ℕ) → 0 < up.link.zone → missed + 1 < counts_of all → IsUpOf all up ps marks missed → IsUpOf all up ps (marks ++ false ∷ []) (missed + 1)
+pub struck_is_missed : {all : Bool} (up : LinkReceiverState) (ps : List (List ℕ)) (marks : List Bool) (missed : ℕ) → 0 < up.link.zone → missed + 1 < counts_of all → IsUpOf all up ps marks missed →
+    IsUpOf all up ps (marks ++ false ∷ []) (missed + 1)
 struck_is_missed up ps marks missed some few is =
     let lost : missed + 1 ≡ 0 → ⊥ = λ (e : missed + 1 ≡ 0). omega (arith, e) in
     record {
@@ -40,7 +41,8 @@ pub some_counts : (all : Bool) → 0 < counts_of all
 some_counts true = omega arith
 some_counts false = omega arith
 
-pub new_is : (all : Bool) (link : LinkConfig) (ps : List (List ℕ)) (counts : List ℕ) → length counts ≡ 11 → ArePackets ps → AreOfLink link ps → IsUpOf all (record { link = link; last = None; begun = []; drops = counts }) ps [] 0
+pub new_is : (all : Bool) (link : LinkConfig) (ps : List (List ℕ)) (counts : List ℕ) → length counts ≡ 11 → ArePackets ps → AreOfLink link ps →
+    IsUpOf all (record { link = link; last = None; begun = []; drops = counts }) ps [] 0
 new_is all link ps counts size whole ours_all =
     record { packets_whole = whole; of_link = ours_all; few = some_counts all; seen = tt; unseen = λ e. refl; as_left = sym (begun-none link.zone ps whole); counts = size }
 
@@ -51,10 +53,20 @@ frame-push link ps q n h =
     ap (λ p. frame_octets header (octets 2 p ++ zone link.zone e (stream (ps ++ q ∷ [])))) (pointer-push link.zone e 0 ps q (omega (arith, h)))
     ∙ ap (λ l. frame_octets header (octets 2 (first_header_pointer link.zone e 0 ps) ++ l)) (zone-push link.zone e ps q h)
 
-pub up-push : {all : Bool} (up : LinkReceiverState) (ps : List (List ℕ)) (q : List ℕ) (marks : List Bool) (missed : ℕ) → IsPacket q → ((is_idle q ≡ true) ⊎ (packet_drop up.link q ≡ None)) → length marks * up.link.zone ≤ length (stream ps) →
+pub up-push : {all : Bool} (up : LinkReceiverState) (ps : List (List ℕ)) (q : List ℕ) (marks : List Bool) (missed : ℕ) → IsPacket q → ((is_idle q ≡ true) ⊎ (packet_drop up.link q ≡ None)) →
+    length marks * up.link.zone ≤ length (stream ps) →
     IsUpOf all up ps marks missed → IsUpOf all up (ps ++ q ∷ []) marks missed
 up-push up ps q marks missed packet carries_one room is =
-    record { packets_whole = ArePackets-push ps q is.packets_whole packet; of_link = of_link-push up.link ps q is.of_link carries_one; few = is.few; seen = is.seen; unseen = is.unseen; as_left = is.as_left ∙ sym (begun-push up.link.zone marks 0 ps q packet (omega (arith, room))); counts = is.counts }
+    record {
+      packets_whole = ArePackets-push ps q is.packets_whole packet;
+      of_link = of_link-push up.link ps q is.of_link carries_one;
+      few = is.few;
+      seen = is.seen;
+      unseen = is.unseen;
+      as_left =
+          is.as_left ∙ sym (begun-push up.link.zone marks 0 ps q packet (omega (arith, room)));
+      counts = is.counts;
+    }
 
 pub carries : (link : LinkConfig) (count : ℕ) (pdu : List ℕ) → IsLink link → count < 16384 → 1 ≤ length pdu → length pdu ≤ 65536 → SpellsPacket (carrying link count pdu) (packet_of link count pdu)
 carries link count pdu valid low some fits =
@@ -71,5 +83,6 @@ carried link count pdu valid low some fits =
 -- so the PDU is what it carries
 pub its_pdu : (link : LinkConfig) (count : ℕ) (pdu : List ℕ) → IsLink link → count < 16384 → 1 ≤ length pdu → length pdu ≤ 65536 → pdus_in (busy (packet_of link count pdu ∷ [])) ≡ pdu ∷ []
 its_pdu link count pdu valid low some fits =
-    let c : (packet_drop link (packet_of link count pdu) ≡ None) × (is_idle (packet_of link count pdu) ≡ false) × (drop 6 (packet_of link count pdu) ≡ pdu) = carried link count pdu valid low some fits in
+    let c : (packet_drop link (packet_of link count pdu) ≡ None) × (is_idle (packet_of link count pdu) ≡ false) × (drop 6 (packet_of link count pdu) ≡ pdu) =
+    carried link count pdu valid low some fits in
     rw (c.1) (ap (λ x. x ∷ []) c.2)

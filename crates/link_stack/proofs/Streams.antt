@@ -83,7 +83,8 @@ packets_are_read : (up : LinkReceiverState) (frame : List ℕ) → frame_fault f
     frame_read up frame ≡ packets_read (Some (seen_in frame)) up.begun (follows up.last (seen_in frame)) (pointer_of (mpdu_in frame)) (drop 2 (mpdu_in frame))
 packets_are_read up frame sound busy =
     let count : SeenCount = seen_in frame in
-    ap (λ e. read_unless e up frame) sound ∙ ap (λ b. if b then idle_read count else packets_read (Some count) up.begun (follows up.last count) (pointer_of (mpdu_in frame)) (drop 2 (mpdu_in frame))) busy
+    ap (λ e. read_unless e up frame) sound ∙ ap (λ b. if b then idle_read count
+    else packets_read (Some count) up.begun (follows up.last count) (pointer_of (mpdu_in frame)) (drop 2 (mpdu_in frame))) busy
 
 -- what is read of it
 pub record IsRight (all : Bool) (up : LinkReceiverState) (ps : List (List ℕ)) (marks : List Bool) (missed : ℕ) (read : FrameRead) : Type 0 where
@@ -95,7 +96,8 @@ pub record IsRight (all : Bool) (up : LinkReceiverState) (ps : List (List ℕ)) 
   pub ours : AreOurs up.link read.packets
   pub told : read.told ≡ zone_drops (not (missed == 0) && is_some up.begun) 0
 
-pub right : (all : Bool) (up : LinkReceiverState) (ps : List (List ℕ)) (marks : List Bool) (missed : ℕ) (frame : List ℕ) → IsLink up.link → IsUpOf all up ps marks missed → ArePackets ps → length marks * up.link.zone + up.link.zone ≤ length (stream ps) →
+pub right : (all : Bool) (up : LinkReceiverState) (ps : List (List ℕ)) (marks : List Bool) (missed : ℕ) (frame : List ℕ) → IsLink up.link → IsUpOf all up ps marks missed → ArePackets ps →
+    length marks * up.link.zone + up.link.zone ≤ length (stream ps) →
     IsDecoded all up.link ps (length marks) frame → IsRight all up ps marks missed (frame_read up frame)
 right all up ps marks missed frame valid is whole room d =
     let z : ℕ = up.link.zone in
@@ -115,7 +117,8 @@ right all up ps marks missed frame valid is whole room d =
     let given : survivors z (marks ++ true ∷ []) 0 ps ≡ survivors z marks 0 ps ++ (step (length oct) held at oct).out =
     subst (λ (k : ℕ). survivors k (marks ++ true ∷ []) 0 ps ≡ survivors k marks 0 ps ++ (step (length oct) held at oct).out) d.size fed.given in
     let ours : AreOurs up.link (step (length oct) held at oct).out =
-    ours-behind up.link (survivors z marks 0 ps) (step (length oct) held at oct).out (subst (λ (l : List (List ℕ)). AreOurs up.link l) given (ours_survive up.link z (marks ++ true ∷ []) 0 ps is.of_link)) in
+    ours-behind up.link (survivors z marks 0 ps) (step (length oct) held at oct).out
+    (subst (λ (l : List (List ℕ)). AreOurs up.link l) given (ours_survive up.link z (marks ++ true ∷ []) 0 ps is.of_link)) in
     let tells : zone_drops (resync (length oct) up.begun f at oct) (bad_count (length oct) held at oct) ≡ zone_drops (not (missed == 0) && is_some up.begun) 0 =
     ap (λ b. zone_drops b (bad_count (length oct) held at oct)) (fed.resync ∙ told.1)
     ∙ ap (λ k. zone_drops (not (missed == 0) && is_some up.begun) k) fed.bad in
@@ -123,11 +126,13 @@ right all up ps marks missed frame valid is whole room d =
     record { last = seen_in frame; seen = refl; counted = d.count; held = fed.left ∙ ap (λ k. begun k (marks ++ true ∷ []) 0 ps) d.size; given = given; ours = ours; told = tells } in
     subst (λ (r : FrameRead). IsRight all up ps marks missed r) (sym (packets_are_read up frame d.sound d.not_idle)) zoned
 
-seen_last : (all : Bool) (last : Option SeenCount) (l : SeenCount) (marks : List Bool) (b : Bool) → last ≡ Some l → CountsFrame all (length marks) l → IfSome last (λ l. (n : ℕ) × CountsFrame all n l × (length (marks ++ b ∷ []) ≡ n + 1 + 0))
+seen_last : (all : Bool) (last : Option SeenCount) (l : SeenCount) (marks : List Bool) (b : Bool) → last ≡ Some l → CountsFrame all (length marks) l →
+    IfSome last (λ l. (n : ℕ) × CountsFrame all n l × (length (marks ++ b ∷ []) ≡ n + 1 + 0))
 seen_last all last l marks b e counted =
     rw e (length marks, counted, omega (arith, length-append marks (b ∷ [])))
 
-pub next_taken : (all : Bool) (up new : LinkReceiverState) (ps : List (List ℕ)) (marks : List Bool) (missed : ℕ) (frame : List ℕ) (old out : List (List ℕ)) → IsUpOf all up ps marks missed → IsRight all up ps marks missed (frame_read up frame) →
+pub next_taken : (all : Bool) (up new : LinkReceiverState) (ps : List (List ℕ)) (marks : List Bool) (missed : ℕ) (frame : List ℕ) (old out : List (List ℕ)) → IsUpOf all up ps marks missed →
+    IsRight all up ps marks missed (frame_read up frame) →
     Takes (frame_read up frame) up new old out → TakesNextOf all up new ps marks missed old out
 next_taken all up new ps marks missed frame old out is r t =
     let packets = (frame_read up frame).packets in
@@ -153,7 +158,8 @@ next_taken all up new ps marks missed frame old out is r t =
       memory = ap (λ l. count_of l 11) shown ∙ resync_keeps up.drops b;
     }
 
-pub part_taken : (all : Bool) (up new : LinkReceiverState) (ps : List (List ℕ)) (marks : List Bool) (missed : ℕ) (frame : List ℕ) (old out : List (List ℕ)) → 0 < up.link.zone → IsUpOf all up ps marks missed → IsRight all up ps marks missed (frame_read up frame) →
+pub part_taken : (all : Bool) (up new : LinkReceiverState) (ps : List (List ℕ)) (marks : List Bool) (missed : ℕ) (frame : List ℕ) (old out : List (List ℕ)) → 0 < up.link.zone →
+    IsUpOf all up ps marks missed → IsRight all up ps marks missed (frame_read up frame) →
     TakesFront (frame_read up frame) up new old out → TakesNextFrontOf all up new ps marks old out
 part_taken all up new ps marks missed frame old out some is r t =
     let packets = (frame_read up frame).packets in
@@ -182,7 +188,8 @@ part_taken all up new ps marks missed frame old out some is r t =
     }
 
 -- whichever it was
-pub taken_either : (all : Bool) (whole : Bool) (up new : LinkReceiverState) (ps : List (List ℕ)) (marks : List Bool) (missed : ℕ) (frame : List ℕ) (old out : List (List ℕ)) → IsLink up.link → IsUpOf all up ps marks missed → IsNextFrameOf all up.link ps marks frame →
+pub taken_either : (all : Bool) (whole : Bool) (up new : LinkReceiverState) (ps : List (List ℕ)) (marks : List Bool) (missed : ℕ) (frame : List ℕ) (old out : List (List ℕ)) → IsLink up.link →
+    IsUpOf all up ps marks missed → IsNextFrameOf all up.link ps marks frame →
     (whole ≡ true → Takes (frame_read up frame) up new old out) → (whole ≡ false → HasZone up.link frame × TakesFront (frame_read up frame) up new old out) →
     TakesNextOf all up new ps marks missed old out ⊎ TakesNextFrontOf all up new ps marks old out
 taken_either all whole up new ps marks missed frame old out valid is next whole_is front =

@@ -45,13 +45,15 @@ long-take (suc n) [] all = tt
 long-take (suc n) (p ∷ ps) all = (all.0, long-take n ps all.1)
 
 -- what was appended has headers
-pub fed_long : {A E : Type 0} (fed : Result A E) (first : ℕ) (old new packets : List (List ℕ)) → first ≡ length old → AreLong packets → OnOk fed (new ≡ old ++ packets) → OnErr fed ((n : ℕ) × (new ≡ old ++ take n packets)) →
+pub fed_long : {A E : Type 0} (fed : Result A E) (first : ℕ) (old new packets : List (List ℕ)) → first ≡ length old → AreLong packets → OnOk fed (new ≡ old ++ packets) →
+    OnErr fed ((n : ℕ) × (new ≡ old ++ take n packets)) →
     AreLong (drop first new)
 fed_long (Ok x) first old new packets e all all_of front = subst AreLong (sym (ap (λ l. drop first l) all_of ∙ drop_at old packets first (sym e))) all
 fed_long (Err x) first old new packets e all all_of front = subst AreLong (sym (ap (λ l. drop first l) front.1 ∙ drop_at old (take front.0 packets) first (sym e))) (long-take front.0 packets all)
 
 -- a zone that found no memory
-pub takes_front : {A E : Type 0} (fed : Result A E) (up new : LinkReceiverState) (first : ℕ) (old mid out : List (List ℕ)) (read : FrameRead) (noted : List ℕ) → new.link ≡ up.link → new.last ≡ read.last → is_ok fed ≡ false → first ≡ length old →
+pub takes_front : {A E : Type 0} (fed : Result A E) (up new : LinkReceiverState) (first : ℕ) (old mid out : List (List ℕ)) (read : FrameRead) (noted : List ℕ) → new.link ≡ up.link → new.last
+    ≡ read.last → is_ok fed ≡ false → first ≡ length old →
     OnErr fed ((n : ℕ) × (mid ≡ old ++ take n read.packets)) → OnErr fed (1 ≤ length read.packets) → OnErr fed (new.begun ≡ []) → OnErr fed (noted ≡ counted up.drops NoMemory) →
     new.drops ≡ all_counted noted (drops_of up.link (drop first mid)) → out ≡ take first mid ++ pdus_of up.link (drop first mid) → TakesFront read up new old out
 takes_front (Ok x) up new first old mid out read noted link last none e front some begun told drops pdus = absurd cc
@@ -70,7 +72,8 @@ takes_front (Err x) up new first old mid out read noted link last none e front s
     }
 
 -- the same, of another end that has the same link and counts
-pub front_again : (read same : FrameRead) (up mid new : LinkReceiverState) (old out : List (List ℕ)) → read ≡ same → mid.link ≡ up.link → mid.drops ≡ up.drops → TakesFront read mid new old out → TakesFront same up new old out
+pub front_again : (read same : FrameRead) (up mid new : LinkReceiverState) (old out : List (List ℕ)) → read ≡ same → mid.link ≡ up.link → mid.drops ≡ up.drops → TakesFront read mid new old out →
+    TakesFront same up new old out
 front_again read same up mid new old out e link drops t =
     subst (λ (r : FrameRead). TakesFront r up new old out) e (record {
       link = t.link ∙ link;
@@ -78,6 +81,7 @@ front_again read same up mid new old out e link drops t =
       begun = t.begun;
       some = t.some;
       count = t.count;
-      drops = t.drops ∙ ap (λ l. all_counted (counted l NoMemory) (drops_of mid.link (take t.count read.packets))) drops ∙ ap (λ l. all_counted (counted up.drops NoMemory) (drops_of l (take t.count read.packets))) link;
+      drops = t.drops ∙ ap (λ l. all_counted (counted l NoMemory) (drops_of mid.link (take t.count read.packets))) drops
+          ∙ ap (λ l. all_counted (counted up.drops NoMemory) (drops_of l (take t.count read.packets))) link;
       pdus = t.pdus ∙ ap (λ l. old ++ pdus_of l (take t.count read.packets)) link;
     })

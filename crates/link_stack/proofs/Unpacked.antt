@@ -28,7 +28,8 @@ with_drop-cons (Some d) drops counts = refl
 pub pdus_of-cons : (link : LinkConfig) (q : List ℕ) (left : List (List ℕ)) → pdus_of link (q ∷ left) ≡ pdus_of link (q ∷ []) ++ pdus_of link left
 pdus_of-cons link q left = with_pdu-cons (packet_drop link q) q (pdus_of link left)
 
-pub drops_of-cons : (link : LinkConfig) (q : List ℕ) (left : List (List ℕ)) (counts : List ℕ) → all_counted counts (drops_of link (q ∷ left)) ≡ all_counted (all_counted counts (drops_of link (q ∷ []))) (drops_of link left)
+pub drops_of-cons : (link : LinkConfig) (q : List ℕ) (left : List (List ℕ)) (counts : List ℕ) → all_counted counts (drops_of link (q ∷ left))
+    ≡ all_counted (all_counted counts (drops_of link (q ∷ []))) (drops_of link left)
 drops_of-cons link q left counts = with_drop-cons (packet_drop link q) (drops_of link left) counts
 
 -- one more is made its PDU, or taken out
@@ -66,7 +67,8 @@ removed (x ∷ xs) left zero q e = (cc, refl)
 removed (x ∷ xs) left (suc place) q e = let r = removed xs left place q e in (r.0, ap (λ l. x ∷ l) r.1)
 
 -- it is replaced
-pub replaced : {A : Type 0} (xs left : List A) (place : ℕ) (q b : A) → drop place xs ≡ q ∷ left → (drop (suc place) (slice_set xs place b) ≡ left) × (take (suc place) (slice_set xs place b) ≡ take place xs ++ b ∷ [])
+pub replaced : {A : Type 0} (xs left : List A) (place : ℕ) (q b : A) → drop place xs ≡ q ∷ left → (drop (suc place) (slice_set xs place b) ≡ left)
+    × (take (suc place) (slice_set xs place b) ≡ take place xs ++ b ∷ [])
 replaced [] left zero q b e = absurd cc
 replaced [] left (suc place) q b e = absurd cc
 replaced (x ∷ xs) left zero q b e = (cc, refl)
@@ -80,7 +82,8 @@ long_at items place d h long =
     all.0
 
 -- what stands at a place has a header
-pub long_there : (items : List (Vec ℕ Global)) (place : ℕ) (d : Vec ℕ Global) → place < length items → AreLong (drop place (octets_of_each items)) → d ≡ slice_index_or items place d → 6 ≤ length d.items
+pub long_there : (items : List (Vec ℕ Global)) (place : ℕ) (d : Vec ℕ Global) → place < length items → AreLong (drop place (octets_of_each items)) → d ≡ slice_index_or items place d → 6
+    ≤ length d.items
 long_there items place d h long same = subst (λ (v : Vec ℕ Global). 6 ≤ length v.items) (sym same) (long_at items place d h long)
 
 -- it is the next of those left
@@ -96,7 +99,8 @@ removed_octets items place =
     ∙ ap (λ l. take place (octets_of_each items) ++ l) (sym (drop-map (λ v. v.items) (suc place) items))
 
 -- what carries no PDU is taken out
-pub taken_out : (link : LinkConfig) (items new : List (Vec ℕ Global)) (place : ℕ) (d : LinkDrop) (text q : List ℕ) (left : List (List ℕ)) (now after : List ℕ) → drop place (octets_of_each items) ≡ q ∷ left →
+pub taken_out : (link : LinkConfig) (items new : List (Vec ℕ Global)) (place : ℕ) (d : LinkDrop) (text q : List ℕ) (left : List (List ℕ)) (now after : List ℕ) → drop place (octets_of_each items)
+    ≡ q ∷ left →
     text ≡ q → Some d ≡ packet_drop link text → new ≡ remove items place → after ≡ counted now d →
     (drop place (octets_of_each new) ≡ left) × (take place (octets_of_each new) ≡ take place (octets_of_each items) ++ pdus_of link (q ∷ [])) × (after ≡ all_counted now (drops_of link (q ∷ [])))
 taken_out link items new place d text q left now after here same told out more =
@@ -109,19 +113,23 @@ taken_out link items new place d text q left now after here same told out more =
     )
 
 -- what carries one is made that PDU
-pub made_pdu : (link : LinkConfig) (items : List (Vec ℕ Global)) (place then : ℕ) (v : Vec ℕ Global) (text q : List ℕ) (left : List (List ℕ)) (now : List ℕ) → drop place (octets_of_each items) ≡ q ∷ left →
+pub made_pdu : (link : LinkConfig) (items : List (Vec ℕ Global)) (place then : ℕ) (v : Vec ℕ Global) (text q : List ℕ) (left : List (List ℕ)) (now : List ℕ) → drop place (octets_of_each items)
+    ≡ q ∷ left →
     text ≡ q → None ≡ packet_drop link text → v.items ≡ drop 6 text → then ≡ suc place →
-    (drop then (octets_of_each (slice_set items place v)) ≡ left) × (take then (octets_of_each (slice_set items place v)) ≡ take place (octets_of_each items) ++ pdus_of link (q ∷ [])) × (now ≡ all_counted now (drops_of link (q ∷ [])))
+    (drop then (octets_of_each (slice_set items place v)) ≡ left) × (take then (octets_of_each (slice_set items place v)) ≡ take place (octets_of_each items) ++ pdus_of link (q ∷ []))
+    × (now ≡ all_counted now (drops_of link (q ∷ [])))
 made_pdu link items place then v text q left now here same told made next =
     let because : packet_drop link q ≡ None = sym (told ∙ ap (λ l. packet_drop link l) same) in
-    let octets : octets_of_each (slice_set items place v) ≡ slice_set (octets_of_each items) place (drop 6 q) = map-set (λ v. v.items) items place v ∙ ap (λ l. slice_set (octets_of_each items) place l) (made ∙ ap (λ l. drop 6 l) same) in
+    let octets : octets_of_each (slice_set items place v) ≡ slice_set (octets_of_each items) place (drop 6 q) = map-set (λ v. v.items) items place v
+    ∙ ap (λ l. slice_set (octets_of_each items) place l) (made ∙ ap (λ l. drop 6 l) same) in
     let r = replaced (octets_of_each items) left place q (drop 6 q) here in (
       ap (λ l. drop then l) octets ∙ ap (λ n. drop n (slice_set (octets_of_each items) place (drop 6 q))) next ∙ r.0,
       ap (λ l. take then l) octets ∙ ap (λ n. take n (slice_set (octets_of_each items) place (drop 6 q))) next ∙ r.1 ∙ ap (λ o. take place (octets_of_each items) ++ with_pdu o q []) (sym because),
       ap (λ o. all_counted now (with_drop o [])) (sym because),
     )
 
-pub one_bad : (bad i : ℕ) (counts after : List ℕ) (total : List ℕ) → i < bad → all_counted counts (replicate (bad - i) BadPacket) ≡ total → after ≡ counted counts BadPacket → all_counted after (replicate (bad - (i + 1)) BadPacket) ≡ total
+pub one_bad : (bad i : ℕ) (counts after : List ℕ) (total : List ℕ) → i < bad → all_counted counts (replicate (bad - i) BadPacket) ≡ total → after ≡ counted counts BadPacket →
+    all_counted after (replicate (bad - (i + 1)) BadPacket) ≡ total
 one_bad bad i counts after total h is more =
     let e : bad - i ≡ suc (bad - (i + 1)) = omega arith in
     ap (λ l. all_counted l (replicate (bad - (i + 1)) BadPacket)) more ∙ sym (ap (λ n. all_counted counts (replicate n BadPacket)) e) ∙ is

@@ -19,7 +19,14 @@ pub record LinkSenderState : Type 0 where
 
 -- its packer
 abbrev pub packing : LinkSenderState → PackerState
-packing d = record { size = d.link.zone; capacity = d.capacity; waiting = d.waiting; first = d.first; flushed = d.flushed }
+packing d = record {
+  size = d.link.zone;
+  capacity = d.capacity;
+  waiting = d.waiting;
+  first =
+      d.first;
+  flushed = d.flushed;
+}
 
 -- the octets of the longest PDU for which there is room, 0 where there is none: a packet has 6
 -- octets more

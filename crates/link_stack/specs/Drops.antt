@@ -34,7 +34,8 @@ count_of counts number = if number == 0 then 0 else slice_index_or counts (numbe
 
 -- the counts after one drop more, and after these
 unfoldable pub counted : List ℕ → LinkDrop → List ℕ
-counted counts drop = slice_set counts (drop_number drop - 1) (raised (slice_index_or counts (drop_number drop - 1) 0))
+counted counts drop = slice_set counts (drop_number drop - 1)
+    (raised (slice_index_or counts (drop_number drop - 1) 0))
 
 abbrev pub all_counted : List ℕ → List LinkDrop → List ℕ
 all_counted counts [] = counts

@@ -11,7 +11,14 @@ use Rattle.link_stack.specs.declared.drops.LinkDrop.TheVariants.{OtherApid, Segm
 
 -- the packet that carries a PDU: unsegmented, with no secondary header (CCSDS 133.0-B-2, 4.1.3)
 abbrev pub carrying : LinkConfig → ℕ → List ℕ → Parts
-carrying link count pdu = record { apid = link.apid; kind = false; secondary = false; flags = 3; count = count; body = pdu }
+carrying link count pdu = record {
+  apid = link.apid;
+  kind = false;
+  secondary = false;
+  flags = 3;
+  count = count;
+  body = pdu;
+}
 
 abbrev pub packet_of : LinkConfig → ℕ → List ℕ → List ℕ
 packet_of link count pdu = packet_octets (carrying link count pdu)
@@ -39,9 +46,16 @@ AreOfLink link (p ∷ ps) = ((is_idle p ≡ true) ⊎ (packet_drop link p ≡ No
 -- the M_PDU of frame n of the packets' stream: its header and zone n (CCSDS 732.0-B-4, 4.1.4.2)
 abbrev pub mpdu_of : LinkConfig → List (List ℕ) → ℕ → List ℕ
 mpdu_of link ps n =
-    pointer_octets (first_header_pointer link.zone (n * link.zone) 0 ps) ++ zone link.zone (n * link.zone) (stream ps)
+    pointer_octets (first_header_pointer link.zone (n * link.zone) 0 ps)
+    ++ zone link.zone (n * link.zone) (stream ps)
 
 -- frame n of the packets' stream, counted modulo 2^28 (CCSDS 732.0-B-4, 4.1.2.4, 4.1.2.5)
 abbrev pub frame_of : LinkConfig → List (List ℕ) → ℕ → List ℕ
 frame_of link ps n =
-    frame_octets (record { spacecraft = link.spacecraft; channel = link.channel; count = n % frame_counts; cycle = true }) (mpdu_of link ps n)
+    frame_octets (record {
+      spacecraft = link.spacecraft;
+      channel = link.channel;
+      count =
+          n % frame_counts;
+      cycle = true;
+    }) (mpdu_of link ps n)

@@ -71,7 +71,8 @@ packets_read last begun follows at zone =
       last = last;
       begun = (reading begun follows at zone).begun;
       packets = (reading begun follows at zone).out;
-      told = zone_drops (resync (length zone) begun follows at zone) (bad_count (length zone) (held_at follows begun) at zone);
+      told = zone_drops (resync (length zone) begun follows at zone)
+          (bad_count (length zone) (held_at follows begun) at zone);
     }
 
 -- an M_PDU, behind the count of its frame; the pointer 2046 tells of idle data only (CCSDS
@@ -83,7 +84,13 @@ mpdu_read up seen mpdu =
 
 -- A frame of another link, or none, changes nothing but the count of its cause.
 abbrev pub read_unless : Option FrameError → LinkReceiverState → List ℕ → FrameRead
-read_unless (Some error) up frame = record { last = up.last; begun = up.begun; packets = []; told = Frame error ∷ [] }
+read_unless (Some error) up frame = record {
+  last = up.last;
+  begun = up.begun;
+  packets = [];
+  told =
+      Frame error ∷ [];
+}
 read_unless None up frame = mpdu_read up (seen_in frame) (mpdu_in frame)
 
 abbrev pub frame_read : LinkReceiverState → List ℕ → FrameRead
@@ -95,32 +102,40 @@ pub record HasZone (link : LinkConfig) (frame : List ℕ) : Type 0 where
   pub not_idle : (pointer_of (mpdu_in frame) == 2046) ≡ false
 
 -- All of it was taken: its PDUs were appended, and each drop counted.
-pub record Takes (read : FrameRead) (up new : LinkReceiverState) (old out : List (List ℕ)) : Type 0 where
+pub record Takes (read : FrameRead) (up new : LinkReceiverState)
+    (old out : List (List ℕ)) : Type 0 where
   pub link : new.link ≡ up.link
   pub last : new.last ≡ read.last
   pub begun : new.begun ≡ read.begun
-  pub drops : new.drops ≡ all_counted (all_counted up.drops read.told) (drops_of up.link read.packets)
+  pub drops : new.drops ≡ all_counted (all_counted up.drops read.told)
+      (drops_of up.link read.packets)
   pub pdus : out ≡ old ++ pdus_of up.link read.packets
 
--- A front of it was taken, and nothing is held: there was no memory to hand out a packet that the zone
+-- A front of it was taken, and nothing is held: there was no memory to hand out a packet that the
+-- zone
 -- completes, and NoMemory was counted in the place of what the zone tells.
-pub record TakesFront (read : FrameRead) (up new : LinkReceiverState) (old out : List (List ℕ)) : Type 0 where
+pub record TakesFront (read : FrameRead) (up new : LinkReceiverState)
+    (old out : List (List ℕ)) : Type 0 where
   pub link : new.link ≡ up.link
   pub last : new.last ≡ read.last
   pub begun : new.begun ≡ []
   pub some : 1 ≤ length read.packets
   pub count : ℕ
-  pub drops : new.drops ≡ all_counted (counted up.drops NoMemory) (drops_of up.link (take count read.packets))
+  pub drops : new.drops ≡ all_counted (counted up.drops NoMemory)
+      (drops_of up.link (take count read.packets))
   pub pdus : out ≡ old ++ pdus_of up.link (take count read.packets)
 
--- The receiving end is in the state in which the delivered frames of this stream leave it. The marks
+-- The receiving end is in the state in which the delivered frames of this stream leave it. The
+-- marks
 -- say which frames were delivered; the last `missed` were lost, fewer than the counts tell apart:
 -- than 2^28 where all frames of the stream have the usage flag of the count cycle, else than 2^24.
-pub record IsUpOf (all : Bool) (up : LinkReceiverState) (ps : List (List ℕ)) (marks : List Bool) (missed : ℕ) : Type 0 where
+pub record IsUpOf (all : Bool) (up : LinkReceiverState) (ps : List (List ℕ)) (marks : List Bool)
+    (missed : ℕ) : Type 0 where
   pub packets_whole : ArePackets ps
   pub of_link : AreOfLink up.link ps
   pub few : missed < counts_of all
-  pub seen : IfSome up.last (λ last. (n : ℕ) × CountsFrame all n last × (length marks ≡ n + 1 + missed))
+  pub seen : IfSome up.last (λ last. (n : ℕ) × CountsFrame all n last
+      × (length marks ≡ n + 1 + missed))
   pub unseen : up.last ≡ None → up.begun ≡ []
   pub as_left : held_at (missed == 0) up.begun ≡ begun up.link.zone marks 0 ps
   pub counts : length up.drops ≡ 11
@@ -130,37 +145,47 @@ abbrev pub IsUp : LinkReceiverState → List (List ℕ) → List Bool → ℕ �
 IsUp up ps marks missed = IsUpOf true up ps marks missed
 
 -- The frame behind the marked ones of the packets' stream, as a sending end makes it.
-pub record IsNextFrame (link : LinkConfig) (ps : List (List ℕ)) (marks : List Bool) (frame : List ℕ) : Type 0 where
+pub record IsNextFrame (link : LinkConfig) (ps : List (List ℕ)) (marks : List Bool)
+    (frame : List ℕ) : Type 0 where
   pub inside : length marks * link.zone + link.zone ≤ length (stream ps)
   pub octets : frame ≡ frame_of link ps (length marks)
 
 -- The frame behind the marked ones, whoever makes it: a frame of the link with that count and that
 -- zone. Where not all frames of the stream have the flag, it may have it or not.
-pub record IsNextFrameOf (all : Bool) (link : LinkConfig) (ps : List (List ℕ)) (marks : List Bool) (frame : List ℕ) : Type 0 where
+pub record IsNextFrameOf (all : Bool) (link : LinkConfig) (ps : List (List ℕ)) (marks : List Bool)
+    (frame : List ℕ) : Type 0 where
   pub of_link : frame_fault frame link ≡ None
   pub counted : CountsFrame all (length marks) (seen_in frame)
-  pub zoned : ZoneOf ps (length marks) link.zone (pointer_of (mpdu_in frame)) (drop 2 (mpdu_in frame))
+  pub zoned : ZoneOf ps (length marks) link.zone (pointer_of (mpdu_in frame))
+      (drop 2 (mpdu_in frame))
 
 -- It was taken whole: appended are the PDUs of the survivors that it completes. Nothing is dropped
 -- but a begun packet, where a frame was missed.
-pub record TakesNextOf (all : Bool) (up new : LinkReceiverState) (ps : List (List ℕ)) (marks : List Bool) (missed : ℕ) (old out : List (List ℕ)) : Type 0 where
+pub record TakesNextOf (all : Bool) (up new : LinkReceiverState) (ps : List (List ℕ))
+    (marks : List Bool) (missed : ℕ) (old out : List (List ℕ)) : Type 0 where
   pub after : IsUpOf all new ps (marks ++ true ∷ []) 0
   pub added : List (List ℕ)
-  pub completed : survivors up.link.zone (marks ++ true ∷ []) 0 ps ≡ survivors up.link.zone marks 0 ps ++ added
+  pub completed : survivors up.link.zone (marks ++ true ∷ []) 0 ps
+      ≡ survivors up.link.zone marks 0 ps ++ added
   pub pdus : out ≡ old ++ pdus_in added
-  pub drops : new.drops ≡ all_counted up.drops (zone_drops (not (missed == 0) && is_some up.begun) 0)
+  pub drops : new.drops ≡ all_counted up.drops
+      (zone_drops (not (missed == 0) && is_some up.begun) 0)
   pub link : new.link ≡ up.link
   pub memory : count_of new.drops 11 ≡ count_of up.drops 11
 
-abbrev pub TakesNext : LinkReceiverState → LinkReceiverState → List (List ℕ) → List Bool → ℕ → List (List ℕ) → List (List ℕ) → Type 0
+abbrev pub TakesNext : LinkReceiverState → LinkReceiverState → List (List ℕ) → List Bool → ℕ →
+    List (List ℕ) → List (List ℕ) → Type 0
 TakesNext up new ps marks missed old out = TakesNextOf true up new ps marks missed old out
 
--- A front of those PDUs was appended, since there was no memory for one of them, and the end is as if
+-- A front of those PDUs was appended, since there was no memory for one of them, and the end is as
+-- if
 -- the frame had been struck.
-pub record TakesNextFrontOf (all : Bool) (up new : LinkReceiverState) (ps : List (List ℕ)) (marks : List Bool) (old out : List (List ℕ)) : Type 0 where
+pub record TakesNextFrontOf (all : Bool) (up new : LinkReceiverState) (ps : List (List ℕ))
+    (marks : List Bool) (old out : List (List ℕ)) : Type 0 where
   pub after : IsUpOf all new ps (marks ++ false ∷ []) 0
   pub added : List (List ℕ)
-  pub completed : survivors up.link.zone (marks ++ true ∷ []) 0 ps ≡ survivors up.link.zone marks 0 ps ++ added
+  pub completed : survivors up.link.zone (marks ++ true ∷ []) 0 ps
+      ≡ survivors up.link.zone marks 0 ps ++ added
   pub some : 1 ≤ length added
   pub count : ℕ
   pub pdus : out ≡ old ++ pdus_in (take count added)
@@ -168,5 +193,6 @@ pub record TakesNextFrontOf (all : Bool) (up new : LinkReceiverState) (ps : List
   pub link : new.link ≡ up.link
   pub memory : 1 ≤ count_of new.drops 11
 
-abbrev pub TakesNextFront : LinkReceiverState → LinkReceiverState → List (List ℕ) → List Bool → List (List ℕ) → List (List ℕ) → Type 0
+abbrev pub TakesNextFront : LinkReceiverState → LinkReceiverState → List (List ℕ) → List Bool →
+    List (List ℕ) → List (List ℕ) → Type 0
 TakesNextFront up new ps marks old out = TakesNextFrontOf true up new ps marks old out

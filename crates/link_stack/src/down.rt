@@ -51,9 +51,21 @@ impl Model for Down {
 
     ghost Value = { LinkSenderState };
 
-    ghost view = { λ d. record { link = d.link; capacity = d.packer.capacity; waiting = d.packer.waiting; first = d.packer.first; flushed = d.packer.flushed; packet_count = d.packets; frame_count = d.frames } };
+    ghost view = { λ d. record {
+      link = d.link;
+      capacity = d.packer.capacity;
+      waiting =
+          d.packer.waiting;
+      first = d.packer.first;
+      flushed = d.packer.flushed;
+      packet_count =
+          d.packets;
+      frame_count = d.frames;
+    } };
 
-    ghost invariant = { λ d. IsLink d.link × (d.packer.size ≡ d.link.zone) × (d.packer.capacity ≤ 65536) × (length d.packet.items ≡ d.packer.capacity) × (d.packets < 16384) };
+    ghost invariant = { λ d. IsLink d.link × (d.packer.size ≡ d.link.zone)
+        × (d.packer.capacity ≤ 65536) × (length d.packet.items ≡ d.packer.capacity)
+        × (d.packets < 16384) };
 }
 
 impl Down {
@@ -65,7 +77,15 @@ impl Down {
         requires link { IsLink link }
         requires most { capacity ≤ 65536 }
         ensures new { IfOk result (λ d. d
-            ≡ record { link = link; capacity = capacity; waiting = []; first = 0; flushed = false; packet_count = 0; frame_count = 0 }) }
+            ≡ record {
+              link = link;
+              capacity = capacity;
+              waiting = [];
+              first = 0;
+              flushed = false;
+              packet_count = 0;
+              frame_count = 0;
+            }) }
         ensures stream { IfOk result (λ d. IsDown d [] 0) }
     {
         Ok(Down {
@@ -118,8 +138,10 @@ impl Down {
         ensures err { OnErr result (self.new ≡ self.old) }
         // The stream is then longer by one packet: the PDU's, with the running count.
         ensures stream { (ps : List (List ℕ)) (made : ℕ) → IsDown self.old ps made →
-            OnOk result (IsDown self.new (ps ++ packet_of self.old.link self.old.packet_count pdu.now ∷ []) made) }
-        ensures pdu { OnOk result (pdus_in (busy (packet_of self.old.link self.old.packet_count pdu.now ∷ [])) ≡ pdu.now ∷ []) }
+            OnOk result (IsDown self.new
+            (ps ++ packet_of self.old.link self.old.packet_count pdu.now ∷ []) made) }
+        ensures pdu { OnOk result (pdus_in
+            (busy (packet_of self.old.link self.old.packet_count pdu.now ∷ [])) ≡ pdu.now ∷ []) }
         ensures waiting { OnOk result (self.new.waiting ≡ self.old.waiting
             ++ packet_of self.old.link self.old.packet_count pdu.now) }
         ensures packet_count { OnOk result (self.new.packet_count
@@ -180,7 +202,9 @@ impl Down {
         ensures kept { result ≡ false → (self.new ≡ self.old) × (out.new ≡ out.old) }
         // It is the stream's frame behind those made, and one more is made then.
         ensures stream { (ps : List (List ℕ)) (made : ℕ) → IsDown self.old ps made → result ≡ true →
-            (out.new ≡ frame_of self.old.link ps made) × (made * self.old.link.zone + self.old.link.zone ≤ length (stream ps)) × IsDown self.new ps (made + 1) }
+            (out.new ≡ frame_of self.old.link ps made)
+            × (made * self.old.link.zone + self.old.link.zone ≤ length (stream ps))
+            × IsDown self.new ps (made + 1) }
         ensures zone { result ≡ true → drop 8 out.new ≡ take self.old.link.zone self.old.waiting }
         ensures rest { result ≡ true → self.new.waiting ≡ drop self.old.link.zone self.old.waiting }
         ensures fixed { (self.new.link ≡ self.old.link) × (self.new.capacity ≡ self.old.capacity)

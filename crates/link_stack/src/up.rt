@@ -133,7 +133,8 @@ fn unpack_one(
     ensures one { (q : List ℕ) (left : List (List ℕ)) →
         drop place (octets_of_each packets.old.items) ≡ q ∷ left →
         (drop result (octets_of_each packets.new.items) ≡ left)
-        × (take result (octets_of_each packets.new.items) ≡ take place (octets_of_each packets.old.items) ++ pdus_of link.now (q ∷ []))
+        × (take result (octets_of_each packets.new.items)
+        ≡ take place (octets_of_each packets.old.items) ++ pdus_of link.now (q ∷ []))
         × (drops.new ≡ all_counted drops.old (drops_of link.now (q ∷ []))) }
 {
     if let Some(drop) = packet_drop_of(link, &packets[place]) {
@@ -178,7 +179,13 @@ impl Model for Up {
 
     ghost Value = { LinkReceiverState };
 
-    ghost view = { λ u. record { link = u.link; last = u.monitor; begun = u.reassembler; drops = u.drops } };
+    ghost view = { λ u. record {
+      link = u.link;
+      last = u.monitor;
+      begun = u.reassembler;
+      drops =
+          u.drops;
+    } };
 
     ghost invariant = { λ u. IsLink u.link };
 }
@@ -223,10 +230,12 @@ impl Up {
         requires least { 16 ≤ length zone.now }
         requires most { length zone.now ≤ 2040 }
         ensures all { result ≡ true →
-            Takes (packets_read self.old.last self.old.begun follows pointer zone.now) self.old self.new
+            Takes (packets_read self.old.last self.old.begun follows pointer zone.now) self.old
+            self.new
             (octets_of_each out.old.items) (octets_of_each out.new.items) }
         ensures front { result ≡ false →
-            TakesFront (packets_read self.old.last self.old.begun follows pointer zone.now) self.old self.new
+            TakesFront (packets_read self.old.last self.old.begun follows pointer zone.now) self.old
+            self.new
             (octets_of_each out.old.items) (octets_of_each out.new.items) }
     {
         let first = out.len();
@@ -241,9 +250,11 @@ impl Up {
     fn read_mpdu(&mut self, count: u32, cycle: bool, mpdu: &[u8], out: &mut Vec<Vec<u8>>) -> bool
         requires len { length mpdu.now ≡ 2 + self.old.link.zone }
         ensures all { result ≡ true →
-            Takes (mpdu_read self.old (record { count = count; cycle = cycle }) mpdu.now) self.old self.new (octets_of_each out.old.items) (octets_of_each out.new.items) }
+            Takes (mpdu_read self.old (record { count = count; cycle = cycle }) mpdu.now) self.old
+            self.new (octets_of_each out.old.items) (octets_of_each out.new.items) }
         ensures front { result ≡ false → ((pointer_of mpdu.now == 2046) ≡ false)
-            × TakesFront (mpdu_read self.old (record { count = count; cycle = cycle }) mpdu.now) self.old self.new (octets_of_each out.old.items) (octets_of_each out.new.items) }
+            × TakesFront (mpdu_read self.old (record { count = count; cycle = cycle }) mpdu.now)
+            self.old self.new (octets_of_each out.old.items) (octets_of_each out.new.items) }
     {
         let in_order = self.monitor.follows(count, cycle);
         let pointer = read_pointer(mpdu);
@@ -258,9 +269,11 @@ impl Up {
     /// Reads a frame. False where its zone found no memory.
     fn read_frame(&mut self, frame: &[u8], out: &mut Vec<Vec<u8>>) -> bool
         ensures all { result ≡ true →
-            Takes (frame_read self.old frame.now) self.old self.new (octets_of_each out.old.items) (octets_of_each out.new.items) }
+            Takes (frame_read self.old frame.now) self.old self.new (octets_of_each out.old.items)
+            (octets_of_each out.new.items) }
         ensures front { result ≡ false → HasZone self.old.link frame.now
-            × TakesFront (frame_read self.old frame.now) self.old self.new (octets_of_each out.old.items) (octets_of_each out.new.items) }
+            × TakesFront (frame_read self.old frame.now) self.old self.new
+            (octets_of_each out.old.items) (octets_of_each out.new.items) }
     {
         match decode(frame, &self.link) {
             Ok((header, mpdu)) => self.read_mpdu(header.count, header.cycle, mpdu, out),
@@ -286,25 +299,34 @@ impl Up {
     /// had been lost.
     pub fn take(&mut self, frame: &[u8], out: &mut Vec<Vec<u8>>)
         // What any frame does.
-        ensures takes { Takes (frame_read self.old frame.now) self.old self.new (octets_of_each out.old.items) (octets_of_each out.new.items)
-            ⊎ (HasZone self.old.link frame.now × TakesFront (frame_read self.old frame.now) self.old self.new (octets_of_each out.old.items) (octets_of_each out.new.items)) }
+        ensures takes { Takes (frame_read self.old frame.now) self.old self.new
+            (octets_of_each out.old.items) (octets_of_each out.new.items)
+            ⊎ (HasZone self.old.link frame.now
+            × TakesFront (frame_read self.old frame.now) self.old self.new
+            (octets_of_each out.old.items) (octets_of_each out.new.items)) }
         // What the next frame of a stream does, where the end is as those before it leave it.
         ensures stream { (ps : List (List ℕ)) (marks : List Bool) (missed : ℕ) →
             IsUp self.old ps marks missed → IsNextFrame self.old.link ps marks frame.now →
-            TakesNext self.old self.new ps marks missed (octets_of_each out.old.items) (octets_of_each out.new.items)
-            ⊎ TakesNextFront self.old self.new ps marks (octets_of_each out.old.items) (octets_of_each out.new.items) }
+            TakesNext self.old self.new ps marks missed (octets_of_each out.old.items)
+            (octets_of_each out.new.items)
+            ⊎ TakesNextFront self.old self.new ps marks (octets_of_each out.old.items)
+            (octets_of_each out.new.items) }
         // The same of the next frame of a stream that anyone makes: all its frames have the usage
         // flag of the count cycle, or not all.
         ensures others { (all : Bool) (ps : List (List ℕ)) (marks : List Bool) (missed : ℕ) →
-            IsUpOf all self.old ps marks missed → IsNextFrameOf all self.old.link ps marks frame.now →
-            TakesNextOf all self.old self.new ps marks missed (octets_of_each out.old.items) (octets_of_each out.new.items)
-            ⊎ TakesNextFrontOf all self.old self.new ps marks (octets_of_each out.old.items) (octets_of_each out.new.items) }
+            IsUpOf all self.old ps marks missed →
+            IsNextFrameOf all self.old.link ps marks frame.now →
+            TakesNextOf all self.old self.new ps marks missed (octets_of_each out.old.items)
+            (octets_of_each out.new.items)
+            ⊎ TakesNextFrontOf all self.old self.new ps marks (octets_of_each out.old.items)
+            (octets_of_each out.new.items) }
         // So where nothing was in `out`, it has the PDUs of the survivors that this frame
         // completes, unless it found no memory.
         ensures delivered { (ps : List (List ℕ)) (marks : List Bool) (missed : ℕ) →
             IsUp self.old ps marks missed → IsNextFrame self.old.link ps marks frame.now →
             out.old.items ≡ [] →
-            (pdus_in (survivors self.old.link.zone (marks ++ true ∷ []) 0 ps) ≡ pdus_in (survivors self.old.link.zone marks 0 ps) ++ octets_of_each out.new.items)
+            (pdus_in (survivors self.old.link.zone (marks ++ true ∷ []) 0 ps)
+            ≡ pdus_in (survivors self.old.link.zone marks 0 ps) ++ octets_of_each out.new.items)
             ⊎ (self.new.drops ≡ counted self.old.drops NoMemory) }
     {
         let _ = &self.link;

@@ -31,7 +31,8 @@ marks_of_more (suc n) [] = ap (λ l. true ∷ l) (marks_of_more n [])
 marks_of_more (suc n) (b ∷ struck) = ap (λ l. not b ∷ l) (marks_of_more n struck)
 
 -- a packet pushed
-pub carried_push : (ps : List (List ℕ)) (struck : List Bool) (size : ℕ) (p p' : PackerState) (held : List ℕ) (next : ℕ) (last : Option SeenCount) (sent : ℕ) (out : List (List ℕ)) (q : List ℕ) → IsPacket q →
+pub carried_push : (ps : List (List ℕ)) (struck : List Bool) (size : ℕ) (p p' : PackerState) (held : List ℕ) (next : ℕ) (last : Option SeenCount) (sent : ℕ) (out : List (List ℕ)) (q : List ℕ) →
+    IsPacket q →
     p'.size ≡ p.size → (h : IsCarried ps struck size p held next last sent out) → IsAt p' (ps ++ q ∷ []) h.taken →
     IsCarried (ps ++ q ∷ []) struck size p' held next last sent out
 carried_push ps struck size p p' held next last sent out q hq es h at =
@@ -50,8 +51,10 @@ carried_push ps struck size p p' held next last sent out q hq es h at =
     }
 
 -- the next zone, as feed takes it
-pub next_of : (ps : List (List ℕ)) (struck : List Bool) (z : ℕ) (p : PackerState) (held : List ℕ) (next : ℕ) (last : Option SeenCount) (sent : ℕ) (out : List (List ℕ)) (at : ℕ) (octets : List ℕ) (follows : Bool) → length octets ≡ z →
-    (h : IsCarried ps struck z p held next last sent out) → ZoneOf ps h.taken p.size at octets → held_at follows held ≡ held_at (h.missed == 0) held → IsNext ps (marks_of h.taken struck) (held_at follows held) at octets
+pub next_of : (ps : List (List ℕ)) (struck : List Bool) (z : ℕ) (p : PackerState) (held : List ℕ) (next : ℕ) (last : Option SeenCount) (sent : ℕ) (out : List (List ℕ)) (at : ℕ) (octets : List ℕ)
+    (follows : Bool) → length octets ≡ z →
+    (h : IsCarried ps struck z p held next last sent out) → ZoneOf ps h.taken p.size at octets → held_at follows held ≡ held_at (h.missed == 0) held →
+    IsNext ps (marks_of h.taken struck) (held_at follows held) at octets
 next_of ps struck z p held next last sent out at octets follows e h zo told =
     let n : ℕ = h.taken in
     let m : List Bool = marks_of n struck in
@@ -71,7 +74,8 @@ marks_more n struck b e =
     ap (λ k. marks_of k struck) one ∙ marks_of_more n struck ∙ ap (λ x. marks_of n struck ++ not x ∷ []) e
 
 -- a zone read
-pub carried_read : (ps : List (List ℕ)) (struck : List Bool) (z : ℕ) (p p' : PackerState) (held held' : List ℕ) (next next' : ℕ) (last : Option SeenCount) (sent sent' : ℕ) (out new : List (List ℕ)) (octets : List ℕ) → length octets ≡ z →
+pub carried_read : (ps : List (List ℕ)) (struck : List Bool) (z : ℕ) (p p' : PackerState) (held held' : List ℕ) (next next' : ℕ) (last : Option SeenCount) (sent sent' : ℕ) (out new : List (List ℕ))
+    (octets : List ℕ) → length octets ≡ z →
     (h : IsCarried ps struck z p held next last sent out) → next' ≡ (next + 1) % frame_counts → p'.size ≡ p.size → IsAt p' ps (h.taken + 1) → sent' ≡ min (h.taken + 1) (length struck) →
     get_or struck h.taken false ≡ false → IsTaken ps (marks_of h.taken struck) (length octets) held' out new →
     IsCarried ps struck z p' held' next' (Some (with_cycle next)) sent' new
@@ -87,7 +91,8 @@ carried_read ps struck z p p' held held' next next' last sent sent' out new octe
       missed = 0;
       counts = counts_read struck n h.missed next next' last held held' h.counts en;
       as_left = t.as_left ∙ ap (λ k. begun k (m ++ true ∷ []) 0 ps) e ∙ ap (λ l. begun z l 0 ps) (sym more);
-      given = t.appended ∙ ap (λ l. l ++ t.added) (h.given ∙ ap (λ k. survivors k m 0 ps) (sym e)) ∙ sym t.completed ∙ ap (λ k. survivors k (m ++ true ∷ []) 0 ps) e ∙ ap (λ l. survivors z l 0 ps) (sym more);
+      given = t.appended ∙ ap (λ l. l ++ t.added) (h.given ∙ ap (λ k. survivors k m 0 ps) (sym e)) ∙ sym t.completed ∙ ap (λ k. survivors k (m ++ true ∷ []) 0 ps) e
+          ∙ ap (λ l. survivors z l 0 ps) (sym more);
     }
 
 -- a zone struck
@@ -157,7 +162,16 @@ carried_flush ps struck size p p' held next last sent out hi es h at =
     let none : t ≡ true → G (ps ++ flush_of p) = λ (e : t ≡ true).
     let f : flush_of p ≡ [] = rw e refl in
     let l : ps ++ flush_of p ≡ ps = ap (λ x. ps ++ x) f ∙ append-nil ps in
-    subst G (sym l) (record { taken = h.taken; packed = subst (λ (x : List (List ℕ)). IsAt p' x h.taken) l at; sized = es ∙ h.sized; next_mark = h.next_mark; missed = h.missed; counts = h.counts; as_left = h.as_left; given = h.given }) in
+    subst G (sym l) (record {
+      taken = h.taken;
+      packed = subst (λ (x : List (List ℕ)). IsAt p' x h.taken) l at;
+      sized = es ∙ h.sized;
+      next_mark = h.next_mark;
+      missed = h.missed;
+      counts = h.counts;
+      as_left = h.as_left;
+      given = h.given;
+    }) in
     let one : t ≡ false → G (ps ++ flush_of p) = λ (e : t ≡ false).
     let f : flush_of p ≡ idle_packet n ∷ [] = rw e refl in
     let l : ps ++ flush_of p ≡ ps ++ idle_packet n ∷ [] = ap (λ x. ps ++ x) f in

@@ -75,7 +75,8 @@ front_is_packet text e =
     let body : List ℕ = drop 6 (take n text) in
     let size : 6 + length body ≡ n = omega (arith, length-drop 6 (take n text), length-take-le n text room) in
     let parts : Parts = record { apid = field text 5 11; kind = field text 3 1 == 1; secondary = field text 4 1 == 1; flags = field text 16 2; count = field text 18 14; body = body } in
-    let s : SpellsPacket parts (take (6 + length body) text) = spelled text n (field text 5 11) (field text 16 2) (field text 18 14) (field text 3 1 == 1) (field text 4 1 == 1) body version refl room refl refl refl refl refl refl in
+    let s : SpellsPacket parts (take (6 + length body) text) = spelled text n (field text 5 11) (field text 16 2) (field text 18 14) (field text 3 1 == 1)
+    (field text 4 1 == 1) body version refl room refl refl refl refl refl refl in
     record { parts = parts; spelled = subst (λ k. SpellsPacket parts (take k text)) size s }
 
 -- All of it is read: what is left begins with no packet.
@@ -94,12 +95,14 @@ read_more (suc n) text few =
     let no_more : begins_with_packet text ≡ false → AreAllIn text (first_packets (suc n) text) = λ (e : begins_with_packet text ≡ false).
     rw e (record { packets_whole = tt; rest = text; ends = e; joined = refl }) in
     let more : begins_with_packet text ≡ true → AreAllIn text (first_packets (suc n) text) = λ (e : begins_with_packet text ≡ true).
-    let r : AreAllIn (drop (header_len text) text) (first_packets n (drop (header_len text) text)) = read_more n (drop (header_len text) text) (omega (arith, length-drop (header_len text) text, header_len-long text)) in
+    let r : AreAllIn (drop (header_len text) text) (first_packets n (drop (header_len text) text)) =
+    read_more n (drop (header_len text) text) (omega (arith, length-drop (header_len text) text, header_len-long text)) in
     rw e (record {
       packets_whole = (front_is_packet text e, r.packets_whole);
       rest = r.rest;
       ends = r.ends;
-      joined = sym (take-append-drop (header_len text) text) ∙ ap (λ l. take (header_len text) text ++ l) r.joined ∙ sym (append_assoc (take (header_len text) text) (stream (first_packets n (drop (header_len text) text))) r.rest);
+      joined = sym (take-append-drop (header_len text) text) ∙ ap (λ l. take (header_len text) text ++ l) r.joined
+          ∙ sym (append_assoc (take (header_len text) text) (stream (first_packets n (drop (header_len text) text))) r.rest);
     }) in
     elim (cases_Bool (begins_with_packet text)) [ inl e ↦ more e | inr e ↦ no_more e ]
 

@@ -101,7 +101,8 @@ completes_more z few marks a (p ∷ ps) added h among e =
     } in
     elim (cases_lt (length marks * z) b) [ inl c ↦ behind c | inr c ↦ before c ]
 
-pub next_completes : (z : ℕ) (few marks : List Bool) (ps added : List (List ℕ)) → ArePackets ps → AreAmong few marks → survivors z (few ++ true ∷ []) 0 ps ≡ survivors z few 0 ps ++ added → CompletesMore z marks ps added
+pub next_completes : (z : ℕ) (few marks : List Bool) (ps added : List (List ℕ)) → ArePackets ps → AreAmong few marks → survivors z (few ++ true ∷ []) 0 ps ≡ survivors z few 0 ps ++ added →
+    CompletesMore z marks ps added
 next_completes z few marks ps added h among e =
     let m : CompletesFrom z marks 0 ps added = completes_more z few marks 0 ps added h among e in
     record { more = m.more; completed = m.completed; part = m.part }

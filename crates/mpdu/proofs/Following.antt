@@ -51,7 +51,8 @@ follows_counts all n taken (suc m) few e =
     let some : suc m ≡ 0 → ⊥ = λ (z : suc m ≡ 0). omega (arith, z) in
     ne_eqb ((n + 1) % counts_of all) (taken % counts_of all) (some_missed all n taken m few e) ∙ sym (ne_eqb (suc m) 0 some)
 
-follows_some : (all : Bool) (last this : SeenCount) (n taken missed : ℕ) → missed < counts_of all → CountsFrame all n last → CountsFrame all taken this → taken ≡ n + 1 + missed → follows (Some last) this ≡ (missed == 0)
+follows_some : (all : Bool) (last this : SeenCount) (n taken missed : ℕ) → missed < counts_of all → CountsFrame all n last → CountsFrame all taken this → taken ≡ n + 1 + missed →
+    follows (Some last) this ≡ (missed == 0)
 follows_some all last this n taken missed few l c e =
     let both : Bool = last.cycle && this.cycle in
     let same = same_counts last.cycle this.cycle last.count this.count n taken l.count c.count in

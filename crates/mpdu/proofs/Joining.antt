@@ -48,7 +48,8 @@ split_whole xs rest before between w more =
     let long : 6 ≤ length (xs ++ rest) = omega (arith, w.long) in
     let room : header_len (xs ++ rest) ≤ length (xs ++ rest) = omega arith in
     let is : scan (length (xs ++ rest)) (xs ++ rest) ≡ emit xs (scan (length rest) rest) =
-    scan_next (xs ++ rest) long ok room ∙ ap (λ l. emit l (scan (length (drop (header_len (xs ++ rest)) (xs ++ rest))) (drop (header_len (xs ++ rest)) (xs ++ rest)))) first ∙ ap (λ l. emit xs (scan (length l) l)) behind in
+    scan_next (xs ++ rest) long ok room ∙ ap (λ l. emit l (scan (length (drop (header_len (xs ++ rest)) (xs ++ rest))) (drop (header_len (xs ++ rest)) (xs ++ rest)))) first
+    ∙ ap (λ l. emit xs (scan (length l) l)) behind in
     record {
       given = keep (not (is_idle xs)) xs [];
       appended = more;

@@ -27,7 +27,8 @@ joins z marks a (p ∷ ps) zl h le room =
     let t : nat_le (a + length p) e ≡ true = le-leb (a + length p) e c in
     let u : nat_le e a ≡ false = lt-leb e a (omega arith) in
     let k : e - a - length p ≡ e - (a + length p) = omega arith in
-    let octets : zone z (e - a) (p ++ stream ps) ≡ zone z (e - (a + length p)) (stream ps) = ap (λ l. take z l) (drop-append-past (e - a) p (stream ps) (omega arith)) ∙ ap (λ n. take z (drop n (stream ps))) k in
+    let octets : zone z (e - a) (p ++ stream ps) ≡ zone z (e - (a + length p)) (stream ps) = ap (λ l. take z l) (drop-append-past (e - a) p (stream ps) (omega arith))
+    ∙ ap (λ n. take z (drop n (stream ps))) k in
     rw (t, u, octets) (joins z marks (a + length p) ps zl h.1 c (omega arith)) in
     let begins : e < a + length p → e ≤ a → T = λ (c : e < a + length p) (d : e ≤ a).
     let t : nat_le (a + length p) e ≡ false = lt-leb (a + length p) e c in
@@ -55,7 +56,8 @@ joined : (ps : List (List ℕ)) (marks : List Bool) (held : List ℕ) (at : ℕ)
 joined ps marks held at octets lo is =
     let z : ℕ = length octets in
     let e0 : length marks * z - 0 ≡ length marks * z = omega arith in
-    let j : Joins z (begun z marks 0 ps) (first_header_pointer z (length marks * z) 0 ps) (zone z (length marks * z - 0) (stream ps)) = joins z marks 0 ps lo is.packets_whole (omega arith) (omega (arith, is.inside)) in
+    let j : Joins z (begun z marks 0 ps) (first_header_pointer z (length marks * z) 0 ps) (zone z (length marks * z - 0) (stream ps)) =
+    joins z marks 0 ps lo is.packets_whole (omega arith) (omega (arith, is.inside)) in
     let j1 : Joins z (begun z marks 0 ps) (first_header_pointer z (length marks * z) 0 ps) octets =
     subst (λ (l : List ℕ). Joins z (begun z marks 0 ps) (first_header_pointer z (length marks * z) 0 ps) l) (ap (λ n. zone z n (stream ps)) e0 ∙ sym is.cut_out) j in
     let j2 : Joins z (begun z marks 0 ps) at octets = subst (λ (n : ℕ). Joins z (begun z marks 0 ps) n octets) (sym is.pointed) j1 in

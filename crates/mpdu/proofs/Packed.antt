@@ -63,7 +63,8 @@ skip_start (suc n) z at e a xs (p ∷ ps) h le is rest room few =
     let head : take 6 (drop at xs) ≡ take 6 p = ap (λ l. take 6 l) rest ∙ take-append-le 6 p (stream ps) (omega arith) in
     let len : header_len (drop at xs) ≡ length p = header_len-same (drop at xs) p head ∙ packet_size p h.0 in
     let t3 : nat_le (e + z) a ≡ false = lt-leb (e + z) a (omega arith) in
-    let past_p : drop (at + length p) xs ≡ stream ps = sym (drop-drop (length p) at xs) ∙ ap (λ l. drop (length p) l) rest ∙ drop-append-past (length p) p (stream ps) (omega arith) ∙ (let z0 : length p - length p ≡ 0 = omega arith in ap (λ i. drop i (stream ps)) z0) in
+    let past_p : drop (at + length p) xs ≡ stream ps = sym (drop-drop (length p) at xs) ∙ ap (λ l. drop (length p) l) rest ∙ drop-append-past (length p) p (stream ps) (omega arith)
+    ∙ (let z0 : length p - length p ≡ 0 = omega arith in ap (λ i. drop i (stream ps)) z0) in
     rw (t1, t2, len, t3) (skip_start n z (at + length p) e (a + length p) xs ps h.1 (omega arith) (omega arith) past_p room (omega arith)) in
     elim (cases_lt at z) [ inl c ↦ more c | inr c ↦ past c ]
 
@@ -119,7 +120,8 @@ next_start-push e a (p ∷ ps) q h =
     rw (next_start-push e (a + length p) ps q (omega (arith, length-append p (stream ps)))) refl
 
 -- The packer after a packet more, and after a zone taken.
-pub pushed : (p : PackerState) (ps : List (List ℕ)) (taken : ℕ) (q : List ℕ) → IsPacket q → IsAt p ps taken → (f : Bool) → IsAt (record p { waiting = p.waiting ++ q; flushed = f }) (ps ++ q ∷ []) taken
+pub pushed : (p : PackerState) (ps : List (List ℕ)) (taken : ℕ) (q : List ℕ) → IsPacket q → IsAt p ps taken → (f : Bool) →
+    IsAt (record p { waiting = p.waiting ++ q; flushed = f }) (ps ++ q ∷ []) taken
 pushed p ps taken q hq h f =
     let e : ℕ = taken * p.size in
     let below : e ≤ length (stream ps) = h.below in
@@ -183,7 +185,8 @@ flushed_at p q ps taken hi same more h =
     let f : flush_of p ≡ idle_packet (idle_len free) ∷ [] = rw e refl in
     let l : ps ++ idle_packet (idle_len free) ∷ [] ≡ ps ++ flush_of p = ap (λ x. ps ++ x) (sym f) in
     let whole : IsPacket (idle_packet (idle_len free)) = idle_is (idle_len free) (idle_len-low free) (idle_len-high free (omega arith)) in
-    subst (λ (x : List (List ℕ)). IsAt q x taken) l (subst (λ (x : PackerState). IsAt x (ps ++ idle_packet (idle_len free) ∷ []) taken) (sym (more (idle_len free) f)) (pushed p ps taken (idle_packet (idle_len free)) whole h true)) in
+    subst (λ (x : List (List ℕ)). IsAt q x taken) l (subst (λ (x : PackerState). IsAt x (ps ++ idle_packet (idle_len free) ∷ []) taken) (sym (more (idle_len free) f))
+    (pushed p ps taken (idle_packet (idle_len free)) whole h true)) in
     elim (cases_Bool t) [ inl e ↦ none e | inr e ↦ one e ]
 
 -- What was flushed isn't flushed again.

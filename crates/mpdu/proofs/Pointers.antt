@@ -57,6 +57,7 @@ first_start z start a (p ∷ ps) =
       there = Contains-later a (start + at) rest i.there;
       least = λ s h le. elim (either a s rest h) [ inl e ↦ absurd (omega arith) | inr r ↦ i.least s r le ];
     }) in
-    let none : (at ≡ 2047) × HasNoStart z start rest → G at = λ (i : (at ≡ 2047) × HasNoStart z start rest). inr (i.0, λ s h le. elim (either a s rest h) [ inl e ↦ absurd (omega arith) | inr r ↦ i.1 s r le ]) in
+    let none : (at ≡ 2047) × HasNoStart z start rest → G at = λ (i : (at ≡ 2047) × HasNoStart z start rest). inr
+    (i.0, λ s h le. elim (either a s rest h) [ inl e ↦ absurd (omega arith) | inr r ↦ i.1 s r le ]) in
     rw t (elim ih [ inl i ↦ found i | inr i ↦ none i ]) in
     elim (cases_lt a start) [ inl c ↦ before c | inr c ↦ elim (cases_lt a (start + z)) [ inl d ↦ near c d | inr d ↦ far c d ] ]

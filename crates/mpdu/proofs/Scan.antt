@@ -107,7 +107,8 @@ scan_stream (suc n) k (p ∷ ps) h room few =
     let over : length p ≤ k → scan (suc n) (take k (p ++ stream ps)) ≡ record { begun = part k (p ∷ ps); out = whole k (p ∷ ps); bad = false } = λ (c : length p ≤ k).
     let t : nat_le (length p) k ≡ true = le-leb (length p) k c in
     let cut : take k (p ++ stream ps) ≡ p ++ take (k - length p) (stream ps) = take-append-past k p (stream ps) c in
-    let ih : scan n (take (k - length p) (stream ps)) ≡ record { begun = part (k - length p) ps; out = whole (k - length p) ps; bad = false } = scan_stream n (k - length p) ps h.1 (omega arith) (omega arith) in
+    let ih : scan n (take (k - length p) (stream ps)) ≡ record { begun = part (k - length p) ps; out = whole (k - length p) ps; bad = false } =
+    scan_stream n (k - length p) ps h.1 (omega arith) (omega arith) in
     ap (λ l. scan (suc n) l) cut ∙ scan_first n p (take (k - length p) (stream ps)) h.0 ∙ ap (λ r. emit p r) ih ∙ rw t refl in
     let within : k < length p → scan (suc n) (take k (p ++ stream ps)) ≡ record { begun = part k (p ∷ ps); out = whole k (p ∷ ps); bad = false } = λ (c : k < length p).
     let t : nat_le (length p) k ≡ false = lt-leb (length p) k c in
@@ -125,7 +126,8 @@ scan_same (suc n) zero (x ∷ xs) h k = absurd (omega arith)
 scan_same (suc n) (suc m) [] h k = refl
 scan_same (suc n) (suc m) (x ∷ xs) h k =
     let ih : scan n (drop (header_len (x ∷ xs)) (x ∷ xs)) ≡ scan m (drop (header_len (x ∷ xs)) (x ∷ xs)) =
-    scan_same n m (drop (header_len (x ∷ xs)) (x ∷ xs)) (omega (arith, length-drop (header_len (x ∷ xs)) (x ∷ xs), header_len-long (x ∷ xs))) (omega (arith, length-drop (header_len (x ∷ xs)) (x ∷ xs), header_len-long (x ∷ xs))) in
+    scan_same n m (drop (header_len (x ∷ xs)) (x ∷ xs)) (omega (arith, length-drop (header_len (x ∷ xs)) (x ∷ xs), header_len-long (x ∷ xs)))
+    (omega (arith, length-drop (header_len (x ∷ xs)) (x ∷ xs), header_len-long (x ∷ xs))) in
     rw ih refl
 
 -- too few octets for a header
@@ -146,5 +148,6 @@ pub scan_next : (xs : List ℕ) → 6 ≤ length xs → header_ok xs ≡ true �
 scan_next [] h ok le = absurd (omega arith)
 scan_next (x ∷ xs) h ok le =
     let rest : List ℕ = drop (header_len (x ∷ xs)) (x ∷ xs) in
-    let same : scan (length xs) rest ≡ scan (length rest) rest = scan_same (length xs) (length rest) rest (omega (arith, length-drop (header_len (x ∷ xs)) (x ∷ xs), header_len-long (x ∷ xs))) (omega arith) in
+    let same : scan (length xs) rest ≡ scan (length rest) rest = scan_same (length xs) (length rest) rest (omega (arith, length-drop (header_len (x ∷ xs)) (x ∷ xs), header_len-long (x ∷ xs)))
+    (omega arith) in
     rw (le-ltb (length (x ∷ xs)) 6 h, ok, le-ltb (length (x ∷ xs)) (header_len (x ∷ xs)) le) (ap (λ r. emit (take (header_len (x ∷ xs)) (x ∷ xs)) r) same)

@@ -10,7 +10,8 @@ pub next_right : (ps : List (List ℕ)) (marks : List Bool) (held : List ℕ) (a
 next_right ps marks held at octets lo hi is =
     let z : ℕ = length octets in
     let e0 : length marks * z - 0 ≡ length marks * z = omega arith in
-    let right : FedRight z marks 0 ps (step z (begun z marks 0 ps) (first_header_pointer z (length marks * z) 0 ps) (zone z (length marks * z - 0) (stream ps))) = fed z marks 0 ps lo hi is.packets_whole (omega arith) (omega (arith, is.inside)) in
+    let right : FedRight z marks 0 ps (step z (begun z marks 0 ps) (first_header_pointer z (length marks * z) 0 ps) (zone z (length marks * z - 0) (stream ps))) =
+    fed z marks 0 ps lo hi is.packets_whole (omega arith) (omega (arith, is.inside)) in
     let same : step z (begun z marks 0 ps) (first_header_pointer z (length marks * z) 0 ps) (zone z (length marks * z - 0) (stream ps)) ≡ step z held at octets =
     ap (λ n. step z (begun z marks 0 ps) (first_header_pointer z (length marks * z) 0 ps) (zone z n (stream ps))) e0
     ∙ ap (λ l. step z (begun z marks 0 ps) (first_header_pointer z (length marks * z) 0 ps) l) (sym is.cut_out)

@@ -156,14 +156,16 @@ fed_at_start z marks a p ps zl h start room =
     let at : first_header_pointer z e a (p ∷ ps) ≡ 0 = rw (u, v) c1 in
     let octets : zone z (e - a) s ≡ take z s = ap (λ n. take z (drop n s)) c0 in
     let k : z ≡ e + z - a = omega arith in
-    let read : step z (begun z marks a (p ∷ ps)) (first_header_pointer z e a (p ∷ ps)) (zone z (e - a) s) ≡ record { begun = part (e + z - a) (p ∷ ps); out = whole (e + z - a) (p ∷ ps); bad = false } =
+    let read : step z (begun z marks a (p ∷ ps)) (first_header_pointer z e a (p ∷ ps)) (zone z (e - a) s)
+    ≡ record { begun = part (e + z - a) (p ∷ ps); out = whole (e + z - a) (p ∷ ps); bad = false } =
     ap (λ b. step z b (first_header_pointer z e a (p ∷ ps)) (zone z (e - a) s)) held ∙ ap (λ n. step z [] n (zone z (e - a) s)) at
     ∙ scan_is (zone z (e - a) s) (e + z - a) (p ∷ ps) h (omega arith) (octets ∙ ap (λ n. take n s) k) in
     let none : survivors z marks a (p ∷ ps) ≡ [] = survivors-behind z marks a (p ∷ ps) h (omega arith) in
     record {
       good = ap (λ r. r.bad) read;
       held = ap (λ r. r.begun) read ∙ sym (rest_begun z marks a (p ∷ ps) (omega arith) h (omega arith) (omega arith));
-      given = rest_survives z marks a (p ∷ ps) (omega arith) h (omega arith) (omega arith) ∙ sym (ap (λ l. l ++ (step z (begun z marks a (p ∷ ps)) (first_header_pointer z e a (p ∷ ps)) (zone z (e - a) s)).out) none ∙ ap (λ r. r.out) read);
+      given = rest_survives z marks a (p ∷ ps) (omega arith) h (omega arith) (omega arith)
+          ∙ sym (ap (λ l. l ++ (step z (begun z marks a (p ∷ ps)) (first_header_pointer z e a (p ∷ ps)) (zone z (e - a) s)).out) none ∙ ap (λ r. r.out) read);
     }
 
 -- Inside of a packet, all of whose zones so far came, that packet goes on.
@@ -215,7 +217,8 @@ fed_inside z marks a p ps zl h before behind room ok =
     ap (λ b. step z b (first_header_pointer z e a (p ∷ ps)) zn) held ∙ ap (λ n. step z (take c p) n zn) at
     ∙ rw on (scan_is (take c p ++ zn) (e + z - a) (p ∷ ps) h (omega arith) (joined ∙ ap (λ n. take n s) k)) in
     let none : survivors z marks a (p ∷ ps) ≡ [] =
-    keep_false (arrived z 0 marks a (a + length p)) p (survivors z marks (a + length p) ps) (arrived-past z 0 marks a (a + length p) (omega arith)) ∙ survivors-behind z marks (a + length p) ps h.1 (omega arith) in
+    keep_false (arrived z 0 marks a (a + length p)) p (survivors z marks (a + length p) ps) (arrived-past z 0 marks a (a + length p) (omega arith))
+    ∙ survivors-behind z marks (a + length p) ps h.1 (omega arith) in
     record {
       good = ap (λ r. r.bad) read;
       held = ap (λ r. r.begun) read ∙ sym (head_begun z marks a p ps (omega arith) ok
@@ -242,10 +245,12 @@ fed_lost z marks a p ps zl zh h before behind room lost =
     let u : nat_le e a ≡ false = lt-leb e a before in
     let at : first_header_pointer z e a (p ∷ ps) ≡ pointer_after z (a + length p - e) = rw u (pointer_next z e (a + length p) ps (omega arith) (omega arith)) in
     let zn : List ℕ = zone z (e - a) s in
-    let opened : step z (begun z marks a (p ∷ ps)) (first_header_pointer z e a (p ∷ ps)) zn ≡ scan (length (drop (pointer_after z (a + length p - e)) zn)) (drop (pointer_after z (a + length p - e)) zn) =
+    let opened : step z (begun z marks a (p ∷ ps)) (first_header_pointer z e a (p ∷ ps)) zn
+    ≡ scan (length (drop (pointer_after z (a + length p - e)) zn)) (drop (pointer_after z (a + length p - e)) zn) =
     ap (λ b. step z b (first_header_pointer z e a (p ∷ ps)) zn) held ∙ ap (λ n. step z [] n zn) at in
     let none : survivors z marks a (p ∷ ps) ≡ [] =
-    keep_false (arrived z 0 marks a (a + length p)) p (survivors z marks (a + length p) ps) (arrived-past z 0 marks a (a + length p) (omega arith)) ∙ survivors-behind z marks (a + length p) ps h.1 (omega arith) in
+    keep_false (arrived z 0 marks a (a + length p)) p (survivors z marks (a + length p) ps) (arrived-past z 0 marks a (a + length p) (omega arith))
+    ∙ survivors-behind z marks (a + length p) ps h.1 (omega arith) in
     let T : Type 0 = FedRight z marks a (p ∷ ps) (step z (begun z marks a (p ∷ ps)) (first_header_pointer z e a (p ∷ ps)) zn) in
     let ends : a + length p < e + z → T = λ (d : a + length p < e + z).
     let n : ℕ = a + length p - e in
@@ -253,7 +258,8 @@ fed_lost z marks a p ps zl zh h before behind room lost =
     let ptr : pointer_after z n ≡ n = rw v refl in
     let k : ℕ = e + z - (a + length p) in
     let nk : n + k ≡ z = omega arith in
-    let past : drop n (drop c s) ≡ stream ps = drop-drop n c s ∙ drop-append-past (c + n) p (stream ps) (omega arith) ∙ (let f : c + n - length p ≡ 0 = omega arith in ap (λ i. drop i (stream ps)) f) in
+    let past : drop n (drop c s) ≡ stream ps = drop-drop n c s ∙ drop-append-past (c + n) p (stream ps) (omega arith)
+    ∙ (let f : c + n - length p ≡ 0 = omega arith in ap (λ i. drop i (stream ps)) f) in
     let rest : drop (pointer_after z n) zn ≡ take k (stream ps) = ap (λ i. drop i zn) ptr ∙ ap (λ i. drop n (take i (drop c s))) (sym nk) ∙ drop-take n k (drop c s) ∙ ap (λ l. take k l) past in
     let read : step z (begun z marks a (p ∷ ps)) (first_header_pointer z e a (p ∷ ps)) zn ≡ record { begun = part k ps; out = whole k ps; bad = false } =
     opened ∙ scan_is (drop (pointer_after z n) zn) k ps h.1 (omega arith) rest in
@@ -282,7 +288,11 @@ fed_lost z marks a p ps zl zh h before behind room lost =
     rw t' (rest_begun z marks (a + length p) ps (omega arith) h.1 (omega arith) o ∙ ap (λ i. part i ps) k0 ∙ part_none ps h.1) in
     let empty : begun z m a (p ∷ ps) ≡ [] = elim (cases_lt (e + z) (a + length p)) [ inl o ↦ over o | inr o ↦ exact o ] in
     let gone : arrived z 0 m a (a + length p) ≡ false =
-    elim (cases_lt (e + z) (a + length p)) [ inl o ↦ arrived-past z 0 m a (a + length p) (omega arith) | inr o ↦ arrived-into z 0 marks true a (a + length p) e (omega arith) (omega arith) behind o (omega arith) ∙ lost ] in
+    elim (cases_lt (e + z) (a + length p)) [
+      | inl o ↦ arrived-past z 0 m a (a + length p) (omega arith)
+      | inr o ↦ arrived-into z 0 marks true a (a + length p) e (omega arith) (omega arith) behind o
+          (omega arith) ∙ lost
+    ] in
     record {
       good = ap (λ r. r.bad) read;
       held = ap (λ r. r.begun) read ∙ sym empty;
@@ -309,9 +319,12 @@ fed z marks a (p ∷ ps) zl zh h le room =
     let k : e - a - length p ≡ e - (a + length p) = omega arith in
     let held : begun z marks a (p ∷ ps) ≡ begun z marks (a + length p) ps = rw t refl in
     let at : first_header_pointer z e a (p ∷ ps) ≡ first_header_pointer z e (a + length p) ps = rw u refl in
-    let octets : zone z (e - a) (p ++ stream ps) ≡ zone z (e - (a + length p)) (stream ps) = ap (λ l. take z l) (drop-append-past (e - a) p (stream ps) (omega arith)) ∙ ap (λ n. take z (drop n (stream ps))) k in
-    let ih : FedRight z marks (a + length p) ps (step z (begun z marks (a + length p) ps) (first_header_pointer z e (a + length p) ps) (zone z (e - (a + length p)) (stream ps))) = fed z marks (a + length p) ps zl zh h.1 c (omega arith) in
-    let same : step z (begun z marks a (p ∷ ps)) (first_header_pointer z e a (p ∷ ps)) (zone z (e - a) (p ++ stream ps)) ≡ step z (begun z marks (a + length p) ps) (first_header_pointer z e (a + length p) ps) (zone z (e - (a + length p)) (stream ps)) =
+    let octets : zone z (e - a) (p ++ stream ps) ≡ zone z (e - (a + length p)) (stream ps) = ap (λ l. take z l) (drop-append-past (e - a) p (stream ps) (omega arith))
+    ∙ ap (λ n. take z (drop n (stream ps))) k in
+    let ih : FedRight z marks (a + length p) ps (step z (begun z marks (a + length p) ps) (first_header_pointer z e (a + length p) ps) (zone z (e - (a + length p)) (stream ps))) =
+    fed z marks (a + length p) ps zl zh h.1 c (omega arith) in
+    let same : step z (begun z marks a (p ∷ ps)) (first_header_pointer z e a (p ∷ ps)) (zone z (e - a) (p ++ stream ps))
+    ≡ step z (begun z marks (a + length p) ps) (first_header_pointer z e (a + length p) ps) (zone z (e - (a + length p)) (stream ps)) =
     ap (λ b. step z b (first_header_pointer z e a (p ∷ ps)) (zone z (e - a) (p ++ stream ps))) held
     ∙ ap (λ n. step z (begun z marks (a + length p) ps) n (zone z (e - a) (p ++ stream ps))) at
     ∙ ap (λ l. step z (begun z marks (a + length p) ps) (first_header_pointer z e (a + length p) ps) l) octets in
@@ -322,7 +335,8 @@ fed z marks a (p ∷ ps) zl zh h le room =
       held = ap (λ r. r.begun) same ∙ ih.held ∙ sym held';
       given = ap (λ b. keep (b && not (is_idle p)) p (survivors z m (a + length p) ps)) mark
           ∙ ap (λ l. keep (arrived z 0 marks a (a + length p) && not (is_idle p)) p l) (ih.given ∙ ap (λ r. survivors z marks (a + length p) ps ++ r.out) (sym same))
-          ∙ keep-append (arrived z 0 marks a (a + length p) && not (is_idle p)) p (survivors z marks (a + length p) ps) (step z (begun z marks a (p ∷ ps)) (first_header_pointer z e a (p ∷ ps)) (zone z (e - a) (p ++ stream ps))).out;
+          ∙ keep-append (arrived z 0 marks a (a + length p) && not (is_idle p)) p (survivors z marks (a + length p) ps)
+          (step z (begun z marks a (p ∷ ps)) (first_header_pointer z e a (p ∷ ps)) (zone z (e - a) (p ++ stream ps))).out;
     } in
     let begins : e < a + length p → e ≤ a → T = λ (c : e < a + length p) (d : e ≤ a). fed_at_start z marks a p ps zl h (omega arith) room in
     let inside : e < a + length p → a < e → T = λ (c : e < a + length p) (d : a < e).

@@ -11,10 +11,12 @@ marks_of (suc n) (b ∷ struck) = not b ∷ marks_of n struck
 
 -- Fewer frames in a row are struck than there are counts: among so many frames one isn't.
 abbrev pub AreFewInARow : List Bool → Type 0
-AreFewInARow struck = (i : ℕ) → (k : ℕ) × (i ≤ k) × (k < i + frame_counts) × (slice_index_or struck k false ≡ false)
+AreFewInARow struck = (i : ℕ) → (k : ℕ) × (i ≤ k) × (k < i + frame_counts)
+    × (slice_index_or struck k false ≡ false)
 
 -- The packets are the survivors of the stream's whole zones, the struck ones left out.
-pub record AreSurvivors (ps : List (List ℕ)) (struck : List Bool) (size : ℕ) (out : List (List ℕ)) : Type 0 where
+pub record AreSurvivors (ps : List (List ℕ)) (struck : List Bool) (size : ℕ)
+    (out : List (List ℕ)) : Type 0 where
   pub frames : ℕ
   pub inside : frames * size ≤ length (stream ps)
   pub all : length (stream ps) < frames * size + size
@@ -22,4 +24,5 @@ pub record AreSurvivors (ps : List (List ℕ)) (struck : List Bool) (size : ℕ)
 
 -- the idle packet that fills the last zone of these packets, where one is begun
 abbrev pub fill_of : ℕ → List (List ℕ) → List (List ℕ)
-fill_of z ps = if length (stream ps) % z == 0 then [] else idle_packet (idle_len (z - length (stream ps) % z)) ∷ []
+fill_of z ps = if length (stream ps) % z == 0 then []
+    else idle_packet (idle_len (z - length (stream ps) % z)) ∷ []

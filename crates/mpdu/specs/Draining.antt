@@ -8,7 +8,8 @@ use Rattle.mpdu.specs.Packing.{PackerState, IsAt}
 use Rattle.mpdu.specs.Carrying.{marks_of}
 
 -- So many frames were counted, the last `missed` of them struck, the one before those seen last.
-pub record IsCounted (struck : List Bool) (taken missed next : ℕ) (last : Option SeenCount) (held : List ℕ) : Type 0 where
+pub record IsCounted (struck : List Bool) (taken missed next : ℕ) (last : Option SeenCount)
+    (held : List ℕ) : Type 0 where
   pub counted : next ≡ taken % frame_counts
   pub within : missed ≤ taken
   pub run : (k : ℕ) → taken ≤ k + missed → k < taken → slice_index_or struck k false ≡ true
@@ -17,7 +18,9 @@ pub record IsCounted (struck : List Bool) (taken missed next : ℕ) (last : Opti
 
 -- Of the stream of these packets all zones that were taken have been struck or read; `next` is the
 -- count of the next frame, `last` the count seen last.
-pub record IsCarried (ps : List (List ℕ)) (struck : List Bool) (size : ℕ) (packer : PackerState) (held : List ℕ) (next : ℕ) (last : Option SeenCount) (sent : ℕ) (out : List (List ℕ)) : Type 0 where
+pub record IsCarried (ps : List (List ℕ)) (struck : List Bool) (size : ℕ) (packer : PackerState)
+    (held : List ℕ) (next : ℕ) (last : Option SeenCount) (sent : ℕ)
+    (out : List (List ℕ)) : Type 0 where
   pub taken : ℕ
   pub packed : IsAt packer ps taken
   pub sized : packer.size ≡ size

@@ -20,7 +20,8 @@ next_start e a (p ∷ ps) = if nat_le e a then a - e else next_start e (a + leng
 -- the first start at z or behind it, going by the headers from the start at
 abbrev pub skip : ℕ → ℕ → ℕ → List ℕ → ℕ
 skip zero z at xs = at
-skip (suc n) z at xs = if nat_lt at z && nat_le (at + 6) (length xs) then skip n z (at + header_len (drop at xs)) xs else at
+skip (suc n) z at xs = if nat_lt at z && nat_le (at + 6) (length xs)
+    then skip n z (at + header_len (drop at xs)) xs else at
 
 -- The packer's stream is these packets, and that many zones of it were taken.
 pub record IsAt (p : PackerState) (ps : List (List ℕ)) (taken : ℕ) : Type 0 where
@@ -47,4 +48,5 @@ idle_len free = if nat_le 7 free then free else 7
 -- what a flush adds: nothing where no zone is begun, or none but by the last flush's rest, else the
 -- idle packet
 abbrev pub flush_of : PackerState → List (List ℕ)
-flush_of p = if p.flushed || (length p.waiting % p.size == 0) then [] else idle_packet (idle_len (p.size - length p.waiting % p.size)) ∷ []
+flush_of p = if p.flushed || (length p.waiting % p.size == 0) then []
+    else idle_packet (idle_len (p.size - length p.waiting % p.size)) ∷ []

@@ -20,7 +20,8 @@ scan zero xs = record { begun = []; out = []; bad = false }
 scan (suc n) xs =
     if nat_lt (length xs) 6 then record { begun = xs; out = []; bad = false }
     else (if header_ok xs then
-    (if nat_lt (length xs) (header_len xs) then record { begun = xs; out = []; bad = false } else emit (take (header_len xs) xs) (scan n (drop (header_len xs) xs)))
+    (if nat_lt (length xs) (header_len xs) then record { begun = xs; out = []; bad = false }
+    else emit (take (header_len xs) xs) (scan n (drop (header_len xs) xs)))
     else record { begun = []; out = []; bad = true })
 
 -- the pointer of a zone whose first m octets end a packet
@@ -31,7 +32,8 @@ pointer_after z m = if nat_lt m z then m else 2047
 abbrev pub goes_on : ℕ → List ℕ → ℕ → List ℕ → Bool
 goes_on z [] at octets = false
 goes_on z (b ∷ bs) at octets =
-    header_ok (b ∷ bs ++ octets) && (at == pointer_after z (header_len (b ∷ bs ++ octets) - length (b ∷ bs)))
+    header_ok (b ∷ bs ++ octets) && (at == pointer_after z
+    (header_len (b ∷ bs ++ octets) - length (b ∷ bs)))
 
 -- the begun packet's header is whole with this zone, and of a wrong version
 abbrev pub turns_bad : List ℕ → List ℕ → Bool
@@ -59,12 +61,15 @@ abbrev pub is_some : List ℕ → Bool
 is_some [] = false
 is_some (x ∷ xs) = true
 
--- Whether a begun packet is discarded for another cause than its header, or the pointer is not usable.
+-- Whether a begun packet is discarded for another cause than its header, or the pointer is not
+-- usable.
 -- The pointer 2046, of a zone of idle data, says neither.
 abbrev pub resync : ℕ → List ℕ → Bool → ℕ → List ℕ → Bool
 resync z held follows at octets =
     not (at == 2046)
-    && (not (is_usable z at) || (is_some held && not (goes_on z (held_at follows held) at octets || turns_bad (held_at follows held) octets)))
+    && (not (is_usable z at) || (is_some held
+    && not (goes_on z (held_at follows held) at octets || turns_bad
+    (held_at follows held) octets)))
 
 -- what is read of a zone that follows the last one read, or doesn't
 abbrev pub reading : List ℕ → Bool → ℕ → List ℕ → Read
@@ -72,4 +77,5 @@ reading held follows at octets = step (length octets) (held_at follows held) at 
 
 -- how many packets of a zone are bad: the begun one, and the one that ends the reading
 abbrev pub bad_count : ℕ → List ℕ → ℕ → List ℕ → ℕ
-bad_count z held at octets = flag (is_usable z at && turns_bad held octets) + flag (step z held at octets).bad
+bad_count z held at octets = flag (is_usable z at && turns_bad held octets)
+    + flag (step z held at octets).bad

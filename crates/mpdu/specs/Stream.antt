@@ -42,7 +42,8 @@ meets s e a b = nat_lt a e && nat_lt s b
 -- from octet s on, in order; a zone behind the marks was not delivered.
 abbrev pub arrived : ℕ → ℕ → List Bool → ℕ → ℕ → Bool
 arrived z s [] a b = nat_le b s
-arrived z s (mark ∷ marks) a b = if meets s (s + z) a b then mark && arrived z (s + z) marks a b else arrived z (s + z) marks a b
+arrived z s (mark ∷ marks) a b = if meets s (s + z) a b then mark && arrived z (s + z) marks a b
+    else arrived z (s + z) marks a b
 
 -- a packet, where it is to be kept, and others behind it
 abbrev pub keep : Bool → List ℕ → List (List ℕ) → List (List ℕ)
@@ -52,14 +53,16 @@ keep false p ps = ps
 -- of the packets from octet a on, those that aren't idle and whose zones were all delivered
 abbrev pub survivors : ℕ → List Bool → ℕ → List (List ℕ) → List (List ℕ)
 survivors z marks a [] = []
-survivors z marks a (p ∷ ps) = keep (arrived z 0 marks a (a + length p) && not (is_idle p)) p (survivors z marks (a + length p) ps)
+survivors z marks a (p ∷ ps) = keep (arrived z 0 marks a (a + length p) && not (is_idle p)) p
+    (survivors z marks (a + length p) ps)
 
 -- The first header pointer of the zone from octet start on: the place in it of the first packet
 -- that starts there, else 2047 (4.1.4.2.3).
 abbrev pub first_header_pointer : ℕ → ℕ → ℕ → List (List ℕ) → ℕ
 first_header_pointer z start a [] = 2047
 first_header_pointer z start a (p ∷ ps) =
-    if nat_le start a then (if nat_lt a (start + z) then a - start else 2047) else first_header_pointer z start (a + length p) ps
+    if nat_le start a then (if nat_lt a (start + z) then a - start else 2047)
+    else first_header_pointer z start (a + length p) ps
 
 -- what came of the packet that the marks' end cuts, where all zones that it meets till there were
 -- delivered

@@ -74,8 +74,11 @@ fn drain(
     requires place { sent.old ≤ length struck.now }
     requires few { AreFewInARow struck.now }
     ensures stream { (ps : List (List ℕ)) →
-        IsCarried ps struck.now (length buffer.old) packer.old reassembler.old counts.old.counter counts.old.monitor sent.old (octets_of_each out.old.items) →
-        OnOk result (IsCarried ps struck.now (length buffer.old) packer.new reassembler.new counts.new.counter counts.new.monitor sent.new (octets_of_each out.new.items)) }
+        IsCarried ps struck.now (length buffer.old) packer.old reassembler.old counts.old.counter
+        counts.old.monitor sent.old (octets_of_each out.old.items) →
+        OnOk result (IsCarried ps struck.now
+        (length buffer.old) packer.new reassembler.new counts.new.counter counts.new.monitor
+        sent.new (octets_of_each out.new.items)) }
     ensures flag { packer.new.flushed ≡ packer.old.flushed }
     ensures emptied { OnOk result (length packer.new.waiting < packer.new.size) }
     ensures fixed { (packer.new.size ≡ packer.old.size)

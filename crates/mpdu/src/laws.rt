@@ -11,7 +11,8 @@ ghost use Rattle.mpdu.specs.Places.{IsInSpan, IsFirstStart, HasNoStart, starts};
 /// It is the octets from a up to b of a stream that is cut into zones of z octets.
 pub fn a_packet_arrives_with_its_span()
     ensures { (z a b : ℕ) (marks : List Bool) → 0 < z → a < b →
-        (arrived z 0 marks a b ≡ true) ↔ ((f : ℕ) → IsInSpan z a b f → slice_index_or marks f false ≡ true) }
+        (arrived z 0 marks a b ≡ true) ↔
+        ((f : ℕ) → IsInSpan z a b f → slice_index_or marks f false ≡ true) }
 {}
 
 /// A first header pointer is the place in its zone where the first packet starts.
@@ -26,14 +27,16 @@ pub fn a_pointer_is_the_first_start()
 /// A first header pointer is read as it was written, and its zone stands behind it.
 pub fn a_written_pointer_is_read()
     ensures { (at : ℕ) (zone : List ℕ) → at < 2048 →
-        (pointer_of (pointer_octets at ++ zone) ≡ at) × (drop 2 (pointer_octets at ++ zone) ≡ zone) }
+        (pointer_of (pointer_octets at ++ zone) ≡ at)
+        × (drop 2 (pointer_octets at ++ zone) ≡ zone) }
 {}
 
 /// Octets are the packets that they spell, end to end, with a rest that begins no packet.
 pub fn octets_are_their_packets()
     ensures whole { (text : List ℕ) → ArePackets (packets_of text) }
     ensures joined { (text : List ℕ) →
-        (rest : List ℕ) × (text ≡ stream (packets_of text) ++ rest) × (begins_with_packet rest ≡ false) }
+        (rest : List ℕ) × (text ≡ stream (packets_of text) ++ rest)
+        × (begins_with_packet rest ≡ false) }
 {}
 
 /// Packets that were laid end to end are read as the same packets.
@@ -58,7 +61,8 @@ pub fn fewer_zones_give_a_part()
         IsPartOf (survivors z few 0 ps) (survivors z marks 0 ps) }
     ensures next { (z : ℕ) (few marks : List Bool) (ps added : List (List ℕ)) → ArePackets ps →
         AreAmong few marks →
-        survivors z (few ++ true ∷ []) 0 ps ≡ survivors z few 0 ps ++ added → CompletesMore z marks ps added }
+        survivors z (few ++ true ∷ []) 0 ps ≡ survivors z few 0 ps ++ added →
+        CompletesMore z marks ps added }
 {}
 
 /// What is in a part of a list is in the whole list.

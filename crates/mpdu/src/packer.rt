@@ -157,9 +157,17 @@ pub struct Packer {
 impl Model for Packer {
     ghost Value = { PackerState };
 
-    ghost view = { λ s. record { size = s.size; capacity = s.capacity; waiting = s.waiting.items; first = s.first; flushed = s.flushed } };
+    ghost view = { λ s. record {
+      size = s.size;
+      capacity = s.capacity;
+      waiting = s.waiting.items;
+      first = s.first;
+      flushed = s.flushed;
+    } };
 
-    ghost invariant = { λ s. (16 ≤ s.size) × (s.size ≤ 2040) × (s.waiting.capacity ≡ s.capacity + 2047) × (length s.waiting.items ≤ s.capacity + 2047) × (s.flushed ≡ false → length s.waiting.items ≤ s.capacity) };
+    ghost invariant = { λ s. (16 ≤ s.size) × (s.size ≤ 2040)
+        × (s.waiting.capacity ≡ s.capacity + 2047) × (length s.waiting.items ≤ s.capacity + 2047)
+        × (s.flushed ≡ false → length s.waiting.items ≤ s.capacity) };
 }
 
 impl Packer {
@@ -271,7 +279,10 @@ impl Packer {
         ensures pointer { result ≡ pointer_after self.old.size self.old.first }
         ensures below { result < 2048 }
         ensures octets { out.new ≡ take self.old.size self.old.waiting }
-        ensures rest { self.new ≡ record self.old { waiting = drop self.old.size self.old.waiting; first = skip self.old.size self.old.size self.old.first self.old.waiting - self.old.size } }
+        ensures rest { self.new ≡ record self.old {
+          waiting = drop self.old.size self.old.waiting;
+          first = skip self.old.size self.old.size self.old.first self.old.waiting - self.old.size;
+        } }
     {
         let pointer = if self.first < self.size {
             self.first as u16

@@ -146,7 +146,8 @@ fn append(held: &mut Vec<u8>, octets: &[u8])
 /// which `held` octets of it are held.
 fn fits(header: &[u8], held: usize, pointer: usize, zone: usize) -> bool
     requires { 6 ≤ length header.now }
-    ensures { result ≡ (header_ok header.now && (pointer == pointer_after zone (header_len header.now - held))) }
+    ensures { result ≡ (header_ok header.now
+        && (pointer == pointer_after zone (header_len header.now - held))) }
 {
     let wants = packet_len(header).saturating_sub(held);
     has_good_version(header) && pointer == if wants < zone { wants } else { 2047 }
@@ -215,7 +216,8 @@ fn finish(
     requires other { whole ≡ false → 6 ≤ length held.old.items → header_len held.old.items
         ≢ length held.old.items }
     ensures ok { (rest : List ℕ) → Heads held.old.items rest →
-        OnOk result (IsSplit (held.old.items ++ rest) rest held.new.items (octets_of_each out.old.items) (octets_of_each out.new.items)) }
+        OnOk result (IsSplit (held.old.items ++ rest) rest held.new.items
+        (octets_of_each out.old.items) (octets_of_each out.new.items)) }
     ensures err { OnErr result (octets_of_each out.new.items ≡ octets_of_each out.old.items) }
     ensures hands { OnErr result ((whole ≡ true) × (is_idle held.old.items ≡ false)) }
     ensures capacity { vec_capacity held.old ≤ vec_capacity held.new }
@@ -399,7 +401,8 @@ impl Reassembler {
         // too, and the survivors that this one completes were appended.
         ensures stream { (ps : List (List ℕ)) (marks : List Bool) →
             IsNext ps marks (held_at follows self.old) pointer zone.now →
-            OnOk result (IsTaken ps marks (length zone.now) self.new (octets_of_each out.old.items) (octets_of_each out.new.items)) }
+            OnOk result (IsTaken ps marks (length zone.now) self.new (octets_of_each out.old.items)
+            (octets_of_each out.new.items)) }
 
         // Of a stream no packet is bad, and none is discarded but by a zone that was lost.
         ensures in_order { (ps : List (List ℕ)) (marks : List Bool) →
@@ -409,7 +412,8 @@ impl Reassembler {
         // Without memory a front of them was appended, and nothing is held.
         ensures cut_short { (ps : List (List ℕ)) (marks : List Bool) →
             IsNext ps marks (held_at follows self.old) pointer zone.now →
-            OnErr result (IsFrontTaken ps marks (length zone.now) (octets_of_each out.old.items) (octets_of_each out.new.items)) }
+            OnErr result (IsFrontTaken ps marks (length zone.now) (octets_of_each out.old.items)
+            (octets_of_each out.new.items)) }
         ensures err { OnErr result (self.new ≡ []) }
 
         // What any zone gives, whatever it is.

@@ -30,7 +30,8 @@ flag_given n false e = ap (λ k. nat_eq k 1) e
 
 pub same_parts : (p q : Parts) → p.apid ≡ q.apid → p.kind ≡ q.kind → p.secondary ≡ q.secondary → p.flags ≡ q.flags → p.count ≡ q.count → p.body ≡ q.body → p ≡ q
 same_parts p q a k s f c b =
-    let same : record { apid = p.apid; kind = p.kind; secondary = p.secondary; flags = p.flags; count = p.count; body = p.body } ≡ record { apid = q.apid; kind = q.kind; secondary = q.secondary; flags = q.flags; count = q.count; body = q.body } = cc in
+    let same : record { apid = p.apid; kind = p.kind; secondary = p.secondary; flags = p.flags; count = p.count; body = p.body }
+    ≡ record { apid = q.apid; kind = q.kind; secondary = q.secondary; flags = q.flags; count = q.count; body = q.body } = cc in
     same
 
 -- octets spell at most one packet
@@ -91,10 +92,13 @@ written_packet_is_read p fits =
     let b3 = fits.count in
     let b4 = fits.some in
     let b5 = fits.fits in
-    let first : (i w : ℕ) → i + w ≤ 16 → field text i w ≡ n / 2 ^ (16 - (i + w)) % 2 ^ w = λ (i w : ℕ) (h : i + w ≤ 16). field_of_octets [] (octets 2 m ++ (octets 2 k ++ p.body)) 2 n i i w (omega arith) (omega arith) h in
-    let second : (at i w : ℕ) → at ≡ 16 + i → i + w ≤ 16 → field text at w ≡ m / 2 ^ (16 - (i + w)) % 2 ^ w = λ (at i w : ℕ) (e : at ≡ 16 + i) (h : i + w ≤ 16). field_of_octets (octets 2 n) (octets 2 k ++ p.body) 2 m at i w (omega arith) (omega arith) h in
+    let first : (i w : ℕ) → i + w ≤ 16 → field text i w ≡ n / 2 ^ (16 - (i + w)) % 2 ^ w =
+    λ (i w : ℕ) (h : i + w ≤ 16). field_of_octets [] (octets 2 m ++ (octets 2 k ++ p.body)) 2 n i i w (omega arith) (omega arith) h in
+    let second : (at i w : ℕ) → at ≡ 16 + i → i + w ≤ 16 → field text at w ≡ m / 2 ^ (16 - (i + w)) % 2 ^ w =
+    λ (at i w : ℕ) (e : at ≡ 16 + i) (h : i + w ≤ 16). field_of_octets (octets 2 n) (octets 2 k ++ p.body) 2 m at i w (omega arith) (omega arith) h in
     let turned : (octets 2 n ++ octets 2 m) ++ (octets 2 k ++ p.body) ≡ text = simp append_assoc in
-    let third : field text 32 16 ≡ k / 2 ^ 0 % 2 ^ 16 = ap (λ t. field t 32 16) (sym turned) ∙ field_of_octets (octets 2 n ++ octets 2 m) p.body 2 k 32 0 16 (omega arith) (omega arith) (omega arith) in
+    let third : field text 32 16 ≡ k / 2 ^ 0 % 2 ^ 16 = ap (λ t. field t 32 16) (sym turned)
+    ∙ field_of_octets (octets 2 n ++ octets 2 m) p.body 2 k 32 0 16 (omega arith) (omega arith) (omega arith) in
     rw grouped (record {
       version = omega (arith, first 0 3 (omega arith));
       kind = omega (arith, first 3 1 (omega arith));

@@ -16,7 +16,15 @@ pub record Parts : Type 0 where
 
 -- the parts of a packet whose body is lent
 abbrev pub view : Packet → Parts
-view p = record { apid = p.apid; kind = p.kind; secondary = p.secondary; flags = p.flags; count = p.count; body = p.body.now }
+view p = record {
+  apid = p.apid;
+  kind = p.kind;
+  secondary = p.secondary;
+  flags = p.flags;
+  count =
+      p.count;
+  body = p.body.now;
+}
 
 -- octets of a packet: the primary header and the data field (4.1.2)
 abbrev pub packet_len : Parts → ℕ
@@ -73,7 +81,8 @@ pub record IsWritable (p : Parts) : Type 0 where
 -- the primary header of a packet with so many octets of data
 abbrev pub header_octets : Parts → ℕ → List ℕ
 header_octets p data_octets =
-    octets 2 (4096 * flag p.kind + 2048 * flag p.secondary + p.apid) ++ octets 2 (16384 * p.flags + p.count) ++ octets 2 (data_octets - 1)
+    octets 2 (4096 * flag p.kind + 2048 * flag p.secondary + p.apid)
+    ++ octets 2 (16384 * p.flags + p.count) ++ octets 2 (data_octets - 1)
 
 -- the written spelling of a packet
 abbrev pub packet_octets : Parts → List ℕ
@@ -85,7 +94,15 @@ IsPacketLen len = (7 ≤ len) × (len ≤ 65542)
 
 -- the idle packet of so many octets, unsegmented (4.1.3.3.4)
 abbrev pub idle : ℕ → Parts
-idle len = record { apid = 2047; kind = false; secondary = false; flags = 3; count = 0; body = replicate (len - 6) 0 }
+idle len = record {
+  apid = 2047;
+  kind = false;
+  secondary = false;
+  flags = 3;
+  count = 0;
+  body =
+      replicate (len - 6) 0;
+}
 
 -- why octets begin with no packet, or none
 abbrev pub fault : List ℕ → Option PacketError

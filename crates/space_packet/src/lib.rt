@@ -37,7 +37,8 @@ pub use packet::{IDLE_APID, Packet, is_packet_len};
 /// `Short` where there are fewer than 6 octets, or fewer than the length field says; `Version`
 /// where the version number is not 0. With at least 6 octets `Version` is told first.
 pub fn decode(bytes: &[u8]) -> Result<(Packet<'_>, &[u8]), PacketError>
-    ensures found { IfOk result (λ x. SpellsPacket (view x.0) (take (packet_len (view x.0)) bytes.now)) }
+    ensures found { IfOk result (λ x. SpellsPacket (view x.0)
+        (take (packet_len (view x.0)) bytes.now)) }
     ensures rest { IfOk result (λ x. x.1.now ≡ drop (packet_len (view x.0)) bytes.now) }
     ensures only { (p : Parts) (front behind : List ℕ) → SpellsPacket p front → bytes.now ≡ front
         ++ behind → IsOkAnd result (λ x. (view x.0 ≡ p) × (x.1.now ≡ behind)) }

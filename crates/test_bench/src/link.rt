@@ -43,7 +43,8 @@ pub fn play(
 fn take_alone(up: &mut Up, frame: &[u8], out: &mut Vec<Vec<u8>>)
     ensures { (ps : List (List ℕ)) (marks : List Bool) (missed : ℕ) → IsUp up.old ps marks missed →
         IsNextFrame up.old.link ps marks frame.now →
-        (pdus_in (survivors up.old.link.zone (marks ++ true ∷ []) 0 ps) ≡ pdus_in (survivors up.old.link.zone marks 0 ps) ++ octets_of_each out.new.items)
+        (pdus_in (survivors up.old.link.zone (marks ++ true ∷ []) 0 ps)
+        ≡ pdus_in (survivors up.old.link.zone marks 0 ps) ++ octets_of_each out.new.items)
         ⊎ (up.new.drops ≡ counted up.old.drops NoMemory) }
 {
     out.clear();

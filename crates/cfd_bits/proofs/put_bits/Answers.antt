@@ -34,7 +34,8 @@ loop-end-preserved c =
     let is : c.with_bits.result ≡ changed (get_or o p 0) j here (c.loop-end.left % 2 ^ here) =
     c.with_bits.ensures ∙ ap (λ n. changed (get_or o p 0) j here (c.loop-end.left % n)) whole in
     let step : IsWritten c.args.at_bit c.args.width c.args.value c.args.bytes.now start (c.loop-end.left / 2 ^ here) (set o p (changed (get_or o p 0) j here (c.loop-end.left % 2 ^ here))) =
-    written_more c.args.at_bit c.args.width c.args.value c.args.bytes.now c.loop-end.end c.loop-end.left o p start here j c.loop-end.invariant (omega arith) least (omega arith) (omega arith) (omega arith) (omega arith) in
+    written_more c.args.at_bit c.args.width c.args.value c.args.bytes.now c.loop-end.end c.loop-end.left o p start here j c.loop-end.invariant (omega arith) least (omega arith) (omega arith)
+    (omega arith) (omega arith) in
     subst (λ (b : ℕ). IsWritten c.args.at_bit c.args.width c.args.value c.args.bytes.now start (c.loop-end.left / 2 ^ here) (set o p b)) (sym is) step
 
 -- all else is as it was

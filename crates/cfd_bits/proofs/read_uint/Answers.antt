@@ -15,10 +15,19 @@ more o i v is b =
     omega (arith, e, is)
 
 pub overflow_mul-value : goal.overflow_mul-value
-overflow_mul-value c = omega (arith, more c.args.bytes.now c.loop-i.i c.loop-i.value c.loop-i.invariant (omega (arith, c.type_inv.bytes c.loop-i.i)), field_fits c.args.bytes.now 0 (8 * (c.loop-i.i + 1)) (omega arith))
+overflow_mul-value c = omega (
+  arith,
+  more c.args.bytes.now c.loop-i.i c.loop-i.value c.loop-i.invariant (omega (arith, c.type_inv.bytes c.loop-i.i)),
+  field_fits c.args.bytes.now 0 (8 * (c.loop-i.i + 1)) (omega arith),
+)
 
 pub overflow_add-value : goal.overflow_add-value
-overflow_add-value c = omega (arith, c.from.ensures, more c.args.bytes.now c.loop-i.i c.loop-i.value c.loop-i.invariant (omega (arith, c.type_inv.bytes c.loop-i.i)), field_fits c.args.bytes.now 0 (8 * (c.loop-i.i + 1)) (omega arith))
+overflow_add-value c = omega (
+  arith,
+  c.from.ensures,
+  more c.args.bytes.now c.loop-i.i c.loop-i.value c.loop-i.invariant (omega (arith, c.type_inv.bytes c.loop-i.i)),
+  field_fits c.args.bytes.now 0 (8 * (c.loop-i.i + 1)) (omega arith),
+)
 
 pub loop-i-preserved : goal.loop-i-preserved
 loop-i-preserved c = ap (λ k. 256 * c.loop-i.value + k) c.from.ensures ∙ more c.args.bytes.now c.loop-i.i c.loop-i.value c.loop-i.invariant (omega (arith, c.type_inv.bytes c.loop-i.i))

@@ -40,7 +40,13 @@ written_len a large v =
 -- what a header has in common with the others of its transaction
 abbrev pub addressing_of : Header → Addressing
 addressing_of h =
-    record { id = h.id; destination = h.destination; id_width = h.id_width; number_width = h.number_width }
+    record {
+      id = h.id;
+      destination = h.destination;
+      id_width = h.id_width;
+      number_width =
+          h.number_width;
+    }
 
 -- The id of a transaction can be written in these widths.
 pub record FitsWidths (ids numbers : ℕ) (id : TransactionId) : Type 0 where

@@ -21,7 +21,8 @@ pub data Content : Type 0 where
 -- what a PDU in memory says
 abbrev pub view : Pdu → Content
 view (pdu.FileData offset bytes) = FileData offset bytes.now
-view (pdu.Metadata kind size source destination options) = Metadata kind size source.now destination.now options
+view (pdu.Metadata kind size source destination options) =
+    Metadata kind size source.now destination.now options
 view (pdu.Eof condition checksum size tlvs) = Eof condition checksum size tlvs
 view (pdu.Finished condition delivery status tlvs) = Finished condition delivery status tlvs
 view (pdu.Ack of condition status) = Ack of condition status

@@ -27,13 +27,15 @@ abbrev pub skipped : Bool → List ℕ → ℕ
 skipped segment_metadata d = if segment_metadata then 1 + field d 2 6 else 0
 
 -- File data (CCSDS 727.0-B-5, 5.3): the offset, whose field has w octets, and the data to the end.
-pub record IsFileData (w : ℕ) (segment_metadata : Bool) (offset : ℕ) (bytes : List ℕ) (d : List ℕ) : Type 0 where
+pub record IsFileData (w : ℕ) (segment_metadata : Bool) (offset : ℕ) (bytes : List ℕ)
+    (d : List ℕ) : Type 0 where
   pub room : skipped segment_metadata d + w ≤ length d
   pub offset_field : field d (8 * skipped segment_metadata d) (8 * w) ≡ offset
   pub after : drop (skipped segment_metadata d + w) d ≡ bytes
 
 -- Metadata (CCSDS 727.0-B-5, 5.2.5). Bits 8 to 11 are free: spare, closure requested, spare.
-pub record IsMetadata (w checksum_kind size : ℕ) (source destination : List ℕ) (options : List Tlv) (d : List ℕ) : Type 0 where
+pub record IsMetadata (w checksum_kind size : ℕ) (source destination : List ℕ) (options : List Tlv)
+    (d : List ℕ) : Type 0 where
   pub room : 2 + w ≤ length d
   pub code : field d 0 8 ≡ 7
   pub kind_field : field d 12 4 ≡ checksum_kind
@@ -51,7 +53,8 @@ pub record IsEof (w : ℕ) (condition checksum size : ℕ) (tlvs : List Tlv) (d 
   pub rest : drop (6 + w) d ≡ flat_map tlv tlvs
 
 -- Finished (CCSDS 727.0-B-5, 5.2.3). Bit 12 is free.
-pub record IsFinished (condition : ℕ) (delivery : Delivery) (status : FileStatus) (tlvs : List Tlv) (d : List ℕ) : Type 0 where
+pub record IsFinished (condition : ℕ) (delivery : Delivery) (status : FileStatus) (tlvs : List Tlv)
+    (d : List ℕ) : Type 0 where
   pub room : 2 ≤ length d
   pub code : field d 0 8 ≡ 5
   pub condition_field : field d 8 4 ≡ condition
@@ -61,7 +64,8 @@ pub record IsFinished (condition : ℕ) (delivery : Delivery) (status : FileStat
   pub rest : drop 2 d ≡ flat_map tlv tlvs
 
 -- ACK (CCSDS 727.0-B-5, 5.2.4). Bits 12 to 15, the subtype, and 20 and 21 are free.
-pub record IsAck (of : Acknowledged) (condition : ℕ) (status : TransactionStatus) (d : List ℕ) : Type 0 where
+pub record IsAck (of : Acknowledged) (condition : ℕ) (status : TransactionStatus)
+    (d : List ℕ) : Type 0 where
   pub size_octets : length d ≡ 3
   pub code : field d 0 8 ≡ 6
   pub of_field : field d 8 4 ≡ acknowledged_code of
@@ -91,11 +95,14 @@ pub record IsKeepAlive (w : ℕ) (progress : ℕ) (d : List ℕ) : Type 0 where
 
 -- The octets d say this; file-size fields have w octets.
 abbrev pub IsContent : ℕ → Bool → Content → List ℕ → Type 0
-IsContent w segment_metadata (FileData offset bytes) d = IsFileData w segment_metadata offset bytes d
+IsContent w segment_metadata (FileData offset bytes) d =
+    IsFileData w segment_metadata offset bytes d
 IsContent w segment_metadata (Metadata kind size source destination options) d =
     IsMetadata w kind size source destination options d
-IsContent w segment_metadata (Eof condition checksum size tlvs) d = IsEof w condition checksum size tlvs d
-IsContent w segment_metadata (Finished condition delivery status tlvs) d = IsFinished condition delivery status tlvs d
+IsContent w segment_metadata (Eof condition checksum size tlvs) d =
+    IsEof w condition checksum size tlvs d
+IsContent w segment_metadata (Finished condition delivery status tlvs) d =
+    IsFinished condition delivery status tlvs d
 IsContent w segment_metadata (Ack of condition status) d = IsAck of condition status d
 IsContent w segment_metadata (Nak start end pairs) d = IsNak w start end pairs d
 IsContent w segment_metadata (Prompt keep_alive) d = IsPrompt keep_alive d

@@ -1,5 +1,5 @@
 -- Pairs of offsets, each a file-size field of w octets.
-use Rattle.std.specs.Prelude.{◌≡◌, ◌/◌, ◌%◌, ◌*◌, ◌^◌, ℕ, zero, suc, ◌<◌, ◌≤◌, Bool, List, [], ◌∷◌, ◌++◌, length, drop}
+use Rattle.std.specs.Prelude.{◌≡◌, ◌/◌, ◌%◌, ◌*◌, ◌^◌, ℕ, zero, suc, ◌<◌, ◌≤◌, Bool, true, false, List, [], ◌∷◌, ◌++◌, length, drop}
 use Rattle.cfd_bits.specs.Field.{field, octets}
 use Rattle.cfdp_directives.specs.Pdu.Codes.{file_size_octets}
 use Rattle.cfdp_directives.specs.declared.pdu.pairs.Form.{Form}
@@ -44,10 +44,12 @@ pairs_read large octets =
 
 -- pairs as they lie in octets read, or as numbers
 abbrev pub pairs_in : Form → List (ℕ × ℕ)
-pairs_in (form.Read large octets) = pairs_read large octets.now
+pairs_in (form.Small octets) = pairs_read false octets.now
+pairs_in (form.Large octets) = pairs_read true octets.now
 pairs_in (form.Given pairs) = pairs.now
 
 -- Octets read are whole pairs.
 abbrev pub IsWhole : Form → Type 0
-IsWhole (form.Read large octets) = length octets.now % pair_octets large ≡ 0
+IsWhole (form.Small octets) = length octets.now % pair_octets false ≡ 0
+IsWhole (form.Large octets) = length octets.now % pair_octets true ≡ 0
 IsWhole (form.Given pairs) = Unit {0}

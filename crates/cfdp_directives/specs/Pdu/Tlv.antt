@@ -20,7 +20,8 @@ tlvs_at zero (kind ∷ rest) = None
 tlvs_at (suc count) (kind ∷ []) = None
 tlvs_at (suc count) (kind ∷ len ∷ rest) =
     if nat_le len (length rest)
-    then option_map (λ ts. record { kind = kind; value = take len rest } ∷ ts) (tlvs_at count (drop len rest))
+    then option_map (λ ts. record { kind = kind; value = take len rest } ∷ ts)
+    (tlvs_at count (drop len rest))
     else None
 
 -- the options that fill the octets, if some do
@@ -33,12 +34,14 @@ fault_location_kind = 6
 
 -- whether an option names an entity: a fault location of 1 to 8 octets
 abbrev pub is_location : Tlv → Bool
-is_location t = (t.kind == fault_location_kind) && (nat_le 1 (length t.value) && nat_le (length t.value) 8)
+is_location t = (t.kind == fault_location_kind)
+    && (nat_le 1 (length t.value) && nat_le (length t.value) 8)
 
 -- the entity that the first fault location names
 abbrev pub location_of : List Tlv → Option ℕ
 location_of [] = None
-location_of (t ∷ ts) = if is_location t then Some (field t.value 0 (8 * length t.value)) else location_of ts
+location_of (t ∷ ts) = if is_location t then Some (field t.value 0 (8 * length t.value))
+    else location_of ts
 
 -- the fault location that names an entity by so many octets
 abbrev pub fault_location : ℕ → ℕ → Tlv

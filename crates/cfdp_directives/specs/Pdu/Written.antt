@@ -17,7 +17,8 @@ content_octets w (Metadata kind size source destination options) =
     octets 1 7 ++ octets 1 kind ++ octets w size ++ lv source ++ lv destination
     ++ flat_map tlv options
 content_octets w (Eof condition checksum size tlvs) =
-    octets 1 4 ++ octets 1 (16 * condition) ++ octets 4 checksum ++ octets w size ++ flat_map tlv tlvs
+    octets 1 4 ++ octets 1 (16 * condition) ++ octets 4 checksum ++ octets w size
+    ++ flat_map tlv tlvs
 content_octets w (Finished condition delivery status tlvs) =
     octets 1 5
     ++ octets 1 (16 * condition + 4 * delivery_code delivery + file_status_code status)

@@ -1,5 +1,5 @@
 // The octets of a file-size field, as an offset: their number stands here alone.
-ghost use Rattle.std.specs.Prelude.{◌≡◌, ◌+◌, ◌*◌, ◌^◌, ◌<◌, ◌≤◌, ◌++◌, ◌↔◌, length, take, drop, IsTrue};
+ghost use Rattle.std.specs.Prelude.{◌≡◌, ◌+◌, ◌*◌, ◌^◌, ◌<◌, ◌≤◌, ◌++◌, ◌↔◌, false, length, take, drop, IsTrue};
 ghost use Rattle.cfd_bits.specs.Field.{field, octets};
 ghost use Rattle.cfdp_directives.specs.Pdu.Codes as codes;
 
@@ -33,9 +33,8 @@ pub fn is_file_size(large: bool, value: u64) -> bool
     large || value <= LARGEST_SMALL
 }
 
-/// The number in the file-size field at the front. Each width is read by a count that is known, so
-/// that no loop is left of it.
-#[inline]
+/// The number in the file-size field at the front.
+#[inline(always)]
 pub(crate) fn read_file_size(large: bool, bytes: &[u8]) -> u64
     requires { codes.file_size_octets large ≤ length bytes.now }
     ensures { result ≡ field bytes.now 0 (8 * codes.file_size_octets large) }
@@ -43,13 +42,25 @@ pub(crate) fn read_file_size(large: bool, bytes: &[u8]) -> u64
     if large {
         read_uint(bytes, LARGE)
     } else {
-        read_uint(bytes, SMALL)
+        number_at_front(bytes)
     }
+}
+
+/// The number that the first octets spell, those of a file-size field of a file that isn't large.
+/// They are loaded as one number, which turns them round, and then turned back: so that many are
+/// read at once.
+#[inline(always)]
+fn number_at_front(octets: &[u8]) -> u64
+    requires { codes.file_size_octets false ≤ length octets.now }
+    ensures { result ≡ field octets.now 0 (8 * codes.file_size_octets false) }
+{
+    let turned = u32::from_le_bytes([octets[0], octets[1], octets[2], octets[3]]);
+    u64::from(turned.swap_bytes())
 }
 
 /// Writes the number as a file-size field from octet `at` on, and says where it ends. The octets
 /// before and behind stay.
-#[inline]
+#[inline(always)]
 pub(crate) fn put_file_size(out: &mut [u8], at: usize, large: bool, value: u64) -> usize
     requires room { at + codes.file_size_octets large ≤ length out.old }
     requires fits { value < 256 ^ codes.file_size_octets large }

@@ -3,7 +3,6 @@ ghost use Rattle.std.specs.Cmp.{partial_equiv_from_equiv};
 ghost use Rattle.std.specs.Cmp.Lexicographic.{on_texts_equal, pointwise};
 ghost use Rattle.std.specs.Ordering.{on};
 ghost use Rattle.std.specs.List.{flat_map, AllByRecursion};
-ghost use Rattle.cfd_bits.specs.Field.{field};
 ghost use Rattle.cfdp_directives.specs.Pdu.Codes.{file_size_octets};
 ghost use Rattle.cfdp_directives.specs.Pdu.Pair as specified;
 ghost use Rattle.cfdp_directives.specs.Pdu.Pair.{pair, pairs_read, ArePairs, IsPair, numbers, pairs_in, IsWhole};
@@ -14,6 +13,7 @@ use cfd_bits::put_bytes;
 use std::marker::Model;
 
 /// Octets of a pair, of a large file and of one that isn't.
+#[inline]
 fn pair_octets(large: bool) -> usize
     ensures value { result ≡ specified.pair_octets large }
     ensures some { 1 ≤ result }
@@ -25,8 +25,10 @@ fn pair_octets(large: bool) -> usize
 /// Where pairs lie.
 #[derive(Clone, Copy, Debug)]
 enum Form<'a> {
-    /// In octets read, which they fill: of a large file, or of one that isn't.
-    Read { large: bool, octets: &'a [u8] },
+    /// In octets read, which they fill.
+    Small(&'a [u8]),
+    /// In octets read of a large file.
+    Large(&'a [u8]),
     /// As numbers.
     Given(&'a [(u64, u64)]),
 }
@@ -67,63 +69,58 @@ impl<'a> Pairs<'a> {
             ≡ (length octets.now % specified.pair_octets large == 0) }
     {
         if octets.len() % pair_octets(large) == 0 {
-            Some(Pairs {
-                form: Form::Read { large, octets },
-            })
+            Some(Pairs::filling(large, octets))
         } else {
             None
         }
     }
 
+    /// The pairs that fill the octets.
+    fn filling(large: bool, octets: &'a [u8]) -> Self
+        requires { length octets.now % specified.pair_octets large ≡ 0 }
+        ensures { result ≡ pairs_read large octets.now }
+    {
+        Pairs {
+            form: if large {
+                Form::Large(octets)
+            } else {
+                Form::Small(octets)
+            },
+        }
+    }
+
     /// How many ranges there are.
-    #[tactic(auto, using(crate::proofs::Ranges::pairs_count))]
     pub fn len(&self) -> usize
         ensures { result ≡ length self.now }
     {
         match self.form {
-            Form::Read { large, octets } => octets.len() / pair_octets(large),
+            Form::Small(octets) => count_read(false, octets),
+            Form::Large(octets) => count_read(true, octets),
             Form::Given(pairs) => pairs.len(),
         }
     }
 
     /// The start and the end of the first range, and the pairs behind it.
-    #[tactic(auto, using(crate::proofs::Ranges::first_pair, crate::proofs::Ranges::no_pair, crate::proofs::Options::field_behind))]
     pub fn split_first(&self) -> Option<(u64, u64, Pairs<'a>)>
         ensures some { IfSome result (λ x. self.now ≡ (x.0, x.1) ∷ x.2) }
         ensures none { IfNone result (self.now ≡ []) }
     {
         match self.form {
-            Form::Read { large, octets } => {
-                if octets.is_empty() {
-                    return None;
-                }
-                let (_, end) = octets.split_at(file_size_octets(large));
-                let (_, rest) = octets.split_at(pair_octets(large));
-                Some((
-                    read_file_size(large, octets),
-                    read_file_size(large, end),
-                    Pairs {
-                        form: Form::Read {
-                            large,
-                            octets: rest,
-                        },
-                    },
-                ))
-            }
+            Form::Small(octets) => split_read(false, octets),
+            Form::Large(octets) => split_read(true, octets),
             Form::Given([]) => None,
             Form::Given([(start, end), rest @ ..]) => Some((*start, *end, Pairs::of(rest))),
         }
     }
 
     /// The start and the end of the range at a place, from 0 on.
-    #[tactic(auto, using(crate::proofs::Ranges::pairs_count))]
     pub(crate) fn at(&self, place: usize) -> (u64, u64)
         requires { place < length self.now }
         ensures { drop place self.now ≡ result ∷ drop (place + 1) self.now }
     {
         match self.form {
-            Form::Read { large, octets } => pair_read(large, octets, place),
-            Form::Given(pairs) => pair_given(pairs, place),
+            Form::Small(octets) => pair_read(false, octets, place),
+            _ => pair_elsewhere(self.form, place),
         }
     }
 
@@ -140,10 +137,8 @@ impl<'a> Pairs<'a> {
         ensures { IsTrue result ↔ AllByRecursion (IsPair (file_size_octets large)) self.now }
     {
         match self.form {
-            Form::Read {
-                large: read,
-                octets,
-            } => read_pairs_fit(read, octets, large),
+            Form::Small(octets) => read_pairs_fit(false, octets, large),
+            Form::Large(octets) => read_pairs_fit(true, octets, large),
             Form::Given(pairs) => are_file_sizes(large, pairs),
         }
     }
@@ -160,10 +155,8 @@ impl<'a> Pairs<'a> {
     {
         let out = &mut out[..at + pair_octets(large) * self.len()];
         match self.form {
-            Form::Read {
-                large: read,
-                octets,
-            } => put_pairs_read(out, at, large, read, octets),
+            Form::Small(octets) => put_pairs_read(out, at, large, false, octets),
+            Form::Large(octets) => put_pairs_read(out, at, large, true, octets),
             Form::Given(pairs) => put_pairs(out, at, large, pairs),
         }
     }
@@ -210,19 +203,60 @@ fn are_same(mut one: PairIter<'_>, mut other: PairIter<'_>) -> bool
     other.next().is_none()
 }
 
+/// How many pairs fill the octets.
+#[inline(always)]
+#[tactic(auto, using(crate::proofs::Ranges::pairs_count))]
+fn count_read(large: bool, octets: &[u8]) -> usize
+    ensures { result ≡ length (pairs_read large octets.now) }
+{
+    octets.len() / pair_octets(large)
+}
+
+/// The start and the end of the first of the pairs that fill the octets, and those behind it.
+#[tactic(auto, using(crate::proofs::Ranges::first_pair, crate::proofs::Ranges::no_pair, crate::proofs::Options::field_behind))]
+fn split_read(large: bool, octets: &[u8]) -> Option<(u64, u64, Pairs<'_>)>
+    requires { length octets.now % specified.pair_octets large ≡ 0 }
+    ensures some { IfSome result (λ x. pairs_read large octets.now ≡ (x.0, x.1) ∷ x.2) }
+    ensures none { IfNone result (pairs_read large octets.now ≡ []) }
+{
+    if octets.is_empty() {
+        return None;
+    }
+    let (_, end) = octets.split_at(file_size_octets(large));
+    let (_, rest) = octets.split_at(pair_octets(large));
+    Some((
+        read_file_size(large, octets),
+        read_file_size(large, end),
+        Pairs::filling(large, rest),
+    ))
+}
+
 /// The pair at a place in octets that pairs fill.
-#[tactic(auto, using(crate::proofs::Ranges::pair_at))]
+#[inline(always)]
+#[tactic(auto, using(crate::proofs::Ranges::pair_at, crate::proofs::Ranges::pairs_count))]
 fn pair_read(large: bool, octets: &[u8], place: usize) -> (u64, u64)
-    requires { place < length octets.now / specified.pair_octets large }
+    requires { place < length (pairs_read large octets.now) }
     ensures { drop place (pairs_read large octets.now)
         ≡ result ∷ drop (place + 1) (pairs_read large octets.now) }
 {
     let (_, start) = octets.split_at(pair_octets(large) * place);
     let (_, end) = start.split_at(file_size_octets(large));
-    if large {
-        (read_file_size(large, start), read_file_size(large, end))
-    } else {
-        (number_at_front(start), number_at_front(end))
+    (read_file_size(large, start), read_file_size(large, end))
+}
+
+/// The pair at a place, wherever they lie: apart, so that a loop over those of a small file that was
+/// read tests that once.
+#[inline(never)]
+fn pair_elsewhere(form: Form<'_>, place: usize) -> (u64, u64)
+    requires whole { IsWhole form }
+    requires within { place < length (pairs_in form) }
+    ensures { drop place (pairs_in form.entry)
+        ≡ result ∷ drop (place + 1) (pairs_in form.entry) }
+{
+    match form {
+        Form::Small(octets) => pair_read(false, octets, place),
+        Form::Large(octets) => pair_read(true, octets, place),
+        Form::Given(pairs) => pair_given(pairs, place),
     }
 }
 
@@ -233,17 +267,6 @@ fn pair_given(pairs: &[(u64, u64)], place: usize) -> (u64, u64)
     ensures { drop place pairs.now ≡ result ∷ drop (place + 1) pairs.now }
 {
     pairs[place]
-}
-
-/// The number that the first octets spell, those of a file-size field of a file that isn't large.
-/// They are loaded as one number, which turns them round, and then turned back: so that many are
-/// read at once.
-fn number_at_front(octets: &[u8]) -> u64
-    requires { file_size_octets false ≤ length octets.now }
-    ensures { result ≡ field octets.now 0 (8 * file_size_octets false) }
-{
-    let turned = u32::from_le_bytes([octets[0], octets[1], octets[2], octets[3]]);
-    u64::from(turned.swap_bytes())
 }
 
 /// The octets, of which it is known that pairs fill them.
@@ -259,6 +282,7 @@ fn as_pairs(large: bool, octets: &[u8]) -> &[u8]
 }
 
 /// Whether each number of pairs that were read fits a file-size field.
+#[inline(always)]
 #[tactic(auto, using(crate::proofs::Ranges::pairs_fit))]
 fn read_pairs_fit(read: bool, octets: &[u8], large: bool) -> bool
     requires { length octets.now % specified.pair_octets read ≡ 0 }
@@ -276,12 +300,11 @@ fn pairs_over(large: bool, octets: &[u8]) -> PairIter<'_>
     requires { length octets.now % specified.pair_octets large ≡ 0 }
     ensures { result ≡ pairs_read large octets.now }
 {
-    PairIter::over(Pairs {
-        form: Form::Read { large, octets },
-    })
+    PairIter::over(Pairs::filling(large, octets))
 }
 
 /// Whether each number that is left fits a file-size field.
+#[inline(never)]
 fn each_fits(large: bool, mut pairs: PairIter<'_>) -> bool
     ensures { IsTrue result ↔ AllByRecursion (IsPair (file_size_octets large)) pairs.entry }
 {
@@ -307,6 +330,7 @@ fn are_file_sizes(large: bool, pairs: &[(u64, u64)]) -> bool
 
 /// Writes pairs that were read: as they were read where their fields have the octets of those that
 /// are written, else one by one.
+#[inline(always)]
 fn put_pairs_read(out: &mut [u8], at: usize, large: bool, read: bool, octets: &[u8]) -> usize
     requires whole { length octets.now % specified.pair_octets read ≡ 0 }
     requires fits { AllByRecursion (IsPair (file_size_octets large)) (pairs_read read octets.now) }
@@ -324,6 +348,7 @@ fn put_pairs_read(out: &mut [u8], at: usize, large: bool, read: bool, octets: &[
 }
 
 /// Writes each pair that is left.
+#[inline(never)]
 fn put_each(out: &mut [u8], at: usize, large: bool, mut pairs: PairIter<'_>) -> usize
     requires fits { AllByRecursion (IsPair (file_size_octets large)) pairs }
     requires room { at + specified.pair_octets large * length pairs ≤ length out.old }

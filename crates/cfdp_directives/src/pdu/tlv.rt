@@ -173,7 +173,8 @@ fn octets_of<'a>(form: &'a Form<'_>) -> &'a [u8]
 pub(crate) fn split_tlv(bytes: &[u8]) -> Option<(u8, &[u8], &[u8])>
     ensures whole { IfSome result (λ x. is_some (tlvs_of x.2.now) ≡ is_some (tlvs_of bytes.now)) }
     ensures first { IfSome result (λ x. is_some (tlvs_of bytes.now) ≡ true
-        → unwrap_or (tlvs_of bytes.now) [] ≡ record { kind = x.0; value = x.1.now } ∷ unwrap_or (tlvs_of x.2.now) []) }
+        → unwrap_or (tlvs_of bytes.now) []
+        ≡ record { kind = x.0; value = x.1.now } ∷ unwrap_or (tlvs_of x.2.now) []) }
     ensures shorter { IfSome result (λ x. length x.2.now < length bytes.now) }
     ensures none { IfNone result (unwrap_or (tlvs_of bytes.now) [] ≡ []) }
     ensures bad { IfNone result (0 < length bytes.now → is_some (tlvs_of bytes.now) ≡ false) }

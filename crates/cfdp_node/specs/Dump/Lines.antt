@@ -33,7 +33,8 @@ use Rattle.cfdp_node.specs.Script.Words.{onto_first}
 
 -- a number as eight upper-case hexadecimal digits
 abbrev pub hex_number_text : ℕ → List ℕ
-hex_number_text number = let numeral = digits 16 true number in replicate (8 - length numeral) 48 ++ numeral
+hex_number_text number = let numeral = digits 16 true number in replicate (8 - length numeral) 48
+    ++ numeral
 
 abbrev pub name_text : List ℕ → List ℕ
 name_text name = flat_map printed_octet name
@@ -58,12 +59,17 @@ range_text range = codes " " ++ (decimal range.0 ++ (codes "-" ++ decimal range.
 abbrev pub fields_text : pdus.Pdu → List ℕ
 fields_text (pdu.FileData offset bytes) = decimal offset ++ codes " " ++ decimal (length bytes.now)
 fields_text (pdu.Metadata kind size source destination options) =
-    decimal kind ++ codes " " ++ decimal size ++ codes " " ++ name_text source.now ++ codes " " ++ name_text destination.now
-fields_text (pdu.Eof condition checksum size tlvs) = decimal condition ++ codes " " ++ hex_number_text checksum ++ codes " " ++ decimal size
-fields_text (pdu.Finished condition delivery status tlvs) = decimal condition ++ codes " " ++ delivery_word delivery ++ codes " " ++ status_word status
+    decimal kind ++ codes " " ++ decimal size ++ codes " " ++ name_text source.now ++ codes " "
+    ++ name_text destination.now
+fields_text (pdu.Eof condition checksum size tlvs) = decimal condition ++ codes " "
+    ++ hex_number_text checksum ++ codes " " ++ decimal size
+fields_text (pdu.Finished condition delivery status tlvs) = decimal condition ++ codes " "
+    ++ delivery_word delivery ++ codes " " ++ status_word status
 fields_text (pdu.Ack of condition status) =
-    decimal (acknowledged_code of) ++ codes " " ++ decimal condition ++ codes " " ++ decimal (transaction_status_code status)
-fields_text (pdu.Nak start end pairs) = decimal start ++ codes " " ++ decimal end ++ flat_map range_text pairs
+    decimal (acknowledged_code of) ++ codes " " ++ decimal condition ++ codes " "
+    ++ decimal (transaction_status_code status)
+fields_text (pdu.Nak start end pairs) = decimal start ++ codes " " ++ decimal end
+    ++ flat_map range_text pairs
 fields_text (pdu.Prompt keep_alive) = if keep_alive then codes "keep" else codes "nak"
 fields_text (pdu.KeepAlive progress) = decimal progress
 
@@ -87,7 +93,8 @@ hex_octet_text octet = hex_digit (octet / 16) ∷ hex_digit (octet % 16) ∷ []
 
 -- an option (5.1.9): its type, and its value
 abbrev pub option_text : Tlv → List ℕ
-option_text t = codes " tlv " ++ hex_octet_text t.kind ++ codes ":" ++ flat_map hex_octet_text t.value
+option_text t = codes " tlv " ++ hex_octet_text t.kind ++ codes ":"
+    ++ flat_map hex_octet_text t.value
 
 -- the entity at which a fault was found (5.4.6), where one is named
 abbrev pub location_text : Option ℕ → List ℕ
@@ -106,7 +113,8 @@ large_word large = if large then codes " large" else codes ""
 abbrev pub long_text : Header → pdus.Pdu → List ℕ
 long_text h p =
     codes " toward " ++ end_word h.toward_sender ++ codes " destination " ++ decimal h.destination
-    ++ large_word h.large ++ location_text (location_of (options_of p)) ++ flat_map option_text (options_of p)
+    ++ large_word h.large ++ location_text (location_of (options_of p))
+    ++ flat_map option_text (options_of p)
 
 -- the line of a PDU, which may be a long one
 abbrev pub pdu_line : Bool → Header → pdus.Pdu → List ℕ
@@ -115,12 +123,14 @@ pdu_line long h p = if long then pdu_text h.id p ++ long_text h p else pdu_text 
 -- a frame with this header and first header pointer
 abbrev pub frame_text : FrameHeader → ℕ → List ℕ
 frame_text h pointer =
-    codes "frame " ++ decimal h.spacecraft ++ codes " " ++ decimal h.channel ++ codes " " ++ decimal h.count ++ codes " " ++ decimal pointer
+    codes "frame " ++ decimal h.spacecraft ++ codes " " ++ decimal h.channel ++ codes " "
+    ++ decimal h.count ++ codes " " ++ decimal pointer
 
 -- the line of a frame: a long one tells too that its count has 28 bits, by the usage flag of the
 -- count cycle (732.0-B-4, 4.1.2.5)
 abbrev pub frame_line : Bool → FrameHeader → ℕ → List ℕ
-frame_line long h pointer = if long && h.cycle then frame_text h pointer ++ codes " cycle" else frame_text h pointer
+frame_line long h pointer = if long && h.cycle then frame_text h pointer ++ codes " cycle"
+    else frame_text h pointer
 
 -- the lines of a text: each ends with a line feed, which the last needs not
 unfoldable pub lines : List ℕ → List (List ℕ)
@@ -159,7 +169,8 @@ TellsAsPdu long octets text = TellsPdu long octets text ⊎ TellsPduFault octets
 
 -- The same, as a frame.
 abbrev pub TellsAsFrame : Bool → ℕ → List ℕ → List ℕ → Type 0
-TellsAsFrame long zone octets text = TellsFrame long zone octets text ⊎ TellsFrameFault zone octets text
+TellsAsFrame long zone octets text = TellsFrame long zone octets text
+    ⊎ TellsFrameFault zone octets text
 
 abbrev pub TellsAs : DumpKind → (long : Bool) → (zone : ℕ) → List ℕ → List ℕ → Type 0
 TellsAs Pdus long zone = TellsAsPdu long
@@ -172,7 +183,8 @@ hex_octets line = result_ok (decode_of line)
 -- This text is written for this line.
 abbrev pub TellsLine : DumpRequest → List ℕ → List ℕ → Type 0
 TellsLine request line text =
-    MatchOption (hex_octets line) (text ≡ refusal_text Hex) (λ octets. TellsAs request.kind request.long request.zone octets text)
+    MatchOption (hex_octets line) (text ≡ refusal_text Hex)
+    (λ octets. TellsAs request.kind request.long request.zone octets text)
 
 -- a text as a line
 abbrev pub as_line : List ℕ → List ℕ
@@ -185,17 +197,21 @@ pub record WritesLine (P : List ℕ → Type 0) (old new : Option (List ℕ)) : 
   pub written : Appends old new (as_line text)
 
 -- For each of these one line was written, in order, whose text belongs to it.
-pub record WritesLines {A : Type 0} (P : A → List ℕ → Type 0) (told : List A) (old new : Option (List ℕ)) : Type 0 where
+pub record WritesLines {A : Type 0} (P : A → List ℕ → Type 0) (told : List A)
+    (old new : Option (List ℕ)) : Type 0 where
   pub texts : List (List ℕ)
   pub each : AllZip P told texts
   pub written : Appends old new (flat_map as_line texts)
 
 -- How a dump ends, by what the reader has left and what the writer holds before and after. Complete
--- says that each line was told. Where the lines couldn't be read, or are too many, nothing is written.
+-- says that each line was told. Where the lines couldn't be read, or are too many, nothing is
+-- written.
 abbrev pub EndsDump : DumpRequest → (left old new : Option (List ℕ)) → Exit → Type 0
-EndsDump request left old new Complete = IfSome left (λ text. WritesLines (TellsLine request) (lines text) old new)
+EndsDump request left old new Complete =
+    IfSome left (λ text. WritesLines (TellsLine request) (lines text) old new)
 EndsDump request left old new (Device Unwritable) = ⊤
 EndsDump request left old new (Device NoMemory) = ⊤
-EndsDump request left old new (Device TooLong) = IfSome left (λ text. 1048576 < length text) × Keeps old new
+EndsDump request left old new (Device TooLong) = IfSome left (λ text. 1048576 < length text)
+    × Keeps old new
 EndsDump request left old new (Device fault) = Keeps old new
 EndsDump request left old new _ = ⊥

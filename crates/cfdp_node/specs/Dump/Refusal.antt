@@ -19,4 +19,5 @@ refusal_name (Frame e) = frames.refusal_name e
 
 -- the line that tells it
 abbrev pub refusal_text : Refusal → List ℕ
-refusal_text refusal = codes "error " ++ decimal (refusal_number refusal) ++ codes " " ++ refusal_name refusal
+refusal_text refusal = codes "error " ++ decimal (refusal_number refusal) ++ codes " "
+    ++ refusal_name refusal

@@ -34,11 +34,13 @@ drop_rule = number_rule (codes "drop") 0 1000000 (codes "0")
 
 abbrev pub folders_app : App
 folders_app =
-    with_rule (with_rule (new_app (codes "loop")) (place_rule (codes "from"))) (place_rule (codes "to"))
+    with_rule (with_rule (new_app (codes "loop")) (place_rule (codes "from")))
+    (place_rule (codes "to"))
 
 abbrev pub files_app : App
 files_app =
-    with_rule (with_rule folders_app (place_rule (codes "source"))) (place_rule (codes "destination"))
+    with_rule (with_rule folders_app (place_rule (codes "source")))
+    (place_rule (codes "destination"))
 
 abbrev pub numbers_app : App
 numbers_app = with_rule (with_rule files_app turns_rule) drop_rule
@@ -62,14 +64,16 @@ pub record LoopAsked : Type 0 where
 -- the number in a range that decimal digits spell, which a plus sign may begin
 abbrev pub number_of_word : (low high : ℕ) → Text → Option ℕ
 number_of_word low high word =
-    if is_unsigned_in low high word then Some (digits_value 10 (without_leading_plus word)) else None
+    if is_unsigned_in low high word then Some (digits_value 10 (without_leading_plus word))
+    else None
 
 abbrev pub number_in : (name : Text) (low high : ℕ) → List Row → Option ℕ
 number_in name low high rows = option_and_then (number_of_word low high) (first_of name rows)
 
 abbrev pub loop_of : List Row → Option LoopAsked
 loop_of rows =
-    option_and_then (λ from. option_and_then (λ to. option_and_then (λ source. option_and_then (λ destination.
+    option_and_then (λ from. option_and_then
+    (λ to. option_and_then (λ source. option_and_then (λ destination.
     option_and_then (λ turns. option_map (λ drop_every. record {
       from = from;
       to = to;

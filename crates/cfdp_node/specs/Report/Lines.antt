@@ -23,14 +23,18 @@ abbrev pub told_text : Indication → List ℕ
 told_text (Transaction id) = codes "transaction " ++ id_text id
 told_text (EofSent id) = codes "eof-sent " ++ id_text id
 told_text (MetadataRecv id source destination size) =
-    codes "metadata " ++ id_text id ++ codes " " ++ flat_map printed_octet source ++ codes " " ++ flat_map printed_octet destination ++ codes " " ++ decimal size
+    codes "metadata " ++ id_text id ++ codes " " ++ flat_map printed_octet source ++ codes " "
+    ++ flat_map printed_octet destination ++ codes " " ++ decimal size
 told_text (EofRecv id) = codes "eof-recv " ++ id_text id
 told_text (Finished id condition delivery status) =
-    codes "finished " ++ id_text id ++ codes " " ++ decimal condition ++ codes " " ++ delivery_word delivery ++ codes " " ++ status_word status
-told_text (Suspended id condition) = codes "suspended " ++ id_text id ++ codes " " ++ decimal condition
+    codes "finished " ++ id_text id ++ codes " " ++ decimal condition ++ codes " "
+    ++ delivery_word delivery ++ codes " " ++ status_word status
+told_text (Suspended id condition) = codes "suspended " ++ id_text id ++ codes " "
+    ++ decimal condition
 told_text (Resumed id) = codes "resumed " ++ id_text id
 told_text (Fault id condition) = codes "fault " ++ id_text id ++ codes " " ++ decimal condition
-told_text (Abandoned id condition) = codes "abandoned " ++ id_text id ++ codes " " ++ decimal condition
+told_text (Abandoned id condition) = codes "abandoned " ++ id_text id ++ codes " "
+    ++ decimal condition
 told_text (Progress id octets) = codes "progress " ++ id_text id ++ codes " " ++ decimal octets
 
 -- what station S tells its user

@@ -41,10 +41,13 @@ before (step ∷ steps) a b = b
 
 abbrev pub taken : Gathered → ℕ → Option Line → Gathered
 taken g number None = noted g number
-taken g number (Some (line.Command command)) = record g { steps = g.steps ++ record { line = number; command = command } ∷ [] }
-taken g number (Some (line.File file)) = before g.steps (record g { files = g.files ++ file ∷ [] }) (noted g number)
+taken g number (Some (line.Command command)) =
+    record g { steps = g.steps ++ record { line = number; command = command } ∷ [] }
+taken g number (Some (line.File file)) =
+    before g.steps (record g { files = g.files ++ file ∷ [] }) (noted g number)
 taken g number (Some (line.Set setting value)) =
-    before g.steps (record g { settings = set_value g.settings setting value; last = number }) (noted g number)
+    before g.steps (record g { settings = set_value g.settings setting value; last = number })
+    (noted g number)
 
 abbrev pub read_into : Gathered → ℕ → List ℕ → Gathered
 read_into g number text = if is_skipped text then g else taken g number (line_of text)

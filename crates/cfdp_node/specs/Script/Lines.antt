@@ -33,7 +33,8 @@ is octets word = pointwise nat_eq octets word
 
 -- a station: the number 1 or 2
 abbrev pub station_of : List ℕ → Option Side
-station_of word = option_and_then (λ number. if number == 1 then Some One else if number == 2 then Some Two else None) (number_of word)
+station_of word = option_and_then (λ number. if number == 1 then Some One
+    else if number == 2 then Some Two else None) (number_of word)
 
 -- what two things mean together, where each means something
 abbrev pub both : {A B C : Type 0} → (A → B → C) → Option A → Option B → Option C
@@ -42,7 +43,8 @@ both f (Some a) b = option_map (f a) b
 
 -- a transaction: two numbers with a colon between
 abbrev pub id_of_parts : List (List ℕ) → Option TransactionId
-id_of_parts (source ∷ number ∷ []) = both (λ s n. record { source = s; number = n }) (number_of source) (number_of number)
+id_of_parts (source ∷ number ∷ []) =
+    both (λ s n. record { source = s; number = n }) (number_of source) (number_of number)
 id_of_parts _ = None
 
 abbrev pub id_of : List ℕ → Option TransactionId
@@ -50,7 +52,8 @@ id_of word = id_of_parts (parts 58 word)
 
 -- whether a prompt asks for a Keep Alive, or else for a NAK
 abbrev pub asked_of : List ℕ → Option Bool
-asked_of word = if is word (codes "nak") then Some false else if is word (codes "keep") then Some true else None
+asked_of word = if is word (codes "nak") then Some false
+    else if is word (codes "keep") then Some true else None
 
 abbrev pub handler_key : List ℕ → Option Setting
 handler_key word =
@@ -96,20 +99,24 @@ transaction_words words = option_and_then (λ w. transaction_at w.0 w.1) (two_of
 
 -- a station and a number
 abbrev pub number_words : List (List ℕ) → Option (Side × ℕ)
-number_words words = option_and_then (λ w. both (λ at n. (at, n)) (station_of w.0) (number_of w.1)) (two_of words)
+number_words words = option_and_then (λ w. both (λ at n. (at, n)) (station_of w.0) (number_of w.1))
+    (two_of words)
 
 -- a station and how often: once where no number stands there
 abbrev pub count_words : List (List ℕ) → Option (Side × ℕ)
-count_words words = option_or (option_map (λ at. (at, 1)) (station_words words)) (number_words words)
+count_words words = option_or (option_map (λ at. (at, 1)) (station_words words))
+    (number_words words)
 
 -- `put S SRC DST`
 abbrev pub put_of : List (List ℕ) → Option Command
-put_of words = option_and_then (λ w. option_map (λ at. Once (event.Put at w.1 w.2)) (station_of w.0)) (three_of words)
+put_of words = option_and_then (λ w. option_map (λ at. Once (event.Put at w.1 w.2))
+    (station_of w.0)) (three_of words)
 
 -- `prompt S ID nak`, `prompt S ID keep`
 abbrev pub prompt_of : List (List ℕ) → Option Command
 prompt_of words =
-    option_and_then (λ w. both (λ of keep_alive. Once (event.Prompt of.0 of.1 keep_alive)) (transaction_at w.0 w.1) (asked_of w.2)) (three_of words)
+    option_and_then (λ w. both (λ of keep_alive. Once (event.Prompt of.0 of.1 keep_alive))
+    (transaction_at w.0 w.1) (asked_of w.2)) (three_of words)
 
 -- a command without words behind it
 abbrev pub alone : Command → List (List ℕ) → Option Command
@@ -128,18 +135,25 @@ round_of verb words =
 abbrev pub motion_of : List ℕ → List (List ℕ) → Option Command
 motion_of verb words =
     if is verb (codes "poll") then option_map (λ at. Once (event.Poll at)) (station_words words)
-    else if is verb (codes "flush") then option_map (λ at. Once (event.Flush at)) (station_words words)
-    else if is verb (codes "tick") then option_map (λ w. Once (event.Tick w.0 w.1)) (number_words words)
-    else if is verb (codes "deliver") then option_map (λ w. Repeat (event.Deliver w.0) w.1) (count_words words)
-    else if is verb (codes "strike") then option_map (λ w. Repeat (event.Strike w.0) w.1) (count_words words)
+    else if is verb (codes "flush") then option_map (λ at. Once (event.Flush at))
+    (station_words words)
+    else if is verb (codes "tick") then option_map (λ w. Once (event.Tick w.0 w.1))
+    (number_words words)
+    else if is verb (codes "deliver")
+    then option_map (λ w. Repeat (event.Deliver w.0) w.1) (count_words words)
+    else if is verb (codes "strike")
+    then option_map (λ w. Repeat (event.Strike w.0) w.1) (count_words words)
     else round_of verb words
 
 -- these, and what a station's user asks of a transaction
 abbrev pub call_of : List ℕ → List (List ℕ) → Option Command
 call_of verb words =
-    if is verb (codes "cancel") then option_map (λ w. Once (event.Cancel w.0 w.1)) (transaction_words words)
-    else if is verb (codes "suspend") then option_map (λ w. Once (event.Suspend w.0 w.1)) (transaction_words words)
-    else if is verb (codes "resume") then option_map (λ w. Once (event.Resume w.0 w.1)) (transaction_words words)
+    if is verb (codes "cancel") then option_map (λ w. Once (event.Cancel w.0 w.1))
+    (transaction_words words)
+    else if is verb (codes "suspend")
+    then option_map (λ w. Once (event.Suspend w.0 w.1)) (transaction_words words)
+    else if is verb (codes "resume")
+    then option_map (λ w. Once (event.Resume w.0 w.1)) (transaction_words words)
     else if is verb (codes "prompt") then prompt_of words
     else motion_of verb words
 
@@ -157,16 +171,20 @@ file_line name contents at = line.File (record { at = at; name = name; contents 
 -- `file S NAME TEXT`
 abbrev pub file_of : List (List ℕ) → Option Line
 file_of words =
-    option_and_then (λ station. option_and_then (λ name. both (λ octets. file_line name.0 (Text octets)) (text_of name.1) (station_of station.0)) (next_word station.1)) (next_word words)
+    option_and_then (λ station. option_and_then
+    (λ name. both (λ octets. file_line name.0 (Text octets)) (text_of name.1)
+    (station_of station.0)) (next_word station.1)) (next_word words)
 
 -- so many times an octet: at most 1,048,576
 abbrev pub fill_count : List ℕ → Option ℕ
-fill_count word = option_and_then (λ count. if nat_le count 1048576 then Some count else None) (number_of word)
+fill_count word = option_and_then (λ count. if nat_le count 1048576 then Some count else None)
+    (number_of word)
 
 -- `fill S NAME N HH`
 abbrev pub fill_of : List (List ℕ) → Option Line
 fill_of words =
-    option_and_then (λ w. both (file_line w.1) (both Fill (fill_count w.2) (octet_of w.3)) (station_of w.0)) (four_of words)
+    option_and_then (λ w. both (file_line w.1) (both Fill (fill_count w.2) (octet_of w.3))
+    (station_of w.0)) (four_of words)
 
 -- ---- what a line means
 
@@ -183,7 +201,8 @@ meaning words = option_and_then (λ w. verb_meaning w.0 w.1) (next_word words)
 -- A line that is to be read has at most 4,096 octets, all of them ASCII. Its words mean something.
 abbrev pub line_of : List ℕ → Option Line
 line_of text =
-    if nat_le (length text) 4096 && list_all (λ octet. nat_lt octet 128) text then meaning (words_of text) else None
+    if nat_le (length text) 4096 && list_all (λ octet. nat_lt octet 128) text
+    then meaning (words_of text) else None
 
 -- What was read is what this means. Where there was no memory nothing is said.
 abbrev pub Reads : {A : Type 0} → Result A Unread → Option A → Type 0
@@ -208,7 +227,8 @@ is_skipped [] = true
 is_skipped (octet ∷ rest) = octet == 35
 
 abbrev pub read_line : ℕ × List ℕ → Option ReadLine
-read_line numbered_line = if is_skipped numbered_line.1 then None else Some (numbered_line.0, line_of numbered_line.1)
+read_line numbered_line = if is_skipped numbered_line.1 then None
+    else Some (numbered_line.0, line_of numbered_line.1)
 
 -- the lines of a script, which stand between its line feeds; the first is line 1
 abbrev pub lines_of : List ℕ → List ReadLine
@@ -235,7 +255,8 @@ first_where test (l ∷ rest) = if test l.1 then Some l.0 else first_where test 
 
 -- A line is misread that means nothing, or that is no command and stands behind one.
 abbrev pub misread : List ReadLine → Option ℕ
-misread all = option_or (first_where is_none (front all)) (first_where (λ meant. not (is_command meant)) (behind all))
+misread all = option_or (first_where is_none (front all))
+    (first_where (λ meant. not (is_command meant)) (behind all))
 
 abbrev pub file_in : Option Line → Option FileLine
 file_in (Some (line.File file)) = Some file
@@ -310,7 +331,8 @@ earlier (Some number) last = min number last
 -- settings are not valid after it, whichever comes earlier. A `set` that is misread isn't the last.
 abbrev pub IsFirst : Option ℕ → ℕ → Settings → Option ℕ → Type 0
 IsFirst wrong last s None = (wrong ≡ None) × AreValid s
-IsFirst wrong last s (Some number) = ((wrong ≡ Some number) × AreValid s) ⊎ ((number ≡ earlier wrong last) × (AreValid s → ⊥))
+IsFirst wrong last s (Some number) = ((wrong ≡ Some number) × AreValid s)
+    ⊎ ((number ≡ earlier wrong last) × (AreValid s → ⊥))
 
 abbrev pub IsFirstBad : List ℕ → Option ℕ → Type 0
 IsFirstBad text first = IsFirst (first_misread text) (last_set text) (settings_of text) first

@@ -8,11 +8,13 @@ use Rattle.std.specs.Str.Parse.{digits_value}
 abbrev pub numeral_of : ℕ → List ℕ → Option ℕ
 numeral_of radix [] = None
 numeral_of radix (digit ∷ rest) =
-    if list_all (λ octet. is_digit octet radix) (digit ∷ rest) then Some (digits_value radix (digit ∷ rest)) else None
+    if list_all (λ octet. is_digit octet radix) (digit ∷ rest)
+    then Some (digits_value radix (digit ∷ rest)) else None
 
 -- a number: decimal digits, and below 2^64
 abbrev pub number_of : List ℕ → Option ℕ
-number_of word = option_and_then (λ number. if nat_lt number (2 ^ 64) then Some number else None) (numeral_of 10 word)
+number_of word = option_and_then (λ number. if nat_lt number (2 ^ 64) then Some number else None)
+    (numeral_of 10 word)
 
 -- an octet: two hexadecimal digits, in either case
 abbrev pub octet_of : List ℕ → Option ℕ

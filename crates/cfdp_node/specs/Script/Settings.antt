@@ -43,7 +43,8 @@ FitLimits s = (s.eof_limit < 256) × (s.nak_limit < 256) × (s.finished_limit < 
 
 abbrev pub FitTimes : Settings → Type 0
 FitTimes s =
-    (s.eof_time < 2 ^ 32) × (s.nak_time < 2 ^ 32) × (s.finished_time < 2 ^ 32) × (s.inactivity_time < 2 ^ 32)
+    (s.eof_time < 2 ^ 32) × (s.nak_time < 2 ^ 32) × (s.finished_time < 2 ^ 32)
+    × (s.inactivity_time < 2 ^ 32)
 
 abbrev pub FitHandlers : Settings → Type 0
 FitHandlers s = (s.on_ack_limit < 4) × (s.on_nak_limit < 4) × (s.on_inactivity < 4)
@@ -52,7 +53,8 @@ abbrev pub FitPolicy : Settings → Type 0
 FitPolicy s = FitLimits s × FitTimes s × FitHandlers s
 
 abbrev pub FitSending : Settings → Type 0
-FitSending s = (s.id_width < 256) × (s.number_width < 256) × (s.segment < 2 ^ 16) × (s.checksum < 16)
+FitSending s = (s.id_width < 256) × (s.number_width < 256) × (s.segment < 2 ^ 16)
+    × (s.checksum < 16)
 
 -- Each value fits its field. A number of a put is any u64.
 abbrev pub FitFields : Settings → Type 0
@@ -64,16 +66,28 @@ abbrev pub limits_of : Settings → Limits
 limits_of s = record { eof = s.eof_limit; nak = s.nak_limit; finished = s.finished_limit }
 
 abbrev pub times_of : Settings → Times
-times_of s = record { eof = s.eof_time; nak = s.nak_time; finished = s.finished_time; inactivity = s.inactivity_time }
+times_of s = record {
+  eof = s.eof_time;
+  nak = s.nak_time;
+  finished = s.finished_time;
+  inactivity =
+      s.inactivity_time;
+}
 
 -- what the number 0, 1, 2 or 3 stands for
 abbrev pub handler_of : ℕ → Handler
 handler_of number =
-    if number == 0 then does.Cancel else if number == 1 then does.Suspend else if number == 2 then does.Ignore else does.Abandon
+    if number == 0 then does.Cancel else if number == 1 then does.Suspend
+    else if number == 2 then does.Ignore else does.Abandon
 
 abbrev pub handlers_of : Settings → Handlers
 handlers_of s =
-    record { ack = handler_of s.on_ack_limit; nak = handler_of s.on_nak_limit; inactivity = handler_of s.on_inactivity }
+    record {
+      ack = handler_of s.on_ack_limit;
+      nak = handler_of s.on_nak_limit;
+      inactivity =
+          handler_of s.on_inactivity;
+    }
 
 abbrev pub policy_of : Settings → Policy
 policy_of s = record { limits = limits_of s; times = times_of s; handlers = handlers_of s }

@@ -24,7 +24,8 @@ use Rattle.cfdp_node.specs.declared.script.Step.{Step}
 -- The script is good. From the first world of its settings and its files its commands ran to the
 -- last of them, and what was written is the report of the world that they left. In that world each
 -- inbox holds the files of the puts whose completions were told there, one written over the other
--- in their order, and nothing else. Where all is settled in it, nothing went wrong and every put was
+-- in their order, and nothing else. Where all is settled in it, nothing went wrong and every put
+-- was
 -- accepted, as many puts were completed as the script asks for.
 pub record RunsToEnd (text : List ℕ) (exit : Exit) (old new : Option (List ℕ)) : Type 0 where
   pub good : IsFirstBad text None
@@ -37,7 +38,8 @@ pub record RunsToEnd (text : List ℕ) (exit : Exit) (old new : Option (List ℕ
       → AreAccepted (steps_of text) ran.answered
       → puts_completed ran.last ≡ puts_asked (steps_of text)
 
--- A run ended so at this text. It was read, so there is nothing to read that could fail. Of a report
+-- A run ended so at this text. It was read, so there is nothing to read that could fail. Of a
+-- report
 -- that couldn't be written to its end nothing is said.
 abbrev pub EndsText : Exit → List ℕ → (old new : Option (List ℕ)) → Type 0
 EndsText Complete text old new = RunsToEnd text Complete old new
@@ -70,7 +72,8 @@ EndsFrom exit config files steps old new =
     × IsFirst config (outbox_of One files, outbox_of Two files) (empty, empty) first
     × EndsRun exit steps first old new)
 
--- Reading ended with this fault, where a reader had this left: a read failed, there was no memory, or
+-- Reading ended with this fault, where a reader had this left: a read failed, there was no memory,
+-- or
 -- there was too much of it.
 abbrev pub EndsReading : Fault → Option (List ℕ) → Type 0
 EndsReading Unreadable left = ⊤

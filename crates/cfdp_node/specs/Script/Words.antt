@@ -12,7 +12,8 @@ onto_first octet (part ∷ rest) = (octet ∷ part) ∷ rest
 -- the parts of a text between the separators in it, which are one fewer
 unfoldable pub parts : ℕ → List ℕ → List (List ℕ)
 parts separator [] = [] ∷ []
-parts separator (octet ∷ rest) = if octet == separator then [] ∷ parts separator rest else onto_first octet (parts separator rest)
+parts separator (octet ∷ rest) = if octet == separator then [] ∷ parts separator rest
+    else onto_first octet (parts separator rest)
 
 -- The words of a line stand between its spaces. One is empty where two spaces stand together, or
 -- one begins or ends the line.
@@ -39,13 +40,16 @@ abbrev pub one_of : List (List ℕ) → Option (List ℕ)
 one_of words = option_and_then (λ w. option_map (λ _. w.0) (nothing_of w.1)) (next_word words)
 
 abbrev pub two_of : List (List ℕ) → Option (List ℕ × List ℕ)
-two_of words = option_and_then (λ w. option_map (λ second. (w.0, second)) (one_of w.1)) (next_word words)
+two_of words = option_and_then (λ w. option_map (λ second. (w.0, second)) (one_of w.1))
+    (next_word words)
 
 abbrev pub three_of : List (List ℕ) → Option (List ℕ × List ℕ × List ℕ)
-three_of words = option_and_then (λ w. option_map (λ more. (w.0, more.0, more.1)) (two_of w.1)) (next_word words)
+three_of words = option_and_then (λ w. option_map (λ more. (w.0, more.0, more.1)) (two_of w.1))
+    (next_word words)
 
 abbrev pub four_of : List (List ℕ) → Option (List ℕ × List ℕ × List ℕ × List ℕ)
-four_of words = option_and_then (λ w. option_map (λ more. (w.0, more.0, more.1, more.2)) (three_of w.1)) (next_word words)
+four_of words = option_and_then (λ w. option_map (λ more. (w.0, more.0, more.1, more.2))
+    (three_of w.1)) (next_word words)
 
 -- ---- a text: the rest of a line, spaces and all, where it has an octet at least
 

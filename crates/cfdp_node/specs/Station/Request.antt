@@ -46,7 +46,8 @@ names_app = with_rule (with_rule (new_app (codes "station")) (said_number_rule (
     (said_number_rule (codes "peer"))
 
 abbrev pub addresses_app : App
-addresses_app = with_rule (with_rule names_app (said_rule (codes "listen"))) (said_rule (codes "to"))
+addresses_app = with_rule (with_rule names_app (said_rule (codes "listen")))
+    (said_rule (codes "to"))
 
 abbrev pub own_numbers_app : App
 own_numbers_app = with_rule (with_rule (with_rule (with_rule addresses_app
@@ -54,7 +55,8 @@ own_numbers_app = with_rule (with_rule (with_rule (with_rule addresses_app
     (tuned_rule (codes "rate") (codes "1000"))) drop_rule
 
 abbrev pub stores_app : App
-stores_app = with_rule (with_rule own_numbers_app (file_rule (codes "inbox"))) (file_rule (codes "outbox"))
+stores_app = with_rule (with_rule own_numbers_app (file_rule (codes "inbox")))
+    (file_rule (codes "outbox"))
 
 abbrev pub lists_app : App
 lists_app = with_rule (with_rule stores_app (pairs_rule (codes "put"))) (pairs_rule (codes "set"))

@@ -91,7 +91,8 @@ module _ {W : Type 0} (Steps : W → WireCall → W → Type 0) where
     pub left : new.left ≡ sent.left
 
   module _ (silent : W → Bool) (ids : List TransactionId) (every : ℕ) where
-    -- All transactions of its puts are closed, and the wire has been silent for as long as it should.
+    -- All transactions of its puts are closed, and the wire has been silent for as long as it
+    -- should.
     abbrev pub IsOver : Sending W → Type 0
     IsOver s = (silent s.wire ≡ true) × (list_all (is_closed_at s.station) ids ≡ true)
 
@@ -144,7 +145,8 @@ station_exit short failed complete asked = if short then Device NoMemory
 -- ---- the whole
 module _ {W : Type 0} (Steps : W → WireCall → W → Type 0) (silent : W → Bool) (own every : ℕ)
     (puts : List PutNames) where
-  -- The puts were made, turns followed, and what was written tells of both. Memory was wanting where
+  -- The puts were made, turns followed, and what was written tells of both. Memory was wanting
+  -- where
   -- it was for a put or for a turn.
   pub record Serves (short : Bool) (first last : Sending W) (old new : Option (List ℕ)) : Type 0
     where

@@ -13,7 +13,8 @@ use Rattle.cfdp_node.specs.declared.watch.sighting.Sighting.{Sighting}
 
 -- letters, digits, spaces, line feeds and the signs % + - . / : = _ stand as they are
 abbrev pub is_drawn : ℕ → Bool
-is_drawn octet = is_ascii_alphanumeric octet || list_any (λ sign. octet == sign) (codes " %+-./:=_\n")
+is_drawn octet = is_ascii_alphanumeric octet || list_any (λ sign. octet == sign)
+    (codes " %+-./:=_\n")
 
 -- any other octet, in which Mermaid could see a sign of its own, by its number between # and ;
 abbrev pub drawn_octet : ℕ → List ℕ
@@ -44,7 +45,8 @@ arrow Two Tells = codes "Note over S2: "
 pub record ChartsSighting (zone : ℕ) (s : Sighting) (text : List ℕ) : Type 0 where
   pub deed : List ℕ
   pub tells : TellsDeed zone s deed
-  pub whole : text ≡ arrow s.station s.deed ++ decimal s.step ++ codes "." ++ decimal s.event ++ codes " " ++ flat_map drawn_octet deed
+  pub whole : text ≡ arrow s.station s.deed ++ decimal s.step ++ codes "." ++ decimal s.event
+      ++ codes " " ++ flat_map drawn_octet deed
 
 -- a chart has so many lines of the trace at the most
 abbrev pub most_lines : ℕ
@@ -57,7 +59,8 @@ head_text = codes "sequenceDiagram\nparticipant S1 as station 1\nparticipant S2 
 abbrev pub rest_text : ℕ → List ℕ
 rest_text lines =
     if nat_le lines most_lines then []
-    else codes "Note over S1,S2: " ++ (decimal (lines - most_lines) ++ codes " lines of the trace are left out\n")
+    else codes "Note over S1,S2: " ++
+    (decimal (lines - most_lines) ++ codes " lines of the trace are left out\n")
 
 -- What was written is the chart of these: its head, one line for each of the first ones in their
 -- order, and how many are left out.

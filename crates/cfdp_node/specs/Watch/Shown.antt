@@ -23,7 +23,8 @@ with_told app = with_rule (with_rule app (flag_rule (codes "explain"))) (flag_ru
 
 -- and with what goes to files, a capture and a chart
 abbrev pub with_shown : App → App
-with_shown app = with_rule (with_rule (with_told app) (file_rule (codes "pcap"))) (file_rule (codes "chart"))
+with_shown app = with_rule (with_rule (with_told app) (file_rule (codes "pcap")))
+    (file_rule (codes "chart"))
 
 -- ---- what is asked for
 

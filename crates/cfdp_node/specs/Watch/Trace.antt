@@ -17,7 +17,8 @@ deed_word Ticks = codes "ticks"
 deed_word Drops = codes "drops"
 deed_word Tells = codes "tells"
 
--- Behind that word stands what a dump says of the frame or the PDU. Of the time, of a drop and of an
+-- Behind that word stands what a dump says of the frame or the PDU. Of the time, of a drop and of
+-- an
 -- indication the words were noted.
 abbrev pub TellsWords : Deed → (zone : ℕ) → List ℕ → List ℕ → Type 0
 TellsWords SendsFrame zone octets = TellsAsFrame false zone octets
@@ -37,7 +38,8 @@ pub record TellsDeed (zone : ℕ) (s : Sighting) (text : List ℕ) : Type 0 wher
 
 -- the line of the script and the number of the event, with a point between, and the station
 abbrev pub sighting_front : Sighting → List ℕ
-sighting_front s = decimal s.step ++ codes "." ++ decimal s.event ++ codes " " ++ decimal (entity_of s.station) ++ codes " "
+sighting_front s = decimal s.step ++ codes "." ++ decimal s.event ++ codes " "
+    ++ decimal (entity_of s.station) ++ codes " "
 
 -- The line of a sighting: behind that, what the station did.
 pub record TellsSighting (zone : ℕ) (s : Sighting) (text : List ℕ) : Type 0 where

@@ -1,4 +1,5 @@
--- Wires that lose frames, or bring them in the order in which they were sent; and what two stations are
+-- Wires that lose frames, or bring them in the order in which they were sent; and what two stations
+-- are
 -- then that were joined by such wires.
 use Rattle.std.specs.Prelude.{◌≡◌, ℕ, zero, suc, ◌+◌, ◌<◌, List, [], ◌∷◌, ◌++◌, length, slice_index_or, Option, Some, Result, Ok}
 use Rattle.aos_frame.specs.Counts.{frame_counts}
@@ -75,7 +76,8 @@ module _ {W : Type 0} (Steps : W → WireCall → W → Type 0) where
   abbrev pub PassInOrder : (id : TransactionId) → (every count : ℕ) → (old new : LoopState W)
       → Turns Steps id every count old new → Passage → Type 0
   PassInOrder id every zero old new same passed = passed ≡ nothing_passed
-  PassInOrder id every (suc count) old new (mid, before, unclosed, turn) passed = (earlier : Passage)
+  PassInOrder id every (suc count) old new (mid, before, unclosed, turn) passed =
+      (earlier : Passage)
       × PassInOrder id every count old mid before earlier
       × PassesInOrder every (count + 1) mid new turn earlier passed
 

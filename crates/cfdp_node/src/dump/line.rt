@@ -176,7 +176,7 @@ fn end_word(toward_sender: bool) -> &'static str
 
 /// The word for a PDU of a large file, with a space before it.
 fn large_word(large: bool) -> &'static str
-    ensures { result.now ≡ Rattle.cfdp_node.specs.Dump.large_word large }
+    ensures { result.now ≡ Rattle.cfdp_node.specs.Dump.Lines.large_word large }
 {
     if large { " large" } else { "" }
 }

@@ -72,7 +72,8 @@ fn told_command<'a>(alloc: Global, command: Command<'a>) -> Result<Command<'a>, 
 ///
 /// `AllocError` where there is no memory for the files' names.
 pub fn shown_by(alloc: Global, arguments: &ArgMatches<'_>) -> Result<Shown, AllocError>
-    ensures { IfOk result (λ shown. asked_shown shown ≡ shown_of (rows_of (found_of arguments.now))) }
+    ensures { IfOk result (λ shown. asked_shown shown
+        ≡ shown_of (rows_of (found_of arguments.now))) }
 {
     Ok(Shown {
         explain: is_given(arguments, "explain"),

@@ -84,7 +84,8 @@ so-far : (from upto : Event) (old new : WorldState) → OnSoFar from upto old ne
 so-far from upto old new (inl e) = inl e
 so-far from upto old new (inr on) = inr on.well
 
-far-then : (from mid upto : Event) (a b c : WorldState) → ((b ≡ a) × (mid ≡ from)) ⊎ GoesWellFrom from mid a b → ((c ≡ b) × (upto ≡ mid)) ⊎ GoesWellFrom mid upto b c → ((c ≡ a) × (upto ≡ from)) ⊎ GoesWellFrom from upto a c
+far-then : (from mid upto : Event) (a b c : WorldState) → ((b ≡ a) × (mid ≡ from)) ⊎ GoesWellFrom from mid a b → ((c ≡ b) × (upto ≡ mid)) ⊎ GoesWellFrom mid upto b c → ((c ≡ a) × (upto ≡ from))
+    ⊎ GoesWellFrom from upto a c
 far-then from mid upto a b c (inl d) (inl e) = inl (e.0 ∙ d.0, e.1 ∙ d.1)
 far-then from mid upto a b c (inr one) (inl e) = inr (subst (λ (w : WorldState). GoesWellFrom from upto a w) (sym e.0) (subst (λ (g : Event). GoesWellFrom from g a b) (sym e.1) one))
 far-then from mid upto a b c (inl d) (inr two) = inr (subst (λ (w : WorldState). GoesWellFrom from upto w c) d.0 (subst (λ (g : Event). GoesWellFrom g upto b c) d.1 two))
@@ -95,7 +96,13 @@ pub cause-here : (error : SettleError) (from e : Event) (a b c : WorldState) →
 cause-here error from e a b c well ends = record { last = b; event = e; well = so-far from e a b well; ends = ends }
 
 pub cause-then : (error : SettleError) (from mid : Event) (a b c : WorldState) → OnSoFar from mid a b → HasCauseFrom mid error b c → HasCauseFrom from error a c
-cause-then error from mid a b c well cause = record { last = cause.last; event = cause.event; well = far-then from mid cause.event a b cause.last (so-far from mid a b well) cause.well; ends = cause.ends }
+cause-then error from mid a b c well cause = record {
+  last = cause.last;
+  event = cause.event;
+  well = far-then from mid cause.event a b cause.last (so-far from mid a b well) cause.well;
+  ends =
+      cause.ends;
+}
 
 -- Poll, flush and delivery are never refused.
 pub not-refused : (e : Event) (by : Refusal) (old new : WorldState) → IsOfSettling e → Steps e (did.Refused by) old new → ⊥
@@ -152,7 +159,8 @@ any-true false false false (inr (inl e)) = absurd (let w : false ≡ true = e.1 
 any-true false false false (inr (inr e)) = absurd (let w : false ≡ true = e.2 in cc)
 
 -- a round in which nothing happened
-pub round-settled : (a b c d e : WorldState) → b ≡ a → c ≡ b → d ≡ c → e ≡ d → HasSent One b → HasSent Two c → Steps (event.Deliver One) did.Nothing d d → Steps (event.Deliver Two) did.Nothing e e → ((s : Side) → NoneWhole s e) → IsSettled e
+pub round-settled : (a b c d e : WorldState) → b ≡ a → c ≡ b → d ≡ c → e ≡ d → HasSent One b → HasSent Two c → Steps (event.Deliver One) did.Nothing d d → Steps (event.Deliver Two) did.Nothing e e →
+    ((s : Side) → NoneWhole s e) → IsSettled e
 round-settled a b c d e ab bc cd de one two from_one from_two whole =
     let eb : e ≡ b = de ∙ cd ∙ bc in
     let ec : e ≡ c = de ∙ cd in
@@ -164,6 +172,7 @@ round-settled a b c d e ab bc cd de one two from_one from_two whole =
     (record { rests = sent_two.0; none_whole = whole Two; filled = sent_two.1; none_waits = from_two.0 })
 
 -- a flush leaves an entity as it was, also one of which nothing is due
-pub flushed-rests : (moved : Bool) (s : Side) (old new : WorldState) → (moved ≡ true → Flushes did.Applied s old new) → (moved ≡ false → Flushes did.Nothing s old new) → turn (entity_at s old) ≡ Rests → turn (entity_at s new) ≡ Rests
+pub flushed-rests : (moved : Bool) (s : Side) (old new : WorldState) → (moved ≡ true → Flushes did.Applied s old new) → (moved ≡ false → Flushes did.Nothing s old new) → turn (entity_at s old)
+    ≡ Rests → turn (entity_at s new) ≡ Rests
 flushed-rests true s old new applied idle h = subst (λ (e : EntityState). turn e ≡ Rests) (sym (ap (λ x. x.state) (applied refl).0.entity)) h
 flushed-rests false s old new applied idle h = subst (λ (w : WorldState). turn (entity_at s w) ≡ Rests) (sym (idle refl).1) h

@@ -90,7 +90,8 @@ entry-there [] n low = absurd (omega (arith, low))
 entry-there (x ∷ xs) zero low = (x, refl)
 entry-there (x ∷ xs) (suc n) low = entry-there xs n (omega (arith, low))
 
-phase-by : (id : TransactionId) (st : TableState) (s : Seen) → IsDistinct same_id (keys_of st.records) → record_of id st.records ≡ Some s → (o : Option ℕ) → place_of id st.records ≡ o → phase_by o st ≡ Some (phase_of s)
+phase-by : (id : TransactionId) (st : TableState) (s : Seen) → IsDistinct same_id (keys_of st.records) → record_of id st.records ≡ Some s → (o : Option ℕ) → place_of id st.records ≡ o → phase_by o st
+    ≡ Some (phase_of s)
 phase-by id st s apart found None at = absurd (let none : record_of id st.records ≡ None = (no-record st.records id at).0 in let e : Some s ≡ None = sym found ∙ none in cc)
 phase-by id st s apart found (Some place) at =
     let stands : StandsAt id st.records s = stands-at id st.records s found in
@@ -117,7 +118,8 @@ tells-is id (indication.Finished of condition delivery status) is =
     let parts = and-parts (same_id id of) (is_complete condition delivery status) is in
     let own : id ≡ of = same_id-is id of parts.0 in
     let c = so condition delivery status parts.1 in
-    ap (λ q. indication.Finished q condition delivery status) (sym own) ∙ ap (λ n. indication.Finished id n delivery status) c.0 ∙ ap (λ d. indication.Finished id no_error d status) c.1 ∙ ap (λ t. indication.Finished id no_error Complete t) c.2
+    ap (λ q. indication.Finished q condition delivery status) (sym own) ∙ ap (λ n. indication.Finished id n delivery status) c.0 ∙ ap (λ d. indication.Finished id no_error d status) c.1
+    ∙ ap (λ t. indication.Finished id no_error Complete t) c.2
   where
     so : (condition : ℕ) (delivery : Delivery) (status : FileStatus) → is_complete condition delivery status ≡ true → (condition ≡ no_error) × (delivery ≡ Complete) × (status ≡ Retained)
     so condition Complete Retained is = (eqb-true condition no_error is, refl, refl)
@@ -152,7 +154,8 @@ told-complete id (i ∷ told) is = elim (cases_Bool (tells_complete id i)) [
     none-first false b none h = h
     none-first true b none h = absurd cc
 
-pub completed-there : (own : ℕ) (id : TransactionId) (told : List Indication) → (id.source == own) ≡ false → Contains told (indication.Finished id no_error Complete Retained) → Contains (completions own told) id
+pub completed-there : (own : ℕ) (id : TransactionId) (told : List Indication) → (id.source == own) ≡ false → Contains told (indication.Finished id no_error Complete Retained) →
+    Contains (completions own told) id
 completed-there own id [] apart c = absurd (let k = c.0 in let low : k < 0 = c.1 in omega arith)
 completed-there own id (i ∷ told) apart (zero, low, is) =
     let one : completion own (indication.Finished id no_error Complete Retained) ≡ id ∷ [] = ap (λ b. if not b then id ∷ [] else []) apart in
@@ -177,7 +180,8 @@ module _ (w : WorldState) (sound : IsSound w) where
   -- a put whose sender and receiver are closed, where both users were told that it is complete
   module _ (s : Side) (p : AcceptedPut) (put : Put) (id : put.id ≡ p.id) (made : put.id.source ≡ (entity_at s w).config.entity) (x : SenderState) (o : Option ReceiverState)
       (is_sender : record_of put.id (entity_at s w).table.records ≡ Some (Sends x)) (is_receiver : IsReceiverIn (record_of put.id (entity_at (other s) w).table.records) o)
-      (closed : x.phase ≡ sending.Closed) (closed_there : maybe is_closed o ≡ true) (tells : one_tells (tells_complete put.id) (entity_at s w).table.told ≡ true) (tells_there : one_tells (tells_complete put.id) (entity_at (other s) w).table.told ≡ true) where
+      (closed : x.phase ≡ sending.Closed) (closed_there : maybe is_closed o ≡ true) (tells : one_tells (tells_complete put.id) (entity_at s w).table.told ≡ true)
+      (tells_there : one_tells (tells_complete put.id) (entity_at (other s) w).table.told ≡ true) where
     pub complete-at : IsCompleteAt s p w
     complete-at =
         let mine : EntityState = entity_at s w in
@@ -194,7 +198,8 @@ module _ (w : WorldState) (sound : IsSound w) where
           closed_there = ap (λ i. phase_told i theirs.table) (sym id) ∙ closed-there o (record_of put.id theirs.table.records) refl is_receiver closed_there;
         }
       where
-        closed-there : (o : Option ReceiverState) (q : Option Seen) → record_of put.id (entity_at (other s) w).table.records ≡ q → IsReceiverIn q o → maybe is_closed o ≡ true → phase_told put.id (entity_at (other s) w).table ≡ Some phases.Closed
+        closed-there : (o : Option ReceiverState) (q : Option Seen) → record_of put.id (entity_at (other s) w).table.records ≡ q → IsReceiverIn q o → maybe is_closed o ≡ true →
+            phase_told put.id (entity_at (other s) w).table ≡ Some phases.Closed
         closed-there None q at is closed = absurd cc
         closed-there (Some r) None at is closed = absurd is
         closed-there (Some r) (Some (Sends y)) at is closed = absurd is
@@ -215,7 +220,8 @@ module _ (w : WorldState) (sound : IsSound w) where
         let named : put_of (seen w) put.id ≡ Some put = ap (put_of (seen w)) id ∙ found in
         let made : put.id.source ≡ mine.config.entity = ap (λ (i : TransactionId). i.source) id ∙ own in
         let was : IsOnCourse true put mine theirs c.forth c.back = on-course s w c.forth c.back clean c.puts put named made in
-        let o : IsOnCourse true put mine theirs [] [] = subst (λ (l : List Pdu). IsOnCourse true put mine theirs l []) forth (subst (λ (l : List Pdu). IsOnCourse true put mine theirs c.forth l) back was) in
+        let o : IsOnCourse true put mine theirs [] [] = subst (λ (l : List Pdu). IsOnCourse true put mine theirs l []) forth
+        (subst (λ (l : List Pdu). IsOnCourse true put mine theirs c.forth l) back was) in
         let x : SenderState = o.sender in
         let stands : StandsAt put.id mine.table.records (Sends x) = stands-at put.id mine.table.records (Sends x) o.is_sender in
         let its = (sound s).entity.sends.sends stands.place stands.entry stands.at in
@@ -224,7 +230,8 @@ module _ (w : WorldState) (sound : IsSound w) where
         let same : sends.put ≡ put = (let e : Some sends.put ≡ Some put = sym sends.is_put ∙ ap (put_of (seen w)) (sym key) ∙ named in cc) in
         let of : IsSenderOf put x = subst (λ (q : Put). IsSenderOf q x) same sends.sender in
         let quiet : sender_due x ≡ None = none-of (sender_due x) (rests-of mine (settled s).rests put.id (Sends x) stands) in
-        let ends = completes put x o.receiver (one_tells (tells_complete put.id) mine.table.told) (one_tells (tells_complete put.id) theirs.table.told) of sends.in_file o.course quiet (rests-there o.receiver o.is_receiver) in
+        let ends = completes put x o.receiver (one_tells (tells_complete put.id) mine.table.told) (one_tells (tells_complete put.id) theirs.table.told) of sends.in_file o.course quiet
+        (rests-there o.receiver o.is_receiver) in
         complete-at s p put id made x o.receiver o.is_sender o.is_receiver ends.0 ends.1.0 ends.1.1.0 ends.1.1.1
       where
         rests-by : (o : Option ReceiverState) (q : Option Seen) → record_of put.id (entity_at (other s) w).table.records ≡ q → IsReceiverIn q o → NothingDue o
@@ -232,7 +239,8 @@ module _ (w : WorldState) (sound : IsSound w) where
         rests-by (Some r) None at is = absurd is
         rests-by (Some r) (Some (Sends y)) at is = absurd is
         rests-by (Some r) (Some (Receives t m)) at is =
-            let quiet : receiver_due t ≡ None = none-of (receiver_due t) (rests-of (entity_at (other s) w) (settled (other s)).rests put.id (Receives t m) (stands-at put.id (entity_at (other s) w).table.records (Receives t m) at)) in
+            let quiet : receiver_due t ≡ None = none-of (receiver_due t)
+            (rests-of (entity_at (other s) w) (settled (other s)).rests put.id (Receives t m) (stands-at put.id (entity_at (other s) w).table.records (Receives t m) at)) in
             ap receiver_due is ∙ quiet
 
         rests-there : (o : Option ReceiverState) → IsReceiverIn (record_of put.id (entity_at (other s) w).table.records) o → NothingDue o

@@ -195,7 +195,8 @@ few-at : (w : WorldState) → KeepCourse w → (s : Side) → length (entity_at 
 few-at w k One = k.known.0.few
 few-at w k Two = k.known.1.few
 
-module _ (stays : (old new : TableState) → Leads old new → KeepsRecords old.records new.records) (old new : WorldState) (sound : IsSound old) (course : KeepCourse old) (course_then : KeepCourse new) where
+module _ (stays : (old new : TableState) → Leads old new → KeepsRecords old.records new.records) (old new : WorldState) (sound : IsSound old) (course : KeepCourse old)
+    (course_then : KeepCourse new) where
   deliver-full : (d : Applied) (s : Side) → Delivers d s old new → DropsWhereFull old new
   deliver-full did.Applied s h =
       both (λ t. no_room t new ≢ no_room t old → length (entity_at t new).table.records ≡ most_records) s

@@ -65,7 +65,8 @@ served-drops Rests e = refl
 -- ---- what is heard
 module _ (laws : EntityLaws) (hearing : HearingLaws) (stays : (old new : TableState) → Leads old new → KeepsRecords old.records new.records) where
   module _ (put_of : TransactionId → Option Put) (by_id : FindsById put_of) (heard : List (List ℕ)) (first : FileMap) (theirs : EntityState) (forth : List Pdu) where
-    pub one-sound : (text : List ℕ) (old new : Counted) → HearsPdu text old new → ComesTrue old.state.config.peer put_of heard text → IsSoundEntity put_of heard first old.state → IsSoundEntity put_of heard first new.state
+    pub one-sound : (text : List ℕ) (old new : Counted) → HearsPdu text old new → ComesTrue old.state.config.peer put_of heard text → IsSoundEntity put_of heard first old.state →
+        IsSoundEntity put_of heard first new.state
     one-sound text old new (inl h) t k = laws.heard put_of heard first text old new by_id t h k
     one-sound text old new (inr d) t k = laws.dropped put_of heard first text d.0 old new d.1 k
 
@@ -73,13 +74,16 @@ module _ (laws : EntityLaws) (hearing : HearingLaws) (stays : (old new : TableSt
     one-goes text old new (inl h) = laws.heard_on text old new h
     one-goes text old new (inr d) = laws.dropped_on text d.0 old new d.1
 
-    pub so : (p : Pdu) (rest : List Pdu) (text : List ℕ) (old new : Counted) → AreSpelled (text ∷ []) (p ∷ []) → HearsPdu text old new → AreKnown put_of old.state theirs forth (p ∷ rest) → HeardSo p.0 p.1 old new
+    pub so : (p : Pdu) (rest : List Pdu) (text : List ℕ) (old new : Counted) → AreSpelled (text ∷ []) (p ∷ []) → HearsPdu text old new → AreKnown put_of old.state theirs forth (p ∷ rest) →
+        HeardSo p.0 p.1 old new
     so p rest text old new s h k = heard-so put_of theirs forth p.0 p.1 old new k.0 k.1.directed.0 (hears-one p.0 p.1 text s.0 old new h)
 
-    pub known-next : (p : Pdu) (rest : List Pdu) (text : List ℕ) (old new : Counted) → AreSpelled (text ∷ []) (p ∷ []) → HearsPdu text old new → AreKnown put_of old.state theirs forth (p ∷ rest) → AreKnown put_of new.state theirs forth rest
+    pub known-next : (p : Pdu) (rest : List Pdu) (text : List ℕ) (old new : Counted) → AreSpelled (text ∷ []) (p ∷ []) → HearsPdu text old new → AreKnown put_of old.state theirs forth (p ∷ rest) →
+        AreKnown put_of new.state theirs forth rest
     known-next p rest text old new s h k = hears-known stays put_of theirs forth rest p.0 p.1 old new (hears-one p.0 p.1 text s.0 old new h) k
 
-    pub all-grow : (texts : List (List ℕ)) (pdus rest : List Pdu) (old new : Counted) → AreSpelled texts pdus → HearsAll texts old new → AreKnown put_of old.state theirs forth (pdus ++ rest) → old.inbox_failures ≤ new.inbox_failures
+    pub all-grow : (texts : List (List ℕ)) (pdus rest : List Pdu) (old new : Counted) → AreSpelled texts pdus → HearsAll texts old new → AreKnown put_of old.state theirs forth (pdus ++ rest) →
+        old.inbox_failures ≤ new.inbox_failures
     all-grow [] [] rest old new s h k = let same : new.inbox_failures ≡ old.inbox_failures = ap (λ (c : Counted). c.inbox_failures) h in omega (arith, same)
     all-grow [] (p ∷ pdus) rest old new s h k = absurd s
     all-grow (t ∷ texts) [] rest old new s h k = absurd s

@@ -115,9 +115,11 @@ push-clean id a st s k = record {
 -- ---- what comes of a put that goes well
 -- The laws of a receiver that are used.
 pub record HearingLaws : Type 0 where
-  pub faultless : (put : Put) (heard : List (List ℕ)) (stored : Stored) (input : ReceiverInput) (m : OctetMap) (files : FileMap) (r : ReceiverState) → IsReceivable put → IsTrueInput put heard input → BeginsWithin put input → Sound put heard r m →
+  pub faultless : (put : Put) (heard : List (List ℕ)) (stored : Stored) (input : ReceiverInput) (m : OctetMap) (files : FileMap) (r : ReceiverState) → IsReceivable put → IsTrueInput put heard input →
+      BeginsWithin put input → Sound put heard r m →
       list_any is_file_fault (receiver_step stored input m files r).told ≡ false
-  pub opened : (put : Put) (heard : List (List ℕ)) (stored : Stored) (files : FileMap) (addressing : Addressing) → Sound put heard (opens_receiver stored files addressing).receiver (opens_receiver stored files addressing).octets
+  pub opened : (put : Put) (heard : List (List ℕ)) (stored : Stored) (files : FileMap) (addressing : Addressing) →
+      Sound put heard (opens_receiver stored files addressing).receiver (opens_receiver stored files addressing).octets
 
 -- A PDU says the truth of its put to the one that hears it, and was heard.
 pub record IsFine (put_of : TransactionId → Option Put) (heard : List (List ℕ)) (p : Pdu) : Type 0 where
@@ -219,14 +221,16 @@ pub record HearsClean (old new : EntityState) : Type 0 where
 
 module _ (laws : HearingLaws) (put_of : TransactionId → Option Put) (heard : List (List ℕ)) where
   module _ (times : Times) (files : FileMap) (p : Pdu) (fine : IsFine put_of heard p) where
-    sender-clean : (x : SenderState) (o : Option SenderAfter) → sender_after p.1 x ≡ o → x.phase ≢ sending.Cancelling → (IsTrueForth fine.put p.1 × IsReceivable fine.put) ⊎ IsTrueBack p.1 → StaysClean (if_sender times files x o)
+    sender-clean : (x : SenderState) (o : Option SenderAfter) → sender_after p.1 x ≡ o → x.phase ≢ sending.Cancelling → (IsTrueForth fine.put p.1 × IsReceivable fine.put) ⊎ IsTrueBack p.1 →
+        StaysClean (if_sender times files x o)
     sender-clean x None is not_ says = record { told = refl; kept = λ id. uncancelling x.phase not_ }
     sender-clean x (Some a) is not_ (inl forth) = absurd (some-none a (sym is ∙ forth-none fine.put p.1 x forth.0))
     sender-clean x (Some a) is not_ (inr back) =
         let w : GoesWell a = hears-back-well p.1 x a back is not_ in
         record { told = w.told; kept = λ id. uncancelling a.sender.phase w.uncancelled }
 
-    receiver-clean : (r : ReceiverState) (m : OctetMap) → Sound fine.put heard r m → (IsTrueForth fine.put p.1 × IsReceivable fine.put) ⊎ IsTrueBack p.1 → StaysClean (if_receiver times files r m (receiver_after Done p.1 m files r))
+    receiver-clean : (r : ReceiverState) (m : OctetMap) → Sound fine.put heard r m → (IsTrueForth fine.put p.1 × IsReceivable fine.put) ⊎ IsTrueBack p.1 →
+        StaysClean (if_receiver times files r m (receiver_after Done p.1 m files r))
     receiver-clean r m sound (inl forth) =
         let faults : list_any is_file_fault (receiver_hears Done p.1 m files r).told ≡ false =
         laws.faultless fine.put heard Done (Hears p.1) m files r forth.1 fine.truth (begins-within fine.put p.1 forth.0) sound in
@@ -250,7 +254,8 @@ module _ (laws : HearingLaws) (put_of : TransactionId → Option Put) (heard : L
   clean-table : (old new : EntityState) (t : TableState) → new.table ≡ t → new.drops ≡ old.drops → IsCleanTable t → HearsClean old new
   clean-table old new t is same k = record { table = subst IsCleanTable (sym is) k; drops = λ n a b c. ap (λ l. get_or l n 0) same }
 
-  others-stay : (by : EntityDrop) (xs : List ℕ) (n : ℕ) → (drop_number by ≡ 14) ⊎ ((drop_number by ≡ 15) ⊎ (drop_number by ≡ 16)) → n ≢ 14 → n ≢ 15 → n ≢ 16 → get_or (counted by xs) n 0 ≡ get_or xs n 0
+  others-stay : (by : EntityDrop) (xs : List ℕ) (n : ℕ) → (drop_number by ≡ 14) ⊎ ((drop_number by ≡ 15) ⊎ (drop_number by ≡ 16)) → n ≢ 14 → n ≢ 15 → n ≢ 16 → get_or (counted by xs) n 0
+      ≡ get_or xs n 0
   others-stay by xs n kinds a b c = get_or-set_other xs (drop_number by) n (raised (get_or xs (drop_number by) 0)) 0 (apart kinds)
     where
       apart : (drop_number by ≡ 14) ⊎ ((drop_number by ≡ 15) ⊎ (drop_number by ≡ 16)) → n ≢ drop_number by
@@ -283,7 +288,8 @@ module _ (laws : HearingLaws) (put_of : TransactionId → Option Put) (heard : L
       by None at = ap (list_any is_cancelling) (set-nowhere old old.records place h.seen at) ∙ k.kept
       by (Some e) at = kept-set old old.records place h.seen (spoils-kept v e.1 h.seen (h.spoils e at) (kept-at old.records place e k.kept at)) k.kept
 
-  module _ (first : FileMap) (own : ℕ) (p : Pdu) (fine : IsFine put_of heard p) (old new : Counted) (knows : IsTrueTable own put_of heard first old.state.table) (same : new.inbox_failures ≡ old.inbox_failures) (low : old.inbox_failures < 2 ^ 64 - 1) (k : IsCleanTable old.state.table) where
+  module _ (first : FileMap) (own : ℕ) (p : Pdu) (fine : IsFine put_of heard p) (old new : Counted) (knows : IsTrueTable own put_of heard first old.state.table)
+      (same : new.inbox_failures ≡ old.inbox_failures) (low : old.inbox_failures < 2 ^ 64 - 1) (k : IsCleanTable old.state.table) where
     stepped : StepsRecord p.0 p.1 old new → HearsClean old.state new.state
     stepped s =
         let st : TableState = old.state.table in

@@ -153,10 +153,20 @@ pub record IsCourseFrom (s : Side) (w : WorldState) : Type 0 where
 
 pub course-from : (s : Side) (w : WorldState) → KeepCourse w → IsCourseFrom s w
 course-from One w k = record { forth = k.from_one; back = k.from_two; spelled = k.spelled_one; spelled_back = k.spelled_two; known = k.known; puts = k.puts_of_one; puts_back = k.puts_of_two }
-course-from Two w k = record { forth = k.from_two; back = k.from_one; spelled = k.spelled_two; spelled_back = k.spelled_one; known = (k.known.1, k.known.0); puts = k.puts_of_two; puts_back = k.puts_of_one }
+course-from Two w k = record {
+  forth = k.from_two;
+  back = k.from_one;
+  spelled = k.spelled_two;
+  spelled_back = k.spelled_one;
+  known = (k.known.1, k.known.0);
+  puts = k.puts_of_two;
+  puts_back =
+      k.puts_of_one;
+}
 
 -- a put and the PDUs of its station, where its world is clean
-pub on-course : (s : Side) (w : WorldState) (forth back : List Pdu) → IsClean w → StayOnCourse s w forth back → (put : Put) → put_of (seen w) put.id ≡ Some put → put.id.source ≡ (entity_at s w).config.entity →
+pub on-course : (s : Side) (w : WorldState) (forth back : List Pdu) → IsClean w → StayOnCourse s w forth back → (put : Put) → put_of (seen w) put.id ≡ Some put → put.id.source
+    ≡ (entity_at s w).config.entity →
     IsOnCourse true put (entity_at s w) (entity_at (other s) w) forth back
 on-course s w forth back clean stay put found own =
     stay put found own true (λ t. loses-none w clean) (unspoiled put.id (entity_at s w) (entity_at (other s) w) (clean s).entity (clean (other s)).entity)
@@ -200,7 +210,8 @@ module _ (w : WorldState) (sound : IsSound w) (sizes : (s : Side) → AreWithin 
       let same : own.put ≡ put = same-put own.put put (sym own.is_put ∙ ap (put_of (seen w)) (sym id) ∙ found) in
       subst (λ n. n ≤ most_offset) (own.sender.size ∙ ap (λ (p : Put). length p.octets) same) small
 
-  pub receivable : (s : Side) (forth back : List Pdu) → AreKnown (put_of (seen w)) (entity_at s w) (entity_at (other s) w) forth back → (put : Put) → put_of (seen w) put.id ≡ Some put → put.id.source ≡ (entity_at s w).config.entity → IsReceivable put
+  pub receivable : (s : Side) (forth back : List Pdu) → AreKnown (put_of (seen w)) (entity_at s w) (entity_at (other s) w) forth back → (put : Put) → put_of (seen w) put.id ≡ Some put → put.id.source
+      ≡ (entity_at s w).config.entity → IsReceivable put
   receivable s forth back known put found own =
       let k = kind-by (seen w) (accepted_as (seen w).puts put.id) put found in
       let kind : put.checksum_kind ≡ (entity_at k.0 w).config.checksum_kind = k.1 ∙ kind-there k.0 w in
@@ -211,7 +222,8 @@ module _ (w : WorldState) (sound : IsSound w) (sizes : (s : Side) → AreWithin 
       }
 
 -- ---- what comes is true of its put
-module _ (put_of : TransactionId → Option Put) (heard : List (List ℕ)) (by_id : (id : TransactionId) (put : Put) → put_of id ≡ Some put → put.id ≡ id) (peer : ℕ) (pdu : List ℕ) (among : Contains heard pdu) (h : Header) where
+module _ (put_of : TransactionId → Option Put) (heard : List (List ℕ)) (by_id : (id : TransactionId) (put : Put) → put_of id ≡ Some put → put.id ≡ id) (peer : ℕ) (pdu : List ℕ)
+    (among : Contains heard pdu) (h : Header) where
   some-pdu : (P : Header → Content → Type 0) (v : Content) → SpellsSmall h v pdu → P h v → SomePdu P heard
   some-pdu P v s p = (among.0, pdu, among.1, among.2, (h, (v, (s, p))))
 
@@ -220,8 +232,10 @@ module _ (put_of : TransactionId → Option Put) (heard : List (List ℕ)) (by_i
 
   pub true-of : (v : Content) → SpellsSmall h v pdu → SaysTruth peer put_of h.id v → IsTrueOf put_of heard h.id v
   true-of (FileData offset bytes) s t = λ put is. (let a = true-as (FileData offset bytes) put t is in (a.1, λ n low high. some-pdu (Brings put n) (FileData offset bytes) s (a.0, low, high, a.1)))
-  true-of (Metadata kind size source destination options) s t = λ put is. (let a = true-as (Metadata kind size source destination options) put t is in (a.1, some-pdu (IsMetadataOf put) (Metadata kind size source destination options) s a))
-  true-of (Eof condition checksum size tlvs) s t = λ put is. (let a = true-as (Eof condition checksum size tlvs) put t is in (a.1, λ fine. some-pdu (IsEofOf put) (Eof condition checksum size tlvs) s (a.0, fine, a.1)))
+  true-of (Metadata kind size source destination options) s t = λ put is.
+      (let a = true-as (Metadata kind size source destination options) put t is in (a.1, some-pdu (IsMetadataOf put) (Metadata kind size source destination options) s a))
+  true-of (Eof condition checksum size tlvs) s t = λ put is. (let a = true-as (Eof condition checksum size tlvs) put t is in
+      (a.1, λ fine. some-pdu (IsEofOf put) (Eof condition checksum size tlvs) s (a.0, fine, a.1)))
   true-of (Finished condition delivery status tlvs) s t = λ put is. (tt, tt)
   true-of (Ack of condition status) s t = λ put is. (tt, tt)
   true-of (Nak start end pairs) s t = λ put is. (tt, tt)
@@ -233,8 +247,10 @@ some-put (Some put) h = (put, refl)
 some-put None h = absurd cc
 
 -- ---- a PDU on its way says the truth of its put, and that put can be received
-module _ (s : Side) (w : WorldState) (sound : IsSound w) (clean : IsClean w) (sizes : (t : Side) → AreWithin most_offset (entity_at t w).table.records) (c : IsCourseFrom s w) (heard : List (List ℕ)) where
-  pub fine-at : (n : ℕ) (p : Pdu) → slice_get c.forth n ≡ Some p → (text : List ℕ) → SpellsSmall p.0 p.1 text → ComesTrue (entity_at (other s) w).config.peer (put_of (seen w)) heard text → IsFine (put_of (seen w)) heard p
+module _ (s : Side) (w : WorldState) (sound : IsSound w) (clean : IsClean w) (sizes : (t : Side) → AreWithin most_offset (entity_at t w).table.records) (c : IsCourseFrom s w)
+    (heard : List (List ℕ)) where
+  pub fine-at : (n : ℕ) (p : Pdu) → slice_get c.forth n ≡ Some p → (text : List ℕ) → SpellsSmall p.0 p.1 text → ComesTrue (entity_at (other s) w).config.peer (put_of (seen w)) heard text →
+      IsFine (put_of (seen w)) heard p
   fine-at n p at text spells comes =
       let there : EntityState = entity_at (other s) w in
       let d : IsDirected (put_of (seen w)) there p = all-at (IsDirected (put_of (seen w)) there) c.forth n p c.known.0.directed at in

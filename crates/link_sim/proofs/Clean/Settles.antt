@@ -152,7 +152,8 @@ part-delivered w =
     let z = w.up.link.zone in
     part-map (λ p. drop 6 p) (survivors z w.marks 0 (packets_sent w)) (busy (packets_sent w)) (survivors-busy z w.marks 0 (packets_sent w))
 
-module _ (laws : CleanLaws) (s : Side) (old new : WorldState) (sound : IsSound old) (course : KeepCourse old) (clean : IsClean old) (sizes : (t : Side) → AreWithin most_offset (entity_at t old).table.records) (h : DeliversFrame s old new)
+module _ (laws : CleanLaws) (s : Side) (old new : WorldState) (sound : IsSound old) (course : KeepCourse old) (clean : IsClean old)
+    (sizes : (t : Side) → AreWithin most_offset (entity_at t old).table.records) (h : DeliversFrame s old new)
     (spared : IsSparedAt (other s) old new) where
   abbrev there : EntityState
   there = entity_at (other s) old
@@ -211,7 +212,8 @@ module _ (laws : CleanLaws) (s : Side) (old new : WorldState) (sound : IsSound o
   hears : HearsClean there (entity_at (other s) new)
   hears =
       let low : (station_at (other s) old).entity.inbox_failures < 2 ^ 64 - 1 = subst (λ n. n < 2 ^ 64 - 1) spared.inbox spared.inbox_low in
-      all-clean laws.entity laws.hearing laws.stays (put_of (seen old)) (puts-by-id (seen old)) heard (sound (other s)).first (entity_at s old) c.back h.given two.first two.rest (station_at (other s) old).entity (station_at (other s) new).entity
+      all-clean laws.entity laws.hearing laws.stays (put_of (seen old)) (puts-by-id (seen old)) heard (sound (other s)).first (entity_at s old) c.back h.given two.first two.rest
+      (station_at (other s) old).entity (station_at (other s) new).entity
       two.spelled h.heard known fine comes sound-then spared.inbox low (table-of there (clean (other s)).entity)
 
   pub delivered-clean : IsClean new
@@ -230,7 +232,8 @@ module _ (laws : CleanLaws) (s : Side) (old new : WorldState) (sound : IsSound o
       both (λ t. IsCleanAt t new) s this that
 
 -- ---- an event
-pub settles-clean : CleanLaws → (e : Event) (old new : WorldState) → IsOfSettling e → Steps e did.Applied old new → IsSound old → KeepCourse old → ((t : Side) → AreWithin most_offset (entity_at t old).table.records) →
+pub settles-clean : CleanLaws → (e : Event) (old new : WorldState) → IsOfSettling e → Steps e did.Applied old new → IsSound old → KeepCourse old →
+    ((t : Side) → AreWithin most_offset (entity_at t old).table.records) →
     ((t : Side) → IsSparedAt t old new) → IsClean old → IsClean new
 settles-clean laws (event.Poll s) old new is (inl h) sound course sizes spared clean = polled-clean s old new clean h
 settles-clean laws (event.Poll s) old new is (inr h) sound course sizes spared clean = absurd (none-failed s old new (spared s) h)

@@ -46,7 +46,8 @@ module _ (m : OctetMap) (files : FileMap) where
     completes-by (Some info) (Some ending) =
         cond_both (set.is_subset (range 0 ending.size) r.held)
         (if agrees info ending r.checksum then published_by Done info ending m files r else faulted file_checksum_failure m files r) (leaving m files r) Well
-        (λ _. cond_both (agrees info ending r.checksum) (published_by Done info ending m files r) (faulted file_checksum_failure m files r) Well (λ _ none. refl) (λ _. by-fault file_checksum_failure refl))
+        (λ _. cond_both (agrees info ending r.checksum) (published_by Done info ending m files r) (faulted file_checksum_failure m files r) Well (λ _ none. refl)
+        (λ _. by-fault file_checksum_failure refl))
         (λ _ none. refl)
     completes-by (Some info) None = λ none. refl
     completes-by None ending = λ none. refl
@@ -66,7 +67,8 @@ module _ (m : OctetMap) (files : FileMap) (r : ReceiverState) where
       let tested : ReceiverAfter = if is_supported kind then completed Done m files r1 else faulted unsupported_checksum_type m files r1 in
       cond_both (is_some r.metadata) (leaving m files r) (telling (i ∷ []) tested) Well (λ _ none. refl)
       (λ _. telling-well m files i tested refl refl
-      (cond_both (is_supported kind) (completed Done m files r1) (faulted unsupported_checksum_type m files r1) Well (λ _. completes m files r1) (λ _. by-fault m files r1 unsupported_checksum_type refl)))
+      (cond_both (is_supported kind) (completed Done m files r1) (faulted unsupported_checksum_type m files r1) Well (λ _. completes m files r1)
+      (λ _. by-fault m files r1 unsupported_checksum_type refl)))
 
   data-well : (offset : ℕ) (bytes : List ℕ) → Well (receives_data Done offset bytes m files r)
   data-well offset bytes =
@@ -94,7 +96,8 @@ module _ (m : OctetMap) (files : FileMap) (r : ReceiverState) where
       cond_both (is_receiving r.phase) (receives_data Done offset bytes m files r) (leaving m files r) Well (λ _. data-well offset bytes) (λ _ none. refl)
   hears-well put (Eof condition checksum size tlvs) true_ =
       subst (λ (c : ℕ). Well (receiver_hears Done (Eof c checksum size tlvs) m files r)) (sym true_.0)
-      (cond_both (is_receiving r.phase) (receives_eof Done no_error checksum size m files r) (leaving m files (record r { ack_due = Some no_error })) Well (λ _. eof-well checksum size) (λ _ none. refl))
+      (cond_both (is_receiving r.phase) (receives_eof Done no_error checksum size m files r) (leaving m files (record r { ack_due = Some no_error })) Well (λ _. eof-well checksum size)
+      (λ _ none. refl))
   hears-well put (Ack acknowledged.Finished condition status) true_ = λ none. refl
   hears-well put (Ack acknowledged.Eof condition status) true_ = λ none. absurd true_
   hears-well put (Prompt keep_alive) true_ = λ none. refl
@@ -147,7 +150,8 @@ acks-well sending.Cancelling condition x is not_ = absurd (not_ is)
 acks-well sending.Closed condition x is not_ = record { told = refl; uncancelled = not_ }
 
 -- a Finished that says that the file was delivered
-ends-well : (phase : SenderPhase) (x : SenderState) → x.phase ≡ phase → x.phase ≢ sending.Cancelling → list_any is_bad (end_told phase (record { condition = no_error; delivery = Complete; status = Retained }) x) ≡ false
+ends-well : (phase : SenderPhase) (x : SenderState) → x.phase ≡ phase → x.phase ≢ sending.Cancelling →
+    list_any is_bad (end_told phase (record { condition = no_error; delivery = Complete; status = Retained }) x) ≡ false
 ends-well sending.Sending x is not_ = refl
 ends-well sending.Cancelling x is not_ = absurd (not_ is)
 ends-well sending.Closed x is not_ = refl

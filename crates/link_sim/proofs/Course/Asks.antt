@@ -275,7 +275,11 @@ tidied-owes k r (inr a) = elim (cases_Bool (set.contains r.held k)) [
 pub tidied-metadata : (r : ReceiverState) → OwesMetadata r → OwesMetadata (tidied r)
 tidied-metadata r (inl h) = inl h
 tidied-metadata r (inr a) = elim (cases_Bool (is_none r.metadata)) [
-  | inl none ↦ inr (record { phase = a.phase; cursor = ap (λ c. cursor_by c r) a.cursor ∙ ap (λ b. if is_empty ((if b && (0 == 0) then (0, 0) ∷ [] else []) ++ gaps_of r.held 0 (scope_limit r)) then None else Some 0) none })
+  | inl none ↦ inr (record {
+    phase = a.phase;
+    cursor = ap (λ c. cursor_by c r) a.cursor
+        ∙ ap (λ b. if is_empty ((if b && (0 == 0) then (0, 0) ∷ [] else []) ++ gaps_of r.held 0 (scope_limit r)) then None else Some 0) none;
+  })
   | inr some ↦ inl (ap (λ p. once_ended p (is_some r.metadata)) a.phase ∙ some-since r.metadata some)
 ]
 
@@ -331,7 +335,8 @@ module _ (P : ReceiverState → Type 0) (over : (r : ReceiverState) → has_ende
 
   completed-keeps : (stored1 : Stored) (info : Option FileInfo) (ending : Option Ending) (m : OctetMap) (r : ReceiverState) → P r → After (completed_by stored1 info ending m files r)
   completed-keeps stored1 (Some info) (Some ending) m r h =
-      cond_both (set.is_subset (range 0 ending.size) r.held) (if agrees info ending r.checksum then published_by stored1 info ending m files r else faulted file_checksum_failure m files r) (leaving m files r) After
+      cond_both (set.is_subset (range 0 ending.size) r.held) (if agrees info ending r.checksum then published_by stored1 info ending m files r else faulted file_checksum_failure m files r)
+      (leaving m files r) After
       (λ _. cond_both (agrees info ending r.checksum) (published_by stored1 info ending m files r) (faulted file_checksum_failure m files r) After
       (λ _. published-keeps stored1 info ending m r)
       (λ _. over _ refl))
@@ -348,7 +353,8 @@ module _ (P : ReceiverState → Type 0) (put : Put) (stored : Stored) (m : Octet
   metadata-keeps kind size source destination =
       let info : FileInfo = record { checksum_kind = kind; destination = destination } in
       let r1 : ReceiverState = record r { metadata = Some info; nak_count = 0 } in
-      cond_both (is_some r.metadata) (leaving m files r) (telling (indication.MetadataRecv r.addressing.id source destination size ∷ []) (if is_supported kind then completed stored m files r1 else faulted unsupported_checksum_type m files r1)) Later
+      cond_both (is_some r.metadata) (leaving m files r) (telling (indication.MetadataRecv r.addressing.id source destination size ∷ [])
+      (if is_supported kind then completed stored m files r1 else faulted unsupported_checksum_type m files r1)) Later
       (λ _. s.self)
       (λ _. cond_both (is_supported kind) (completed stored m files r1) (faulted unsupported_checksum_type m files r1) Later
       (λ _. completed-keeps P s.over stored files stored r1.metadata r1.ending m r1 (s.named info))
@@ -361,7 +367,8 @@ module _ (P : ReceiverState → Type 0) (put : Put) (stored : Stored) (m : Octet
   data-keeps : (offset : ℕ) (bytes : List ℕ) → Later (receives_data stored offset bytes m files r)
   data-keeps offset bytes =
       let end : ℕ = offset + length bytes in
-      cond_both (exceeds r.ending end) (faulted file_size_error m files r) (if set.is_subset (range offset end) r.held then completed stored m files r else receives_new stored offset bytes m files r) Later
+      cond_both (exceeds r.ending end) (faulted file_size_error m files r)
+      (if set.is_subset (range offset end) r.held then completed stored m files r else receives_new stored offset bytes m files r) Later
       (λ _. s.over _ refl)
       (λ _. cond_both (set.is_subset (range offset end) r.held) (completed stored m files r) (receives_new stored offset bytes m files r) Later
       (λ _. completed-keeps P s.over stored files stored r.metadata r.ending m r s.self)
@@ -373,7 +380,8 @@ module _ (P : ReceiverState → Type 0) (over : (r : ReceiverState) → has_ende
       → (is_none r.ending ≡ false → P (record r { ack_due = Some no_error; nak_cursor = Some 0 })) → P (receives_eof stored condition checksum size m files r).receiver
   eof-keeps condition checksum size closes again =
       let r1 : ReceiverState = record r { ending = Some (record { checksum = checksum; size = size }); ack_due = Some no_error; nak_cursor = Some 0 } in
-      cond_both (not (condition == no_error)) (cancelled_by condition m files r) (if is_none r.ending then first_eof stored checksum size m files r else leaving m files (record r { ack_due = Some no_error; nak_cursor = Some 0 })) (λ (a : ReceiverAfter). P a.receiver)
+      cond_both (not (condition == no_error)) (cancelled_by condition m files r)
+      (if is_none r.ending then first_eof stored checksum size m files r else leaving m files (record r { ack_due = Some no_error; nak_cursor = Some 0 })) (λ (a : ReceiverAfter). P a.receiver)
       (λ _. over _ refl)
       (λ _. cond_both (is_none r.ending) (first_eof stored checksum size m files r) (leaving m files (record r { ack_due = Some no_error; nak_cursor = Some 0 })) (λ (a : ReceiverAfter). P a.receiver)
       (λ _. cond_both (contradicts size r) (faulted file_size_error m files r1) (completed stored m files r1) (λ (a : ReceiverAfter). P a.receiver)
@@ -470,7 +478,8 @@ module _ (put : Put) (stored : Stored) (m : OctetMap) (files : FileMap) (r : Rec
     pub owes : OwesAll (length put.octets) before
     pub tidies : r1 ≡ tidied before
 
-  pub eof-asks : (r.phase ≡ Receiving → IfSome r.ending (λ e. e.size ≡ length put.octets)) → (v : Content) → IsTrueForth put v → is_eof v ≡ true → AsksForAll (receiver_hears stored v m files r).receiver
+  pub eof-asks : (r.phase ≡ Receiving → IfSome r.ending (λ e. e.size ≡ length put.octets)) → (v : Content) → IsTrueForth put v → is_eof v ≡ true →
+      AsksForAll (receiver_hears stored v m files r).receiver
   eof-asks ending (Eof condition checksum size tlvs) t e = record {
     before = (if is_receiving r.phase then receives_eof stored condition checksum size m files r else leaving m files (record r { ack_due = Some condition })).receiver;
     owes = eof-in r.phase condition checksum size refl ending t.1;
@@ -486,7 +495,8 @@ module _ (put : Put) (stored : Stored) (m : OctetMap) (files : FileMap) (r : Rec
   eof-asks ending (KeepAlive progress) t e = absurd (false≢true e)
 
   -- all of this, as the debts take it
-  pub still-asks : (r.phase ≡ Receiving → IfSome r.ending (λ e. e.size ≡ length put.octets)) → (v : Content) → IsTrueForth put v → StillAsks (length put.octets) v r (receiver_hears stored v m files r).receiver
+  pub still-asks : (r.phase ≡ Receiving → IfSome r.ending (λ e. e.size ≡ length put.octets)) → (v : Content) → IsTrueForth put v →
+      StillAsks (length put.octets) v r (receiver_hears stored v m files r).receiver
   still-asks ending v t = record {
     metadata = λ a. hears-metadata a v t;
     octets = λ k below a. hears-owes k below a v t;

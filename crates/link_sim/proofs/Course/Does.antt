@@ -72,11 +72,13 @@ finished-spoils id of o more own bad good =
     (and_from (same_id id of) (not (o.condition == no_error)) (same_id-itself id of (sym own)) (ap not bad))
 
 -- ---- all that isn't a PDU heard
-module _ (put : Put) (awake acks files ends : Bool) (x : SenderState) (r : ReceiverState) (forth back : List Content) (b c : Bool) (own : r.addressing.id ≡ put.id) (k : IsCourse put awake acks files ends x (Some r) forth back b c) where
+module _ (put : Put) (awake acks files ends : Bool) (x : SenderState) (r : ReceiverState) (forth back : List Content) (b c : Bool) (own : r.addressing.id ≡ put.id)
+    (k : IsCourse put awake acks files ends x (Some r) forth back b c) where
   abbrev CourseOf : ReceiverState → List Content → Bool → Type 0
   CourseOf r1 back1 c1 = IsCourse put awake acks files ends x (Some r1) forth back1 b c1
 
-  does-course : (suspended : Bool) (ack cursor : Option ℕ) (keep_alive due taken : Bool) (naks finisheds : ℕ) (more : List Content) (c1 : Bool) → Does r ack due taken more → (awake ≡ true → suspended ≡ false)
+  does-course : (suspended : Bool) (ack cursor : Option ℕ) (keep_alive due taken : Bool) (naks finisheds : ℕ) (more : List Content) (c1 : Bool) → Does r ack due taken more →
+      (awake ≡ true → suspended ≡ false)
       → is_tidy (changed r suspended ack cursor keep_alive due taken naks finisheds) ≡ true → (c ≡ true → c1 ≡ true)
       → (AsksFirst r → (one_says names_metadata more ≡ true) ⊎ OwesMetadata (changed r suspended ack cursor keep_alive due taken naks finisheds))
       → ((n : ℕ) → n < length put.octets → AsksFrom n r → (one_says (names n) more ≡ true) ⊎ OwesOctet n (changed r suspended ack cursor keep_alive due taken naks finisheds))
@@ -109,7 +111,8 @@ module _ (put : Put) (awake acks files ends : Bool) (x : SenderState) (r : Recei
     told-same h = or_left c false h
 
     ack-sends : (condition : ℕ) → r.ack_due ≡ Some condition → SendsDue (due.AckOfEof condition)
-    ack-sends condition is = does-course r.suspended None r.nak_cursor r.keep_alive_due r.finished_due r.finished_taken r.nak_count r.finished_count (receiver_says r (due.AckOfEof condition) ∷ []) (told_with put c [])
+    ack-sends condition is = does-course r.suspended None r.nak_cursor r.keep_alive_due r.finished_due r.finished_taken r.nak_count r.finished_count (receiver_says r (due.AckOfEof condition) ∷ [])
+        (told_with put c [])
         (record {
           truth = (tt, tt);
           owes = λ h. inl h;
@@ -124,7 +127,8 @@ module _ (put : Put) (awake acks files ends : Bool) (x : SenderState) (r : Recei
         (λ n below a. inr (inr (record { phase = a.phase; cursor = a.cursor; is_cursor = a.is_cursor; low = a.low; below = a.below })))
 
     nak-sends : (at : ℕ) → r.nak_cursor ≡ Some at → r.phase ≡ Receiving → SendsDue (due.Nak at)
-    nak-sends at is phase = does-course r.suspended r.ack_due (next_cursor (missing_pairs at r)) r.keep_alive_due r.finished_due r.finished_taken r.nak_count r.finished_count (receiver_says r (due.Nak at) ∷ []) (told_with put c [])
+    nak-sends at is phase = does-course r.suspended r.ack_due (next_cursor (missing_pairs at r)) r.keep_alive_due r.finished_due r.finished_taken r.nak_count r.finished_count
+        (receiver_says r (due.Nak at) ∷ []) (told_with put c [])
         (record { truth = (tt, tt); owes = λ h. inl h; still = λ h. h; new = λ h. absurd (false≢true h); ack_due = λ h. h; acks = λ h. absurd (false≢true h); kept = λ h. inl h })
         as-awake (taken-tidy (due.Nak at)) told-same
         (λ a. elim (nak-sends-metadata r at a is) [ inl now ↦ inl (or_left (names_metadata (receiver_says r (due.Nak at))) false now) | inr still ↦ inr still ])
@@ -249,14 +253,16 @@ module _ (put : Put) (awake acks files ends : Bool) (x : SenderState) (r : Recei
 
     no-abandon : (condition : ℕ) (first : Indication) → one_tells (spoils put.id) (first ∷ indication.Abandoned r.addressing.id condition ∷ []) ≡ false → ⊥
     no-abandon condition first good =
-        both_ways (same_id put.id r.addressing.id) (or_parts (same_id put.id r.addressing.id) false (or_parts (spoils put.id first) (same_id put.id r.addressing.id || false) good).1).0 (same_id-itself put.id r.addressing.id (sym own))
+        both_ways (same_id put.id r.addressing.id) (or_parts (same_id put.id r.addressing.id) false (or_parts (spoils put.id first) (same_id put.id r.addressing.id || false) good).1).0
+        (same_id-itself put.id r.addressing.id (sym own))
 
     -- Inactivity, by its handler
     inactive : (h : Handler) → Now (tidying (handled h inactivity m published r))
     inactive Cancel w =
         absurd (finished-spoils put.id r.addressing.id (failed inactivity) [] own refl
         (or_parts (spoils put.id (indication.Fault r.addressing.id inactivity)) (one_tells (spoils put.id) (finished_told r.addressing.id (failed inactivity) ∷ [])) w.good).1)
-    inactive Suspend w = recounted true r.nak_cursor r.finished_due r.nak_count r.finished_count (handled Suspend inactivity m published r).told (paused w) (λ h. h) (λ a. a.cursor) (λ n a. (a.cursor, (a.is_cursor, a.low)))
+    inactive Suspend w = recounted true r.nak_cursor r.finished_due r.nak_count r.finished_count (handled Suspend inactivity m published r).told (paused w) (λ h. h) (λ a. a.cursor)
+        (λ n a. (a.cursor, (a.is_cursor, a.low)))
     inactive Ignore w = recounted r.suspended r.nak_cursor r.finished_due 0 0 (handled Ignore inactivity m published r).told as-awake (λ h. h) (λ a. a.cursor) (λ n a. (a.cursor, (a.is_cursor, a.low)))
     inactive Abandon w = absurd (no-abandon inactivity (indication.Fault r.addressing.id inactivity) w.good)
 
@@ -296,7 +302,8 @@ module _ (put : Put) (awake acks files ends : Bool) (x : SenderState) (r : Recei
     suspend-course =
         let told : List Indication = indication.Suspended r.addressing.id suspend_request ∷ [] in
         cond_both (is_receiving r.phase && not r.suspended) (telling told (leaving m published (record r { suspended = true }))) (leaving m published r) Now
-        (λ _ w. pauses-course true r.nak_count r.finished_count told (λ f. absurd (both_ways (same_id put.id r.addressing.id) (or_parts (same_id put.id r.addressing.id) false (w.unpaused f)).0 (same_id-itself put.id r.addressing.id (sym own)))))
+        (λ _ w. pauses-course true r.nak_count r.finished_count told (λ f. absurd
+        (both_ways (same_id put.id r.addressing.id) (or_parts (same_id put.id r.addressing.id) false (w.unpaused f)).0 (same_id-itself put.id r.addressing.id (sym own)))))
         (λ _ w. same-course [])
 
     resume-course : Now (resumes m published r)

@@ -78,7 +78,8 @@ module _ (x : SenderState) where
   ]
 
   rest-none : x.metadata_due ≡ false → front_of x.asked x.segment ≡ None → rest_due x ≡ None → HasSent x
-  rest-none sent unasked = cond_both (nat_lt x.sent x.size) (Some (sender_due_is.NewData x.sent (min x.size (x.sent + x.segment)))) (if x.eof_due || not x.eof_taken then Some sender_due_is.Eof else None) (λ o. o ≡ None → HasSent x)
+  rest-none sent unasked = cond_both (nat_lt x.sent x.size) (Some (sender_due_is.NewData x.sent (min x.size (x.sent + x.segment))))
+      (if x.eof_due || not x.eof_taken then Some sender_due_is.Eof else None) (λ o. o ≡ None → HasSent x)
       (λ _ e. cc)
       (λ all. cond_both (x.eof_due || not x.eof_taken) (Some sender_due_is.Eof) None (λ o. o ≡ None → HasSent x)
       (λ _ e. cc)
@@ -153,7 +154,8 @@ never-some o n e f = false≢true (sym (ap is_some f) ∙ ap is_some e)
 pub whole : (put : Put) (metadata : Option FileInfo) (ending : Option Ending) (held : Offsets) → is_some metadata ≡ true → is_some ending ≡ true → IfSome ending (λ e. e.size ≡ length put.octets)
     → ((n : ℕ) → n < length put.octets → set.contains held n ≡ true) → is_whole metadata ending held ≡ true
 whole put (Some info) (Some ending) held m e size all =
-    set.contains-is_subset nat_cmp_total (range 0 ending.size) held (λ n h. let low : n < ending.size = below n h in let same : ending.size ≡ length put.octets = size in all n (omega (arith, low, same)))
+    set.contains-is_subset nat_cmp_total (range 0 ending.size) held (λ n h. let low : n < ending.size = below n h in let same : ending.size ≡ length put.octets = size in
+    all n (omega (arith, low, same)))
   where
     below : (n : ℕ) → set.contains (range 0 ending.size) n ≡ true → n < ending.size
     below n h = ltb-true n ending.size (and_parts (nat_le 0 n) (nat_lt n ending.size) (sym (contains-range 0 ending.size n) ∙ h)).1
@@ -205,7 +207,8 @@ module _ (put : Put) (x : SenderState) (o : Option ReceiverState) (b c : Bool) (
 
   -- the file has come
   file-sent : x.phase ≡ sending.Sending → FileComes put x o [] [] → (o1 : Option ReceiverState) → o ≡ o1 → maybe has_ended o1 ≡ true
-  file-sent sends f None is = absurd (false≢true (sym (ap (maybe knows_metadata) is) ∙ come-known owes_metadata is_metadata knows_metadata names_metadata AsksFirst x o (no-eof sends) (sent sends).metadata (no-first o refl) f.metadata))
+  file-sent sends f None is = absurd (false≢true (sym (ap (maybe knows_metadata) is)
+      ∙ come-known owes_metadata is_metadata knows_metadata names_metadata AsksFirst x o (no-eof sends) (sent sends).metadata (no-first o refl) f.metadata))
   file-sent sends f (Some r) is = from r.phase refl
     where
       ending : maybe knows_ending o ≡ true
@@ -214,7 +217,9 @@ module _ (put : Put) (x : SenderState) (o : Option ReceiverState) (b c : Bool) (
       from : (phase : ReceiverPhase) → r.phase ≡ phase → has_ended r ≡ true
       from Receiving phase =
           let receiving : (d : Bool) → once_ended r.phase d ≡ true → d ≡ true = λ d h. sym (ap (λ p. once_ended p d) phase) ∙ h in
-          let m : is_some r.metadata ≡ true = receiving (is_some r.metadata) (sym (ap (maybe knows_metadata) is) ∙ come-known owes_metadata is_metadata knows_metadata names_metadata AsksFirst x o (no-eof sends) (sent sends).metadata (no-first o refl) f.metadata) in
+          let m : is_some r.metadata ≡ true = receiving (is_some r.metadata)
+          (sym (ap (maybe knows_metadata) is) ∙ come-known owes_metadata is_metadata knows_metadata names_metadata AsksFirst x o (no-eof sends) (sent sends).metadata (no-first o refl) f.metadata)
+          in
           let e : is_some r.ending ≡ true = receiving (is_some r.ending) (sym (ap (maybe knows_ending) is) ∙ ending) in
           let truth : IsReceiverTrue put r = is-true r is in
           let all : is_whole r.metadata r.ending r.held ≡ true = whole put r.metadata r.ending r.held m e (truth.ending phase) octet in
@@ -223,7 +228,8 @@ module _ (put : Put) (x : SenderState) (o : Option ReceiverState) (b c : Bool) (
         where
           octet : (n : ℕ) → n < length put.octets → set.contains r.held n ≡ true
           octet n below =
-              let known : maybe (holds n) o ≡ true = come-known (owes_octet n) (brings n) (holds n) (names n) (AsksFrom n) x o (no-eof sends) ((sent sends).asked some n) (no-from n o refl) (f.octets n below) in
+              let known : maybe (holds n) o ≡ true = come-known (owes_octet n) (brings n) (holds n) (names n) (AsksFrom n) x o (no-eof sends) ((sent sends).asked some n) (no-from n o refl)
+              (f.octets n below) in
               sym (ap (λ p. once_ended p (set.contains r.held n)) phase) ∙ sym (ap (maybe (holds n)) is) ∙ known
       from Finishing phase = ap (λ p. once_ended p false) phase
       from Closed phase = ap (λ p. once_ended p false) phase
@@ -258,7 +264,8 @@ module _ (put : Put) (x : SenderState) (o : Option ReceiverState) (b c : Bool) (
           phase-from Closed phase = ap is_closed_in phase
 
 -- with all debts, nothing due and nothing on its way, both are closed and told that it is complete
-pub completes : (put : Put) (x : SenderState) (o : Option ReceiverState) (b c : Bool) → IsSenderOf put x → IsInFile x → IsCourse put true true true true x o [] [] b c → sender_due x ≡ None → NothingDue o
+pub completes : (put : Put) (x : SenderState) (o : Option ReceiverState) (b c : Bool) → IsSenderOf put x → IsInFile x → IsCourse put true true true true x o [] [] b c → sender_due x ≡ None →
+    NothingDue o
     → (x.phase ≡ sending.Closed) × ((maybe is_closed o ≡ true) × ((b ≡ true) × (c ≡ true)))
 completes put x o b c of inside h quiet_sender nothing =
     let t : IsTrueBetween put x o [] [] b c = h.truth in

@@ -37,7 +37,8 @@ tidied-tidy r = from r.nak_cursor
     from None = refl
 
 -- a fault other than inactivity spoils the transaction
-pub fault-spoils : (id of : TransactionId) (condition : ℕ) (more : List Indication) → of ≡ id → (condition == inactivity) ≡ false → one_tells (spoils id) (indication.Fault of condition ∷ more) ≡ false → ⊥
+pub fault-spoils : (id of : TransactionId) (condition : ℕ) (more : List Indication) → of ≡ id → (condition == inactivity) ≡ false → one_tells (spoils id) (indication.Fault of condition ∷ more)
+    ≡ false → ⊥
 fault-spoils id of condition more own other good =
     both_ways (same_id id of && not (condition == inactivity)) (or_parts (same_id id of && not (condition == inactivity)) (one_tells (spoils id) more) good).0
     (and_from (same_id id of) (not (condition == inactivity)) (same_id-itself id of (sym own)) (ap not other))
@@ -128,11 +129,13 @@ module _ (put : Put) (v : Content) (r : ReceiverState) (is : r.phase ≡ Receivi
   pub faults-not : (condition : ℕ) (m : OctetMap) (files : FileMap) (r1 : ReceiverState) → r1.addressing.id ≡ put.id → (condition == inactivity) ≡ false → After (faulted condition m files r1)
   faults-not condition m files r1 own other good = absurd (fault-spoils put.id r1.addressing.id condition (ends (failed condition) m files r1).told own other good)
 
-  publishes : (stored : Stored) (info : FileInfo) (ending : Ending) (m : OctetMap) (files : FileMap) (r1 : ReceiverState) → Gains put v r r1 → is_some r1.ending ≡ true → After (published_by stored info ending m files r1)
+  publishes : (stored : Stored) (info : FileInfo) (ending : Ending) (m : OctetMap) (files : FileMap) (r1 : ReceiverState) → Gains put v r r1 → is_some r1.ending ≡ true →
+      After (published_by stored info ending m files r1)
   publishes Done info ending m files r1 g known = gains-ends m (map.insert files info.destination (front m ending.size)) r1 g known
   publishes Refused info ending m files r1 g known = faults-not filestore_rejection m files r1 g.own refl
 
-  completes-by : (stored : Stored) (m : OctetMap) (files : FileMap) (r1 : ReceiverState) (info : Option FileInfo) (ending : Option Ending) → Gains put v r r1 → r1.metadata ≡ info → r1.ending ≡ ending → After (completed_by stored info ending m files r1)
+  completes-by : (stored : Stored) (m : OctetMap) (files : FileMap) (r1 : ReceiverState) (info : Option FileInfo) (ending : Option Ending) → Gains put v r r1 → r1.metadata ≡ info → r1.ending
+      ≡ ending → After (completed_by stored info ending m files r1)
   completes-by stored m files r1 (Some info) (Some ending) g named known =
       cond_both (set.is_subset (range 0 ending.size) r1.held)
       (if agrees info ending r1.checksum then published_by stored info ending m files r1 else faulted file_checksum_failure m files r1) (leaving m files r1) After

@@ -48,7 +48,8 @@ module _ (put : Put) (stored : Stored) (m : OctetMap) (files : FileMap) (r : Rec
     pub ending : r1.ending ≡ r.ending
     pub held : r1.held ≡ r.held
 
-  stays : (v : Content) (r1 : ReceiverState) → Same r1 → (is_metadata v ≡ true → is_some r.metadata ≡ true) → (is_eof v ≡ true → is_some r.ending ≡ true) → ((n : ℕ) → brings n v ≡ true → set.contains r.held n ≡ true)
+  stays : (v : Content) (r1 : ReceiverState) → Same r1 → (is_metadata v ≡ true → is_some r.metadata ≡ true) → (is_eof v ≡ true → is_some r.ending ≡ true) →
+      ((n : ℕ) → brings n v ≡ true → set.contains r.held n ≡ true)
       → ((owes_ack r ≡ true) ⊎ (is_eof v ≡ true) → owes_ack r1 ≡ true) → (owes_ack r1 ≡ true → (owes_ack r ≡ true) ⊎ (is_eof v ≡ true)) → Gains put v r r1
   stays v r1 s m e d acks ack_new = record {
     phase = s.phase ∙ is;
@@ -71,7 +72,8 @@ module _ (put : Put) (stored : Stored) (m : OctetMap) (files : FileMap) (r : Rec
       not-out true true t h = absurd (false≢true h)
       not-out false true t h = absurd (false≢true t)
 
-  stays-waits : (v : Content) (r1 : ReceiverState) → Same r1 → (is_metadata v ≡ true → is_some r.metadata ≡ true) → (is_eof v ≡ true → is_some r.ending ≡ true) → ((n : ℕ) → brings n v ≡ true → set.contains r.held n ≡ true)
+  stays-waits : (v : Content) (r1 : ReceiverState) → Same r1 → (is_metadata v ≡ true → is_some r.metadata ≡ true) → (is_eof v ≡ true → is_some r.ending ≡ true) →
+      ((n : ℕ) → brings n v ≡ true → set.contains r.held n ≡ true)
       → ((owes_ack r ≡ true) ⊎ (is_eof v ≡ true) → owes_ack r1 ≡ true) → (owes_ack r1 ≡ true → (owes_ack r ≡ true) ⊎ (is_eof v ≡ true)) → To v (leaving m files r1)
   stays-waits v r1 s meta e d acks ack_new = gains-waits put v r is m files r1 (stays v r1 s meta e d acks ack_new)
       (ap (λ i. is_whole i r1.ending r1.held) s.metadata ∙ ap (λ e. is_whole r.metadata e r1.held) s.ending ∙ ap (λ o. is_whole r.metadata r.ending o) s.held ∙ lacks)
@@ -88,7 +90,8 @@ module _ (put : Put) (stored : Stored) (m : OctetMap) (files : FileMap) (r : Rec
   not_so e = absurd (false≢true e)
 
   -- Metadata
-  metadata-advances : (checksum_kind size : ℕ) (source destination : List ℕ) (options : List Tlv) → To (Metadata checksum_kind size source destination options) (receives_metadata stored checksum_kind size source destination m files r)
+  metadata-advances : (checksum_kind size : ℕ) (source destination : List ℕ) (options : List Tlv) →
+      To (Metadata checksum_kind size source destination options) (receives_metadata stored checksum_kind size source destination m files r)
   metadata-advances checksum_kind size source destination options =
       let v : Content = Metadata checksum_kind size source destination options in
       let i : Indication = indication.MetadataRecv r.addressing.id source destination size in
@@ -140,7 +143,8 @@ module _ (put : Put) (stored : Stored) (m : OctetMap) (files : FileMap) (r : Rec
   data-advances offset bytes =
       let v : Content = FileData offset bytes in
       let end : ℕ = offset + length bytes in
-      cond_both (exceeds r.ending end) (faulted file_size_error m files r) (if set.is_subset (range offset end) r.held then completed stored m files r else receives_new stored offset bytes m files r) (To v)
+      cond_both (exceeds r.ending end) (faulted file_size_error m files r) (if set.is_subset (range offset end) r.held then completed stored m files r else receives_new stored offset bytes m files r)
+      (To v)
       (λ _. faults-not put v r is file_size_error m files r own refl)
       (λ _. cond_both (set.is_subset (range offset end) r.held) (completed stored m files r) (receives_new stored offset bytes m files r) (To v)
       (λ all. completes put v r is stored m files r (stays v r itself (λ e. not_so e) (λ e. not_so e)
@@ -184,8 +188,10 @@ module _ (put : Put) (stored : Stored) (m : OctetMap) (files : FileMap) (r : Rec
       (λ h. ap is_no_error acks ∙ was_owed v e h) (λ h. inl (sym (ap is_no_error acks) ∙ h))
 
   prompt-advances : (keep_alive : Bool) → To (Prompt keep_alive) (leaving m files (prompted_for keep_alive r))
-  prompt-advances true = quiet-advances (Prompt true) (record r { keep_alive_due = true }) (record { addressing = refl; phase = refl; suspended = refl; metadata = refl; ending = refl; held = refl }) refl refl refl (λ n. refl)
-  prompt-advances false = quiet-advances (Prompt false) (record r { nak_cursor = Some 0 }) (record { addressing = refl; phase = refl; suspended = refl; metadata = refl; ending = refl; held = refl }) refl refl refl (λ n. refl)
+  prompt-advances true = quiet-advances (Prompt true) (record r { keep_alive_due = true })
+      (record { addressing = refl; phase = refl; suspended = refl; metadata = refl; ending = refl; held = refl }) refl refl refl (λ n. refl)
+  prompt-advances false = quiet-advances (Prompt false) (record r { nak_cursor = Some 0 })
+      (record { addressing = refl; phase = refl; suspended = refl; metadata = refl; ending = refl; held = refl }) refl refl refl (λ n. refl)
 
   ack-waits : (condition : ℕ) (status : TransactionStatus) → To (Ack acknowledged.Finished condition status) (leaving m files (acknowledged_by r))
   ack-waits condition status =
@@ -306,7 +312,8 @@ module _ (put : Put) (stored : Stored) (m : OctetMap) (files : FileMap) (r : Rec
       (λ over _. same-advances put r c over (Eof no_error checksum size tlvs) (Some no_error) refl refl refl)
 
   -- A true PDU that spoils nothing moves a receiver on.
-  pub hears-advances : (v : Content) → IsTrueForth put v → one_tells (spoils put.id) (receiver_hears stored v m files r).told ≡ false → Advances put v r (receiver_hears stored v m files r).receiver (receiver_hears stored v m files r).told
+  pub hears-advances : (v : Content) → IsTrueForth put v → one_tells (spoils put.id) (receiver_hears stored v m files r).told ≡ false →
+      Advances put v r (receiver_hears stored v m files r).receiver (receiver_hears stored v m files r).told
   hears-advances (Metadata checksum_kind size source destination options) t good =
       by-phase (Metadata checksum_kind size source destination options) (receives_metadata stored checksum_kind size source destination m files r) (leaving m files r)
       (λ is. metadata-advances put stored m files r c own is checksum_kind size source destination options)

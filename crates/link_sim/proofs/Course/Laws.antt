@@ -47,35 +47,43 @@ told_with put before told = before || one_tells (tells_complete put.id) told
 
 pub record CourseLaws : Type 0 where
   -- ---- the sender
-  pub sender_sends : (put : Put) (awake acks files ends : Bool) (x : SenderState) (o : Option ReceiverState) (forth back : List Content) (b c : Bool) (d : SenderDue) → IsSenderOf put x → IsInFile x → sender_due x ≡ Some d →
+  pub sender_sends : (put : Put) (awake acks files ends : Bool) (x : SenderState) (o : Option ReceiverState) (forth back : List Content) (b c : Bool) (d : SenderDue) → IsSenderOf put x → IsInFile x →
+      sender_due x ≡ Some d →
       let a = sender_sends Done put.octets x d in IsCourse put awake acks files ends x o forth back b c → TellsWell put awake a.told →
       IsCourse put awake acks files ends a.sender o (forth ++ sender_says put.octets x d ∷ []) back (told_with put b a.told) c
-  pub sender_hears : (put : Put) (awake acks files ends : Bool) (x : SenderState) (o : Option ReceiverState) (forth before after : List Content) (v : Content) (b c : Bool) (a : SenderAfter) → IsSenderOf put x → IsInFile x → sender_after v x ≡ Some a →
+  pub sender_hears : (put : Put) (awake acks files ends : Bool) (x : SenderState) (o : Option ReceiverState) (forth before after : List Content) (v : Content) (b c : Bool) (a : SenderAfter) →
+      IsSenderOf put x → IsInFile x → sender_after v x ≡ Some a →
       IsCourse put awake acks files ends x o forth (before ++ v ∷ after) b c → TellsWell put awake a.told →
       IsCourse put awake acks files ends a.sender o forth (before ++ after) (told_with put b a.told) c
-  pub sender_expires : (put : Put) (awake acks files ends : Bool) (x : SenderState) (o : Option ReceiverState) (forth back : List Content) (b c : Bool) (k : Kind) (policy : Policy) → IsSenderOf put x → IsInFile x →
+  pub sender_expires : (put : Put) (awake acks files ends : Bool) (x : SenderState) (o : Option ReceiverState) (forth back : List Content) (b c : Bool) (k : Kind) (policy : Policy) →
+      IsSenderOf put x → IsInFile x →
       let a = sender_expires k policy x in IsCourse put awake acks files ends x o forth back b c → TellsWell put awake a.told → a.sender.phase ≢ sending.Cancelling →
       IsCourse put awake acks files ends a.sender o forth back (told_with put b a.told) c
   pub sender_called : (put : Put) (awake acks files ends : Bool) (x : SenderState) (o : Option ReceiverState) (forth back : List Content) (b c : Bool) (call : Call) → IsSenderOf put x → IsInFile x →
       let a = called_sender call x in IsCourse put awake acks files ends x o forth back b c → TellsWell put awake a.told → a.sender.phase ≢ sending.Cancelling →
       IsCourse put awake acks files ends a.sender o forth back (told_with put b a.told) c
   -- ---- the receiver
-  pub receiver_takes : (put : Put) (awake acks files ends : Bool) (x : SenderState) (r : ReceiverState) (forth back : List Content) (b c : Bool) (d : Due) (m : OctetMap) (published : FileMap) → r.addressing.id ≡ put.id → receiver_due r ≡ Some d →
+  pub receiver_takes : (put : Put) (awake acks files ends : Bool) (x : SenderState) (r : ReceiverState) (forth back : List Content) (b c : Bool) (d : Due) (m : OctetMap) (published : FileMap) →
+      r.addressing.id ≡ put.id → receiver_due r ≡ Some d →
       let a = takes d m published r in IsCourse put awake acks files ends x (Some r) forth back b c → TellsWell put awake a.told →
       IsCourse put awake acks files ends x (Some a.receiver) forth (back ++ receiver_says r d ∷ []) b (told_with put c a.told)
-  pub receiver_hears : (put : Put) (awake acks files ends : Bool) (x : SenderState) (r : ReceiverState) (before after back : List Content) (v : Content) (b c : Bool) (stored : Stored) (m : OctetMap) (published : FileMap) (a : ReceiverAfter) → r.addressing.id ≡ put.id → x.size ≡ length put.octets → receiver_after stored v m published r ≡ Some a →
+  pub receiver_hears : (put : Put) (awake acks files ends : Bool) (x : SenderState) (r : ReceiverState) (before after back : List Content) (v : Content) (b c : Bool) (stored : Stored) (m : OctetMap)
+      (published : FileMap) (a : ReceiverAfter) → r.addressing.id ≡ put.id → x.size ≡ length put.octets → receiver_after stored v m published r ≡ Some a →
       IsCourse put awake acks files ends x (Some r) (before ++ v ∷ after) back b c → TellsWell put awake a.told →
       IsCourse put awake acks files ends x (Some a.receiver) (before ++ after) back b (told_with put c a.told)
-  pub receiver_opens : (put : Put) (awake acks files ends : Bool) (x : SenderState) (before after back : List Content) (v : Content) (b c : Bool) (begun stored : Stored) (published : FileMap) (addressing : Addressing) → addressing.id ≡ put.id → x.size ≡ length put.octets → opening_work v ≢ 0 →
+  pub receiver_opens : (put : Put) (awake acks files ends : Bool) (x : SenderState) (before after back : List Content) (v : Content) (b c : Bool) (begun stored : Stored) (published : FileMap)
+      (addressing : Addressing) → addressing.id ≡ put.id → x.size ≡ length put.octets → opening_work v ≢ 0 →
       let a = opens_hearing begun stored v published addressing in IsCourse put awake acks files ends x None (before ++ v ∷ after) back b c → TellsWell put awake a.told →
       IsCourse put awake acks files ends x (Some a.receiver) (before ++ after) back b (told_with put c a.told)
   -- a PDU that opens no record is lost where there is none, and that does no harm
   pub none_hears : (put : Put) (awake acks files ends : Bool) (x : SenderState) (before after back : List Content) (v : Content) (b c : Bool) → opening_work v ≡ 0 →
       IsCourse put awake acks files ends x None (before ++ v ∷ after) back b c → IsCourse put awake acks files ends x None (before ++ after) back b c
-  pub receiver_expires : (put : Put) (awake acks files ends : Bool) (x : SenderState) (r : ReceiverState) (forth back : List Content) (b c : Bool) (k : Kind) (policy : Policy) (m : OctetMap) (published : FileMap) → r.addressing.id ≡ put.id → x.size ≡ length put.octets →
+  pub receiver_expires : (put : Put) (awake acks files ends : Bool) (x : SenderState) (r : ReceiverState) (forth back : List Content) (b c : Bool) (k : Kind) (policy : Policy) (m : OctetMap)
+      (published : FileMap) → r.addressing.id ≡ put.id → x.size ≡ length put.octets →
       let a = expires k policy m published r in IsCourse put awake acks files ends x (Some r) forth back b c → TellsWell put awake a.told →
       IsCourse put awake acks files ends x (Some a.receiver) forth back b (told_with put c a.told)
-  pub receiver_called : (put : Put) (awake acks files ends : Bool) (x : SenderState) (r : ReceiverState) (forth back : List Content) (b c : Bool) (call : Call) (m : OctetMap) (published : FileMap) (a : ReceiverAfter) → r.addressing.id ≡ put.id → called_receiver call m published r ≡ Some a →
+  pub receiver_called : (put : Put) (awake acks files ends : Bool) (x : SenderState) (r : ReceiverState) (forth back : List Content) (b c : Bool) (call : Call) (m : OctetMap) (published : FileMap)
+      (a : ReceiverAfter) → r.addressing.id ≡ put.id → called_receiver call m published r ≡ Some a →
       IsCourse put awake acks files ends x (Some r) forth back b c → TellsWell put awake a.told →
       IsCourse put awake acks files ends x (Some a.receiver) forth back b (told_with put c a.told)
   -- ---- the link
@@ -85,7 +93,9 @@ pub record CourseLaws : Type 0 where
       IsCourse put false false false false x o forth (before ++ v ∷ after) b c → IsCourse put false false false false x o forth (before ++ after) b c
   -- ---- at first, and in the end
   pub opened : (t : Transfer) (file : List ℕ) (awake acks files ends b c : Bool) → IsCourse (put_of t file) awake acks files ends (opened_sender t) None [] [] b c
-  pub told_more : (put : Put) (awake acks files ends : Bool) (x : SenderState) (o : Option ReceiverState) (forth back : List Content) (b b1 c c1 : Bool) → (b ≡ true → b1 ≡ true) → (c ≡ true → c1 ≡ true) →
+  pub told_more : (put : Put) (awake acks files ends : Bool) (x : SenderState) (o : Option ReceiverState) (forth back : List Content) (b b1 c c1 : Bool) → (b ≡ true → b1 ≡ true) →
+      (c ≡ true → c1 ≡ true) →
       IsCourse put awake acks files ends x o forth back b c → IsCourse put awake acks files ends x o forth back b1 c1
-  pub completes : (put : Put) (x : SenderState) (o : Option ReceiverState) (b c : Bool) → IsSenderOf put x → IsInFile x → IsCourse put true true true true x o [] [] b c → sender_due x ≡ None → NothingDue o →
+  pub completes : (put : Put) (x : SenderState) (o : Option ReceiverState) (b c : Bool) → IsSenderOf put x → IsInFile x → IsCourse put true true true true x o [] [] b c → sender_due x ≡ None →
+      NothingDue o →
       (x.phase ≡ sending.Closed) × ((maybe is_closed o ≡ true) × ((b ≡ true) × (c ≡ true)))

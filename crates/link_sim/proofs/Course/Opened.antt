@@ -36,7 +36,8 @@ opened t file awake acks files ends b c = record {
   end_comes = λ _ h. absurd (false≢true h);
 }
 
-pub told-more : (put : Put) (awake acks files ends : Bool) (x : SenderState) (o : Option ReceiverState) (forth back : List Content) (b b1 c c1 : Bool) → (b ≡ true → b1 ≡ true) → (c ≡ true → c1 ≡ true) →
+pub told-more : (put : Put) (awake acks files ends : Bool) (x : SenderState) (o : Option ReceiverState) (forth back : List Content) (b b1 c c1 : Bool) → (b ≡ true → b1 ≡ true) →
+    (c ≡ true → c1 ≡ true) →
     IsCourse put awake acks files ends x o forth back b c → IsCourse put awake acks files ends x o forth back b1 c1
 told-more put awake acks files ends x o forth back b b1 c c1 more more_there k =
     let t = k.truth in

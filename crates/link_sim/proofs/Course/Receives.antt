@@ -35,7 +35,8 @@ use Rattle.link_sim.proofs.Course.Heard.{hears-advances}
 use Rattle.link_sim.proofs.Course.Does.{takes-course, expires-course, called-course}
 
 -- a PDU that a receiver hears
-pub after-is : (stored : Stored) (v : Content) (m : OctetMap) (files : FileMap) (r : ReceiverState) (a : ReceiverAfter) → receiver_after stored v m files r ≡ Some a → a ≡ receiver_hears stored v m files r
+pub after-is : (stored : Stored) (v : Content) (m : OctetMap) (files : FileMap) (r : ReceiverState) (a : ReceiverAfter) → receiver_after stored v m files r ≡ Some a → a
+    ≡ receiver_hears stored v m files r
 after-is stored (Metadata checksum_kind size source destination options) m files r a is = cc
 after-is stored (FileData offset bytes) m files r a is = cc
 after-is stored (Eof condition checksum size tlvs) m files r a is = cc
@@ -51,7 +52,8 @@ module _ (put : Put) (awake acks files ends : Bool) (x : SenderState) where
   Course o forth back b c = IsCourse put awake acks files ends x o forth back b c
 
   -- ---- it hears a PDU
-  hears-course : (r : ReceiverState) (before after back : List Content) (v : Content) (b c : Bool) (stored : Stored) (m : OctetMap) (published : FileMap) → r.addressing.id ≡ put.id → Course (Some r) (before ++ v ∷ after) back b c
+  hears-course : (r : ReceiverState) (before after back : List Content) (v : Content) (b c : Bool) (stored : Stored) (m : OctetMap) (published : FileMap) → r.addressing.id ≡ put.id →
+      Course (Some r) (before ++ v ∷ after) back b c
       → let a = receiver_hears stored v m published r in TellsWell put awake a.told → Course (Some a.receiver) (before ++ after) back b (told_with put c a.told)
   hears-course r before after back v b c stored m published own k w =
       let a1 : ReceiverAfter = receiver_hears stored v m published r in
@@ -75,7 +77,8 @@ module _ (put : Put) (awake acks files ends : Bool) (x : SenderState) where
     end_comes = λ _. opened-end put addressing x forth back;
   }
 
-  none-course : (before after back : List Content) (v : Content) (b c : Bool) → is_metadata v ≡ false → is_eof v ≡ false → ((n : ℕ) → brings n v ≡ false) → Course None (before ++ v ∷ after) back b c → Course None (before ++ after) back b c
+  none-course : (before after back : List Content) (v : Content) (b c : Bool) → is_metadata v ≡ false → is_eof v ≡ false → ((n : ℕ) → brings n v ≡ false) → Course None (before ++ v ∷ after) back b c →
+      Course None (before ++ after) back b c
   none-course before after back v b c metadata eof data_none k = record {
     truth = lost-forth put x None before after back v b c k.truth;
     active = λ f. record { sender = (k.active f).sender; receiver = refl };
@@ -85,12 +88,14 @@ module _ (put : Put) (awake acks files ends : Bool) (x : SenderState) where
   }
 
 -- ---- the laws
-pub receiver-takes : (put : Put) (awake acks files ends : Bool) (x : SenderState) (r : ReceiverState) (forth back : List Content) (b c : Bool) (d : Due) (m : OctetMap) (published : FileMap) → r.addressing.id ≡ put.id → receiver_due r ≡ Some d →
+pub receiver-takes : (put : Put) (awake acks files ends : Bool) (x : SenderState) (r : ReceiverState) (forth back : List Content) (b c : Bool) (d : Due) (m : OctetMap) (published : FileMap) →
+    r.addressing.id ≡ put.id → receiver_due r ≡ Some d →
     let a = takes d m published r in IsCourse put awake acks files ends x (Some r) forth back b c → TellsWell put awake a.told →
     IsCourse put awake acks files ends x (Some a.receiver) forth (back ++ receiver_says r d ∷ []) b (told_with put c a.told)
 receiver-takes put awake acks files ends x r forth back b c d m published own is k w = takes-course put awake acks files ends x r forth back b c own k m published d is
 
-pub receiver-hears : (put : Put) (awake acks files ends : Bool) (x : SenderState) (r : ReceiverState) (before after back : List Content) (v : Content) (b c : Bool) (stored : Stored) (m : OctetMap) (published : FileMap) (a : ReceiverAfter) → r.addressing.id ≡ put.id → x.size ≡ length put.octets → receiver_after stored v m published r ≡ Some a →
+pub receiver-hears : (put : Put) (awake acks files ends : Bool) (x : SenderState) (r : ReceiverState) (before after back : List Content) (v : Content) (b c : Bool) (stored : Stored) (m : OctetMap)
+    (published : FileMap) (a : ReceiverAfter) → r.addressing.id ≡ put.id → x.size ≡ length put.octets → receiver_after stored v m published r ≡ Some a →
     IsCourse put awake acks files ends x (Some r) (before ++ v ∷ after) back b c → TellsWell put awake a.told →
     IsCourse put awake acks files ends x (Some a.receiver) (before ++ after) back b (told_with put c a.told)
 receiver-hears put awake acks files ends x r before after back v b c stored m published a own size is k =
@@ -98,7 +103,8 @@ receiver-hears put awake acks files ends x r before after back v b c stored m pu
     (sym (after-is stored v m published r a is))
     (hears-course put awake acks files ends x r before after back v b c stored m published own k)
 
-pub receiver-opens : (put : Put) (awake acks files ends : Bool) (x : SenderState) (before after back : List Content) (v : Content) (b c : Bool) (begun stored : Stored) (published : FileMap) (addressing : Addressing) → addressing.id ≡ put.id → x.size ≡ length put.octets → opening_work v ≢ 0 →
+pub receiver-opens : (put : Put) (awake acks files ends : Bool) (x : SenderState) (before after back : List Content) (v : Content) (b c : Bool) (begun stored : Stored) (published : FileMap)
+    (addressing : Addressing) → addressing.id ≡ put.id → x.size ≡ length put.octets → opening_work v ≢ 0 →
     let a = opens_hearing begun stored v published addressing in IsCourse put awake acks files ends x None (before ++ v ∷ after) back b c → TellsWell put awake a.told →
     IsCourse put awake acks files ends x (Some a.receiver) (before ++ after) back b (told_with put c a.told)
 receiver-opens put awake acks files ends x before after back v b c Done stored published addressing own size opening k w =
@@ -111,7 +117,8 @@ pub none-hears : (put : Put) (awake acks files ends : Bool) (x : SenderState) (b
     IsCourse put awake acks files ends x None (before ++ v ∷ after) back b c → IsCourse put awake acks files ends x None (before ++ after) back b c
 none-hears put awake acks files ends x before after back v b c none = by v none
   where
-    useless : (v : Content) → is_metadata v ≡ false → is_eof v ≡ false → ((n : ℕ) → brings n v ≡ false) → IsCourse put awake acks files ends x None (before ++ v ∷ after) back b c → IsCourse put awake acks files ends x None (before ++ after) back b c
+    useless : (v : Content) → is_metadata v ≡ false → is_eof v ≡ false → ((n : ℕ) → brings n v ≡ false) → IsCourse put awake acks files ends x None (before ++ v ∷ after) back b c →
+        IsCourse put awake acks files ends x None (before ++ after) back b c
     useless v = none-course put awake acks files ends x before after back v b c
 
     by : (v : Content) → opening_work v ≡ 0 → IsCourse put awake acks files ends x None (before ++ v ∷ after) back b c → IsCourse put awake acks files ends x None (before ++ after) back b c
@@ -124,12 +131,14 @@ none-hears put awake acks files ends x before after back v b c none = by v none
     by (Nak start end pairs) none = useless (Nak start end pairs) refl refl (λ n. refl)
     by (KeepAlive progress) none = useless (KeepAlive progress) refl refl (λ n. refl)
 
-pub receiver-expires : (put : Put) (awake acks files ends : Bool) (x : SenderState) (r : ReceiverState) (forth back : List Content) (b c : Bool) (k : Kind) (policy : Policy) (m : OctetMap) (published : FileMap) → r.addressing.id ≡ put.id → x.size ≡ length put.octets →
+pub receiver-expires : (put : Put) (awake acks files ends : Bool) (x : SenderState) (r : ReceiverState) (forth back : List Content) (b c : Bool) (k : Kind) (policy : Policy) (m : OctetMap)
+    (published : FileMap) → r.addressing.id ≡ put.id → x.size ≡ length put.octets →
     let a = expires k policy m published r in IsCourse put awake acks files ends x (Some r) forth back b c → TellsWell put awake a.told →
     IsCourse put awake acks files ends x (Some a.receiver) forth back b (told_with put c a.told)
 receiver-expires put awake acks files ends x r forth back b c t policy m published own size k = expires-course put awake acks files ends x r forth back b c own k m published t policy
 
-pub receiver-called : (put : Put) (awake acks files ends : Bool) (x : SenderState) (r : ReceiverState) (forth back : List Content) (b c : Bool) (call : Call) (m : OctetMap) (published : FileMap) (a : ReceiverAfter) → r.addressing.id ≡ put.id → called_receiver call m published r ≡ Some a →
+pub receiver-called : (put : Put) (awake acks files ends : Bool) (x : SenderState) (r : ReceiverState) (forth back : List Content) (b c : Bool) (call : Call) (m : OctetMap) (published : FileMap)
+    (a : ReceiverAfter) → r.addressing.id ≡ put.id → called_receiver call m published r ≡ Some a →
     IsCourse put awake acks files ends x (Some r) forth back b c → TellsWell put awake a.told →
     IsCourse put awake acks files ends x (Some a.receiver) forth back b (told_with put c a.told)
 receiver-called put awake acks files ends x r forth back b c call m published a own is k = called-course put awake acks files ends x r forth back b c own k m published call a is

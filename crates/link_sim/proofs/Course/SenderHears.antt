@@ -63,7 +63,13 @@ both-asked x y z a b = record {
 pair-asked : (p : ℕ × ℕ) (x : SenderState) → Asked x (asks p x)
 pair-asked p x = cond_both ((p.0 == 0) && (p.1 == 0)) (record x { metadata_due = true })
     (if nat_lt p.0 (min p.1 x.sent) then record x { asked = set.union x.asked (range p.0 (min p.1 x.sent)) } else x) (Asked x)
-    (λ _. record { acknowledged = refl; again = refl; suspended = refl; stays = record { size = refl; sent = refl; phase = refl; eof = refl; ack = refl; metadata = λ _. refl; octets = λ n h. h; acknowledged = λ h. h } })
+    (λ _. record {
+      acknowledged = refl;
+      again = refl;
+      suspended = refl;
+      stays =
+          record { size = refl; sent = refl; phase = refl; eof = refl; ack = refl; metadata = λ _. refl; octets = λ n h. h; acknowledged = λ h. h };
+    })
     (λ _. cond_both (nat_lt p.0 (min p.1 x.sent)) (record x { asked = set.union x.asked (range p.0 (min p.1 x.sent)) }) x (Asked x)
     (λ _. record {
       acknowledged = refl;
@@ -118,7 +124,8 @@ module _ (put : Put) (awake acks files ends : Bool) (o : Option ReceiverState) (
         end_comes = λ _ _. inr (inr (inl refl));
       }
 
-  finished-course : (condition : ℕ) (delivery : Delivery) (status : FileStatus) (tlvs : List Tlv) → condition ≡ no_error → delivery ≡ Complete → status ≡ Retained → Was (Finished condition delivery status tlvs)
+  finished-course : (condition : ℕ) (delivery : Delivery) (status : FileStatus) (tlvs : List Tlv) → condition ≡ no_error → delivery ≡ Complete → status ≡ Retained →
+      Was (Finished condition delivery status tlvs)
       → Becomes (sender_hears_finished (record { condition = condition; delivery = delivery; status = status }) x)
   finished-course condition delivery status tlvs e f g k =
       let same : record { condition = condition; delivery = delivery; status = status } ≡ delivered = λ i. record { condition = e i; delivery = f i; status = g i } in
@@ -142,7 +149,8 @@ module _ (put : Put) (awake acks files ends : Bool) (o : Option ReceiverState) (
         stays = itself-stays x;
         acknowledged = t.acknowledged;
         again = λ g. g.due;
-        now = λ here _. absurd (both_ways (x.eof_taken && (condition == no_error)) neither (and_from x.eof_taken (condition == no_error) (t.heard (t.eof_ack_back (waits-here is_ack_of_eof before after v here))) here));
+        now = λ here _. absurd (both_ways (x.eof_taken && (condition == no_error)) neither
+            (and_from x.eof_taken (condition == no_error) (t.heard (t.eof_ack_back (waits-here is_ack_of_eof before after v here))) here));
         suspended = refl;
       })
   ack-phase condition status Cancelling is t = absurd (t.not_cancelled is)
@@ -160,7 +168,8 @@ module _ (put : Put) (awake acks files ends : Bool) (o : Option ReceiverState) (
       let after_it : SenderAfter = sender_hears_ack condition x in
       let x1 : SenderState = after_it.sender in
       let a : Acknowledges o x condition (before ++ v ∷ after) x1 = ack-phase condition status x.phase refl k.truth in
-      drops-course put awake acks files ends o forth c x1 before after v (told_with put b after_it.told) (λ h. absurd (false≢true h)) (λ n _ h. absurd (false≢true h)) a.now (λ h. absurd (false≢true h))
+      drops-course put awake acks files ends o forth c x1 before after v (told_with put b after_it.told) (λ h. absurd (false≢true h)) (λ n _ h. absurd (false≢true h)) a.now
+      (λ h. absurd (false≢true h))
       (stays-course put awake acks files ends o forth c x x1 (before ++ v ∷ after) b after_it.told a.stays a.acknowledged a.again (λ _ h. a.suspended ∙ h) k)
 
   -- ---- NAK
@@ -212,7 +221,8 @@ module _ (put : Put) (awake acks files ends : Bool) (o : Option ReceiverState) (
   heard-course (Prompt keep_alive) a e k = cc
 
 -- ---- the lemma
-pub sender-hears : (put : Put) (awake acks files ends : Bool) (x : SenderState) (o : Option ReceiverState) (forth before after : List Content) (v : Content) (b c : Bool) (a : SenderAfter) → IsSenderOf put x → IsInFile x → sender_after v x ≡ Some a →
+pub sender-hears : (put : Put) (awake acks files ends : Bool) (x : SenderState) (o : Option ReceiverState) (forth before after : List Content) (v : Content) (b c : Bool) (a : SenderAfter) →
+    IsSenderOf put x → IsInFile x → sender_after v x ≡ Some a →
     IsCourse put awake acks files ends x o forth (before ++ v ∷ after) b c → TellsWell put awake a.told →
     IsCourse put awake acks files ends a.sender o forth (before ++ after) (told_with put b a.told) c
 sender-hears put awake acks files ends x o forth before after v b c a s f e k well = heard-course put awake acks files ends o forth c x s before after b v a e k

@@ -50,7 +50,8 @@ pub itself-stays : (x : SenderState) → Stays x x
 itself-stays x = record { size = refl; sent = refl; phase = refl; eof = refl; ack = refl; metadata = λ h. h; octets = λ n h. h; acknowledged = λ h. h }
 
 module _ (put : Put) (awake acks files ends : Bool) (o : Option ReceiverState) (forth : List Content) (c : Bool) where
-  pub stays-course : (x x1 : SenderState) (back : List Content) (b : Bool) (told : List Indication) → Stays x x1 → (x1.acknowledged ≡ true → maybe knows_ending o ≡ true) → (EofAgain x o back → x1.eof_due ≡ true)
+  pub stays-course : (x x1 : SenderState) (back : List Content) (b : Bool) (told : List Indication) → Stays x x1 → (x1.acknowledged ≡ true → maybe knows_ending o ≡ true) →
+      (EofAgain x o back → x1.eof_due ≡ true)
       → (awake ≡ true → x.suspended ≡ false → x1.suspended ≡ false)
       → IsCourse put awake acks files ends x o forth back b c → IsCourse put awake acks files ends x1 o forth back (told_with put b told) c
   stays-course x x1 back b told s acknowledged again active k = record {
@@ -74,7 +75,8 @@ module _ (put : Put) (awake acks files ends : Bool) (o : Option ReceiverState) (
   }
 
   -- a PDU that says nothing wanted, and changes nothing
-  pub other-course : (x : SenderState) (before after : List Content) (v : Content) (b : Bool) (told : List Indication) → names_metadata v ≡ false → ((n : ℕ) → names n v ≡ false) → is_ack_of_eof v ≡ false → is_finished v ≡ false
+  pub other-course : (x : SenderState) (before after : List Content) (v : Content) (b : Bool) (told : List Indication) → names_metadata v ≡ false → ((n : ℕ) → names n v ≡ false) → is_ack_of_eof v
+      ≡ false → is_finished v ≡ false
       → IsCourse put awake acks files ends x o forth (before ++ v ∷ after) b c → IsCourse put awake acks files ends x o forth (before ++ after) (told_with put b told) c
   other-course x before after v b told m d a f k =
       stays-course x x (before ++ after) b told (itself-stays x) k.truth.acknowledged (λ g. g.due) (λ _ h. h)

@@ -31,7 +31,8 @@ pub told-new : (put : Put) (before : Bool) (told : List Indication) → one_tell
 told-new put before told h = or_right before _ h
 
 module _ (put : Put) where
-  pub sends-true : (x x1 : SenderState) (o : Option ReceiverState) (forth back : List Content) (v : Content) (b c : Bool) (told : List Indication) → IsTrueBetween put x o forth back b c → Sends put v x x1
+  pub sends-true : (x x1 : SenderState) (o : Option ReceiverState) (forth back : List Content) (v : Content) (b c : Bool) (told : List Indication) → IsTrueBetween put x o forth back b c →
+      Sends put v x x1
       → IsTrueBetween put x1 o (forth ++ v ∷ []) back (told_with put b told) c
   sends-true x x1 o forth back v b c told t s =
       let was : x1.phase ≡ sending.Closed → x.phase ≡ sending.Closed = λ h. sym s.phase ∙ h in
@@ -56,7 +57,8 @@ module _ (put : Put) where
         receiver_told = t.receiver_told;
       }
 
-  pub stays-true : (x x1 : SenderState) (o : Option ReceiverState) (forth back : List Content) (b c : Bool) (told : List Indication) → IsTrueBetween put x o forth back b c → Stays x x1 → (x1.acknowledged ≡ true → maybe knows_ending o ≡ true)
+  pub stays-true : (x x1 : SenderState) (o : Option ReceiverState) (forth back : List Content) (b c : Bool) (told : List Indication) → IsTrueBetween put x o forth back b c → Stays x x1 →
+      (x1.acknowledged ≡ true → maybe knows_ending o ≡ true)
       → IsTrueBetween put x1 o forth back (told_with put b told) c
   stays-true x x1 o forth back b c told t s acknowledged =
       let was : x1.phase ≡ sending.Closed → x.phase ≡ sending.Closed = λ h. sym s.phase ∙ h in
@@ -82,7 +84,8 @@ module _ (put : Put) where
       }
 
   -- a PDU is no longer on its way to the sender
-  pub dropped-true : (x : SenderState) (o : Option ReceiverState) (forth before after : List Content) (v : Content) (b c : Bool) → IsTrueBetween put x o forth (before ++ v ∷ after) b c → IsTrueBetween put x o forth (before ++ after) b c
+  pub dropped-true : (x : SenderState) (o : Option ReceiverState) (forth before after : List Content) (v : Content) (b c : Bool) → IsTrueBetween put x o forth (before ++ v ∷ after) b c →
+      IsTrueBetween put x o forth (before ++ after) b c
   dropped-true x o forth before after v b c t = record {
     not_cancelled = t.not_cancelled;
     all_sent = t.all_sent;

@@ -41,12 +41,14 @@ module _ (put : Put) (awake acks files ends : Bool) (x : SenderState) (o : Optio
   itself : (told : List Indication) → IsCourse put awake acks files ends x o forth back (told_with put b told) c
   itself told = stays-course put awake acks files ends o forth c x x back b told (itself-stays x) k.truth.acknowledged (λ g. g.due) (λ _ h. h) k
 
-  counted : (count : ℕ) (due : Bool) (told : List Indication) → (x.eof_due ≡ true → due ≡ true) → IsCourse put awake acks files ends (record x { count = count; eof_due = due }) o forth back (told_with put b told) c
+  counted : (count : ℕ) (due : Bool) (told : List Indication) → (x.eof_due ≡ true → due ≡ true) →
+      IsCourse put awake acks files ends (record x { count = count; eof_due = due }) o forth back (told_with put b told) c
   counted count due told still = stays-course put awake acks files ends o forth c x (record x { count = count; eof_due = due }) back b told
       (record { size = refl; sent = refl; phase = refl; eof = refl; ack = refl; metadata = λ h. h; octets = λ n h. h; acknowledged = λ h. h }) k.truth.acknowledged (λ g. still g.due) (λ _ h. h) k
 
   -- suspended or resumed
-  paused : (suspended : Bool) (count : ℕ) (told : List Indication) → (awake ≡ true → suspended ≡ false) → IsCourse put awake acks files ends (record x { suspended = suspended; count = count }) o forth back (told_with put b told) c
+  paused : (suspended : Bool) (count : ℕ) (told : List Indication) → (awake ≡ true → suspended ≡ false) →
+      IsCourse put awake acks files ends (record x { suspended = suspended; count = count }) o forth back (told_with put b told) c
   paused suspended count told active = stays-course put awake acks files ends o forth c x (record x { suspended = suspended; count = count }) back b told
       (record { size = refl; sent = refl; phase = refl; eof = refl; ack = refl; metadata = λ h. h; octets = λ n h. h; acknowledged = λ h. h }) k.truth.acknowledged (λ g. g.due) (λ g _. active g) k
 
@@ -113,7 +115,8 @@ module _ (put : Put) (awake acks files ends : Bool) (x : SenderState) (o : Optio
   called-course (call.Prompt keep_alive) = prompts-course x.phase x.prompt_due keep_alive
 
 -- ---- the lemmas
-pub sender-expires : (put : Put) (awake acks files ends : Bool) (x : SenderState) (o : Option ReceiverState) (forth back : List Content) (b c : Bool) (k : Kind) (policy : Policy) → IsSenderOf put x → IsInFile x →
+pub sender-expires : (put : Put) (awake acks files ends : Bool) (x : SenderState) (o : Option ReceiverState) (forth back : List Content) (b c : Bool) (k : Kind) (policy : Policy) → IsSenderOf put x →
+    IsInFile x →
     let a = sender_expires k policy x in IsCourse put awake acks files ends x o forth back b c → TellsWell put awake a.told → a.sender.phase ≢ Cancelling →
     IsCourse put awake acks files ends a.sender o forth back (told_with put b a.told) c
 sender-expires put awake acks files ends x o forth back b c kind policy s f k w n = expired-course put awake acks files ends x o forth back b c s k kind policy w n

@@ -168,7 +168,8 @@ module _ (put : Put) (x : SenderState) (o : Option ReceiverState) (forth back : 
   due-sends due.Eof f is = eof-sends x.phase refl is
 
 -- ---- the lemma
-pub sender-sends : (put : Put) (awake acks files ends : Bool) (x : SenderState) (o : Option ReceiverState) (forth back : List Content) (b c : Bool) (d : SenderDue) → IsSenderOf put x → IsInFile x → sender_due x ≡ Some d →
+pub sender-sends : (put : Put) (awake acks files ends : Bool) (x : SenderState) (o : Option ReceiverState) (forth back : List Content) (b c : Bool) (d : SenderDue) → IsSenderOf put x → IsInFile x →
+    sender_due x ≡ Some d →
     let a = sender_sends Done put.octets x d in IsCourse put awake acks files ends x o forth back b c → TellsWell put awake a.told →
     IsCourse put awake acks files ends a.sender o (forth ++ sender_says put.octets x d ∷ []) back (told_with put b a.told) c
 sender-sends put awake acks files ends x o forth back b c d s f e k well =

@@ -24,7 +24,8 @@ true-more Is (p ∷ pdus) more h m = (h.0, true-more Is pdus more h.1 m)
 
 module _ (put : Put) where
   -- ---- the receiver hears
-  pub comes-some : (x : SenderState) (r r1 : ReceiverState) (before after back : List Content) (v : Content) (b c : Bool) (told : List Indication) → IsTrueBetween put x (Some r) (before ++ v ∷ after) back b c
+  pub comes-some : (x : SenderState) (r r1 : ReceiverState) (before after back : List Content) (v : Content) (b c : Bool) (told : List Indication) →
+      IsTrueBetween put x (Some r) (before ++ v ∷ after) back b c
       → Advances put v r r1 told → IsTrueBetween put x (Some r1) (before ++ after) back b (told_with put c told)
   comes-some x r r1 before after back v b c told t a = record {
     not_cancelled = t.not_cancelled;
@@ -50,7 +51,8 @@ module _ (put : Put) where
   opened-true addressing = record { ending = λ _. tt; lacking = refl; tidy = refl; well = refl; owes = refl }
 
   -- where there is no receiver, it is as if one had just been opened
-  pub as-opened : (addressing : Addressing) (x : SenderState) (forth back : List Content) (b c : Bool) → IsTrueBetween put x None forth back b c → IsTrueBetween put x (Some (opened_receiver addressing)) forth back b c
+  pub as-opened : (addressing : Addressing) (x : SenderState) (forth back : List Content) (b c : Bool) → IsTrueBetween put x None forth back b c →
+      IsTrueBetween put x (Some (opened_receiver addressing)) forth back b c
   as-opened addressing x forth back b c t = record {
     not_cancelled = t.not_cancelled;
     all_sent = t.all_sent;
@@ -72,7 +74,8 @@ module _ (put : Put) where
   }
 
   -- ---- a PDU is lost, or does nothing
-  pub lost-forth : (x : SenderState) (o : Option ReceiverState) (before after back : List Content) (v : Content) (b c : Bool) → IsTrueBetween put x o (before ++ v ∷ after) back b c → IsTrueBetween put x o (before ++ after) back b c
+  pub lost-forth : (x : SenderState) (o : Option ReceiverState) (before after back : List Content) (v : Content) (b c : Bool) → IsTrueBetween put x o (before ++ v ∷ after) back b c →
+      IsTrueBetween put x o (before ++ after) back b c
   lost-forth x o before after back v b c t = record {
     not_cancelled = t.not_cancelled;
     all_sent = t.all_sent;
@@ -93,7 +96,8 @@ module _ (put : Put) where
     receiver_told = t.receiver_told;
   }
 
-  pub lost-back : (x : SenderState) (o : Option ReceiverState) (forth before after : List Content) (v : Content) (b c : Bool) → IsTrueBetween put x o forth (before ++ v ∷ after) b c → IsTrueBetween put x o forth (before ++ after) b c
+  pub lost-back : (x : SenderState) (o : Option ReceiverState) (forth before after : List Content) (v : Content) (b c : Bool) → IsTrueBetween put x o forth (before ++ v ∷ after) b c →
+      IsTrueBetween put x o forth (before ++ after) b c
   lost-back x o forth before after v b c t = record {
     not_cancelled = t.not_cancelled;
     all_sent = t.all_sent;
@@ -128,7 +132,8 @@ module _ (put : Put) where
         | inr t ↦ or_right due taken (still t)
       ]) both.1
 
-  pub does-true : (x : SenderState) (r : ReceiverState) (forth back : List Content) (b c c1 : Bool) (suspended : Bool) (ack cursor : Option ℕ) (keep_alive due taken : Bool) (naks finisheds : ℕ) (more : List Content)
+  pub does-true : (x : SenderState) (r : ReceiverState) (forth back : List Content) (b c c1 : Bool) (suspended : Bool) (ack cursor : Option ℕ) (keep_alive due taken : Bool) (naks finisheds : ℕ)
+      (more : List Content)
       → IsTrueBetween put x (Some r) forth back b c → Does r ack due taken more → is_tidy (changed r suspended ack cursor keep_alive due taken naks finisheds) ≡ true → (c ≡ true → c1 ≡ true)
       → IsTrueBetween put x (Some (changed r suspended ack cursor keep_alive due taken naks finisheds)) forth (back ++ more) b c1
   does-true x r forth back b c c1 suspended ack cursor keep_alive due taken naks finisheds more t d tidy told = record {

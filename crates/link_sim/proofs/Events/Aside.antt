@@ -386,10 +386,12 @@ module _ (s : Side) (a : StationState) (m : FrameLinkState) (puts : List Accepte
         marks = omega (arith, rest.marks, more);
       }
     where
-      strikes : (q : Side) (b : StationState) (k : FrameLinkState) → IsCarried a.down k b.up → length k.marks < length k.frames → k.run < most_struck → Steps (event.Strike q) did.Applied (world_at q a b k m puts ticks) (world_at q a b (struck_link k) m puts ticks)
+      strikes : (q : Side) (b : StationState) (k : FrameLinkState) → IsCarried a.down k b.up → length k.marks < length k.frames → k.run < most_struck →
+          Steps (event.Strike q) did.Applied (world_at q a b k m puts ticks) (world_at q a b (struck_link k) m puts ticks)
       strikes q b k forth there few = strikes_one b k forth there few q
 
-  delivers_one : (b now : StationState) (k : FrameLinkState) (frame : List ℕ) → (forth : IsCarried a.down k b.up) → (there : length k.marks < length k.frames) → (e : frame ≡ oldest k) → (taken : TakesFrame frame b now) → (q : Side) →
+  delivers_one : (b now : StationState) (k : FrameLinkState) (frame : List ℕ) → (forth : IsCarried a.down k b.up) → (there : length k.marks < length k.frames) → (e : frame ≡ oldest k) →
+      (taken : TakesFrame frame b now) → (q : Side) →
       DeliversFrame q (world_at q a b k m puts ticks) (world_at q a now (arrived_link k) m puts ticks)
   delivers_one b now k frame forth there e taken One =
       let h : HearsAt a.down k (arrived_link k) b now = delivered_at a.down k b now frame forth there e taken in
@@ -448,7 +450,8 @@ module _ (s : Side) (a : StationState) (m : FrameLinkState) (puts : List Accepte
         frames = n.frames;
       }
     where
-      delivers : (q : Side) {x : FrameLinkState} → length x.marks < length x.frames → frame ≡ oldest x → IsCarried a.down x b.up → Steps (event.Deliver q) did.Applied (world_at q a b x m puts ticks) (world_at q a now (arrived_link x) m puts ticks)
+      delivers : (q : Side) {x : FrameLinkState} → length x.marks < length x.frames → frame ≡ oldest x → IsCarried a.down x b.up →
+          Steps (event.Deliver q) did.Applied (world_at q a b x m puts ticks) (world_at q a now (arrived_link x) m puts ticks)
       delivers q {x} there first forth = delivers_one b now x frame forth there first takes q
 
 -- ---- at first
@@ -492,7 +495,8 @@ first_joined c outboxes inboxes a b valid one two = (
 )
 
 -- A put that the first station accepts is an event of the world.
-pub put_reaches : (source destination : List ℕ) (id : TransactionId) (a now b : StationState) (k m : FrameLinkState) (puts : List AcceptedPut) (ticks : ℕ) → Accepts source destination id a.entity.state now.entity.state →
+pub put_reaches : (source destination : List ℕ) (id : TransactionId) (a now b : StationState) (k m : FrameLinkState) (puts : List AcceptedPut) (ticks : ℕ) →
+    Accepts source destination id a.entity.state now.entity.state →
     KeepsFailures a.entity now.entity → KeepsLink a now → Reaches (world_of a b k m puts ticks) (world_of now b k m (puts ++ record { id = id; source = source; destination = destination } ∷ []) ticks)
 put_reaches source destination id a now b k m puts ticks accepts failures link = one_event _ _ (event.Put One source destination) did.Applied (record {
   id = id;

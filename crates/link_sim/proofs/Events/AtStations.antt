@@ -95,7 +95,14 @@ delivered_at d k old new frame is there e taken =
     delivers l new.up [] taken.pdus is.way there (taken.given.next (packets_sent l) is.way.received.read k.run is.way.received.end (next_frame l frame is.way there e)) in
     let is_rested : IsRested (one_way d (record k { marks = k.marks ++ true ∷ []; run = 0 }) new.up) = record { none_waits = is.rested.none_waits; filled = is.rested.filled } in
     let hears : HearsMore l after taken.pdus = subst (λ x. HearsMore l after x) (sym r.1) r.2 in
-    record { carried = record { way = hears.way; rested = is_rested; fits = is.fits }; given = taken.pdus; gives = subst (λ (f : List ℕ). GivesPdus f old.up new.up taken.pdus) e taken.given; hears = hears; heard = taken.heard }
+    record {
+      carried = record { way = hears.way; rested = is_rested; fits = is.fits };
+      given = taken.pdus;
+      gives = subst (λ (f : List ℕ). GivesPdus f old.up new.up taken.pdus) e taken.given;
+      hears =
+          hears;
+      heard = taken.heard;
+    }
 
 -- ---- what is lost
 pub struck_at : (r : Applied) (d : LinkSenderState) (k m : FrameLinkState) (u : LinkReceiverState) → StrikesAt r k m → IsCarried d k u → IsCarried d m u × SendsNone (one_way d k u) (one_way d m u)
@@ -158,7 +165,8 @@ strikes-two (did.Refused refusal.LossRunTooLong) a b k m n puts ticks h is = rec
 module _ (r : Applied) (k n : FrameLinkState) (old new : StationState) (waits : r ≡ did.Applied → length k.marks < length k.frames)
     (hears : r ≡ did.Applied → (down : LinkSenderState) → IsCarried down k old.up → HearsAt down k n old new) (marked : r ≡ did.Applied → n ≡ record k { marks = k.marks ++ true ∷ []; run = 0 })
     (none : r ≡ did.Nothing → (length k.frames ≤ length k.marks) × (n ≡ k) × (new ≡ old)) (refused : r ≢ did.Applied → r ≡ did.Nothing) (down : new.down ≡ old.down) where
-  pub delivers-one : (a : StationState) (m : FrameLinkState) (puts : List AcceptedPut) (ticks : ℕ) → IsCarried a.down k old.up → Delivers r One (world_of a old k m puts ticks) (world_of a new n m puts ticks)
+  pub delivers-one : (a : StationState) (m : FrameLinkState) (puts : List AcceptedPut) (ticks : ℕ) → IsCarried a.down k old.up →
+      Delivers r One (world_of a old k m puts ticks) (world_of a new n m puts ticks)
   delivers-one a m puts ticks is = by r refl
     where
       by : (q : Applied) → r ≡ q → Delivers q One (world_of a old k m puts ticks) (world_of a new n m puts ticks)
@@ -179,7 +187,8 @@ module _ (r : Applied) (k n : FrameLinkState) (old new : StationState) (waits : 
       by did.Nothing same = let h = none same in (h.0, λ i. world_of a (h.2 i) (h.1 i) m puts ticks)
       by (did.Refused by_it) same = absurd (let bad : did.Refused by_it ≡ did.Nothing = sym same ∙ refused (λ e. (let no : did.Refused by_it ≡ did.Applied = sym same ∙ e in cc)) in cc)
 
-  pub delivers-two : (b : StationState) (m : FrameLinkState) (puts : List AcceptedPut) (ticks : ℕ) → IsCarried b.down k old.up → Delivers r Two (world_of old b m k puts ticks) (world_of new b m n puts ticks)
+  pub delivers-two : (b : StationState) (m : FrameLinkState) (puts : List AcceptedPut) (ticks : ℕ) → IsCarried b.down k old.up →
+      Delivers r Two (world_of old b m k puts ticks) (world_of new b m n puts ticks)
   delivers-two b m puts ticks is = by r refl
     where
       by : (q : Applied) → r ≡ q → Delivers q Two (world_of old b m k puts ticks) (world_of new b m n puts ticks)

@@ -42,7 +42,8 @@ config-at One c = c.one
 config-at Two c = c.two
 
 -- nothing was sent on a direction
-none-sent : (c e : StationConfig) (s t : StationState) (k : LinkState) → s.down ≡ first_down c.down c.capacity → t.up ≡ first_up e.up → k ≡ no_frames → (pdus_sent (way s.down k t.up) ≡ []) × (pdus_delivered (way s.down k t.up) ≡ [])
+none-sent : (c e : StationConfig) (s t : StationState) (k : LinkState) → s.down ≡ first_down c.down c.capacity → t.up ≡ first_up e.up → k ≡ no_frames → (pdus_sent (way s.down k t.up) ≡ [])
+    × (pdus_delivered (way s.down k t.up) ≡ [])
 unfolding packets_of packets.first_packets
 none-sent c e s t k down up link =
     let is : way s.down k t.up ≡ way (first_down c.down c.capacity) no_frames (first_up e.up) =
@@ -69,7 +70,8 @@ module _ (c : WorldConfig) (outboxes inboxes : FileMap × FileMap) (w : WorldSta
   ways One = none-sent c.one c.two w.one w.two w.from_one is.one.down is.two.up is.from_one
   ways Two = none-sent c.two c.one w.two w.one w.from_two is.two.down is.one.up is.from_two
 
-  pub sound-first : ((p : TransactionId → Option Put) (heard : List (List ℕ)) (sources files : FileMap) (config : EntityConfig) → IsConfig config → IsSoundEntity p heard files (first_entity sources files config)) →
+  pub sound-first : ((p : TransactionId → Option Put) (heard : List (List ℕ)) (sources files : FileMap) (config : EntityConfig) → IsConfig config →
+      IsSoundEntity p heard files (first_entity sources files config)) →
       ((s : Side) → IsOneWay (way_from s w)) → IsSound w
   sound-first law one_ways s =
       let e = entity-first s in

@@ -242,7 +242,8 @@ all_of_link link (p ∷ ps) q all is = (all.0, all_of_link link ps q all.1 is)
 abbrev given : LinkSenderState → List ℕ → Bool → ℕ → LinkSenderState
 given d q flushed count = record d { waiting = d.waiting ++ q; flushed = flushed; packet_count = count }
 
-given_is : (d : LinkSenderState) (q : List ℕ) (flushed : Bool) (count : ℕ) → IsPacket q → ((is_idle q ≡ true) ⊎ (packet_drop d.link q ≡ None)) → (ps : List (List ℕ)) (made : ℕ) → IsDown d ps made → IsDown (given d q flushed count) (ps ++ q ∷ []) made
+given_is : (d : LinkSenderState) (q : List ℕ) (flushed : Bool) (count : ℕ) → IsPacket q → ((is_idle q ≡ true) ⊎ (packet_drop d.link q ≡ None)) → (ps : List (List ℕ)) (made : ℕ) → IsDown d ps made →
+    IsDown (given d q flushed count) (ps ++ q ∷ []) made
 given_is d q flushed count packet ours ps made is = record {
   packed = pushed (packing d) ps made q packet is.packed flushed;
   of_link = all_of_link d.link ps q is.of_link ours;

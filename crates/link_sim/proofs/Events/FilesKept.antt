@@ -85,10 +85,12 @@ calls-files times files c (Sends x) = refl
 calls-files times files call.Cancel (Receives r m) =
     cond_both (is_receiving r.phase) (receiver.ends (receiver.failed cancel_request) m files r) (receiver.leaving m files r) (λ a. a.files ≡ files) (λ e. refl) (λ e. refl)
 calls-files times files call.Suspend (Receives r m) =
-    cond_both (is_receiving r.phase && not r.suspended) (receiver.telling (indication.Suspended r.addressing.id suspend_request ∷ []) (receiver.leaving m files (record r { suspended = true }))) (receiver.leaving m files r)
+    cond_both (is_receiving r.phase && not r.suspended) (receiver.telling (indication.Suspended r.addressing.id suspend_request ∷ []) (receiver.leaving m files (record r { suspended = true })))
+    (receiver.leaving m files r)
     (λ a. a.files ≡ files) (λ e. refl) (λ e. refl)
 calls-files times files call.Resume (Receives r m) =
-    cond_both r.suspended (receiver.telling (indication.Resumed r.addressing.id ∷ []) (receiver.leaving m files (record r { suspended = false; nak_count = 0; finished_count = 0 }))) (receiver.leaving m files r)
+    cond_both r.suspended (receiver.telling (indication.Resumed r.addressing.id ∷ []) (receiver.leaving m files (record r { suspended = false; nak_count = 0; finished_count = 0 })))
+    (receiver.leaving m files r)
     (λ a. a.files ≡ files) (λ e. refl) (λ e. refl)
 calls-files times files (call.Prompt keep_alive) (Receives r m) = refl
 
@@ -125,7 +127,8 @@ called-files c None st = refl
 served-files : (stored : Stored) (t : Turn) (e : EntityState) → (served stored t e).table.files ≡ e.table.files
 served-files stored (Stray s strays) e = refl
 served-files stored (Place place) e =
-    step-files (λ x. takes stored e.table.policy.times e.table.sources e.table.files x.1) place (slice_get e.table.records place) e.table (λ x. takes-files stored e.table.policy.times e.table.sources e.table.files x.1)
+    step-files (λ x. takes stored e.table.policy.times e.table.sources e.table.files x.1) place (slice_get e.table.records place) e.table
+    (λ x. takes-files stored e.table.policy.times e.table.sources e.table.files x.1)
 served-files stored Rests e = refl
 
 -- ---- a world

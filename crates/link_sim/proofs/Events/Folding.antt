@@ -11,19 +11,22 @@ use Rattle.link_sim.specs.Theorem.{WorldSeen, at, put_of, completions_at, FoldsA
 use Rattle.link_sim.specs.Settling.{LeadsTo}
 
 -- ids that name the same puts
-pub inbox_after-same : (p q : TransactionId → Option Put) (first : FileMap) (ids : List TransactionId) → ((id : TransactionId) → Contains ids id → p id ≡ q id) → inbox_after p first ids ≡ inbox_after q first ids
+pub inbox_after-same : (p q : TransactionId → Option Put) (first : FileMap) (ids : List TransactionId) → ((id : TransactionId) → Contains ids id → p id ≡ q id) → inbox_after p first ids
+    ≡ inbox_after q first ids
 inbox_after-same p q first [] same = refl
 inbox_after-same p q first (id ∷ ids) same =
     ap (λ put. inbox_after p (overwritten first put) ids) (same id (0, omega arith, refl))
     ∙ inbox_after-same p q (overwritten first (q id)) ids (λ other c. same other (suc c.0, (let k = c.0 in let low : k < length ids = c.1 in omega arith), c.2))
 
 -- what a station completed names the same puts once more were accepted
-same-puts : (s : Side) (a b : WorldSeen) → HoldsAt s a → FindsMore (put_of a) (put_of b) → (ids : List TransactionId) → ((id : TransactionId) → Contains ids id → Contains (completions_at s a) id) → (first : FileMap) →
+same-puts : (s : Side) (a b : WorldSeen) → HoldsAt s a → FindsMore (put_of a) (put_of b) → (ids : List TransactionId) → ((id : TransactionId) → Contains ids id → Contains (completions_at s a) id) →
+    (first : FileMap) →
     inbox_after (put_of a) first ids ≡ inbox_after (put_of b) first ids
 same-puts s a b holds finds ids among first = inbox_after-same (put_of a) (put_of b) first ids (λ id c. let k = holds.caused id (among id c) in k.1.0 ∙ sym (finds id k.0 k.1.0))
 
 -- each inbox stays what the completions make of its first files
-pub inbox-follows : (first : FileMap) (s : Side) (a b : WorldSeen) → HoldsAt s a → Follows a b → (at s a).inbox ≡ inbox_after (put_of a) first (completions_at s a) → (at s b).inbox ≡ inbox_after (put_of b) first (completions_at s b)
+pub inbox-follows : (first : FileMap) (s : Side) (a b : WorldSeen) → HoldsAt s a → Follows a b → (at s a).inbox ≡ inbox_after (put_of a) first (completions_at s a) → (at s b).inbox
+    ≡ inbox_after (put_of b) first (completions_at s b)
 inbox-follows first s a b holds follows was =
     let f = follows.folds s in
     f.inbox

@@ -112,7 +112,8 @@ part-delivered w =
 -- The law of parts, and what an entity keeps where more is put and heard.
 pub record Grounds : Type 0 where
   pub in_whole : (whole part : List (List ℕ)) (x : List ℕ) → IsPartOf part whole → Contains part x → Contains whole x
-  pub more : (p q : TransactionId → Option Put) (heard more : List (List ℕ)) (first : FileMap) (e : EntityState) → FindsMore p q → IsSoundEntity p heard first e → IsSoundEntity q (heard ++ more) first e
+  pub more : (p q : TransactionId → Option Put) (heard more : List (List ℕ)) (first : FileMap) (e : EntityState) → FindsMore p q → IsSoundEntity p heard first e →
+      IsSoundEntity q (heard ++ more) first e
 
 -- What an event does to one side: to its entity, to what it sent, and to what it heard. The
 -- entity stays sound if what it hears is true, and what it sends is true.
@@ -121,7 +122,8 @@ pub record SideMoves (t u : Side) (old new : WorldState) : Type 0 where
   pub way : IsOneWay (way_from t new)
   pub texts : List (List ℕ)
   pub sent : pdus_sent (way_from t new) ≡ pdus_sent (way_from t old) ++ texts
-  pub says : (p : TransactionId → Option Put) (heard : List (List ℕ)) (first : FileMap) → IsSoundEntity p heard first (entity_at t old) → (x : List ℕ) → Contains texts x → (h : Header) (v : Content) → SpellsSmall h v x →
+  pub says : (p : TransactionId → Option Put) (heard : List (List ℕ)) (first : FileMap) → IsSoundEntity p heard first (entity_at t old) → (x : List ℕ) → Contains texts x → (h : Header) (v : Content) →
+      SpellsSmall h v x →
       SaysTruth (entity_at t old).config.entity p h.id v × SaysDelivered (entity_at t old).config.entity (entity_at t old).table.told h.id v
   pub more : List (List ℕ)
   pub delivered : pdus_delivered (way_from u new) ≡ pdus_delivered (way_from u old) ++ more
@@ -148,7 +150,8 @@ module _ (grounds : Grounds) where
         let truth = truth-more (entity_at t old).config.entity (put_of (seen old)) (put_of (seen new)) h.id v puts.finds says.0 in
         let told = delivered-more (entity_at t old).config.entity (entity_at t old).table.told m.goes.gained h.id v says.1 in (
           subst (λ (n : ℕ). SaysTruth n (put_of (seen new)) h.id v) (sym own) truth,
-          subst (λ (n : ℕ). SaysDelivered n (entity_at t new).table.told h.id v) (sym own) (subst (λ (l : List Indication). SaysDelivered (entity_at t old).config.entity l h.id v) (sym m.goes.told) told),
+          subst (λ (n : ℕ). SaysDelivered n (entity_at t new).table.told h.id v) (sym own)
+              (subst (λ (l : List Indication). SaysDelivered (entity_at t old).config.entity l h.id v) (sym m.goes.told) told),
         )) in
         let where_ : Contains (pdus_sent (way_from t old)) x ⊎ Contains m.texts x = in-either (pdus_sent (way_from t old)) m.texts x (subst (λ (l : List (List ℕ)). Contains l x) m.sent c) in
         elim where_ [
@@ -162,7 +165,8 @@ module _ (grounds : Grounds) where
         let m = moves t in
         let came : Contains (pdus_delivered (way_from (other t) old) ++ m.more) x = Contains-append_right (pdus_delivered (way_from (other t) old)) m.more x c in
         let there : Contains (pdus_delivered (way_from (other t) new)) x = subst (λ (l : List (List ℕ)). Contains l x) (sym m.delivered) came in
-        let sent : Contains (pdus_sent (way_from (other t) new)) x = grounds.in_whole (pdus_sent (way_from (other t) new)) (pdus_delivered (way_from (other t) new)) x (part-delivered (way_from (other t) new)) there in
+        let sent : Contains (pdus_sent (way_from (other t) new)) x = grounds.in_whole (pdus_sent (way_from (other t) new)) (pdus_delivered (way_from (other t) new)) x
+        (part-delivered (way_from (other t) new)) there in
         let peer : (entity_at (other t) new).config.entity ≡ (entity_at t old).config.peer = ap (λ c. c.entity) (moves (other t)).goes.config ∙ sym (sound t).peer in
         record {
           among = came;
@@ -226,7 +230,8 @@ module _ (grounds : Grounds) where
         let k = heard.0 in
         let text : List ℕ = heard.1 in
         let there : Contains (pdus_delivered (way_from (other s) w)) text = (k, heard.2, heard.3) in
-        let sent : Contains (pdus_sent (way_from (other s) w)) text = grounds.in_whole (pdus_sent (way_from (other s) w)) (pdus_delivered (way_from (other s) w)) text (part-delivered (way_from (other s) w)) there in
+        let sent : Contains (pdus_sent (way_from (other s) w)) text = grounds.in_whole (pdus_sent (way_from (other s) w)) (pdus_delivered (way_from (other s) w)) text
+        (part-delivered (way_from (other s) w)) there in
         let said = heard.4 in
         let h : Header = said.0 in
         let v : Content = said.1.0 in

@@ -75,7 +75,8 @@ module _ (Is : Event → Type 0) (settles : (e : Event) → IsOfSettling e → I
   row-sends s a b h = row-both a h.0 b (row-polls s a h.0 h.1) (row-flushes s h.0 b h.2)
 
   pub row-spreads : (s : Side) (a b : WorldState) → Spreads s a b → Row a b
-  row-spreads s a b h = row-both a h.last b (many-times (GoesBy Is) (SendsOut s) (row-sends s) h.count a h.last h.sent) (row-event (event.Poll s) did.Nothing h.last b (settles (event.Poll s) tt) h.rests)
+  row-spreads s a b h = row-both a h.last b (many-times (GoesBy Is) (SendsOut s) (row-sends s) h.count a h.last h.sent)
+      (row-event (event.Poll s) did.Nothing h.last b (settles (event.Poll s) tt) h.rests)
 
   row-spread-ends : (s : Side) (last b : WorldState) → FindsNoMemory s last b ⊎ ((mid : WorldState) × PollMoves s last mid × FindsNoMemory s mid b) → Row last b
   row-spread-ends s last b (inl lacks) = row-lacks s last b lacks
@@ -85,7 +86,8 @@ module _ (Is : Event → Type 0) (settles : (e : Event) → IsOfSettling e → I
   row-spread-lacks s a b h = row-both a h.last b (many-times (GoesBy Is) (SendsOut s) (row-sends s) h.count a h.last h.sent) (row-spread-ends s h.last b h.ends)
 
   row-all : (s : Side) (a b : WorldState) → PollsAll s a b → Row a b
-  row-all s a b h = row-both a h.last b (many-times (GoesBy Is) (PollMoves s) (row-polls s) h.count a h.last h.polled) (row-event (event.Poll s) did.Nothing h.last b (settles (event.Poll s) tt) h.rests)
+  row-all s a b h = row-both a h.last b (many-times (GoesBy Is) (PollMoves s) (row-polls s) h.count a h.last h.polled)
+      (row-event (event.Poll s) did.Nothing h.last b (settles (event.Poll s) tt) h.rests)
 
   pub row-bursts : (s : Side) (a b : WorldState) → Bursts s a b → Row a b
   row-bursts s a b h = row-both a h.0 b (row-all s a h.0 h.1) (row-flushes s h.0 b h.2)

@@ -45,23 +45,28 @@ use Rattle.link_sim.proofs.Events.Keeping.{both, other-other, in-either, SideMov
 -- The laws of an entity, and that of parts of lists.
 pub record EntityLaws : Type 0 where
   pub in_whole : (whole part : List (List ℕ)) (x : List ℕ) → IsPartOf part whole → Contains part x → Contains whole x
-  pub put : (p : TransactionId → Option Put) (heard : List (List ℕ)) (first : FileMap) (source destination : List ℕ) (id : TransactionId) (old new : EntityState) → Accepts source destination id old new →
+  pub put : (p : TransactionId → Option Put) (heard : List (List ℕ)) (first : FileMap) (source destination : List ℕ) (id : TransactionId) (old new : EntityState) →
+      Accepts source destination id old new →
       p id ≡ Some (next_put source destination old) → IsSoundEntity p heard first old → IsSoundEntity p heard first new
-  pub called : (p : TransactionId → Option Put) (heard : List (List ℕ)) (first : FileMap) (c : Call) (id : TransactionId) (old new : EntityState) → IsCalled c id old new → IsSoundEntity p heard first old → IsSoundEntity p heard first new
+  pub called : (p : TransactionId → Option Put) (heard : List (List ℕ)) (first : FileMap) (c : Call) (id : TransactionId) (old new : EntityState) → IsCalled c id old new →
+      IsSoundEntity p heard first old → IsSoundEntity p heard first new
   pub ticked : (p : TransactionId → Option Put) (heard : List (List ℕ)) (first : FileMap) (now : ℕ) (old new : EntityState) → Ticks now old.table new.table → new ≡ with_table old new.table →
       IsSoundEntity p heard first old → IsSoundEntity p heard first new
-  pub heard : (p : TransactionId → Option Put) (heard : List (List ℕ)) (first : FileMap) (pdu : List ℕ) (old new : Counted) → FindsById p → ComesTrue old.state.config.peer p heard pdu → HearsOctets pdu old new →
+  pub heard : (p : TransactionId → Option Put) (heard : List (List ℕ)) (first : FileMap) (pdu : List ℕ) (old new : Counted) → FindsById p → ComesTrue old.state.config.peer p heard pdu →
+      HearsOctets pdu old new →
       IsSoundEntity p heard first old.state → IsSoundEntity p heard first new.state
   pub dropped : (p : TransactionId → Option Put) (heard : List (List ℕ)) (first : FileMap) (pdu : List ℕ) (by : EntityDrop) (old new : Counted) → DropsOctets (small_pdu_fault pdu) pdu by old new →
       IsSoundEntity p heard first old.state → IsSoundEntity p heard first new.state
-  pub served_by : (p : TransactionId → Option Put) (heard : List (List ℕ)) (first : FileMap) (stored : Stored) (e : EntityState) → IsSoundEntity p heard first e → IsSoundEntity p heard first (served stored (turn e) e)
+  pub served_by : (p : TransactionId → Option Put) (heard : List (List ℕ)) (first : FileMap) (stored : Stored) (e : EntityState) → IsSoundEntity p heard first e →
+      IsSoundEntity p heard first (served stored (turn e) e)
   pub put_on : (source destination : List ℕ) (id : TransactionId) (old new : EntityState) → Accepts source destination id old new → GoesOn old new
   pub called_on : (c : Call) (id : TransactionId) (old new : EntityState) → IsCalled c id old new → GoesOn old new
   pub ticked_on : (now : ℕ) (old new : EntityState) → Ticks now old.table new.table → new ≡ with_table old new.table → GoesOn old new
   pub heard_on : (pdu : List ℕ) (old new : Counted) → HearsOctets pdu old new → GoesOn old.state new.state
   pub dropped_on : (pdu : List ℕ) (by : EntityDrop) (old new : Counted) → DropsOctets (small_pdu_fault pdu) pdu by old new → GoesOn old.state new.state
   pub served_on : (stored : Stored) (e : EntityState) → GoesOn e (served stored (turn e) e)
-  pub sends : (p : TransactionId → Option Put) (heard : List (List ℕ)) (first : FileMap) (e : EntityState) (h : Header) (v : Content) → IsSoundEntity p heard first e → SpellsTurn (turn e) e → SpellsSmall h v (turn_octets (turn e) e) →
+  pub sends : (p : TransactionId → Option Put) (heard : List (List ℕ)) (first : FileMap) (e : EntityState) (h : Header) (v : Content) → IsSoundEntity p heard first e → SpellsTurn (turn e) e →
+      SpellsSmall h v (turn_octets (turn e) e) →
       SaysTruth e.config.entity p h.id v × SaysDelivered e.config.entity e.table.told h.id v
 
 -- ---- going on
@@ -85,7 +90,8 @@ way-same : (d e : LinkSenderState) (k m : LinkState) (u v : LinkReceiverState) �
 way-same d e k m u v a b c = ap (λ x. way x m v) a ∙ ap (λ x. way d x v) b ∙ ap (λ x. way d k x) c
 
 -- the other station sends on
-back-same : (s : Side) (old new : WorldState) → (station_at (other s) new).down ≡ (station_at (other s) old).down → link_from (other s) new ≡ link_from (other s) old → (station_at s new).up ≡ (station_at s old).up →
+back-same : (s : Side) (old new : WorldState) → (station_at (other s) new).down ≡ (station_at (other s) old).down → link_from (other s) new ≡ link_from (other s) old → (station_at s new).up
+    ≡ (station_at s old).up →
     way_from (other s) new ≡ way_from (other s) old
 back-same One old new d k u = way-same old.two.down new.two.down old.from_two new.from_two old.one.up new.one.up d k u
 back-same Two old new d k u = way-same old.one.down new.one.down old.from_one new.from_one old.two.up new.two.up d k u
@@ -104,7 +110,8 @@ none-in x c = let k = c.0 in let low : k < 0 = c.1 in omega arith
 
 -- a side of which only the entity moved
 quiet : (t u : Side) (old new : WorldState) → IsOneWay (way_from t old) → way_from t new ≡ way_from t old → way_from u new ≡ way_from u old → GoesOn (entity_at t old) (entity_at t new) →
-    ((heard : List (List ℕ)) (first : FileMap) → IsSoundEntity (put_of (seen new)) heard first (entity_at t old) → IsSoundEntity (put_of (seen new)) heard first (entity_at t new)) → SideMoves t u old new
+    ((heard : List (List ℕ)) (first : FileMap) → IsSoundEntity (put_of (seen new)) heard first (entity_at t old) → IsSoundEntity (put_of (seen new)) heard first (entity_at t new)) →
+    SideMoves t u old new
 quiet t u old new is front back goes kept = record {
   goes = goes;
   way = subst IsOneWay (sym front) is;
@@ -117,7 +124,8 @@ quiet t u old new is front back goes kept = record {
 }
 
 -- a side whose entity is as it was, and that sent and heard nothing more
-resting : (t u : Side) (old new : WorldState) → IsOneWay (way_from t new) → pdus_sent (way_from t new) ≡ pdus_sent (way_from t old) → pdus_delivered (way_from u new) ≡ pdus_delivered (way_from u old) →
+resting : (t u : Side) (old new : WorldState) → IsOneWay (way_from t new) → pdus_sent (way_from t new) ≡ pdus_sent (way_from t old) → pdus_delivered (way_from u new)
+    ≡ pdus_delivered (way_from u old) →
     entity_at t new ≡ entity_at t old → SideMoves t u old new
 resting t u old new is sent delivered e = record {
   goes = goes-same (entity_at t old) (entity_at t new) e;
@@ -168,7 +176,8 @@ moves-kept old new sound sides e = record { sides = sides; puts = puts-kept old 
 
 -- only the entity of one station moved
 only-entity : (s : Side) (old new : WorldState) → IsSound old → KeepsLinks s old new → GoesOn (entity_at s old) (entity_at s new) →
-    ((heard : List (List ℕ)) (first : FileMap) → IsSoundEntity (put_of (seen new)) heard first (entity_at s old) → IsSoundEntity (put_of (seen new)) heard first (entity_at s new)) → (t : Side) → SideMoves t (other t) old new
+    ((heard : List (List ℕ)) (first : FileMap) → IsSoundEntity (put_of (seen new)) heard first (entity_at s old) → IsSoundEntity (put_of (seen new)) heard first (entity_at s new)) → (t : Side) →
+    SideMoves t (other t) old new
 only-entity s old new sound k goes kept =
     each-side s old new
     (quiet s (other s) old new (sound s).way (front-same s old new k) (back-kept s old new k) goes kept)
@@ -191,10 +200,11 @@ apart old sound s e = (sound s).entity.config.ids.apart (e ∙ sym (sound s).pee
 
 side-own : (old : WorldState) → IsSound old → (s : Side) → side_of (entity_at s old).config.entity (seen old) ≡ s
 side-own old sound One = ap (λ b. if b then One else Two) (eq-eqb old.one.entity.state.config.entity old.one.entity.state.config.entity refl)
-side-own old sound Two = elim (old.two.entity.state.config.entity == old.one.entity.state.config.entity) as (λ b. (old.two.entity.state.config.entity == old.one.entity.state.config.entity) ≡ b → (if b then One else Two) ≡ Two) [
-  | true ↦ λ e. absurd (apart old sound Two (eqb-true old.two.entity.state.config.entity old.one.entity.state.config.entity e))
-  | false ↦ λ e. refl
-] refl
+side-own old sound Two = elim (old.two.entity.state.config.entity == old.one.entity.state.config.entity) as
+    (λ b. (old.two.entity.state.config.entity == old.one.entity.state.config.entity) ≡ b → (if b then One else Two) ≡ Two) [
+      | true ↦ λ e. absurd (apart old sound Two (eqb-true old.two.entity.state.config.entity old.one.entity.state.config.entity e))
+      | false ↦ λ e. refl
+    ] refl
 
 module _ (laws : EntityLaws) (old new : WorldState) (sound : IsSound old) where
   -- ---- calls
@@ -244,7 +254,8 @@ module _ (laws : EntityLaws) (old new : WorldState) (sound : IsSound old) where
     second-none (Some x) b e = absurd cc
 
     in-outbox : (octets : List ℕ) × (get (entity_at s old).table.sources source ≡ Some octets)
-    in-outbox = there (get (entity_at s old).table.sources source) (second-none (early_refusal source destination (entity_at s old)) (asked Done (get (entity_at s old).table.sources source)) h.accepts.allowed)
+    in-outbox = there (get (entity_at s old).table.sources source) (second-none (early_refusal source destination (entity_at s old))
+        (asked Done (get (entity_at s old).table.sources source)) h.accepts.allowed)
 
     seen-here : (t : Side) → put_at (at t (seen old)) p ≡ with_octets (entity_at t old).config.checksum_kind p (get (entity_at t old).table.sources source)
     seen-here One = refl
@@ -256,13 +267,15 @@ module _ (laws : EntityLaws) (old new : WorldState) (sound : IsSound old) where
         let o : List ℕ = in-outbox.0 in
         let file : get e.table.sources source ≡ Some o = in-outbox.1 in
         let side : side_of h.id.source (seen old) ≡ s = ap (λ (n : ℕ). side_of n (seen old)) own ∙ side-own old sound s in
-        let with : with_octets e.config.checksum_kind p (get e.table.sources source) ≡ Some (record { id = h.id; source = source; destination = destination; octets = o; checksum_kind = e.config.checksum_kind }) =
+        let with : with_octets e.config.checksum_kind p (get e.table.sources source)
+        ≡ Some (record { id = h.id; source = source; destination = destination; octets = o; checksum_kind = e.config.checksum_kind }) =
         ap (with_octets e.config.checksum_kind p) file in
         let octets : octets_in e.table.sources source ≡ o = ap (λ (f : Option (List ℕ)). unwrap_or f []) file in
         put-last (seen old) (seen new) p (sends-one old new sound goes-at) (sends-two old new sound goes-at) h.puts fresh
         ∙ ap (λ t. put_at (at t (seen old)) p) side ∙ seen-here s ∙ with
         ∙ ap (λ (l : List ℕ). Some (record { id = h.id; source = source; destination = destination; octets = l; checksum_kind = e.config.checksum_kind })) (sym octets)
-        ∙ ap (λ (i : TransactionId). Some (record { id = i; source = source; destination = destination; octets = octets_in e.table.sources source; checksum_kind = e.config.checksum_kind })) h.accepts.is_next
+        ∙ ap (λ (i : TransactionId). Some (record { id = i; source = source; destination = destination; octets = octets_in e.table.sources source; checksum_kind = e.config.checksum_kind }))
+        h.accepts.is_next
 
     numbers-now : (t : Side) (q : AcceptedPut) → Contains new.puts q → q.id.source ≡ (entity_at t new).config.entity → q.id.number < (entity_at t new).next
     numbers-now t q c is =
@@ -284,7 +297,8 @@ module _ (laws : EntityLaws) (old new : WorldState) (sound : IsSound old) where
 
     pub put-moves : Moves old new
     put-moves = record {
-      sides = only-entity s old new sound h.links (goes-at s) (λ heard first k. laws.put (put_of (seen new)) heard first source destination h.id (entity_at s old) (entity_at s new) h.accepts found-now k);
+      sides = only-entity s old new sound h.links (goes-at s) (λ heard first k. laws.put (put_of (seen new)) heard first source destination h.id (entity_at s old)
+          (entity_at s new) h.accepts found-now k);
       puts = record {
         finds = puts-more (seen old) (seen new) (p ∷ []) (sends-one old new sound goes-at) (sends-two old new sound goes-at) h.puts;
         numbers = numbers-now;
@@ -361,7 +375,8 @@ module _ (laws : EntityLaws) (old new : WorldState) (sound : IsSound old) where
   all-goes [] a b e = goes-same a.state b.state (ap (λ (x : Counted). x.state) e)
   all-goes (pdu ∷ pdus) a b (mid, here, rest) = goes-both a.state mid.state b.state (one-goes pdu a mid here) (all-goes pdus mid b rest)
 
-  all-heard : (p : TransactionId → Option Put) (heard : List (List ℕ)) (first : FileMap) → FindsById p → (pdus : List (List ℕ)) (a b : Counted) → HearsAll pdus a b → ((x : List ℕ) → Contains pdus x → ComesTrue a.state.config.peer p heard x) →
+  all-heard : (p : TransactionId → Option Put) (heard : List (List ℕ)) (first : FileMap) → FindsById p → (pdus : List (List ℕ)) (a b : Counted) → HearsAll pdus a b →
+      ((x : List ℕ) → Contains pdus x → ComesTrue a.state.config.peer p heard x) →
       IsSoundEntity p heard first a.state → IsSoundEntity p heard first b.state
   all-heard p heard first ids [] a b e t k = subst (λ (x : Counted). IsSoundEntity p heard first x.state) (sym e) k
   all-heard p heard first ids (pdu ∷ pdus) a b (mid, here, rest) t k =

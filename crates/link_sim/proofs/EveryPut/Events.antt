@@ -161,11 +161,14 @@ module _ (laws : EntityLaws) (grounds : Grounds) (stays : (old new : TableState)
       let p : AcceptedPut = record { id = h.id; source = source; destination = destination } in
       let goes = goes-at laws old new sound s source destination h in
       let none : IsSome (put_of (seen old) h.id) → ⊥ = is-fresh (put_of (seen old) h.id) refl in
-      let c = kept-losses (put_of (seen old)) (LosesNone old) (LosesNone new) (entity_at s old) (entity_at (other s) old) (on_way (way_from s old)) (on_way (way_from (other s) old)) (loses-kept s old new h.links) (to-kept s old k) in
-      let after = kept-put (put_of (seen old)) (put_of (seen new)) (LosesNone new) source destination h.id (entity_at s old) (entity_at s new) (entity_at (other s) old) (on_way (way_from s old)) (on_way (way_from (other s) old)) h.accepts
+      let c = kept-losses (put_of (seen old)) (LosesNone old) (LosesNone new) (entity_at s old) (entity_at (other s) old) (on_way (way_from s old)) (on_way (way_from (other s) old))
+      (loses-kept s old new h.links) (to-kept s old k) in
+      let after = kept-put (put_of (seen old)) (put_of (seen new)) (LosesNone new) source destination h.id (entity_at s old) (entity_at s new) (entity_at (other s) old) (on_way (way_from s old))
+      (on_way (way_from (other s) old)) h.accepts
       (adds-put (seen old) (seen new) p (sends-one old new sound goes) (sends-two old new sound goes) h.puts) (are-peers old sound s) (found-now laws old new sound s source destination h) none
       (pdus_delivered (way_from (other (other s)) old)) (sound (other s)).first (sound (other s)).entity c in
-      from-kept s new (kept-as (put_of (seen new)) (LosesNone new) (entity_at s new) (entity_at s new) (entity_at (other s) old) (entity_at (other s) new) (on_way (way_from s old)) (on_way (way_from s new)) (on_way (way_from (other s) old)) (on_way (way_from (other s) new))
+      from-kept s new (kept-as (put_of (seen new)) (LosesNone new) (entity_at s new) (entity_at s new) (entity_at (other s) old) (entity_at (other s) new) (on_way (way_from s old))
+      (on_way (way_from s new)) (on_way (way_from (other s) old)) (on_way (way_from (other s) new))
       refl (ap (λ x. x.entity.state) h.links.spares.station) (ap on_way (forth-kept s old new h.links)) (ap on_way (back-kept s old new h.links)) after)
     where
       is-fresh : (o : Option Put) → put_of (seen old) h.id ≡ o → IsSome o → ⊥
@@ -196,7 +199,8 @@ module _ (laws : EntityLaws) (grounds : Grounds) (stays : (old new : TableState)
     order t = in-order P (came t) (sound t).first (entity_at t old) (sound-then t)
 
     -- what was kept, in the words of the new world
-    start : (s : Side) → (LosesNone new → LosesNone old) → KeepCourse old → Kept P (LosesNone new) (entity_at s old) (entity_at (other s) old) (on_way (way_from s old)) (on_way (way_from (other s) old))
+    start : (s : Side) → (LosesNone new → LosesNone old) → KeepCourse old →
+        Kept P (LosesNone new) (entity_at s old) (entity_at (other s) old) (on_way (way_from s old)) (on_way (way_from (other s) old))
     start s so k =
         kept-losses P (LosesNone old) (LosesNone new) (entity_at s old) (entity_at (other s) old) (on_way (way_from s old)) (on_way (way_from (other s) old)) so
         (kept-same (put_of (seen old)) P (LosesNone old) (entity_at s old) (entity_at (other s) old) (on_way (way_from s old)) (on_way (way_from (other s) old)) same.0 same.1 (to-kept s old k))
@@ -204,39 +208,47 @@ module _ (laws : EntityLaws) (grounds : Grounds) (stays : (old new : TableState)
     -- where only the entity of one station moved
     moved : (s : Side) → KeepsLinks s old new → Kept P (LosesNone new) (entity_at s new) (entity_at (other s) old) (on_way (way_from s old)) (on_way (way_from (other s) old)) → KeepCourse new
     moved s l k =
-        from-kept s new (kept-as P (LosesNone new) (entity_at s new) (entity_at s new) (entity_at (other s) old) (entity_at (other s) new) (on_way (way_from s old)) (on_way (way_from s new)) (on_way (way_from (other s) old)) (on_way (way_from (other s) new))
+        from-kept s new (kept-as P (LosesNone new) (entity_at s new) (entity_at s new) (entity_at (other s) old) (entity_at (other s) new) (on_way (way_from s old)) (on_way (way_from s new))
+        (on_way (way_from (other s) old)) (on_way (way_from (other s) new))
         refl (ap (λ x. x.entity.state) l.spares.station) (ap on_way (forth-kept s old new l)) (ap on_way (back-kept s old new l)) k)
 
     pub stays-course : (s : Side) → Stays s old new → KeepCourse old → KeepCourse new
     stays-course s h k =
-        moved s h.links (subst (λ (x : EntityState). Kept P (LosesNone new) x (entity_at (other s) old) (on_way (way_from s old)) (on_way (way_from (other s) old))) (sym h.entity) (start s (loses-kept s old new h.links) k))
+        moved s h.links (subst (λ (x : EntityState). Kept P (LosesNone new) x (entity_at (other s) old) (on_way (way_from s old)) (on_way (way_from (other s) old))) (sym h.entity)
+        (start s (loses-kept s old new h.links) k))
 
     pub called-courses : (s : Side) (c : Call) (id : TransactionId) → StepsAt s c id old new → KeepCourse old → KeepCourse new
     called-courses s c id h k =
-        moved s h.links (kept-called stays P (LosesNone new) (entity_at s old) (entity_at s new) (entity_at (other s) old) (on_way (way_from s old)) (on_way (way_from (other s) old)) (config s) (order s) (order (other s)) (start s (loses-kept s old new h.links) k) c id h.called)
+        moved s h.links (kept-called stays P (LosesNone new) (entity_at s old) (entity_at s new) (entity_at (other s) old) (on_way (way_from s old)) (on_way (way_from (other s) old)) (config s)
+        (order s) (order (other s)) (start s (loses-kept s old new h.links) k) c id h.called)
 
     pub told-courses : (s : Side) (now : ℕ) → TellsTime s now old new → KeepCourse old → KeepCourse new
     told-courses s now h k =
-        moved s h.links (kept-ticked stays P (LosesNone new) (entity_at s old) (entity_at s new) (entity_at (other s) old) (on_way (way_from s old)) (on_way (way_from (other s) old)) (config s) (order s) (order (other s)) (start s (loses-kept s old new h.links) k) now h.ticked h.table)
+        moved s h.links (kept-ticked stays P (LosesNone new) (entity_at s old) (entity_at s new) (entity_at (other s) old) (on_way (way_from s old)) (on_way (way_from (other s) old)) (config s)
+        (order s) (order (other s)) (start s (loses-kept s old new h.links) k) now h.ticked h.table)
 
     pub failed-courses : (s : Side) → FailsSource s old new → KeepCourse old → KeepCourse new
     failed-courses s h k =
-        moved s h.links (kept-failed stays P (LosesNone new) (entity_at s old) (entity_at s new) (entity_at (other s) old) (on_way (way_from s old)) (on_way (way_from (other s) old)) (config s) (order s) (order (other s)) (start s (loses-kept s old new h.links) k)
+        moved s h.links (kept-failed stays P (LosesNone new) (entity_at s old) (entity_at s new) (entity_at (other s) old) (on_way (way_from s old)) (on_way (way_from (other s) old)) (config s)
+        (order s) (order (other s)) (start s (loses-kept s old new h.links) k)
         h.place h.is_next h.carries h.served)
 
     pub sent-courses : (s : Side) → SendsOne s old new → KeepCourse old → KeepCourse new
     sent-courses s h k =
         let e : EntityState = entity_at s old in
         let on : SendsOnWay s (turn_octets (turn e) e) old new = polls-on-way s old new (sound s).way h in
-        let after = kept-sent stays P (LosesNone new) e (entity_at s new) (entity_at (other s) old) (on_way (way_from s old)) (on_way (way_from (other s) old)) (config s) (order s) (order (other s)) (start s (loses-marks s old new h.marks) k)
+        let after = kept-sent stays P (LosesNone new) e (entity_at s new) (entity_at (other s) old) (on_way (way_from s old)) (on_way (way_from (other s) old)) (config s) (order s) (order (other s))
+        (start s (loses-marks s old new h.marks) k)
         (came s) (sound s).first (sound-then s) (are-peers old sound s) h.spells h.served in
-        from-kept s new (kept-as P (LosesNone new) (entity_at s new) (entity_at s new) (entity_at (other s) old) (entity_at (other s) new) (on_way (way_from s old) ++ turn_octets (turn e) e ∷ []) (on_way (way_from s new)) (on_way (way_from (other s) old)) (on_way (way_from (other s) new))
+        from-kept s new (kept-as P (LosesNone new) (entity_at s new) (entity_at s new) (entity_at (other s) old) (entity_at (other s) new) (on_way (way_from s old) ++ turn_octets (turn e) e ∷ [])
+        (on_way (way_from s new)) (on_way (way_from (other s) old)) (on_way (way_from (other s) new))
         refl (ap (λ x. x.entity.state) h.marks.spares.station) on.forth (ap on_way on.back) after)
 
     pub filled-courses : (s : Side) → Fills s old new → length (link_from s old).frames < length (link_from s new).frames → KeepCourse old → KeepCourse new
     filled-courses s h grown k =
         let on : FlushesOnWay s old new = fills-on-way s old new (sound s).way h grown in
-        from-kept s new (kept-as P (LosesNone new) (entity_at s old) (entity_at s new) (entity_at (other s) old) (entity_at (other s) new) (on_way (way_from s old)) (on_way (way_from s new)) (on_way (way_from (other s) old)) (on_way (way_from (other s) new))
+        from-kept s new (kept-as P (LosesNone new) (entity_at s old) (entity_at s new) (entity_at (other s) old) (entity_at (other s) new) (on_way (way_from s old)) (on_way (way_from s new))
+        (on_way (way_from (other s) old)) (on_way (way_from (other s) new))
         (ap (λ (c : Counted). c.state) h.entity) (ap (λ x. x.entity.state) h.marks.spares.station) on.forth (ap on_way on.back) (start s (loses-marks s old new h.marks) k))
 
     -- ---- frames
@@ -260,7 +272,8 @@ module _ (laws : EntityLaws) (grounds : Grounds) (stays : (old new : TableState)
         let kept : Kept P (LosesNone new) e c0.state (on.gone ++ a) b = subst (λ (l : List (List ℕ)). Kept P (LosesNone new) e c0.state l b) on.takes.forth (start s (loses-delivered s old new h) k) in
         let parts : InTwo on.gone a kept.forth = spelled-split on.gone a kept.forth kept.spelled in
         let known : AreKnown P c0.state e kept.back (parts.first ++ parts.rest) = subst (λ l. AreKnown P c0.state e kept.back l) parts.joined (kept.known.1, kept.known.0) in
-        let ran : (lossless : Bool) → Given lossless h.given on.gone → Ran laws stays P (puts-by-id (seen new)) (came (other s)) (sound (other s)).first e kept.back lossless parts.first parts.rest c0 c1 = λ lossless given.
+        let ran : (lossless : Bool) → Given lossless h.given on.gone → Ran laws stays P (puts-by-id (seen new)) (came (other s))
+        (sound (other s)).first e kept.back lossless parts.first parts.rest c0 c1 = λ lossless given.
         run laws stays P (puts-by-id (seen new)) (came (other s)) (sound (other s)).first e kept.back lossless on.gone h.given parts.first parts.rest c0 c1 given parts.spelled h.heard
         (λ x c. comes-true grounds old new sound m.sides m.puts (other s) x
         (subst (λ (l : List (List ℕ)). Contains l x) (sym (more-is s h)) (grounds.in_whole h.hears.more h.given x h.hears.part c)))
@@ -287,7 +300,8 @@ module _ (laws : EntityLaws) (grounds : Grounds) (stays : (old new : TableState)
         let a : List (List ℕ) = on_way (way_from s new) in
         let b : List (List ℕ) = on_way (way_from (other s) old) in
         let on : TakesOffWay s gone old new = strikes-on-way s old new (sound s).way h in
-        let kept : Kept P (LosesNone new) e c0.state (gone ++ a) b = subst (λ (l : List (List ℕ)). Kept P (LosesNone new) e c0.state l b) on.forth (start s (λ none. absurd (loses-struck s old new h none)) k) in
+        let kept : Kept P (LosesNone new) e c0.state (gone ++ a) b = subst (λ (l : List (List ℕ)). Kept P (LosesNone new) e c0.state l b) on.forth
+        (start s (λ none. absurd (loses-struck s old new h none)) k) in
         let parts : InTwo gone a kept.forth = spelled-split gone a kept.forth kept.spelled in
         let known : AreKnown P e c0.state parts.rest kept.back = front-known P e c0.state parts.first parts.rest kept.back (subst (λ l. AreKnown P e c0.state l kept.back) parts.joined kept.known) in
         let after : Kept P (LosesNone new) e c0.state a b = kept-run P (LosesNone new) e c0 c0 gone a b refl (order s) kept (known.1, known.0) kept.kinds_there

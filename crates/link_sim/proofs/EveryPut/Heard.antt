@@ -97,7 +97,8 @@ given-part (g ∷ given) (t ∷ ended) (inr part) = inr (refl, given-part (g ∷
 -- ---- they are heard
 module _ (laws : EntityLaws) (stays : (old new : TableState) → Leads old new → KeepsRecords old.records new.records)
     (put_of : TransactionId → Option Put) (ids : FindsById put_of) (heard : List (List ℕ)) (first : FileMap) (theirs : EntityState) (forth : List Pdu) (lossless : Bool) where
-  one-sound : (text : List ℕ) (a b : Counted) → HearsPdu text a b → ComesTrue a.state.config.peer put_of heard text → IsSoundEntity put_of heard first a.state → IsSoundEntity put_of heard first b.state
+  one-sound : (text : List ℕ) (a b : Counted) → HearsPdu text a b → ComesTrue a.state.config.peer put_of heard text → IsSoundEntity put_of heard first a.state →
+      IsSoundEntity put_of heard first b.state
   one-sound text a b (inl h) t k = laws.heard put_of heard first text a b ids t h k
   one-sound text a b (inr d) t k = laws.dropped put_of heard first text d.0 a b d.1 k
 
@@ -118,7 +119,8 @@ module _ (laws : EntityLaws) (stays : (old new : TableState) → Leads old new �
     pub known : AreKnown put_of new.state theirs forth back
     pub kinds : length new.state.drops ≡ 18
 
-  pub run : (ended given : List (List ℕ)) (pdus back : List Pdu) (old new : Counted) → Given lossless given ended → AreSpelled ended pdus → HearsAll given old new → AllCome given old.state.config.peer →
+  pub run : (ended given : List (List ℕ)) (pdus back : List Pdu) (old new : Counted) → Given lossless given ended → AreSpelled ended pdus → HearsAll given old new →
+      AllCome given old.state.config.peer →
       IsSoundEntity put_of heard first old.state → length old.state.drops ≡ 18 → AreKnown put_of old.state theirs forth (pdus ++ back) → Ran pdus back old new
   run [] given (p ∷ pdus) back old new g spelled h come sound kinds known = absurd spelled
   run (t ∷ ended) given [] back old new g spelled h come sound kinds known = absurd spelled

@@ -61,7 +61,8 @@ no-place id (x ∷ xs) place is none = in-length (x ∷ xs) place (position-Some
 pub differs-too : (id h k : TransactionId) → h ≡ k → same_id id k ≡ false → same_id id h ≡ false
 differs-too id h k is apart = ap (same_id id) is ∙ apart
 
-module _ (laws : CourseLaws) (put : Put) (put_of : TransactionId → Option Put) (found : put_of put.id ≡ Some put) (h : Header) (v : Content) (old new : Counted) (order : IsInOrder put_of old.state.table) (kinds : length old.state.drops ≡ 18) where
+module _ (laws : CourseLaws) (put : Put) (put_of : TransactionId → Option Put) (found : put_of put.id ≡ Some put) (h : Header) (v : Content) (old new : Counted)
+    (order : IsInOrder put_of old.state.table) (kinds : length old.state.drops ≡ 18) where
   abbrev p : Pdu
   p = (h, v)
 
@@ -89,7 +90,8 @@ module _ (laws : CourseLaws) (put : Put) (put_of : TransactionId → Option Put)
   drops-all by low apart is heard = drops-none by old.state (subst (λ n. drop_number by < n) (sym kinds) low) apart (subst HasHeardAll is heard)
 
   finds-none : (place : ℕ) → FindsNoMemory place v old new → HasHeardAll new.state → ⊥
-  finds-none place f heard = drops-none drops.NoMemory (with_table old.state new.state.table) (subst (λ n. 16 < n) (sym kinds) (omega arith)) (λ e. omega (arith, e)) (subst HasHeardAll f.counted heard)
+  finds-none place f heard = drops-none drops.NoMemory (with_table old.state new.state.table) (subst (λ n. 16 < n) (sym kinds) (omega arith)) (λ e. omega (arith, e))
+      (subst HasHeardAll f.counted heard)
 
   grew-spoiled : (place : ℕ) → FindsNoMemory place v old new → Grew old.state new.state []
   grew-spoiled place f = record {
@@ -140,7 +142,8 @@ module _ (laws : CourseLaws) (put : Put) (put_of : TransactionId → Option Put)
     mine-opened : (lossless : Bool) → OpensRecord h v old new → BeforeMine lossless → AfterMine lossless
     mine-opened lossless k s = elim (same_id put.id h.id) as (λ b. same_id put.id h.id ≡ b → AfterMine lossless) [
       | true ↦ λ is. none-mine lossless _ (grew-opened k.opens) (sym (same_id-true put.id h.id is)) k.none s
-      | false ↦ λ differs. stays-same laws lossless put old.state new.state theirs theirs _ [] (grew-opened k.opens) (grew-none theirs) forth forth (p ∷ rest) rest (opened-other k.opens differs) refl refl (is-other rest differs) s
+      | false ↦ λ differs. stays-same laws lossless put old.state new.state theirs theirs _ [] (grew-opened k.opens) (grew-none theirs) forth forth (p ∷ rest) rest
+          (opened-other k.opens differs) refl refl (is-other rest differs) s
     ] refl
 
     mine-dropped : (lossless : Bool) → DropsNew h v old new → BeforeMine lossless → AfterMine lossless
@@ -156,15 +159,19 @@ module _ (laws : CourseLaws) (put : Put) (put_of : TransactionId → Option Put)
       where
         by : (o : Option Entry) → slice_get st.records k.place ≡ o → AfterMine false
         by None none = absurd (no-place h.id st.records k.place k.at none)
-        by (Some e) at = mine-steps laws false put old.state new.state theirs forth forth (p ∷ rest) rest k.place e (no_step st.files k.finds.spoiled.seen) order.distinct at (ap (λ (t : TableState). t.records) k.finds.spoiled.table) (grew-spoiled k.place k.finds)
+        by (Some e) at = mine-steps laws false put old.state new.state theirs forth forth (p ∷ rest) rest k.place e (no_step st.files k.finds.spoiled.seen) order.distinct at
+            (ap (λ (t : TableState). t.records) k.finds.spoiled.table) (grew-spoiled k.place k.finds)
             (λ _. refl) (λ differs. is-other rest (differs-too put.id h.id e.0 (is-there k.place e k.at at) differs)) (λ same. own e.1 same refl) s
           where
-            own : (r : Seen) (same : put.id ≡ e.0) → e.1 ≡ r → MineGoes false put r (no_step st.files k.finds.spoiled.seen) (of_id put.id forth) (of_id put.id forth) (of_id put.id (p ∷ rest)) (of_id put.id rest)
+            own : (r : Seen) (same : put.id ≡ e.0) → e.1 ≡ r → MineGoes false put r (no_step st.files k.finds.spoiled.seen) (of_id put.id forth) (of_id put.id forth) (of_id put.id (p ∷ rest))
+                (of_id put.id rest)
             own (Receives r m) same is = tt
             own (Sends x) same is =
                 let i : SendsIt put st.sources x = sends-it put put_of found st.sources e.0 x same (subst (λ r. SendsItsPut put_of st.sources e.0 r) is (order.own k.place e at).1) in
-                subst (λ l. SenderGoes false put x (no_step st.files k.finds.spoiled.seen) (of_id put.id forth) (of_id put.id forth) l (of_id put.id rest)) (is-own rest (is-there k.place e k.at at ∙ sym same))
-                (sender-spoils laws put x i.is_sender i.in_file st.files (of_id put.id forth) (of_id put.id rest) v k.finds.spoiled.seen (subst (λ r. Spoils v r k.finds.spoiled.seen) is (k.finds.spoiled.spoils e at)))
+                subst (λ l. SenderGoes false put x (no_step st.files k.finds.spoiled.seen) (of_id put.id forth) (of_id put.id forth) l (of_id put.id rest))
+                (is-own rest (is-there k.place e k.at at ∙ sym same))
+                (sender-spoils laws put x i.is_sender i.in_file st.files (of_id put.id forth) (of_id put.id rest) v k.finds.spoiled.seen
+                (subst (λ r. Spoils v r k.finds.spoiled.seen) is (k.finds.spoiled.spoils e at)))
 
     pub heard-mine : (lossless : Bool) → HeardSo h v old new → BeforeMine lossless → AfterMine lossless
     heard-mine lossless (inl k) = mine-stepped lossless k
@@ -185,14 +192,16 @@ module _ (laws : CourseLaws) (put : Put) (put_of : TransactionId → Option Put)
         (ap (λ (e : EntityState). e.table) k.steps.steps) (same-drops _ k.steps.steps)
         (λ none. absurd (no-place h.id st.records k.place k.at none))
         (λ e at differs. (is-other rest (differs-too put.id h.id e.0 (is-there k.place e k.at at) differs), refl))
-        (λ x r m size is_id at. subst (λ l. ReceiverGoes lossless put x r (hears k.steps.stored st.policy.times st.files v (Receives r m)) l (of_id put.id rest) (of_id put.id back) (of_id put.id back))
+        (λ x r m size is_id at. subst (λ l. ReceiverGoes lossless put x r (hears k.steps.stored st.policy.times st.files v (Receives r m)) l (of_id put.id rest) (of_id put.id back)
+        (of_id put.id back))
         (is-own rest (is-there k.place (put.id, Receives r m) k.at at))
         (receiver-hears laws lossless put x size r m is_id st.policy.times st.files k.steps.stored (of_id put.id rest) (of_id put.id back) v))
 
     theirs-opened : (lossless : Bool) → OpensRecord h v old new → BeforeTheirs lossless → AfterTheirs lossless
     theirs-opened lossless k s = elim (same_id put.id h.id) as (λ b. same_id put.id h.id ≡ b → AfterTheirs lossless) [
       | true ↦ λ is. own (sym (same_id-true put.id h.id is))
-      | false ↦ λ differs. stays-same laws lossless put mine mine old.state new.state [] _ (grew-none mine) (grew-opened k.opens) (p ∷ rest) rest back back refl (opened-other k.opens differs) (is-other rest differs) refl s
+      | false ↦ λ differs. stays-same laws lossless put mine mine old.state new.state [] _ (grew-none mine) (grew-opened k.opens) (p ∷ rest) rest back back refl (opened-other k.opens differs)
+          (is-other rest differs) refl s
     ] refl
       where
         own : h.id ≡ put.id → AfterTheirs lossless
@@ -202,18 +211,21 @@ module _ (laws : CourseLaws) (put : Put) (put_of : TransactionId → Option Put)
             receiver-opens laws lossless put mine old.state new.state (p ∷ rest) rest back back a (grew-opened k.opens) none
             (ap (λ (e : EntityState). record_of put.id e.table.records) k.opens.opens ∙ ap (λ q. record_of put.id (st.records ++ (q, a.seen) ∷ [])) same ∙ push-own st.records put.id a.seen none)
             (λ x here. subst (λ l. ReceiverOpens lossless put x a l (of_id put.id rest) (of_id put.id back)) (is-own rest same)
-            (receiver-opened laws lossless put x (sends-there put put_of found mine.table order_mine x here).is_sender.size (addressing_in h) same st.policy.times st.files k.opens.begun k.opens.stored (of_id put.id rest) (of_id put.id back) v k.opening))
+            (receiver-opened laws lossless put x (sends-there put put_of found mine.table order_mine x here).is_sender.size (addressing_in h) same st.policy.times st.files k.opens.begun k.opens.stored
+            (of_id put.id rest) (of_id put.id back) v k.opening))
             refl s
 
     -- dropped where the put has no receiver
     none-theirs : (lossless : Bool) (k : DropsNew h v old new) → h.id ≡ put.id
-        → ((x : SenderState) (b c : Bool) → IsCourse put lossless lossless lossless lossless x None (v ∷ of_id put.id rest) (of_id put.id back) b c → IsCourse put lossless lossless lossless lossless x None (of_id put.id rest) (of_id put.id back) b c)
+        → ((x : SenderState) (b c : Bool) → IsCourse put lossless lossless lossless lossless x None (v ∷ of_id put.id rest) (of_id put.id back) b c →
+        IsCourse put lossless lossless lossless lossless x None (of_id put.id rest) (of_id put.id back) b c)
         → BeforeTheirs lossless → AfterTheirs lossless
     none-theirs lossless k same goes = goes-on laws lossless put mine mine old.state new.state [] [] (grew-none mine) (grew-dropped k.by k.low k.is) (p ∷ rest) rest back back (λ _ u. u)
         (λ _ _ _ c. by c c.receiver (subst (λ o. IsReceiverIn o c.receiver) (none-there same k.none) c.is_receiver) c.course)
       where
         by : (c : IsOnCourse lossless put mine old.state (p ∷ rest) back) (o : Option ReceiverState) → IsReceiverIn None o
-            → IsCourse put lossless lossless lossless lossless c.sender o (of_id put.id (p ∷ rest)) (of_id put.id back) (one_tells (tells_complete put.id) mine.table.told) (one_tells (tells_complete put.id) st.told) → IsOnCourse lossless put mine new.state rest back
+            → IsCourse put lossless lossless lossless lossless c.sender o (of_id put.id (p ∷ rest)) (of_id put.id back) (one_tells (tells_complete put.id) mine.table.told)
+            (one_tells (tells_complete put.id) st.told) → IsOnCourse lossless put mine new.state rest back
         by c (Some r) is course = absurd is
         by c None is course = record {
           sender = c.sender;
@@ -225,7 +237,8 @@ module _ (laws : CourseLaws) (put : Put) (put_of : TransactionId → Option Put)
         }
 
     own-dropped : (lossless : Bool) (k : DropsNew h v old new) → h.id ≡ put.id → (opening_work v ≡ 0) ⊎ (drop_number k.by ≢ 14) → BeforeTheirs lossless → AfterTheirs lossless
-    own-dropped lossless k same (inl nothing) s = none-theirs lossless k same (λ x b c. laws.none_hears put lossless lossless lossless lossless x [] (of_id put.id rest) (of_id put.id back) v b c nothing) s
+    own-dropped lossless k same (inl nothing) s = none-theirs lossless k same
+        (λ x b c. laws.none_hears put lossless lossless lossless lossless x [] (of_id put.id rest) (of_id put.id back) v b c nothing) s
     own-dropped true k same (inr apart) s = λ u. absurd (drops-all k.by k.low apart k.is (u.heard_there refl))
     own-dropped false k same (inr apart) s = none-theirs false k same (λ x b c. laws.lost_forth put x None [] (of_id put.id rest) (of_id put.id back) v b c) s
 
@@ -242,13 +255,16 @@ module _ (laws : CourseLaws) (put : Put) (put_of : TransactionId → Option Put)
       where
         by : (o : Option Entry) → slice_get st.records k.place ≡ o → AfterTheirs false
         by None none = absurd (no-place h.id st.records k.place k.at none)
-        by (Some e) at = theirs-steps laws false put mine old.state new.state (p ∷ rest) rest back back k.place e (no_step st.files k.finds.spoiled.seen) order.distinct at (ap (λ (t : TableState). t.records) k.finds.spoiled.table) (grew-spoiled k.place k.finds)
+        by (Some e) at = theirs-steps laws false put mine old.state new.state (p ∷ rest) rest back back k.place e (no_step st.files k.finds.spoiled.seen) order.distinct at
+            (ap (λ (t : TableState). t.records) k.finds.spoiled.table) (grew-spoiled k.place k.finds)
             (λ differs. is-other rest (differs-too put.id h.id e.0 (is-there k.place e k.at at) differs)) (λ _. refl) (λ same x here. own x e.1 same refl) s
           where
-            own : (x : SenderState) (r : Seen) (same : put.id ≡ e.0) → e.1 ≡ r → TheirsGoes false put x r (no_step st.files k.finds.spoiled.seen) (of_id put.id (p ∷ rest)) (of_id put.id rest) (of_id put.id back) (of_id put.id back)
+            own : (x : SenderState) (r : Seen) (same : put.id ≡ e.0) → e.1 ≡ r →
+                TheirsGoes false put x r (no_step st.files k.finds.spoiled.seen) (of_id put.id (p ∷ rest)) (of_id put.id rest) (of_id put.id back) (of_id put.id back)
             own x (Sends y) same is = tt
             own x (Receives r m) same is =
-                subst (λ l. ReceiverGoes false put x r (no_step st.files k.finds.spoiled.seen) l (of_id put.id rest) (of_id put.id back) (of_id put.id back)) (is-own rest (is-there k.place e k.at at ∙ sym same))
+                subst (λ l. ReceiverGoes false put x r (no_step st.files k.finds.spoiled.seen) l (of_id put.id rest) (of_id put.id back) (of_id put.id back))
+                (is-own rest (is-there k.place e k.at at ∙ sym same))
                 (receiver-spoils laws put x r m st.files (of_id put.id rest) (of_id put.id back) v k.finds.spoiled.seen (subst (λ s. Spoils v s k.finds.spoiled.seen) is (k.finds.spoiled.spoils e at)))
 
     pub heard-theirs : (lossless : Bool) → HeardSo h v old new → BeforeTheirs lossless → AfterTheirs lossless

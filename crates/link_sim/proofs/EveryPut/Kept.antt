@@ -122,7 +122,8 @@ module _ (stays : (old new : TableState) → Leads old new → KeepsRecords old.
       ap (λ (e : EntityState). length e.drops) now ∙ c.kinds
 
   -- a PDU is sent, and is the last on its way
-  pub kept-sent : (heard : List (List ℕ)) (first : FileMap) → IsSound P heard first m → ArePeers m th → SpellsTurn (turn m) m → m1 ≡ served Done (turn m) m → Kept P N m1 th (a ++ turn_octets (turn m) m ∷ []) b
+  pub kept-sent : (heard : List (List ℕ)) (first : FileMap) → IsSound P heard first m → ArePeers m th → SpellsTurn (turn m) m → m1 ≡ served Done (turn m) m →
+      Kept P N m1 th (a ++ turn_octets (turn m) m ∷ []) b
   kept-sent heard first sound peers spells is =
       let t : TurnSays m = turn-says m c.known.0.none_stray spells in
       let p : Pdu = pdu_of t.entry t.content in
@@ -148,8 +149,10 @@ module _ (stays : (old new : TableState) → Leads old new → KeepsRecords old.
     known = fails-known stays P m m1 th c.forth c.back Refused is c.known;
     kinds = kinds-served Refused place is_turn is;
     kinds_there = c.kinds_there;
-    of_mine = λ put found own lossless none. mine-fails course-laws lossless put P found m m1 th c.forth c.back order place is_turn carries is (c.of_mine put found (own-before m m1 put same own) lossless none);
-    of_theirs = λ put found own lossless none. theirs-fails course-laws lossless put P found th m m1 c.back c.forth order_there order place is_turn carries is (c.of_theirs put found own lossless none);
+    of_mine = λ put found own lossless none. mine-fails course-laws lossless put P found m m1 th c.forth c.back order place is_turn carries is
+        (c.of_mine put found (own-before m m1 put same own) lossless none);
+    of_theirs = λ put found own lossless none. theirs-fails course-laws lossless put P found th m m1 c.back c.forth order_there order place is_turn carries is
+        (c.of_theirs put found own lossless none);
   }
 
 -- ---- PDUs that are taken from the front of those on their way to the other entity
@@ -176,12 +179,14 @@ module _ (P : TransactionId → Option Put) (N : Type 0) (m : EntityState) (old 
 
 -- ---- a put
 -- the put of a record is found
-some-put : (own : ℕ) (P : TransactionId → Option Put) (heard : List (List ℕ)) (sources : FileMap) (id : TransactionId) (s : Seen) → KnowsTruth own P heard id s → SendsItsPut P sources id s → IsSome (P id)
+some-put : (own : ℕ) (P : TransactionId → Option Put) (heard : List (List ℕ)) (sources : FileMap) (id : TransactionId) (s : Seen) → KnowsTruth own P heard id s → SendsItsPut P sources id s →
+    IsSome (P id)
 some-put own P heard sources id (Sends x) knows sends = subst IsSome (sym sends.is_put) refl
 some-put own P heard sources id (Receives r m) knows sends = subst IsSome (sym knows.is_put) refl
 
 -- of a transaction whose put isn't found an entity has no record, and no PDU is on its way
-pub none-known : (P : TransactionId → Option Put) (heard : List (List ℕ)) (first : FileMap) (e : EntityState) (id : TransactionId) → IsSound P heard first e → (IsSome (P id) → ⊥) → record_of id e.table.records ≡ None
+pub none-known : (P : TransactionId → Option Put) (heard : List (List ℕ)) (first : FileMap) (e : EntityState) (id : TransactionId) → IsSound P heard first e → (IsSome (P id) → ⊥) →
+    record_of id e.table.records ≡ None
 none-known P heard first e id sound none = by (place_of id e.table.records) refl
   where
     there : (place : ℕ) (o : Option Entry) → place_of id e.table.records ≡ Some place → slice_get e.table.records place ≡ o → ⊥
@@ -201,8 +206,10 @@ none-on-way P e id none (p ∷ pdus) all = elim (same_id id p.0.id) as (λ t. sa
   | false ↦ λ f. none-on-way P e id none pdus all.1
 ] refl
 
-module _ (P Q : TransactionId → Option Put) (N : Type 0) (source destination : List ℕ) (id : TransactionId) (m m1 th : EntityState) (a b : List (List ℕ)) (accepts : Accepts source destination id m m1) (adds : AddsPut id P Q)
-    (peers : ArePeers m th) (found : Q id ≡ Some (next_put source destination m)) (fresh : IsSome (P id) → ⊥) (heard : List (List ℕ)) (first : FileMap) (sound : IsSound P heard first th) (c : Kept P N m th a b) where
+module _ (P Q : TransactionId → Option Put) (N : Type 0) (source destination : List ℕ) (id : TransactionId) (m m1 th : EntityState) (a b : List (List ℕ)) (accepts : Accepts source destination id m m1)
+    (adds : AddsPut id P Q)
+    (peers : ArePeers m th) (found : Q id ≡ Some (next_put source destination m)) (fresh : IsSome (P id) → ⊥) (heard : List (List ℕ)) (first : FileMap) (sound : IsSound P heard first th)
+    (c : Kept P N m th a b) where
   same-put : (p q : Put) → Some p ≡ Some q → p ≡ q
   same-put p q is = cc
 

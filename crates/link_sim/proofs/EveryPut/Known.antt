@@ -165,7 +165,8 @@ fired-long [] st = refl
 fired-long (t ∷ timers) st = fired-long timers (expired t st) ∙ expired-long t st
 
 -- ---- the other entity, and what is on its way to this one
-pub directed-so : (put_of puts_then : TransactionId → Option Put) (old new : EntityState) → FindsMore put_of puts_then → new.config ≡ old.config → (pdus : List Pdu) → AllTrue (IsDirected put_of old) pdus → AllTrue (IsDirected puts_then new) pdus
+pub directed-so : (put_of puts_then : TransactionId → Option Put) (old new : EntityState) → FindsMore put_of puts_then → new.config ≡ old.config → (pdus : List Pdu) →
+    AllTrue (IsDirected put_of old) pdus → AllTrue (IsDirected puts_then new) pdus
 directed-so put_of puts_then old new more same pdus all = all-so (IsDirected put_of old) (IsDirected puts_then new) one pdus all
   where
     some : (id : TransactionId) (o : Option Put) → put_of id ≡ o → IsSome o → IsSome (puts_then id)
@@ -261,7 +262,16 @@ turn-none e none = rw none refl
 content-says : (e : EntityState) (place : ℕ) (d : Entry) (o : Option Content) → turn e ≡ Place place → slice_get e.table.records place ≡ Some d → due_content e.table.sources d.1 ≡ o
     → SpellsDue o (addressing_of d.1) (due_octets e.table.sources d.1) → due_octets e.table.sources d.1 ≡ turn_octets (turn e) e → TurnSays e
 content-says e place d None is at due s octets = absurd s
-content-says e place d (Some v) is at due s octets = record { place = place; is_turn = is; entry = d; at = at; content = v; due = due; spells = subst (SpellsSmall (header_of (addressing_of d.1) false v) v) octets s }
+content-says e place d (Some v) is at due s octets = record {
+  place = place;
+  is_turn = is;
+  entry = d;
+  at = at;
+  content = v;
+  due = due;
+  spells =
+      subst (SpellsSmall (header_of (addressing_of d.1) false v) v) octets s;
+}
 
 entry-says : (e : EntityState) (place : ℕ) (o : Option Entry) → turn e ≡ Place place → slice_get e.table.records place ≡ o → SpellsEntry e.table.sources o → TurnSays e
 entry-says e place None is at s = absurd s
@@ -328,11 +338,13 @@ both-true : (p q : Bool) → p ≡ true → q ≡ true → (p && q) ≡ true
 both-true true q a b = b
 both-true false q a b = absurd cc
 
-is-for-own : (b : Bool) (source destination own peer : ℕ) → b ≡ true → source ≡ own → destination ≡ peer → (if b then (source == own) && (destination == peer) else (source == peer) && (destination == own)) ≡ true
+is-for-own : (b : Bool) (source destination own peer : ℕ) → b ≡ true → source ≡ own → destination ≡ peer →
+    (if b then (source == own) && (destination == peer) else (source == peer) && (destination == own)) ≡ true
 is-for-own true source destination own peer is s d = both-true (source == own) (destination == peer) (eq-eqb source own s) (eq-eqb destination peer d)
 is-for-own false source destination own peer is s d = absurd cc
 
-is-for-peer : (b : Bool) (source destination own peer : ℕ) → b ≡ false → source ≡ peer → destination ≡ own → (if b then (source == own) && (destination == peer) else (source == peer) && (destination == own)) ≡ true
+is-for-peer : (b : Bool) (source destination own peer : ℕ) → b ≡ false → source ≡ peer → destination ≡ own →
+    (if b then (source == own) && (destination == peer) else (source == peer) && (destination == own)) ≡ true
 is-for-peer false source destination own peer is s d = both-true (source == peer) (destination == own) (eq-eqb source peer s) (eq-eqb destination own d)
 is-for-peer true source destination own peer is s d = absurd cc
 
@@ -362,7 +374,8 @@ module _ (put_of : TransactionId → Option Put) (heard : List (List ℕ)) (mine
         of_put = some-put r.addressing.id id knows.put knows.same_id knows.is_put;
       }
 
-pub directed-due : (put_of : TransactionId → Option Put) (heard : List (List ℕ)) (first : FileMap) (mine theirs : EntityState) (forth : List Pdu) (place : ℕ) (e : Entry) (v : Content) → IsSound put_of heard first mine → ArePeers mine theirs →
+pub directed-due : (put_of : TransactionId → Option Put) (heard : List (List ℕ)) (first : FileMap) (mine theirs : EntityState) (forth : List Pdu) (place : ℕ) (e : Entry) (v : Content) →
+    IsSound put_of heard first mine → ArePeers mine theirs →
     IsKnown put_of mine theirs forth → slice_get mine.table.records place ≡ Some e → due_content mine.table.sources e.1 ≡ Some v → IsDirected put_of theirs (pdu_of e v)
 directed-due put_of heard first mine theirs forth place e v sound peers k at due =
     directed-seen put_of heard mine theirs peers e.0 v e.1 due (k.with_peer place e at) (sound.knows.knows place e at) (sound.sends.sends place e at)
@@ -405,7 +418,8 @@ put-room source destination e allowed =
 -- ---- a record more
 module _ (put_of puts_then : TransactionId → Option Put) (more : FindsMore put_of puts_then) (old new theirs : EntityState) (forth : List Pdu) (id : TransactionId) (s : Seen) where
   known-more : new.config ≡ old.config → new.strays ≡ old.strays → new.table.records ≡ old.table.records ++ (id, s) ∷ [] → length old.table.records < most_records → IsWithPeer old.config s
-      → ((q : TransactionId) → IsSome (puts_then q) → q.source ≡ old.config.entity → IsSending (record_of q (old.table.records ++ (id, s) ∷ []))) → IsKnown put_of old theirs forth → IsKnown puts_then new theirs forth
+      → ((q : TransactionId) → IsSome (puts_then q) → q.source ≡ old.config.entity → IsSending (record_of q (old.table.records ++ (id, s) ∷ []))) → IsKnown put_of old theirs forth →
+      IsKnown puts_then new theirs forth
   known-more config strays records room peer sends k = record {
     sends = λ q some own. subst (λ xs. IsSending (record_of q xs)) (sym records) (sends q some (own ∙ ap (λ (g : EntityConfig). g.entity) config));
     with_peer = subst (λ g. AllWithPeer g new.table.records) (sym config) (subst (AllWithPeer old.config) (sym records) (peers-push old.config old.table.records id s k.with_peer peer));
@@ -415,7 +429,8 @@ module _ (put_of puts_then : TransactionId → Option Put) (more : FindsMore put
   }
 
 -- ---- the steps of an entity
-module _ (put_of puts_then : TransactionId → Option Put) (source destination : List ℕ) (id : TransactionId) (old new theirs : EntityState) (forth back : List Pdu) (a : Accepts source destination id old new) (adds : AddsPut id put_of puts_then) (peers : ArePeers old theirs) where
+module _ (put_of puts_then : TransactionId → Option Put) (source destination : List ℕ) (id : TransactionId) (old new theirs : EntityState) (forth back : List Pdu)
+    (a : Accepts source destination id old new) (adds : AddsPut id put_of puts_then) (peers : ArePeers old theirs) where
   put-sends : IsKnown put_of old theirs forth → (q : TransactionId) → IsSome (puts_then q) → q.source ≡ old.config.entity →
       IsSending (record_of q (old.table.records ++ (next_id old, Sends (opened_sender (next_transfer source destination (length (octets_in old.table.sources source)) old))) ∷ []))
   put-sends k q some own = by (adds.only q some)
@@ -427,7 +442,8 @@ module _ (put_of puts_then : TransactionId → Option Put) (source destination :
       fresh = (no-record old.table.records (next_id old) (subst (λ i. place_of i old.table.records ≡ None) a.is_next a.fresh)).0
 
       by : (q ≡ id) ⊎ IsSome (put_of q) → IsSending (record_of q (old.table.records ++ (next_id old, s) ∷ []))
-      by (inl is) = subst (λ i. IsSending (record_of i (old.table.records ++ (next_id old, s) ∷ []))) (sym (is ∙ a.is_next)) (subst IsSending (sym (push-own old.table.records (next_id old) s fresh)) tt)
+      by (inl is) = subst (λ i. IsSending (record_of i (old.table.records ++ (next_id old, s) ∷ []))) (sym (is ∙ a.is_next))
+          (subst IsSending (sym (push-own old.table.records (next_id old) s fresh)) tt)
       by (inr before) = sending-kept q old.table.records (old.table.records ++ (next_id old, s) ∷ []) (keeps-push old.table.records ((next_id old, s) ∷ [])) (k.sends q before own)
 
   put-there : IsKnown put_of theirs old back → IsKnown puts_then theirs new back
@@ -562,7 +578,8 @@ module _ (stays : (old new : TableState) → Leads old new → KeepsRecords old.
         let s : Seen = (opens begun stored old.state.table.policy.times old.state.table.files v a).seen in
         let is : new.state ≡ with_table old.state t = o.opens.opens in
         let peer = directed-peer put_of old.state h v d o.down in
-        known-more put_of put_of (λ id put found. found) old.state new.state theirs forth a.id s (ap (λ (e : EntityState). e.config) is) (ap (λ (e : EntityState). e.strays) is) (ap (λ (e : EntityState). e.table.records) is) o.room
+        known-more put_of put_of (λ id put found. found) old.state new.state theirs forth a.id s (ap (λ (e : EntityState). e.config) is) (ap (λ (e : EntityState). e.strays) is)
+        (ap (λ (e : EntityState). e.table.records) is) o.room
         (receiver-peer old.state.config a s (opened-of begun stored v a old.state.table) peer.0 peer.1)
         (λ q some own. sending-kept q old.state.table.records (old.state.table.records ++ (a.id, s) ∷ []) (keeps-push old.state.table.records ((a.id, s) ∷ [])) (k.sends q some own)) k
 
@@ -579,13 +596,15 @@ module _ (stays : (old new : TableState) → Leads old new → KeepsRecords old.
         so-known d (k.0, known-with put_of theirs old.state ((h, v) ∷ back) back k.1.directed.1 k.1) (heard-so put_of theirs forth h v old new k.0 d t)
 
   -- and so are all those of a front of what is on its way
-  pub each-known : (put_of : TransactionId → Option Put) (theirs : EntityState) (forth pdus back : List Pdu) (old new : Counted) → HearsEach pdus old new → AreKnown put_of old.state theirs forth (pdus ++ back) → AreKnown put_of new.state theirs forth back
+  pub each-known : (put_of : TransactionId → Option Put) (theirs : EntityState) (forth pdus back : List Pdu) (old new : Counted) → HearsEach pdus old new →
+      AreKnown put_of old.state theirs forth (pdus ++ back) → AreKnown put_of new.state theirs forth back
   each-known put_of theirs forth [] back old new h k = subst (λ (c : Counted). AreKnown put_of c.state theirs forth back) (sym h) k
   each-known put_of theirs forth (p ∷ pdus) back old new h k = each-known put_of theirs forth pdus back h.0 new h.2 (hears-known put_of theirs forth (pdus ++ back) p.0 p.1 old h.0 h.1 k)
 
 -- ---- the same puts
 -- Where the same puts are found by another world, the same is known.
-pub same-known : (put_of puts_then : TransactionId → Option Put) (mine theirs : EntityState) (forth back : List Pdu) → FindsMore put_of puts_then → FindsMore puts_then put_of → AreKnown put_of mine theirs forth back → AreKnown puts_then mine theirs forth back
+pub same-known : (put_of puts_then : TransactionId → Option Put) (mine theirs : EntityState) (forth back : List Pdu) → FindsMore put_of puts_then → FindsMore puts_then put_of →
+    AreKnown put_of mine theirs forth back → AreKnown puts_then mine theirs forth back
 same-known put_of puts_then mine theirs forth back more fewer k = (one mine theirs forth k.0, one theirs mine back k.1)
   where
     some : (id : TransactionId) (o : Option Put) → puts_then id ≡ o → IsSome o → IsSome (put_of id)

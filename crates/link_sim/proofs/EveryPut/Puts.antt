@@ -29,7 +29,8 @@ accepted-last (q ∷ ps) p id =
 
 back-same : (old new : WorldSeen) → SendsSame old.one new.one → SendsSame old.two new.two → (ps : List AcceptedPut) → ps ≡ old.puts → FindsMore (put_of (record new { puts = ps })) (put_of old)
 back-same old new one two ps is = puts-more (record new { puts = ps }) old []
-    (record { entity = sym one.entity; kind = sym one.kind; sources = sym one.sources }) (record { entity = sym two.entity; kind = sym two.kind; sources = sym two.sources }) (sym is ∙ sym (append-nil ps))
+    (record { entity = sym one.entity; kind = sym one.kind; sources = sym one.sources }) (record { entity = sym two.entity; kind = sym two.kind; sources = sym two.sources })
+    (sym is ∙ sym (append-nil ps))
 
 pub adds-put : (old new : WorldSeen) (p : AcceptedPut) → SendsSame old.one new.one → SendsSame old.two new.two → new.puts ≡ old.puts ++ p ∷ [] → AddsPut p.id (put_of old) (put_of new)
 adds-put old new p one two puts = record {

@@ -100,27 +100,39 @@ module _ (laws : CourseLaws) (lossless : Bool) (put : Put) (x : SenderState) (si
 
   -- ---- a record that is opened by the PDU at the front
   module _ (a : Addressing) (is_id : a.id ≡ put.id) (times : Times) (files : FileMap) (begun stored : Stored) (rest back : List Content) where
-    begins-well : (v : Content) → (opening_work v ≢ 0) → (b c : Bool) (begun : Stored) (o : ReceiverAfter) → o ≡ opens_hearing begun stored v files a → TellsWell put lossless o.told → IsCourse put lossless lossless lossless lossless x None (v ∷ rest) back b c
+    begins-well : (v : Content) → (opening_work v ≢ 0) → (b c : Bool) (begun : Stored) (o : ReceiverAfter) → o ≡ opens_hearing begun stored v files a → TellsWell put lossless o.told →
+        IsCourse put lossless lossless lossless lossless x None (v ∷ rest) back b c
         → IsCourse put lossless lossless lossless lossless x (Some o.receiver) rest back b (told_with put c o.told)
     begins-well v opening b c begun o is good h =
         subst (λ (p : ReceiverAfter). TellsWell put lossless p.told → IsCourse put lossless lossless lossless lossless x (Some p.receiver) rest back b (told_with put c p.told)) (sym is)
         (λ well. laws.receiver_opens put lossless lossless lossless lossless x [] rest back v b c begun stored files a is_id size opening h well) good
 
-    began : (begun : Stored) (v : Content) (b c : Bool) → opening_work v ≢ 0 → (o : ReceiverAfter) → receiver_after stored v map.empty files (opened_receiver a) ≡ Some o → opens_hearing Done stored v files a ≡ o
+    began : (begun : Stored) (v : Content) (b c : Bool) → opening_work v ≢ 0 → (o : ReceiverAfter) → receiver_after stored v map.empty files (opened_receiver a) ≡ Some o →
+        opens_hearing Done stored v files a ≡ o
         → TellsWell put lossless (begins begun stored times files v a).told → IsCourse put lossless lossless lossless lossless x None (v ∷ rest) back b c
-        → (r : ReceiverState) × ((m : OctetMap) × (((begins begun stored times files v a).seen ≡ Receives r m) × IsCourse put lossless lossless lossless lossless x (Some r) rest back b (told_with put c (begins begun stored times files v a).told)))
+        → (r : ReceiverState) × ((m : OctetMap) × (((begins begun stored times files v a).seen ≡ Receives r m)
+        × IsCourse put lossless lossless lossless lossless x (Some r) rest back b (told_with put c (begins begun stored times files v a).told)))
     began Done v b c opening o is same good h = subst
-        (λ p. TellsWell put lossless (if_receiver times files (opened_receiver a) map.empty p).told → (r : ReceiverState) × ((m : OctetMap) × (((if_receiver times files (opened_receiver a) map.empty p).seen ≡ Receives r m) × IsCourse put lossless lossless lossless lossless x (Some r) rest back b (told_with put c (if_receiver times files (opened_receiver a) map.empty p).told))))
+        (λ p. TellsWell put lossless (if_receiver times files (opened_receiver a) map.empty p).told → (r : ReceiverState)
+        × ((m : OctetMap) × (((if_receiver times files (opened_receiver a) map.empty p).seen ≡ Receives r m)
+        × IsCourse put lossless lossless lossless lossless x (Some r) rest back b (told_with put c (if_receiver times files (opened_receiver a) map.empty p).told))))
         (sym is) (λ well. (o.receiver, (octets_seen o.receiver o.octets, (refl, begins-well v opening b c Done o (sym same) well h)))) good
-    began Refused v b c opening o is same good h =
-        ((steps.opens Refused files a).receiver, (octets_seen (steps.opens Refused files a).receiver (steps.opens Refused files a).octets, (refl, begins-well v opening b c Refused (steps.opens Refused files a) refl good h)))
+    began Refused v b c opening o is same good h = (
+      (steps.opens Refused files a).receiver,
+      (
+        octets_seen (steps.opens Refused files a).receiver (steps.opens Refused files a).octets,
+        (refl, begins-well v opening b c Refused (steps.opens Refused files a) refl good h),
+      ),
+    )
 
     pub receiver-opened : (v : Content) → opening_work v ≢ 0 → ReceiverOpens lossless put x (opens begun stored times files v a) (v ∷ rest) rest back
     receiver-opened (Metadata kind size source destination options) opening b c good h = began begun _ b c opening _ refl refl good h
     receiver-opened (FileData offset bytes) opening b c good h = began begun _ b c opening _ refl refl good h
     receiver-opened (Eof condition checksum size tlvs) opening b c good h =
         let no : error_of condition ≡ None = ap error_of h.truth.true_forth.0.0 in
-        subst (λ o. TellsWell put lossless (opens_by o begun stored times files (Eof condition checksum size tlvs) a).told → (r : ReceiverState) × ((m : OctetMap) × (((opens_by o begun stored times files (Eof condition checksum size tlvs) a).seen ≡ Receives r m) × IsCourse put lossless lossless lossless lossless x (Some r) rest back b (told_with put c (opens_by o begun stored times files (Eof condition checksum size tlvs) a).told))))
+        subst (λ o. TellsWell put lossless (opens_by o begun stored times files (Eof condition checksum size tlvs) a).told → (r : ReceiverState)
+        × ((m : OctetMap) × (((opens_by o begun stored times files (Eof condition checksum size tlvs) a).seen ≡ Receives r m)
+        × IsCourse put lossless lossless lossless lossless x (Some r) rest back b (told_with put c (opens_by o begun stored times files (Eof condition checksum size tlvs) a).told))))
         (sym no) (λ well. began begun _ b c opening _ refl refl well h) good
     receiver-opened (Ack of condition status) opening b c good h = absurd (opening refl)
     receiver-opened (Finished condition delivery status tlvs) opening b c good h = absurd (opening refl)
@@ -135,5 +147,6 @@ module _ (laws : CourseLaws) (put : Put) (x : SenderState) (r : ReceiverState) (
     receiver = r;
     octets = k.0;
     is_receiver = k.1.0;
-    course = λ b c good h. laws.told_more put false false false false x (Some r) rest back b b c (told_with put c []) (λ t. t) (λ t. or_left c false t) (laws.lost_forth put x (Some r) [] rest back v b c h);
+    course = λ b c good h. laws.told_more put false false false false x (Some r) rest back b b c (told_with put c []) (λ t. t) (λ t. or_left c false t)
+        (laws.lost_forth put x (Some r) [] rest back v b c h);
   }

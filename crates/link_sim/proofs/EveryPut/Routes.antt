@@ -39,7 +39,8 @@ pub toward-own : (b : Bool) (source destination own peer : ℕ) → b ≡ true �
 toward-own true source destination own peer toward is = eqb-true source own (and-parts (source == own) (destination == peer) is).0
 toward-own false source destination own peer toward is = absurd cc
 
-pub from-peer : (b : Bool) (source destination own peer : ℕ) → b ≡ false → (if b then (source == own) && (destination == peer) else (source == peer) && (destination == own)) ≡ true → (source ≡ peer) × (destination ≡ own)
+pub from-peer : (b : Bool) (source destination own peer : ℕ) → b ≡ false → (if b then (source == own) && (destination == peer) else (source == peer) && (destination == own)) ≡ true → (source ≡ peer)
+    × (destination ≡ own)
 from-peer true source destination own peer toward is = absurd cc
 from-peer false source destination own peer toward is =
     let parts = and-parts (source == peer) (destination == own) is in
@@ -112,10 +113,12 @@ module _ (h : Header) (old new : Counted) (none : place_of h.id old.state.table.
     open-drops : (b : Bool) (by : EntityDrop) → nat_lt (length old.state.table.records) most_records ≡ b → DropsBy (opens_record old.state) by v old new → HeardSo h v old new
     open-drops true by is t =
         let f : DropsBy (opens_record old.state) by v old new → (new ≡ record old { state = dropped drops.NoMemory old.state }) = rw is (λ o. o.1) in
-        unheard v drops.NoMemory (omega arith) (inr (λ h. omega (arith, h))) (inr (inr refl)) (λ h. omega (arith, h)) (ap (λ (c : Counted). c.state) (f t)) (same-inbox (dropped drops.NoMemory old.state) (f t))
+        unheard v drops.NoMemory (omega arith) (inr (λ h. omega (arith, h))) (inr (inr refl)) (λ h. omega (arith, h)) (ap (λ (c : Counted). c.state) (f t))
+        (same-inbox (dropped drops.NoMemory old.state) (f t))
     open-drops false by is t =
         let f : DropsBy (opens_record old.state) by v old new → (new ≡ record old { state = dropped drops.TableFull old.state }) = rw is (λ o. o.1) in
-        unheard v drops.TableFull (omega arith) (inr (λ h. omega (arith, h))) (inr (inl refl)) (λ h. ltb-false (length old.state.table.records) most_records is) (ap (λ (c : Counted). c.state) (f t)) (same-inbox (dropped drops.TableFull old.state) (f t))
+        unheard v drops.TableFull (omega arith) (inr (λ h. omega (arith, h))) (inr (inl refl)) (λ h. ltb-false (length old.state.table.records) most_records is) (ap (λ (c : Counted). c.state) (f t))
+        (same-inbox (dropped drops.TableFull old.state) (f t))
 
     pub open-heard : Takes (opens_record old.state) h v old new ⊎ ((by : EntityDrop) × DropsBy (opens_record old.state) by v old new) → HeardSo h v old new
     open-heard (inl t) = open-takes (nat_lt (length old.state.table.records) most_records) refl t
@@ -124,9 +127,11 @@ module _ (h : Header) (old new : Counted) (none : place_of h.id old.state.table.
   -- one that opens none
   pub lost-heard : (v : Content) → opening_work v ≡ 0 → ⊥ ⊎ ((by : EntityDrop) × ((by ≡ drops.Unknown) × (new ≡ record old { state = dropped drops.Unknown old.state }))) → HeardSo h v old new
   lost-heard v opening (inl t) = absurd t
-  lost-heard v opening (inr d) = unheard v drops.Unknown (omega arith) (inl opening) (inl refl) (λ h. omega (arith, h)) (ap (λ (c : Counted). c.state) d.1.1) (same-inbox (dropped drops.Unknown old.state) d.1.1)
+  lost-heard v opening (inr d) = unheard v drops.Unknown (omega arith) (inl opening) (inl refl) (λ h. omega (arith, h)) (ap (λ (c : Counted). c.state) d.1.1)
+      (same-inbox (dropped drops.Unknown old.state) d.1.1)
 
-  pub new-heard : (v : Content) → (goes_toward_sender v ≡ true → ⊥) → Takes (route_by None h v old.state) h v old new ⊎ ((by : EntityDrop) × DropsBy (route_by None h v old.state) by v old new) → HeardSo h v old new
+  pub new-heard : (v : Content) → (goes_toward_sender v ≡ true → ⊥) → Takes (route_by None h v old.state) h v old new ⊎ ((by : EntityDrop) × DropsBy (route_by None h v old.state) by v old new) →
+      HeardSo h v old new
   new-heard (FileData offset bytes) own t = open-heard (FileData offset bytes) (λ e. omega (arith, e)) refl t
   new-heard (Metadata kind size source destination options) own t = open-heard (Metadata kind size source destination options) (λ e. omega (arith, e)) refl t
   new-heard (Eof condition checksum size tlvs) own t = open-heard (Eof condition checksum size tlvs) (λ e. omega (arith, e)) refl t
@@ -137,14 +142,16 @@ module _ (h : Header) (old new : Counted) (none : place_of h.id old.state.table.
   new-heard (Prompt keep_alive) own t = lost-heard (Prompt keep_alive) refl t
   new-heard (KeepAlive progress) own t = lost-heard (KeepAlive progress) refl t
 
-module _ (put_of : TransactionId → Option Put) (theirs : EntityState) (forth : List Pdu) (h : Header) (v : Content) (old new : Counted) (own : IsKnown put_of old.state theirs forth) (d : IsDirected put_of old.state (h, v)) where
+module _ (put_of : TransactionId → Option Put) (theirs : EntityState) (forth : List Pdu) (h : Header) (v : Content) (old new : Counted) (own : IsKnown put_of old.state theirs forth)
+    (d : IsDirected put_of old.state (h, v)) where
   -- a PDU toward the sender is of a put of this entity, which has its record
   pub has-record : place_of h.id old.state.table.records ≡ None → goes_toward_sender v ≡ true → ⊥
   has-record none toward =
       let sends = own.sends h.id d.of_put (directed-own put_of old.state h v d toward) in
       subst IsSending (no-record old.state.table.records h.id none).0 sends
 
-  by-place : (o : Option ℕ) → place_of h.id old.state.table.records ≡ o → Takes (route_by o h v old.state) h v old new ⊎ ((by : EntityDrop) × DropsBy (route_by o h v old.state) by v old new) → HeardSo h v old new
+  by-place : (o : Option ℕ) → place_of h.id old.state.table.records ≡ o → Takes (route_by o h v old.state) h v old new ⊎ ((by : EntityDrop) × DropsBy (route_by o h v old.state) by v old new) →
+      HeardSo h v old new
   by-place (Some place) is (inl t) = inl (record { place = place; at = is; steps = t })
   by-place (Some place) is (inr t) = inr (inr (inr (record { place = place; at = is; finds = t.1.1 })))
   by-place None is t = new-heard h old new is v (has-record is) t

@@ -145,11 +145,13 @@ module _ (laws : CourseLaws) (lossless : Bool) (put : Put) (x : SenderState) (is
     course = λ o b t no good h. laws.sender_called put lossless lossless lossless lossless x o forth back b t c is_sender s h good no;
   }
 
-  pub sender-takes : (times : Times) (sources files : FileMap) (v : Content) (forth back : List Content) → put.octets ≡ octets_in sources x.source → sender_content (octets_in sources x.source) x (sender_due x) ≡ Some v
+  pub sender-takes : (times : Times) (sources files : FileMap) (v : Content) (forth back : List Content) → put.octets ≡ octets_in sources x.source →
+      sender_content (octets_in sources x.source) x (sender_due x) ≡ Some v
       → SenderGoes lossless put x (takes Done times sources files (Sends x)) forth (forth ++ v ∷ []) back back
   sender-takes times sources files v forth back octets says = by (sender_due x) refl says
     where
-      by : (o : Option SenderDue) → sender_due x ≡ o → sender_content (octets_in sources x.source) x o ≡ Some v → SenderGoes lossless put x (sender_takes Done times files (octets_in sources x.source) x o) forth (forth ++ v ∷ []) back back
+      by : (o : Option SenderDue) → sender_due x ≡ o → sender_content (octets_in sources x.source) x o ≡ Some v →
+          SenderGoes lossless put x (sender_takes Done times files (octets_in sources x.source) x o) forth (forth ++ v ∷ []) back back
       by None is none = absurd cc
       by (Some d) is says_so =
           let same : sender_says (octets_in sources x.source) x d ≡ v = cc in
@@ -162,8 +164,10 @@ module _ (laws : CourseLaws) (lossless : Bool) (put : Put) (x : SenderState) (is
           }))
 
   -- the outbox failed, and that spoils the put
-  pub sender-fails : (times : Times) (sources files : FileMap) (forth back : List Content) → CarriesData (Sends x) → SenderGoes lossless put x (takes Refused times sources files (Sends x)) forth forth back back
-  sender-fails times sources files forth back k = subst (λ o. SenderGoes lossless put x (sender_takes Refused times files (octets_in sources x.source) x o) forth forth back back) (sym k.1.0) (by k.0 k.1.1)
+  pub sender-fails : (times : Times) (sources files : FileMap) (forth back : List Content) → CarriesData (Sends x) →
+      SenderGoes lossless put x (takes Refused times sources files (Sends x)) forth forth back back
+  sender-fails times sources files forth back k = subst (λ o. SenderGoes lossless put x (sender_takes Refused times files (octets_in sources x.source) x o) forth forth back back) (sym k.1.0)
+      (by k.0 k.1.1)
     where
       fault : ((same_id put.id x.addressing.id && true) || false) ≡ false → ⊥
       fault none = (let yes : ((same_id put.id x.addressing.id && true) || false) ≡ true = ap (λ b. (b && true) || false) (same_id-itself put.id x.addressing.id (sym is_sender.id)) in cc)
@@ -178,7 +182,8 @@ module _ (laws : CourseLaws) (lossless : Bool) (put : Put) (x : SenderState) (is
 
   -- it hears the PDU at the front
   module _ (times : Times) (files : FileMap) (stored : Stored) (forth rest : List Content) where
-    heard : (v : Content) (a : SenderAfter) → sender_after v x ≡ Some a → (x.phase ≡ sending.Cancelling → StaysCancelled put.id a) → SenderGoes lossless put x (by_sender times files a) forth forth (v ∷ rest) rest
+    heard : (v : Content) (a : SenderAfter) → sender_after v x ≡ Some a → (x.phase ≡ sending.Cancelling → StaysCancelled put.id a) →
+        SenderGoes lossless put x (by_sender times files a) forth forth (v ∷ rest) rest
     heard v a is stays = record {
       sender = a.sender;
       is_sender = refl;
@@ -209,7 +214,8 @@ module _ (laws : CourseLaws) (put : Put) (x : SenderState) (is_sender : IsSender
   }
 
   -- a NAK that was heard in part is one that asks for less
-  asks-less : (o : Option ReceiverState) (b c : Bool) (start end : ℕ) (pairs fewer : List (ℕ × ℕ)) → IsCourse put false false false false x o forth (Nak start end pairs ∷ rest) b c → IsCourse put false false false false x o forth (Nak start end fewer ∷ rest) b c
+  asks-less : (o : Option ReceiverState) (b c : Bool) (start end : ℕ) (pairs fewer : List (ℕ × ℕ)) → IsCourse put false false false false x o forth (Nak start end pairs ∷ rest) b c →
+      IsCourse put false false false false x o forth (Nak start end fewer ∷ rest) b c
   asks-less o b c start end pairs fewer h =
       let t : IsTrueBetween put x o forth (Nak start end pairs ∷ rest) b c = h.truth in
       record {
@@ -245,7 +251,8 @@ module _ (laws : CourseLaws) (put : Put) (x : SenderState) (is_sender : IsSender
         sender = steps.asks_in x.phase fewer x;
         is_sender = k.1;
         stays = λ none h. stays-nak put.id x is_sender.id s h fewer none;
-        course = λ o b c no good h. laws.sender_hears put false false false false x o forth [] rest (Nak start end fewer) b c (steps.sender_hears_nak fewer x) is_sender s refl (asks-less o b c start end pairs fewer h) good;
+        course = λ o b c no good h. laws.sender_hears put false false false false x o forth [] rest (Nak start end fewer) b c (steps.sender_hears_nak fewer x) is_sender s refl
+            (asks-less o b c start end pairs fewer h) good;
       }
   sender-spoils (FileData offset bytes) new k = lost _ new k
   sender-spoils (Metadata kind size source destination options) new k = lost _ new k

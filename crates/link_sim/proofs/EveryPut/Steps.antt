@@ -69,7 +69,8 @@ module _ (put : Put) (put_of : TransactionId → Option Put) (found : put_of put
       let p = has-place put.id st.records (Sends x) is in
       sends-it st.sources p.key x p.same (order.own p.place (p.key, Sends x) p.at).1
 
-module _ (laws : CourseLaws) (lossless : Bool) (put : Put) (put_of : TransactionId → Option Put) (found : put_of put.id ≡ Some put) (g : Seen → After) (place : ℕ) (forth forth1 back back1 : List Pdu) where
+module _ (laws : CourseLaws) (lossless : Bool) (put : Put) (put_of : TransactionId → Option Put) (found : put_of put.id ≡ Some put) (g : Seen → After) (place : ℕ)
+    (forth forth1 back back1 : List Pdu) where
   -- the PDUs of the put that are on their way stay the same
   abbrev pub SamePdus : Type 0
   SamePdus = (of_id put.id forth1 ≡ of_id put.id forth) × (of_id put.id back1 ≡ of_id put.id back)
@@ -77,36 +78,44 @@ module _ (laws : CourseLaws) (lossless : Bool) (put : Put) (put_of : Transaction
   -- ---- the put's entity
   module _ (mine mine1 theirs : EntityState) (order : IsInOrder put_of mine.table) (steps : mine1.table ≡ step_at (λ e. g e.1) place mine.table) (drops : HasHeardAll mine1 → HasHeardAll mine)
       (nowhere : slice_get mine.table.records place ≡ None → SamePdus) (others : (e : Entry) → slice_get mine.table.records place ≡ Some e → same_id put.id e.0 ≡ false → SamePdus) where
-    pub mine-at : ((x : SenderState) → SendsIt put mine.table.sources x → slice_get mine.table.records place ≡ Some (put.id, Sends x) → SenderGoes lossless put x (g (Sends x)) (of_id put.id forth) (of_id put.id forth1) (of_id put.id back) (of_id put.id back1))
+    pub mine-at : ((x : SenderState) → SendsIt put mine.table.sources x → slice_get mine.table.records place ≡ Some (put.id, Sends x) →
+        SenderGoes lossless put x (g (Sends x)) (of_id put.id forth) (of_id put.id forth1) (of_id put.id back) (of_id put.id back1))
         → StaysOnCourse lossless put mine theirs forth back → StaysOnCourse lossless put mine1 theirs forth1 back1
     mine-at goes = by (slice_get mine.table.records place) refl steps
       where
-        by : (o : Option Entry) → slice_get mine.table.records place ≡ o → mine1.table ≡ step_of (λ e. g e.1) place o mine.table → StaysOnCourse lossless put mine theirs forth back → StaysOnCourse lossless put mine1 theirs forth1 back1
+        by : (o : Option Entry) → slice_get mine.table.records place ≡ o → mine1.table ≡ step_of (λ e. g e.1) place o mine.table → StaysOnCourse lossless put mine theirs forth back →
+            StaysOnCourse lossless put mine1 theirs forth1 back1
         by None none is = stays-same laws lossless put mine mine1 theirs theirs [] []
             (record { told = ap (λ (t : TableState). t.told) is ∙ sym (append-nil mine.table.told); drops = drops }) (grew-none theirs) forth forth1 back back1
             (ap (λ (t : TableState). record_of put.id t.records) is) refl (nowhere none).0 (nowhere none).1
         by (Some e) at is = mine-steps laws lossless put mine mine1 theirs forth forth1 back back1 place e (g e.1) order.distinct at (ap (λ (t : TableState). t.records) is)
-            (record { told = ap (λ (t : TableState). t.told) is; drops = drops }) (λ differs. (others e at differs).0) (λ differs. (others e at differs).1) (λ same. own e.1 same (at ∙ ap (λ k. Some (k, e.1)) (sym same)))
+            (record { told = ap (λ (t : TableState). t.told) is; drops = drops }) (λ differs. (others e at differs).0) (λ differs. (others e at differs).1)
+            (λ same. own e.1 same (at ∙ ap (λ k. Some (k, e.1)) (sym same)))
           where
-            own : (s : Seen) → put.id ≡ e.0 → slice_get mine.table.records place ≡ Some (put.id, s) → MineGoes lossless put s (g s) (of_id put.id forth) (of_id put.id forth1) (of_id put.id back) (of_id put.id back1)
+            own : (s : Seen) → put.id ≡ e.0 → slice_get mine.table.records place ≡ Some (put.id, s) →
+                MineGoes lossless put s (g s) (of_id put.id forth) (of_id put.id forth1) (of_id put.id back) (of_id put.id back1)
             own (Receives r m) same at = tt
             own (Sends x) same at = goes x (sends-it put put_of found mine.table.sources put.id x refl (order.own place (put.id, Sends x) at).1) at
 
   -- ---- the other entity
-  module _ (mine theirs theirs1 : EntityState) (order : IsInOrder put_of mine.table) (order_there : IsInOrder put_of theirs.table) (steps : theirs1.table ≡ step_at (λ e. g e.1) place theirs.table) (drops : HasHeardAll theirs1 → HasHeardAll theirs)
+  module _ (mine theirs theirs1 : EntityState) (order : IsInOrder put_of mine.table) (order_there : IsInOrder put_of theirs.table) (steps : theirs1.table ≡ step_at (λ e. g e.1) place theirs.table)
+      (drops : HasHeardAll theirs1 → HasHeardAll theirs)
       (nowhere : slice_get theirs.table.records place ≡ None → SamePdus) (others : (e : Entry) → slice_get theirs.table.records place ≡ Some e → same_id put.id e.0 ≡ false → SamePdus) where
     pub theirs-at : ((x : SenderState) (r : ReceiverState) (m : OctetMap) → x.size ≡ length put.octets → r.addressing.id ≡ put.id → slice_get theirs.table.records place ≡ Some (put.id, Receives r m)
         → ReceiverGoes lossless put x r (g (Receives r m)) (of_id put.id forth) (of_id put.id forth1) (of_id put.id back) (of_id put.id back1))
         → StaysOnCourse lossless put mine theirs forth back → StaysOnCourse lossless put mine theirs1 forth1 back1
     theirs-at goes = by (slice_get theirs.table.records place) refl steps
       where
-        by : (o : Option Entry) → slice_get theirs.table.records place ≡ o → theirs1.table ≡ step_of (λ e. g e.1) place o theirs.table → StaysOnCourse lossless put mine theirs forth back → StaysOnCourse lossless put mine theirs1 forth1 back1
+        by : (o : Option Entry) → slice_get theirs.table.records place ≡ o → theirs1.table ≡ step_of (λ e. g e.1) place o theirs.table → StaysOnCourse lossless put mine theirs forth back →
+            StaysOnCourse lossless put mine theirs1 forth1 back1
         by None none is = stays-same laws lossless put mine mine theirs theirs1 [] [] (grew-none mine)
             (record { told = ap (λ (t : TableState). t.told) is ∙ sym (append-nil theirs.table.told); drops = drops }) forth forth1 back back1
             refl (ap (λ (t : TableState). record_of put.id t.records) is) (nowhere none).0 (nowhere none).1
         by (Some e) at is = theirs-steps laws lossless put mine theirs theirs1 forth forth1 back back1 place e (g e.1) order_there.distinct at (ap (λ (t : TableState). t.records) is)
-            (record { told = ap (λ (t : TableState). t.told) is; drops = drops }) (λ differs. (others e at differs).0) (λ differs. (others e at differs).1) (λ same x here. own x here e.1 (at ∙ ap (λ k. Some (k, e.1)) (sym same)))
+            (record { told = ap (λ (t : TableState). t.told) is; drops = drops }) (λ differs. (others e at differs).0) (λ differs. (others e at differs).1)
+            (λ same x here. own x here e.1 (at ∙ ap (λ k. Some (k, e.1)) (sym same)))
           where
-            own : (x : SenderState) → record_of put.id mine.table.records ≡ Some (Sends x) → (s : Seen) → slice_get theirs.table.records place ≡ Some (put.id, s) → TheirsGoes lossless put x s (g s) (of_id put.id forth) (of_id put.id forth1) (of_id put.id back) (of_id put.id back1)
+            own : (x : SenderState) → record_of put.id mine.table.records ≡ Some (Sends x) → (s : Seen) → slice_get theirs.table.records place ≡ Some (put.id, s) →
+                TheirsGoes lossless put x s (g s) (of_id put.id forth) (of_id put.id forth1) (of_id put.id back) (of_id put.id back1)
             own x here (Sends y) at = tt
             own x here (Receives r m) at = goes x r m (sends-there put put_of found mine.table order x here).is_sender.size (order_there.own place (put.id, Receives r m) at).0 at

@@ -78,7 +78,8 @@ expires-front k policy x = by (sender.sender_waits k x)
     by true = fires-front k policy x
     by false = (refl, refl)
 
-expires-put : (put_of : TransactionId → Option Put) (sources : FileMap) (id : TransactionId) (k : Kind) (policy : Policy) (x : SenderState) → SendsPut put_of sources id x → SendsPut put_of sources id (sender.sender_expires k policy x).sender
+expires-put : (put_of : TransactionId → Option Put) (sources : FileMap) (id : TransactionId) (k : Kind) (policy : Policy) (x : SenderState) → SendsPut put_of sources id x →
+    SendsPut put_of sources id (sender.sender_expires k policy x).sender
 expires-put put_of sources id k policy x s =
     let y : SenderState = (sender.sender_expires k policy x).sender in
     let same : transfer_of y ≡ transfer_of x = step-same policy [] (inputs.Expires k) x in
@@ -129,16 +130,19 @@ fires-same kinds.EofAck policy m files r = refl
 expires-same : (k : Kind) (policy : Policy) (m : OctetMap) (files : FileMap) (r : ReceiverState) → (receiver.expires k policy m files r).receiver.addressing ≡ r.addressing
 expires-same k policy m files r = by (receiver.waits k r)
   where
-    by : (b : Bool) → (if b then record (receiver.tidying (receiver.expires_by k policy m files r)) { anew = receiver.anew_once_expired k } else receiver.leaving m files r).receiver.addressing ≡ r.addressing
+    by : (b : Bool) → (if b then record (receiver.tidying (receiver.expires_by k policy m files r)) { anew = receiver.anew_once_expired k } else receiver.leaving m files r).receiver.addressing
+        ≡ r.addressing
     by true = fires-same k policy m files r
     by false = refl
 
 module _ (put_of : TransactionId → Option Put) where
-  own-expires : (sources : FileMap) (policy : Policy) (files : FileMap) (k : Kind) (id : TransactionId) (s : Seen) → IsOwn put_of sources (id, s) → IsOwn put_of sources (id, (expires policy files k s).seen)
+  own-expires : (sources : FileMap) (policy : Policy) (files : FileMap) (k : Kind) (id : TransactionId) (s : Seen) → IsOwn put_of sources (id, s) →
+      IsOwn put_of sources (id, (expires policy files k s).seen)
   own-expires sources policy files k id (Sends x) own = (ap (λ (t : Transfer). t.addressing.id) (step-same policy [] (inputs.Expires k) x) ∙ own.0, expires-put put_of sources id k policy x own.1)
   own-expires sources policy files k id (Receives r m) own = (ap (λ (a : Addressing). a.id) (expires-same k policy m files r) ∙ own.0, tt)
 
-  order-of : (k : Kind) (place : ℕ) (st : TableState) (o : Option Entry) → slice_get st.records place ≡ o → IsInOrder put_of st → IsInOrder put_of (step_of (λ e. expires st.policy st.files k e.1) place o st)
+  order-of : (k : Kind) (place : ℕ) (st : TableState) (o : Option Entry) → slice_get st.records place ≡ o → IsInOrder put_of st →
+      IsInOrder put_of (step_of (λ e. expires st.policy st.files k e.1) place o st)
   order-of k place st None at order = order
   order-of k place st (Some e) at order = record {
     distinct = subst (IsDistinct same_id) (sym (keys_set st.records place (expires st.policy st.files k e.1).seen)) order.distinct;
@@ -155,36 +159,49 @@ module _ (put_of : TransactionId → Option Put) where
 -- ---- timers that fired, one after another
 module _ (laws : CourseLaws) (lossless : Bool) (put : Put) (put_of : TransactionId → Option Put) (found : put_of put.id ≡ Some put) (mine theirs : EntityState) (forth back : List Pdu) where
   -- of the put's entity
-  one-mine : (o : Option ℕ) (k : Kind) (st : TableState) → IsInOrder put_of st → StaysOnCourse lossless put (with_table mine st) theirs forth back → StaysOnCourse lossless put (with_table mine (expired_in o k st)) theirs forth back
+  one-mine : (o : Option ℕ) (k : Kind) (st : TableState) → IsInOrder put_of st → StaysOnCourse lossless put (with_table mine st) theirs forth back →
+      StaysOnCourse lossless put (with_table mine (expired_in o k st)) theirs forth back
   one-mine None k st order s = s
-  one-mine (Some place) k st order s = mine-at laws lossless put put_of found (expires st.policy st.files k) place forth forth back back (with_table mine st) (with_table mine (expired_in (Some place) k st)) theirs order refl (λ h. h)
+  one-mine (Some place) k st order s = mine-at laws lossless put put_of found (expires st.policy st.files k) place forth forth back back (with_table mine st)
+      (with_table mine (expired_in (Some place) k st)) theirs order refl (λ h. h)
       (λ _. (refl, refl)) (λ _ _ _. (refl, refl)) (λ x i _. sender-expires laws lossless put x i.is_sender i.in_file st.policy st.files k _ _) s
 
-  fired-mine : (timers : List Timer) (st : TableState) → IsInOrder put_of st → StaysOnCourse lossless put (with_table mine st) theirs forth back → StaysOnCourse lossless put (with_table mine (all_expired timers st)) theirs forth back
+  fired-mine : (timers : List Timer) (st : TableState) → IsInOrder put_of st → StaysOnCourse lossless put (with_table mine st) theirs forth back →
+      StaysOnCourse lossless put (with_table mine (all_expired timers st)) theirs forth back
   unfolding Table.all_expired
   fired-mine [] st order s = s
-  fired-mine (timer ∷ timers) st order s = fired-mine timers (expired timer st) (order-expired put_of (place_of timer.0 st.records) timer.1 st order) (one-mine (place_of timer.0 st.records) timer.1 st order s)
+  fired-mine (timer ∷ timers) st order s = fired-mine timers (expired timer st) (order-expired put_of (place_of timer.0 st.records) timer.1 st order)
+      (one-mine (place_of timer.0 st.records) timer.1 st order s)
 
-  pub ticks-mine : (now : ℕ) (mine1 : EntityState) → IsInOrder put_of mine.table → Ticks now mine.table mine1.table → mine1 ≡ with_table mine mine1.table → StaysOnCourse lossless put mine theirs forth back → StaysOnCourse lossless put mine1 theirs forth back
+  pub ticks-mine : (now : ℕ) (mine1 : EntityState) → IsInOrder put_of mine.table → Ticks now mine.table mine1.table → mine1 ≡ with_table mine mine1.table →
+      StaysOnCourse lossless put mine theirs forth back → StaysOnCourse lossless put mine1 theirs forth back
   ticks-mine now mine1 order t is s =
       let told : StaysOnCourse lossless put (with_table mine (at_time now mine.table)) theirs forth back =
-      stays-same laws lossless put mine (with_table mine (at_time now mine.table)) theirs theirs [] [] (record { told = sym (append-nil mine.table.told); drops = λ h. h }) (grew-none theirs) forth forth back back refl refl refl refl s in
+      stays-same laws lossless put mine (with_table mine (at_time now mine.table)) theirs theirs [] [] (record { told = sym (append-nil mine.table.told); drops = λ h. h })
+      (grew-none theirs) forth forth back back refl refl refl refl s in
       subst (λ e. StaysOnCourse lossless put e theirs forth back) (sym (is ∙ ap (with_table mine) t.ticked)) (fired-mine t.fired (at_time now mine.table) (order-time put_of now mine.table order) told)
 
   -- of the other one
   module _ (order_mine : IsInOrder put_of mine.table) where
-    one-theirs : (o : Option ℕ) (k : Kind) (st : TableState) → IsInOrder put_of st → StaysOnCourse lossless put mine (with_table theirs st) forth back → StaysOnCourse lossless put mine (with_table theirs (expired_in o k st)) forth back
+    one-theirs : (o : Option ℕ) (k : Kind) (st : TableState) → IsInOrder put_of st → StaysOnCourse lossless put mine (with_table theirs st) forth back →
+        StaysOnCourse lossless put mine (with_table theirs (expired_in o k st)) forth back
     one-theirs None k st order s = s
-    one-theirs (Some place) k st order s = theirs-at laws lossless put put_of found (expires st.policy st.files k) place forth forth back back mine (with_table theirs st) (with_table theirs (expired_in (Some place) k st)) order_mine order refl (λ h. h)
+    one-theirs (Some place) k st order s = theirs-at laws lossless put put_of found (expires st.policy st.files k) place forth forth back back mine (with_table theirs st)
+        (with_table theirs (expired_in (Some place) k st)) order_mine order refl (λ h. h)
         (λ _. (refl, refl)) (λ _ _ _. (refl, refl)) (λ x r m size is_id _. receiver-expires laws lossless put x size r m is_id st.policy st.files k _ _) s
 
-    fired-theirs : (timers : List Timer) (st : TableState) → IsInOrder put_of st → StaysOnCourse lossless put mine (with_table theirs st) forth back → StaysOnCourse lossless put mine (with_table theirs (all_expired timers st)) forth back
+    fired-theirs : (timers : List Timer) (st : TableState) → IsInOrder put_of st → StaysOnCourse lossless put mine (with_table theirs st) forth back →
+        StaysOnCourse lossless put mine (with_table theirs (all_expired timers st)) forth back
     unfolding Table.all_expired
     fired-theirs [] st order s = s
-    fired-theirs (timer ∷ timers) st order s = fired-theirs timers (expired timer st) (order-expired put_of (place_of timer.0 st.records) timer.1 st order) (one-theirs (place_of timer.0 st.records) timer.1 st order s)
+    fired-theirs (timer ∷ timers) st order s = fired-theirs timers (expired timer st) (order-expired put_of (place_of timer.0 st.records) timer.1 st order)
+        (one-theirs (place_of timer.0 st.records) timer.1 st order s)
 
-    pub ticks-theirs : (now : ℕ) (theirs1 : EntityState) → IsInOrder put_of theirs.table → Ticks now theirs.table theirs1.table → theirs1 ≡ with_table theirs theirs1.table → StaysOnCourse lossless put mine theirs forth back → StaysOnCourse lossless put mine theirs1 forth back
+    pub ticks-theirs : (now : ℕ) (theirs1 : EntityState) → IsInOrder put_of theirs.table → Ticks now theirs.table theirs1.table → theirs1 ≡ with_table theirs theirs1.table →
+        StaysOnCourse lossless put mine theirs forth back → StaysOnCourse lossless put mine theirs1 forth back
     ticks-theirs now theirs1 order t is s =
         let told : StaysOnCourse lossless put mine (with_table theirs (at_time now theirs.table)) forth back =
-        stays-same laws lossless put mine mine theirs (with_table theirs (at_time now theirs.table)) [] [] (grew-none mine) (record { told = sym (append-nil theirs.table.told); drops = λ h. h }) forth forth back back refl refl refl refl s in
-        subst (λ e. StaysOnCourse lossless put mine e forth back) (sym (is ∙ ap (with_table theirs) t.ticked)) (fired-theirs t.fired (at_time now theirs.table) (order-time put_of now theirs.table order) told)
+        stays-same laws lossless put mine mine theirs (with_table theirs (at_time now theirs.table)) [] [] (grew-none mine)
+        (record { told = sym (append-nil theirs.table.told); drops = λ h. h }) forth forth back back refl refl refl refl s in
+        subst (λ e. StaysOnCourse lossless put mine e forth back) (sym (is ∙ ap (with_table theirs) t.ticked))
+        (fired-theirs t.fired (at_time now theirs.table) (order-time put_of now theirs.table order) told)

@@ -55,7 +55,8 @@ raised-zero n h = omega (arith, h)
 -- a count that is 0 was 0, and isn't the one that rose
 counted-zero : (drops : List ℕ) (k n : ℕ) → k < length drops → get_or (slice_set drops k (raised (get_or drops k 0))) n 0 ≡ 0 → (n ≢ k) × (get_or drops n 0 ≡ 0)
 counted-zero drops k n low none = elim (n == k) as (λ b. (n == k) ≡ b → (n ≢ k) × (get_or drops n 0 ≡ 0)) [
-  | true ↦ λ e. (let is : n ≡ k = eqb-true n k e in absurd (raised-zero (get_or drops k 0) (sym (get_or-set_same drops k (raised (get_or drops k 0)) 0 low) ∙ ap (λ i. get_or (slice_set drops k (raised (get_or drops k 0))) i 0) (sym is) ∙ none)))
+  | true ↦ λ e. (let is : n ≡ k = eqb-true n k e in absurd (raised-zero (get_or drops k 0)
+      (sym (get_or-set_same drops k (raised (get_or drops k 0)) 0 low) ∙ ap (λ i. get_or (slice_set drops k (raised (get_or drops k 0))) i 0) (sym is) ∙ none)))
   | false ↦ λ e. (let apart : n ≢ k = eqb-false n k e in (apart, sym (get_or-set_other drops k n (raised (get_or drops k 0)) 0 apart) ∙ none))
 ] refl
 
@@ -76,7 +77,8 @@ pub grew-none : (e : EntityState) → Grew e e []
 grew-none e = record { told = sym (append-nil e.table.told); drops = λ h. h }
 
 -- What spoiled nothing after a step spoiled nothing before it, and what was told meanwhile didn't.
-pub unspoiled-before : (lossless : Bool) (id : TransactionId) (mine mine1 theirs theirs1 : EntityState) (gained gained_there : List Indication) → Grew mine mine1 gained → Grew theirs theirs1 gained_there
+pub unspoiled-before : (lossless : Bool) (id : TransactionId) (mine mine1 theirs theirs1 : EntityState) (gained gained_there : List Indication) → Grew mine mine1 gained →
+    Grew theirs theirs1 gained_there
     → (one_tells (spoils id) gained ≡ false → IsUncancelled (record_of id mine1.table.records) → IsUncancelled (record_of id mine.table.records))
     → IsUnspoiled lossless id mine1 theirs1 → IsUnspoiled lossless id mine theirs
 unspoiled-before lossless id mine mine1 theirs theirs1 gained gained_there g t back u = record {

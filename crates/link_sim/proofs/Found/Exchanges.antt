@@ -84,11 +84,13 @@ of-some id pdus some (inr e) = elim (same_id id e.0.0.id) as (λ b. same_id id e
 ] refl
 
 module _ (laws : CourseLaws) (put : Put) (x : SenderState) (o : Option ReceiverState) (b c : Bool) where
-  course-forth : (forth some back : List Content) → (forth ≡ some) ⊎ ((v : Content) × (forth ≡ v ∷ some)) → IsCourse put false false false false x o forth back b c → IsCourse put false false false false x o some back b c
+  course-forth : (forth some back : List Content) → (forth ≡ some) ⊎ ((v : Content) × (forth ≡ v ∷ some)) → IsCourse put false false false false x o forth back b c →
+      IsCourse put false false false false x o some back b c
   course-forth forth some back (inl e) h = subst (λ l. IsCourse put false false false false x o l back b c) e h
   course-forth forth some back (inr e) h = laws.lost_forth put x o [] some back e.0 b c (subst (λ l. IsCourse put false false false false x o l back b c) e.1 h)
 
-  course-back : (forth back some : List Content) → (back ≡ some) ⊎ ((v : Content) × (back ≡ v ∷ some)) → IsCourse put false false false false x o forth back b c → IsCourse put false false false false x o forth some b c
+  course-back : (forth back some : List Content) → (back ≡ some) ⊎ ((v : Content) × (back ≡ v ∷ some)) → IsCourse put false false false false x o forth back b c →
+      IsCourse put false false false false x o forth some b c
   course-back forth back some (inl e) h = subst (λ l. IsCourse put false false false false x o forth l b c) e h
   course-back forth back some (inr e) h = laws.lost_back put x o forth [] some e.0 b c (subst (λ l. IsCourse put false false false false x o forth l b c) e.1 h)
 
@@ -140,13 +142,15 @@ module _ (s : Side) (put : Put) (w : WorldState) (sound : IsSound w) (kept : Kee
   receiver-there (Some (Receives r m)) e = (Some r, refl)
   receiver-there (Some (Sends x)) e =
       let at : StandsAt put.id theirs.table.records (Sends x) = stands-at put.id theirs.table.records (Sends x) e in
-      let knows : KnowsTruth theirs.config.entity (put_of (seen w)) (pdus_delivered (way_from (other (other s)) w)) at.entry.0 (Sends x) = subst (KnowsTruth theirs.config.entity (put_of (seen w)) (pdus_delivered (way_from (other (other s)) w)) at.entry.0) at.is ((sound (other s)).entity.knows.knows at.place at.entry at.at) in
+      let knows : KnowsTruth theirs.config.entity (put_of (seen w)) (pdus_delivered (way_from (other (other s)) w)) at.entry.0 (Sends x) =
+      subst (KnowsTruth theirs.config.entity (put_of (seen w)) (pdus_delivered (way_from (other (other s)) w)) at.entry.0) at.is ((sound (other s)).entity.knows.knows at.place at.entry at.at) in
       let key : put.id ≡ at.entry.0 = same_id-true put.id at.entry.0 at.own in
       absurd (apart w sound s (sym is.own ∙ ap (λ (i : TransactionId). i.source) key ∙ knows.1))
 
   pub has-exchange : (e : Exchange) × HasExchange s put w e
   has-exchange =
-      let x : (x : SenderState) × (record_of put.id mine.table.records ≡ Some (Sends x)) = some-sender (record_of put.id mine.table.records) (known.0.sends put.id (subst IsSome (sym is.found) refl) is.own) in
+      let x : (x : SenderState) × (record_of put.id mine.table.records ≡ Some (Sends x)) =
+      some-sender (record_of put.id mine.table.records) (known.0.sends put.id (subst IsSome (sym is.found) refl) is.own) in
       let r : (r : Option ReceiverState) × IsReceiverIn (record_of put.id theirs.table.records) r = receiver-there (record_of put.id theirs.table.records) refl in (
         view put x.0 r.0 mine theirs forth.some back.some,
         record {
@@ -160,7 +164,8 @@ module _ (s : Side) (put : Put) (w : WorldState) (sound : IsSound w) (kept : Kee
       )
 
   -- ---- it is on its course
-  pub exchange-true : CourseLaws → IsUnspoiled false put.id mine theirs → (e : Exchange) → HasExchange s put w e → IsCourse put false false false false e.sender e.receiver e.forth e.back e.told e.told_there
+  pub exchange-true : CourseLaws → IsUnspoiled false put.id mine theirs → (e : Exchange) → HasExchange s put w e →
+      IsCourse put false false false false e.sender e.receiver e.forth e.back e.told e.told_there
   exchange-true laws unspoiled e h =
       let k : IsOnCourse false put mine theirs c.forth c.back = c.puts put is.found is.own false (λ no. absurd (let never : false ≡ true = no in cc)) unspoiled in
       let sender : k.sender ≡ e.sender = same-sender k.sender e.sender (record_of put.id mine.table.records) k.is_sender h.is.is_sender in

@@ -49,7 +49,8 @@ module _ (stays : (old new : TableState) → Leads old new → KeepsRecords old.
   theirs-same = ap (λ x. x.entity.state) h.links.spares.station
 
   -- what is known stays
-  known-then : (forth back : List Pdu) → AreKnown (put_of (seen old)) (entity_at s old) (entity_at (other s) old) forth back → AreKnown (put_of (seen new)) (entity_at s new) (entity_at (other s) new) forth back
+  known-then : (forth back : List Pdu) → AreKnown (put_of (seen old)) (entity_at s old) (entity_at (other s) old) forth back →
+      AreKnown (put_of (seen new)) (entity_at s new) (entity_at (other s) new) forth back
   known-then forth back k = subst (λ (e : EntityState). AreKnown (put_of (seen new)) (entity_at s new) e forth back) (sym theirs-same)
       (ticks-known stays (put_of (seen new)) (entity_at s old) (entity_at s new) (entity_at (other s) old) forth back now h.ticked h.table
       (same-known (put_of (seen old)) (put_of (seen new)) (entity_at s old) (entity_at (other s) old) forth back same.0 same.1 k))
@@ -97,7 +98,8 @@ module _ (stays : (old new : TableState) → Leads old new → KeepsRecords old.
         known = known-then has.forth has.back has.known;
         is = record {
           is_sender = fired.is;
-          is_receiver = subst (λ (x : EntityState). IsReceiverIn (record_of put.id x.table.records) after.receiver) (sym theirs-same) (subst (λ o. IsReceiverIn (record_of put.id (entity_at (other s) old).table.records) o) (sym rest.0) has.is.is_receiver);
+          is_receiver = subst (λ (x : EntityState). IsReceiverIn (record_of put.id x.table.records) after.receiver) (sym theirs-same)
+              (subst (λ o. IsReceiverIn (record_of put.id (entity_at (other s) old).table.records) o) (sym rest.0) has.is.is_receiver);
           is_forth = has.is.is_forth ∙ sym rest.1.0;
           is_back = has.is.is_back ∙ sym rest.1.1.0;
           is_told = refl;
@@ -133,7 +135,8 @@ module _ (stays : (old new : TableState) → Leads old new → KeepsRecords old.
     -- what is known stays
     known-there : AreKnown (put_of (seen new)) (entity_at (other s) new) (entity_at (other (other s)) new) has.forth has.back
     known-there =
-        let k : AreKnown (put_of (seen old)) (entity_at (other s) old) (entity_at s old) has.forth has.back = here-now old (λ x. AreKnown (put_of (seen old)) (entity_at (other s) old) x has.forth has.back) has.known in
+        let k : AreKnown (put_of (seen old)) (entity_at (other s) old) (entity_at s old) has.forth has.back =
+        here-now old (λ x. AreKnown (put_of (seen old)) (entity_at (other s) old) x has.forth has.back) has.known in
         let k1 = known-then has.back has.forth (k.1, k.0) in
         back-now new (λ x. AreKnown (put_of (seen new)) (entity_at (other s) new) x has.forth has.back) (k1.1, k1.0)
 
@@ -202,7 +205,8 @@ module _ (stays : (old new : TableState) → Leads old new → KeepsRecords old.
 
             some : ExpiresThere s now put e old new
             some = comes-there kinds_there found.end found.same_sender found.same_forth found.same_back found.same_told
-                (subst (λ q. IsReceiverIn q found.end.receiver) (sym found.is_in.is) (subst (λ o. IsReceiverIn (Some (Receives found.is_in.receiver found.is_in.octets)) o) (sym found.is_in.is_receiver) refl))
+                (subst (λ q. IsReceiverIn q found.end.receiver) (sym found.is_in.is)
+                (subst (λ o. IsReceiverIn (Some (Receives found.is_in.receiver found.is_in.octets)) o) (sym found.is_in.is_receiver) refl))
                 found.is_in.told found.expires waited
                 (λ k deadline armed low. fired-all now st st1 h.ticked (sound s).entity.timed put.id k deadline armed low)
 

@@ -59,7 +59,8 @@ later-in : {X : Type 0} (x y : X) (xs : List X) → Contains xs x → Contains (
 later-in x y xs c = (suc c.0, (let n = c.0 in let low : n < length xs = c.1 in omega (arith, low)), c.2)
 
 -- such a timer is of the transaction
-first-fired : (id : TransactionId) (t : Timer) (ts : List Timer) (k : Kind) → id ≡ t.0 → (Contains (kinds_of id ts) k → Contains ts (id, k)) → Contains (t.1 ∷ kinds_of id ts) k → Contains (t ∷ ts) (id, k)
+first-fired : (id : TransactionId) (t : Timer) (ts : List Timer) (k : Kind) → id ≡ t.0 → (Contains (kinds_of id ts) k → Contains ts (id, k)) → Contains (t.1 ∷ kinds_of id ts) k →
+    Contains (t ∷ ts) (id, k)
 first-fired id t ts k same rest (zero, low, is) = subst (λ (u : Timer). Contains (t ∷ ts) u) (λ i. (sym same i, is i)) (first-in t ts)
 first-fired id t ts k same rest (suc n, low, is) = later-in (id, k) t ts (rest (n, omega (arith, low), is))
 
@@ -123,7 +124,8 @@ module _ (id : TransactionId) (t : Timer) (st : TableState) (apart : IsDistinct 
   own-fired : (s : Seen) → id ≡ t.0 → record_of id st.records ≡ Some s → ExpiresOwn id (expires st.policy st.files t.1 s) st (expired t st)
   own-fired s same was = by (place_of t.0 st.records) refl
     where
-      at : (place : ℕ) (o : Option Entry) → place_of t.0 st.records ≡ Some place → slice_get st.records place ≡ o → ExpiresOwn id (expires st.policy st.files t.1 s) st (step_of (λ e. expires st.policy st.files t.1 e.1) place o st)
+      at : (place : ℕ) (o : Option Entry) → place_of t.0 st.records ≡ Some place → slice_get st.records place ≡ o →
+          ExpiresOwn id (expires st.policy st.files t.1 s) st (step_of (λ e. expires st.policy st.files t.1 e.1) place o st)
       at place None is nowhere = absurd (no-place t.0 st.records place is nowhere)
       at place (Some e) is there =
           let key : id ≡ e.0 = same ∙ key-there t.0 st.records place e is there in
@@ -161,7 +163,8 @@ module _ (id : TransactionId) (t : Timer) (st : TableState) (apart : IsDistinct 
 told-grows : (tells : Indication → Bool) (old more new : List Indication) → new ≡ old ++ more → one_tells tells old ≡ true → one_tells tells new ≡ true
 told-grows tells old more new is h = ap (one_tells tells) is ∙ list_any-append tells old more ∙ or_left (one_tells tells old) (one_tells tells more) h
 
-told-then-grows : (put : Put) (before : Bool) (old more new : List Indication) → new ≡ old ++ more → (before ≡ true → one_tells (tells_complete put.id) old ≡ true) → told_then put before more ≡ true → one_tells (tells_complete put.id) new ≡ true
+told-then-grows : (put : Put) (before : Bool) (old more new : List Indication) → new ≡ old ++ more → (before ≡ true → one_tells (tells_complete put.id) old ≡ true) → told_then put before more ≡ true →
+    one_tells (tells_complete put.id) new ≡ true
 told-then-grows put before old more new is h now = ap (one_tells (tells_complete put.id)) is ∙ list_any-append (tells_complete put.id) old more
     ∙ elim (or_cases before (one_tells (tells_complete put.id) more) now) [
       | inl b ↦ or_left (one_tells (tells_complete put.id) old) (one_tells (tells_complete put.id) more) (h b)
@@ -175,7 +178,8 @@ module _ (put : Put) where
     pub told : e.told ≡ true → one_tells (tells_complete put.id) st.told ≡ true
 
   abbrev SenderFired : Policy → List Timer → Exchange → TableState → Type 0
-  SenderFired policy ts e st = SendsIn (expire_sender policy put (kinds_of put.id ts) e) (all_expired ts st) × (one_tells (tells_complete put.id) st.told ≡ true → one_tells (tells_complete put.id) (all_expired ts st).told ≡ true)
+  SenderFired policy ts e st = SendsIn (expire_sender policy put (kinds_of put.id ts) e) (all_expired ts st)
+      × (one_tells (tells_complete put.id) st.told ≡ true → one_tells (tells_complete put.id) (all_expired ts st).told ≡ true)
 
   -- one timer, and then the rest
   module _ (policy : Policy) (t : Timer) (ts : List Timer) (st : TableState) (e : Exchange) (p : st.policy ≡ policy) (apart : IsDistinct same_id (keys_of st.records)) (h : SendsIn e st)
@@ -189,16 +193,20 @@ module _ (put : Put) where
           is = o.is ∙ ap (λ (q : Policy). Some (Sends (sender_expires t.1 q e.sender).sender)) p;
           told = told-then-grows put e.told st.told _ (expired t st).told (o.told ∙ ap (λ (q : Policy). st.told ++ (sender_expires t.1 q e.sender).told) p) h.told;
         } in
-        let r : SenderFired policy ts e1 (expired t st) = rest e1 (o.policy ∙ p) h1 in
-        (subst (λ ks. SendsIn (expire_sender policy put ks e) (all_expired ts (expired t st))) (sym (kinds-own put.id t ts is)) r.0, λ was. r.1 (told-grows (tells_complete put.id) st.told _ (expired t st).told o.told was))
+        let r : SenderFired policy ts e1 (expired t st) = rest e1 (o.policy ∙ p) h1 in (
+          subst (λ ks. SendsIn (expire_sender policy put ks e) (all_expired ts (expired t st))) (sym (kinds-own put.id t ts is)) r.0,
+          λ was. r.1 (told-grows (tells_complete put.id) st.told _ (expired t st).told o.told was),
+        )
 
     other-sender : same_id put.id t.0 ≡ false → SenderFired policy (t ∷ ts) e st
     unfolding all_expired expire_sender
     other-sender differs =
         let o : ExpiresOther put.id st (expired t st) = other-fired put.id t st apart differs in
         let h1 : SendsIn e (expired t st) = record { is = o.same ∙ h.is; told = λ b. told-grows (tells_complete put.id) st.told o.more (expired t st).told o.told (h.told b) } in
-        let r : SenderFired policy ts e (expired t st) = rest e (o.policy ∙ p) h1 in
-        (subst (λ ks. SendsIn (expire_sender policy put ks e) (all_expired ts (expired t st))) (sym (kinds-other put.id t ts differs)) r.0, λ was. r.1 (told-grows (tells_complete put.id) st.told o.more (expired t st).told o.told was))
+        let r : SenderFired policy ts e (expired t st) = rest e (o.policy ∙ p) h1 in (
+          subst (λ ks. SendsIn (expire_sender policy put ks e) (all_expired ts (expired t st))) (sym (kinds-other put.id t ts differs)) r.0,
+          λ was. r.1 (told-grows (tells_complete put.id) st.told o.more (expired t st).told o.told was),
+        )
 
   pub fired-sender : (policy : Policy) (ts : List Timer) (st : TableState) (e : Exchange) → st.policy ≡ policy → IsDistinct same_id (keys_of st.records) → SendsIn e st → SenderFired policy ts e st
   unfolding all_expired expire_sender kinds_of
@@ -277,7 +285,8 @@ module _ (put : Put) where
           grows = λ was. r.grows (told-grows (tells_complete put.id) st.told o.more (expired t st).told o.told was);
         }
 
-  pub fired-receiver : (policy : Policy) (ts : List Timer) (st : TableState) (e : Exchange) → st.policy ≡ policy → IsDistinct same_id (keys_of st.records) → ReceivesIn e st → Received policy (kinds_of put.id ts) e st (all_expired ts st)
+  pub fired-receiver : (policy : Policy) (ts : List Timer) (st : TableState) (e : Exchange) → st.policy ≡ policy → IsDistinct same_id (keys_of st.records) → ReceivesIn e st →
+      Received policy (kinds_of put.id ts) e st (all_expired ts st)
   unfolding all_expired ReceiverExpires kinds_of
   fired-receiver policy [] st e p apart h = record { end = e; expires = refl; is_in = h; same_sender = refl; same_forth = refl; same_back = refl; same_told = refl; grows = λ t. t }
   fired-receiver policy (t ∷ ts) st e p apart h = elim (same_id put.id t.0) as (λ b. same_id put.id t.0 ≡ b → Received policy (kinds_of put.id (t ∷ ts)) e st (all_expired ts (expired t st))) [
@@ -315,7 +324,8 @@ module _ (now : ℕ) (old new : TableState) (tick : Ticks now old new) (timed : 
       fired-kind id tick.fired k (tick.are.all (id, k) ∙ due)
 
 -- an expiry of a sender leaves the rest
-pub expired-rest : (policy : Policy) (put : Put) (ks : List Kind) (e : Exchange) → ((expire_sender policy put ks e).receiver ≡ e.receiver) × (((expire_sender policy put ks e).forth ≡ e.forth) × (((expire_sender policy put ks e).back ≡ e.back) × ((expire_sender policy put ks e).told_there ≡ e.told_there)))
+pub expired-rest : (policy : Policy) (put : Put) (ks : List Kind) (e : Exchange) → ((expire_sender policy put ks e).receiver ≡ e.receiver)
+    × (((expire_sender policy put ks e).forth ≡ e.forth) × (((expire_sender policy put ks e).back ≡ e.back) × ((expire_sender policy put ks e).told_there ≡ e.told_there)))
 unfolding expire_sender
 expired-rest policy put [] e = (refl, (refl, (refl, refl)))
 expired-rest policy put (k ∷ ks) e = expired-rest policy put ks (record e { sender = (sender_expires k policy e.sender).sender; told = told_then put e.told (sender_expires k policy e.sender).told })

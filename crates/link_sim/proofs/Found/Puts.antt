@@ -106,7 +106,8 @@ put-last old new p one two puts fresh =
       | None ↦ λ e. refl
       | Some q ↦ λ e. absurd (fresh q (accepted-among old.puts p.id q e) (accepted-id old.puts p.id q e))
     ] refl in
-    ap (λ (ps : List AcceptedPut). put_by new (accepted_as ps p.id)) puts ∙ ap (put_by new) (accepted-right old.puts (p ∷ []) p.id none) ∙ ap (put_by new) (here p) ∙ put_by-same old new one two (Some p)
+    ap (λ (ps : List AcceptedPut). put_by new (accepted_as ps p.id)) puts ∙ ap (put_by new) (accepted-right old.puts (p ∷ []) p.id none) ∙ ap (put_by new) (here p)
+    ∙ put_by-same old new one two (Some p)
   where
     here : (p : AcceptedPut) → accepted_as (p ∷ []) p.id ≡ Some p
     here p = ap (λ b. if b then Some p else None) (same_id-itself p.id)

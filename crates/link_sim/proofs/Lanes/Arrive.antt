@@ -36,9 +36,11 @@ pub known-lanes : (put_of : TransactionId → Option Put) (mine theirs : EntityS
 known-lanes put_of mine theirs back dirs dirs1 data_pdus data1 d e k =
     lanes-lack (λ l. AreKnown put_of mine theirs l back) (λ before p after. lost-known put_of mine theirs before p after back) dirs dirs1 data_pdus data1 d e k
 
-module _ (laws : CourseLaws) (put : Put) (x : SenderState) (o : Option ReceiverState) (b c : Bool) (dirs dirs1 data_pdus data1 : List Content) (d : LacksFirst dirs dirs1) (e : LacksFirst data_pdus data1) where
+module _ (laws : CourseLaws) (put : Put) (x : SenderState) (o : Option ReceiverState) (b c : Bool) (dirs dirs1 data_pdus data1 : List Content) (d : LacksFirst dirs dirs1)
+    (e : LacksFirst data_pdus data1) where
   pub course-forth-lanes : (back : List Content) → IsCourse put false false false false x o (dirs ++ data_pdus) back b c → IsCourse put false false false false x o (dirs1 ++ data1) back b c
   course-forth-lanes back h = lanes-lack (λ l. IsCourse put false false false false x o l back b c) (λ before v after. laws.lost_forth put x o before after back v b c) dirs dirs1 data_pdus data1 d e h
 
   pub course-back-lanes : (forth : List Content) → IsCourse put false false false false x o forth (dirs ++ data_pdus) b c → IsCourse put false false false false x o forth (dirs1 ++ data1) b c
-  course-back-lanes forth h = lanes-lack (λ l. IsCourse put false false false false x o forth l b c) (λ before v after. laws.lost_back put x o forth before after v b c) dirs dirs1 data_pdus data1 d e h
+  course-back-lanes forth h = lanes-lack (λ l. IsCourse put false false false false x o forth l b c)
+      (λ before v after. laws.lost_back put x o forth before after v b c) dirs dirs1 data_pdus data1 d e h

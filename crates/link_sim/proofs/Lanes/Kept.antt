@@ -36,27 +36,34 @@ module _ (P : TransactionId → Option Put) (N : Type 0) (m th : EntityState) (d
 -- ---- runs
 module _ (put : Put) (m th m1 th1 : EntityState) (dirs data_pdus : List Pdu) where
   -- for `polled`: behind `mine-sends` and `theirs-sends`
-  pub goes-sent-first : (ps back back1 : List Pdu) → Goes put m th (dirs ++ data_pdus) back m1 th1 ((dirs ++ data_pdus) ++ ps) back1 → Goes put m th (dirs ++ data_pdus) back m1 th1 ((dirs ++ ps) ++ data_pdus) back1
+  pub goes-sent-first : (ps back back1 : List Pdu) → Goes put m th (dirs ++ data_pdus) back m1 th1 ((dirs ++ data_pdus) ++ ps) back1 →
+      Goes put m th (dirs ++ data_pdus) back m1 th1 ((dirs ++ ps) ++ data_pdus) back1
   goes-sent-first ps back back1 g = goes-both put m th (dirs ++ data_pdus) back m1 th1 ((dirs ++ data_pdus) ++ ps) back1 m1 th1 ((dirs ++ ps) ++ data_pdus) back1 g
       (goes-overtaken put m1 th1 ((dirs ++ data_pdus) ++ ps) back1 ((dirs ++ ps) ++ data_pdus) back1 (swapped-put dirs data_pdus ps) (swapped-none back1))
 
   -- the same of the way to the put's entity
-  pub goes-back-first : (ps forth forth1 : List Pdu) → Goes put m th forth (dirs ++ data_pdus) m1 th1 forth1 ((dirs ++ data_pdus) ++ ps) → Goes put m th forth (dirs ++ data_pdus) m1 th1 forth1 ((dirs ++ ps) ++ data_pdus)
+  pub goes-back-first : (ps forth forth1 : List Pdu) → Goes put m th forth (dirs ++ data_pdus) m1 th1 forth1 ((dirs ++ data_pdus) ++ ps) →
+      Goes put m th forth (dirs ++ data_pdus) m1 th1 forth1 ((dirs ++ ps) ++ data_pdus)
   goes-back-first ps forth forth1 g = goes-both put m th forth (dirs ++ data_pdus) m1 th1 forth1 ((dirs ++ data_pdus) ++ ps) m1 th1 forth1 ((dirs ++ ps) ++ data_pdus) g
       (goes-overtaken put m1 th1 forth1 ((dirs ++ data_pdus) ++ ps) forth1 ((dirs ++ ps) ++ data_pdus) (swapped-none forth1) (swapped-put dirs data_pdus ps))
 
   -- for `delivered`: ahead of what `all-run` gives
-  pub goes-taken-second : (gone back forth1 back1 : List Pdu) → Goes put m th (gone ++ (dirs ++ data_pdus)) back m1 th1 forth1 back1 → Goes put m th (dirs ++ (gone ++ data_pdus)) back m1 th1 forth1 back1
+  pub goes-taken-second : (gone back forth1 back1 : List Pdu) → Goes put m th (gone ++ (dirs ++ data_pdus)) back m1 th1 forth1 back1 →
+      Goes put m th (dirs ++ (gone ++ data_pdus)) back m1 th1 forth1 back1
   goes-taken-second gone back forth1 back1 g = goes-both put m th (dirs ++ (gone ++ data_pdus)) back m th (gone ++ (dirs ++ data_pdus)) back m1 th1 forth1 back1
       (goes-overtaken put m th (dirs ++ (gone ++ data_pdus)) back (gone ++ (dirs ++ data_pdus)) back (swapped-front dirs gone data_pdus) (swapped-none back)) g
 
-  pub goes-back-taken-second : (gone forth forth1 back1 : List Pdu) → Goes put m th forth (gone ++ (dirs ++ data_pdus)) m1 th1 forth1 back1 → Goes put m th forth (dirs ++ (gone ++ data_pdus)) m1 th1 forth1 back1
+  pub goes-back-taken-second : (gone forth forth1 back1 : List Pdu) → Goes put m th forth (gone ++ (dirs ++ data_pdus)) m1 th1 forth1 back1 →
+      Goes put m th forth (dirs ++ (gone ++ data_pdus)) m1 th1 forth1 back1
   goes-back-taken-second gone forth forth1 back1 g = goes-both put m th forth (dirs ++ (gone ++ data_pdus)) m th forth (gone ++ (dirs ++ data_pdus)) m1 th1 forth1 back1
       (goes-overtaken put m th forth (dirs ++ (gone ++ data_pdus)) forth (gone ++ (dirs ++ data_pdus)) (swapped-none forth) (swapped-front dirs gone data_pdus)) g
 
 -- what is known, ahead of `all-run` and `run`
-pub known-taken-second : (P : TransactionId → Option Put) (m th : EntityState) (dirs gone data_pdus back : List Pdu) → AreKnown P m th (dirs ++ (gone ++ data_pdus)) back → AreKnown P m th (gone ++ (dirs ++ data_pdus)) back
-known-taken-second P m th dirs gone data_pdus back k = swapped-known (dirs ++ (gone ++ data_pdus)) (gone ++ (dirs ++ data_pdus)) back back (swapped-front dirs gone data_pdus) (swapped-none back) P m th k
+pub known-taken-second : (P : TransactionId → Option Put) (m th : EntityState) (dirs gone data_pdus back : List Pdu) → AreKnown P m th (dirs ++ (gone ++ data_pdus)) back →
+    AreKnown P m th (gone ++ (dirs ++ data_pdus)) back
+known-taken-second P m th dirs gone data_pdus back k = swapped-known (dirs ++ (gone ++ data_pdus)) (gone ++ (dirs ++ data_pdus)) back back (swapped-front dirs gone data_pdus)
+    (swapped-none back) P m th k
 
-pub known-sent-first : (P : TransactionId → Option Put) (m th : EntityState) (dirs data_pdus ps back : List Pdu) → AreKnown P m th ((dirs ++ data_pdus) ++ ps) back → AreKnown P m th ((dirs ++ ps) ++ data_pdus) back
+pub known-sent-first : (P : TransactionId → Option Put) (m th : EntityState) (dirs data_pdus ps back : List Pdu) → AreKnown P m th ((dirs ++ data_pdus) ++ ps) back →
+    AreKnown P m th ((dirs ++ ps) ++ data_pdus) back
 known-sent-first P m th dirs data_pdus ps back k = swapped-known ((dirs ++ data_pdus) ++ ps) ((dirs ++ ps) ++ data_pdus) back back (swapped-put dirs data_pdus ps) (swapped-none back) P m th k

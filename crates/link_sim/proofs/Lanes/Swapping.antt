@@ -202,7 +202,8 @@ module _ (forth forth1 back back1 : List Pdu) (f : IsSwapped forth forth1) (k : 
         is_sender = c.is_sender;
         receiver = c.receiver;
         is_receiver = c.is_receiver;
-        course = swapped-course put c.sender c.receiver (of_id put.id forth) (of_id put.id forth1) (of_id put.id back) (of_id put.id back1) _ _ (swapped-of put.id forth forth1 f) (swapped-of put.id back back1 k)
+        course = swapped-course put c.sender c.receiver (of_id put.id forth) (of_id put.id forth1) (of_id put.id back) (of_id put.id back1) _ _ (swapped-of put.id forth forth1 f)
+            (swapped-of put.id back back1 k)
             lossless lossless lossless lossless c.course;
       }
 
@@ -213,7 +214,8 @@ module _ (forth forth1 back back1 : List Pdu) (f : IsSwapped forth forth1) (k : 
   )
 
 -- what is kept of all puts, where one lane from the first entity overtakes the other
-pub swapped-kept : (P : TransactionId → Option Put) (NoneLost : Type 0) (mine theirs : EntityState) (texts texts1 back : List (List ℕ)) → IsSwapped texts texts1 → Kept P NoneLost mine theirs texts back → Kept P NoneLost mine theirs texts1 back
+pub swapped-kept : (P : TransactionId → Option Put) (NoneLost : Type 0) (mine theirs : EntityState) (texts texts1 back : List (List ℕ)) → IsSwapped texts texts1 →
+    Kept P NoneLost mine theirs texts back → Kept P NoneLost mine theirs texts1 back
 swapped-kept P NoneLost mine theirs texts texts1 back s c =
     let w : SwapsPdus texts1 c.forth = swapped-spelled texts texts1 c.forth s c.spelled in
     let same : IsSwapped c.back c.back = swapped-none c.back in

@@ -20,11 +20,14 @@ unbroken-all limit from held (p ∷ ps) h le =
     rw (t, u) refl
 
 -- packets that are sent behind it stay
-pub unbroken-append : (limit from : ℕ) (held : List ℕ) (ps qs : List (List ℕ)) → ArePackets qs → limit ≤ from + length (stream ps) → unbroken limit from held (ps ++ qs) ≡ unbroken limit from held ps ++ qs
+pub unbroken-append : (limit from : ℕ) (held : List ℕ) (ps qs : List (List ℕ)) → ArePackets qs → limit ≤ from + length (stream ps) → unbroken limit from held (ps ++ qs) ≡ unbroken limit from held ps
+    ++ qs
 unbroken-append limit from held [] qs h le = unbroken-all limit from held qs h (omega arith)
 unbroken-append limit from held (p ∷ ps) qs h le =
-    let more : unbroken limit (from + length p) held (ps ++ qs) ≡ unbroken limit (from + length p) held ps ++ qs = unbroken-append limit (from + length p) held ps qs h (omega (arith, length-append p (stream ps))) in
-    let cut : (t : Bool) → (if t then ps ++ qs else p ∷ (ps ++ qs)) ≡ (if t then ps else p ∷ ps) ++ qs = λ t. elim t as (λ b. (if b then ps ++ qs else p ∷ (ps ++ qs)) ≡ (if b then ps else p ∷ ps) ++ qs) [ true ↦ refl | false ↦ refl ] in
+    let more : unbroken limit (from + length p) held (ps ++ qs) ≡ unbroken limit (from + length p) held ps ++ qs =
+    unbroken-append limit (from + length p) held ps qs h (omega (arith, length-append p (stream ps))) in
+    let cut : (t : Bool) → (if t then ps ++ qs else p ∷ (ps ++ qs)) ≡ (if t then ps else p ∷ ps) ++ qs =
+    λ t. elim t as (λ b. (if b then ps ++ qs else p ∷ (ps ++ qs)) ≡ (if b then ps else p ∷ ps) ++ qs) [ true ↦ refl | false ↦ refl ] in
     elim (cases_lt limit (from + length p)) [
       | inl c ↦ rw (lt-leb (from + length p) limit c) (cut (nat_lt from limit && nat_le (length held) 0))
       | inr c ↦ rw (le-leb (from + length p) limit c) more
@@ -35,7 +38,8 @@ pub record OneFewer (all some : List (List ℕ)) : Type 0 where
   pub first : List ℕ
   pub is : all ≡ first ∷ some
 
-pub unbroken-behind : (limit from : ℕ) (held : List ℕ) (ps : List (List ℕ)) → ArePackets ps → (behind limit from ps ≡ unbroken limit from held ps) ⊎ OneFewer (behind limit from ps) (unbroken limit from held ps)
+pub unbroken-behind : (limit from : ℕ) (held : List ℕ) (ps : List (List ℕ)) → ArePackets ps → (behind limit from ps ≡ unbroken limit from held ps)
+    ⊎ OneFewer (behind limit from ps) (unbroken limit from held ps)
 unbroken-behind limit from held [] h = inl refl
 unbroken-behind limit from held (p ∷ ps) h =
     let G : Type 0 = (behind limit from (p ∷ ps) ≡ unbroken limit from held (p ∷ ps)) ⊎ OneFewer (behind limit from (p ∷ ps)) (unbroken limit from held (p ∷ ps)) in
@@ -54,7 +58,8 @@ unbroken-cut : (z : ℕ) (marks : List Bool) (a : ℕ) (p : List ℕ) (ps : List
     unbroken (length marks * z) a (begun z marks a (p ∷ ps)) (p ∷ ps) ≡ (if arrived z 0 marks a (length marks * z) then p ∷ ps else ps)
 unbroken-cut z marks a p ps c = rw (lt-leb (a + length p) (length marks * z) c) (by (arrived z 0 marks a (length marks * z)) refl)
   where
-    by : (t : Bool) → arrived z 0 marks a (length marks * z) ≡ t → (if nat_lt a (length marks * z) && nat_le (length (if t then take (length marks * z - a) p else [])) 0 then ps else p ∷ ps) ≡ (if t then p ∷ ps else ps)
+    by : (t : Bool) → arrived z 0 marks a (length marks * z) ≡ t → (if nat_lt a (length marks * z) && nat_le (length (if t then take (length marks * z - a) p else [])) 0 then ps else p ∷ ps)
+        ≡ (if t then p ∷ ps else ps)
     by true is = elim (cases_lt a (length marks * z)) [
       | inl l ↦ (let long : length (take (length marks * z - a) p) ≡ length marks * z - a = (let n = length-take (length marks * z - a) p in omega (arith, n, c, l)) in
           rw (lt-ltb a (length marks * z) l, lt-leb (length (take (length marks * z - a) p)) 0 (omega (arith, long, l))) refl)
@@ -107,14 +112,18 @@ lands z marks a (p ∷ ps) pos h =
       | true ↦ ap (λ l. keep i p l) parts ∙ keep-append i p s x
       | false ↦ parts
     ] in
-    let inside : b ≤ n → busy (unbroken (length marks * z) a (begun z marks a (p ∷ ps)) (p ∷ ps)) ≡ done ++ busy (unbroken (length (marks ++ true ∷ []) * z) a (begun z (marks ++ true ∷ []) a (p ∷ ps)) (p ∷ ps)) = λ (d : b ≤ n).
+    let inside : b ≤ n → busy (unbroken (length marks * z) a (begun z marks a (p ∷ ps)) (p ∷ ps)) ≡ done
+    ++ busy (unbroken (length (marks ++ true ∷ []) * z) a (begun z (marks ++ true ∷ []) a (p ∷ ps)) (p ∷ ps)) = λ (d : b ≤ n).
     let here : arrived z 0 m a b ≡ w = arrived-into z 0 marks true a b (length marks * z) pos (omega arith) c (omega (arith, em, d)) (omega (arith, em, d, long)) in
     let is : done ≡ keep (w && i) p s = ap (λ t. keep (t && i) p s) here in
-    let right : unbroken (length (marks ++ true ∷ []) * z) a (begun z (marks ++ true ∷ []) a (p ∷ ps)) (p ∷ ps) ≡ unbroken n b (begun z m b ps) ps = rw (le-leb b (length (marks ++ true ∷ []) * z) d) refl in
+    let right : unbroken (length (marks ++ true ∷ []) * z) a (begun z (marks ++ true ∷ []) a (p ∷ ps)) (p ∷ ps) ≡ unbroken n b (begun z m b ps) ps =
+    rw (le-leb b (length (marks ++ true ∷ []) * z) d) refl in
     ap busy cut ∙ either w ∙ ap (λ l. l ++ x) (sym is) ∙ ap (λ l. done ++ busy l) (sym right) in
-    let past : n < b → busy (unbroken (length marks * z) a (begun z marks a (p ∷ ps)) (p ∷ ps)) ≡ done ++ busy (unbroken (length (marks ++ true ∷ []) * z) a (begun z (marks ++ true ∷ []) a (p ∷ ps)) (p ∷ ps)) = λ (d : n < b).
+    let past : n < b → busy (unbroken (length marks * z) a (begun z marks a (p ∷ ps)) (p ∷ ps)) ≡ done
+    ++ busy (unbroken (length (marks ++ true ∷ []) * z) a (begun z (marks ++ true ∷ []) a (p ∷ ps)) (p ∷ ps)) = λ (d : n < b).
     let nothing : done ≡ [] = none_yet z m a p ps h.1 d in
-    let cut_then : unbroken (length (marks ++ true ∷ []) * z) a (begun z (marks ++ true ∷ []) a (p ∷ ps)) (p ∷ ps) ≡ (if arrived z 0 m a (length (marks ++ true ∷ []) * z) then p ∷ ps else ps) = unbroken-cut z m a p ps d in
+    let cut_then : unbroken (length (marks ++ true ∷ []) * z) a (begun z (marks ++ true ∷ []) a (p ∷ ps)) (p ∷ ps) ≡ (if arrived z 0 m a (length (marks ++ true ∷ []) * z) then p ∷ ps else ps) =
+    unbroken-cut z m a p ps d in
     let same : arrived z 0 m a (length (marks ++ true ∷ []) * z) ≡ w = elim (cases_lt a n) [
       | inl f ↦ arrived-into z 0 marks true a n (length marks * z) pos (omega arith) (omega (arith, em, pos)) (omega (arith, em)) (omega (arith, em, f))
       | inr f ↦ arrived-behind z 0 m a n (omega arith) f ∙ sym (arrived-behind z 0 marks a (length marks * z) (omega arith) (omega (arith, em, f)))

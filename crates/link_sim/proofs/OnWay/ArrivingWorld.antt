@@ -35,7 +35,8 @@ arriving-or w is =
     by limit held ps o false idle = inr (record { first = drop 6 o.first; is = ap (λ l. pdus_in (busy l)) o.is ∙ ap (λ i. pdus_in (keep (not i) o.first (busy (unbroken limit 0 held ps)))) idle })
 
 -- ---- what is sent will arrive behind all that will
-pub arriving-sends : (old new : OneWayState) (qs texts : List (List ℕ)) → IsOneWay old → SendsMore old new qs texts → new.up ≡ old.up → new.marks ≡ old.marks → new.run ≡ old.run → arriving new ≡ arriving old ++ texts
+pub arriving-sends : (old new : OneWayState) (qs texts : List (List ℕ)) → IsOneWay old → SendsMore old new qs texts → new.up ≡ old.up → new.marks ≡ old.marks → new.run ≡ old.run → arriving new
+    ≡ arriving old ++ texts
 arriving-sends old new qs texts is more up marks run =
     let ps : List (List ℕ) = packets_sent old in
     let limit : ℕ = length old.marks * old.down.link.zone in
@@ -58,4 +59,5 @@ polls-arriving s old new is h = arriving-sends (way_from s old) (way_from s new)
 
 pub fills-arriving : (s : Side) (old new : WorldState) → IsOneWay (way_from s old) → Fills s old new → arriving (way_from s new) ≡ arriving (way_from s old)
 fills-arriving s old new is h =
-    arriving-sends (way_from s old) (way_from s new) (flush_of (packing (station_at s old).down)) [] is h.sends (ap (λ x. x.up) h.marks.spares.station) h.marks.marks h.marks.run ∙ append-nil (arriving (way_from s old))
+    arriving-sends (way_from s old) (way_from s new) (flush_of (packing (station_at s old).down)) [] is h.sends (ap (λ x. x.up) h.marks.spares.station) h.marks.marks h.marks.run
+    ∙ append-nil (arriving (way_from s old))

@@ -19,7 +19,8 @@ left-sends old new qs texts is more rests up marks =
     let z : ℕ = old.down.link.zone in
     let zone : new.down.link.zone ≡ z = ap (λ k. k.zone) (same-link old new is more.way up) in
     let m : (k : ℕ) × (length new.frames ≡ length old.frames + k) × (k * z + length new.down.waiting ≡ length old.down.waiting + length (stream qs)) =
-    zones-more z (length old.frames) (length new.frames) (length old.down.waiting) (length new.down.waiting) (length (stream qs)) (sent-now old new qs texts is more up) (omega (arith, rests.none_waits, zone)) in
+    zones-more z (length old.frames) (length new.frames) (length old.down.waiting) (length new.down.waiting) (length (stream qs)) (sent-now old new qs texts is more up)
+    (omega (arith, rests.none_waits, zone)) in
     let k : ℕ = m.0 in
     let least : 1 ≤ z = omega (arith, is.sent.valid.least_zone) in
     let most : k ≤ k * z = zones-most z k least in
@@ -65,7 +66,8 @@ left-fills old new is rested more rests up marks grown =
     let all : z ≤ k * z = whole_zone z k some in
     omega (arith, m.2, nothing, all, rested.none_waits) in
     let fills : (1 ≤ w) × (qs ≡ idle_packet (idle_len (z - w)) ∷ []) → octets_left new < octets_left old = λ (h : (1 ≤ w) × (qs ≡ idle_packet (idle_len (z - w)) ∷ [])).
-    let size : length (stream qs) ≡ idle_len (z - w) = ap (λ l. length (stream l)) h.1 ∙ ap length (append-nil (idle_packet (idle_len (z - w)))) ∙ length-idle (idle_len (z - w)) (idle_len-low (z - w)) in
+    let size : length (stream qs) ≡ idle_len (z - w) = ap (λ l. length (stream l)) h.1 ∙ ap length (append-nil (idle_packet (idle_len (z - w))))
+    ∙ length-idle (idle_len (z - w)) (idle_len-low (z - w)) in
     let lower : 2 * n + k < 2 * w = idle-fills z w k n least h.0 rested.none_waits some (omega (arith, rests.none_waits, zone)) (m.2 ∙ ap (λ x. w + x) size) in
     omega (arith, lower, m.1, few, ap length marks) in
     elim (flush-is old rested) [ inl e ↦ absurd (never e) | inr h ↦ fills h ]

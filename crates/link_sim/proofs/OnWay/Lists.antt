@@ -74,7 +74,8 @@ none_yet z marks a p ps h lt =
     keep_false (arrived z 0 marks a (a + length p)) p (survivors z marks (a + length p) ps) no ∙ survivors-behind z marks (a + length p) ps h (omega arith)
 
 -- of packets that lie behind a limit those survive at most that end before the marks' end
-survivors-ended : (z : ℕ) (marks : List Bool) (limit next a : ℕ) (ps : List (List ℕ)) → ArePackets ps → next ≡ length marks * z → limit < a → IsPartOf (survivors z marks a ps) (busy (ended limit next a ps))
+survivors-ended : (z : ℕ) (marks : List Bool) (limit next a : ℕ) (ps : List (List ℕ)) → ArePackets ps → next ≡ length marks * z → limit < a →
+    IsPartOf (survivors z marks a ps) (busy (ended limit next a ps))
 survivors-ended z marks limit next a [] h e lt = refl
 survivors-ended z marks limit next a (p ∷ ps) h e lt =
     let b : ℕ = a + length p in

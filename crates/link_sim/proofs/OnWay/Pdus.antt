@@ -86,7 +86,8 @@ delivered-then old is = ap (λ k. pdus_in (survivors k.zone old.marks 0 (packets
 
 -- what a frame delivered adds to what was
 more-is : (old new : OneWayState) (given : List (List ℕ)) → IsOneWay old → (hears : HearsMore old new given) → new.down.link ≡ old.down.link → new.marks ≡ old.marks ++ true ∷ [] →
-    (done : List (List ℕ)) → survivors old.down.link.zone (old.marks ++ true ∷ []) 0 (packets_sent old) ≡ survivors old.down.link.zone old.marks 0 (packets_sent old) ++ done → hears.more ≡ pdus_in done
+    (done : List (List ℕ)) → survivors old.down.link.zone (old.marks ++ true ∷ []) 0 (packets_sent old) ≡ survivors old.down.link.zone old.marks 0 (packets_sent old) ++ done → hears.more
+    ≡ pdus_in done
 more-is old new given is hears link marks done e =
     let was : List (List ℕ) = survivors old.down.link.zone old.marks 0 (packets_sent old) in
     let joined : pdus_in (was ++ done) ≡ pdus_in was ++ pdus_in done = map-append (λ p. drop 6 p) was done in
@@ -94,7 +95,8 @@ more-is old new given is hears link marks done e =
     (ap (λ l. l ++ hears.more) (sym (delivered-then old is)) ∙ sym hears.delivered ∙ delivers-now old new given hears link marks ∙ ap pdus_in e ∙ joined)
 
 -- What was heard of a frame are PDUs that end in it, in order.
-pub on-way-hears : (old new : OneWayState) (given : List (List ℕ)) → IsOneWay old → HearsMore old new given → new.down.link ≡ old.down.link → new.marks ≡ old.marks ++ true ∷ [] → IsPartOf given (pdus_ended old)
+pub on-way-hears : (old new : OneWayState) (given : List (List ℕ)) → IsOneWay old → HearsMore old new given → new.down.link ≡ old.down.link → new.marks ≡ old.marks ++ true ∷ [] →
+    IsPartOf given (pdus_ended old)
 on-way-hears old new given is hears link marks =
     let z : ℕ = old.down.link.zone in
     let ps : List (List ℕ) = packets_sent old in

@@ -78,7 +78,8 @@ length-idle n h =
     omega (arith, all, rest, length-header (idle n) (length body))
 
 -- the idle packet that a flush adds
-pub flush-is : (w : OneWayState) → IsRested w → (flush_of (packing w.down) ≡ []) ⊎ ((1 ≤ length w.down.waiting) × (flush_of (packing w.down) ≡ idle_packet (idle_len (w.down.link.zone - length w.down.waiting)) ∷ []))
+pub flush-is : (w : OneWayState) → IsRested w → (flush_of (packing w.down) ≡ [])
+    ⊎ ((1 ≤ length w.down.waiting) × (flush_of (packing w.down) ≡ idle_packet (idle_len (w.down.link.zone - length w.down.waiting)) ∷ []))
 flush-is w rests =
     let z : ℕ = w.down.link.zone in
     let n : ℕ = length w.down.waiting in
@@ -86,7 +87,8 @@ flush-is w rests =
     let G : Type 0 = (flush_of (packing w.down) ≡ []) ⊎ ((1 ≤ n) × (flush_of (packing w.down) ≡ idle_packet (idle_len (z - n)) ∷ [])) in
     let none : (w.down.flushed || (n % z == 0)) ≡ true → G = λ (e : (w.down.flushed || (n % z == 0)) ≡ true). inl (rw e refl) in
     let some : (w.down.flushed || (n % z == 0)) ≡ false → G = λ (e : (w.down.flushed || (n % z == 0)) ≡ false).
-    let few : n ≡ 0 → ⊥ = λ (c : n ≡ 0). let bad : (w.down.flushed || (n % z == 0)) ≡ true = or_true w.down.flushed (n % z == 0) (eq-eqb (n % z) 0 (rest ∙ c)) in let worse : true ≡ false = sym bad ∙ e in cc in
+    let few : n ≡ 0 → ⊥ = λ (c : n ≡ 0). let bad : (w.down.flushed || (n % z == 0)) ≡ true = or_true w.down.flushed (n % z == 0) (eq-eqb (n % z) 0 (rest ∙ c)) in let worse : true ≡ false = sym bad
+    ∙ e in cc in
     let least : 1 ≤ n = elim (cases_lt 0 n) [ inl c ↦ c | inr c ↦ absurd (few (omega arith)) ] in
     inr (least, rw e (ap (λ k. idle_packet (idle_len (z - k)) ∷ []) rest)) in
     elim (cases_Bool (w.down.flushed || (n % z == 0))) [ inl e ↦ none e | inr e ↦ some e ]

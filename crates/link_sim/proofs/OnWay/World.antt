@@ -24,7 +24,8 @@ way-same : (d e : LinkSenderState) (k m : LinkState) (u v : LinkReceiverState) �
 way-same d e k m u v a b c = ap (λ x. way x m v) a ∙ ap (λ x. way d x v) b ∙ ap (λ x. way d k x) c
 
 -- the other station's
-back-same : (s : Side) (old new : WorldState) → (station_at (other s) new).down ≡ (station_at (other s) old).down → link_from (other s) new ≡ link_from (other s) old → (station_at s new).up ≡ (station_at s old).up →
+back-same : (s : Side) (old new : WorldState) → (station_at (other s) new).down ≡ (station_at (other s) old).down → link_from (other s) new ≡ link_from (other s) old → (station_at s new).up
+    ≡ (station_at s old).up →
     way_from (other s) new ≡ way_from (other s) old
 back-same One old new d k u = way-same old.two.down new.two.down old.from_two new.from_two old.one.up new.one.up d k u
 back-same Two old new d k u = way-same old.one.down new.one.down old.from_one new.from_one old.two.up new.two.up d k u

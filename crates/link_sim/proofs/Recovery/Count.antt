@@ -130,8 +130,10 @@ module _ (last : WorldState) where
       less = count-less (done_at g.side old) (done_at g.side mid) (λ id h. a.done all g.side id h) (keys g.side) g.id (done-among g.side last g.id (later g.side g.id g.after)) g.before g.after
 
       by : (s : Side) → g.side ≡ s → done_in old < done_in mid
-      by One is = (let one : how_many (done_at One old) (keys One) < how_many (done_at One mid) (keys One) = subst (λ s. how_many (done_at s old) (keys s) < how_many (done_at s mid) (keys s)) is less in let two = most Two in omega (arith, one, two))
-      by Two is = (let two : how_many (done_at Two old) (keys Two) < how_many (done_at Two mid) (keys Two) = subst (λ s. how_many (done_at s old) (keys s) < how_many (done_at s mid) (keys s)) is less in let one = most One in omega (arith, one, two))
+      by One is = (let one : how_many (done_at One old) (keys One) < how_many (done_at One mid) (keys One) =
+          subst (λ s. how_many (done_at s old) (keys s) < how_many (done_at s mid) (keys s)) is less in let two = most Two in omega (arith, one, two))
+      by Two is = (let two : how_many (done_at Two old) (keys Two) < how_many (done_at Two mid) (keys Two) =
+          subst (λ s. how_many (done_at s old) (keys s) < how_many (done_at s mid) (keys s)) is less in let one = most One in omega (arith, one, two))
 
   all-more : (n : ℕ) (old : WorldState) → AdvancesBy n old last → AllTracked old → n ≤ done_in last
   unfolding AdvancesBy

@@ -39,7 +39,8 @@ EndLaw = (here there : Limits) (put : Put) (a : Exchange) → Stands here there 
 module _ (law : EndLaw) (w : WorldState) (sound : IsSound w) (only : (s : Side) → OnlyInactivity (entity_at s w).table.armed) where
   -- no record waits for anything else
   none-waits : (s : Side) (id : TransactionId) (k : Kind) → k ≢ Inactivity → waits_for k (record_of id (entity_at s w).table.records) ≡ false
-  none-waits s id k apart = false_from_ne_true (waits_for k (record_of id (entity_at s w).table.records)) (λ waits. armed (map.get (entity_at s w).table.armed (id, k)) refl ((sound s).entity.timed.armed id k waits))
+  none-waits s id k apart = false_from_ne_true (waits_for k (record_of id (entity_at s w).table.records))
+      (λ waits. armed (map.get (entity_at s w).table.armed (id, k)) refl ((sound s).entity.timed.armed id k waits))
     where
       armed : (o : Option ℕ) → map.get (entity_at s w).table.armed (id, k) ≡ o → is_some (map.get (entity_at s w).table.armed (id, k)) ≡ true → ⊥
       armed None is h = false≢true (sym (ap is_some is) ∙ h)
@@ -48,7 +49,8 @@ module _ (law : EndLaw) (w : WorldState) (sound : IsSound w) (only : (s : Side) 
   complete-exchange : (s : Side) (put : Put) (x : StandsIn s put w) → IsCompleteExchange x.exchange
   complete-exchange s put x = law _ _ put x.exchange x.stands
       (λ k apart. sym (ap (waits_for k) x.has.is.is_sender) ∙ none-waits s put.id k apart)
-      (λ r is k apart. receiver r k apart (record_of put.id (entity_at (other s) w).table.records) refl (subst (IsReceiverIn (record_of put.id (entity_at (other s) w).table.records)) is x.has.is.is_receiver))
+      (λ r is k apart. receiver r k apart (record_of put.id (entity_at (other s) w).table.records) refl
+      (subst (IsReceiverIn (record_of put.id (entity_at (other s) w).table.records)) is x.has.is.is_receiver))
     where
       receiver : (r : ReceiverState) (k : Kind) → k ≢ Inactivity → (q : Option Seen) → record_of put.id (entity_at (other s) w).table.records ≡ q → IsReceiverIn q (Some r) → waits k r ≡ false
       receiver r k apart None at h = absurd h

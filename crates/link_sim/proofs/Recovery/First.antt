@@ -37,12 +37,14 @@ use Rattle.link_sim.proofs.Recovery.Records.{IsSentHere, IsReceivedHere, sent-he
 
 -- ---- the laws that are used
 pub record FirstLaws : Type 0 where
-  pub settled_below : (here there : Limits) (n : ℕ) (put : Put) (a b : Exchange) → IsItsSender put a.sender → IsActiveCourse put a → IsBelow here there a → Runs n put a b → IsAtRest b → Stands here there put b
+  pub settled_below : (here there : Limits) (n : ℕ) (put : Put) (a b : Exchange) → IsItsSender put a.sender → IsActiveCourse put a → IsBelow here there a → Runs n put a b → IsAtRest b →
+      Stands here there put b
   pub over_runs : (n : ℕ) (put : Put) (a b : Exchange) → IsOver a → Runs n put a b → IsOver b
   -- what will arrive is on its way
   pub arriving_among : (s : Side) (w : WorldState) → IsSound w → (text : List ℕ) → Contains (arriving (way_from s w)) text → Contains (on_way (way_from s w)) text
   pub has_exchange : (w : WorldState) → IsSound w → KeepsPuts w → (s : Side) (put : Put) → IsPutOf s put w → (e : Exchange) × HasExchange s put w e
-  pub exchange_true : (w : WorldState) → IsSound w → KeepsPuts w → (s : Side) (put : Put) (e : Exchange) → IsPutOf s put w → HasExchange s put w e → IsUnspoiled false put.id (entity_at s w) (entity_at (other s) w)
+  pub exchange_true : (w : WorldState) → IsSound w → KeepsPuts w → (s : Side) (put : Put) (e : Exchange) → IsPutOf s put w → HasExchange s put w e →
+      IsUnspoiled false put.id (entity_at s w) (entity_at (other s) w)
       → IsCourse put false false false false e.sender e.receiver e.forth e.back e.told e.told_there
 
 -- a PDU of the transaction is among those on their way
@@ -101,7 +103,8 @@ module _ (laws : FirstLaws) (w v : WorldState) (sound : IsSound w) (puts : Keeps
     }
 
     -- the receiver, if there is one
-    receiver_waits_so : (o : Option ReceiverState) (q : Option Seen) → IsReceiverIn q o → IsWaitingIn (policy_at (other s) w).limits q → (maybe (λ r. r.suspended) o ≡ false) × IsReceiverBelow (policy_at (other s) w).limits o
+    receiver_waits_so : (o : Option ReceiverState) (q : Option Seen) → IsReceiverIn q o → IsWaitingIn (policy_at (other s) w).limits q → (maybe (λ r. r.suspended) o ≡ false)
+        × IsReceiverBelow (policy_at (other s) w).limits o
     receiver_waits_so None q is h = (refl, tt)
     receiver_waits_so (Some r) None is h = absurd is
     receiver_waits_so (Some r) (Some (Sends x)) is h = absurd is
@@ -135,7 +138,8 @@ module _ (laws : FirstLaws) (w v : WorldState) (sound : IsSound w) (puts : Keeps
     stands-then =
         let r : RunsTo s put e v = along.runs s put own e has in
         let stands : Stands (policy_at s w).limits (policy_at (other s) w).limits put r.end =
-        laws.settled_below (policy_at s w).limits (policy_at (other s) w).limits r.steps put e r.end (its-sender w sound s put e own has) course below r.runs (rests s put r.end (along.keeps.puts s put own) r.is_end) in
+        laws.settled_below (policy_at s w).limits (policy_at (other s) w).limits r.steps put e r.end (its-sender w sound s put e own has) course below r.runs
+        (rests s put r.end (along.keeps.puts s put own) r.is_end) in
         record {
           exchange = r.end;
           has = r.is_end;
@@ -183,7 +187,8 @@ module _ (laws : FirstLaws) (w v : WorldState) (sound : IsSound w) (puts : Keeps
       none is c [] f = inr (record { sender = c; receiver = subst (λ o. IsOverAt o e.forth) (sym is) (subst (λ l. IsOverAt None l) (sym f) tt) })
       none is c (v ∷ rest) f = inl (inr (coming s put e v rest has is f))
 
-      at : (o : Option ReceiverState) → e.receiver ≡ o → (q : Option Seen) → record_of put.id (entity_at (other s) w).table.records ≡ q → IsReceiverIn q o → e.sender.phase ≡ sending.Closed → IsUnfinished put.id w ⊎ IsOver e
+      at : (o : Option ReceiverState) → e.receiver ≡ o → (q : Option Seen) → record_of put.id (entity_at (other s) w).table.records ≡ q → IsReceiverIn q o → e.sender.phase ≡ sending.Closed →
+          IsUnfinished put.id w ⊎ IsOver e
       at None is q there h c = none is c e.forth refl
       at (Some r) is None there h c = absurd h
       at (Some r) is (Some (Sends x)) there h c = absurd h

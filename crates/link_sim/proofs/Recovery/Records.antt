@@ -72,8 +72,10 @@ module _ (w : WorldState) (sound : IsSound w) where
   sent-here s id x is =
       let e : EntityState = entity_at s w in
       let at : StandsAt id e.table.records (Sends x) = stands-at id e.table.records (Sends x) is in
-      let sends : SendsPut (put_of (seen w)) e.table.sources at.entry.0 x = subst (SendsItsPut (put_of (seen w)) e.table.sources at.entry.0) at.is ((sound s).entity.sends.sends at.place at.entry at.at) in
-      let knows : (x.addressing.id ≡ at.entry.0) × (at.entry.0.source ≡ e.config.entity) = subst (KnowsTruth e.config.entity (put_of (seen w)) _ at.entry.0) at.is ((sound s).entity.knows.knows at.place at.entry at.at) in
+      let sends : SendsPut (put_of (seen w)) e.table.sources at.entry.0 x =
+      subst (SendsItsPut (put_of (seen w)) e.table.sources at.entry.0) at.is ((sound s).entity.sends.sends at.place at.entry at.at) in
+      let knows : (x.addressing.id ≡ at.entry.0) × (at.entry.0.source ≡ e.config.entity) =
+      subst (KnowsTruth e.config.entity (put_of (seen w)) _ at.entry.0) at.is ((sound s).entity.knows.knows at.place at.entry at.at) in
       let key : id ≡ at.entry.0 = same_id-true id at.entry.0 at.own in
       let own : sends.put.id ≡ at.entry.0 = puts-by-id (seen w) at.entry.0 sends.put sends.is_put in
       record {
@@ -87,7 +89,8 @@ module _ (w : WorldState) (sound : IsSound w) where
   received-here k s id r m is =
       let e : EntityState = entity_at s w in
       let at : StandsAt id e.table.records (Receives r m) = stands-at id e.table.records (Receives r m) is in
-      let knows : KnowsPut e.config.entity (put_of (seen w)) _ at.entry.0 r m = subst (KnowsTruth e.config.entity (put_of (seen w)) _ at.entry.0) at.is ((sound s).entity.knows.knows at.place at.entry at.at) in
+      let knows : KnowsPut e.config.entity (put_of (seen w)) _ at.entry.0 r m =
+      subst (KnowsTruth e.config.entity (put_of (seen w)) _ at.entry.0) at.is ((sound s).entity.knows.knows at.place at.entry at.at) in
       let peer : (r.addressing.id.source ≡ e.config.peer) × (r.addressing.destination ≡ e.config.entity) = subst (IsWithPeer e.config) at.is (known-at s w k at.place at.entry at.at) in
       let key : id ≡ at.entry.0 = same_id-true id at.entry.0 at.own in
       let own : knows.put.id ≡ at.entry.0 = puts-by-id (seen w) at.entry.0 knows.put knows.is_put in
@@ -109,7 +112,8 @@ module _ (w : WorldState) (sound : IsSound w) where
       subst (λ (p : Put). IsItsSender p e.sender) same h.its
 
   pub its-receiver : KeepsPuts w → (s : Side) (put : Put) (e : Exchange) (r : ReceiverState) → HasExchange s put w e → e.receiver ≡ Some r → r.addressing.id ≡ put.id
-  its-receiver k s put e r has is = by (record_of put.id (entity_at (other s) w).table.records) refl (subst (IsReceiverIn (record_of put.id (entity_at (other s) w).table.records)) is has.is.is_receiver)
+  its-receiver k s put e r has is = by (record_of put.id (entity_at (other s) w).table.records) refl
+      (subst (IsReceiverIn (record_of put.id (entity_at (other s) w).table.records)) is has.is.is_receiver)
     where
       by : (q : Option Seen) → record_of put.id (entity_at (other s) w).table.records ≡ q → IsReceiverIn q (Some r) → r.addressing.id ≡ put.id
       by None at here = absurd here

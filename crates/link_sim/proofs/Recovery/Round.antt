@@ -42,15 +42,20 @@ use Rattle.link_sim.proofs.Recovery.Records.{done-sender, done-receiver, IsSentH
 
 -- ---- the laws of one transaction that are used
 pub record RoundLaws : Type 0 where
-  pub sender_round : (here there : Limits) (policy : Policy) (n : ℕ) (put : Put) (a b : Exchange) (ks : List Kind) → policy.limits ≡ here → policy.handlers.inactivity ≡ Ignore → IsItsSender put a.sender → Stands here there put a
+  pub sender_round : (here there : Limits) (policy : Policy) (n : ℕ) (put : Put) (a b : Exchange) (ks : List Kind) → policy.limits ≡ here → policy.handlers.inactivity ≡ Ignore →
+      IsItsSender put a.sender → Stands here there put a
       → AreWaitedBySender a.sender ks → Runs n put (expire_sender policy put ks a) b → IsAtRest b
-      → Stands here there put b × ((is_answered a.sender ≡ true → is_answered b.sender ≡ true) × ((maybe is_closed a.receiver ≡ true → maybe is_closed b.receiver ≡ true) × (Contains ks kinds.EofAck → is_answered b.sender ≡ true)))
-  pub receiver_round : (here there : Limits) (policy : Policy) (n : ℕ) (put : Put) (a a1 b : Exchange) (ks : List Kind) → policy.limits ≡ there → policy.handlers.inactivity ≡ Ignore → IsItsSender put a.sender → ((r : ReceiverState) → a.receiver ≡ Some r → r.addressing.id ≡ put.id)
+      → Stands here there put b × ((is_answered a.sender ≡ true → is_answered b.sender ≡ true)
+      × ((maybe is_closed a.receiver ≡ true → maybe is_closed b.receiver ≡ true) × (Contains ks kinds.EofAck → is_answered b.sender ≡ true)))
+  pub receiver_round : (here there : Limits) (policy : Policy) (n : ℕ) (put : Put) (a a1 b : Exchange) (ks : List Kind) → policy.limits ≡ there → policy.handlers.inactivity ≡ Ignore →
+      IsItsSender put a.sender → ((r : ReceiverState) → a.receiver ≡ Some r → r.addressing.id ≡ put.id)
       → Stands here there put a → AreWaitedByReceiver a.receiver ks → ReceiverExpires policy put ks a a1 → Runs n put a1 b → IsAtRest b
-      → Stands here there put b × ((is_answered a.sender ≡ true → is_answered b.sender ≡ true) × ((maybe is_closed a.receiver ≡ true → maybe is_closed b.receiver ≡ true) × (Contains ks kinds.Nak ⊎ Contains ks kinds.FinishedAck → maybe is_closed b.receiver ≡ true)))
+      → Stands here there put b × ((is_answered a.sender ≡ true → is_answered b.sender ≡ true)
+      × ((maybe is_closed a.receiver ≡ true → maybe is_closed b.receiver ≡ true) × (Contains ks kinds.Nak ⊎ Contains ks kinds.FinishedAck → maybe is_closed b.receiver ≡ true)))
   pub over_runs : (n : ℕ) (put : Put) (a b : Exchange) → IsOver a → Runs n put a b → IsOver b
   pub over_waits : (a : Exchange) → IsOver a → ((k : Kind) → sender_waits k a.sender ≡ false) × ((r : ReceiverState) → a.receiver ≡ Some r → (k : Kind) → waits k r ≡ false)
-  pub done_runs : (n : ℕ) (put : Put) (a b : Exchange) → Runs n put a b → (is_answered a.sender ≡ true → is_answered b.sender ≡ true) × (maybe is_closed a.receiver ≡ true → maybe is_closed b.receiver ≡ true)
+  pub done_runs : (n : ℕ) (put : Put) (a b : Exchange) → Runs n put a b → (is_answered a.sender ≡ true → is_answered b.sender ≡ true)
+      × (maybe is_closed a.receiver ≡ true → maybe is_closed b.receiver ≡ true)
 
 -- ---- runs
 -- a step in front of a run
@@ -148,8 +153,10 @@ module _ (laws : RoundLaws) (T : Side) (now : ℕ) (w t v : WorldState) (sound :
     -- it stands
     module _ (stands : Stands (policy_at T w).limits (policy_at (other T) w).limits put e) where
       here-stands : Stands (policy_at T w).limits (policy_at (other T) w).limits put run.end
-          × ((is_answered e.sender ≡ true → is_answered run.end.sender ≡ true) × ((maybe is_closed e.receiver ≡ true → maybe is_closed run.end.receiver ≡ true) × (Contains x.kinds kinds.EofAck → is_answered run.end.sender ≡ true)))
-      here-stands = laws.sender_round (policy_at T w).limits (policy_at (other T) w).limits (policy_at T w) (suc run.steps) put e run.end x.kinds refl (ignore T) (its-sender w sound T put e own has) stands x.waited runs at-rest
+          × ((is_answered e.sender ≡ true → is_answered run.end.sender ≡ true)
+          × ((maybe is_closed e.receiver ≡ true → maybe is_closed run.end.receiver ≡ true) × (Contains x.kinds kinds.EofAck → is_answered run.end.sender ≡ true)))
+      here-stands = laws.sender_round (policy_at T w).limits (policy_at (other T) w).limits (policy_at T w) (suc run.steps) put e run.end x.kinds refl (ignore T)
+          (its-sender w sound T put e own has) stands x.waited runs at-rest
 
       pub stands-here : StandsIn T put v
       stands-here = still-stands T put run.end run.is_end here-stands.0
@@ -197,9 +204,12 @@ module _ (laws : RoundLaws) (T : Side) (now : ℕ) (w t v : WorldState) (sound :
 
     module _ (stands : Stands (policy_at (other T) w).limits (policy_at (other (other T)) w).limits put e) where
       there-stands : Stands (policy_at (other T) w).limits (policy_at (other (other T)) w).limits put run_there.end
-          × ((is_answered e.sender ≡ true → is_answered run_there.end.sender ≡ true) × ((maybe is_closed e.receiver ≡ true → maybe is_closed run_there.end.receiver ≡ true) × (Contains y.kinds kinds.Nak ⊎ Contains y.kinds kinds.FinishedAck → maybe is_closed run_there.end.receiver ≡ true)))
+          × ((is_answered e.sender ≡ true → is_answered run_there.end.sender ≡ true)
+          × ((maybe is_closed e.receiver ≡ true → maybe is_closed run_there.end.receiver ≡ true)
+          × (Contains y.kinds kinds.Nak ⊎ Contains y.kinds kinds.FinishedAck → maybe is_closed run_there.end.receiver ≡ true)))
       there-stands = laws.receiver_round (policy_at (other T) w).limits (policy_at (other (other T)) w).limits (policy_at T w) (suc run_there.steps) put e y.expired run_there.end y.kinds
-          (sym (ap (λ (s : Side). (policy_at s w).limits) (other-other T))) (ignore T) (its-sender w sound (other T) put e own has) (λ r is. its-receiver w sound puts (other T) put e r has is) stands y.waited y.expires runs_there at-rest-there
+          (sym (ap (λ (s : Side). (policy_at s w).limits) (other-other T))) (ignore T) (its-sender w sound (other T) put e own has)
+          (λ r is. its-receiver w sound puts (other T) put e r has is) stands y.waited y.expires runs_there at-rest-there
 
       pub stands-there : StandsIn (other T) put v
       stands-there = still-stands (other T) put run_there.end run_there.is_end there-stands.0
@@ -334,7 +344,8 @@ module _ (laws : RoundLaws) (T : Side) (now : ℕ) (w t v : WorldState) (sound :
               side = T;
               id = id;
               before = ap Rattle.link_sim.specs.Tracks.is_done is ∙ not-answered x (subst (λ j. sender_waits j x ≡ true) (eof-only k x least.armed_so.1 waits_now) waits_now);
-              after = ap (done_at T v) (sym h.of) ∙ done-here h.put h.own stands.exchange stands.has stands.stands k least.armed_so.1 (ap (λ i. map.get (entity_at T w).table.armed (i, k)) h.of ∙ armed);
+              after = ap (done_at T v) (sym h.of) ∙ done-here h.put h.own stands.exchange stands.has stands.stands k least.armed_so.1
+                  (ap (λ i. map.get (entity_at T w).table.armed (i, k)) h.of ∙ armed);
             }
             | inr over ↦ absurd (
                 let same : Some (Sends x) ≡ Some (Sends over.exchange.sender) = sym is ∙ ap (λ i. record_of i (entity_at T w).table.records) (sym h.of) ∙ over.has.is.is_sender in
@@ -348,7 +359,8 @@ module _ (laws : RoundLaws) (T : Side) (now : ℕ) (w t v : WorldState) (sound :
 
           -- the receiver of the exchange is this one
           same-receiver : (put : Put) (e : Exchange) → put.id ≡ id → HasExchange (other T) put w e → e.receiver ≡ Some r
-          same-receiver put e of has = at e.receiver (subst (λ q. IsReceiverIn q e.receiver) (ap (λ (u : Side). record_of put.id (entity_at u w).table.records) (other-other T) ∙ ap (λ i. record_of i (entity_at T w).table.records) of ∙ is) has.is.is_receiver)
+          same-receiver put e of has = at e.receiver (subst (λ q. IsReceiverIn q e.receiver)
+              (ap (λ (u : Side). record_of put.id (entity_at u w).table.records) (other-other T) ∙ ap (λ i. record_of i (entity_at T w).table.records) of ∙ is) has.is.is_receiver)
             where
               at : (o : Option ReceiverState) → IsReceiverIn (Some (Receives r m)) o → o ≡ Some r
               at None h = absurd h

@@ -113,7 +113,8 @@ run-more n old mid new low h r round advances =
 
 -- ---- how it ends
 -- an error that is handed up
-pub ended-by : {X : Type 0} (r : Result X RecoverError) (y : RecoverError) (error : SettleError) (old new : WorldState) → r ≡ Err y → y ≡ Settle error → HasEnded error old new → IfErr r (λ (e : RecoverError). EndsBy e old new)
+pub ended-by : {X : Type 0} (r : Result X RecoverError) (y : RecoverError) (error : SettleError) (old new : WorldState) → r ≡ Err y → y ≡ Settle error → HasEnded error old new →
+    IfErr r (λ (e : RecoverError). EndsBy e old new)
 ended-by {X = X} r y error old new is same h =
     subst (λ (x : Result X RecoverError). IfErr x (λ (e : RecoverError). EndsBy e old new)) (sym is) (subst (λ (e : RecoverError). EndsBy e old new) (sym same) h)
 

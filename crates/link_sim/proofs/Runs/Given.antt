@@ -34,14 +34,16 @@ use Rattle.link_sim.proofs.Runs.Records.{sender-takes, receiver-takes}
 -- ---- PDUs that are heard in turn
 module _ (laws : EntityLaws) (hearing : HearingLaws) (stays : (old new : TableState) → Leads old new → KeepsRecords old.records new.records) where
   module _ (put_of : TransactionId → Option Put) (by_id : FindsById put_of) (heard : List (List ℕ)) (first : FileMap) (theirs : EntityState) (forth : List Pdu) where
-    all-shorter : (texts : List (List ℕ)) (pdus rest : List Pdu) (old new : Counted) → AreSpelled texts pdus → HearsAll texts old new → AreKnown put_of old.state theirs forth (pdus ++ rest) → length old.state.drops ≡ 18 → Shorter old new
+    all-shorter : (texts : List (List ℕ)) (pdus rest : List Pdu) (old new : Counted) → AreSpelled texts pdus → HearsAll texts old new → AreKnown put_of old.state theirs forth (pdus ++ rest) →
+        length old.state.drops ≡ 18 → Shorter old new
     all-shorter [] [] rest old new s h k kinds = subst (λ (c : Counted). Shorter old c) (sym h) (record { memory = omega arith; table = omega arith; inbox = omega arith; kinds = refl })
     all-shorter [] (p ∷ pdus) rest old new s h k kinds = absurd s
     all-shorter (t ∷ texts) [] rest old new s h k kinds = absurd s
     all-shorter (t ∷ texts) (p ∷ pdus) rest old new s (mid, here, behind) k kinds =
         let said : HeardSo p.0 p.1 old mid = so laws hearing stays put_of by_id heard first theirs forth p (pdus ++ rest) t old mid (s.0, tt) here k in
         let one : Shorter old mid = heard-shorter p.0 p.1 old mid kinds said in
-        shorter-both old mid new one (all-shorter texts pdus rest mid new s.1 behind (known-next laws hearing stays put_of by_id heard first theirs forth p (pdus ++ rest) t old mid (s.0, tt) here k) (one.kinds ∙ kinds))
+        shorter-both old mid new one (all-shorter texts pdus rest mid new s.1 behind (known-next laws hearing stays put_of by_id heard first theirs forth p (pdus ++ rest) t old mid (s.0, tt) here k)
+        (one.kinds ∙ kinds))
 
     -- What they come to: of the puts of the entity that hears them, and of those of the other one.
     pub record AllRun (pdus rest : List Pdu) (old new : Counted) : Type 0 where
@@ -50,7 +52,8 @@ module _ (laws : EntityLaws) (hearing : HearingLaws) (stays : (old new : TableSt
       pub theirs_too : (put : Put) → put_of put.id ≡ Some put → IsReceivable put → Goes put theirs old.state (pdus ++ rest) forth theirs new.state rest forth
 
     pub all-run : (texts : List (List ℕ)) (pdus rest : List Pdu) (old new : Counted) → AreSpelled texts pdus → HearsAll texts old new → AreKnown put_of old.state theirs forth (pdus ++ rest) →
-        ((x : List ℕ) → Contains texts x → ComesTrue old.state.config.peer put_of heard x) → IsSoundEntity put_of heard first old.state → length old.state.drops ≡ 18 → Spared old new → AllRun pdus rest old new
+        ((x : List ℕ) → Contains texts x → ComesTrue old.state.config.peer put_of heard x) → IsSoundEntity put_of heard first old.state → length old.state.drops ≡ 18 → Spared old new →
+        AllRun pdus rest old new
     all-run [] [] rest old new s h k comes sound kinds spared =
         subst (λ (c : Counted). AllRun [] rest old c) (sym h)
         (record { known = k; mine = λ put found. goes-none put old.state theirs forth rest; theirs_too = λ put found fits. goes-none put theirs old.state rest forth })
@@ -76,11 +79,13 @@ module _ (laws : EntityLaws) (hearing : HearingLaws) (stays : (old new : TableSt
           mine = λ put found. goes-both put old.state theirs forth (p ∷ (pdus ++ rest)) mid.state theirs forth (pdus ++ rest) new.state theirs forth rest
               (heard-mine put put_of found p.0 p.1 old mid order kinds spared_now theirs forth (pdus ++ rest) said) (then.mine put found);
           theirs_too = λ put found fits. goes-both put theirs old.state (p ∷ (pdus ++ rest)) forth theirs mid.state (pdus ++ rest) forth theirs new.state rest forth
-              (heard-theirs put put_of found p.0 p.1 old mid order kinds spared_now hearing fits heard truth old.state.config.entity sound.knows.knows theirs (pdus ++ rest) forth said) (then.theirs_too put found fits);
+              (heard-theirs put put_of found p.0 p.1 old mid order kinds spared_now hearing fits heard truth old.state.config.entity sound.knows.knows theirs (pdus ++ rest) forth said)
+              (then.theirs_too put found fits);
         }
 
 -- ---- a PDU that is sent
-module _ (put : Put) (put_of : TransactionId → Option Put) (found : put_of put.id ≡ Some put) (e e1 : EntityState) (order : IsInOrder put_of e.table) (t : TurnSays e) (is : e1 ≡ served Done (turn e) e) where
+module _ (put : Put) (put_of : TransactionId → Option Put) (found : put_of put.id ≡ Some put) (e e1 : EntityState) (order : IsInOrder put_of e.table) (t : TurnSays e)
+    (is : e1 ≡ served Done (turn e) e) where
   abbrev p : Pdu
   p = pdu_of t.entry t.content
 

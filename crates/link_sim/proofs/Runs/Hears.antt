@@ -117,7 +117,8 @@ counted-more by xs n low = elim (cases_Bool (n == drop_number by)) [
 kinds-same : (by : EntityDrop) (xs : List ℕ) → length (counted by xs) ≡ length xs
 kinds-same by xs = length-set xs (drop_number by) (raised (get_or xs (drop_number by) 0))
 
-drops-more : (by : EntityDrop) (old new : Counted) → drop_number by < 18 → length old.state.drops ≡ 18 → new.state.drops ≡ counted by old.state.drops → old.inbox_failures ≤ new.inbox_failures → Shorter old new
+drops-more : (by : EntityDrop) (old new : Counted) → drop_number by < 18 → length old.state.drops ≡ 18 → new.state.drops ≡ counted by old.state.drops → old.inbox_failures ≤ new.inbox_failures →
+    Shorter old new
 drops-more by old new low kinds is inbox =
     let within : drop_number by < length old.state.drops = subst (λ n. drop_number by < n) (sym kinds) low in
     record {
@@ -137,14 +138,16 @@ pub heard-shorter : (h : Header) (v : Content) (old new : Counted) → length ol
 heard-shorter h v old new kinds (inl s) = keeps-drops old new (ap (λ (e : EntityState). e.drops) s.steps.steps) (counts-grow s.steps.stored old.inbox_failures new.inbox_failures s.steps.counts)
 heard-shorter h v old new kinds (inr (inl o)) = keeps-drops old new (ap (λ (e : EntityState). e.drops) o.opens.opens) (counts-grow o.opens.begun old.inbox_failures new.inbox_failures o.opens.counts.0)
 heard-shorter h v old new kinds (inr (inr (inl d))) = drops-more d.by old new d.low kinds (ap (λ (e : EntityState). e.drops) d.is) d.grows
-heard-shorter h v old new kinds (inr (inr (inr s))) = drops-more drops.NoMemory old new (omega arith) kinds (ap (λ (e : EntityState). e.drops) s.finds.counted) (let same = s.finds.inbox in omega (arith, same))
+heard-shorter h v old new kinds (inr (inr (inr s))) = drops-more drops.NoMemory old new (omega arith) kinds (ap (λ (e : EntityState). e.drops) s.finds.counted)
+    (let same = s.finds.inbox in omega (arith, same))
 
 -- ---- where none rose
 raised-shows : (n : ℕ) → n < 2 ^ 64 - 1 → n < raised n
 raised-shows n low = omega (arith, low)
 
 -- a count that rose would show
-counted-shows : (by : EntityDrop) (xs : List ℕ) → drop_number by < length xs → get_or (counted by xs) (drop_number by) 0 ≡ get_or xs (drop_number by) 0 → get_or (counted by xs) (drop_number by) 0 < 2 ^ 64 - 1 → ⊥
+counted-shows : (by : EntityDrop) (xs : List ℕ) → drop_number by < length xs → get_or (counted by xs) (drop_number by) 0 ≡ get_or xs (drop_number by) 0 → get_or (counted by xs) (drop_number by) 0
+    < 2 ^ 64 - 1 → ⊥
 counted-shows by xs low same small =
     let n : ℕ = get_or xs (drop_number by) 0 in
     let now : get_or (counted by xs) (drop_number by) 0 ≡ raised n = get_or-set_same xs (drop_number by) (raised n) 0 low in
@@ -169,11 +172,13 @@ module _ (by : EntityDrop) (old new : Counted) (s : Spared old new) (low : drop_
   only-unknown (inr (inr is16)) = absurd (shows 16 is16 s.memory s.memory_low)
 
 -- ---- what a put's receiver tells of a PDU
-module _ (laws : HearingLaws) (put : Put) (fits : IsReceivable put) (put_of : TransactionId → Option Put) (found : put_of put.id ≡ Some put) (heard : List (List ℕ)) (v : Content) (true_of : IsTrueOf put_of heard put.id v) where
+module _ (laws : HearingLaws) (put : Put) (fits : IsReceivable put) (put_of : TransactionId → Option Put) (found : put_of put.id ≡ Some put) (heard : List (List ℕ)) (v : Content)
+    (true_of : IsTrueOf put_of heard put.id v) where
   faultless : (m : OctetMap) (files : FileMap) (r : ReceiverState) → Sound put heard r m → IsTrueForth put v → list_any is_file_fault (receiver_hears Done v m files r).told ≡ false
   faultless m files r sound t = laws.faultless put heard Done (Hears v) m files r fits (true_of put found) (begins-within put v t) sound
 
-  faultless-heard : (m : OctetMap) (files : FileMap) (r : ReceiverState) → Sound put heard r m → (a : ReceiverAfter) → receiver_after Done v m files r ≡ Some a → IsTrueForth put v → list_any is_file_fault a.told ≡ false
+  faultless-heard : (m : OctetMap) (files : FileMap) (r : ReceiverState) → Sound put heard r m → (a : ReceiverAfter) → receiver_after Done v m files r ≡ Some a → IsTrueForth put v →
+      list_any is_file_fault a.told ≡ false
   faultless-heard m files r sound a is t =
       let same : receiver_hears Done v m files r ≡ a = some-same (sym (forth-some put v m files r t) ∙ is) in
       subst (λ (b : ReceiverAfter). list_any is_file_fault b.told ≡ false) same (faultless m files r sound t)
@@ -181,11 +186,13 @@ module _ (laws : HearingLaws) (put : Put) (fits : IsReceivable put) (put_of : Tr
   faultless-opened : (times : Times) (files : FileMap) (a : Addressing) → IsTrueForth put v → list_any is_file_fault (opens Done Done times files v a).told ≡ false
   faultless-opened times files a t =
       subst (λ (o : Option ℕ). list_any is_file_fault (opens_by o Done Done times files v a).told ≡ false) (sym (closing-none put v t))
-      (subst (λ (o : Option ReceiverAfter). list_any is_file_fault (if_receiver times files (opened_receiver a) map.empty o).told ≡ false) (sym (forth-some put v map.empty files (opened_receiver a) t))
+      (subst (λ (o : Option ReceiverAfter). list_any is_file_fault (if_receiver times files (opened_receiver a) map.empty o).told ≡ false)
+      (sym (forth-some put v map.empty files (opened_receiver a) t))
       (faultless map.empty files (opened_receiver a) (laws.opened put heard Done files a) t))
 
 -- ---- one PDU
-module _ (put : Put) (put_of : TransactionId → Option Put) (found : put_of put.id ≡ Some put) (h : Header) (v : Content) (old new : Counted) (order : IsInOrder put_of old.state.table) (kinds : length old.state.drops ≡ 18) (spared : Spared old new) where
+module _ (put : Put) (put_of : TransactionId → Option Put) (found : put_of put.id ≡ Some put) (h : Header) (v : Content) (old new : Counted) (order : IsInOrder put_of old.state.table)
+    (kinds : length old.state.drops ≡ 18) (spared : Spared old new) where
   abbrev p : Pdu
   p = (h, v)
 
@@ -237,13 +244,15 @@ module _ (put : Put) (put_of : TransactionId → Option Put) (found : put_of put
   opened-told k = ap (λ (e : EntityState). e.table.told) k.opens.opens ∙ ap (λ (a : After). st.told ++ a.told) (opened-left k)
 
   opened-other : (k : OpensRecord h v old new) → same_id put.id h.id ≡ false → record_of put.id new.state.table.records ≡ record_of put.id st.records
-  opened-other k differs = ap (λ (e : EntityState). record_of put.id e.table.records) k.opens.opens ∙ push-other st.records h.id put.id (opens k.opens.begun k.opens.stored st.policy.times st.files v (addressing_in h)).seen differs
+  opened-other k differs = ap (λ (e : EntityState). record_of put.id e.table.records) k.opens.opens
+      ∙ push-other st.records h.id put.id (opens k.opens.begun k.opens.stored st.policy.times st.files v (addressing_in h)).seen differs
 
   opened-own : (k : OpensRecord h v old new) → h.id ≡ put.id → record_of put.id new.state.table.records ≡ Some (left (addressing_in h)).seen
   opened-own k same =
       let none : record_of put.id st.records ≡ None = none-there same k.none in
       let a : After = opens k.opens.begun k.opens.stored st.policy.times st.files v (addressing_in h) in
-      ap (λ (e : EntityState). record_of put.id e.table.records) k.opens.opens ∙ ap (λ q. record_of put.id (st.records ++ (q, a.seen) ∷ [])) same ∙ push-own st.records put.id a.seen none ∙ ap (λ (x : After). Some x.seen) (opened-left k)
+      ap (λ (e : EntityState). record_of put.id e.table.records) k.opens.opens ∙ ap (λ q. record_of put.id (st.records ++ (q, a.seen) ∷ [])) same ∙ push-own st.records put.id a.seen none
+      ∙ ap (λ (x : After). Some x.seen) (opened-left k)
 
   -- ---- the put's entity hears the PDU at the front of its way back
   module _ (theirs : EntityState) (forth rest : List Pdu) where
@@ -262,11 +271,13 @@ module _ (put : Put) (put_of : TransactionId → Option Put) (found : put_of put
             (ap (λ (t : TableState). t.records) is) (ap (λ (t : TableState). t.told) is) (λ _. refl) (λ differs. is-other rest (differs-too put.id h.id e.0 (is-there k.place e k.at at) differs))
             (λ same. own e.1 same (at ∙ ap (λ i. Some (i, e.1)) (sym same)))
           where
-            own : (s : Seen) → put.id ≡ e.0 → slice_get st.records k.place ≡ Some (put.id, s) → MineTo put s (hears k.steps.stored st.policy.times st.files v s) (of_id put.id forth) (of_id put.id forth) (of_id put.id (p ∷ rest)) (of_id put.id rest)
+            own : (s : Seen) → put.id ≡ e.0 → slice_get st.records k.place ≡ Some (put.id, s) →
+                MineTo put s (hears k.steps.stored st.policy.times st.files v s) (of_id put.id forth) (of_id put.id forth) (of_id put.id (p ∷ rest)) (of_id put.id rest)
             own (Receives r m) same there = tt
             own (Sends x) same there =
                 let i : SendsIt put st.sources x = sends-it put put_of found st.sources put.id x refl (order.own k.place (put.id, Sends x) there).1 in
-                subst (λ l. SenderTo put x (hears k.steps.stored st.policy.times st.files v (Sends x)) (of_id put.id forth) (of_id put.id forth) l (of_id put.id rest)) (is-own rest (is-there k.place (put.id, Sends x) k.at there))
+                subst (λ l. SenderTo put x (hears k.steps.stored st.policy.times st.files v (Sends x)) (of_id put.id forth) (of_id put.id forth) l (of_id put.id rest))
+                (is-own rest (is-there k.place (put.id, Sends x) k.at there))
                 (sender-hears put x (record { is_sender = i.is_sender; in_file = i.in_file }) st.policy.times st.files k.steps.stored (of_id put.id forth) (of_id put.id rest) v)
 
     -- where it has no record there is no exchange
@@ -276,13 +287,15 @@ module _ (put : Put) (put_of : TransactionId → Option Put) (found : put_of put
     mine-opened : OpensRecord h v old new → MineGoes
     mine-opened k = elim (same_id put.id h.id) as (λ b. same_id put.id h.id ≡ b → MineGoes) [
       | true ↦ λ is. none-mine (sym (same_id-true put.id h.id is)) k.none
-      | false ↦ λ differs. stays-same put old.state theirs forth (p ∷ rest) new.state theirs forth rest (left (addressing_in h)).told [] (opened-told k) (sym (append-nil theirs.table.told)) (opened-other k differs) refl refl (is-other rest differs)
+      | false ↦ λ differs. stays-same put old.state theirs forth (p ∷ rest) new.state theirs forth rest (left (addressing_in h)).told [] (opened-told k) (sym (append-nil theirs.table.told))
+          (opened-other k differs) refl refl (is-other rest differs)
     ] refl
 
     mine-dropped : DropsNew h v old new → MineGoes
     mine-dropped k = elim (same_id put.id h.id) as (λ b. same_id put.id h.id ≡ b → MineGoes) [
       | true ↦ λ is. none-mine (sym (same_id-true put.id h.id is)) k.none
-      | false ↦ λ differs. stays-same put old.state theirs forth (p ∷ rest) new.state theirs forth rest [] [] (ap (λ (e : EntityState). e.table.told) k.is ∙ sym (append-nil st.told)) (sym (append-nil theirs.table.told))
+      | false ↦ λ differs. stays-same put old.state theirs forth (p ∷ rest) new.state theirs forth rest [] [] (ap (λ (e : EntityState). e.table.told) k.is ∙ sym (append-nil st.told))
+          (sym (append-nil theirs.table.told))
           (ap (λ (e : EntityState). record_of put.id e.table.records) k.is) refl refl (is-other rest differs)
     ] refl
 
@@ -293,7 +306,8 @@ module _ (put : Put) (put_of : TransactionId → Option Put) (found : put_of put
     heard-mine (inr (inr (inr k))) = absurd (never-spoiled k)
 
   -- ---- the other entity hears the PDU at the front of its way
-  module _ (laws : HearingLaws) (fits : IsReceivable put) (heard : List (List ℕ)) (true_of : IsTrueOf put_of heard h.id v) (own : ℕ) (knows : (place : ℕ) (e : Entry) → slice_get st.records place ≡ Some e → KnowsTruth own put_of heard e.0 e.1)
+  module _ (laws : HearingLaws) (fits : IsReceivable put) (heard : List (List ℕ)) (true_of : IsTrueOf put_of heard h.id v) (own : ℕ)
+      (knows : (place : ℕ) (e : Entry) → slice_get st.records place ≡ Some e → KnowsTruth own put_of heard e.0 e.1)
       (mine : EntityState) (rest back : List Pdu) where
     abbrev TheirsGoes : Type 0
     TheirsGoes = Goes put mine old.state (p ∷ rest) back mine new.state rest back
@@ -310,31 +324,38 @@ module _ (put : Put) (put_of : TransactionId → Option Put) (found : put_of put
             (ap (λ (t : TableState). t.records) is) (ap (λ (t : TableState). t.told) is) (λ differs. is-other rest (differs-too put.id h.id e.0 (is-there k.place e k.at at) differs)) (λ _. refl)
             (λ same. its e.1 same (at ∙ ap (λ i. Some (i, e.1)) (sym same)))
           where
-            its : (s : Seen) → put.id ≡ e.0 → slice_get st.records k.place ≡ Some (put.id, s) → TheirsTo put s (hears k.steps.stored st.policy.times st.files v s) (of_id put.id (p ∷ rest)) (of_id put.id rest) (of_id put.id back) (of_id put.id back)
+            its : (s : Seen) → put.id ≡ e.0 → slice_get st.records k.place ≡ Some (put.id, s) →
+                TheirsTo put s (hears k.steps.stored st.policy.times st.files v s) (of_id put.id (p ∷ rest)) (of_id put.id rest) (of_id put.id back) (of_id put.id back)
             its (Sends x) same there = tt
             its (Receives r m) same there =
                 let key : h.id ≡ put.id = is-there k.place (put.id, Receives r m) k.at there in
                 let it : KnowsPut own put_of heard put.id r m = knows k.place (put.id, Receives r m) there in
                 let sound : Sound put heard r m = subst (λ (q : Put). Sound q heard r m) (some-same (sym it.is_put ∙ found)) it.sound in
                 subst (λ l. ReceiverTo put r (hears k.steps.stored st.policy.times st.files v (Receives r m)) l (of_id put.id rest) (of_id put.id back) (of_id put.id back)) (is-own rest key)
-                (subst (λ s. ReceiverTo put r (hears s st.policy.times st.files v (Receives r m)) (v ∷ of_id put.id rest) (of_id put.id rest) (of_id put.id back) (of_id put.id back)) (sym (stepped-done k))
-                (receiver-hears put r m it.same_id st.policy.times st.files (of_id put.id rest) (of_id put.id back) v (faultless-heard laws put fits put_of found heard v (of-put key) m st.files r sound)))
+                (subst (λ s. ReceiverTo put r (hears s st.policy.times st.files v (Receives r m)) (v ∷ of_id put.id rest) (of_id put.id rest) (of_id put.id back) (of_id put.id back))
+                (sym (stepped-done k))
+                (receiver-hears put r m it.same_id st.policy.times st.files (of_id put.id rest) (of_id put.id back) v
+                (faultless-heard laws put fits put_of found heard v (of-put key) m st.files r sound)))
 
     theirs-opened : OpensRecord h v old new → TheirsGoes
     theirs-opened k = elim (same_id put.id h.id) as (λ b. same_id put.id h.id ≡ b → TheirsGoes) [
       | true ↦ λ is. (let key : h.id ≡ put.id = sym (same_id-true put.id h.id is) in
           receiver-opens put mine old.state new.state (p ∷ rest) rest back back (left (addressing_in h)) (opened-told k) (none-there key k.none) (opened-own k key) refl
           (subst (λ l. OpensTo put (left (addressing_in h)) l (of_id put.id rest) (of_id put.id back)) (is-own rest key)
-          (receiver-opened st.policy.times st.files (addressing_in h) put key (of_id put.id rest) (of_id put.id back) v k.opening (faultless-opened laws put fits put_of found heard v (of-put key) st.policy.times st.files (addressing_in h)))))
-      | false ↦ λ differs. stays-same put mine old.state (p ∷ rest) back mine new.state rest back [] (left (addressing_in h)).told (sym (append-nil mine.table.told)) (opened-told k) refl (opened-other k differs) (is-other rest differs) refl
+          (receiver-opened st.policy.times st.files (addressing_in h) put key (of_id put.id rest) (of_id put.id back) v k.opening
+          (faultless-opened laws put fits put_of found heard v (of-put key) st.policy.times st.files (addressing_in h)))))
+      | false ↦ λ differs. stays-same put mine old.state (p ∷ rest) back mine new.state rest back [] (left (addressing_in h)).told (sym (append-nil mine.table.told)) (opened-told k) refl
+          (opened-other k differs) (is-other rest differs) refl
     ] refl
 
     theirs-dropped : DropsNew h v old new → TheirsGoes
     theirs-dropped k = elim (same_id put.id h.id) as (λ b. same_id put.id h.id ≡ b → TheirsGoes) [
       | true ↦ λ is. (let key : h.id ≡ put.id = sym (same_id-true put.id h.id is) in
           goes-unheard put mine old.state new.state (p ∷ rest) rest back back (ap (λ (e : EntityState). e.table) k.is) (none-there key k.none) refl
-          (λ x b c. subst (λ l. Settles put (made x None l (of_id put.id back) b c) (made x None (of_id put.id rest) (of_id put.id back) b c)) (is-own rest key) (goes-by-unheard put x b c (of_id put.id rest) (of_id put.id back) v (none-short k))))
-      | false ↦ λ differs. stays-same put mine old.state (p ∷ rest) back mine new.state rest back [] [] (sym (append-nil mine.table.told)) (ap (λ (e : EntityState). e.table.told) k.is ∙ sym (append-nil st.told))
+          (λ x b c. subst (λ l. Settles put (made x None l (of_id put.id back) b c) (made x None (of_id put.id rest) (of_id put.id back) b c)) (is-own rest key)
+          (goes-by-unheard put x b c (of_id put.id rest) (of_id put.id back) v (none-short k))))
+      | false ↦ λ differs. stays-same put mine old.state (p ∷ rest) back mine new.state rest back [] [] (sym (append-nil mine.table.told))
+          (ap (λ (e : EntityState). e.table.told) k.is ∙ sym (append-nil st.told))
           refl (ap (λ (e : EntityState). record_of put.id e.table.records) k.is) (is-other rest differs) refl
     ] refl
 

@@ -51,7 +51,8 @@ pub goes-none : (put : Put) (mine theirs : EntityState) (forth back : List Pdu) 
 unfolding Runs
 goes-none put mine theirs forth back e h = record { steps = zero; end = e; is_end = h; runs = refl }
 
-pub goes-both : (put : Put) (m th : EntityState) (f k : List Pdu) (m1 th1 : EntityState) (f1 k1 : List Pdu) (m2 th2 : EntityState) (f2 k2 : List Pdu) → Goes put m th f k m1 th1 f1 k1 → Goes put m1 th1 f1 k1 m2 th2 f2 k2 → Goes put m th f k m2 th2 f2 k2
+pub goes-both : (put : Put) (m th : EntityState) (f k : List Pdu) (m1 th1 : EntityState) (f1 k1 : List Pdu) (m2 th2 : EntityState) (f2 k2 : List Pdu) → Goes put m th f k m1 th1 f1 k1 →
+    Goes put m1 th1 f1 k1 m2 th2 f2 k2 → Goes put m th f k m2 th2 f2 k2
 goes-both put m th f k m1 th1 f1 k1 m2 th2 f2 k2 p q e h =
     let a : RunsInto put m1 th1 f1 k1 e = p e h in
     let b : RunsInto put m2 th2 f2 k2 a.end = q a.end a.is_end in
@@ -75,7 +76,8 @@ module _ (put : Put) where
       ∙ ap (λ t. made e.sender e.receiver e.forth e.back e.told t) h.is_told_there
 
   module _ (mine theirs : EntityState) (forth back : List Pdu) (mine1 theirs1 : EntityState) (forth1 back1 : List Pdu) where
-    pub goes-by : ((x : SenderState) (o : Option ReceiverState) → record_of put.id mine.table.records ≡ Some (Sends x) → IsReceiverIn (record_of put.id theirs.table.records) o → RunsInto put mine1 theirs1 forth1 back1 (view x o mine theirs forth back))
+    pub goes-by : ((x : SenderState) (o : Option ReceiverState) → record_of put.id mine.table.records ≡ Some (Sends x) → IsReceiverIn (record_of put.id theirs.table.records) o →
+        RunsInto put mine1 theirs1 forth1 back1 (view x o mine theirs forth back))
         → Goes put mine theirs forth back mine1 theirs1 forth1 back1
     goes-by steps e h = subst (λ (q : Exchange). RunsInto put mine1 theirs1 forth1 back1 q) (view-is mine theirs forth back e h) (steps e.sender e.receiver h.is_sender h.is_receiver)
 
@@ -86,7 +88,8 @@ module _ (put : Put) where
 
     -- nothing changes of the put, but that more may be told
     pub stays-same : (gained gained_there : List Indication) → mine1.table.told ≡ mine.table.told ++ gained → theirs1.table.told ≡ theirs.table.told ++ gained_there
-        → record_of put.id mine1.table.records ≡ record_of put.id mine.table.records → record_of put.id theirs1.table.records ≡ record_of put.id theirs.table.records → of_id put.id forth1 ≡ of_id put.id forth → of_id put.id back1 ≡ of_id put.id back
+        → record_of put.id mine1.table.records ≡ record_of put.id mine.table.records → record_of put.id theirs1.table.records ≡ record_of put.id theirs.table.records → of_id put.id forth1
+        ≡ of_id put.id forth → of_id put.id back1 ≡ of_id put.id back
         → Goes put mine theirs forth back mine1 theirs1 forth1 back1
     stays-same gained gained_there g t same same_there f k = goes-by (λ x o is there.
         let b : Bool = one_tells (tells_complete put.id) mine.table.told in
@@ -105,13 +108,21 @@ module _ (put : Put) where
         (inr (inr (inr (inr (inr (inr (inr (inr (inr more))))))))))
 
 -- one lane overtakes the other: each put makes that one step
-pub goes-overtaken : (put : Put) (mine theirs : EntityState) (forth back forth1 back1 : List Pdu) → IsSwapped forth forth1 → IsSwapped back back1 → Goes put mine theirs forth back mine theirs forth1 back1
+pub goes-overtaken : (put : Put) (mine theirs : EntityState) (forth back forth1 back1 : List Pdu) → IsSwapped forth forth1 → IsSwapped back back1 →
+    Goes put mine theirs forth back mine theirs forth1 back1
 goes-overtaken put mine theirs forth back forth1 back1 f k = goes-by put mine theirs forth back mine theirs forth1 back1 (λ x o is there.
     let b : Bool = one_tells (tells_complete put.id) mine.table.told in
     let c : Bool = one_tells (tells_complete put.id) theirs.table.told in
     one-step put mine theirs forth back mine theirs forth1 back1 (view put x o mine theirs forth back) (made x o (of_id put.id forth1) (of_id put.id back1) b c)
     (record { is_sender = is; is_receiver = there; is_forth = refl; is_back = refl; is_told = refl; is_told_there = refl })
-    (inr (inr (inr (inr (inr (inr (inr (inr (inl (record { forth = of_id put.id forth1; back = of_id put.id back1; swaps = swapped-of put.id forth forth1 f; swaps_back = swapped-of put.id back back1 k; is = refl })))))))))))
+    (inr (inr (inr (inr (inr (inr (inr (inr (inl (record {
+      forth = of_id put.id forth1;
+      back = of_id put.id back1;
+      swaps = swapped-of put.id forth forth1 f;
+      swaps_back =
+          swapped-of put.id back back1 k;
+      is = refl;
+    })))))))))))
 
 -- ---- a step of a record, as far as the put is concerned
 -- of its sender
@@ -145,7 +156,8 @@ pub record OpensTo (put : Put) (a : After) (forth forth1 back : List Content) : 
 module _ (put : Put) where
   -- ---- the put's entity went on
   module _ (mine mine1 theirs : EntityState) (forth forth1 back back1 : List Pdu) where
-    sender-goes : (y : SenderState) (a : After) → mine1.table.told ≡ mine.table.told ++ a.told → record_of put.id mine.table.records ≡ Some (Sends y) → record_of put.id mine1.table.records ≡ Some a.seen
+    sender-goes : (y : SenderState) (a : After) → mine1.table.told ≡ mine.table.told ++ a.told → record_of put.id mine.table.records ≡ Some (Sends y) → record_of put.id mine1.table.records
+        ≡ Some a.seen
         → SenderTo put y a (of_id put.id forth) (of_id put.id forth1) (of_id put.id back) (of_id put.id back1) → Goes put mine theirs forth back mine1 theirs forth1 back1
     sender-goes y a g was now k = goes-by put mine theirs forth back mine1 theirs forth1 back1 (λ x o is there.
         let same_seen : Sends y ≡ Sends x = some-same (sym was ∙ is) in
@@ -165,11 +177,13 @@ module _ (put : Put) where
         (k.step o b c)))
 
     -- where it has no sender there is no exchange
-    none-sends : (s : Seen) → record_of put.id mine.table.records ≡ Some s → ((x : SenderState) → s ≡ Sends x → ⊥) → (mine2 theirs2 : EntityState) (forth2 back2 : List Pdu) → Goes put mine theirs forth back mine2 theirs2 forth2 back2
+    none-sends : (s : Seen) → record_of put.id mine.table.records ≡ Some s → ((x : SenderState) → s ≡ Sends x → ⊥) → (mine2 theirs2 : EntityState) (forth2 back2 : List Pdu) →
+        Goes put mine theirs forth back mine2 theirs2 forth2 back2
     none-sends s was never mine2 theirs2 forth2 back2 e h = absurd (never e.sender (some-same (sym was ∙ h.is_sender)))
 
     -- it made a step of the record at a place, and said what is of that record's transaction
-    pub mine-steps : (place : ℕ) (e : Entry) (a : After) → IsDistinct same_id (keys_of mine.table.records) → slice_get mine.table.records place ≡ Some e → mine1.table.records ≡ (stepped place e.0 a mine.table).records → mine1.table.told ≡ mine.table.told ++ a.told
+    pub mine-steps : (place : ℕ) (e : Entry) (a : After) → IsDistinct same_id (keys_of mine.table.records) → slice_get mine.table.records place ≡ Some e → mine1.table.records
+        ≡ (stepped place e.0 a mine.table).records → mine1.table.told ≡ mine.table.told ++ a.told
         → (same_id put.id e.0 ≡ false → of_id put.id forth1 ≡ of_id put.id forth) → (same_id put.id e.0 ≡ false → of_id put.id back1 ≡ of_id put.id back)
         → (put.id ≡ e.0 → MineTo put e.1 a (of_id put.id forth) (of_id put.id forth1) (of_id put.id back) (of_id put.id back1)) → Goes put mine theirs forth back mine1 theirs forth1 back1
     mine-steps place e a apart at records g f k own = elim (same_id put.id e.0) as (λ b. same_id put.id e.0 ≡ b → Goes put mine theirs forth back mine1 theirs forth1 back1) [
@@ -178,29 +192,35 @@ module _ (put : Put) where
           (ap (record_of put.id) records ∙ step-other mine.table.records place e.0 put.id a.seen (key-at mine.table.records place e at) differs) refl (f differs) (k differs)
     ] refl
       where
-        mine_own : (same : put.id ≡ e.0) (r : Seen) → e.1 ≡ r → MineTo put r a (of_id put.id forth) (of_id put.id forth1) (of_id put.id back) (of_id put.id back1) → Goes put mine theirs forth back mine1 theirs forth1 back1
+        mine_own : (same : put.id ≡ e.0) (r : Seen) → e.1 ≡ r → MineTo put r a (of_id put.id forth) (of_id put.id forth1) (of_id put.id back) (of_id put.id back1) →
+            Goes put mine theirs forth back mine1 theirs forth1 back1
         mine_own same r is goes =
             let was : record_of put.id mine.table.records ≡ Some r = ap (λ q. record_of q mine.table.records) same ∙ at-own mine.table.records place e apart at ∙ ap Some is in
-            let now : record_of put.id mine1.table.records ≡ Some a.seen = ap (record_of put.id) records ∙ ap (λ q. record_of q (stepped place e.0 a mine.table).records) same ∙ step-own mine.table.records place e a.seen apart (key-at mine.table.records place e at) in
+            let now : record_of put.id mine1.table.records ≡ Some a.seen = ap (record_of put.id) records ∙ ap (λ q. record_of q (stepped place e.0 a mine.table).records) same
+            ∙ step-own mine.table.records place e a.seen apart (key-at mine.table.records place e at) in
             by r was now goes
           where
-            by : (r : Seen) → record_of put.id mine.table.records ≡ Some r → record_of put.id mine1.table.records ≡ Some a.seen → MineTo put r a (of_id put.id forth) (of_id put.id forth1) (of_id put.id back) (of_id put.id back1) → Goes put mine theirs forth back mine1 theirs forth1 back1
+            by : (r : Seen) → record_of put.id mine.table.records ≡ Some r → record_of put.id mine1.table.records ≡ Some a.seen →
+                MineTo put r a (of_id put.id forth) (of_id put.id forth1) (of_id put.id back) (of_id put.id back1) → Goes put mine theirs forth back mine1 theirs forth1 back1
             by (Sends x) was now goes = sender-goes x a g was now goes
             by (Receives r m) was now goes = none-sends (Receives r m) was (λ x h. (let no : Receives r m ≡ Sends x = h in cc)) mine1 theirs forth1 back1
 
   -- ---- the other entity went on
   module _ (mine theirs theirs1 : EntityState) (forth forth1 back back1 : List Pdu) where
-    receiver-goes : (r : ReceiverState) (m : OctetMap) (a : After) → theirs1.table.told ≡ theirs.table.told ++ a.told → record_of put.id theirs.table.records ≡ Some (Receives r m) → record_of put.id theirs1.table.records ≡ Some a.seen
+    receiver-goes : (r : ReceiverState) (m : OctetMap) (a : After) → theirs1.table.told ≡ theirs.table.told ++ a.told → record_of put.id theirs.table.records ≡ Some (Receives r m) →
+        record_of put.id theirs1.table.records ≡ Some a.seen
         → ReceiverTo put r a (of_id put.id forth) (of_id put.id forth1) (of_id put.id back) (of_id put.id back1) → Goes put mine theirs forth back mine theirs1 forth1 back1
     receiver-goes r m a g was now k = goes-by put mine theirs forth back mine theirs1 forth1 back1 (λ x o is there. by x is o (subst (λ p. IsReceiverIn p o) was there))
       where
-        by : (x : SenderState) → record_of put.id mine.table.records ≡ Some (Sends x) → (o : Option ReceiverState) → IsReceiverIn (Some (Receives r m)) o → RunsInto put mine theirs1 forth1 back1 (view put x o mine theirs forth back)
+        by : (x : SenderState) → record_of put.id mine.table.records ≡ Some (Sends x) → (o : Option ReceiverState) → IsReceiverIn (Some (Receives r m)) o →
+            RunsInto put mine theirs1 forth1 back1 (view put x o mine theirs forth back)
         by x is None h = absurd h
         by x is (Some s) h =
             let b : Bool = one_tells (tells_complete put.id) mine.table.told in
             let c : Bool = one_tells (tells_complete put.id) theirs.table.told in
             subst (λ (q : ReceiverState). RunsInto put mine theirs1 forth1 back1 (view put x (Some q) mine theirs forth back)) (sym h)
-            (one-step put mine theirs forth back mine theirs1 forth1 back1 (view put x (Some r) mine theirs forth back) (made x (Some k.receiver) (of_id put.id forth1) (of_id put.id back1) b (told_then put c a.told))
+            (one-step put mine theirs forth back mine theirs1 forth1 back1 (view put x (Some r) mine theirs forth back)
+            (made x (Some k.receiver) (of_id put.id forth1) (of_id put.id back1) b (told_then put c a.told))
             (record {
               is_sender = is;
               is_receiver = subst (λ p. IsReceiverIn p (Some k.receiver)) (sym (now ∙ ap Some k.is_receiver)) refl;
@@ -212,16 +232,19 @@ module _ (put : Put) where
             (k.step x b c))
 
     -- a record was opened
-    pub receiver-opens : (a : After) → theirs1.table.told ≡ theirs.table.told ++ a.told → record_of put.id theirs.table.records ≡ None → record_of put.id theirs1.table.records ≡ Some a.seen → of_id put.id back1 ≡ of_id put.id back
+    pub receiver-opens : (a : After) → theirs1.table.told ≡ theirs.table.told ++ a.told → record_of put.id theirs.table.records ≡ None → record_of put.id theirs1.table.records ≡ Some a.seen →
+        of_id put.id back1 ≡ of_id put.id back
         → OpensTo put a (of_id put.id forth) (of_id put.id forth1) (of_id put.id back) → Goes put mine theirs forth back mine theirs1 forth1 back1
     receiver-opens a g was now same k = goes-by put mine theirs forth back mine theirs1 forth1 back1 (λ x o is there. by x is o (subst (λ p. IsReceiverIn p o) was there))
       where
-        by : (x : SenderState) → record_of put.id mine.table.records ≡ Some (Sends x) → (o : Option ReceiverState) → IsReceiverIn None o → RunsInto put mine theirs1 forth1 back1 (view put x o mine theirs forth back)
+        by : (x : SenderState) → record_of put.id mine.table.records ≡ Some (Sends x) → (o : Option ReceiverState) → IsReceiverIn None o →
+            RunsInto put mine theirs1 forth1 back1 (view put x o mine theirs forth back)
         by x is (Some s) h = absurd h
         by x is None h =
             let b : Bool = one_tells (tells_complete put.id) mine.table.told in
             let c : Bool = one_tells (tells_complete put.id) theirs.table.told in
-            one-step put mine theirs forth back mine theirs1 forth1 back1 (view put x None mine theirs forth back) (made x (Some k.receiver) (of_id put.id forth1) (of_id put.id back) b (told_then put c a.told))
+            one-step put mine theirs forth back mine theirs1 forth1 back1 (view put x None mine theirs forth back)
+            (made x (Some k.receiver) (of_id put.id forth1) (of_id put.id back) b (told_then put c a.told))
             (record {
               is_sender = is;
               is_receiver = subst (λ p. IsReceiverIn p (Some k.receiver)) (sym (now ∙ ap Some k.is_receiver)) refl;
@@ -234,10 +257,12 @@ module _ (put : Put) where
 
     -- a PDU found no record, and opened none
     pub goes-unheard : theirs1.table ≡ theirs.table → record_of put.id theirs.table.records ≡ None → of_id put.id back1 ≡ of_id put.id back
-        → ((x : SenderState) (b c : Bool) → Settles put (made x None (of_id put.id forth) (of_id put.id back) b c) (made x None (of_id put.id forth1) (of_id put.id back) b c)) → Goes put mine theirs forth back mine theirs1 forth1 back1
+        → ((x : SenderState) (b c : Bool) → Settles put (made x None (of_id put.id forth) (of_id put.id back) b c) (made x None (of_id put.id forth1) (of_id put.id back) b c)) →
+        Goes put mine theirs forth back mine theirs1 forth1 back1
     goes-unheard table was same step = goes-by put mine theirs forth back mine theirs1 forth1 back1 (λ x o is there. by x is o (subst (λ p. IsReceiverIn p o) was there))
       where
-        by : (x : SenderState) → record_of put.id mine.table.records ≡ Some (Sends x) → (o : Option ReceiverState) → IsReceiverIn None o → RunsInto put mine theirs1 forth1 back1 (view put x o mine theirs forth back)
+        by : (x : SenderState) → record_of put.id mine.table.records ≡ Some (Sends x) → (o : Option ReceiverState) → IsReceiverIn None o →
+            RunsInto put mine theirs1 forth1 back1 (view put x o mine theirs forth back)
         by x is (Some s) h = absurd h
         by x is None h =
             let b : Bool = one_tells (tells_complete put.id) mine.table.told in
@@ -254,7 +279,8 @@ module _ (put : Put) where
             (step x b c)
 
     -- it made a step of the record at a place, and said what is of that record's transaction
-    pub theirs-steps : (place : ℕ) (e : Entry) (a : After) → IsDistinct same_id (keys_of theirs.table.records) → slice_get theirs.table.records place ≡ Some e → theirs1.table.records ≡ (stepped place e.0 a theirs.table).records → theirs1.table.told ≡ theirs.table.told ++ a.told
+    pub theirs-steps : (place : ℕ) (e : Entry) (a : After) → IsDistinct same_id (keys_of theirs.table.records) → slice_get theirs.table.records place ≡ Some e → theirs1.table.records
+        ≡ (stepped place e.0 a theirs.table).records → theirs1.table.told ≡ theirs.table.told ++ a.told
         → (same_id put.id e.0 ≡ false → of_id put.id forth1 ≡ of_id put.id forth) → (same_id put.id e.0 ≡ false → of_id put.id back1 ≡ of_id put.id back)
         → (put.id ≡ e.0 → TheirsTo put e.1 a (of_id put.id forth) (of_id put.id forth1) (of_id put.id back) (of_id put.id back1)) → Goes put mine theirs forth back mine theirs1 forth1 back1
     theirs-steps place e a apart at records g f k own = elim (same_id put.id e.0) as (λ b. same_id put.id e.0 ≡ b → Goes put mine theirs forth back mine theirs1 forth1 back1) [
@@ -263,13 +289,16 @@ module _ (put : Put) where
           refl (ap (record_of put.id) records ∙ step-other theirs.table.records place e.0 put.id a.seen (key-at theirs.table.records place e at) differs) (f differs) (k differs)
     ] refl
       where
-        theirs_own : (same : put.id ≡ e.0) (r : Seen) → e.1 ≡ r → TheirsTo put r a (of_id put.id forth) (of_id put.id forth1) (of_id put.id back) (of_id put.id back1) → Goes put mine theirs forth back mine theirs1 forth1 back1
+        theirs_own : (same : put.id ≡ e.0) (r : Seen) → e.1 ≡ r → TheirsTo put r a (of_id put.id forth) (of_id put.id forth1) (of_id put.id back) (of_id put.id back1) →
+            Goes put mine theirs forth back mine theirs1 forth1 back1
         theirs_own same r is goes =
             let was : record_of put.id theirs.table.records ≡ Some r = ap (λ q. record_of q theirs.table.records) same ∙ at-own theirs.table.records place e apart at ∙ ap Some is in
-            let now : record_of put.id theirs1.table.records ≡ Some a.seen = ap (record_of put.id) records ∙ ap (λ q. record_of q (stepped place e.0 a theirs.table).records) same ∙ step-own theirs.table.records place e a.seen apart (key-at theirs.table.records place e at) in
+            let now : record_of put.id theirs1.table.records ≡ Some a.seen = ap (record_of put.id) records ∙ ap (λ q. record_of q (stepped place e.0 a theirs.table).records) same
+            ∙ step-own theirs.table.records place e a.seen apart (key-at theirs.table.records place e at) in
             by r was now goes
           where
-            by : (r : Seen) → record_of put.id theirs.table.records ≡ Some r → record_of put.id theirs1.table.records ≡ Some a.seen → TheirsTo put r a (of_id put.id forth) (of_id put.id forth1) (of_id put.id back) (of_id put.id back1) → Goes put mine theirs forth back mine theirs1 forth1 back1
+            by : (r : Seen) → record_of put.id theirs.table.records ≡ Some r → record_of put.id theirs1.table.records ≡ Some a.seen →
+                TheirsTo put r a (of_id put.id forth) (of_id put.id forth1) (of_id put.id back) (of_id put.id back1) → Goes put mine theirs forth back mine theirs1 forth1 back1
             by (Receives r m) was now goes = receiver-goes r m a g was now goes
             by (Sends x) was now goes = λ e h. absurd (none e.receiver (subst (λ o. IsReceiverIn o e.receiver) was h.is_receiver))
               where

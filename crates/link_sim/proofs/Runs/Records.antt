@@ -37,11 +37,13 @@ or-false false = refl
 
 -- ---- a sender
 module _ (put : Put) (x : SenderState) (own : IsItsSender put x) where
-  pub sender-takes : (times : Times) (sources files : FileMap) (v : Content) (forth back : List Content) → put.octets ≡ octets_in sources x.source → sender_content (octets_in sources x.source) x (sender_due x) ≡ Some v
+  pub sender-takes : (times : Times) (sources files : FileMap) (v : Content) (forth back : List Content) → put.octets ≡ octets_in sources x.source →
+      sender_content (octets_in sources x.source) x (sender_due x) ≡ Some v
       → SenderTo put x (takes Done times sources files (Sends x)) forth (forth ++ v ∷ []) back back
   sender-takes times sources files v forth back octets says = by (sender_due x) refl says
     where
-      by : (o : Option SenderDue) → sender_due x ≡ o → sender_content (octets_in sources x.source) x o ≡ Some v → SenderTo put x (sender_takes Done times files (octets_in sources x.source) x o) forth (forth ++ v ∷ []) back back
+      by : (o : Option SenderDue) → sender_due x ≡ o → sender_content (octets_in sources x.source) x o ≡ Some v →
+          SenderTo put x (sender_takes Done times files (octets_in sources x.source) x o) forth (forth ++ v ∷ []) back back
       by None is none = absurd cc
       by (Some d) is says_so =
           let same : sender_says (octets_in sources x.source) x d ≡ v = cc in
@@ -86,7 +88,8 @@ module _ (put : Put) (r : ReceiverState) (m : OctetMap) (is_id : r.addressing.id
           })
 
   -- it hears the PDU at the front, and of one that is true of its put it tells no fault of the file
-  pub receiver-hears : (times : Times) (files : FileMap) (rest back : List Content) (v : Content) → ((a : ReceiverAfter) → receiver_after Done v m files r ≡ Some a → IsTrueForth put v → list_any is_file_fault a.told ≡ false)
+  pub receiver-hears : (times : Times) (files : FileMap) (rest back : List Content) (v : Content) →
+      ((a : ReceiverAfter) → receiver_after Done v m files r ≡ Some a → IsTrueForth put v → list_any is_file_fault a.told ≡ false)
       → ReceiverTo put r (hears Done times files v (Receives r m)) (v ∷ rest) rest back back
   receiver-hears times files rest back v good = by (receiver_after Done v m files r) refl
     where
@@ -95,13 +98,37 @@ module _ (put : Put) (r : ReceiverState) (m : OctetMap) (is_id : r.addressing.id
         receiver = a.receiver;
         octets = octets_seen a.receiver a.octets;
         is_receiver = refl;
-        step = λ x b c. inr (inr (inr (inr (inl (record { receiver = r; is_receiver = refl; own = is_id; heard = v; rest = rest; front = refl; octets = m; files = files; after = a; is_after = is; good = good a is; is = refl })))));
+        step = λ x b c. inr (inr (inr (inr (inl (record {
+          receiver = r;
+          is_receiver = refl;
+          own = is_id;
+          heard = v;
+          rest = rest;
+          front = refl;
+          octets = m;
+          files = files;
+          after = a;
+          is_after = is;
+          good = good a is;
+          is = refl;
+        })))));
       }
       by None is = record {
         receiver = r;
         octets = m;
         is_receiver = refl;
-        step = λ x b c. inr (inr (inr (inr (inr (inl (record { receiver = r; is_receiver = refl; heard = v; rest = rest; front = refl; octets = m; files = files; none = is; is = ap (λ t. made x (Some r) rest back b t) (sym (or-false c)) }))))));
+        step = λ x b c. inr (inr (inr (inr (inr (inl (record {
+          receiver = r;
+          is_receiver = refl;
+          heard = v;
+          rest = rest;
+          front = refl;
+          octets = m;
+          files = files;
+          none = is;
+          is =
+              ap (λ t. made x (Some r) rest back b t) (sym (or-false c));
+        }))))));
       }
 
 -- ---- where there is none
@@ -126,7 +153,8 @@ module _ (times : Times) (files : FileMap) (a : Addressing) where
   opened (Prompt keep_alive) opening = absurd (opening refl)
   opened (KeepAlive progress) opening = absurd (opening refl)
 
-  pub receiver-opened : (put : Put) → a.id ≡ put.id → (rest back : List Content) (v : Content) → opening_work v ≢ 0 → (IsTrueForth put v → list_any is_file_fault (opens Done Done times files v a).told ≡ false)
+  pub receiver-opened : (put : Put) → a.id ≡ put.id → (rest back : List Content) (v : Content) → opening_work v ≢ 0 →
+      (IsTrueForth put v → list_any is_file_fault (opens Done Done times files v a).told ≡ false)
       → OpensTo put (opens Done Done times files v a) (v ∷ rest) rest back
   receiver-opened put is_id rest back v opening good =
       let o : Opened (opens Done Done times files v a) = opened v opening in
@@ -153,5 +181,6 @@ module _ (times : Times) (files : FileMap) (a : Addressing) where
       }
 
 -- one that opens none is lost
-pub goes-by-unheard : (put : Put) (x : SenderState) (b c : Bool) (rest back : List Content) (v : Content) → opening_work v ≡ 0 → Settles put (made x None (v ∷ rest) back b c) (made x None rest back b c)
+pub goes-by-unheard : (put : Put) (x : SenderState) (b c : Bool) (rest back : List Content) (v : Content) → opening_work v ≡ 0 →
+    Settles put (made x None (v ∷ rest) back b c) (made x None rest back b c)
 goes-by-unheard put x b c rest back v none = inr (inr (inr (inr (inr (inr (inr (inl (record { none = refl; heard = v; rest = rest; front = refl; opens_none = none; is = refl }))))))))

@@ -70,7 +70,8 @@ from-there : (s : Side) (put : Put) (w : WorldState) (e : Exchange) → HasExcha
 from-there One put w e h = record { forth = h.back; back = h.forth; ways = record { spelled = h.spelled_back; spelled_back = h.spelled; known = (h.known.1, h.known.0) }; is = h.is }
 from-there Two put w e h = record { forth = h.back; back = h.forth; ways = record { spelled = h.spelled_back; spelled_back = h.spelled; known = (h.known.1, h.known.0) }; is = h.is }
 
-to-there : (s : Side) (put : Put) (w : WorldState) (e : Exchange) (forth back : List Pdu) → Ways s w forth back → IsExchange put (entity_at (other s) w) (entity_at s w) back forth e → HasExchange (other s) put w e
+to-there : (s : Side) (put : Put) (w : WorldState) (e : Exchange) (forth back : List Pdu) → Ways s w forth back → IsExchange put (entity_at (other s) w) (entity_at s w) back forth e →
+    HasExchange (other s) put w e
 to-there One put w e forth back k is = record { forth = back; back = forth; spelled = k.spelled_back; spelled_back = k.spelled; known = (k.known.1, k.known.0); is = is }
 to-there Two put w e forth back k is = record { forth = back; back = forth; spelled = k.spelled_back; spelled_back = k.spelled; known = (k.known.1, k.known.0); is = is }
 
@@ -90,7 +91,20 @@ runs-by s old new goes = both (λ t. (put : Put) → IsPutOf t put old → (e : 
     here put is e h =
         let g : EventGoes s old new h.forth h.back = goes h.forth h.back (ways-in s put old e h) in
         let r : RunsInto put (entity_at s new) (entity_at (other s) new) g.forth_then g.back_then e = g.mine put is e h.is in
-        record { steps = r.steps; end = r.end; is_end = record { forth = g.forth_then; back = g.back_then; spelled = g.ways.spelled; spelled_back = g.ways.spelled_back; known = g.ways.known; is = r.is_end }; runs = r.runs }
+        record {
+          steps = r.steps;
+          end = r.end;
+          is_end = record {
+            forth = g.forth_then;
+            back = g.back_then;
+            spelled = g.ways.spelled;
+            spelled_back = g.ways.spelled_back;
+            known = g.ways.known;
+            is =
+                r.is_end;
+          };
+          runs = r.runs;
+        }
 
     there : (put : Put) → IsPutOf (other s) put old → (e : Exchange) → HasExchange (other s) put old e → RunsTo (other s) put e new
     there put is e h =
@@ -144,7 +158,8 @@ module _ (laws : CleanLaws) (old new : WorldState) (sound : IsSound old) (kept :
   same = same-puts (seen old) (seen new) (sends-one old new sound (λ t. (m.sides t).goes)) (sends-two old new sound (λ t. (m.sides t).goes)) puts
 
   -- what is known in terms of the puts found before
-  known-now : (s : Side) (forth back : List Pdu) → AreKnown P (entity_at s new) (entity_at (other s) new) forth back → AreKnown (put_of (seen new)) (entity_at s new) (entity_at (other s) new) forth back
+  known-now : (s : Side) (forth back : List Pdu) → AreKnown P (entity_at s new) (entity_at (other s) new) forth back →
+      AreKnown (put_of (seen new)) (entity_at s new) (entity_at (other s) new) forth back
   known-now s forth back k = same-known P (put_of (seen new)) (entity_at s new) (entity_at (other s) new) forth back same.0 same.1 k
 
   order : (s : Side) → IsInOrder P (entity_at s old).table
@@ -160,12 +175,14 @@ module _ (laws : CleanLaws) (old new : WorldState) (sound : IsSound old) (kept :
       let t : TurnSays e = turn-says e k.known.0.none_stray h.spells in
       let p : Pdu = pdu_of t.entry t.content in
       let there : th1 ≡ th = ap (λ x. x.entity.state) h.marks.spares.station in
-      let known : AreKnown P e1 th (forth ++ p ∷ []) back = sends-known laws.stays P e e1 th forth back (pdus_delivered (way_from (other s) old)) (sound s).first Done t (sound s).entity (are-peers old sound s) h.served k.known in
+      let known : AreKnown P e1 th (forth ++ p ∷ []) back = sends-known laws.stays P e e1 th forth back (pdus_delivered (way_from (other s) old)) (sound s).first Done t (sound s).entity
+      (are-peers old sound s) h.served k.known in
       record {
         forth_then = forth ++ p ∷ [];
         back_then = back;
         ways = record {
-          spelled = subst (λ l. AreSpelled l (forth ++ p ∷ [])) (sym (polls-arriving s old new (sound s).way h)) (spelled-append (arriving (way_from s old)) (turn_octets (turn e) e ∷ []) forth (p ∷ []) k.spelled (t.spells, tt));
+          spelled = subst (λ l. AreSpelled l (forth ++ p ∷ [])) (sym (polls-arriving s old new (sound s).way h))
+              (spelled-append (arriving (way_from s old)) (turn_octets (turn e) e ∷ []) forth (p ∷ []) k.spelled (t.spells, tt));
           spelled_back = subst (λ w. AreSpelled (arriving w) back) (sym (polls-on-way s old new (sound s).way h).back) k.spelled_back;
           known = known-now s (forth ++ p ∷ []) back (subst (λ (x : EntityState). AreKnown P e1 x (forth ++ p ∷ []) back) (sym there) known);
         };
@@ -194,10 +211,13 @@ module _ (laws : CleanLaws) (old new : WorldState) (sound : IsSound old) (kept :
         ways = record {
           spelled = subst (λ l. AreSpelled l forth) (sym (fills-arriving s old new (sound s).way h)) k.spelled;
           spelled_back = subst (λ w. AreSpelled (arriving w) back) (sym (fills-on-way s old new (sound s).way h grown).back) k.spelled_back;
-          known = known-now s forth back (subst (λ (x : EntityState). AreKnown P x (entity_at (other s) new) forth back) (sym here) (subst (λ (x : EntityState). AreKnown P e x forth back) (sym there) k.known));
+          known = known-now s forth back (subst (λ (x : EntityState). AreKnown P x (entity_at (other s) new) forth back) (sym here)
+              (subst (λ (x : EntityState). AreKnown P e x forth back) (sym there) k.known));
         };
-        mine = λ put is. subst (λ (x : EntityState). Goes put e th forth back x (entity_at (other s) new) forth back) (sym here) (subst (λ (x : EntityState). Goes put e th forth back e x forth back) (sym there) (goes-none put e th forth back));
-        theirs = λ put is. subst (λ (x : EntityState). Goes put th e back forth (entity_at (other s) new) x back forth) (sym here) (subst (λ (x : EntityState). Goes put th e back forth x e back forth) (sym there) (goes-none put th e back forth));
+        mine = λ put is. subst (λ (x : EntityState). Goes put e th forth back x (entity_at (other s) new) forth back) (sym here)
+            (subst (λ (x : EntityState). Goes put e th forth back e x forth back) (sym there) (goes-none put e th forth back));
+        theirs = λ put is. subst (λ (x : EntityState). Goes put th e back forth (entity_at (other s) new) x back forth) (sym here)
+            (subst (λ (x : EntityState). Goes put th e back forth x e back forth) (sym there) (goes-none put th e back forth));
       }
 
   -- ---- a delivery
@@ -235,8 +255,10 @@ module _ (laws : CleanLaws) (old new : WorldState) (sound : IsSound old) (kept :
     known : AreKnown P there (entity_at s old) back (two.first ++ two.rest)
     known = subst (λ (l : List Pdu). AreKnown P there (entity_at s old) back l) two.joined (k.known.1, k.known.0)
 
-    ran : AllRun laws.entity laws.hearing laws.stays P (puts-by-id (seen old)) heard (sound (other s)).first (entity_at s old) back two.first two.rest (station_at (other s) old).entity (station_at (other s) new).entity
-    ran = all-run laws.entity laws.hearing laws.stays P (puts-by-id (seen old)) heard (sound (other s)).first (entity_at s old) back h.given two.first two.rest (station_at (other s) old).entity (station_at (other s) new).entity
+    ran : AllRun laws.entity laws.hearing laws.stays P (puts-by-id (seen old)) heard (sound (other s)).first (entity_at s old) back two.first two.rest (station_at (other s) old).entity
+        (station_at (other s) new).entity
+    ran = all-run laws.entity laws.hearing laws.stays P (puts-by-id (seen old)) heard (sound (other s)).first (entity_at s old) back h.given two.first two.rest (station_at (other s) old).entity
+        (station_at (other s) new).entity
         two.spelled h.heard known comes sound-then (kept.course.kinds (other s)) spared.entity
 
     delivered : EventGoes s old new forth back
@@ -254,7 +276,8 @@ module _ (laws : CleanLaws) (old new : WorldState) (sound : IsSound old) (kept :
           };
           mine = λ put is. subst (λ (x : EntityState). Goes put e there forth back x th1 two.rest back) (sym here) (subst (λ l. Goes put e there l back e th1 two.rest back) (sym two.joined)
               (ran.theirs_too put is.found (receivable old sound (λ t. (sound t).within) s forth back k.known put is.found is.own)));
-          theirs = λ put is. subst (λ (x : EntityState). Goes put there e back forth th1 x back two.rest) (sym here) (subst (λ l. Goes put there e back l th1 e back two.rest) (sym two.joined) (ran.mine put is.found));
+          theirs = λ put is. subst (λ (x : EntityState). Goes put there e back forth th1 x back two.rest) (sym here)
+              (subst (λ l. Goes put there e back l th1 e back two.rest) (sym two.joined) (ran.mine put is.found));
         }
 
 -- ---- each event of a settling
@@ -284,7 +307,8 @@ puts-kept laws e d old new h sound s put own =
     let m : Moves old new = event-moves laws.entity old new sound e d h in
     record { found = m.puts.finds put.id put own.found; own = own.own ∙ ap (λ (c : EntityConfig). c.entity) (sym (m.sides s).goes.config) }
 
-pub settles-run : CleanLaws → (e : Event) (d : Applied) (old new : WorldState) → IsOfSettling e → Steps e d old new → KeepsAll (all_shortages old) (all_shortages new) → IsSound old → KeepsPuts old → RunsOn old new
+pub settles-run : CleanLaws → (e : Event) (d : Applied) (old new : WorldState) → IsOfSettling e → Steps e d old new → KeepsAll (all_shortages old) (all_shortages new) → IsSound old → KeepsPuts old →
+    RunsOn old new
 settles-run laws (event.Poll s) d old new is h keeps sound kept = polls-run laws old new sound kept (spared-at old new keeps) d s (event-moves laws.entity old new sound (event.Poll s) d h) h
 settles-run laws (event.Flush s) d old new is h keeps sound kept = flushes-run laws old new sound kept (spared-at old new keeps) d s (event-moves laws.entity old new sound (event.Flush s) d h) h
 settles-run laws (event.Deliver s) d old new is h keeps sound kept = delivers-run laws old new sound kept (spared-at old new keeps) d s (event-moves laws.entity old new sound (event.Deliver s) d h) h

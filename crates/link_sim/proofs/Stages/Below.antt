@@ -26,7 +26,8 @@ unknown-below there (Some r) h = (
   λ is. absurd (both_ways (knows_ending r) h (ap (λ p. once_ended p (is_some r.ending)) is)),
 )
 
-module _ (here there : Limits) (n : ℕ) (put : Put) (a b : Exchange) (own : IsItsSender put a.sender) (c : IsActiveCourse put a) (below : IsBelow here there a) (runs : Runs n put a b) (rests : IsAtRest b) where
+module _ (here there : Limits) (n : ℕ) (put : Put) (a b : Exchange) (own : IsItsSender put a.sender) (c : IsActiveCourse put a) (below : IsBelow here there a) (runs : Runs n put a b)
+    (rests : IsAtRest b) where
   keeps : ExchangeKeeps a b
   keeps = runs-keep n put a b runs
 
@@ -63,5 +64,6 @@ module _ (here there : Limits) (n : ℕ) (put : Put) (a b : Exchange) (own : IsI
     rests = rests;
   }
 
-pub settled-below : (here there : Limits) (n : ℕ) (put : Put) (a b : Exchange) → IsItsSender put a.sender → IsActiveCourse put a → IsBelow here there a → Runs n put a b → IsAtRest b → Stands here there put b
+pub settled-below : (here there : Limits) (n : ℕ) (put : Put) (a b : Exchange) → IsItsSender put a.sender → IsActiveCourse put a → IsBelow here there a → Runs n put a b → IsAtRest b →
+    Stands here there put b
 settled-below here there n put a b own c below runs rests = stands here there n put a b own c below runs rests

@@ -90,7 +90,8 @@ ack-keeps sending.Sending condition x is = cond_both (x.eof_taken && (condition 
     (λ _. record { size = refl; segment = refl; count = refl; closed = λ h. h; answered = λ _. ap (λ p. is_answered_in p true) is })
     (λ _. itself-keeps x)
 ack-keeps sending.Cancelling condition x is =
-    cond_both (condition == x.condition) (sender.hearing (finished_told x.addressing.id (sender.cancelled x) ∷ []) (sender.closed x)) (sender.hearing [] x) (λ (a : SenderAfter). SenderKeeps x a.sender)
+    cond_both (condition == x.condition) (sender.hearing (finished_told x.addressing.id (sender.cancelled x) ∷ []) (sender.closed x)) (sender.hearing [] x)
+    (λ (a : SenderAfter). SenderKeeps x a.sender)
     (λ _. record { size = refl; segment = refl; count = refl; closed = λ _. refl; answered = λ _. refl })
     (λ _. itself-keeps x)
 ack-keeps sending.Closed condition x is = itself-keeps x
@@ -144,7 +145,8 @@ module _ (m : OctetMap) (files : FileMap) (r : ReceiverState) where
 
   by-fewer : (n : OctetMap) (info : Option FileInfo) (ending : Option Ending) (s : ReceiverState) → Fewer r s → FewerAfter (completed_by Done info ending n files s)
   by-fewer n (Some info) (Some ending) s f =
-      cond_both (set.is_subset (range 0 ending.size) s.held) (if agrees info ending s.checksum then published_by Done info ending n files s else faulted file_checksum_failure n files s) (leaving n files s) FewerAfter
+      cond_both (set.is_subset (range 0 ending.size) s.held) (if agrees info ending s.checksum then published_by Done info ending n files s else faulted file_checksum_failure n files s)
+      (leaving n files s) FewerAfter
       (λ _. cond_both (agrees info ending s.checksum) (published_by Done info ending n files s) (faulted file_checksum_failure n files s) FewerAfter
       (λ _. record { naks = omega arith; finisheds = omega arith })
       (λ _. faulted-fewer file_checksum_failure n s))
@@ -156,7 +158,8 @@ module _ (m : OctetMap) (files : FileMap) (r : ReceiverState) where
   metadata-fewer kind size source destination =
       let info : FileInfo = record { checksum_kind = kind; destination = destination } in
       let s : ReceiverState = record r { metadata = Some info; nak_count = 0 } in
-      cond_both (is_some r.metadata) (leaving m files r) (telling (indication.MetadataRecv r.addressing.id source destination size ∷ []) (if is_supported kind then completed Done m files s else faulted unsupported_checksum_type m files s)) FewerAfter
+      cond_both (is_some r.metadata) (leaving m files r) (telling (indication.MetadataRecv r.addressing.id source destination size ∷ [])
+      (if is_supported kind then completed Done m files s else faulted unsupported_checksum_type m files s)) FewerAfter
       (λ _. same-fewer r)
       (λ _. cond_both (is_supported kind) (completed Done m files s) (faulted unsupported_checksum_type m files s) FewerAfter
       (λ _. by-fewer m s.metadata s.ending s (record { naks = omega arith; finisheds = omega arith }))
@@ -166,7 +169,8 @@ module _ (m : OctetMap) (files : FileMap) (r : ReceiverState) where
   data-fewer offset bytes =
       let end : ℕ = offset + length bytes in
       let s : ReceiverState = with_data offset bytes r in
-      cond_both (exceeds r.ending end) (faulted file_size_error m files r) (if set.is_subset (range offset end) r.held then completed Done m files r else receives_new Done offset bytes m files r) FewerAfter
+      cond_both (exceeds r.ending end) (faulted file_size_error m files r)
+      (if set.is_subset (range offset end) r.held then completed Done m files r else receives_new Done offset bytes m files r) FewerAfter
       (λ _. faulted-fewer file_size_error m r)
       (λ _. cond_both (set.is_subset (range offset end) r.held) (completed Done m files r) (receives_new Done offset bytes m files r) FewerAfter
       (λ _. by-fewer m r.metadata r.ending r (same-fewer r))
@@ -175,7 +179,8 @@ module _ (m : OctetMap) (files : FileMap) (r : ReceiverState) where
   eof-fewer : (condition checksum size : ℕ) → FewerAfter (receives_eof Done condition checksum size m files r)
   eof-fewer condition checksum size =
       let s : ReceiverState = record r { ending = Some (record { checksum = checksum; size = size }); ack_due = Some no_error; nak_cursor = Some 0 } in
-      cond_both (not (condition == no_error)) (cancelled_by condition m files r) (if is_none r.ending then first_eof Done checksum size m files r else leaving m files (record r { ack_due = Some no_error; nak_cursor = Some 0 })) FewerAfter
+      cond_both (not (condition == no_error)) (cancelled_by condition m files r)
+      (if is_none r.ending then first_eof Done checksum size m files r else leaving m files (record r { ack_due = Some no_error; nak_cursor = Some 0 })) FewerAfter
       (λ _. record { naks = omega arith; finisheds = omega arith })
       (λ _. cond_both (is_none r.ending) (first_eof Done checksum size m files r) (leaving m files (record r { ack_due = Some no_error; nak_cursor = Some 0 })) FewerAfter
       (λ _. cond_both (contradicts size r) (faulted file_size_error m files s) (completed Done m files s) FewerAfter
@@ -198,9 +203,11 @@ module _ (m : OctetMap) (files : FileMap) (r : ReceiverState) where
   prompt-fewer false = record { naks = omega arith; finisheds = omega arith }
 
   pub receiver-keeps : (v : Content) → ReceiverKeeps r (receiver_hears Done v m files r).receiver
-  receiver-keeps (Metadata kind size source destination options) = tidy-keeps _ (in-phase (receives_metadata Done kind size source destination m files r) (leaving m files r) (metadata-fewer kind size source destination) (same-fewer r) refl) _
+  receiver-keeps (Metadata kind size source destination options) = tidy-keeps _
+      (in-phase (receives_metadata Done kind size source destination m files r) (leaving m files r) (metadata-fewer kind size source destination) (same-fewer r) refl) _
   receiver-keeps (FileData offset bytes) = tidy-keeps _ (in-phase (receives_data Done offset bytes m files r) (leaving m files r) (data-fewer offset bytes) (same-fewer r) refl) _
-  receiver-keeps (Eof condition checksum size tlvs) = tidy-keeps _ (in-phase (receives_eof Done condition checksum size m files r) (leaving m files (record r { ack_due = Some condition })) (eof-fewer condition checksum size) (record { naks = omega arith; finisheds = omega arith }) refl) _
+  receiver-keeps (Eof condition checksum size tlvs) = tidy-keeps _ (in-phase (receives_eof Done condition checksum size m files r) (leaving m files (record r { ack_due = Some condition }))
+      (eof-fewer condition checksum size) (record { naks = omega arith; finisheds = omega arith }) refl) _
   receiver-keeps (Ack acknowledged.Finished condition status) = tidy-keeps _ (cond_both (is_finishing r.phase && r.finished_taken) (closed r) r (ReceiverKeeps r)
       (λ _. record { fewer = record { naks = omega arith; finisheds = omega arith }; closed = λ _. refl })
       (λ _. record { fewer = same-fewer r; closed = λ h. h })) _
@@ -249,7 +256,8 @@ settles-keep put a b (inr (inr (inr (inl s)))) = subst (ExchangeKeeps a) (sym s.
 settles-keep put a b (inr (inr (inr (inr (inl s))))) = subst (ExchangeKeeps a) (sym s.is) (record {
   sender = itself-keeps a.sender;
   receiver = by-receiver a.receiver _ s.receiver s.after.receiver s.is_receiver refl
-      (subst (λ (c : ReceiverAfter). ReceiverKeeps s.receiver c.receiver) (sym (after-is Done s.heard s.octets s.files s.receiver s.after s.is_after)) (receiver-keeps s.octets s.files s.receiver s.heard));
+      (subst (λ (c : ReceiverAfter). ReceiverKeeps s.receiver c.receiver) (sym (after-is Done s.heard s.octets s.files s.receiver s.after s.is_after))
+      (receiver-keeps s.octets s.files s.receiver s.heard));
 })
 settles-keep put a b (inr (inr (inr (inr (inr (inl s)))))) = subst (ExchangeKeeps a) (sym s.is) (record { sender = itself-keeps a.sender; receiver = same-receiver a.receiver })
 settles-keep put a b (inr (inr (inr (inr (inr (inr (inl s))))))) = subst (ExchangeKeeps a) (sym s.is) (record {

@@ -43,7 +43,8 @@ pub unwaited : (k : Kind) (policy : Policy) (m : OctetMap) (files : FileMap) (q 
 unwaited k policy m files q none = ap (λ b. if b then record (tidying (expires_by k policy m files q)) { anew = anew_once_expired k } else leaving m files q) none
 
 -- one that is
-pub waited-for : (k : Kind) (policy : Policy) (m : OctetMap) (files : FileMap) (q : ReceiverState) → waits k q ≡ true → expires k policy m files q ≡ record (tidying (expires_by k policy m files q)) { anew = anew_once_expired k }
+pub waited-for : (k : Kind) (policy : Policy) (m : OctetMap) (files : FileMap) (q : ReceiverState) → waits k q ≡ true → expires k policy m files q
+    ≡ record (tidying (expires_by k policy m files q)) { anew = anew_once_expired k }
 waited-for k policy m files q is = ap (λ b. if b then record (tidying (expires_by k policy m files q)) { anew = anew_once_expired k } else leaving m files q) is
 
 -- Inactivity that is ignored
@@ -72,7 +73,8 @@ module _ (put : Put) (policy : Policy) (ignores : policy.handlers.inactivity ≡
   keeps-cursor None some asks = absurd (false≢true some)
 
   inactive : q.phase ≡ receiving.Receiving → is_some q.nak_cursor ≡ true → is_tidy q ≡ true → Calmly put q (expires Inactivity policy m files q)
-  inactive phase some tidy = cond_both (waits Inactivity q) (record (tidying (handled policy.handlers.inactivity inactivity m files q)) { anew = anew_once_expired Inactivity }) (leaving m files q) (Calmly put q)
+  inactive phase some tidy = cond_both (waits Inactivity q) (record (tidying (handled policy.handlers.inactivity inactivity m files q)) { anew = anew_once_expired Inactivity }) (leaving m files q)
+      (Calmly put q)
       (λ _. subst (λ (h : Handler). Calmly put q (record (tidying (handled h inactivity m files q)) { anew = anew_once_expired Inactivity })) (sym ignores)
       (record { told = ignored-told put policy m files q; calm = inl (phase, keeps-cursor q.nak_cursor some tidy); addressing = refl }))
       (λ _. record { told = silent put true; calm = inl (phase, some); addressing = refl })
@@ -94,7 +96,8 @@ pub record Owes (put : Put) (x : SenderState) (forth back : List Content) (b c :
   pub calm : IsCalm p.receiver
   pub addressing : p.receiver.addressing ≡ q.addressing
 
-module _ (put : Put) (x : SenderState) (forth back : List Content) (b c : Bool) (policy : Policy) (m : OctetMap) (files : FileMap) (q : ReceiverState) (size : x.size ≡ length put.octets) (id : q.addressing.id ≡ put.id)
+module _ (put : Put) (x : SenderState) (forth back : List Content) (b c : Bool) (policy : Policy) (m : OctetMap) (files : FileMap) (q : ReceiverState) (size : x.size ≡ length put.octets)
+    (id : q.addressing.id ≡ put.id)
     (h : IsCourse put true false false false x (Some q) forth back b c) where
   laws : CourseLaws
   laws = course-laws
@@ -170,7 +173,8 @@ module _ (put : Put) (x : SenderState) (forth back : List Content) (b c : Bool) 
       let is : expires FinishedAck policy m files q ≡ record (tidying (leaving m files again)) { anew = None } = waited-for FinishedAck policy m files q waiting
       ∙ ap (λ (t : Option ℕ). record (tidying (finished_expires t m files q)) { anew = None }) (another q.finished_count policy.limits.finished low) in
       let base : Course (record (tidying (leaving m files again)) { anew = None }) =
-      subst (λ (p : ReceiverAfter). TellsWell put true p.told → Course p) is (laws.receiver_expires put true false false false x q forth back b c FinishedAck policy m files id size h) (silent put true) in
+      subst (λ (p : ReceiverAfter). TellsWell put true p.told → Course p) is (laws.receiver_expires put true false false false x q forth back b c FinishedAck policy m files id size h)
+      (silent put true) in
       subst (Owes put x forth back b c q) (sym is) (record {
         course = record {
           truth = base.truth;

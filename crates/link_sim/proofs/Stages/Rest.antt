@@ -99,7 +99,8 @@ module _ (put : Put) (a b : Exchange) (over : a.sender.phase ≡ sending.Closed)
   OverAt e = IsOverAt e.receiver e.forth
 
   none-over : Settles put a b → OverAt b
-  none-over (inl s) = subst OverAt (sym s.is) (none-at (a.forth ++ sender_says put.octets a.sender s.due ∷ []) (true-sent (λ v. opening_work v ≡ 0) a.forth _ unopened (opens-none put.octets a.sender s.due over s.is_due)))
+  none-over (inl s) = subst OverAt (sym s.is) (none-at (a.forth ++ sender_says put.octets a.sender s.due ∷ [])
+      (true-sent (λ v. opening_work v ≡ 0) a.forth _ unopened (opens-none put.octets a.sender s.due over s.is_due)))
   none-over (inr (inl s)) = subst OverAt (sym s.is) (none-at a.forth unopened)
   none-over (inr (inr (inl s))) = subst OverAt (sym s.is) (none-at a.forth unopened)
   none-over (inr (inr (inr (inl s)))) = absurd (not-both a.receiver s.receiver none s.is_receiver)

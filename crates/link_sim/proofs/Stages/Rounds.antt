@@ -110,7 +110,8 @@ module _ (here there : Limits) (policy : Policy) (put : Put) (a : Exchange) (lim
     holds = f g.sender g.holds;
   }
 
-  all-steps : (P : SenderState → Type 0) → ((k : Kind) (y : SenderState) → P y → P (sender_expires k policy y).sender) → (ks : List Kind) (e : Exchange) → Goes P e → Goes P (expire_sender policy put ks e)
+  all-steps : (P : SenderState → Type 0) → ((k : Kind) (y : SenderState) → P y → P (sender_expires k policy y).sender) → (ks : List Kind) (e : Exchange) → Goes P e →
+      Goes P (expire_sender policy put ks e)
   unfolding expire_sender
   all-steps P f [] e g = g
   all-steps P f (k ∷ ks) e g = all-steps P f ks (after k e) (step P P k (f k) e g)
@@ -183,9 +184,11 @@ module _ (here there : Limits) (policy : Policy) (put : Put) (a : Exchange) (lim
     unfolding expire_sender
     fires-all [] e g = inr (g, contains-none EofAck)
     fires-all (EofAck ∷ ks) e g = inl (all-steps IsAgain stays-again ks (after EofAck e) (step IsSame IsAgain EofAck fires e g))
-    fires-all (Inactivity ∷ ks) e g = not-first Inactivity ks (expire_sender policy put ks (after Inactivity e)) (λ f. cc) (fires-all ks (after Inactivity e) (step IsSame IsSame Inactivity inactive e g))
+    fires-all (Inactivity ∷ ks) e g = not-first Inactivity ks (expire_sender policy put ks (after Inactivity e)) (λ f. cc)
+        (fires-all ks (after Inactivity e) (step IsSame IsSame Inactivity inactive e g))
     fires-all (Nak ∷ ks) e g = not-first Nak ks (expire_sender policy put ks (after Nak e)) (λ f. cc) (fires-all ks (after Nak e) (step IsSame IsSame Nak (λ y p. p) e g))
-    fires-all (FinishedAck ∷ ks) e g = not-first FinishedAck ks (expire_sender policy put ks (after FinishedAck e)) (λ f. cc) (fires-all ks (after FinishedAck e) (step IsSame IsSame FinishedAck (λ y p. p) e g))
+    fires-all (FinishedAck ∷ ks) e g = not-first FinishedAck ks (expire_sender policy put ks (after FinishedAck e)) (λ f. cc)
+        (fires-all ks (after FinishedAck e) (step IsSame IsSame FinishedAck (λ y p. p) e g))
 
   -- ---- the course then
   or-false : (b : Bool) → (b || false) ≡ b
@@ -225,7 +228,8 @@ module _ (here there : Limits) (policy : Policy) (put : Put) (a : Exchange) (lim
     abbrev Round : Type 0
     Round = Stands here there put b × ((is_answered a.sender ≡ true → is_answered b.sender ≡ true) × (maybe is_closed a.receiver ≡ true → maybe is_closed b.receiver ≡ true))
 
-    recounted-round : is_answered a.sender ≡ true → (count : ℕ) (told : Bool) → (a.told ≡ true → told ≡ true) → Runs n put (record a { sender = record a.sender { count = count }; told = told }) b → Round
+    recounted-round : is_answered a.sender ≡ true → (count : ℕ) (told : Bool) → (a.told ≡ true → told ≡ true) → Runs n put (record a { sender = record a.sender { count = count }; told = told }) b →
+        Round
     recounted-round answered count told stays runs =
         let e : Exchange = record a { sender = record a.sender { count = count }; told = told } in
         let quiet_sender : sender_due e.sender ≡ None = due-count a.sender count ∙ s.rests.sender in
@@ -297,8 +301,13 @@ module _ (here there : Limits) (policy : Policy) (put : Put) (a : Exchange) (lim
 
         c : CourseIn put true false false false b × ((is_answered b.sender ≡ true) × IsReceiverBelowNow there b.receiver)
         c = elim (cases_Bool (maybe finishes a.receiver)) [
-          | inl finishing ↦ (let k = runs-course n put true true true false e b own.is_sender.size (again-course false told stays (λ f. absurd (false≢true f))) runs in
-              (truth-alone put true true true false b k, (answered false k, finishing-below a.receiver b.receiver refl finishing keeps.receiver (course-delivered put true true false b some k rests refl))))
+          | inl finishing ↦ (let k = runs-course n put true true true false e b own.is_sender.size (again-course false told stays (λ f. absurd (false≢true f))) runs in (
+            truth-alone put true true true false b k,
+            (
+              answered false k,
+              finishing-below a.receiver b.receiver refl finishing keeps.receiver (course-delivered put true true false b some k rests refl),
+            ),
+          ))
           | inr other ↦ (let k = runs-course n put true true true true e b own.is_sender.size (again-course true told stays (λ _. other)) runs in
               (truth-alone put true true true true b k, (answered true k, closed-below there b.receiver (course-completes put true true true b some k rests refl refl).receiver)))
         ]

@@ -237,7 +237,8 @@ module _ (here there : Limits) (policy : Policy) (put : Put) (a : Exchange) (lim
       still-all : (ks : List Kind) (e e1 : Exchange) → Waited ks → Still e → ReceiverExpires policy put ks e e1 → Result ks e1
       unfolding ReceiverExpires
       still-all [] e e1 w g x = inr (subst Still (sym x) g, λ h. elim h [ inl nak ↦ contains-none Nak nak | inr fin ↦ contains-none FinishedAck fin ])
-      still-all (Inactivity ∷ ks) e e1 w g x = not-first ks e1 (still-all ks (after Inactivity x.1.1.0 x.1.1.1.0 x.0 e) e1 (λ k h. w k (contains-later Inactivity k ks h)) (still-step x.1.1.0 x.1.1.1.0 x.0 e x.1.0 g) x.1.1.1.1)
+      still-all (Inactivity ∷ ks) e e1 w g x = not-first ks e1 (still-all ks (after Inactivity x.1.1.0 x.1.1.1.0 x.0 e) e1 (λ k h. w k (contains-later Inactivity k ks h))
+          (still-step x.1.1.0 x.1.1.1.0 x.0 e x.1.0 g) x.1.1.1.1)
       still-all (Nak ∷ ks) e e1 w g x = inl (owing-all ks (after Nak x.1.1.0 x.1.1.1.0 x.0 e) e1 (nak-step x.1.1.0 x.1.1.1.0 x.0 e x.1.0 (w Nak (contains-first Nak ks)) g) x.1.1.1.1)
       still-all (EofAck ∷ ks) e e1 w g x = absurd (never EofAck ks w refl)
       still-all (FinishedAck ∷ ks) e e1 w g x = absurd (never FinishedAck ks w refl)
@@ -278,8 +279,10 @@ module _ (here there : Limits) (policy : Policy) (put : Put) (a : Exchange) (lim
         let runs0 : Runs n put e b = subst (λ m. Runs n put m b) g.is runs in
         let keeps : ExchangeKeeps e b = runs-keep n put e b runs0 in
         let c : CourseIn put true false true true b = runs-course n put true false true true e b own.is_sender.size g.course runs0 in
-        let d : IsCompleteExchange b = course-completes put false true true b (subst (λ n. 1 ≤ n) (sym keeps.sender.segment) own.in_file.some) c rests refl refl in
-        (complete-stands here there put b (truth-alone put true false true true b c) rests d, ((λ _. ap (λ p. is_answered_in p b.sender.acknowledged) d.sender), ((λ _. d.receiver), (λ _. d.receiver))))
+        let d : IsCompleteExchange b = course-completes put false true true b (subst (λ n. 1 ≤ n) (sym keeps.sender.segment) own.in_file.some) c rests refl refl in (
+          complete-stands here there put b (truth-alone put true false true true b c) rests d,
+          ((λ _. ap (λ p. is_answered_in p b.sender.acknowledged) d.sender), ((λ _. d.receiver), (λ _. d.receiver))),
+        )
 
     same-round : ((Contains ks Nak) ⊎ (Contains ks FinishedAck) → ⊥) → Runs n put a b → Whole
     same-round none runs =
@@ -306,7 +309,8 @@ module _ (here there : Limits) (policy : Policy) (put : Put) (a : Exchange) (lim
         let open_ : maybe is_closed a.receiver ≡ false = ap (maybe is_closed) is ∙ ap is_closed_in phase in
         (stands-told here there put e b (rest-runs n put e b stood.rests runs0) stood, (d.0, ((λ h. absurd (both_ways (maybe is_closed a.receiver) open_ h)), λ h. absurd (none h))))
 
-    of-receiver : (r : ReceiverState) (is : a.receiver ≡ Some r) (id : r.addressing.id ≡ put.id) → ((k : Kind) → Contains ks k → waits k r ≡ true) → (e1 : Exchange) → ReceiverExpires policy put ks a e1 → Runs n put e1 b
+    of-receiver : (r : ReceiverState) (is : a.receiver ≡ Some r) (id : r.addressing.id ≡ put.id) → ((k : Kind) → Contains ks k → waits k r ≡ true) → (e1 : Exchange) →
+        ReceiverExpires policy put ks a e1 → Runs n put e1 b
         → (phase : ReceiverPhase) → r.phase ≡ phase → Whole
     of-receiver r is id w e1 x runs receiving.Receiving phase =
         elim (still-all r is id phase ks a e1 w (record {

@@ -173,7 +173,8 @@ module _ (put : Put) (awake acks files ends : Bool) where
     opens-one s =
         let c = with-both None (s.heard ∷ s.rest) s.none s.front in
         let o : OpensWell put a b s = opened-well put a b s c.truth.true_forth.0 in
-        let d = laws.receiver_opens put awake acks files ends a.sender [] s.rest a.back s.heard a.told a.told_there Done Done s.files s.addressing s.own size s.opening c (tells-well put awake (opened-by put a b s).told o.good) in
+        let d = laws.receiver_opens put awake acks files ends a.sender [] s.rest a.back s.heard a.told a.told_there Done Done s.files s.addressing s.own size s.opening c
+        (tells-well put awake (opened-by put a b s).told o.good) in
         subst Course (sym s.is)
         (subst (λ (l : List Indication). IsCourse put awake acks files ends a.sender (Some s.receiver) s.rest a.back a.told (told_with put a.told_there l)) (sym o.told)
         (subst (λ r. IsCourse put awake acks files ends a.sender (Some r) s.rest a.back a.told (told_with put a.told_there (opened-by put a b s).told)) (sym o.receiver) d))

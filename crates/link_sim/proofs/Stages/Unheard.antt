@@ -210,7 +210,8 @@ module _ (put : Put) (a b : Exchange) (c : CourseIn put false false false false 
       let good : one_tells (spoils put.id) h.told ≡ false = ap (λ (d : ReceiverAfter). one_tells (spoils put.id) d.told) (sym is) ∙ (tells-well put false s.after.told (heard-good put a b s t)).good in
       let true_ : IsReceiverTrue put s.receiver = subst (IsMaybeTrue put) s.is_receiver c.truth.receiver in
       ap (λ (d : ReceiverAfter). knows_ending d.receiver) is
-      ∙ advances-unknown put s.heard s.receiver h.receiver h.told (hears-advances put Done s.octets s.files s.receiver true_ s.own s.heard t good) (parts s.rest s.heard s.front).0 (unknown-at s.receiver s.is_receiver)
+      ∙ advances-unknown put s.heard s.receiver h.receiver h.told (hears-advances put Done s.octets s.files s.receiver true_ s.own s.heard t good) (parts s.rest s.heard s.front).0
+      (unknown-at s.receiver s.is_receiver)
 
   opens-unknown : (s : ReceiverOpens put a b) → knows_ending s.receiver ≡ false
   opens-unknown s =
@@ -221,7 +222,8 @@ module _ (put : Put) (a b : Exchange) (c : CourseIn put false false false false 
       let truth : IsTrueBetween put a.sender (Some r) a.forth a.back a.told a.told_there = as-opened put s.addressing a.sender a.forth a.back a.told a.told_there
       (subst (λ o. IsTrueBetween put a.sender o a.forth a.back a.told a.told_there) s.none c.truth) in
       ap knows_ending w.receiver
-      ∙ advances-unknown put s.heard r h.receiver h.told (hears-advances put Done map.empty s.files r truth.receiver s.own s.heard t (tells-well put false h.told w.good).good) (parts s.rest s.heard s.front).0 refl
+      ∙ advances-unknown put s.heard r h.receiver h.told (hears-advances put Done map.empty s.files r truth.receiver s.own s.heard t (tells-well put false h.told w.good).good)
+      (parts s.rest s.heard s.front).0 refl
 
   settles-unheard : Settles put a b → Unheard b
   settles-unheard (inl s) =
@@ -269,7 +271,8 @@ alone put a c = record { truth = c.truth; active = λ f. absurd (false≢true f)
 
 -- A run to rest of where the receiver knows no EOF, or there is none: it is complete, or no EOF is known
 -- still.
-pub first-settle : (n : ℕ) (put : Put) (a b : Exchange) → a.sender.size ≡ length put.octets → 1 ≤ a.sender.segment → IsActiveCourse put a → maybe knows_ending a.receiver ≡ false → Runs n put a b → IsAtRest b
+pub first-settle : (n : ℕ) (put : Put) (a b : Exchange) → a.sender.size ≡ length put.octets → 1 ≤ a.sender.segment → IsActiveCourse put a → maybe knows_ending a.receiver ≡ false → Runs n put a b →
+    IsAtRest b
     → IsCompleteExchange b ⊎ (maybe knows_ending b.receiver ≡ false)
 first-settle n put a b size some c unknown runs rests =
     let keeps : ExchangeKeeps a b = runs-keep n put a b runs in

@@ -19,7 +19,8 @@ same_way d k m u (f, g, r, n) =
 -- room was made, packets were sent, and then frames were made of all whole zones
 pub sent_on : (d e f : LinkSenderState) (k m n : FrameLinkState) (u : LinkReceiverState) (qs texts : List (List ℕ)) → IsCarried d k u → IsSameLink k m →
     SendsMore (one_way d k u) (one_way e k u) qs texts → ((up : LinkReceiverState) → IsOneWay (one_way e m up) → SendsNone (one_way e m up) (one_way f n up)) →
-    e.link ≡ d.link → f.link ≡ e.link → n.len ≡ m.len → (SendsMore (one_way d k u) (one_way f n u) qs texts → IsRested (one_way f n u)) → IsCarried f n u × SendsMore (one_way d k u) (one_way f n u) qs texts
+    e.link ≡ d.link → f.link ≡ e.link → n.len ≡ m.len → (SendsMore (one_way d k u) (one_way f n u) qs texts → IsRested (one_way f n u)) → IsCarried f n u
+    × SendsMore (one_way d k u) (one_way f n u) qs texts
 sent_on d e f k m n u qs texts is same more pulled link link2 len rests =
     let s : SendsMore (one_way d k u) (one_way e m u) qs texts = subst (λ (x : OneWayState). SendsMore (one_way d k u) x qs texts) (sym (same_way e k m u same)) more in
     let p : SendsNone (one_way e m u) (one_way f n u) = pulled u s.way in

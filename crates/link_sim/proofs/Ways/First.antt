@@ -24,7 +24,8 @@ first-sends link capacity =
 first-takes : (link : LinkConfig) → IsUp (first_up link) [] [] 0
 first-takes link = new_is true link [] (first_up link).drops refl tt tt
 
-first-way : (d : LinkSenderState) (u : LinkReceiverState) (k : LinkState) (link : LinkConfig) (capacity : ℕ) → IsLink link → d ≡ first_down link capacity → u ≡ first_up link → k ≡ no_frames → IsOneWay (way d k u)
+first-way : (d : LinkSenderState) (u : LinkReceiverState) (k : LinkState) (link : LinkConfig) (capacity : ℕ) → IsLink link → d ≡ first_down link capacity → u ≡ first_up link → k ≡ no_frames →
+    IsOneWay (way d k u)
 first-way d u k link capacity valid down up none =
     let is : IsOneWay (way d no_frames u) = way_is (way d no_frames u) []
     (new_way d u link capacity valid down (subst (λ x. IsDown x [] 0) (sym down) (first-sends link capacity)) up (subst (λ x. IsUp x [] [] 0) (sym up) (first-takes link))) in

@@ -74,7 +74,8 @@ pieces_grown len count blanks more n o p q is room grown =
     pieces_front len count p o (ap (take k) grown ∙ take-append-le k (take n o) q front ∙ take-take k n o in_new)
 
 -- one was written behind them
-pub pieces_pulled : (len count n : ℕ) (w o r : List ℕ) → length w ≡ n → r ≡ o → take (count * len) w ≡ take (count * len) r → pieces len (count + 1) (take n (w ++ drop (length w) o)) ≡ pieces len count o ++ take len (drop (count * len) w) ∷ []
+pub pieces_pulled : (len count n : ℕ) (w o r : List ℕ) → length w ≡ n → r ≡ o → take (count * len) w ≡ take (count * len) r → pieces len (count + 1) (take n (w ++ drop (length w) o))
+    ≡ pieces len count o ++ take len (drop (count * len) w) ∷ []
 pieces_pulled len count n w o r whole is front =
     let written : take n (w ++ drop (length w) o) ≡ w = subst (λ (k : ℕ). take k (w ++ drop (length w) o) ≡ w) whole (take-append_seam w (drop (length w) o)) in
     ap (pieces len (count + 1)) written ∙ pieces_more len count w

@@ -16,7 +16,8 @@ pub zones-push : (frames : List (List ℕ)) (f : List ℕ) → zones_of (frames 
 zones-push frames f = ap stream (map-append (λ x. drop 8 x) frames (f ∷ [])) ∙ stream-push (map (λ x. drop 8 x) frames) (drop 8 f)
 
 pub pulls : (l : OneWayState) (d : LinkSenderState) (frame : List ℕ) → IsOneWay l →
-    (frame ≡ frame_of l.down.link (packets_sent l) (length l.frames)) × (length l.frames * l.down.link.zone + l.down.link.zone ≤ length (stream (packets_sent l))) × IsDown d (packets_sent l) (length l.frames + 1) → drop 8 frame ≡ take l.down.link.zone l.down.waiting →
+    (frame ≡ frame_of l.down.link (packets_sent l) (length l.frames)) × (length l.frames * l.down.link.zone + l.down.link.zone ≤ length (stream (packets_sent l)))
+    × IsDown d (packets_sent l) (length l.frames + 1) → drop 8 frame ≡ take l.down.link.zone l.down.waiting →
     d.waiting ≡ drop l.down.link.zone l.down.waiting → d.link ≡ l.down.link → SendsNone l (record l { down = d; frames = l.frames ++ frame ∷ [] })
 pulls l d frame is (text, inside, down) cut rest link =
     let ps : List (List ℕ) = packets_sent l in

@@ -162,7 +162,8 @@ heard_front up new ps marks run old out pos r t =
     let m : CompletesMore z marks ps t.added = next_completes z r.read marks ps t.added r.end.packets_whole r.among t.completed in
     let told : count_of new.drops 11 ≡ 0 → ⊥ = λ (e : count_of new.drops 11 ≡ 0). omega (arith, e, t.memory) in
     let first : (rest : List (List ℕ)) × (arrives up ps marks run ≡ pdus_in t.added ++ rest) = first-lands up ps marks run t.added pos r t.completed in
-    let parts : pdus_in t.added ≡ pdus_in (take t.count t.added) ++ pdus_in (drop t.count t.added) = ap pdus_in (sym (take-append-drop t.count t.added)) ∙ pdus-append (take t.count t.added) (drop t.count t.added) in
+    let parts : pdus_in t.added ≡ pdus_in (take t.count t.added) ++ pdus_in (drop t.count t.added) = ap pdus_in (sym (take-append-drop t.count t.added))
+    ∙ pdus-append (take t.count t.added) (drop t.count t.added) in
     let few : IsPartOf (take t.count t.added) m.more = part-part (take t.count t.added) t.added m.more (part-take t.count t.added) m.part in
     record {
       received = record {
@@ -186,7 +187,8 @@ heard_front up new ps marks run old out pos r t =
       memory = λ e. absurd (told e);
     }
 
-pub next_frame : (l : OneWayState) (frame : List ℕ) → (is : IsOneWay l) → length l.marks < length l.frames → frame ≡ get_or l.frames (length l.marks) [] → IsNextFrame l.up.link (packets_sent l) is.received.read frame
+pub next_frame : (l : OneWayState) (frame : List ℕ) → (is : IsOneWay l) → length l.marks < length l.frames → frame ≡ get_or l.frames (length l.marks) [] →
+    IsNextFrame l.up.link (packets_sent l) is.received.read frame
 next_frame l frame is there e =
     let n : ℕ = length l.marks in
     let ps : List (List ℕ) = packets_sent l in

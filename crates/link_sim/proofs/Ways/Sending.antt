@@ -71,7 +71,8 @@ last_of_link link [] q h = h.0
 last_of_link link (p ∷ ps) q h = last_of_link link ps q h.1
 
 -- the receiving half, where one packet more was sent
-received_more : (l : OneWayState) (ps : List (List ℕ)) (q : List ℕ) → IsOneWayOf l ps → IsPacket q → ((is_idle q ≡ true) ⊎ (packet_drop l.down.link q ≡ None)) → IsReceived l.up (ps ++ q ∷ []) l.marks l.run
+received_more : (l : OneWayState) (ps : List (List ℕ)) (q : List ℕ) → IsOneWayOf l ps → IsPacket q → ((is_idle q ≡ true) ⊎ (packet_drop l.down.link q ≡ None)) →
+    IsReceived l.up (ps ++ q ∷ []) l.marks l.run
 received_more l ps q is packet ours =
     let r = is.received in
     let zone : l.up.link.zone ≡ l.down.link.zone = ap (λ x. x.zone) is.same_link in
@@ -106,7 +107,8 @@ sent_more l d ps q is down waits link =
     }
 
 -- so no PDU was delivered
-pub none_delivered : (l : OneWayState) (d : LinkSenderState) (ps : List (List ℕ)) (q : List ℕ) → IsOneWayOf l ps → IsPacket q → packets_sent (record l { down = d }) ≡ ps ++ q ∷ [] → pdus_delivered (record l { down = d }) ≡ pdus_delivered l
+pub none_delivered : (l : OneWayState) (d : LinkSenderState) (ps : List (List ℕ)) (q : List ℕ) → IsOneWayOf l ps → IsPacket q → packets_sent (record l { down = d }) ≡ ps ++ q ∷ [] →
+    pdus_delivered (record l { down = d }) ≡ pdus_delivered l
 none_delivered l d ps q is packet e =
     let zone : l.up.link.zone ≡ l.down.link.zone = ap (λ x. x.zone) is.same_link in
     let room : length l.marks * l.up.link.zone ≤ length (stream ps) = omega (arith, taken_inside l ps is.sent (length l.marks) is.sent.taken, ap (λ z. length l.marks * z) zone) in

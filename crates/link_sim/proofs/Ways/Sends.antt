@@ -35,7 +35,8 @@ one_at_most (x ∷ []) h = inr (x, refl)
 one_at_most (x ∷ y ∷ xs) h = absurd (omega arith)
 
 pub flushes : (l : OneWayState) (d : LinkSenderState) → IsOneWay l → IsDown d (packets_sent l ++ flush_of (packing l.down)) (length l.frames) → (flush_of (packing l.down) ≡ [] → d ≡ l.down) →
-    (length (flush_of (packing l.down)) ≤ 1) × (busy (flush_of (packing l.down)) ≡ []) → d.waiting ≡ l.down.waiting ++ stream (flush_of (packing l.down)) → d.link ≡ l.down.link → SendsMore l (record l { down = d }) (flush_of (packing l.down)) []
+    (length (flush_of (packing l.down)) ≤ 1) × (busy (flush_of (packing l.down)) ≡ []) → d.waiting ≡ l.down.waiting ++ stream (flush_of (packing l.down)) → d.link ≡ l.down.link →
+    SendsMore l (record l { down = d }) (flush_of (packing l.down)) []
 flushes l d is down same (few, idle) waits link =
     let qs : List (List ℕ) = flush_of (packing l.down) in
     let none : qs ≡ [] → SendsMore l (record l { down = d }) qs [] = λ (e : qs ≡ []).
@@ -45,5 +46,6 @@ flushes l d is down same (few, idle) waits link =
     let q : List ℕ = w.0 in
     let e : qs ≡ q ∷ [] = w.1 in
     let waits2 : d.waiting ≡ l.down.waiting ++ q = waits ∙ ap (λ x. l.down.waiting ++ stream x) e ∙ ap (λ x. l.down.waiting ++ x) (append-nil q) in
-    subst (λ x. SendsMore l (record l { down = d }) x []) (sym e) (sends_one l d q [] is (subst (λ x. IsDown d (packets_sent l ++ x) (length l.frames)) e down) waits2 link (ap pdus_in (ap busy (sym e) ∙ idle))) in
+    subst (λ x. SendsMore l (record l { down = d }) x []) (sym e) (sends_one l d q [] is (subst (λ x. IsDown d (packets_sent l ++ x) (length l.frames)) e down) waits2 link
+    (ap pdus_in (ap busy (sym e) ∙ idle))) in
     elim (one_at_most qs few) [ inl e ↦ none e | inr w ↦ some w ]

@@ -52,7 +52,8 @@ use Rattle.link_sim.specs.Work.{heard_work, opening_work, content_work, sender_w
 
 -- ---- sums over records
 module _ (most : ℕ) (st : TableState) (id : TransactionId) where
-  sum-set : (es : List Entry) (n : ℕ) (e : Entry) (s : Seen) → slice_get es n ≡ Some e → sum_by (entry_work most) (written st id es n s) + seen_work most e.1 ≡ sum_by (entry_work most) es + seen_work most s
+  sum-set : (es : List Entry) (n : ℕ) (e : Entry) (s : Seen) → slice_get es n ≡ Some e → sum_by (entry_work most) (written st id es n s) + seen_work most e.1 ≡ sum_by (entry_work most) es
+      + seen_work most s
   sum-set [] n e s at = absurd cc
   sum-set (x ∷ xs) zero e s at =
       let is : x ≡ e = cc in
@@ -137,32 +138,39 @@ turn_says Rests e = None
 
 module _ (most : ℕ) (e : EntityState) where
   -- a record at a place whose work falls
-  place-falls : (stored : Stored) (place n : ℕ) (d : Entry) → slice_get e.table.records place ≡ Some d → seen_work most (takes stored e.table.policy.times e.table.sources e.table.files d.1).seen + n < seen_work most d.1
+  place-falls : (stored : Stored) (place n : ℕ) (d : Entry) → slice_get e.table.records place ≡ Some d → seen_work most (takes stored e.table.policy.times e.table.sources e.table.files d.1).seen + n
+      < seen_work most d.1
       → entity_work most (served stored (Place place) e) + n < entity_work most e
   unfolding entity_work
   place-falls stored place n d at f =
       let st : TableState = e.table in
       let s : Seen = (takes stored st.policy.times st.sources st.files d.1).seen in
       let f1 : Entry → After = λ e. takes stored st.policy.times st.sources st.files e.1 in
-      let sum : sum_by (entry_work most) (written st d.0 st.records place s) + seen_work most d.1 ≡ sum_by (entry_work most) st.records + seen_work most s = sum-set most st d.0 st.records place d s at in
-      let same : sum_by (entry_work most) (taken_at stored place st).records ≡ sum_by (entry_work most) (written st d.0 st.records place s) = ap (λ o. sum_by (entry_work most) (step_of f1 place o st).records) at in
+      let sum : sum_by (entry_work most) (written st d.0 st.records place s) + seen_work most d.1 ≡ sum_by (entry_work most) st.records + seen_work most s =
+      sum-set most st d.0 st.records place d s at in
+      let same : sum_by (entry_work most) (taken_at stored place st).records ≡ sum_by (entry_work most) (written st d.0 st.records place s) =
+      ap (λ o. sum_by (entry_work most) (step_of f1 place o st).records) at in
       omega (arith, sum, same, f)
 
   module _ (put_of : TransactionId → Option Put) (within : AreWithin most e.table.records) (truth : SendsTruth put_of e.table) where
-    place-done : (place : ℕ) (v : Content) (o : Option Entry) → slice_get e.table.records place ≡ o → entry_says e.table.sources o ≡ Some v → entity_work most (served Done (Place place) e) + content_work most v < entity_work most e
+    place-done : (place : ℕ) (v : Content) (o : Option Entry) → slice_get e.table.records place ≡ o → entry_says e.table.sources o ≡ Some v → entity_work most (served Done (Place place) e)
+        + content_work most v < entity_work most e
     place-done place v None at says = absurd cc
     place-done place v (Some d) at says =
         place-falls Done place (content_work most v) d at
-        (done-works most e.table.policy.times e.table.files e.table.sources d.1 v (within-at most e.table.records place d within at) (is-in-file put_of e.table.sources d.0 d.1 (truth.sends place d at)) says)
+        (done-works most e.table.policy.times e.table.files e.table.sources d.1 v (within-at most e.table.records place d within at)
+        (is-in-file put_of e.table.sources d.0 d.1 (truth.sends place d at)) says)
 
-    stray-done : (s : StrayAck) (strays : List StrayAck) (v : Content) → e.strays ≡ s ∷ strays → stray_says s ≡ v → entity_work most (served Done (Stray s strays) e) + content_work most v < entity_work most e
+    stray-done : (s : StrayAck) (strays : List StrayAck) (v : Content) → e.strays ≡ s ∷ strays → stray_says s ≡ v → entity_work most (served Done (Stray s strays) e) + content_work most v
+        < entity_work most e
     unfolding entity_work
     stray-done s strays v is says =
         let more : length e.strays ≡ suc (length strays) = ap length is in
         let one : content_work most v ≡ 1 = sym (ap (content_work most) says) in
         omega (arith, more, one)
 
-    turn-done : (strays : List StrayAck) (o : Option ℕ) (v : Content) → e.strays ≡ strays → turn_says (turn_by strays o) e ≡ Some v → entity_work most (served Done (turn_by strays o) e) + content_work most v < entity_work most e
+    turn-done : (strays : List StrayAck) (o : Option ℕ) (v : Content) → e.strays ≡ strays → turn_says (turn_by strays o) e ≡ Some v → entity_work most (served Done (turn_by strays o) e)
+        + content_work most v < entity_work most e
     turn-done (s ∷ strays) o v is says = stray-done s strays v is (let same : stray_says s ≡ v = cc in same)
     turn-done [] (Some place) v is says = place-done place v (slice_get e.table.records place) refl says
     turn-done [] None v is says = absurd cc
@@ -176,7 +184,8 @@ module _ (most : ℕ) (e : EntityState) where
     due-spelled None a octets h = absurd h
     due-spelled (Some v) a octets h = (v, (refl, text-work most (header_of a false v) v octets h))
 
-    entry-spelled : (place : ℕ) (o : Option Entry) → slice_get e.table.records place ≡ o → SpellsEntry e.table.sources o → (v : Content) × ((turn_says (Place place) e ≡ Some v) × (text_work most (turn_octets (Place place) e) ≡ content_work most v))
+    entry-spelled : (place : ℕ) (o : Option Entry) → slice_get e.table.records place ≡ o → SpellsEntry e.table.sources o → (v : Content)
+        × ((turn_says (Place place) e ≡ Some v) × (text_work most (turn_octets (Place place) e) ≡ content_work most v))
     entry-spelled place None at h = absurd h
     entry-spelled place (Some d) at h =
         let s = due-spelled (due_content e.table.sources d.1) _ _ h in
@@ -195,7 +204,8 @@ module _ (most : ℕ) (e : EntityState) where
         omega (arith, f, same)
 
     -- ---- the outbox fails
-    place-refused : (place : ℕ) (o : Option Entry) → slice_get e.table.records place ≡ o → has_due (get_or e.table.records place (own_id 0 0, resting)) ≡ true → entity_work most (served Refused (Place place) e) < entity_work most e
+    place-refused : (place : ℕ) (o : Option Entry) → slice_get e.table.records place ≡ o → has_due (get_or e.table.records place (own_id 0 0, resting)) ≡ true →
+        entity_work most (served Refused (Place place) e) < entity_work most e
     place-refused place None at some = absurd (none e.table.records place at some)
       where
         none : (es : List Entry) (n : ℕ) → slice_get es n ≡ None → has_due (get_or es n (own_id 0 0, resting)) ≡ true → ⊥
@@ -205,7 +215,8 @@ module _ (most : ℕ) (e : EntityState) where
     place-refused place (Some d) at some =
         let g : entity_work most (served Refused (Place place) e) + 0 < entity_work most e =
         place-falls Refused place 0 d at (let f : seen_work most (takes Refused e.table.policy.times e.table.sources e.table.files d.1).seen < seen_work most d.1 =
-        refused-works most e.table.policy.times e.table.files e.table.sources d.1 (within-at most e.table.records place d within at) (is-in-file put_of e.table.sources d.0 d.1 (truth.sends place d at)) (due e.table.records place at some) in omega (arith, f)) in
+        refused-works most e.table.policy.times e.table.files e.table.sources d.1 (within-at most e.table.records place d within at)
+        (is-in-file put_of e.table.sources d.0 d.1 (truth.sends place d at)) (due e.table.records place at some) in omega (arith, f)) in
         omega (arith, g)
       where
         due : (es : List Entry) (n : ℕ) → slice_get es n ≡ Some d → has_due (get_or es n (own_id 0 0, resting)) ≡ true → has_due d ≡ true
@@ -213,7 +224,8 @@ module _ (most : ℕ) (e : EntityState) where
         due (x ∷ xs) zero at h = let is : x ≡ d = cc in subst (λ (y : Entry). has_due y ≡ true) is h
         due (x ∷ xs) (suc n) at h = due xs n at h
 
-    turn-refused : (strays : List StrayAck) (o : Option ℕ) (place : ℕ) → next_due e.cursor e.table.records ≡ o → turn_by strays o ≡ Place place → entity_work most (served Refused (turn_by strays o) e) < entity_work most e
+    turn-refused : (strays : List StrayAck) (o : Option ℕ) (place : ℕ) → next_due e.cursor e.table.records ≡ o → turn_by strays o ≡ Place place → entity_work most (served Refused (turn_by strays o) e)
+        < entity_work most e
     turn-refused (s ∷ strays) o place next is = absurd cc
     turn-refused [] None place next is = absurd cc
     turn-refused [] (Some p) place next is = place-refused p (slice_get e.table.records p) refl (next-due e.cursor e.table.records p (own_id 0 0, resting) next)
@@ -227,7 +239,8 @@ module _ (most : ℕ) (e : EntityState) where
 abbrev Leaves : ℕ → Content → (old new : Seen) → Type 0
 Leaves most v old new = seen_work most new ≤ seen_work most old + content_work most v
 
-if-sender-works : (most : ℕ) (times : Times) (files : FileMap) (v : Content) (x : SenderState) (o : Option SenderAfter) → x.size ≤ most → sender_after v x ≡ o → Leaves most v (Sends x) (if_sender times files x o).seen
+if-sender-works : (most : ℕ) (times : Times) (files : FileMap) (v : Content) (x : SenderState) (o : Option SenderAfter) → x.size ≤ most → sender_after v x ≡ o →
+    Leaves most v (Sends x) (if_sender times files x o).seen
 if-sender-works most times files v x (Some a) within is =
     let h : sender_work most a.sender + 1 ≤ sender_work most x + content_work most v = sender-hears-works most v x a within is in omega (arith, h)
 if-sender-works most times files v x None within is = omega arith
@@ -241,7 +254,8 @@ if-receiver-works most times files stored v r m None is = omega arith
 hears-works : (most : ℕ) (stored : Stored) (times : Times) (files : FileMap) (v : Content) (s : Seen) → IsSeenWithin most s → Leaves most v s (hears stored times files v s).seen
 hears-works most stored times files v (Sends x) within = if-sender-works most times files v x (sender_after v x) within.size refl
 hears-works most stored times files v (Receives r m) within =
-    let h : seen_work most (hears stored times files v (Receives r m)).seen ≤ receiver_work most r + heard_work most v = if-receiver-works most times files stored v r m (receiver_after stored v m files r) refl in omega (arith, h)
+    let h : seen_work most (hears stored times files v (Receives r m)).seen ≤ receiver_work most r + heard_work most v =
+    if-receiver-works most times files stored v r m (receiver_after stored v m files r) refl in omega (arith, h)
 
 same-works : (most : ℕ) (v : Content) (s t : Seen) → t ≡ s → Leaves most v s t
 same-works most v s t is = let e : seen_work most t ≡ seen_work most s = ap (seen_work most) is in omega (arith, e)
@@ -262,14 +276,16 @@ spoils-works most (Eof condition checksum size tlvs) (Sends x) t within h = same
 spoils-works most (Prompt keep_alive) (Sends x) t within h = same-works most (Prompt keep_alive) (Sends x) t h
 
 -- a PDU opens a record
-begins-works : (most : ℕ) (begun stored : Stored) (times : Times) (files : FileMap) (v : Content) (a : Addressing) → opening_work v ≡ 5 → seen_work most (begins begun stored times files v a).seen ≤ content_work most v
+begins-works : (most : ℕ) (begun stored : Stored) (times : Times) (files : FileMap) (v : Content) (a : Addressing) → opening_work v ≡ 5 → seen_work most (begins begun stored times files v a).seen
+    ≤ content_work most v
 begins-works most Done stored times files v a may =
     let h : seen_work most (begins Done stored times files v a).seen ≤ receiver_work most (opened_receiver a) + heard_work most v =
     if-receiver-works most times files stored v (opened_receiver a) map.empty (receiver_after stored v map.empty files (opened_receiver a)) refl in
     omega (arith, h, may)
 begins-works most Refused stored times files v a may = let h = opens-hearing-works most Refused stored v files a may in omega (arith, h)
 
-opens-works : (most : ℕ) (o : Option ℕ) (begun stored : Stored) (times : Times) (files : FileMap) (v : Content) (a : Addressing) → opening_work v ≡ 5 → seen_work most (opens_by o begun stored times files v a).seen ≤ content_work most v
+opens-works : (most : ℕ) (o : Option ℕ) (begun stored : Stored) (times : Times) (files : FileMap) (v : Content) (a : Addressing) → opening_work v ≡ 5 →
+    seen_work most (opens_by o begun stored times files v a).seen ≤ content_work most v
 opens-works most (Some condition) begun stored times files v a may = let h = opened-closed-works most condition v a may in omega (arith, h)
 opens-works most None begun stored times files v a may = begins-works most begun stored times files v a may
 
@@ -287,13 +303,16 @@ module _ (most : ℕ) (v : Content) where
       by : (o : Option Entry) → slice_get e.table.records place ≡ o → EntityLeaves e (record e { table = heard_at stored place v e.table })
       by None at =
           let f : Entry → After = λ d. hears stored e.table.policy.times e.table.files v d.1 in
-          let same : sum_by (entry_work most) (heard_at stored place v e.table).records ≡ sum_by (entry_work most) e.table.records = ap (λ o. sum_by (entry_work most) (step_of f place o e.table).records) at in
+          let same : sum_by (entry_work most) (heard_at stored place v e.table).records ≡ sum_by (entry_work most) e.table.records =
+          ap (λ o. sum_by (entry_work most) (step_of f place o e.table).records) at in
           omega (arith, same)
       by (Some d) at =
           let f : Entry → After = λ d. hears stored e.table.policy.times e.table.files v d.1 in
           let s : Seen = (hears stored e.table.policy.times e.table.files v d.1).seen in
-          let same : sum_by (entry_work most) (heard_at stored place v e.table).records ≡ sum_by (entry_work most) (written e.table d.0 e.table.records place s) = ap (λ o. sum_by (entry_work most) (step_of f place o e.table).records) at in
-          let sum : sum_by (entry_work most) (written e.table d.0 e.table.records place s) + seen_work most d.1 ≡ sum_by (entry_work most) e.table.records + seen_work most s = sum-set most e.table d.0 e.table.records place d s at in
+          let same : sum_by (entry_work most) (heard_at stored place v e.table).records ≡ sum_by (entry_work most) (written e.table d.0 e.table.records place s) =
+          ap (λ o. sum_by (entry_work most) (step_of f place o e.table).records) at in
+          let sum : sum_by (entry_work most) (written e.table d.0 e.table.records place s) + seen_work most d.1 ≡ sum_by (entry_work most) e.table.records + seen_work most s =
+          sum-set most e.table d.0 e.table.records place d s at in
           let h : seen_work most s ≤ seen_work most d.1 + content_work most v = hears-works most stored e.table.policy.times e.table.files v d.1 (within-at most e.table.records place d within at) in
           omega (arith, same, sum, h)
 
@@ -327,13 +346,17 @@ module _ (most : ℕ) (v : Content) where
   unfolding entity_work
   only-dropped e new d is = subst (EntityLeaves e) (sym is) (omega arith)
 
-  table-spoiled : (place : ℕ) (old new : TableState) → AreWithin most old.records → SpoiledAt place v old new → sum_by (entry_work most) new.records ≤ sum_by (entry_work most) old.records + content_work most v
-  table-spoiled place old new within s = subst (λ (t : TableState). sum_by (entry_work most) t.records ≤ sum_by (entry_work most) old.records + content_work most v) (sym s.table) (by (slice_get old.records place) refl)
+  table-spoiled : (place : ℕ) (old new : TableState) → AreWithin most old.records → SpoiledAt place v old new → sum_by (entry_work most) new.records ≤ sum_by (entry_work most) old.records
+      + content_work most v
+  table-spoiled place old new within s = subst (λ (t : TableState). sum_by (entry_work most) t.records ≤ sum_by (entry_work most) old.records + content_work most v) (sym s.table)
+      (by (slice_get old.records place) refl)
     where
-      by : (o : Option Entry) → slice_get old.records place ≡ o → sum_by (entry_work most) (written old (own_id 0 0) old.records place s.seen) ≤ sum_by (entry_work most) old.records + content_work most v
+      by : (o : Option Entry) → slice_get old.records place ≡ o → sum_by (entry_work most) (written old (own_id 0 0) old.records place s.seen) ≤ sum_by (entry_work most) old.records
+          + content_work most v
       by None at = let same = sum-beyond most old (own_id 0 0) old.records place s.seen at in omega (arith, same)
       by (Some d) at =
-          let sum : sum_by (entry_work most) (written old (own_id 0 0) old.records place s.seen) + seen_work most d.1 ≡ sum_by (entry_work most) old.records + seen_work most s.seen = sum-set most old (own_id 0 0) old.records place d s.seen at in
+          let sum : sum_by (entry_work most) (written old (own_id 0 0) old.records place s.seen) + seen_work most d.1 ≡ sum_by (entry_work most) old.records + seen_work most s.seen =
+          sum-set most old (own_id 0 0) old.records place d s.seen at in
           let h : seen_work most s.seen ≤ seen_work most d.1 + content_work most v = spoils-works most v d.1 s.seen (within-at most old.records place d within at) (s.spoils d at) in
           omega (arith, sum, h)
 
@@ -341,7 +364,8 @@ module _ (most : ℕ) (v : Content) where
   unfolding entity_work
   record-spoiled place old new within f =
       let strays : length new.state.strays ≡ length old.state.strays = ap (λ (e : EntityState). length e.strays) f.counted in
-      let h : sum_by (entry_work most) new.state.table.records ≤ sum_by (entry_work most) old.state.table.records + content_work most v = table-spoiled place old.state.table new.state.table within f.spoiled in
+      let h : sum_by (entry_work most) new.state.table.records ≤ sum_by (entry_work most) old.state.table.records + content_work most v =
+      table-spoiled place old.state.table new.state.table within f.spoiled in
       omega (arith, strays, h)
 
   taken-works : (h : Header) (old new : Counted) → AreWithin most old.state.table.records → Taken h v old new → EntityLeaves old.state new.state
@@ -357,13 +381,16 @@ module _ (most : ℕ) where
   pub work-heard : (pdu : List ℕ) (old new : Counted) → AreWithin most old.state.table.records → HearsOctets pdu old new → entity_work most new.state ≤ entity_work most old.state + text_work most pdu
   work-heard pdu old new within h =
       let same : text_work most pdu ≡ content_work most h.content = text-work most h.header h.content pdu h.spells in
-      let g : entity_work most new.state ≤ entity_work most old.state + content_work most h.content = taken-works most h.content h.header old new within (is-taken h.header old new h.content h.takes) in
+      let g : entity_work most new.state ≤ entity_work most old.state + content_work most h.content =
+      taken-works most h.content h.header old new within (is-taken h.header old new h.content h.takes) in
       omega (arith, same, g)
 
-  pub work-dropped : (fault : Option PduError) (pdu : List ℕ) (by : EntityDrop) (old new : Counted) → AreWithin most old.state.table.records → DropsOctets fault pdu by old new → entity_work most new.state ≤ entity_work most old.state + text_work most pdu
+  pub work-dropped : (fault : Option PduError) (pdu : List ℕ) (by : EntityDrop) (old new : Counted) → AreWithin most old.state.table.records → DropsOctets fault pdu by old new →
+      entity_work most new.state ≤ entity_work most old.state + text_work most pdu
   unfolding entity_work
   work-dropped (Some e) pdu by old new within d =
-      subst (λ (c : Counted). sum_by (entry_work most) c.state.table.records + 2 * length c.state.strays ≤ sum_by (entry_work most) old.state.table.records + 2 * length old.state.strays + text_work most pdu) (sym d.1) (omega arith)
+      subst (λ (c : Counted). sum_by (entry_work most) c.state.table.records + 2 * length c.state.strays ≤ sum_by (entry_work most) old.state.table.records + 2 * length old.state.strays
+      + text_work most pdu) (sym d.1) (omega arith)
   work-dropped None pdu by old new within d =
       let same : text_work most pdu ≡ content_work most d.content = text-work most d.header d.content pdu d.spells in
       let g : entity_work most new.state ≤ entity_work most old.state + content_work most d.content = dropped-works most d.content old new within (is-dropped d.header old new d.content by d.drops) in
@@ -395,7 +422,8 @@ module _ (most : ℕ) where
     one-pdu pdu old new within (inl t) = work-heard pdu old new within t
     one-pdu pdu old new within (inr d) = work-dropped (small_pdu_fault pdu) pdu d.0 old new within d.1
 
-    pub work-hears-all : (given : List (List ℕ)) (old new : Counted) → AreWithin most old.state.table.records → HearsAll given old new → entity_work most new.state ≤ entity_work most old.state + texts_work most given
+    pub work-hears-all : (given : List (List ℕ)) (old new : Counted) → AreWithin most old.state.table.records → HearsAll given old new → entity_work most new.state ≤ entity_work most old.state
+        + texts_work most given
     work-hears-all [] old new within h = let same : entity_work most new.state ≡ entity_work most old.state = ap (λ (c : Counted). entity_work most c.state) h in omega (arith, same)
     work-hears-all (pdu ∷ pdus) old new within h =
         let mid : Counted = h.0 in

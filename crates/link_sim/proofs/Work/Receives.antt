@@ -52,7 +52,8 @@ unfolding nak_due_work
 nak-ends most from = omega (arith, more-times 0 (most - from + 1) (nak_work most + 1) (omega arith))
 
 -- ---- where the last of the pairs of a NAK ends
-ends-further : (passes : ℕ → Bool) (from limit end n : ℕ) (rs : List (ℕ × ℕ)) → (from < end) × (end ≤ limit) → AllRangesIn passes from limit rs → (from < last_end end (take n rs)) × (last_end end (take n rs) ≤ limit)
+ends-further : (passes : ℕ → Bool) (from limit end n : ℕ) (rs : List (ℕ × ℕ)) → (from < end) × (end ≤ limit) → AllRangesIn passes from limit rs → (from < last_end end (take n rs))
+    × (last_end end (take n rs) ≤ limit)
 ends-further passes from limit end zero rs b h = b
 ends-further passes from limit end (suc n) [] b h = b
 ends-further passes from limit end (suc n) (r ∷ rs) b h =
@@ -61,7 +62,8 @@ ends-further passes from limit end (suc n) (r ∷ rs) b h =
     let high : r.1 ≤ limit = h.0.high in
     ends-further passes from limit r.1 n rs (omega arith, high) h.1
 
-ends-in : (passes : ℕ → Bool) (from limit end n : ℕ) (rs : List (ℕ × ℕ)) → 0 < n → 0 < length rs → AllRangesIn passes from limit rs → (from < last_end end (take n rs)) × (last_end end (take n rs) ≤ limit)
+ends-in : (passes : ℕ → Bool) (from limit end n : ℕ) (rs : List (ℕ × ℕ)) → 0 < n → 0 < length rs → AllRangesIn passes from limit rs → (from < last_end end (take n rs))
+    × (last_end end (take n rs) ≤ limit)
 ends-in passes from limit end zero rs some more h = absurd (omega arith)
 ends-in passes from limit end (suc n) [] some more h = absurd (omega arith)
 ends-in passes from limit end (suc n) (r ∷ rs) some more h =
@@ -97,7 +99,8 @@ module _ (r : ReceiverState) (from : ℕ) where
       let high : last_end 0 (take 32 here) ≤ from + (scope_limit r - from) = b.1 in
       (low, omega arith))
 
-limit-by-within : (most : ℕ) (ending : Option Ending) (held : Offsets) → ((n : ℕ) → set.contains held n ≡ true → n < most) → ((e : Ending) → ending ≡ Some e → e.size ≤ most) → limit_by ending held ≤ most
+limit-by-within : (most : ℕ) (ending : Option Ending) (held : Offsets) → ((n : ℕ) → set.contains held n ≡ true → n < most) → ((e : Ending) → ending ≡ Some e → e.size ≤ most) → limit_by ending held
+    ≤ most
 limit-by-within most (Some ending) held h e = e ending refl
 limit-by-within most None held h e = end-within held most h
 
@@ -117,7 +120,8 @@ abbrev FallsIf : ℕ → ReceiverState → Due → Option Due → Type 0
 FallsIf most r d o = o ≡ Some d → ReceiverFalls most r d
 
 module _ (most : ℕ) (r : ReceiverState) where
-  cursor-falls : (from : ℕ) (pairs : List (ℕ × ℕ)) → (has_more pairs ≡ true → (from < last_end 0 (asked pairs)) × (last_end 0 (asked pairs) ≤ most)) → cursor_work most (next_cursor pairs) + nak_work most < nak_due_work most from
+  cursor-falls : (from : ℕ) (pairs : List (ℕ × ℕ)) → (has_more pairs ≡ true → (from < last_end 0 (asked pairs)) × (last_end 0 (asked pairs) ≤ most)) → cursor_work most (next_cursor pairs)
+      + nak_work most < nak_due_work most from
   cursor-falls from pairs moves =
       cond_both (has_more pairs) (Some (last_end 0 (asked pairs))) None (λ o. cursor_work most o + nak_work most < nak_due_work most from)
       (λ more. let b = moves more in nak-moves most from (last_end 0 (asked pairs)) b.0 b.1)
@@ -184,7 +188,8 @@ receiving_mono Closed a b waits h = omega arith
 tidied-works : (most : ℕ) (r : ReceiverState) → receiver_work most (tidied r) ≤ receiver_work most r
 tidied-works most r =
     let less : cursor_work most (cursor_by r.nak_cursor r) ≤ cursor_work most r.nak_cursor = cursor_by-works most r.nak_cursor r in
-    let h : receiving_work r.phase (cursor_work most (cursor_by r.nak_cursor r) + (if r.keep_alive_due then 2 else 0)) r.finished_due ≤ receiving_work r.phase (cursor_work most r.nak_cursor + (if r.keep_alive_due then 2 else 0)) r.finished_due =
+    let h : receiving_work r.phase (cursor_work most (cursor_by r.nak_cursor r) + (if r.keep_alive_due then 2 else 0)) r.finished_due
+    ≤ receiving_work r.phase (cursor_work most r.nak_cursor + (if r.keep_alive_due then 2 else 0)) r.finished_due =
     receiving_mono r.phase _ _ r.finished_due (omega (arith, less)) in
     omega (arith, h)
 
@@ -197,7 +202,8 @@ receives Finishing h = cc
 receives Closed h = cc
 
 -- a step that is taken while it receives, and another one else
-by-phase : (most n : ℕ) (r : ReceiverState) (a b : ReceiverAfter) → (r.phase ≡ Receiving → LeavesWithin most n a) → LeavesWithin most n b → LeavesWithin most n (heard (if is_receiving r.phase then a else b))
+by-phase : (most n : ℕ) (r : ReceiverState) (a b : ReceiverAfter) → (r.phase ≡ Receiving → LeavesWithin most n a) → LeavesWithin most n b →
+    LeavesWithin most n (heard (if is_receiving r.phase then a else b))
 by-phase most n r a b h g = heard-works most n (if is_receiving r.phase then a else b)
     (cond_both (is_receiving r.phase) a b (LeavesWithin most n) (λ is. h (receives r.phase is)) (λ _. g))
 
@@ -209,9 +215,11 @@ module _ (most : ℕ) (files : FileMap) where
   published_by-works Done info ending m r = omega arith
   published_by-works Refused info ending m r = omega arith
 
-  completed_by-works : (stored : Stored) (info : Option FileInfo) (ending : Option Ending) (m : OctetMap) (r : ReceiverState) → r.phase ≡ Receiving → LeavesWithin most (open_work most r) (completed_by stored info ending m files r)
+  completed_by-works : (stored : Stored) (info : Option FileInfo) (ending : Option Ending) (m : OctetMap) (r : ReceiverState) → r.phase ≡ Receiving →
+      LeavesWithin most (open_work most r) (completed_by stored info ending m files r)
   completed_by-works stored (Some info) (Some ending) m r is =
-      cond_both (set.is_subset (range 0 ending.size) r.held) (if agrees info ending r.checksum then published_by stored info ending m files r else faulted file_checksum_failure m files r) (leaving m files r) (LeavesWithin most (open_work most r))
+      cond_both (set.is_subset (range 0 ending.size) r.held) (if agrees info ending r.checksum then published_by stored info ending m files r else faulted file_checksum_failure m files r)
+      (leaving m files r) (LeavesWithin most (open_work most r))
       (λ _. cond_both (agrees info ending r.checksum) (published_by stored info ending m files r) (faulted file_checksum_failure m files r) (LeavesWithin most (open_work most r))
       (λ _. published_by-works stored info ending m r)
       (λ _. omega arith))
@@ -219,19 +227,23 @@ module _ (most : ℕ) (files : FileMap) where
   completed_by-works stored (Some info) None m r is = quiet-works m r is
   completed_by-works stored None ending m r is = quiet-works m r is
 
-  metadata-works : (stored : Stored) (kind size : ℕ) (source destination : List ℕ) (m : OctetMap) (r : ReceiverState) → r.phase ≡ Receiving → LeavesWithin most (open_work most r) (receives_metadata stored kind size source destination m files r)
+  metadata-works : (stored : Stored) (kind size : ℕ) (source destination : List ℕ) (m : OctetMap) (r : ReceiverState) → r.phase ≡ Receiving →
+      LeavesWithin most (open_work most r) (receives_metadata stored kind size source destination m files r)
   metadata-works stored kind size source destination m r is =
       let r1 : ReceiverState = record r { metadata = Some (record { checksum_kind = kind; destination = destination }); nak_count = 0 } in
-      cond_both (is_some r.metadata) (leaving m files r) (telling (indication.MetadataRecv r.addressing.id source destination size ∷ []) (if is_supported kind then completed stored m files r1 else faulted unsupported_checksum_type m files r1)) (LeavesWithin most (open_work most r))
+      cond_both (is_some r.metadata) (leaving m files r) (telling (indication.MetadataRecv r.addressing.id source destination size ∷ [])
+      (if is_supported kind then completed stored m files r1 else faulted unsupported_checksum_type m files r1)) (LeavesWithin most (open_work most r))
       (λ _. quiet-works m r is)
       (λ _. cond_both (is_supported kind) (completed stored m files r1) (faulted unsupported_checksum_type m files r1) (LeavesWithin most (open_work most r))
       (λ _. completed_by-works stored r1.metadata r1.ending m r1 is) (λ _. omega arith))
 
-  new-works : (stored : Stored) (offset : ℕ) (bytes : List ℕ) (m : OctetMap) (r : ReceiverState) → r.phase ≡ Receiving → LeavesWithin most (open_work most r) (receives_new stored offset bytes m files r)
+  new-works : (stored : Stored) (offset : ℕ) (bytes : List ℕ) (m : OctetMap) (r : ReceiverState) → r.phase ≡ Receiving →
+      LeavesWithin most (open_work most r) (receives_new stored offset bytes m files r)
   new-works Done offset bytes m r is = completed_by-works Done r.metadata r.ending (staged_with m (new_pieces r.held offset bytes)) (with_data offset bytes r) is
   new-works Refused offset bytes m r is = omega arith
 
-  data-works : (stored : Stored) (offset : ℕ) (bytes : List ℕ) (m : OctetMap) (r : ReceiverState) → r.phase ≡ Receiving → LeavesWithin most (open_work most r) (receives_data stored offset bytes m files r)
+  data-works : (stored : Stored) (offset : ℕ) (bytes : List ℕ) (m : OctetMap) (r : ReceiverState) → r.phase ≡ Receiving →
+      LeavesWithin most (open_work most r) (receives_data stored offset bytes m files r)
   data-works stored offset bytes m r is =
       cond_both (exceeds r.ending (offset + length bytes)) (faulted file_size_error m files r)
       (if set.is_subset (range offset (offset + length bytes)) r.held then completed stored m files r else receives_new stored offset bytes m files r) (LeavesWithin most (open_work most r))
@@ -240,22 +252,27 @@ module _ (most : ℕ) (files : FileMap) where
       (λ _. completed_by-works stored r.metadata r.ending m r is)
       (λ _. new-works stored offset bytes m r is))
 
-  first_eof-works : (stored : Stored) (checksum size : ℕ) (m : OctetMap) (r : ReceiverState) → r.phase ≡ Receiving → LeavesWithin most (open_work most r + nak_due_work most 0 + 2) (first_eof stored checksum size m files r)
+  first_eof-works : (stored : Stored) (checksum size : ℕ) (m : OctetMap) (r : ReceiverState) → r.phase ≡ Receiving →
+      LeavesWithin most (open_work most r + nak_due_work most 0 + 2) (first_eof stored checksum size m files r)
   first_eof-works stored checksum size m r is =
       let r1 : ReceiverState = record r { ending = Some (record { checksum = checksum; size = size }); ack_due = Some no_error; nak_cursor = Some 0 } in
       cond_both (contradicts size r) (faulted file_size_error m files r1) (completed stored m files r1) (LeavesWithin most (open_work most r + nak_due_work most 0 + 2))
       (λ _. omega arith) (λ _. let h : LeavesWithin most (open_work most r1) (completed stored m files r1) = completed_by-works stored r1.metadata r1.ending m r1 is in omega (arith, h))
 
-  eof-works : (stored : Stored) (condition checksum size : ℕ) (m : OctetMap) (r : ReceiverState) → r.phase ≡ Receiving → LeavesWithin most (open_work most r + nak_due_work most 0 + 2) (receives_eof stored condition checksum size m files r)
+  eof-works : (stored : Stored) (condition checksum size : ℕ) (m : OctetMap) (r : ReceiverState) → r.phase ≡ Receiving →
+      LeavesWithin most (open_work most r + nak_due_work most 0 + 2) (receives_eof stored condition checksum size m files r)
   eof-works stored condition checksum size m r is =
       cond_both (not (condition == no_error)) (cancelled_by condition m files r)
-      (if is_none r.ending then first_eof stored checksum size m files r else leaving m files (record r { ack_due = Some no_error; nak_cursor = Some 0 })) (LeavesWithin most (open_work most r + nak_due_work most 0 + 2))
+      (if is_none r.ending then first_eof stored checksum size m files r else leaving m files (record r { ack_due = Some no_error; nak_cursor = Some 0 }))
+      (LeavesWithin most (open_work most r + nak_due_work most 0 + 2))
       (λ _. omega arith)
-      (λ _. cond_both (is_none r.ending) (first_eof stored checksum size m files r) (leaving m files (record r { ack_due = Some no_error; nak_cursor = Some 0 })) (LeavesWithin most (open_work most r + nak_due_work most 0 + 2))
+      (λ _. cond_both (is_none r.ending) (first_eof stored checksum size m files r) (leaving m files (record r { ack_due = Some no_error; nak_cursor = Some 0 }))
+      (LeavesWithin most (open_work most r + nak_due_work most 0 + 2))
       (λ _. first_eof-works stored checksum size m r is)
       (λ _. rw is (omega arith)))
 
-  prompt-works : (keep_alive : Bool) (m : OctetMap) (r : ReceiverState) → r.phase ≡ Receiving → LeavesWithin most (open_work most r + nak_due_work most 0 + 2) (leaving m files (prompted_for keep_alive r))
+  prompt-works : (keep_alive : Bool) (m : OctetMap) (r : ReceiverState) → r.phase ≡ Receiving →
+      LeavesWithin most (open_work most r + nak_due_work most 0 + 2) (leaving m files (prompted_for keep_alive r))
   prompt-works true m r is = rw is (omega arith)
   prompt-works false m r is = rw is (omega arith)
 
@@ -282,7 +299,8 @@ receiver-hears-works most stored (Eof condition checksum size tlvs) m files r =
 receiver-hears-works most stored (Ack acknowledged.Finished condition status) m files r =
     let g : LeavesWithin most (receiver_work most r) (leaving m files (acknowledged_by r)) =
     cond_both (is_finishing r.phase && r.finished_taken) (closed r) r (λ (r1 : ReceiverState). receiver_work most r1 ≤ receiver_work most r) (λ _. omega arith) (λ _. omega arith) in
-    let h : LeavesWithin most (receiver_work most r) (receiver_hears stored (Ack acknowledged.Finished condition status) m files r) = heard-works most (receiver_work most r) (leaving m files (acknowledged_by r)) g in
+    let h : LeavesWithin most (receiver_work most r) (receiver_hears stored (Ack acknowledged.Finished condition status) m files r) =
+    heard-works most (receiver_work most r) (leaving m files (acknowledged_by r)) g in
     omega (arith, h)
 receiver-hears-works most stored (Prompt keep_alive) m files r =
     let g : LeavesWithin most (receiver_work most r + nak_due_work most 0 + 2) (leaving m files (if is_receiving r.phase then prompted_for keep_alive r else r)) =
@@ -297,7 +315,8 @@ receiver-hears-works most stored (Nak start end pairs) m files r = omega arith
 receiver-hears-works most stored (KeepAlive progress) m files r = omega arith
 
 -- the step of an entity's record is that of the machine
-pub after-is : (stored : Stored) (v : Content) (m : OctetMap) (files : FileMap) (r : ReceiverState) (a : ReceiverAfter) → receiver_after stored v m files r ≡ Some a → a ≡ receiver_hears stored v m files r
+pub after-is : (stored : Stored) (v : Content) (m : OctetMap) (files : FileMap) (r : ReceiverState) (a : ReceiverAfter) → receiver_after stored v m files r ≡ Some a → a
+    ≡ receiver_hears stored v m files r
 after-is stored (Metadata kind size source destination options) m files r a e = cc
 after-is stored (FileData offset bytes) m files r a e = cc
 after-is stored (Eof condition checksum size tlvs) m files r a e = cc
@@ -308,7 +327,8 @@ after-is stored (Finished condition delivery status tlvs) m files r a e = absurd
 after-is stored (Nak start end pairs) m files r a e = absurd cc
 after-is stored (KeepAlive progress) m files r a e = absurd cc
 
-pub receiver-after-works : (most : ℕ) (stored : Stored) (v : Content) (m : OctetMap) (files : FileMap) (r : ReceiverState) (a : ReceiverAfter) → receiver_after stored v m files r ≡ Some a → Lowers most v r a
+pub receiver-after-works : (most : ℕ) (stored : Stored) (v : Content) (m : OctetMap) (files : FileMap) (r : ReceiverState) (a : ReceiverAfter) → receiver_after stored v m files r ≡ Some a →
+    Lowers most v r a
 receiver-after-works most stored v m files r a e = subst (Lowers most v r) (sym (after-is stored v m files r a e)) (receiver-hears-works most stored v m files r)
 
 -- ---- opening
@@ -323,9 +343,11 @@ heard-some most (Prompt keep_alive) = omega arith
 heard-some most (KeepAlive progress) = omega arith
 
 -- a PDU that opens a receiver counted it
-pub opens-hearing-works : (most : ℕ) (begun stored : Stored) (v : Content) (files : FileMap) (addressing : Addressing) → opening_work v ≡ 5 → receiver_work most (opens_hearing begun stored v files addressing).receiver + 1 ≤ content_work most v
+pub opens-hearing-works : (most : ℕ) (begun stored : Stored) (v : Content) (files : FileMap) (addressing : Addressing) → opening_work v ≡ 5 →
+    receiver_work most (opens_hearing begun stored v files addressing).receiver + 1 ≤ content_work most v
 opens-hearing-works most Done stored v files addressing may =
-    let h : Lowers most v (opened_receiver addressing) (receiver_hears stored v map.empty files (opened_receiver addressing)) = receiver-hears-works most stored v map.empty files (opened_receiver addressing) in
+    let h : Lowers most v (opened_receiver addressing) (receiver_hears stored v map.empty files (opened_receiver addressing)) =
+    receiver-hears-works most stored v map.empty files (opened_receiver addressing) in
     omega (arith, h, may)
 opens-hearing-works most Refused stored v files addressing may = omega (arith, heard-some most v, may)
 

@@ -98,7 +98,8 @@ module _ (h : Header) (old new : Counted) where
     place-taken (Some place) t = Steps place t
     place-taken None t = new-taken v t
 
-    named-taken : (b : Bool) → direction_fits h v ≡ true → is_for old.state.config.entity old.state.config.peer h ≡ true → names_no_file v ≡ b → Takes (route h v old.state) h v old new → Taken h v old new
+    named-taken : (b : Bool) → direction_fits h v ≡ true → is_for old.state.config.entity old.state.config.peer h ≡ true → names_no_file v ≡ b → Takes (route h v old.state) h v old new →
+        Taken h v old new
     named-taken true fits for_us is t =
         let f : Takes (route h v old.state) h v old new → ⊥ = rw (fits, for_us, is) (λ o. o) in
         absurd (f t)
@@ -126,7 +127,8 @@ module _ (h : Header) (old new : Counted) where
       place-dropped (Some place) t = Spoils place t.1
       place-dropped None t = new-dropped v by t
 
-      named-dropped : (b : Bool) → direction_fits h v ≡ true → is_for old.state.config.entity old.state.config.peer h ≡ true → names_no_file v ≡ b → DropsBy (route h v old.state) by v old new → Dropped v old new
+      named-dropped : (b : Bool) → direction_fits h v ≡ true → is_for old.state.config.entity old.state.config.peer h ≡ true → names_no_file v ≡ b → DropsBy (route h v old.state) by v old new →
+          Dropped v old new
       named-dropped true fits for_us is t =
           let f : DropsBy (route h v old.state) by v old new → (new.state ≡ dropped drops.NoFile old.state) = rw (fits, for_us, is) (λ o. ap (λ (c : Counted). c.state) o.1) in
           Counts drops.NoFile (f t)

@@ -43,11 +43,17 @@ unfolding count_below
 count-subset s t zero h = omega arith
 count-subset s t (suc n) h = omega (arith, count-subset s t n h, fewer (set.contains s n) (set.contains t n) (h n))
 
-count-less : (s t : Offsets) (n k : ℕ) → ((j : ℕ) → set.contains t j ≡ true → set.contains s j ≡ true) → k < n → set.contains s k ≡ true → set.contains t k ≡ false → count_below t n + 1 ≤ count_below s n
+count-less : (s t : Offsets) (n k : ℕ) → ((j : ℕ) → set.contains t j ≡ true → set.contains s j ≡ true) → k < n → set.contains s k ≡ true → set.contains t k ≡ false → count_below t n + 1
+    ≤ count_below s n
 unfolding count_below
 count-less s t zero k h l in_s out = absurd (omega arith)
 count-less s t (suc n) k h l in_s out = elim (cases k n l) [
-  | inl here ↦ omega (arith, count-subset s t n h, ap {B = ℕ} (λ b. if b then 1 else 0) (ap (set.contains s) (sym here) ∙ in_s), ap {B = ℕ} (λ b. if b then 1 else 0) (ap (set.contains t) (sym here) ∙ out))
+  | inl here ↦ omega (
+    arith,
+    count-subset s t n h,
+    ap {B = ℕ} (λ b. if b then 1 else 0) (ap (set.contains s) (sym here) ∙ in_s),
+    ap {B = ℕ} (λ b. if b then 1 else 0) (ap (set.contains t) (sym here) ∙ out),
+  )
   | inr below ↦ omega (arith, count-less s t n k h below in_s out, fewer (set.contains s n) (set.contains t n) (h n))
 ]
   where
@@ -206,7 +212,8 @@ asks-works most x x1 within sends a =
     rw (sends, sends1, a.sent, a.prompt_due, a.eof_due, a.eof_taken, a.ack_due) (omega (arith, flag x1.metadata_due, count, small, a.size, ap (λ n. x.size - n) a.sent))
 
 -- pairs of a NAK, all or some of them
-pub nak-works : (most : ℕ) (phase : SenderPhase) (pairs : List (ℕ × ℕ)) (x : SenderState) → x.size ≤ most → x.phase ≡ phase → sender_work most (asks_in phase pairs x) ≤ sender_work most x + 7 * most + 7
+pub nak-works : (most : ℕ) (phase : SenderPhase) (pairs : List (ℕ × ℕ)) (x : SenderState) → x.size ≤ most → x.phase ≡ phase → sender_work most (asks_in phase pairs x) ≤ sender_work most x + 7 * most
+    + 7
 nak-works most Sending pairs x within is = asks-works most x (asks_all pairs x) within is (all-ask pairs x)
 nak-works most Cancelling pairs x within is = omega arith
 nak-works most Closed pairs x within is = omega arith
@@ -232,9 +239,13 @@ finished-works most x outcome = omega arith
 abbrev Leaves : ℕ → Content → SenderState → SenderAfter → Type 0
 Leaves most v x a = sender_work most a.sender + 1 ≤ sender_work most x + content_work most v
 
-pub sender-hears-works : (most : ℕ) (v : Content) (x : SenderState) (a : SenderAfter) → x.size ≤ most → sender_after v x ≡ Some a → sender_work most a.sender + 1 ≤ sender_work most x + content_work most v
-sender-hears-works most (Ack acknowledged.Eof condition status) x a within e = subst (Leaves most (Ack acknowledged.Eof condition status) x) (sym (some_is _ a e)) (omega (arith, ack-works most x.phase condition x refl))
-sender-hears-works most (Finished condition delivery status tlvs) x a within e = subst (Leaves most (Finished condition delivery status tlvs) x) (sym (some_is _ a e)) (omega (arith, finished-works most x (record { condition = condition; delivery = delivery; status = status })))
+pub sender-hears-works : (most : ℕ) (v : Content) (x : SenderState) (a : SenderAfter) → x.size ≤ most → sender_after v x ≡ Some a → sender_work most a.sender + 1 ≤ sender_work most x
+    + content_work most v
+sender-hears-works most (Ack acknowledged.Eof condition status) x a within e =
+    subst (Leaves most (Ack acknowledged.Eof condition status) x) (sym (some_is _ a e)) (omega (arith, ack-works most x.phase condition x refl))
+sender-hears-works most (Finished condition delivery status tlvs) x a within e =
+    subst (Leaves most (Finished condition delivery status tlvs) x) (sym (some_is _ a e))
+    (omega (arith, finished-works most x (record { condition = condition; delivery = delivery; status = status })))
 sender-hears-works most (Nak start end pairs) x a within e = subst (Leaves most (Nak start end pairs) x) (sym (some_is _ a e)) (omega (arith, nak-works most x.phase pairs x within refl))
 sender-hears-works most (KeepAlive progress) x a within e = subst (Leaves most (KeepAlive progress) x) (sym (some_is _ a e)) (omega arith)
 sender-hears-works most (Ack acknowledged.Finished condition status) x a within e = absurd cc

@@ -117,9 +117,11 @@ module _ (most : ℕ) where
   published_by-within Done info ending m files r = ends-within complete r
   published_by-within Refused info ending m files r = ends-within (failed filestore_rejection) r
 
-  completed_by-within : (stored : Stored) (info : Option FileInfo) (ending : Option Ending) (m : OctetMap) (files : FileMap) (r : ReceiverState) → IsReceiverWithin most r → Within most (completed_by stored info ending m files r)
+  completed_by-within : (stored : Stored) (info : Option FileInfo) (ending : Option Ending) (m : OctetMap) (files : FileMap) (r : ReceiverState) → IsReceiverWithin most r →
+      Within most (completed_by stored info ending m files r)
   completed_by-within stored (Some info) (Some ending) m files r w =
-      cond_both (set.is_subset (range 0 ending.size) r.held) (if agrees info ending r.checksum then published_by stored info ending m files r else faulted file_checksum_failure m files r) (leaving m files r) (Within most)
+      cond_both (set.is_subset (range 0 ending.size) r.held) (if agrees info ending r.checksum then published_by stored info ending m files r else faulted file_checksum_failure m files r)
+      (leaving m files r) (Within most)
       (λ _. cond_both (agrees info ending r.checksum) (published_by stored info ending m files r) (faulted file_checksum_failure m files r) (Within most)
       (λ _. published_by-within stored info ending m files r)
       (λ _. ends-within (failed file_checksum_failure) r))
@@ -127,11 +129,13 @@ module _ (most : ℕ) where
   completed_by-within stored (Some info) None m files r w = w
   completed_by-within stored None ending m files r w = w
 
-  metadata-within : (stored : Stored) (kind size : ℕ) (source destination : List ℕ) (m : OctetMap) (files : FileMap) (r : ReceiverState) → IsReceiverWithin most r → Within most (receives_metadata stored kind size source destination m files r)
+  metadata-within : (stored : Stored) (kind size : ℕ) (source destination : List ℕ) (m : OctetMap) (files : FileMap) (r : ReceiverState) → IsReceiverWithin most r →
+      Within most (receives_metadata stored kind size source destination m files r)
   metadata-within stored kind size source destination m files r w =
       let r1 : ReceiverState = record r { metadata = Some (record { checksum_kind = kind; destination = destination }); nak_count = 0 } in
       let w1 : IsReceiverWithin most r1 = record { held = w.held; ending = w.ending } in
-      cond_both (is_some r.metadata) (leaving m files r) (telling (indication.MetadataRecv r.addressing.id source destination size ∷ []) (if is_supported kind then completed stored m files r1 else faulted unsupported_checksum_type m files r1)) (Within most)
+      cond_both (is_some r.metadata) (leaving m files r) (telling (indication.MetadataRecv r.addressing.id source destination size ∷ [])
+      (if is_supported kind then completed stored m files r1 else faulted unsupported_checksum_type m files r1)) (Within most)
       (λ _. w)
       (λ _. cond_both (is_supported kind) (completed stored m files r1) (faulted unsupported_checksum_type m files r1) (Within most)
       (λ _. completed_by-within stored r1.metadata r1.ending m files r1 w1) (λ _. ends-within (failed unsupported_checksum_type) r1))
@@ -153,12 +157,15 @@ module _ (most : ℕ) where
       | inr new ↦ let b : n < end = ltb-true n end (and_parts (nat_le offset n) (nat_lt n end) (sym (contains-range offset end n) ∙ new)).1 in omega arith
     ]
 
-    new-within : (stored : Stored) (offset : ℕ) (bytes : List ℕ) (m : OctetMap) (files : FileMap) (r : ReceiverState) → IsReceiverWithin most r → offset + length bytes ≤ most → Within most (receives_new stored offset bytes m files r)
+    new-within : (stored : Stored) (offset : ℕ) (bytes : List ℕ) (m : OctetMap) (files : FileMap) (r : ReceiverState) → IsReceiverWithin most r → offset + length bytes ≤ most →
+        Within most (receives_new stored offset bytes m files r)
     new-within Done offset bytes m files r w small =
-        completed_by-within Done r.metadata r.ending (staged_with m (new_pieces r.held offset bytes)) files (with_data offset bytes r) (record { held = more-held r offset (offset + length bytes) w small; ending = w.ending })
+        completed_by-within Done r.metadata r.ending (staged_with m (new_pieces r.held offset bytes)) files (with_data offset bytes r)
+        (record { held = more-held r offset (offset + length bytes) w small; ending = w.ending })
     new-within Refused offset bytes m files r w small = ends-within (failed filestore_rejection) r
 
-    data-within : (stored : Stored) (offset : ℕ) (bytes : List ℕ) (m : OctetMap) (files : FileMap) (r : ReceiverState) → IsReceiverWithin most r → Within most (receives_data stored offset bytes m files r)
+    data-within : (stored : Stored) (offset : ℕ) (bytes : List ℕ) (m : OctetMap) (files : FileMap) (r : ReceiverState) → IsReceiverWithin most r →
+        Within most (receives_data stored offset bytes m files r)
     data-within stored offset bytes m files r w =
         cond_both (exceeds r.ending (offset + length bytes)) (faulted file_size_error m files r)
         (if set.is_subset (range offset (offset + length bytes)) r.held then completed stored m files r else receives_new stored offset bytes m files r) (Within most)
@@ -167,7 +174,8 @@ module _ (most : ℕ) where
         (λ _. completed_by-within stored r.metadata r.ending m files r w)
         (λ _. new-within stored offset bytes m files r w (exceeds-limit r.ending (offset + length bytes) small)))
 
-    eof-within : (stored : Stored) (condition checksum size : ℕ) (m : OctetMap) (files : FileMap) (r : ReceiverState) → IsReceiverWithin most r → Within most (receives_eof stored condition checksum size m files r)
+    eof-within : (stored : Stored) (condition checksum size : ℕ) (m : OctetMap) (files : FileMap) (r : ReceiverState) → IsReceiverWithin most r →
+        Within most (receives_eof stored condition checksum size m files r)
     eof-within stored condition checksum size m files r w =
         let r1 : ReceiverState = record r { ending = Some (record { checksum = checksum; size = size }); ack_due = Some no_error; nak_cursor = Some 0 } in
         let r2 : ReceiverState = record r { ack_due = Some no_error; nak_cursor = Some 0 } in
@@ -187,11 +195,13 @@ module _ (most : ℕ) where
         by-phase r (receives_metadata stored kind size source destination m files r) (leaving m files r) (metadata-within stored kind size source destination m files r w) w
     receiver-hears-within stored (FileData offset bytes) m files r w = by-phase r (receives_data stored offset bytes m files r) (leaving m files r) (data-within stored offset bytes m files r w) w
     receiver-hears-within stored (Eof condition checksum size tlvs) m files r w =
-        by-phase r (receives_eof stored condition checksum size m files r) (leaving m files (record r { ack_due = Some condition })) (eof-within stored condition checksum size m files r w) (record { held = w.held; ending = w.ending })
+        by-phase r (receives_eof stored condition checksum size m files r) (leaving m files (record r { ack_due = Some condition })) (eof-within stored condition checksum size m files r w)
+        (record { held = w.held; ending = w.ending })
     receiver-hears-within stored (Ack acknowledged.Finished condition status) m files r w =
         heard-within (leaving m files (acknowledged_by r)) (cond_both (is_finishing r.phase && r.finished_taken) (closed r) r (IsReceiverWithin most) (λ _. closed-within r) (λ _. w))
     receiver-hears-within stored (Prompt keep_alive) m files r w =
-        heard-within (leaving m files (if is_receiving r.phase then prompted_for keep_alive r else r)) (cond_both (is_receiving r.phase) (prompted_for keep_alive r) r (IsReceiverWithin most) (λ _. prompt-within keep_alive r w) (λ _. w))
+        heard-within (leaving m files (if is_receiving r.phase then prompted_for keep_alive r else r))
+        (cond_both (is_receiving r.phase) (prompted_for keep_alive r) r (IsReceiverWithin most) (λ _. prompt-within keep_alive r w) (λ _. w))
     receiver-hears-within stored (Ack acknowledged.Eof condition status) m files r w = w
     receiver-hears-within stored (Finished condition delivery status tlvs) m files r w = w
     receiver-hears-within stored (Nak start end pairs) m files r w = w
@@ -239,7 +249,8 @@ module _ (most : ℕ) where
 
   pub suspends-within : (m : OctetMap) (files : FileMap) (r : ReceiverState) → IsReceiverWithin most r → Within most (suspends m files r)
   suspends-within m files r w =
-      cond_both (is_receiving r.phase && not r.suspended) (telling (indication.Suspended r.addressing.id suspend_request ∷ []) (leaving m files (record r { suspended = true }))) (leaving m files r) (Within most)
+      cond_both (is_receiving r.phase && not r.suspended) (telling (indication.Suspended r.addressing.id suspend_request ∷ []) (leaving m files (record r { suspended = true }))) (leaving m files r)
+      (Within most)
       (λ _. record { held = w.held; ending = w.ending }) (λ _. w)
 
   pub resumes-within : (m : OctetMap) (files : FileMap) (r : ReceiverState) → IsReceiverWithin most r → Within most (resumes m files r)
@@ -253,7 +264,8 @@ module _ (most : ℕ) where
   taken-within due.KeepAlive r w = record { held = w.held; ending = w.ending }
   taken-within (due.Finished o) r w = record { held = w.held; ending = w.ending }
 
-  pub receiver-step-within : size_limit ≤ most → (stored : Stored) (input : ReceiverInput) (m : OctetMap) (files : FileMap) (r : ReceiverState) → IsReceiverWithin most r → Within most (receiver_step stored input m files r)
+  pub receiver-step-within : size_limit ≤ most → (stored : Stored) (input : ReceiverInput) (m : OctetMap) (files : FileMap) (r : ReceiverState) → IsReceiverWithin most r →
+      Within most (receiver_step stored input m files r)
   receiver-step-within limit stored (machine.Hears v) m files r w = receiver-hears-within limit stored v m files r w
   receiver-step-within limit stored (machine.Takes d) m files r w = taken-within d r w
   receiver-step-within limit stored (machine.Expires k policy) m files r w = receiver-expires-within k policy m files r w
@@ -395,15 +407,18 @@ within-none most = tt
 
 -- ---- a table
 module _ (most : ℕ) (limit : size_limit ≤ most) where
-  stepped-within : (f : Entry → After) → ((e : Entry) → Kept most e.1 (f e)) → (st : TableState) (place : ℕ) (o : Option Entry) → slice_get st.records place ≡ o → AreWithin most st.records → AreWithin most (step_of f place o st).records
+  stepped-within : (f : Entry → After) → ((e : Entry) → Kept most e.1 (f e)) → (st : TableState) (place : ℕ) (o : Option Entry) → slice_get st.records place ≡ o → AreWithin most st.records →
+      AreWithin most (step_of f place o st).records
   stepped-within f k st place None at h = h
   stepped-within f k st place (Some e) at h = within-set most st e.0 st.records place (f e).seen h (k e (within-at most st.records place e h at))
 
   table-heard : (stored : Stored) (place : ℕ) (v : Content) (st : TableState) → AreWithin most st.records → AreWithin most (heard_at stored place v st).records
-  table-heard stored place v st h = stepped-within (λ e. hears stored st.policy.times st.files v e.1) (λ e. hears-within most limit st.policy st.files stored v e.1) st place (slice_get st.records place) refl h
+  table-heard stored place v st h = stepped-within (λ e. hears stored st.policy.times st.files v e.1) (λ e. hears-within most limit st.policy st.files stored v e.1) st place
+      (slice_get st.records place) refl h
 
   table-taken : (stored : Stored) (place : ℕ) (st : TableState) → AreWithin most st.records → AreWithin most (taken_at stored place st).records
-  table-taken stored place st h = stepped-within (λ e. takes stored st.policy.times st.sources st.files e.1) (λ e. takes-within most limit st.policy st.files stored st.sources e.1) st place (slice_get st.records place) refl h
+  table-taken stored place st h = stepped-within (λ e. takes stored st.policy.times st.sources st.files e.1) (λ e. takes-within most limit st.policy st.files stored st.sources e.1) st place
+      (slice_get st.records place) refl h
 
   table-called : (c : Call) (o : Option ℕ) (st : TableState) → AreWithin most st.records → AreWithin most (called_in c o st).records
   table-called c (Some place) st h = stepped-within (λ e. calls st.policy.times st.files c e.1) (λ e. calls-within most limit st.policy st.files c e.1) st place (slice_get st.records place) refl h
@@ -452,7 +467,8 @@ module _ (most : ℕ) (limit : size_limit ≤ most) where
   dropped-route-within v old new (Counts d t) w = subst (λ (e : EntityState). AreWithin most e.table.records) (sym t) w
   dropped-route-within v old new (routes.Spoils place t) w = spoiled-within place v old.state.table new.state.table t.spoiled w
 
-  pub within-dropped : (fault : Option PduError) (octets : List ℕ) (by : EntityDrop) (old new : Counted) → DropsOctets fault octets by old new → AreWithin most old.state.table.records → AreWithin most new.state.table.records
+  pub within-dropped : (fault : Option PduError) (octets : List ℕ) (by : EntityDrop) (old new : Counted) → DropsOctets fault octets by old new → AreWithin most old.state.table.records →
+      AreWithin most new.state.table.records
   within-dropped (Some e) octets by old new d w = subst (λ (c : Counted). AreWithin most c.state.table.records) (sym d.1) w
   within-dropped None octets by old new d w = dropped-route-within d.content old new (is-dropped d.header old new d.content by d.drops) w
 
@@ -468,9 +484,11 @@ module _ (most : ℕ) (limit : size_limit ≤ most) where
     | false ↦ λ f g. absurd cc
   ] refl h
 
-  pub within-put : (source destination : List ℕ) (id : TransactionId) (old new : EntityState) → IsConfig old.config → Accepts source destination id old new → AreWithin most old.table.records → AreWithin most new.table.records
+  pub within-put : (source destination : List ℕ) (id : TransactionId) (old new : EntityState) → IsConfig old.config → Accepts source destination id old new → AreWithin most old.table.records →
+      AreWithin most new.table.records
   within-put source destination id old new config a h =
-      let fits : length (octets_in old.table.sources source) ≤ most = file-fits (map.get old.table.sources source) (second-none (early_refusal source destination old) (asked Done (map.get old.table.sources source)) a.allowed) in
+      let fits : length (octets_in old.table.sources source) ≤ most = file-fits (map.get old.table.sources source)
+      (second-none (early_refusal source destination old) (asked Done (map.get old.table.sources source)) a.allowed) in
       subst (λ (e : EntityState). AreWithin most e.table.records) (sym a.opened) (within-push most old.table.records _ h (record { segment = config.sending.some; size = fits }))
 
 pub within-first : (most : ℕ) (sources files : FileMap) (config : EntityConfig) → AreWithin most (first_entity sources files config).table.records

@@ -11,9 +11,24 @@ returns-clause-first c own put_of heard sources files policy = true-first own pu
 pub returns-clause-step : goal.returns-clause-step
 returns-clause-step c own put_of heard first s st may tells t =
     let once = c.a_transaction_is_finished_once.ensures in
-    let machines : Machines = record { receiver_same = once.same; receiver_stays = once.stays; receiver_once = once.once; receiver_own = once.own; sender_keeps = c.a_sender_keeps_what_it_sends.ensures.step; sender_once = c.a_sender_finishes_once.ensures } in
+    let machines : Machines = record {
+      receiver_same = once.same;
+      receiver_stays = once.stays;
+      receiver_once = once.once;
+      receiver_own = once.own;
+      sender_keeps =
+          c.a_sender_keeps_what_it_sends.ensures.step;
+      sender_once = c.a_sender_finishes_once.ensures;
+    } in
     let kept = c.what_is_heard_true_is_kept_true.ensures in
-    let laws : TrueReceiver = record { stays = kept.step; opened = kept.opened; closed = kept.closed; staged = c.more_is_heard.ensures.staged; publishes = c.a_completion_publishes_the_put.ensures; opens_none = c.an_opening_may_finish.ensures.none } in
+    let laws : TrueReceiver = record {
+      stays = kept.step;
+      opened = kept.opened;
+      closed = kept.closed;
+      staged = c.more_is_heard.ensures.staged;
+      publishes = c.a_completion_publishes_the_put.ensures;
+      opens_none = c.an_opening_may_finish.ensures.none;
+    } in
     true-step own put_of heard machines laws first s st may tells t
 
 pub returns-clause-more : goal.returns-clause-more

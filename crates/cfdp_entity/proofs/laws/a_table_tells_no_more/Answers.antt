@@ -12,7 +12,15 @@ pub returns-clause-step : goal.returns-clause-step
 returns-clause-step c own put_of heard first s st may tells d k t =
     let once = c.a_transaction_is_finished_once.ensures in
     let opening = c.an_opening_may_finish.ensures in
-    let machines : Machines = record { receiver_same = once.same; receiver_stays = once.stays; receiver_once = once.once; receiver_own = once.own; sender_keeps = c.a_sender_keeps_what_it_sends.ensures.step; sender_once = c.a_sender_finishes_once.ensures } in
+    let machines : Machines = record {
+      receiver_same = once.same;
+      receiver_stays = once.stays;
+      receiver_once = once.once;
+      receiver_own = once.own;
+      sender_keeps =
+          c.a_sender_keeps_what_it_sends.ensures.step;
+      sender_once = c.a_sender_finishes_once.ensures;
+    } in
     let tellers : Tellers = record { outcome = once.outcome; opens_outcome = opening.outcome; opens_own = opening.own; delivered = c.told_complete_by_a_finished_alone.ensures } in
     tells-step own heard machines tellers put_of first (c.a_table_keeps_the_truth.ensures.step own put_of heard first) s st may tells d k t
 

@@ -39,30 +39,66 @@ returns-clause-among c put_of heard others first e among k = record {
 
 pub returns-clause-put : goal.returns-clause-put
 returns-clause-put c put_of heard first source destination id old new a finds k =
-    let laws : TableLaws = record { once = c.a_table_finishes_a_transaction_once.ensures.step; knows = c.a_table_keeps_the_truth.ensures.step; sends = c.a_table_sends_the_truth.ensures.step; tells = c.a_table_tells_no_more.ensures.step } in
+    let laws : TableLaws = record {
+      once = c.a_table_finishes_a_transaction_once.ensures.step;
+      knows = c.a_table_keeps_the_truth.ensures.step;
+      sends = c.a_table_sends_the_truth.ensures.step;
+      tells =
+          c.a_table_tells_no_more.ensures.step;
+    } in
     sound-put put_of heard first laws source destination id old new a finds k
 
 pub returns-clause-called : goal.returns-clause-called
 returns-clause-called c put_of heard first call id old new h k =
-    let laws : TableLaws = record { once = c.a_table_finishes_a_transaction_once.ensures.step; knows = c.a_table_keeps_the_truth.ensures.step; sends = c.a_table_sends_the_truth.ensures.step; tells = c.a_table_tells_no_more.ensures.step } in
+    let laws : TableLaws = record {
+      once = c.a_table_finishes_a_transaction_once.ensures.step;
+      knows = c.a_table_keeps_the_truth.ensures.step;
+      sends = c.a_table_sends_the_truth.ensures.step;
+      tells =
+          c.a_table_tells_no_more.ensures.step;
+    } in
     sound-called put_of heard first laws call id old new h k
 
 pub returns-clause-ticked : goal.returns-clause-ticked
 returns-clause-ticked c put_of heard first now old new t same k =
-    let laws : TableLaws = record { once = c.a_table_finishes_a_transaction_once.ensures.step; knows = c.a_table_keeps_the_truth.ensures.step; sends = c.a_table_sends_the_truth.ensures.step; tells = c.a_table_tells_no_more.ensures.step } in
+    let laws : TableLaws = record {
+      once = c.a_table_finishes_a_transaction_once.ensures.step;
+      knows = c.a_table_keeps_the_truth.ensures.step;
+      sends = c.a_table_sends_the_truth.ensures.step;
+      tells =
+          c.a_table_tells_no_more.ensures.step;
+    } in
     sound-ticked put_of heard first laws now old new t same k
 
 pub returns-clause-heard : goal.returns-clause-heard
 returns-clause-heard c put_of heard first pdu old new by_id comes h k =
-    let laws : TableLaws = record { once = c.a_table_finishes_a_transaction_once.ensures.step; knows = c.a_table_keeps_the_truth.ensures.step; sends = c.a_table_sends_the_truth.ensures.step; tells = c.a_table_tells_no_more.ensures.step } in
+    let laws : TableLaws = record {
+      once = c.a_table_finishes_a_transaction_once.ensures.step;
+      knows = c.a_table_keeps_the_truth.ensures.step;
+      sends = c.a_table_sends_the_truth.ensures.step;
+      tells =
+          c.a_table_tells_no_more.ensures.step;
+    } in
     sound-heard put_of heard first laws by_id pdu old new comes h k
 
 pub returns-clause-dropped : goal.returns-clause-dropped
 returns-clause-dropped c put_of heard first pdu by old new d k =
-    let laws : TableLaws = record { once = c.a_table_finishes_a_transaction_once.ensures.step; knows = c.a_table_keeps_the_truth.ensures.step; sends = c.a_table_sends_the_truth.ensures.step; tells = c.a_table_tells_no_more.ensures.step } in
+    let laws : TableLaws = record {
+      once = c.a_table_finishes_a_transaction_once.ensures.step;
+      knows = c.a_table_keeps_the_truth.ensures.step;
+      sends = c.a_table_sends_the_truth.ensures.step;
+      tells =
+          c.a_table_tells_no_more.ensures.step;
+    } in
     sound-dropped put_of heard first laws (small_pdu_fault pdu) pdu by old new d k
 
 pub returns-clause-served : goal.returns-clause-served
 returns-clause-served c put_of heard first stored e k =
-    let laws : TableLaws = record { once = c.a_table_finishes_a_transaction_once.ensures.step; knows = c.a_table_keeps_the_truth.ensures.step; sends = c.a_table_sends_the_truth.ensures.step; tells = c.a_table_tells_no_more.ensures.step } in
+    let laws : TableLaws = record {
+      once = c.a_table_finishes_a_transaction_once.ensures.step;
+      knows = c.a_table_keeps_the_truth.ensures.step;
+      sends = c.a_table_sends_the_truth.ensures.step;
+      tells =
+          c.a_table_tells_no_more.ensures.step;
+    } in
     sound-served put_of heard first laws stored (turn e) e k

@@ -11,7 +11,8 @@ returns-in_err-stored-in-Done-clause-roomier g c =
 pub returns-clause-roomier : goal.returns-clause-roomier
 returns-clause-roomier g c = elim c.match-begun.branch [
   | in-Done+in_ok-stored-in-Done w ↦
-      roomier-by c.args.timers.now c.open.new.timers c.match-begun.timers c.args.addressing.id c.in_ok-receiver.ensures.timers (ap (λ (t : TimersState). t.roomy) w.timers-is ∙ w.receiver_hears.ensures.roomy)
+      roomier-by c.args.timers.now c.open.new.timers c.match-begun.timers c.args.addressing.id c.in_ok-receiver.ensures.timers
+      (ap (λ (t : TimersState). t.roomy) w.timers-is ∙ w.receiver_hears.ensures.roomy)
   | in-Refused w ↦
       roomier-by c.args.timers.now c.open.new.timers c.match-begun.timers c.args.addressing.id c.in_ok-receiver.ensures.timers (ap (λ (t : TimersState). t.roomy) w.timers-is)
 ]
@@ -19,7 +20,9 @@ returns-clause-roomier g c = elim c.match-begun.branch [
 pub returns-clause-ready : goal.returns-clause-ready
 returns-clause-ready g c = elim c.match-begun.branch [
   | in-Done+in_ok-stored-in-Done w ↦
-      ready-here c.args.addressing (g.I.Inbox.staged c.match-begun.inbox) (g.I.Inbox.staged w.receiver_hears.new.inbox) c.match-begun.receiver w.receiver_hears.new.receiver (ap g.I.Inbox.staged w.inbox-is) w.receiver-is (w.receiver_hears.ensures.addressing ∙ c.in_ok-receiver.ensures.addressing) w.receiver_hears.ensures.ready
+      ready-here c.args.addressing (g.I.Inbox.staged c.match-begun.inbox) (g.I.Inbox.staged w.receiver_hears.new.inbox) c.match-begun.receiver w.receiver_hears.new.receiver
+      (ap g.I.Inbox.staged w.inbox-is) w.receiver-is (w.receiver_hears.ensures.addressing ∙ c.in_ok-receiver.ensures.addressing) w.receiver_hears.ensures.ready
   | in-Refused w ↦
-      ready-here c.args.addressing (g.I.Inbox.staged c.match-begun.inbox) (g.I.Inbox.staged c.open.new.inbox) c.match-begun.receiver c.in_ok-receiver.receiver (ap g.I.Inbox.staged w.inbox-is) w.receiver-is c.in_ok-receiver.ensures.addressing c.in_ok-receiver.ensures.ready
+      ready-here c.args.addressing (g.I.Inbox.staged c.match-begun.inbox) (g.I.Inbox.staged c.open.new.inbox) c.match-begun.receiver c.in_ok-receiver.receiver
+      (ap g.I.Inbox.staged w.inbox-is) w.receiver-is c.in_ok-receiver.ensures.addressing c.in_ok-receiver.ensures.ready
 ]

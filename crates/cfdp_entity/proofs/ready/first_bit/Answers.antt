@@ -10,8 +10,11 @@ returns-then-rest-eq0-clause-none c = λ _ i on l. sym (shifted-back c.args.word
 
 pub returns-else-rest-eq0-clause-within : goal.returns-else-rest-eq0-clause-within
 returns-else-rest-eq0-clause-within c =
-    let here = sym (shifted c.args.word c.args.from c.lowest_bit.result) ∙ c.lowest_bit.ensures.here in
-    (omega arith, ⊎_elim (λ l. l) (λ l. absurd (let none = bit_at_above c.args.word 64 (c.args.from + c.lowest_bit.result) c.ranges.word.fits l in cc)) (cases_lt (c.args.from + c.lowest_bit.result) 64))
+    let here = sym (shifted c.args.word c.args.from c.lowest_bit.result) ∙ c.lowest_bit.ensures.here in (
+      omega arith,
+      ⊎_elim (λ l. l) (λ l. absurd (let none = bit_at_above c.args.word 64 (c.args.from + c.lowest_bit.result) c.ranges.word.fits l in cc))
+          (cases_lt (c.args.from + c.lowest_bit.result) 64),
+    )
 
 pub returns-else-rest-eq0-clause-here : goal.returns-else-rest-eq0-clause-here
 returns-else-rest-eq0-clause-here c = sym (shifted c.args.word c.args.from c.lowest_bit.result) ∙ c.lowest_bit.ensures.here

@@ -15,16 +15,22 @@ push-requires g c = record { room = (let l = length_flags _ _ _ _ _ c.requires.w
 
 pub returns-clause-opened : goal.returns-clause-opened
 returns-clause-opened g c =
-    state-added (g.I.Inbox.staged c.args.inbox.now) (g.I.Inbox.staged c.args.inbox.now) (g.O.Outbox.files c.args.outbox.now) c.args.policy.now c.args.records.now.entries c.room_in.new.records.entries c.args.ready.now c.push.new.self c.args.timers.now c.open_put.new.timers c.open_put.new.timers c.args.transfer.addressing.id
+    state-added (g.I.Inbox.staged c.args.inbox.now) (g.I.Inbox.staged c.args.inbox.now)
+    (g.O.Outbox.files c.args.outbox.now) c.args.policy.now c.args.records.now.entries c.room_in.new.records.entries c.args.ready.now c.push.new.self c.args.timers.now c.open_put.new.timers
+    c.open_put.new.timers c.args.transfer.addressing.id
     c.requires.whole c.requires.absent c.room_in.ensures.records c.open_put.ensures.keeps refl (λ other apart. refl)
-    c.in_ok-record.record c.push_record.new.records.entries c.push_record.ensures.added (g.I.Inbox.published c.args.inbox.now) (g.I.Inbox.published c.args.inbox.now) c.args.told.now.items c.room_in.new.told.items c.open_put.new.told.items
+    c.in_ok-record.record c.push_record.new.records.entries c.push_record.ensures.added (g.I.Inbox.published c.args.inbox.now)
+    (g.I.Inbox.published c.args.inbox.now) c.args.told.now.items c.room_in.new.told.items c.open_put.new.told.items
     (puts (g.I.Inbox.published c.args.inbox.now) c.args.transfer) c.in_ok-record.ensures.timers c.room_in.ensures.told
     (record { state = ap (seen (g.I.Inbox.staged c.args.inbox.now c.args.transfer.addressing.id)) c.in_ok-record.ensures.opens; tells = c.in_ok-record.ensures.tells; timers = refl; files = refl })
 
 pub returns-clause-whole : goal.returns-clause-whole
 returns-clause-whole g c =
-    whole-added (g.I.Inbox.staged c.args.inbox.now) (g.I.Inbox.staged c.args.inbox.now) (g.O.Outbox.files c.args.outbox.now) c.args.policy.now c.args.records.now.entries c.room_in.new.records.entries c.args.ready.now c.push.new.self c.args.timers.now c.open_put.new.timers c.open_put.new.timers c.args.transfer.addressing.id
+    whole-added (g.I.Inbox.staged c.args.inbox.now) (g.I.Inbox.staged c.args.inbox.now)
+    (g.O.Outbox.files c.args.outbox.now) c.args.policy.now c.args.records.now.entries c.room_in.new.records.entries c.args.ready.now c.push.new.self c.args.timers.now c.open_put.new.timers
+    c.open_put.new.timers c.args.transfer.addressing.id
     c.requires.whole c.requires.absent c.room_in.ensures.records c.open_put.ensures.keeps refl (λ other apart. refl)
     c.in_ok-record.record c.push_record.new.records.entries c.push_record.ensures.added c.requires.not_full
-    (ready-sends (g.I.Inbox.staged c.args.inbox.now) (g.O.Outbox.files c.args.outbox.now) c.in_ok-record.record c.args.transfer c.in_ok-record.ensures.opens c.requires.file) c.in_ok-record.ensures.has_room
+    (ready-sends (g.I.Inbox.staged c.args.inbox.now) (g.O.Outbox.files c.args.outbox.now) c.in_ok-record.record c.args.transfer c.in_ok-record.ensures.opens c.requires.file)
+    c.in_ok-record.ensures.has_room
     c.is_due.result (c.is_due.ensures (g.I.Inbox.staged c.args.inbox.now c.args.transfer.addressing.id)) c.push.ensures c.push_record.ensures.unique

@@ -15,6 +15,7 @@ returns-in-Some-range_from c = other-from c.args.offset (turned c.args.ranges.no
 
 pub returns-in-None : goal.returns-in-None
 returns-in-None c = elim c.in_default.branch [
-  | in_default-via-in-Some+else-range-offset w ↦ w.last-is ∙ sym w.in-Some.is ∙ missed-from c.args.offset (turned c.args.ranges.now.entries) c.args.last w.in-Some.range c.requires w.in-Some.is w.if-range-offset.false (sym c.range_from.ensures ∙ c.in-None.is)
+  | in_default-via-in-Some+else-range-offset w ↦ w.last-is ∙ sym w.in-Some.is
+      ∙ missed-from c.args.offset (turned c.args.ranges.now.entries) c.args.last w.in-Some.range c.requires w.in-Some.is w.if-range-offset.false (sym c.range_from.ensures ∙ c.in-None.is)
   | in_default-via-in_default w ↦ w.last-is ∙ missing-from c.args.offset (turned c.args.ranges.now.entries) c.args.last w.in_default.is (sym c.range_from.ensures ∙ c.in-None.is)
 ]

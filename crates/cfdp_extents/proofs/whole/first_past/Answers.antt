@@ -15,6 +15,7 @@ returns-in-Some-range_behind c = other-past c.args.offset (turned c.args.ranges.
 
 pub returns-in-None : goal.returns-in-None
 returns-in-None c = elim c.in_default.branch [
-  | in_default-via-in-Some+else-range-offset w ↦ w.last-is ∙ sym w.in-Some.is ∙ missed-past c.args.offset (turned c.args.ranges.now.entries) c.args.last w.in-Some.range c.requires w.in-Some.is w.if-range-offset.false (sym c.range_behind.ensures ∙ c.in-None.is)
+  | in_default-via-in-Some+else-range-offset w ↦ w.last-is ∙ sym w.in-Some.is
+      ∙ missed-past c.args.offset (turned c.args.ranges.now.entries) c.args.last w.in-Some.range c.requires w.in-Some.is w.if-range-offset.false (sym c.range_behind.ensures ∙ c.in-None.is)
   | in_default-via-in_default w ↦ w.last-is ∙ missing-past c.args.offset (turned c.args.ranges.now.entries) c.args.last w.in_default.is (sym c.range_behind.ensures ∙ c.in-None.is)
 ]

@@ -9,5 +9,6 @@ use Rattle.cfdp_node.proofs.arguments.grammar.Goals as goal
 pub returns-in-Ok : goal.returns-in-Ok
 returns-in-Ok c =
     IfOk-weaker c.subcommand.result _ _
-    (λ all adds. joined c.in_ok-told.told c.in-Ok.station all (with_subcommand (with_subcommand (with_subcommand top_app sim_app.top) dump_app.top) loop_app.top) station_app c.in_ok-told.ensures c.in-Ok.ensures adds)
+    (λ all adds. joined c.in_ok-told.told c.in-Ok.station all (with_subcommand (with_subcommand (with_subcommand top_app sim_app.top) dump_app.top) loop_app.top) station_app c.in_ok-told.ensures
+    c.in-Ok.ensures adds)
     c.subcommand.ensures

@@ -18,4 +18,5 @@ loop-deadline-preserved c =
 pub returns : goal.returns
 returns c =
     let xs = c.args.deadlines.now in
-    sym (earlier_none c.loop-deadline.earliest) ∙ ap (earlier c.loop-deadline.earliest) (sym (at_drop_all earliest_of xs c.loop-deadline.deadline-index (omega arith) ∙ earliest_of-nil)) ∙ c.loop-deadline.invariant
+    sym (earlier_none c.loop-deadline.earliest) ∙ ap (earlier c.loop-deadline.earliest) (sym (at_drop_all earliest_of xs c.loop-deadline.deadline-index (omega arith) ∙ earliest_of-nil))
+    ∙ c.loop-deadline.invariant

@@ -12,4 +12,5 @@ returns-clause-others c =
 
 pub returns-clause-bounds : goal.returns-clause-bounds
 returns-clause-bounds c =
-    subst (λ es. AreBounds es c.cover.new.bounds) (sym c.insert.ensures.added) (bounds-pushed c.reserve.new.self.entries c.args.id c.cover.new.bounds c.in_ok-cover.ensures.bounds c.in_ok-cover.ensures.room)
+    subst (λ es. AreBounds es c.cover.new.bounds) (sym c.insert.ensures.added)
+    (bounds-pushed c.reserve.new.self.entries c.args.id c.cover.new.bounds c.in_ok-cover.ensures.bounds c.in_ok-cover.ensures.room)

@@ -34,7 +34,8 @@ set_other-requires c =
     record {
       within = omega (arith, many, below);
       same = λ is.
-          ap (λ l. get_or l place None) c.requires.others ∙ others_of-at es place c.args.id d at ∙ sym (ap other_of c.write-deadlines.ensures.deadlines ∙ ap (λ k. other_of (with_deadline d k c.args.deadline)) is);
+          ap (λ l. get_or l place None) c.requires.others ∙ others_of-at es place c.args.id d at
+          ∙ sym (ap other_of c.write-deadlines.ensures.deadlines ∙ ap (λ k. other_of (with_deadline d k c.args.deadline)) is);
     }
 
 pub lower-requires : goal.lower-requires

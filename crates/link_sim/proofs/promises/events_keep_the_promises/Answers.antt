@@ -28,7 +28,24 @@ pub returns-clause-keeps : goal.returns-clause-keeps
 returns-clause-keeps c e did old new sound h =
     let kept = c.an_entity_keeps_the_truth.ensures in
     let on = c.an_entity_goes_on.ensures in
-    let laws : EntityLaws = record { in_whole = c.a_part_has_no_more.ensures; put = kept.put; called = kept.called; ticked = kept.ticked; heard = kept.heard; dropped = kept.dropped; served_by = kept.served; put_on = on.put; called_on = on.called; ticked_on = on.ticked; heard_on = on.heard; dropped_on = on.dropped; served_on = on.served; sends = c.an_entity_sends_the_truth.ensures } in
+    let laws : EntityLaws = record {
+      in_whole = c.a_part_has_no_more.ensures;
+      put = kept.put;
+      called = kept.called;
+      ticked = kept.ticked;
+      heard = kept.heard;
+      dropped = kept.dropped;
+      served_by =
+          kept.served;
+      put_on = on.put;
+      called_on = on.called;
+      ticked_on = on.ticked;
+      heard_on = on.heard;
+      dropped_on = on.dropped;
+      served_on = on.served;
+      sends =
+          c.an_entity_sends_the_truth.ensures;
+    } in
     let m : Moves old new = event-moves laws old new sound e did h in
     let grounds : Grounds = record { in_whole = c.a_part_has_no_more.ensures; more = kept.more } in
     sound-next grounds old new sound m.sides m.puts (event-within old new (λ t. (sound t).entity.config) (λ t. (sound t).within) e did h)
@@ -43,7 +60,24 @@ pub returns-clause-puts : goal.returns-clause-puts
 returns-clause-puts c e did old new sound h =
     let kept = c.an_entity_keeps_the_truth.ensures in
     let on = c.an_entity_goes_on.ensures in
-    let laws : EntityLaws = record { in_whole = c.a_part_has_no_more.ensures; put = kept.put; called = kept.called; ticked = kept.ticked; heard = kept.heard; dropped = kept.dropped; served_by = kept.served; put_on = on.put; called_on = on.called; ticked_on = on.ticked; heard_on = on.heard; dropped_on = on.dropped; served_on = on.served; sends = c.an_entity_sends_the_truth.ensures } in
+    let laws : EntityLaws = record {
+      in_whole = c.a_part_has_no_more.ensures;
+      put = kept.put;
+      called = kept.called;
+      ticked = kept.ticked;
+      heard = kept.heard;
+      dropped = kept.dropped;
+      served_by =
+          kept.served;
+      put_on = on.put;
+      called_on = on.called;
+      ticked_on = on.ticked;
+      heard_on = on.heard;
+      dropped_on = on.dropped;
+      served_on = on.served;
+      sends =
+          c.an_entity_sends_the_truth.ensures;
+    } in
     let m : Moves old new = event-moves laws old new sound e did h in
     m.puts.finds
 
@@ -51,7 +85,24 @@ pub returns-clause-folds : goal.returns-clause-folds
 returns-clause-folds c e did old new t sound h =
     let kept = c.an_entity_keeps_the_truth.ensures in
     let on = c.an_entity_goes_on.ensures in
-    let laws : EntityLaws = record { in_whole = c.a_part_has_no_more.ensures; put = kept.put; called = kept.called; ticked = kept.ticked; heard = kept.heard; dropped = kept.dropped; served_by = kept.served; put_on = on.put; called_on = on.called; ticked_on = on.ticked; heard_on = on.heard; dropped_on = on.dropped; served_on = on.served; sends = c.an_entity_sends_the_truth.ensures } in
+    let laws : EntityLaws = record {
+      in_whole = c.a_part_has_no_more.ensures;
+      put = kept.put;
+      called = kept.called;
+      ticked = kept.ticked;
+      heard = kept.heard;
+      dropped = kept.dropped;
+      served_by =
+          kept.served;
+      put_on = on.put;
+      called_on = on.called;
+      ticked_on = on.ticked;
+      heard_on = on.heard;
+      dropped_on = on.dropped;
+      served_on = on.served;
+      sends =
+          c.an_entity_sends_the_truth.ensures;
+    } in
     let m : Moves old new = event-moves laws old new sound e did h in
     let grounds : Grounds = record { in_whole = c.a_part_has_no_more.ensures; more = kept.more } in
     folds-next grounds old new sound m.sides m.puts t
@@ -77,7 +128,24 @@ pub returns-clause-puts_kept : goal.returns-clause-puts_kept
 returns-clause-puts_kept c e did old new sound k h =
     let kept = c.an_entity_keeps_the_truth.ensures in
     let on = c.an_entity_goes_on.ensures in
-    let laws : EntityLaws = record { in_whole = c.a_part_has_no_more.ensures; put = kept.put; called = kept.called; ticked = kept.ticked; heard = kept.heard; dropped = kept.dropped; served_by = kept.served; put_on = on.put; called_on = on.called; ticked_on = on.ticked; heard_on = on.heard; dropped_on = on.dropped; served_on = on.served; sends = c.an_entity_sends_the_truth.ensures } in
+    let laws : EntityLaws = record {
+      in_whole = c.a_part_has_no_more.ensures;
+      put = kept.put;
+      called = kept.called;
+      ticked = kept.ticked;
+      heard = kept.heard;
+      dropped = kept.dropped;
+      served_by =
+          kept.served;
+      put_on = on.put;
+      called_on = on.called;
+      ticked_on = on.ticked;
+      heard_on = on.heard;
+      dropped_on = on.dropped;
+      served_on = on.served;
+      sends =
+          c.an_entity_sends_the_truth.ensures;
+    } in
     let grounds : Grounds = record { in_whole = c.a_part_has_no_more.ensures; more = kept.more } in
     record {
       course = steps-courses laws grounds c.records_stay_for_good.ensures.steps old new sound e did h k.course;
@@ -88,7 +156,24 @@ pub returns-clause-puts_rest : goal.returns-clause-puts_rest
 returns-clause-puts_rest c s old new sound k h =
     let kept = c.an_entity_keeps_the_truth.ensures in
     let on = c.an_entity_goes_on.ensures in
-    let laws : EntityLaws = record { in_whole = c.a_part_has_no_more.ensures; put = kept.put; called = kept.called; ticked = kept.ticked; heard = kept.heard; dropped = kept.dropped; served_by = kept.served; put_on = on.put; called_on = on.called; ticked_on = on.ticked; heard_on = on.heard; dropped_on = on.dropped; served_on = on.served; sends = c.an_entity_sends_the_truth.ensures } in
+    let laws : EntityLaws = record {
+      in_whole = c.a_part_has_no_more.ensures;
+      put = kept.put;
+      called = kept.called;
+      ticked = kept.ticked;
+      heard = kept.heard;
+      dropped = kept.dropped;
+      served_by =
+          kept.served;
+      put_on = on.put;
+      called_on = on.called;
+      ticked_on = on.ticked;
+      heard_on = on.heard;
+      dropped_on = on.dropped;
+      served_on = on.served;
+      sends =
+          c.an_entity_sends_the_truth.ensures;
+    } in
     let grounds : Grounds = record { in_whole = c.a_part_has_no_more.ensures; more = kept.more } in
     record {
       course = stays-courses laws grounds c.records_stay_for_good.ensures.steps old new sound s h k.course;
@@ -105,7 +190,24 @@ pub returns-clause-clean : goal.returns-clause-clean
 returns-clause-clean c e old new sound k of_it h spared clean =
     let kept = c.an_entity_keeps_the_truth.ensures in
     let on = c.an_entity_goes_on.ensures in
-    let laws : EntityLaws = record { in_whole = c.a_part_has_no_more.ensures; put = kept.put; called = kept.called; ticked = kept.ticked; heard = kept.heard; dropped = kept.dropped; served_by = kept.served; put_on = on.put; called_on = on.called; ticked_on = on.ticked; heard_on = on.heard; dropped_on = on.dropped; served_on = on.served; sends = c.an_entity_sends_the_truth.ensures } in
+    let laws : EntityLaws = record {
+      in_whole = c.a_part_has_no_more.ensures;
+      put = kept.put;
+      called = kept.called;
+      ticked = kept.ticked;
+      heard = kept.heard;
+      dropped = kept.dropped;
+      served_by =
+          kept.served;
+      put_on = on.put;
+      called_on = on.called;
+      ticked_on = on.ticked;
+      heard_on = on.heard;
+      dropped_on = on.dropped;
+      served_on = on.served;
+      sends =
+          c.an_entity_sends_the_truth.ensures;
+    } in
     let grounds : Grounds = record { in_whole = c.a_part_has_no_more.ensures; more = kept.more } in
     let hearing : HearingLaws = record { faultless = c.a_true_file_raises_no_fault.ensures.none; opened = c.what_is_heard_true_is_kept_true.ensures.opened } in
     let all : CleanLaws = record { entity = laws; grounds = grounds; hearing = hearing; stays = c.records_stay_for_good.ensures.steps } in
@@ -118,7 +220,24 @@ pub returns-clause-full : goal.returns-clause-full
 returns-clause-full c e did old new sound k h =
     let kept = c.an_entity_keeps_the_truth.ensures in
     let on = c.an_entity_goes_on.ensures in
-    let laws : EntityLaws = record { in_whole = c.a_part_has_no_more.ensures; put = kept.put; called = kept.called; ticked = kept.ticked; heard = kept.heard; dropped = kept.dropped; served_by = kept.served; put_on = on.put; called_on = on.called; ticked_on = on.ticked; heard_on = on.heard; dropped_on = on.dropped; served_on = on.served; sends = c.an_entity_sends_the_truth.ensures } in
+    let laws : EntityLaws = record {
+      in_whole = c.a_part_has_no_more.ensures;
+      put = kept.put;
+      called = kept.called;
+      ticked = kept.ticked;
+      heard = kept.heard;
+      dropped = kept.dropped;
+      served_by =
+          kept.served;
+      put_on = on.put;
+      called_on = on.called;
+      ticked_on = on.ticked;
+      heard_on = on.heard;
+      dropped_on = on.dropped;
+      served_on = on.served;
+      sends =
+          c.an_entity_sends_the_truth.ensures;
+    } in
     let grounds : Grounds = record { in_whole = c.a_part_has_no_more.ensures; more = kept.more } in
     event-full c.records_stay_for_good.ensures.steps old new sound k.course (steps-courses laws grounds c.records_stay_for_good.ensures.steps old new sound e did h k.course) e did h
 
@@ -129,7 +248,24 @@ pub returns-clause-runs : goal.returns-clause-runs
 returns-clause-runs c e old new sound k of_it h spared =
     let kept = c.an_entity_keeps_the_truth.ensures in
     let on = c.an_entity_goes_on.ensures in
-    let laws : EntityLaws = record { in_whole = c.a_part_has_no_more.ensures; put = kept.put; called = kept.called; ticked = kept.ticked; heard = kept.heard; dropped = kept.dropped; served_by = kept.served; put_on = on.put; called_on = on.called; ticked_on = on.ticked; heard_on = on.heard; dropped_on = on.dropped; served_on = on.served; sends = c.an_entity_sends_the_truth.ensures } in
+    let laws : EntityLaws = record {
+      in_whole = c.a_part_has_no_more.ensures;
+      put = kept.put;
+      called = kept.called;
+      ticked = kept.ticked;
+      heard = kept.heard;
+      dropped = kept.dropped;
+      served_by =
+          kept.served;
+      put_on = on.put;
+      called_on = on.called;
+      ticked_on = on.ticked;
+      heard_on = on.heard;
+      dropped_on = on.dropped;
+      served_on = on.served;
+      sends =
+          c.an_entity_sends_the_truth.ensures;
+    } in
     let grounds : Grounds = record { in_whole = c.a_part_has_no_more.ensures; more = kept.more } in
     let hearing : HearingLaws = record { faultless = c.a_true_file_raises_no_fault.ensures.none; opened = c.what_is_heard_true_is_kept_true.ensures.opened } in
     let all : CleanLaws = record { entity = laws; grounds = grounds; hearing = hearing; stays = c.records_stay_for_good.ensures.steps } in
@@ -140,7 +276,24 @@ pub returns-clause-tells : goal.returns-clause-tells
 returns-clause-tells c s now old new sound h =
     let kept = c.an_entity_keeps_the_truth.ensures in
     let on = c.an_entity_goes_on.ensures in
-    let laws : EntityLaws = record { in_whole = c.a_part_has_no_more.ensures; put = kept.put; called = kept.called; ticked = kept.ticked; heard = kept.heard; dropped = kept.dropped; served_by = kept.served; put_on = on.put; called_on = on.called; ticked_on = on.ticked; heard_on = on.heard; dropped_on = on.dropped; served_on = on.served; sends = c.an_entity_sends_the_truth.ensures } in
+    let laws : EntityLaws = record {
+      in_whole = c.a_part_has_no_more.ensures;
+      put = kept.put;
+      called = kept.called;
+      ticked = kept.ticked;
+      heard = kept.heard;
+      dropped = kept.dropped;
+      served_by =
+          kept.served;
+      put_on = on.put;
+      called_on = on.called;
+      ticked_on = on.ticked;
+      heard_on = on.heard;
+      dropped_on = on.dropped;
+      served_on = on.served;
+      sends =
+          c.an_entity_sends_the_truth.ensures;
+    } in
     let m : Moves old new = event-moves laws old new sound (event.Tick s now) dids.Applied h in
     (expires-on c.records_stay_for_good.ensures.steps s now old new sound h (puts-same laws old new sound m h.puts), puts-kept-of laws old new sound m h.puts)
 
@@ -148,6 +301,23 @@ pub returns-clause-config : goal.returns-clause-config
 returns-clause-config c e did old new s sound h =
     let kept = c.an_entity_keeps_the_truth.ensures in
     let on = c.an_entity_goes_on.ensures in
-    let laws : EntityLaws = record { in_whole = c.a_part_has_no_more.ensures; put = kept.put; called = kept.called; ticked = kept.ticked; heard = kept.heard; dropped = kept.dropped; served_by = kept.served; put_on = on.put; called_on = on.called; ticked_on = on.ticked; heard_on = on.heard; dropped_on = on.dropped; served_on = on.served; sends = c.an_entity_sends_the_truth.ensures } in
+    let laws : EntityLaws = record {
+      in_whole = c.a_part_has_no_more.ensures;
+      put = kept.put;
+      called = kept.called;
+      ticked = kept.ticked;
+      heard = kept.heard;
+      dropped = kept.dropped;
+      served_by =
+          kept.served;
+      put_on = on.put;
+      called_on = on.called;
+      ticked_on = on.ticked;
+      heard_on = on.heard;
+      dropped_on = on.dropped;
+      served_on = on.served;
+      sends =
+          c.an_entity_sends_the_truth.ensures;
+    } in
     let m : Moves old new = event-moves laws old new sound e did h in
     (m.sides s).goes.config

@@ -42,7 +42,8 @@ returns-clause-keeps c config outboxes inboxes first now valid is led =
 
     kept-on : (a b : WorldState) → Kept a → Goes a b → Kept b
     kept-on a b p (inl (e, d, step)) =
-        follows-on a b (c.events_keep_the_promises.ensures.keeps e d a b p.0 step) (record { puts = c.events_keep_the_promises.ensures.puts e d a b p.0 step; folds = λ t. c.events_keep_the_promises.ensures.folds e d a b t p.0 step })
+        follows-on a b (c.events_keep_the_promises.ensures.keeps e d a b p.0 step)
+        (record { puts = c.events_keep_the_promises.ensures.puts e d a b p.0 step; folds = λ t. c.events_keep_the_promises.ensures.folds e d a b t p.0 step })
         (apart-kept e d a b p.0 step p.1.apart) p.1
     kept-on a b p (inr (s, k)) = subst Kept (sym k) p
 

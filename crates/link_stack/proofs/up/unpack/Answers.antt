@@ -14,5 +14,6 @@ loop-place-preserved c =
     let left : List (List ℕ) = drop (suc c.loop-place.place) all in
     let here : drop c.loop-place.place all ≡ q ∷ left = at_place all c.loop-place.place [] (omega (arith, c.loop-place-test.true, length-map c.loop-place.packets.items (λ v. v.items))) in
     let one = c.unpack_one-place.ensures.one q left here in
-    unpacked_one c.args.link.now (octets_of_each c.args.packets.now.items) c.args.first c.args.drops.now all (octets_of_each c.unpack_one-place.new.packets.items) c.loop-place.place c.unpack_one-place.result c.loop-place.drops c.unpack_one-place.new.drops q left
+    unpacked_one c.args.link.now (octets_of_each c.args.packets.now.items) c.args.first c.args.drops.now all
+    (octets_of_each c.unpack_one-place.new.packets.items) c.loop-place.place c.unpack_one-place.result c.loop-place.drops c.unpack_one-place.new.drops q left
     c.loop-place.invariant here (omega (arith, c.unpack_one-place.ensures.within, length-map c.unpack_one-place.new.packets.items (λ v. v.items))) one.0 one.1 one.2

@@ -19,26 +19,44 @@ loop-packet-preserved c =
     let q : List ℕ = c.deref.result.now in
     let ps : List (List ℕ) = octets_of_each (take i c.args.packets.now) in
     let hq : IsPacket q = subst (λ (l : List ℕ). IsPacket l) (sym c.deref.ensures.value) (ArePackets-at c.args.packets.now i c.packet-item.result c.requires.whole (omega arith) c.packet-item.is) in
-    let h : IsCarried ps struck c.args.zone c.loop-packet.packer c.loop-packet.reassembler c.loop-packet.counts.counter c.loop-packet.counts.monitor c.loop-packet.sent (octets_of_each c.loop-packet.out.items) = c.loop-packet.invariant.carried in
+    let h : IsCarried ps struck c.args.zone c.loop-packet.packer c.loop-packet.reassembler c.loop-packet.counts.counter c.loop-packet.counts.monitor c.loop-packet.sent
+    (octets_of_each c.loop-packet.out.items) = c.loop-packet.invariant.carried in
     let fits : IsErr c.push.result → ⊥ = λ (bad : IsErr c.push.result).
     let no_room : c.loop-packet.packer.capacity < length c.loop-packet.packer.waiting + length q = c.push.ensures.full.0 bad in
     absurd (omega (arith, packet_short q hq)) in
     let at : IsAt c.push.new.self (ps ++ q ∷ []) h.taken = ok_unless _ c.push.result fits (c.push.ensures.stream ps h.taken h.packed) in
-    let put : IsCarried (ps ++ q ∷ []) struck c.args.zone c.push.new.self c.loop-packet.reassembler c.loop-packet.counts.counter c.loop-packet.counts.monitor c.loop-packet.sent (octets_of_each c.loop-packet.out.items) =
-    carried_push ps struck c.args.zone c.loop-packet.packer c.push.new.self c.loop-packet.reassembler c.loop-packet.counts.counter c.loop-packet.counts.monitor c.loop-packet.sent (octets_of_each c.loop-packet.out.items) q hq c.push.ensures.fixed.0 h at in
+    let put : IsCarried (ps ++ q ∷ []) struck c.args.zone c.push.new.self c.loop-packet.reassembler c.loop-packet.counts.counter c.loop-packet.counts.monitor c.loop-packet.sent
+    (octets_of_each c.loop-packet.out.items) =
+    carried_push ps struck c.args.zone c.loop-packet.packer c.push.new.self c.loop-packet.reassembler c.loop-packet.counts.counter c.loop-packet.counts.monitor c.loop-packet.sent
+    (octets_of_each c.loop-packet.out.items) q hq c.push.ensures.fixed.0 h at in
     let len : length c.deref_mut.result.now ≡ c.args.zone = ap length c.deref_mut.ensures.value ∙ c.loop-packet.invariant.buffer in
-    let given : IsCarried (ps ++ q ∷ []) struck c.args.zone c.drain.new.packer c.drain.new.reassembler c.drain.new.counts.counter c.drain.new.counts.monitor c.drain.new.sent (octets_of_each c.drain.new.out.items) =
-    subst (λ (z : ℕ). IsCarried (ps ++ q ∷ []) struck z c.drain.new.packer c.drain.new.reassembler c.drain.new.counts.counter c.drain.new.counts.monitor c.drain.new.sent (octets_of_each c.drain.new.out.items)) len
-    (c.in_ok-drain.ensures.stream (ps ++ q ∷ []) (subst (λ (z : ℕ). IsCarried (ps ++ q ∷ []) struck z c.push.new.self c.loop-packet.reassembler c.loop-packet.counts.counter c.loop-packet.counts.monitor c.loop-packet.sent (octets_of_each c.loop-packet.out.items)) (sym len) put)) in
-    let more : ps ++ q ∷ [] ≡ octets_of_each (take (i + 1) c.args.packets.now) = ap (λ l. ps ++ l ∷ []) c.deref.ensures.value ∙ sym (packets_more c.args.packets.now i c.packet-item.result (omega arith) c.packet-item.is) in
+    let given : IsCarried (ps ++ q ∷ []) struck c.args.zone c.drain.new.packer c.drain.new.reassembler c.drain.new.counts.counter c.drain.new.counts.monitor c.drain.new.sent
+    (octets_of_each c.drain.new.out.items) =
+    subst (λ (z : ℕ). IsCarried (ps ++ q ∷ []) struck z c.drain.new.packer c.drain.new.reassembler c.drain.new.counts.counter c.drain.new.counts.monitor c.drain.new.sent
+    (octets_of_each c.drain.new.out.items)) len
+    (c.in_ok-drain.ensures.stream (ps ++ q ∷ []) (subst (λ (z : ℕ). IsCarried
+    (ps ++ q ∷ []) struck z c.push.new.self c.loop-packet.reassembler c.loop-packet.counts.counter c.loop-packet.counts.monitor c.loop-packet.sent (octets_of_each c.loop-packet.out.items))
+    (sym len) put)) in
+    let more : ps ++ q ∷ [] ≡ octets_of_each (take (i + 1) c.args.packets.now) = ap (λ l. ps ++ l ∷ []) c.deref.ensures.value
+    ∙ sym (packets_more c.args.packets.now i c.packet-item.result (omega arith) c.packet-item.is) in
     record {
       sized = c.in_ok-drain.ensures.fixed.0 ∙ c.push.ensures.fixed.0 ∙ c.loop-packet.invariant.sized;
       held = c.in_ok-drain.ensures.fixed.1 ∙ c.push.ensures.fixed.1 ∙ c.loop-packet.invariant.held;
-      buffer = omega (arith, length-take c.loop-packet.buffer.len (c.drain.new.buffer ++ drop (length c.drain.new.buffer) c.loop-packet.buffer.items), length-append c.drain.new.buffer (drop (length c.drain.new.buffer) c.loop-packet.buffer.items), length-drop (length c.drain.new.buffer) c.loop-packet.buffer.items, c.loop-packet.invariant.buffer, c.deref_mut.ensures.len, c.drain.auto.buffer, c.loop-packet.buffer.ok);
+      buffer = omega (
+        arith,
+        length-take c.loop-packet.buffer.len (c.drain.new.buffer ++ drop (length c.drain.new.buffer) c.loop-packet.buffer.items),
+        length-append c.drain.new.buffer (drop (length c.drain.new.buffer) c.loop-packet.buffer.items),
+        length-drop (length c.drain.new.buffer) c.loop-packet.buffer.items,
+        c.loop-packet.invariant.buffer,
+        c.deref_mut.ensures.len,
+        c.drain.auto.buffer,
+        c.loop-packet.buffer.ok,
+      );
       flag = c.in_ok-drain.ensures.flag ∙ ok_unless _ c.push.result fits c.push.ensures.unflushed;
       place = c.in_ok-drain.ensures.place;
       emptied = c.in_ok-drain.ensures.emptied;
-      carried = subst (λ (l : List (List ℕ)). IsCarried l struck c.args.zone c.drain.new.packer c.drain.new.reassembler c.drain.new.counts.counter c.drain.new.counts.monitor c.drain.new.sent (octets_of_each c.drain.new.out.items)) more given;
+      carried = subst (λ (l : List (List ℕ)). IsCarried l struck c.args.zone c.drain.new.packer c.drain.new.reassembler c.drain.new.counts.counter c.drain.new.counts.monitor c.drain.new.sent
+          (octets_of_each c.drain.new.out.items)) more given;
     }
 
 pub returns : goal.returns
@@ -48,14 +66,24 @@ returns c =
     let size : ℕ = c.args.zone in
     let ps : List (List ℕ) = octets_of_each c.args.packets.now in
     let whole : octets_of_each (take i c.args.packets.now) ≡ ps = ap (λ l. octets_of_each l) (take_all i c.args.packets.now (omega arith)) in
-    let h : IsCarried ps struck size c.loop-packet.packer c.loop-packet.reassembler c.loop-packet.counts.counter c.loop-packet.counts.monitor c.loop-packet.sent (octets_of_each c.loop-packet.out.items) =
-    subst (λ (l : List (List ℕ)). IsCarried l struck size c.loop-packet.packer c.loop-packet.reassembler c.loop-packet.counts.counter c.loop-packet.counts.monitor c.loop-packet.sent (octets_of_each c.loop-packet.out.items)) whole c.loop-packet.invariant.carried in
-    let more : IsCarried (ps ++ flush_of c.loop-packet.packer) struck size c.flush.new.self c.loop-packet.reassembler c.loop-packet.counts.counter c.loop-packet.counts.monitor c.loop-packet.sent (octets_of_each c.loop-packet.out.items) =
-    carried_flush ps struck size c.loop-packet.packer c.flush.new.self c.loop-packet.reassembler c.loop-packet.counts.counter c.loop-packet.counts.monitor c.loop-packet.sent (octets_of_each c.loop-packet.out.items) c.requires.most c.flush.ensures.fixed.0 h (c.flush.ensures.stream ps h.taken h.packed) in
+    let h : IsCarried ps struck size c.loop-packet.packer c.loop-packet.reassembler c.loop-packet.counts.counter c.loop-packet.counts.monitor c.loop-packet.sent
+    (octets_of_each c.loop-packet.out.items) =
+    subst (λ (l : List (List ℕ)). IsCarried l struck size c.loop-packet.packer c.loop-packet.reassembler c.loop-packet.counts.counter c.loop-packet.counts.monitor c.loop-packet.sent
+    (octets_of_each c.loop-packet.out.items)) whole c.loop-packet.invariant.carried in
+    let more : IsCarried (ps ++ flush_of c.loop-packet.packer) struck size c.flush.new.self c.loop-packet.reassembler c.loop-packet.counts.counter c.loop-packet.counts.monitor c.loop-packet.sent
+    (octets_of_each c.loop-packet.out.items) =
+    carried_flush ps struck size c.loop-packet.packer c.flush.new.self c.loop-packet.reassembler c.loop-packet.counts.counter c.loop-packet.counts.monitor c.loop-packet.sent
+    (octets_of_each c.loop-packet.out.items) c.requires.most c.flush.ensures.fixed.0 h (c.flush.ensures.stream ps h.taken h.packed) in
     let len : length c.deref_mut-2.result.now ≡ size = ap length c.deref_mut-2.ensures.value ∙ c.loop-packet.invariant.buffer in
-    let last : IsCarried (ps ++ flush_of c.loop-packet.packer) struck size c.drain-2.new.packer c.drain-2.new.reassembler c.drain-2.new.counts.counter c.drain-2.new.counts.monitor c.drain-2.new.sent (octets_of_each c.drain-2.new.out.items) =
-    subst (λ (z : ℕ). IsCarried (ps ++ flush_of c.loop-packet.packer) struck z c.drain-2.new.packer c.drain-2.new.reassembler c.drain-2.new.counts.counter c.drain-2.new.counts.monitor c.drain-2.new.sent (octets_of_each c.drain-2.new.out.items)) len
-    (c.in_ok-drain-2.ensures.stream (ps ++ flush_of c.loop-packet.packer) (subst (λ (z : ℕ). IsCarried (ps ++ flush_of c.loop-packet.packer) struck z c.flush.new.self c.loop-packet.reassembler c.loop-packet.counts.counter c.loop-packet.counts.monitor c.loop-packet.sent (octets_of_each c.loop-packet.out.items)) (sym len) more)) in
-    let fill : flush_of c.loop-packet.packer ≡ fill_of size ps = flush_is ps c.loop-packet.packer h.taken size c.loop-packet.invariant.sized c.loop-packet.invariant.flag h.packed c.loop-packet.invariant.emptied in
+    let last : IsCarried (ps ++ flush_of c.loop-packet.packer) struck size c.drain-2.new.packer c.drain-2.new.reassembler c.drain-2.new.counts.counter c.drain-2.new.counts.monitor c.drain-2.new.sent
+    (octets_of_each c.drain-2.new.out.items) =
+    subst (λ (z : ℕ). IsCarried (ps ++ flush_of c.loop-packet.packer) struck z c.drain-2.new.packer c.drain-2.new.reassembler c.drain-2.new.counts.counter c.drain-2.new.counts.monitor
+    c.drain-2.new.sent (octets_of_each c.drain-2.new.out.items)) len
+    (c.in_ok-drain-2.ensures.stream (ps ++ flush_of c.loop-packet.packer)
+    (subst (λ (z : ℕ). IsCarried (ps ++ flush_of c.loop-packet.packer) struck z c.flush.new.self c.loop-packet.reassembler c.loop-packet.counts.counter c.loop-packet.counts.monitor
+    c.loop-packet.sent (octets_of_each c.loop-packet.out.items)) (sym len) more)) in
+    let fill : flush_of c.loop-packet.packer ≡ fill_of size ps = flush_is ps c.loop-packet.packer h.taken size c.loop-packet.invariant.sized c.loop-packet.invariant.flag h.packed
+    c.loop-packet.invariant.emptied in
     subst (λ (l : List (List ℕ)). AreSurvivors (ps ++ l) struck size (octets_of_each c.drain-2.new.out.items)) fill
-    (carried_all (ps ++ flush_of c.loop-packet.packer) struck size c.drain-2.new.packer c.drain-2.new.reassembler c.drain-2.new.counts.counter c.drain-2.new.counts.monitor c.drain-2.new.sent (octets_of_each c.drain-2.new.out.items) last c.in_ok-drain-2.ensures.emptied)
+    (carried_all (ps ++ flush_of c.loop-packet.packer) struck size c.drain-2.new.packer c.drain-2.new.reassembler c.drain-2.new.counts.counter c.drain-2.new.counts.monitor c.drain-2.new.sent
+    (octets_of_each c.drain-2.new.out.items) last c.in_ok-drain-2.ensures.emptied)

@@ -9,7 +9,8 @@ invariant-loop-pointer l = record {
   held : l.packer.capacity ≡ l.initial.packer.capacity;
   flag : l.packer.flushed ≡ l.initial.packer.flushed;
   place : l.sent ≤ length l.struck;
-  stream : (ps : List (List ℕ)) → IsCarried ps l.struck (length l.initial.buffer) l.initial.packer l.initial.reassembler l.initial.counts.counter l.initial.counts.monitor l.initial.sent (octets_of_each l.initial.out.items) →
+  stream : (ps : List (List ℕ)) → IsCarried ps l.struck (length l.initial.buffer) l.initial.packer l.initial.reassembler l.initial.counts.counter l.initial.counts.monitor l.initial.sent
+      (octets_of_each l.initial.out.items) →
       IsCarried ps l.struck (length l.initial.buffer) l.packer l.reassembler l.counts.counter l.counts.monitor l.sent (octets_of_each l.out.items);
 }
 

@@ -28,7 +28,9 @@ returns-then-rest-len-clause-ok c =
 pub returns-in_err-emit-clause-err : goal.returns-in_err-emit-clause-err
 returns-in_err-emit-clause-err c =
     let none : octets_of_each c.emit.new.out.items ≡ octets_of_each c.loop-rest.out.items = c.in_err-emit.ensures.err in
-    let n : (k : ℕ) × (octets_of_each c.loop-rest.out.items ≡ octets_of_each c.args.out.now.items ++ take k (scan (length c.args.bytes.now) c.args.bytes.now).out) = front_of (octets_of_each c.args.out.now.items) (scan (length c.args.bytes.now) c.args.bytes.now).out (octets_of_each c.loop-rest.out.items) (scan (length c.loop-rest.rest.now) c.loop-rest.rest.now).out c.loop-rest.invariant.grown c.loop-rest.invariant.out in
+    let n : (k : ℕ) × (octets_of_each c.loop-rest.out.items ≡ octets_of_each c.args.out.now.items ++ take k (scan (length c.args.bytes.now) c.args.bytes.now).out) =
+    front_of (octets_of_each c.args.out.now.items) (scan (length c.args.bytes.now) c.args.bytes.now).out (octets_of_each c.loop-rest.out.items)
+    (scan (length c.loop-rest.rest.now) c.loop-rest.rest.now).out c.loop-rest.invariant.grown c.loop-rest.invariant.out in
     let p = err_from_is_err_and c.from_residual.result c.from_residual.ensures.1 in
     rw (p.1) (n.0, none ∙ n.1)
 
@@ -43,7 +45,14 @@ returns-in_err-emit-clause-hands c =
     let some : 1 ≤ length (scan (length xs) xs).out = hands_first xs c.loop-rest-test.true ok room busy in
     let all = ap length c.loop-rest.invariant.out in
     let p = err_from_is_err_and c.from_residual.result c.from_residual.ensures.1 in
-    rw (p.1) (omega (arith, some, all, c.loop-rest.invariant.grown, length-append (octets_of_each c.args.out.now.items) (scan (length c.args.bytes.now) c.args.bytes.now).out, length-append (octets_of_each c.loop-rest.out.items) (scan (length xs) xs).out))
+    rw (p.1) (omega (
+      arith,
+      some,
+      all,
+      c.loop-rest.invariant.grown,
+      length-append (octets_of_each c.args.out.now.items) (scan (length c.args.bytes.now) c.args.bytes.now).out,
+      length-append (octets_of_each c.loop-rest.out.items) (scan (length xs) xs).out,
+    ))
 
 pub loop-rest-preserved : goal.loop-rest-preserved
 loop-rest-preserved c =
@@ -58,10 +67,12 @@ loop-rest-preserved c =
     c.in_ok-emit.ensures.ok ∙ ap (λ p. octets_of_each c.loop-rest.out.items ++ keep (not (is_idle p)) p []) first in
     record {
       shorter = omega arith;
-      behind = rest ∙ ap (λ l. drop (header_len xs) l) c.loop-rest.invariant.behind ∙ drop-drop (header_len xs) (length c.args.bytes.now - length xs) c.args.bytes.now ∙ ap (λ n. drop n c.args.bytes.now) e;
+      behind = rest ∙ ap (λ l. drop (header_len xs) l) c.loop-rest.invariant.behind ∙ drop-drop (header_len xs) (length c.args.bytes.now - length xs) c.args.bytes.now
+          ∙ ap (λ n. drop n c.args.bytes.now) e;
       begun = c.loop-rest.invariant.begun ∙ ap (λ r. r.begun) (scan_next xs c.loop-rest-test.true ok room) ∙ ap (λ l. (scan (length l) l).begun) (sym rest);
       bad = c.loop-rest.invariant.bad ∙ ap (λ r. r.bad) (scan_next xs c.loop-rest-test.true ok room) ∙ ap (λ l. (scan (length l) l).bad) (sym rest);
-      out = cut_more xs (octets_of_each c.args.out.now.items) (scan (length c.args.bytes.now) c.args.bytes.now).out (octets_of_each c.loop-rest.out.items) (octets_of_each c.emit.new.out.items) c.loop-rest-test.true ok room c.loop-rest.invariant.out more
+      out = cut_more xs (octets_of_each c.args.out.now.items) (scan (length c.args.bytes.now) c.args.bytes.now).out (octets_of_each c.loop-rest.out.items)
+          (octets_of_each c.emit.new.out.items) c.loop-rest-test.true ok room c.loop-rest.invariant.out more
           ∙ ap (λ l. octets_of_each c.emit.new.out.items ++ (scan (length l) l).out) (sym rest);
       grown = omega (arith, ap length more, length-append (octets_of_each c.loop-rest.out.items) (keep (not (is_idle (take (header_len xs) xs))) (take (header_len xs) xs) []));
     }

@@ -9,14 +9,17 @@ use Rattle.mpdu.proofs.reassembler.join.Goals as goal
 pub returns-then-not-fits-clause-goes_on : goal.returns-then-not-fits-clause-goes_on
 returns-then-not-fits-clause-goes_on c =
     sym c.if-not-fits.true
-    ∙ told_is (length c.args.zone.now) c.args.pointer c.args.held.now.items c.args.zone.now c.append.new.held.items c.deref.result.now c.saturating_sub-header.result c.len-before.result c.fits.result (some_of _ _ (c.args.held.now.ok.0) c.if-is_empty.ensures) c.requires.zone (c.len-before.ensures ∙ c.args.held.now.ok.0) c.saturating_sub-header.ensures c.append.ensures.items c.deref.ensures.value c.fits.ensures
+    ∙ told_is (length c.args.zone.now) c.args.pointer c.args.held.now.items c.args.zone.now c.append.new.held.items c.deref.result.now c.saturating_sub-header.result c.len-before.result c.fits.result
+    (some_of _ _ (c.args.held.now.ok.0) c.if-is_empty.ensures) c.requires.zone
+    (c.len-before.ensures ∙ c.args.held.now.ok.0) c.saturating_sub-header.ensures c.append.ensures.items c.deref.ensures.value c.fits.ensures
 
 pub returns-then-not-fits-clause-bad : goal.returns-then-not-fits-clause-bad
 returns-then-not-fits-clause-bad c =
     let held : List ℕ = c.args.held.now.items in
     let k : c.saturating_sub-header.result ≡ 6 - length held = c.saturating_sub-header.ensures ∙ ap (λ n. 6 - n) (c.len-before.ensures ∙ c.args.held.now.ok.0) in
     ap not (c.has_good_version-bad.ensures ∙ ap header_ok c.deref-then-not-fits.ensures.value)
-    ∙ sym (turns_bad_is held c.args.zone.now c.append.new.held.items (some_of _ _ (c.args.held.now.ok.0) c.if-is_empty.ensures) c.requires.zone (c.append.ensures.items ∙ ap (λ n. held ++ take n c.args.zone.now) k))
+    ∙ sym (turns_bad_is held c.args.zone.now c.append.new.held.items (some_of _ _ (c.args.held.now.ok.0) c.if-is_empty.ensures) c.requires.zone
+    (c.append.ensures.items ∙ ap (λ n. held ++ take n c.args.zone.now) k))
 
 pub returns-then-not-fits-clause-read : goal.returns-then-not-fits-clause-read
 returns-then-not-fits-clause-read c =
@@ -27,7 +30,9 @@ returns-then-not-fits-clause-read c =
 pub returns-clause-goes_on : goal.returns-clause-goes_on
 returns-clause-goes_on c =
     sym c.if-not-fits.false
-    ∙ told_is (length c.args.zone.now) c.args.pointer c.args.held.now.items c.args.zone.now c.append.new.held.items c.deref.result.now c.saturating_sub-header.result c.len-before.result c.fits.result (some_of _ _ (c.args.held.now.ok.0) c.if-is_empty.ensures) c.requires.zone (c.len-before.ensures ∙ c.args.held.now.ok.0) c.saturating_sub-header.ensures c.append.ensures.items c.deref.ensures.value c.fits.ensures
+    ∙ told_is (length c.args.zone.now) c.args.pointer c.args.held.now.items c.args.zone.now c.append.new.held.items c.deref.result.now c.saturating_sub-header.result c.len-before.result c.fits.result
+    (some_of _ _ (c.args.held.now.ok.0) c.if-is_empty.ensures) c.requires.zone
+    (c.len-before.ensures ∙ c.args.held.now.ok.0) c.saturating_sub-header.ensures c.append.ensures.items c.deref.ensures.value c.fits.ensures
 
 front_ok : (c : goal.After-append-2) → header_ok c.append.new.held.items ≡ true
 front_ok c = ap header_ok (sym c.deref.ensures.value) ∙ both_first _ _ (sym c.fits.ensures ∙ c.if-not-fits.false)
@@ -90,5 +95,6 @@ returns-clause-heads c =
     let end : c.min-end.result ≡ min (header_len c.append.new.held.items - length c.args.held.now.items) (length c.args.zone.now) =
     c.min-end.ensures ∙ ap (λ n. min (n - c.len-before.result) (length c.args.zone.now)) (len_is c)
     ∙ ap (λ n. min (header_len c.append.new.held.items - n) (length c.args.zone.now)) (before_is c) in
-    heads_are c.args.held.now.items c.args.zone.now c.append.new.held.items c.append-2.new.held.items c.min-end.result c.requires.zone c.requires.begun (front_is c) (front_ok c) (more_is c) (last_is c) (omega arith)
+    heads_are c.args.held.now.items c.args.zone.now c.append.new.held.items c.append-2.new.held.items c.min-end.result c.requires.zone c.requires.begun (front_is c) (front_ok c) (more_is c)
+    (last_is c) (omega arith)
     (min_is (header_len c.append.new.held.items - length c.args.held.now.items) (length c.args.zone.now) c.min-end.result end)

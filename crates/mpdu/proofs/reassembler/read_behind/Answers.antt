@@ -45,16 +45,22 @@ returns-then-goes_past-clause-begun c = subst (λ (l : List ℕ). IsBegun l) (sy
 pub returns-in_err-front-clause-err : goal.returns-in_err-front-clause-err
 returns-in_err-front-clause-err c =
     let rest : List ℕ = drop c.join-joined.result.from c.args.zone.now in
-    let s : IsSplit (c.join-joined.new.held.items ++ rest) rest c.finish.new.held.items (octets_of_each c.args.out.now.items) (octets_of_each c.finish.new.out.items) = c.in_ok-finish.ensures.ok rest c.join-joined.ensures.heads in
+    let s : IsSplit (c.join-joined.new.held.items ++ rest) rest c.finish.new.held.items (octets_of_each c.args.out.now.items) (octets_of_each c.finish.new.out.items) =
+    c.in_ok-finish.ensures.ok rest c.join-joined.ensures.heads in
     let p = err_from_is_err_and c.from_residual-in_err-front.result c.from_residual-in_err-front.ensures.1 in
-    rw (p.1) (read_front (to_read (length c.args.zone.now) c.args.held.now.items c.args.pointer c.args.zone.now) (c.join-joined.new.held.items ++ rest) rest (take (length c.args.zone.now - c.join-joined.result.from) rest) c.finish.new.held.items (octets_of_each c.args.out.now.items) (octets_of_each c.finish.new.out.items) (octets_of_each c.cut.new.out.items) (c.in_err-front.ensures.err.0) c.join-joined.ensures.read (take_rest c.args.zone.now c.join-joined.result.from) s (c.in_err-front.ensures.err.1))
+    rw (p.1) (read_front (to_read (length c.args.zone.now) c.args.held.now.items c.args.pointer c.args.zone.now) (c.join-joined.new.held.items ++ rest) rest
+    (take (length c.args.zone.now - c.join-joined.result.from) rest) c.finish.new.held.items (octets_of_each c.args.out.now.items) (octets_of_each c.finish.new.out.items)
+    (octets_of_each c.cut.new.out.items) (c.in_err-front.ensures.err.0) c.join-joined.ensures.read (take_rest c.args.zone.now c.join-joined.result.from) s (c.in_err-front.ensures.err.1))
 
 pub returns-in_err-front-clause-hands : goal.returns-in_err-front-clause-hands
 returns-in_err-front-clause-hands c =
     let rest : List ℕ = drop c.join-joined.result.from c.args.zone.now in
-    let s : IsSplit (c.join-joined.new.held.items ++ rest) rest c.finish.new.held.items (octets_of_each c.args.out.now.items) (octets_of_each c.finish.new.out.items) = c.in_ok-finish.ensures.ok rest c.join-joined.ensures.heads in
+    let s : IsSplit (c.join-joined.new.held.items ++ rest) rest c.finish.new.held.items (octets_of_each c.args.out.now.items) (octets_of_each c.finish.new.out.items) =
+    c.in_ok-finish.ensures.ok rest c.join-joined.ensures.heads in
     let p = err_from_is_err_and c.from_residual-in_err-front.result c.from_residual-in_err-front.ensures.1 in
-    rw (p.1) (hands_behind (to_read (length c.args.zone.now) c.args.held.now.items c.args.pointer c.args.zone.now) (c.join-joined.new.held.items ++ rest) rest (take (length c.args.zone.now - c.join-joined.result.from) rest) c.finish.new.held.items (octets_of_each c.args.out.now.items) (octets_of_each c.finish.new.out.items) c.join-joined.ensures.read (take_rest c.args.zone.now c.join-joined.result.from) s c.in_err-front.ensures.hands)
+    rw (p.1) (hands_behind (to_read (length c.args.zone.now) c.args.held.now.items c.args.pointer c.args.zone.now) (c.join-joined.new.held.items ++ rest) rest
+    (take (length c.args.zone.now - c.join-joined.result.from) rest) c.finish.new.held.items (octets_of_each c.args.out.now.items)
+    (octets_of_each c.finish.new.out.items) c.join-joined.ensures.read (take_rest c.args.zone.now c.join-joined.result.from) s c.in_err-front.ensures.hands)
 
 pub returns-in_err-finish-clause-hands : goal.returns-in_err-finish-clause-hands
 returns-in_err-finish-clause-hands c =
@@ -62,15 +68,20 @@ returns-in_err-finish-clause-hands c =
     let held : List ℕ = c.join-joined.new.held.items in
     let whole = c.join-joined.ensures.whole c.in_err-finish.ensures.hands.0 in
     let p = err_from_is_err_and c.from_residual.result c.from_residual.ensures.1 in
-    rw (p.1) (hands_whole (to_read (length c.args.zone.now) c.args.held.now.items c.args.pointer c.args.zone.now) held rest whole.0 whole.1 c.join-joined.ensures.heads c.in_err-finish.ensures.hands.1 c.join-joined.ensures.read)
+    rw (p.1) (hands_whole (to_read (length c.args.zone.now) c.args.held.now.items c.args.pointer c.args.zone.now) held rest whole.0 whole.1 c.join-joined.ensures.heads c.in_err-finish.ensures.hands.1
+    c.join-joined.ensures.read)
 
 -- what is left
-left_is : (c : goal.After-append-arg-3-1) → c.finish.new.held.items ++ drop c.in_ok-front.front.end (take (length c.args.zone.now - c.join-joined.result.from) (drop c.join-joined.result.from c.args.zone.now))
+left_is : (c : goal.After-append-arg-3-1) → c.finish.new.held.items ++ drop c.in_ok-front.front.end
+    (take (length c.args.zone.now - c.join-joined.result.from) (drop c.join-joined.result.from c.args.zone.now))
     ≡ (step (length c.args.zone.now) c.args.held.now.items c.args.pointer c.args.zone.now).begun
 left_is c =
     let rest : List ℕ = drop c.join-joined.result.from c.args.zone.now in
-    let s : IsSplit (c.join-joined.new.held.items ++ rest) rest c.finish.new.held.items (octets_of_each c.args.out.now.items) (octets_of_each c.finish.new.out.items) = c.in_ok-finish.ensures.ok rest c.join-joined.ensures.heads in
-    read_begun (to_read (length c.args.zone.now) c.args.held.now.items c.args.pointer c.args.zone.now) (c.join-joined.new.held.items ++ rest) rest (take (length c.args.zone.now - c.join-joined.result.from) rest) c.finish.new.held.items _ (octets_of_each c.args.out.now.items) (octets_of_each c.finish.new.out.items) c.join-joined.ensures.read (take_rest c.args.zone.now c.join-joined.result.from) s c.in_ok-front.ensures.held
+    let s : IsSplit (c.join-joined.new.held.items ++ rest) rest c.finish.new.held.items (octets_of_each c.args.out.now.items) (octets_of_each c.finish.new.out.items) =
+    c.in_ok-finish.ensures.ok rest c.join-joined.ensures.heads in
+    read_begun (to_read (length c.args.zone.now) c.args.held.now.items c.args.pointer c.args.zone.now) (c.join-joined.new.held.items ++ rest) rest
+    (take (length c.args.zone.now - c.join-joined.result.from) rest) c.finish.new.held.items _ (octets_of_each c.args.out.now.items)
+    (octets_of_each c.finish.new.out.items) c.join-joined.ensures.read (take_rest c.args.zone.now c.join-joined.result.from) s c.in_ok-front.ensures.held
 
 pub append-requires-2 : goal.append-requires-2
 append-requires-2 c =
@@ -79,15 +90,27 @@ append-requires-2 c =
     let behind : List ℕ = drop c.in_ok-front.front.end part in
     let text : List ℕ = to_read (length c.args.zone.now) c.args.held.now.items c.args.pointer c.args.zone.now in
     let short : length (scan (length text) text).begun ≤ 65541 = begun-short (scan (length text) text).begun (scan_begun (length text) text) in
-    omega (arith, short, ap length (left_is c), length-append held behind, ap length (take_rest part c.in_ok-front.front.end), c.in_ok-finish.ensures.capacity, c.join-joined.ensures.capacity, c.requires.room)
+    omega (
+      arith,
+      short,
+      ap length (left_is c),
+      length-append held behind,
+      ap length (take_rest part c.in_ok-front.front.end),
+      c.in_ok-finish.ensures.capacity,
+      c.join-joined.ensures.capacity,
+      c.requires.room,
+    )
 
 held_is : (c : goal.After-append-2) → c.append-2.new.held.items ≡ (step (length c.args.zone.now) c.args.held.now.items c.args.pointer c.args.zone.now).begun
 held_is c =
     let rest : List ℕ = drop c.join-joined.result.from c.args.zone.now in
-    let s : IsSplit (c.join-joined.new.held.items ++ rest) rest c.finish.new.held.items (octets_of_each c.args.out.now.items) (octets_of_each c.finish.new.out.items) = c.in_ok-finish.ensures.ok rest c.join-joined.ensures.heads in
+    let s : IsSplit (c.join-joined.new.held.items ++ rest) rest c.finish.new.held.items (octets_of_each c.args.out.now.items) (octets_of_each c.finish.new.out.items) =
+    c.in_ok-finish.ensures.ok rest c.join-joined.ensures.heads in
     let part : List ℕ = take (length c.args.zone.now - c.join-joined.result.from) rest in
     c.append-2.ensures.items ∙ ap (λ l. c.finish.new.held.items ++ l) (take_rest part c.in_ok-front.front.end)
-    ∙ read_begun (to_read (length c.args.zone.now) c.args.held.now.items c.args.pointer c.args.zone.now) (c.join-joined.new.held.items ++ rest) rest (take (length c.args.zone.now - c.join-joined.result.from) rest) c.finish.new.held.items _ (octets_of_each c.args.out.now.items) (octets_of_each c.finish.new.out.items) c.join-joined.ensures.read (take_rest c.args.zone.now c.join-joined.result.from) s c.in_ok-front.ensures.held
+    ∙ read_begun (to_read (length c.args.zone.now) c.args.held.now.items c.args.pointer c.args.zone.now) (c.join-joined.new.held.items ++ rest) rest
+    (take (length c.args.zone.now - c.join-joined.result.from) rest) c.finish.new.held.items _ (octets_of_each c.args.out.now.items)
+    (octets_of_each c.finish.new.out.items) c.join-joined.ensures.read (take_rest c.args.zone.now c.join-joined.result.from) s c.in_ok-front.ensures.held
 
 pub returns-clause-held : goal.returns-clause-held
 returns-clause-held c = held_is c

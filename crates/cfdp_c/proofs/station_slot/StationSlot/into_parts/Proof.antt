@@ -41,7 +41,8 @@ module _ {M : Type 1} {𝓤 : Ura M} (𝓛 : Logic 𝓤) (at_mem : Memory → SP
   open 𝓛 use {H}
 
   go : (z : (walk_of 𝓛 F.ended stayed (F.clauses 𝓛 at_mem run)).Ghost) (o : Option Home.the_row.Denot) → z.0.3.0.value ≡ o → IsSome o
-      → ent 𝓤 (types.Kit.⋆ 𝓛 ((‵ ftrue ⊛ ‵ (fsep ((Handle.the_row).own_val z.0.3.0 z.0.4.0) ftrue)) ∷ [])) (WpFn 𝓤 H 𝓣.C 𝓣.Λ code.function (z.0.4.0 ++ []) ((walk_of 𝓛 F.ended stayed (F.clauses 𝓛 at_mem run)).post z))
+      → ent 𝓤 (types.Kit.⋆ 𝓛 ((‵ ftrue ⊛ ‵ (fsep ((Handle.the_row).own_val z.0.3.0 z.0.4.0) ftrue)) ∷ []))
+      (WpFn 𝓤 H 𝓣.C 𝓣.Λ code.function (z.0.4.0 ++ []) ((walk_of 𝓛 F.ended stayed (F.clauses 𝓛 at_mem run)).post z))
   go z None held is = absurd (true≢false (sym is))
   go z (Some v₀) held is =
       let Post = (walk_of 𝓛 F.ended stayed (F.clauses 𝓛 at_mem run)).post z in
@@ -49,13 +50,15 @@ module _ {M : Type 1} {𝓤 : Ura M} (𝓛 : Logic 𝓤) (at_mem : Memory → SP
       let To = type_at (F.signature).result tt in
       let made : To.Denot = record { ptr = v.ptr; alloc = v.alloc; value = v.value } in
       qed 𝓛 ((‵ ftrue ⊛ ‵ (fsep ((Handle.the_row).own_val z.0.3.0 z.0.4.0) ftrue)) ∷ []) ∵ split ! $ drop ! $ fsplit ! $
-      rewrite ! 0 (λ (o : Option Home.the_row.Denot). ‵ ((Handle.the_row).own_val (record { at = z.0.3.0.at; alloc = z.0.3.0.alloc; value = o }) z.0.4.0)) held refl $ use1 𝓛 (‵ ((B E).own_val v z.0.4.0)) (id⊢ 𝓤 _) $
+      rewrite ! 0 (λ (o : Option Home.the_row.Denot). ‵ ((Handle.the_row).own_val (record { at = z.0.3.0.at; alloc = z.0.3.0.alloc; value = o }) z.0.4.0)) held refl $ use1 𝓛
+      (‵ ((B E).own_val v z.0.4.0)) (id⊢ 𝓤 _) $
       box_out E ! v z.0.4.0 (λ b o hv e ws fa. box_in E ! v b o v.value e refl $ use1 𝓛 (‵ (To.own_val made (word E hv b o ∷ []))) (id⊢ 𝓤 _) $ move ! (1 ∷ []) $ drop ! $
       let w = word E hv b o in
       let Γ : List (Item 𝓤) = ‵ (To.own_val made (w ∷ [])) ∷ [] in
       by ! (subst (λ (us : List Val). ent 𝓤 (types.Kit.⋆ 𝓛 Γ) (WpFn 𝓤 H 𝓣.C 𝓣.Λ code.function (us ++ []) Post)) (sym ws)
       (qed 𝓛 Γ ∵ enter ! 𝓣.C 𝓣.Λ code.function (w ∷ []) _ $ alloc_all ! (λ ls. pass_all ! refl (box_typed E hv b o fa, tt) $
-      sets ! (of_opd ! (get_in ! (fld ! refl (stop !)) (sub ! 0 refl (whole !)))) refl (tt, tt) $ sets ! (of_opd ! (get_in ! (fld ! refl (stop !)) (sub ! 1 refl (whole !)))) refl fa $ sets ! (of_opd ! (get ! refl)) refl (tt, tt) $
+      sets ! (of_opd ! (get_in ! (fld ! refl (stop !)) (sub ! 0 refl (whole !)))) refl (tt, tt) $ sets ! (of_opd ! (get_in ! (fld ! refl (stop !)) (sub ! 1 refl (whole !)))) refl fa $ sets !
+      (of_opd ! (get ! refl)) refl (tt, tt) $
       sets ! (agg ! (and_then ! (get ! refl) (and_then ! (get ! refl) (no_more !)))) refl (box_typed E hv b o fa) $ returns ! (look_at ! 0 refl) $ free_all ! refl $
       suffices ! _ (ends_at 𝓛 F.ended stayed (F.clauses 𝓛 at_mem run) z w made (tt, tt) (tt, tt)) $ says ! (sym held) $
       nothing ! $ nothing ! $ fjoin ! $ join ! $ nothing ! $ join ! $ done !))))
@@ -63,7 +66,8 @@ module _ {M : Type 1} {𝓤 : Ura M} (𝓛 : Logic 𝓤) (at_mem : Memory → SP
   walk : (z : (walk_of 𝓛 F.ended stayed (F.clauses 𝓛 at_mem run)).Ghost)
       → ent 𝓤 ((walk_of 𝓛 F.ended stayed (F.clauses 𝓛 at_mem run)).pre z) (WpFn 𝓤 H 𝓣.C 𝓣.Λ code.function (z.0.4.0 ++ []) ((walk_of 𝓛 F.ended stayed (F.clauses 𝓛 at_mem run)).post z))
   walk z =
-      qed 𝓛 ((‵ ftrue ⊛ ‵ (fsep ((Handle.the_row).own_val z.0.3.0 z.0.4.0) ftrue)) ∷ raw (fact 𝓤 (IsSome z.0.3.0.value)) ∷ []) ∵ move ! (1 ∷ []) $ heard ! (IsSome z.0.3.0.value) (λ is. by ! (go z z.0.3.0.value refl is))
+      qed 𝓛 ((‵ ftrue ⊛ ‵ (fsep ((Handle.the_row).own_val z.0.3.0 z.0.4.0) ftrue)) ∷ raw (fact 𝓤 (IsSome z.0.3.0.value)) ∷ []) ∵ move ! (1 ∷ []) $ heard ! (IsSome z.0.3.0.value)
+      (λ is. by ! (go z z.0.3.0.value refl is))
 
 pub into_parts_spec : {M : Type 1} → stated.statement M
 unfolding tables_of

@@ -5,5 +5,8 @@ use Rattle.cfdp_entity.proofs.Numbers.{free-first}
 use Rattle.cfdp_entity.proofs.entity.Entity.new.Goals as goal
 
 pub invariant_of-result : goal.invariant_of-result
-invariant_of-result g c =
-    (c.requires, ap (λ (b : Buffer StrayAck). b.capacity) c.in_ok-strays.ensures, free-first c.args.config.entity c.args.config.first_number c.in_ok-table.table.state _ _ _ c.in_ok-table.ensures.state)
+invariant_of-result g c = (
+  c.requires,
+  ap (λ (b : Buffer StrayAck). b.capacity) c.in_ok-strays.ensures,
+  free-first c.args.config.entity c.args.config.first_number c.in_ok-table.table.state _ _ _ c.in_ok-table.ensures.state,
+)

@@ -11,7 +11,8 @@ pub put-requires-clause-absent : goal.put-requires-clause-absent
 put-requires-clause-absent g c =
     let own : c.in_ok-transfer.transfer.addressing.id ≡ own_id c.self.inside.config.entity (next_of c.self.inside.next) =
     ap (λ (t : Transfer). t.addressing.id) c.in_ok-transfer.ensures.transfer ∙ sym (ap (λ (v : Counted). next_id v.state) c.self.view_is) in
-    ap (λ (id : TransactionId). place_of id c.self.inside.table.state.records) own ∙ free-at c.self.inside.config.entity (next_of c.self.inside.next) c.self.inside.table.state.records c.self.invariant.2
+    ap (λ (id : TransactionId). place_of id c.self.inside.table.state.records) own
+    ∙ free-at c.self.inside.config.entity (next_of c.self.inside.next) c.self.inside.table.state.records c.self.invariant.2
 
 pub invariant_of-self-2 : goal.invariant_of-self-2
 invariant_of-self-2 g c =
@@ -27,4 +28,5 @@ invariant_of-self-2 g c =
 
 pub returns-clause-fresh : goal.returns-clause-fresh
 returns-clause-fresh g c =
-    sym (ap (λ (v : Counted). place_of (next_id v.state) v.state.table.records) c.self.view_is) ∙ free-at c.self.inside.config.entity (next_of c.self.inside.next) c.self.inside.table.state.records c.self.invariant.2
+    sym (ap (λ (v : Counted). place_of (next_id v.state) v.state.table.records) c.self.view_is)
+    ∙ free-at c.self.inside.config.entity (next_of c.self.inside.next) c.self.inside.table.state.records c.self.invariant.2

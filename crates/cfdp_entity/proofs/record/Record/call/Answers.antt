@@ -9,28 +9,46 @@ use Rattle.cfdp_entity.proofs.Records.{sender-called, called-there, receiver-sti
 use Rattle.cfdp_entity.proofs.record.Record.call.Goals as goal
 
 pub call_sender-requires-clause-has_room : goal.call_sender-requires-clause-has_room
-call_sender-requires-clause-has_room g c = subst (λ k. set.contains c.args.timers.now.roomy k ≡ true) (sym (ready-sender (g.I.Inbox.staged c.args.inbox.now) (g.O.Outbox.files c.args.outbox.now) c.args.id c.in-Sends.sender (subst (IsReadyRecord (g.I.Inbox.staged c.args.inbox.now) (g.O.Outbox.files c.args.outbox.now) c.args.id) c.in-Sends.is c.requires.ready)).0) c.requires.has_room
+call_sender-requires-clause-has_room g c = subst (λ k. set.contains c.args.timers.now.roomy k ≡ true)
+    (sym (ready-sender (g.I.Inbox.staged c.args.inbox.now) (g.O.Outbox.files c.args.outbox.now) c.args.id c.in-Sends.sender
+    (subst (IsReadyRecord (g.I.Inbox.staged c.args.inbox.now) (g.O.Outbox.files c.args.outbox.now) c.args.id) c.in-Sends.is c.requires.ready)).0) c.requires.has_room
 
 pub call_receiver-requires-clause-has_room : goal.call_receiver-requires-clause-has_room
-call_receiver-requires-clause-has_room g c = subst (λ k. set.contains c.args.timers.now.roomy k ≡ true) (sym (ready-receiver (g.I.Inbox.staged c.args.inbox.now) (g.O.Outbox.files c.args.outbox.now) c.args.id c.in-Receives.receiver (subst (IsReadyRecord (g.I.Inbox.staged c.args.inbox.now) (g.O.Outbox.files c.args.outbox.now) c.args.id) c.in-Receives.is c.requires.ready)).0) c.requires.has_room
+call_receiver-requires-clause-has_room g c = subst (λ k. set.contains c.args.timers.now.roomy k ≡ true)
+    (sym (ready-receiver (g.I.Inbox.staged c.args.inbox.now) (g.O.Outbox.files c.args.outbox.now) c.args.id c.in-Receives.receiver
+    (subst (IsReadyRecord (g.I.Inbox.staged c.args.inbox.now) (g.O.Outbox.files c.args.outbox.now) c.args.id) c.in-Receives.is c.requires.ready)).0) c.requires.has_room
 
 pub call_receiver-requires-clause-ready : goal.call_receiver-requires-clause-ready
-call_receiver-requires-clause-ready g c = (ready-receiver (g.I.Inbox.staged c.args.inbox.now) (g.O.Outbox.files c.args.outbox.now) c.args.id c.in-Receives.receiver (subst (IsReadyRecord (g.I.Inbox.staged c.args.inbox.now) (g.O.Outbox.files c.args.outbox.now) c.args.id) c.in-Receives.is c.requires.ready)).1
+call_receiver-requires-clause-ready g c = (ready-receiver (g.I.Inbox.staged c.args.inbox.now) (g.O.Outbox.files c.args.outbox.now) c.args.id c.in-Receives.receiver
+    (subst (IsReadyRecord (g.I.Inbox.staged c.args.inbox.now) (g.O.Outbox.files c.args.outbox.now) c.args.id) c.in-Receives.is c.requires.ready)).1
 
 pub returns-in-Sends-clause-does : goal.returns-in-Sends-clause-does
-returns-in-Sends-clause-does g c = (sender-called c.args.policy.now.times c.args.id c.args.self.now c.in-Sends.sender c.call_sender.new.sender c.in-Sends.is (g.I.Inbox.staged c.args.inbox.now) (g.O.Outbox.files c.args.outbox.now) (g.I.Inbox.published c.args.inbox.now) c.args.told.now.items c.call_sender.new.told.items c.args.timers.now c.call_sender.new.timers c.requires.ready c.args.call c.call_sender.ensures).0
+returns-in-Sends-clause-does g c = (sender-called c.args.policy.now.times c.args.id c.args.self.now c.in-Sends.sender c.call_sender.new.sender c.in-Sends.is (g.I.Inbox.staged c.args.inbox.now)
+    (g.O.Outbox.files c.args.outbox.now) (g.I.Inbox.published c.args.inbox.now) c.args.told.now.items c.call_sender.new.told.items c.args.timers.now c.call_sender.new.timers c.requires.ready
+    c.args.call c.call_sender.ensures).0
 
 pub returns-in-Sends-clause-ready : goal.returns-in-Sends-clause-ready
-returns-in-Sends-clause-ready g c = (sender-called c.args.policy.now.times c.args.id c.args.self.now c.in-Sends.sender c.call_sender.new.sender c.in-Sends.is (g.I.Inbox.staged c.args.inbox.now) (g.O.Outbox.files c.args.outbox.now) (g.I.Inbox.published c.args.inbox.now) c.args.told.now.items c.call_sender.new.told.items c.args.timers.now c.call_sender.new.timers c.requires.ready c.args.call c.call_sender.ensures).1
+returns-in-Sends-clause-ready g c = (sender-called c.args.policy.now.times c.args.id c.args.self.now c.in-Sends.sender c.call_sender.new.sender c.in-Sends.is (g.I.Inbox.staged c.args.inbox.now)
+    (g.O.Outbox.files c.args.outbox.now) (g.I.Inbox.published c.args.inbox.now) c.args.told.now.items c.call_sender.new.told.items c.args.timers.now c.call_sender.new.timers c.requires.ready
+    c.args.call c.call_sender.ensures).1
 
 pub returns-in-Receives-clause-does : goal.returns-in-Receives-clause-does
-returns-in-Receives-clause-does g c = called-there c.args.policy.now.times c.args.id c.args.self.now c.in-Receives.receiver c.call_receiver.new.receiver c.in-Receives.is (g.O.Outbox.files c.args.outbox.now) (g.I.Inbox.published c.args.inbox.now) (g.I.Inbox.published c.call_receiver.new.inbox) (g.I.Inbox.staged c.args.inbox.now) (g.I.Inbox.staged c.call_receiver.new.inbox) c.args.told.now.items c.call_receiver.new.told.items c.args.timers.now c.call_receiver.new.timers c.requires.ready c.call_receiver.ensures.addressing c.args.call c.call_receiver.ensures.does
+returns-in-Receives-clause-does g c = called-there c.args.policy.now.times c.args.id c.args.self.now c.in-Receives.receiver c.call_receiver.new.receiver c.in-Receives.is
+    (g.O.Outbox.files c.args.outbox.now) (g.I.Inbox.published c.args.inbox.now) (g.I.Inbox.published c.call_receiver.new.inbox) (g.I.Inbox.staged c.args.inbox.now)
+    (g.I.Inbox.staged c.call_receiver.new.inbox) c.args.told.now.items c.call_receiver.new.told.items c.args.timers.now c.call_receiver.new.timers c.requires.ready c.call_receiver.ensures.addressing
+    c.args.call c.call_receiver.ensures.does
 
 pub returns-in-Receives-clause-ready : goal.returns-in-Receives-clause-ready
-returns-in-Receives-clause-ready g c = receiver-still c.args.policy.now.times c.args.id c.args.self.now c.in-Receives.receiver c.call_receiver.new.receiver c.in-Receives.is (g.O.Outbox.files c.args.outbox.now) (g.I.Inbox.published c.args.inbox.now) (g.I.Inbox.published c.call_receiver.new.inbox) (g.I.Inbox.staged c.args.inbox.now) (g.I.Inbox.staged c.call_receiver.new.inbox) c.args.told.now.items c.call_receiver.new.told.items c.args.timers.now c.call_receiver.new.timers c.requires.ready c.call_receiver.ensures.addressing c.call_receiver.ensures.ready
+returns-in-Receives-clause-ready g c = receiver-still c.args.policy.now.times c.args.id c.args.self.now c.in-Receives.receiver c.call_receiver.new.receiver c.in-Receives.is
+    (g.O.Outbox.files c.args.outbox.now) (g.I.Inbox.published c.args.inbox.now) (g.I.Inbox.published c.call_receiver.new.inbox) (g.I.Inbox.staged c.args.inbox.now)
+    (g.I.Inbox.staged c.call_receiver.new.inbox) c.args.told.now.items c.call_receiver.new.told.items c.args.timers.now c.call_receiver.new.timers c.requires.ready c.call_receiver.ensures.addressing
+    c.call_receiver.ensures.ready
 
 pub returns-in-Receives-clause-others : goal.returns-in-Receives-clause-others
-returns-in-Receives-clause-others g c = others-there c.args.policy.now.times c.args.id c.args.self.now c.in-Receives.receiver c.call_receiver.new.receiver c.in-Receives.is (g.O.Outbox.files c.args.outbox.now) (g.I.Inbox.published c.args.inbox.now) (g.I.Inbox.published c.call_receiver.new.inbox) (g.I.Inbox.staged c.args.inbox.now) (g.I.Inbox.staged c.call_receiver.new.inbox) c.args.told.now.items c.call_receiver.new.told.items c.args.timers.now c.call_receiver.new.timers c.requires.ready c.call_receiver.ensures.addressing _ refl c.call_receiver.ensures.others
+returns-in-Receives-clause-others g c = others-there c.args.policy.now.times c.args.id c.args.self.now c.in-Receives.receiver c.call_receiver.new.receiver c.in-Receives.is
+    (g.O.Outbox.files c.args.outbox.now) (g.I.Inbox.published c.args.inbox.now) (g.I.Inbox.published c.call_receiver.new.inbox) (g.I.Inbox.staged c.args.inbox.now)
+    (g.I.Inbox.staged c.call_receiver.new.inbox) c.args.told.now.items c.call_receiver.new.told.items c.args.timers.now c.call_receiver.new.timers c.requires.ready c.call_receiver.ensures.addressing _
+    refl c.call_receiver.ensures.others
 
 pub returns-in-Sends-clause-raises : goal.returns-in-Sends-clause-raises
 returns-in-Sends-clause-raises g c =
@@ -38,5 +56,6 @@ returns-in-Sends-clause-raises g c =
 
 pub returns-in-Receives-clause-raises : goal.returns-in-Receives-clause-raises
 returns-in-Receives-clause-raises g c =
-    called-here g.I.Inbox.steps g.I.Inbox.failures c.args.self.now c.in-Receives.receiver c.call_receiver.new.receiver c.in-Receives.is (g.I.Inbox.staged c.args.inbox.now c.args.id) (g.I.Inbox.staged c.call_receiver.new.inbox c.args.id) c.args.inbox.now c.call_receiver.new.inbox
+    called-here g.I.Inbox.steps g.I.Inbox.failures c.args.self.now c.in-Receives.receiver c.call_receiver.new.receiver c.in-Receives.is (g.I.Inbox.staged c.args.inbox.now c.args.id)
+    (g.I.Inbox.staged c.call_receiver.new.inbox c.args.id) c.args.inbox.now c.call_receiver.new.inbox
     c.args.call c.call_receiver.ensures.calls

@@ -15,7 +15,8 @@ returns-in-Sends-clause-len c = λ staged sources id is_ready.
     ∙ ap (λ (k : Record). due_len sources (seen (staged id) k)) (sym c.in-Sends.is)
 
 pub returns-in-Sends-clause-spelled : goal.returns-in-Sends-clause-spelled
-returns-in-Sends-clause-spelled c = λ staged sources. subst (λ (k : Record). SeenIsSpelled sources (seen staged k)) (sym c.in-Sends.is) (sender-spelled sources c.in-Sends.sender c.due.ensures.can_write)
+returns-in-Sends-clause-spelled c = λ staged sources. subst (λ (k : Record). SeenIsSpelled sources (seen staged k)) (sym c.in-Sends.is)
+    (sender-spelled sources c.in-Sends.sender c.due.ensures.can_write)
 
 pub returns-in-Receives-clause-spelled : goal.returns-in-Receives-clause-spelled
 returns-in-Receives-clause-spelled c = λ staged sources.

@@ -5,7 +5,8 @@ use Rattle.cfdp_entity.proofs.table.Table.fire.Goals as goal
 
 pub returns-clause-state : goal.returns-clause-state
 returns-clause-state g c =
-    state-fired c.fire.result (g.I.Inbox.staged c.self.inside.inbox) (g.I.Inbox.published c.self.inside.inbox) (g.O.Outbox.files c.self.inside.outbox) c.self.inside.policy c.self.inside.records.entries c.self.inside.timers c.fire.new.self c.self.inside.told.items c.args.now
+    state-fired c.fire.result (g.I.Inbox.staged c.self.inside.inbox) (g.I.Inbox.published c.self.inside.inbox)
+    (g.O.Outbox.files c.self.inside.outbox) c.self.inside.policy c.self.inside.records.entries c.self.inside.timers c.fire.new.self c.self.inside.told.items c.args.now
     c.fire.ensures.time c.fire.ensures.left c.args.self.now.state (ap (λ (v : Roomy). v.state) c.self.view_is)
 
 pub returns-clause-count : goal.returns-clause-count

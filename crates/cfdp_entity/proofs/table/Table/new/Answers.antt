@@ -7,4 +7,13 @@ invariant_of-result g c = first-whole _ _ _ _ _ c.new-2.ensures.empty c.in_ok-re
 pub returns-clause-state : goal.returns-clause-state
 returns-clause-state g c =
     let records = seen-nil (g.I.Inbox.staged c.args.inbox) c.new-2.result.entries c.new-2.ensures.empty in
-    λ i. record { records = records i; now = c.new-3.ensures.time i; armed = c.new-3.ensures.armed i; told = c.new-4.ensures.items i; files = g.I.Inbox.published c.args.inbox; sources = g.O.Outbox.files c.args.outbox; policy = c.args.policy }
+    λ i. record {
+      records = records i;
+      now = c.new-3.ensures.time i;
+      armed = c.new-3.ensures.armed i;
+      told = c.new-4.ensures.items i;
+      files = g.I.Inbox.published c.args.inbox;
+      sources =
+          g.O.Outbox.files c.args.outbox;
+      policy = c.args.policy;
+    }

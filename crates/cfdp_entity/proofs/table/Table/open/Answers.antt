@@ -5,7 +5,8 @@ use Rattle.cfdp_entity.proofs.Places.{absent-seen, length_entries}
 use Rattle.cfdp_entity.proofs.table.Table.open.Goals as goal
 
 pub open_record-requires-clause-absent : goal.open_record-requires-clause-absent
-open_record-requires-clause-absent g c = absent-seen (g.I.Inbox.staged c.self.inside.inbox) c.self.inside.records.entries c.args.addressing.id (ap (place_of c.args.addressing.id) (ap (λ (v : Roomy). v.state.records) c.self.view_is) ∙ c.requires.absent)
+open_record-requires-clause-absent g c = absent-seen (g.I.Inbox.staged c.self.inside.inbox) c.self.inside.records.entries c.args.addressing.id
+    (ap (place_of c.args.addressing.id) (ap (λ (v : Roomy). v.state.records) c.self.view_is) ∙ c.requires.absent)
 
 pub open_record-requires-clause-not_full : goal.open_record-requires-clause-not_full
 open_record-requires-clause-not_full g c =

@@ -5,7 +5,8 @@ use Rattle.cfdp_entity.proofs.Places.{absent-seen, length_entries}
 use Rattle.cfdp_entity.proofs.table.Table.put.Goals as goal
 
 pub put_record-requires-clause-absent : goal.put_record-requires-clause-absent
-put_record-requires-clause-absent g c = absent-seen (g.I.Inbox.staged c.self.inside.inbox) c.self.inside.records.entries c.args.transfer.addressing.id (ap (place_of c.args.transfer.addressing.id) (ap (λ (v : Roomy). v.state.records) c.self.view_is) ∙ c.requires.absent)
+put_record-requires-clause-absent g c = absent-seen (g.I.Inbox.staged c.self.inside.inbox) c.self.inside.records.entries c.args.transfer.addressing.id
+    (ap (place_of c.args.transfer.addressing.id) (ap (λ (v : Roomy). v.state.records) c.self.view_is) ∙ c.requires.absent)
 
 pub put_record-requires-clause-not_full : goal.put_record-requires-clause-not_full
 put_record-requires-clause-not_full g c =

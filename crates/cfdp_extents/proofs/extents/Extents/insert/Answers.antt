@@ -25,7 +25,8 @@ pub returns-clause-ok : goal.returns-clause-ok
 returns-clause-ok c =
     let some : c.args.start < c.args.end = grind (arith, c.requires, c.if-start-end.false) in
     let xs : List (ℕ × ℕ) = with_last (turned c.self.inside.ranges.entries) c.self.inside.last in
-    on_ok c.join.result (λ is. ap union_of is ∙ joined-union c.args.start c.args.end xs some c.self.invariant.0 ∙ ap (λ held. union held (range c.args.start c.args.end)) c.self.view_is) c.join.ensures.ok
+    on_ok c.join.result (λ is. ap union_of is ∙ joined-union c.args.start c.args.end xs some c.self.invariant.0
+    ∙ ap (λ held. union held (range c.args.start c.args.end)) c.self.view_is) c.join.ensures.ok
 
 pub returns-clause-held : goal.returns-clause-held
 returns-clause-held c held =

@@ -12,9 +12,12 @@ returns-clause-gaps c =
     let xs : List (ℕ × ℕ) = with_last (turned c.self.inside.ranges.entries) c.self.inside.last in
     let from : ℕ = c.match-first_past.from in
     let gaps : AreRangesOf (missing_from (union_of xs) c.args.start c.args.limit) (gaps_between from c.args.limit (behind from xs)) = elim c.match-first_past.branch [
-      | in-Some w ↦ subst (λ (f : ℕ). AreRangesOf (missing_from (union_of xs) c.args.start c.args.limit) (gaps_between f c.args.limit (behind f xs))) (sym w.from-is) (gaps-inside_range xs c.args.start c.args.limit w.in-Some.range c.self.invariant.0 (sym c.first_past.ensures ∙ w.in-Some.is) w.if-range-start.true)
-      | in_default-2 w ↦ subst (λ (f : ℕ). AreRangesOf (missing_from (union_of xs) c.args.start c.args.limit) (gaps_between f c.args.limit (behind f xs))) (sym w.from-is) (gaps-before_range xs c.args.start c.args.limit w.in-Some.range c.self.invariant.0 (sym c.first_past.ensures ∙ w.in-Some.is) w.if-range-start.false)
-      | in_default w ↦ subst (λ (f : ℕ). AreRangesOf (missing_from (union_of xs) c.args.start c.args.limit) (gaps_between f c.args.limit (behind f xs))) (sym w.from-is) (gaps-behind_all xs c.args.start c.args.limit c.self.invariant.0 (sym c.first_past.ensures ∙ w.in_default.is))
+      | in-Some w ↦ subst (λ (f : ℕ). AreRangesOf (missing_from (union_of xs) c.args.start c.args.limit) (gaps_between f c.args.limit (behind f xs))) (sym w.from-is)
+          (gaps-inside_range xs c.args.start c.args.limit w.in-Some.range c.self.invariant.0 (sym c.first_past.ensures ∙ w.in-Some.is) w.if-range-start.true)
+      | in_default-2 w ↦ subst (λ (f : ℕ). AreRangesOf (missing_from (union_of xs) c.args.start c.args.limit) (gaps_between f c.args.limit (behind f xs))) (sym w.from-is)
+          (gaps-before_range xs c.args.start c.args.limit w.in-Some.range c.self.invariant.0 (sym c.first_past.ensures ∙ w.in-Some.is) w.if-range-start.false)
+      | in_default w ↦ subst (λ (f : ℕ). AreRangesOf (missing_from (union_of xs) c.args.start c.args.limit) (gaps_between f c.args.limit (behind f xs))) (sym w.from-is)
+          (gaps-behind_all xs c.args.start c.args.limit c.self.invariant.0 (sym c.first_past.ensures ∙ w.in_default.is))
     ] in
     subst (AreRangesOf (missing_from c.args.self.now c.args.start c.args.limit)) (sym c.new.ensures)
     (subst (λ held. AreRangesOf (missing_from held c.args.start c.args.limit) (gaps_between from c.args.limit (behind from xs))) c.self.view_is gaps)

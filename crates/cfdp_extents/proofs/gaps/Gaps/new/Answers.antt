@@ -7,5 +7,6 @@ use Rattle.cfdp_extents.proofs.gaps.Gaps.new.Goals as goal
 pub returns : goal.returns
 returns c =
     ap (λ es. gaps_between c.args.start c.args.limit (with_last (turned es) c.ending_behind.result)) (c.range.ensures.between tt)
-    ∙ ap (λ rs. gaps_between c.args.start c.args.limit (with_last rs c.ending_behind.result)) (behind_is c.args.start c.args.ranges.now.entries (apart-others (turned c.args.ranges.now.entries) c.args.last c.requires))
+    ∙ ap (λ rs. gaps_between c.args.start c.args.limit (with_last rs c.ending_behind.result))
+    (behind_is c.args.start c.args.ranges.now.entries (apart-others (turned c.args.ranges.now.entries) c.args.last c.requires))
     ∙ ap (gaps_between c.args.start c.args.limit) (behind-last c.args.start (turned c.args.ranges.now.entries) c.args.last c.ending_behind.result c.requires c.ending_behind.ensures)

@@ -22,7 +22,8 @@ returns-in-Some-clause-goes c = progress-first _ _ _ (returns-in-Some-clause-ste
 pub returns-in_default-clause-steps : goal.returns-in_default-clause-steps
 returns-in_default-clause-steps c =
     let last : StartBehind (c.self.inside.limit - 1) (with_last (turned c.self.inside.ranges) c.self.inside.last) = elim c.in_default.branch [
-      | in_default-via-in-Some+else-behind-self w ↦ behind_limit c.self.inside.limit (with_last (turned c.self.inside.ranges) c.self.inside.last) (w.in-Some.behind, w.in-Some.end) (with_last (turned c.next_range.new.ranges) c.next_range.new.last) (omega arith) w.in-Some.ensures.some w.if-behind-self.false
+      | in_default-via-in-Some+else-behind-self w ↦ behind_limit c.self.inside.limit (with_last (turned c.self.inside.ranges) c.self.inside.last) (w.in-Some.behind, w.in-Some.end)
+          (with_last (turned c.next_range.new.ranges) c.next_range.new.last) (omega arith) w.in-Some.ensures.some w.if-behind-self.false
       | in_default-via-in_default w ↦ behind_none (c.self.inside.limit - 1) (with_last (turned c.self.inside.ranges) c.self.inside.last) (ap length w.in_default.ensures.none)
     ] in
     sym c.self.view_is

@@ -22,12 +22,14 @@ loop-datagram-preserved g c =
           let frame = take w.in-Ok-Some.len c.receive.new.buffer in
           let asked = rw w.in-Ok-Some.field-0-is at w.in-Ok-Some.ensures.steps in
           let takes = subst (λ (s : StationState). TakesFrame frame c.loop-datagram.station s) (sym w.station-is) w.take.ensures in (
-            heard_more g.W.Wire.steps c.loop-datagram._datagram (record { station = c.args.station.now; wire = c.args.wire.now }) c.loop-datagram.station c.match-receive.station c.loop-datagram.wire c.receive.new.self
+            heard_more g.W.Wire.steps c.loop-datagram._datagram (record { station = c.args.station.now; wire = c.args.wire.now }) c.loop-datagram.station c.match-receive.station c.loop-datagram.wire
+                c.receive.new.self
                 (Ok (Some frame)) c.loop-datagram.invariant.0 (some_came _ frame refl) asked takes,
             ap (λ s. s.link) takes.down ∙ c.loop-datagram.invariant.1,
           )
       | in-Err w ↦ (
-        heard_more g.W.Wire.steps c.loop-datagram._datagram (record { station = c.args.station.now; wire = c.args.wire.now }) c.loop-datagram.station c.match-receive.station c.loop-datagram.wire c.receive.new.self
+        heard_more g.W.Wire.steps c.loop-datagram._datagram (record { station = c.args.station.now; wire = c.args.wire.now }) c.loop-datagram.station c.match-receive.station c.loop-datagram.wire
+            c.receive.new.self
             (Err w.in-Err.field-0) c.loop-datagram.invariant.0 (fault_came _ w.in-Err.field-0 refl) w.in-Err.ensures.steps w.station-is,
         ap (λ (s : StationState). s.down.link) w.station-is ∙ c.loop-datagram.invariant.1,
       )

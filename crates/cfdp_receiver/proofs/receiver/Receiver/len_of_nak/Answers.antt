@@ -17,7 +17,8 @@ gaps c = c.missing_in-gaps.ensures.is ∙ ap (λ (r : ReceiverState). gaps_of r.
 
 counted : (c : goal.After-nak_len) → length (asked (missing_pairs c.args.cursor c.args.self.now)) ≡ c.count_asked-pairs.result
 counted c =
-    pairs_counted c.args.self.now c.args.cursor c.scope_limit.result c.missing_in-gaps.result c.scope_limit.ensures.value (gaps c) c.asks_for_metadata.result c.count_asked-pairs.result c.asks_for_metadata.ensures c.count_asked-pairs.ensures.count
+    pairs_counted c.args.self.now c.args.cursor c.scope_limit.result c.missing_in-gaps.result c.scope_limit.ensures.value
+    (gaps c) c.asks_for_metadata.result c.count_asked-pairs.result c.asks_for_metadata.ensures c.count_asked-pairs.ensures.count
 
 -- nine octets, and eight for each pair
 says : (c : goal.After-nak_len) → 9 + 8 * length (asked (missing_pairs c.args.cursor c.args.self.now)) ≡ c.nak_len.result
@@ -50,5 +51,6 @@ returns-clause-can_write c =
     let few : c.count_asked-pairs.result ≤ 32 = c.count_asked-pairs.ensures.few in
     let addressing = subst (λ (r : ReceiverState). FitsAddressing r.addressing) c.self.view_is c.self.invariant.addressing_fits in
     can_write c.args.self.now.addressing false it addressing
-    (nak_fits c.args.self.now c.args.cursor c.scope_limit.result c.missing_in-gaps.result c.scope_limit.ensures.value (gaps c) c.missing_in-gaps.ensures.inside c.requires.cursor (c.scope_limit.ensures.fits c.requires.receiving))
+    (nak_fits c.args.self.now c.args.cursor c.scope_limit.result c.missing_in-gaps.result c.scope_limit.ensures.value (gaps c) c.missing_in-gaps.ensures.inside c.requires.cursor
+    (c.scope_limit.ensures.fits c.requires.receiving))
     (omega (arith, few, counted c))

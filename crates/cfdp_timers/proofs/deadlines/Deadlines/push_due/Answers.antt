@@ -10,4 +10,5 @@ four x0 x1 x2 x3 x4 d0 d1 d2 d3 all e1 e2 e3 e4 e =
     ∙ append_assoc ((x0 ++ d0) ++ d1) d2 d3 ∙ append_assoc (x0 ++ d0) d1 (d2 ++ d3) ∙ append_assoc x0 d0 (d1 ++ (d2 ++ d3)) ∙ ap (λ l. x0 ++ l) (sym e)
 
 pub returns-clause-ok : goal.returns-clause-ok
-returns-clause-ok c = four _ _ _ _ _ _ _ _ _ _ c.in_ok-push_due.ensures.ok c.in_ok-push_due-2.ensures.ok c.in_ok-push_due-3.ensures.ok c.in_ok-push_due-4.ensures.ok (due-alarms_of c.args.now c.args.id c.args.self.now)
+returns-clause-ok c = four _ _ _ _ _ _ _ _ _ _ c.in_ok-push_due.ensures.ok c.in_ok-push_due-2.ensures.ok c.in_ok-push_due-3.ensures.ok c.in_ok-push_due-4.ensures.ok
+    (due-alarms_of c.args.now c.args.id c.args.self.now)

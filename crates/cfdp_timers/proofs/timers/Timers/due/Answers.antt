@@ -18,7 +18,8 @@ pub returns-in_err-due-clause-err : goal.returns-in_err-due-clause-err
 returns-in_err-due-clause-err c =
     let es = c.self.inside.entries.entries in
     let some : 1 ≤ length (due c.args.now (alarms es)) = c.in_err-due.ensures.err in
-    let size : length (due c.args.now (alarms es)) ≡ due_count c.args.self.now.armed c.args.now = length-due-alarms es c.args.now c.self.invariant.0 ∙ ap (λ state. due_count state.armed c.args.now) c.self.view_is in
+    let size : length (due c.args.now (alarms es)) ≡ due_count c.args.self.now.armed c.args.now = length-due-alarms es c.args.now c.self.invariant.0
+    ∙ ap (λ state. due_count state.armed c.args.now) c.self.view_is in
     let one : 1 ≤ due_count c.args.self.now.armed c.args.now = omega (arith, some, size) in
     on_err _ one
 

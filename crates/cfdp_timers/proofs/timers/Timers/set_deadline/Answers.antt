@@ -12,5 +12,6 @@ set_deadline-requires-clause-room c = λ some. ap (λ state. set.contains state.
 pub returns : goal.returns
 returns c =
     let es = c.self.inside.entries.entries in
-    state_of-written c.self.inside.time es c.set_deadline.new.entries.entries (with_timer (armed_of es) (c.args.id, c.args.kind) c.args.deadline) c.set_deadline.ensures.keys c.set_deadline.ensures.armed
+    state_of-written c.self.inside.time es c.set_deadline.new.entries.entries
+    (with_timer (armed_of es) (c.args.id, c.args.kind) c.args.deadline) c.set_deadline.ensures.keys c.set_deadline.ensures.armed
     ∙ ap (λ state. record { time = state.time; roomy = state.roomy; armed = with_timer state.armed (c.args.id, c.args.kind) c.args.deadline }) c.self.view_is

@@ -20,11 +20,15 @@ returns-clause-way g c =
     let grown : pieces i.len (i.count + 1) written ≡ pieces i.len i.count i.octets.items ++ frame ∷ [] =
     pieces_pulled i.len i.count i.octets.len w i.octets.items c.deref_mut.result.now whole c.deref_mut.ensures.value c.write_frame.ensures.front in
     let made = c.if-not-write_frame.ensures.made refl in
-    let one : (up : LinkReceiverState) → IsOneWay (one_way d k up) → SendsNone (one_way d k up) (one_way c.write_frame.new.station.down m up) = λ (up : LinkReceiverState) (is : IsOneWay (one_way d k up)).
+    let one : (up : LinkReceiverState) → IsOneWay (one_way d k up) → SendsNone (one_way d k up) (one_way c.write_frame.new.station.down m up) =
+    λ (up : LinkReceiverState) (is : IsOneWay (one_way d k up)).
     let l : OneWayState = one_way d k up in
     subst (λ (x : List (List ℕ)). SendsNone l (record l { down = c.write_frame.new.station.down; frames = x })) (sym grown)
-    (pulls l c.write_frame.new.station.down frame is
-    (made.is_next (packets_sent l) (length l.frames) is.sent.made, made.inside (packets_sent l) (length l.frames) is.sent.made, made.after (packets_sent l) (length l.frames) is.sent.made) made.zone made.waiting made.link) in
+    (pulls l c.write_frame.new.station.down frame is (
+      made.is_next (packets_sent l) (length l.frames) is.sent.made,
+      made.inside (packets_sent l) (length l.frames) is.sent.made,
+      made.after (packets_sent l) (length l.frames) is.sent.made,
+    ) made.zone made.waiting made.link) in
     subst (λ (x : FrameLinkState). (up : LinkReceiverState) → IsOneWay (one_way d x up) → SendsNone (one_way d x up) (one_way c.write_frame.new.station.down m up)) c.self.view_is one
 
 pub returns-clause-grown : goal.returns-clause-grown

@@ -24,4 +24,5 @@ returns-in-Two g c =
     let new : WorldState = world_of c.deliver_to-in-Two.new.station i.two i.from_one c.deliver_to-in-Two.new.link i.puts.items i.ticks in
     subst (λ (s : Side). Delivers r s c.args.self.now new) (sym c.in-Two.is)
     (subst (λ (w : WorldState). Delivers r Two w new) c.self.view_is
-    (delivers-two r i.from_two c.deliver_to-in-Two.new.link i.one c.deliver_to-in-Two.new.station e.waits e.hears e.marked e.none e.refused e.down i.two i.from_one i.puts.items i.ticks c.self.invariant.1))
+    (delivers-two r i.from_two c.deliver_to-in-Two.new.link i.one c.deliver_to-in-Two.new.station e.waits e.hears e.marked e.none e.refused e.down i.two i.from_one i.puts.items i.ticks
+    c.self.invariant.1))

@@ -24,7 +24,8 @@ returns-in-One g c =
     let r = c.strike_at.result in
     let new : WorldState = world_of i.one i.two c.strike_at.new.link i.from_two i.puts.items i.ticks in
     subst (λ (s : Side). Strikes r s c.args.self.now new) (sym c.in-One.is)
-    (subst (λ (w : WorldState). Strikes r One w new) c.self.view_is (strikes-one r i.one i.two i.from_one c.strike_at.new.link i.from_two i.puts.items i.ticks c.strike_at.ensures.strikes c.self.invariant.0))
+    (subst (λ (w : WorldState). Strikes r One w new) c.self.view_is (strikes-one r i.one i.two i.from_one c.strike_at.new.link i.from_two i.puts.items i.ticks c.strike_at.ensures.strikes
+    c.self.invariant.0))
 
 pub returns-in-Two : goal.returns-in-Two
 returns-in-Two g c =
@@ -32,4 +33,5 @@ returns-in-Two g c =
     let r = c.strike_at-in-Two.result in
     let new : WorldState = world_of i.one i.two i.from_one c.strike_at-in-Two.new.link i.puts.items i.ticks in
     subst (λ (s : Side). Strikes r s c.args.self.now new) (sym c.in-Two.is)
-    (subst (λ (w : WorldState). Strikes r Two w new) c.self.view_is (strikes-two r i.one i.two i.from_one i.from_two c.strike_at-in-Two.new.link i.puts.items i.ticks c.strike_at-in-Two.ensures.strikes c.self.invariant.1))
+    (subst (λ (w : WorldState). Strikes r Two w new) c.self.view_is (strikes-two r i.one i.two i.from_one i.from_two c.strike_at-in-Two.new.link i.puts.items i.ticks c.strike_at-in-Two.ensures.strikes
+    c.self.invariant.1))

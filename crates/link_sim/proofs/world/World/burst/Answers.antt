@@ -12,10 +12,12 @@ pub returns-in_err-poll_all-clause-holds : goal.returns-in_err-poll_all-clause-h
 returns-in_err-poll_all-clause-holds g c = c.poll_all.ensures.leads.holds c.show_what_holds.ensures
 
 pub returns-in_err-_flushed-clause-follows : goal.returns-in_err-_flushed-clause-follows
-returns-in_err-_flushed-clause-follows g c = (leads-both (seen c.args.self.now) (seen c.poll_all.new.self) (seen c.does.new.self) c.poll_all.ensures.leads c.does.ensures.leads).follows c.show_what_holds.ensures
+returns-in_err-_flushed-clause-follows g c = (leads-both (seen c.args.self.now) (seen c.poll_all.new.self) (seen c.does.new.self) c.poll_all.ensures.leads c.does.ensures.leads).follows
+    c.show_what_holds.ensures
 
 pub returns-in_err-_flushed-clause-holds : goal.returns-in_err-_flushed-clause-holds
-returns-in_err-_flushed-clause-holds g c = (leads-both (seen c.args.self.now) (seen c.poll_all.new.self) (seen c.does.new.self) c.poll_all.ensures.leads c.does.ensures.leads).holds c.show_what_holds.ensures
+returns-in_err-_flushed-clause-holds g c = (leads-both (seen c.args.self.now) (seen c.poll_all.new.self) (seen c.does.new.self) c.poll_all.ensures.leads c.does.ensures.leads).holds
+    c.show_what_holds.ensures
 
 pub returns-clause-follows : goal.returns-clause-follows
 returns-clause-follows g c = (leads-both (seen c.args.self.now) (seen c.poll_all.new.self) (seen c.does.new.self) c.poll_all.ensures.leads c.does.ensures.leads).follows c.show_what_holds.ensures

@@ -23,8 +23,10 @@ invariant_of-self g c =
     let e = c.args.event.now in
     let old : WorldState = c.self.inside.stations in
     let new : WorldState = c.step-did.new.self in (
-      by-step (λ old new. IsSound new) e old new (λ did s. law.keeps e did old new c.self.invariant.0 s) (λ k. law.stays (side_in e) old new c.self.invariant.0 k) c.step-did.result c.step-did.ensures.steps c.step-did.ensures.err,
-      by-step (λ old new. KeepsPuts new) e old new (λ did s. law.puts_kept e did old new c.self.invariant.0 c.self.invariant.1 s) (λ k. law.puts_rest (side_in e) old new c.self.invariant.0 c.self.invariant.1 k) c.step-did.result c.step-did.ensures.steps c.step-did.ensures.err,
+      by-step (λ old new. IsSound new) e old new (λ did s. law.keeps e did old new c.self.invariant.0 s)
+          (λ k. law.stays (side_in e) old new c.self.invariant.0 k) c.step-did.result c.step-did.ensures.steps c.step-did.ensures.err,
+      by-step (λ old new. KeepsPuts new) e old new (λ did s. law.puts_kept e did old new c.self.invariant.0 c.self.invariant.1 s)
+          (λ k. law.puts_rest (side_in e) old new c.self.invariant.0 c.self.invariant.1 k) c.step-did.result c.step-did.ensures.steps c.step-did.ensures.err,
     )
 
 pub returns-clause-puts : goal.returns-clause-puts
@@ -34,7 +36,8 @@ returns-clause-puts g c =
     let old : WorldState = c.self.inside.stations in
     let new : WorldState = c.step-did.new.self in
     subst (λ (w : WorldState). FindsMore (put_of (seen w)) (put_of (seen new))) c.self.view_is
-    (by-step (λ old new. FindsMore (put_of (seen old)) (put_of (seen new))) e old new (λ did s. law.puts e did old new c.self.invariant.0 s) (λ k. law.puts_stay (side_in e) old new k) c.step-did.result c.step-did.ensures.steps c.step-did.ensures.err)
+    (by-step (λ old new. FindsMore (put_of (seen old)) (put_of (seen new))) e old new (λ did s. law.puts e did old new c.self.invariant.0 s)
+    (λ k. law.puts_stay (side_in e) old new k) c.step-did.result c.step-did.ensures.steps c.step-did.ensures.err)
 
 pub returns-clause-folds : goal.returns-clause-folds
 returns-clause-folds g c t =
@@ -43,7 +46,8 @@ returns-clause-folds g c t =
     let old : WorldState = c.self.inside.stations in
     let new : WorldState = c.step-did.new.self in
     subst (λ (w : WorldState). FoldsAt t (seen w) (seen new)) c.self.view_is
-    (by-step (λ old new. FoldsAt t (seen old) (seen new)) e old new (λ did s. law.folds e did old new t c.self.invariant.0 s) (λ k. law.folds_none (side_in e) old new t c.self.invariant.0 k) c.step-did.result c.step-did.ensures.steps c.step-did.ensures.err)
+    (by-step (λ old new. FoldsAt t (seen old) (seen new)) e old new (λ did s. law.folds e did old new t c.self.invariant.0 s)
+    (λ k. law.folds_none (side_in e) old new t c.self.invariant.0 k) c.step-did.result c.step-did.ensures.steps c.step-did.ensures.err)
 
 pub returns-clause-holds : goal.returns-clause-holds
 returns-clause-holds g c t =
@@ -51,7 +55,8 @@ returns-clause-holds g c t =
     let e = c.args.event.now in
     let old : WorldState = c.self.inside.stations in
     let new : WorldState = c.step-did.new.self in
-    law.holds new t (by-step (λ old new. IsSound new) e old new (λ did s. law.keeps e did old new c.self.invariant.0 s) (λ k. law.stays (side_in e) old new c.self.invariant.0 k) c.step-did.result c.step-did.ensures.steps c.step-did.ensures.err)
+    law.holds new t (by-step (λ old new. IsSound new) e old new (λ did s. law.keeps e did old new c.self.invariant.0 s)
+    (λ k. law.stays (side_in e) old new c.self.invariant.0 k) c.step-did.result c.step-did.ensures.steps c.step-did.ensures.err)
 
 pub returns-clause-clean : goal.returns-clause-clean
 returns-clause-clean g c of_it =
@@ -71,7 +76,8 @@ returns-clause-clean_put g c side source destination is =
     let new : WorldState = c.step-did.new.self in
     subst (λ (w : WorldState). IfOk c.step-did.result (λ did. did ≡ dids.Applied → IsClean w → IsClean new)) c.self.view_is
     (ok-then (λ did. Steps e did old new) (λ did. did ≡ dids.Applied → IsClean old → IsClean new)
-    (λ did s applied clean. law.clean_put side source destination old new (subst (λ x. Steps x dids.Applied old new) is (subst (λ d. Steps e d old new) applied s)) clean) c.step-did.result c.step-did.ensures.steps)
+    (λ did s applied clean. law.clean_put side source destination old new (subst (λ x. Steps x dids.Applied old new) is (subst (λ d. Steps e d old new) applied s)) clean) c.step-did.result
+    c.step-did.ensures.steps)
 
 pub returns-clause-full : goal.returns-clause-full
 returns-clause-full g c =
@@ -80,7 +86,8 @@ returns-clause-full g c =
     let old : WorldState = c.self.inside.stations in
     let new : WorldState = c.step-did.new.self in
     subst (λ (w : WorldState). DropsWhereFull w new) c.self.view_is
-    (by-step (λ old new. DropsWhereFull old new) e old new (λ did s. law.full e did old new c.self.invariant.0 c.self.invariant.1 s) (λ k. law.full_none (side_in e) old new k) c.step-did.result c.step-did.ensures.steps c.step-did.ensures.err)
+    (by-step (λ old new. DropsWhereFull old new) e old new (λ did s. law.full e did old new c.self.invariant.0 c.self.invariant.1 s)
+    (λ k. law.full_none (side_in e) old new k) c.step-did.result c.step-did.ensures.steps c.step-did.ensures.err)
 
 pub returns-clause-runs : goal.returns-clause-runs
 returns-clause-runs g c of_it =
@@ -108,4 +115,5 @@ returns-clause-published g c t =
     let old : WorldState = c.self.inside.stations in
     let new : WorldState = c.step-did.new.self in
     subst (λ (w : WorldState). PublishesAt t e ⊎ (published_at t new ≡ published_at t w)) c.self.view_is
-    (by-step (λ old new. PublishesAt t e ⊎ (published_at t new ≡ published_at t old)) e old new (λ did s. event-files t old new e did s) (λ k. inr (stays-files (side_in e) t old new k)) c.step-did.result c.step-did.ensures.steps c.step-did.ensures.err)
+    (by-step (λ old new. PublishesAt t e ⊎ (published_at t new ≡ published_at t old)) e old new (λ did s. event-files t old new e did s)
+    (λ k. inr (stays-files (side_in e) t old new k)) c.step-did.result c.step-did.ensures.steps c.step-did.ensures.err)

@@ -16,7 +16,8 @@ pub loop-round-init : goal.loop-round-init
 loop-round-init g c = record {
   leads = record { follows = λ _. c.settle_on.ensures.follows; holds = λ _. c.settle_on.ensures.holds };
   run = run-none c.args.self.now c.settle_on.new.self c.in_ok-settle_on.ensures.well c.in_ok-settle_on.ensures.settled
-      (first-stand first-laws c.args.self.now c.settle_on.new.self c.show_what_is_kept.ensures.0 c.show_what_is_kept.ensures.1 c.in_ok-settle_on.ensures.well.runs (λ s put e own has. c.show_rest.ensures c.in_ok-settle_on.ensures.settled s put e has));
+      (first-stand first-laws c.args.self.now c.settle_on.new.self c.show_what_is_kept.ensures.0 c.show_what_is_kept.ensures.1 c.in_ok-settle_on.ensures.well.runs
+      (λ s put e own has. c.show_rest.ensures c.in_ok-settle_on.ensures.settled s put e has));
 }
 
 pub loop-round-preserved : goal.loop-round-preserved
@@ -37,23 +38,29 @@ pub returns-in_err-recover_round-clause-cause : goal.returns-in_err-recover_roun
 returns-in_err-recover_round-clause-cause g c =
     let p = err_from_is_err_and c.from_residual-in_err-recover_round.result c.from_residual-in_err-recover_round.ensures.1 in
     let e : SettleError = c.in_err-recover_round.field-0.0 in
-    ended-by c.from_residual-in_err-recover_round.result p.0 e c.args.self.now c.recover_round.new.self p.1 p.2 (inr (c.loop-round.self, c.loop-round.invariant.run.on.run, c.in_err-recover_round.ensures.ends))
+    ended-by c.from_residual-in_err-recover_round.result p.0 e c.args.self.now c.recover_round.new.self p.1 p.2
+    (inr (c.loop-round.self, c.loop-round.invariant.run.on.run, c.in_err-recover_round.ensures.ends))
 
 pub returns-in-Some-clause-cause : goal.returns-in-Some-clause-cause
 returns-in-Some-clause-cause g c =
-    stays-armed c.loop-round._round c.args.self.now c.loop-round.self c.in-Some.field-0.0 c.in-Some.field-0.1 (omega (arith, c.loop-round-test.false, c.loop-round.auto._round-end)) c.loop-round.invariant.run c.in-Some.ensures
+    stays-armed c.loop-round._round c.args.self.now c.loop-round.self c.in-Some.field-0.0 c.in-Some.field-0.1
+    (omega (arith, c.loop-round-test.false, c.loop-round.auto._round-end)) c.loop-round.invariant.run c.in-Some.ensures
 
 pub returns-in_err-recover_round-clause-follows : goal.returns-in_err-recover_round-clause-follows
-returns-in_err-recover_round-clause-follows g c = (leads-both (seen c.args.self.now) (seen c.loop-round.self) (seen c.recover_round.new.self) c.loop-round.invariant.leads c.recover_round.ensures.leads).follows c.show_what_holds.ensures
+returns-in_err-recover_round-clause-follows g c = (leads-both (seen c.args.self.now) (seen c.loop-round.self)
+    (seen c.recover_round.new.self) c.loop-round.invariant.leads c.recover_round.ensures.leads).follows c.show_what_holds.ensures
 
 pub returns-in_err-recover_round-clause-holds : goal.returns-in_err-recover_round-clause-holds
-returns-in_err-recover_round-clause-holds g c = (leads-both (seen c.args.self.now) (seen c.loop-round.self) (seen c.recover_round.new.self) c.loop-round.invariant.leads c.recover_round.ensures.leads).holds c.show_what_holds.ensures
+returns-in_err-recover_round-clause-holds g c = (leads-both (seen c.args.self.now) (seen c.loop-round.self)
+    (seen c.recover_round.new.self) c.loop-round.invariant.leads c.recover_round.ensures.leads).holds c.show_what_holds.ensures
 
 pub returns-then-not-branch-clause-follows : goal.returns-then-not-branch-clause-follows
-returns-then-not-branch-clause-follows g c = (leads-both (seen c.args.self.now) (seen c.loop-round.self) (seen c.recover_round.new.self) c.loop-round.invariant.leads c.recover_round.ensures.leads).follows c.show_what_holds.ensures
+returns-then-not-branch-clause-follows g c = (leads-both (seen c.args.self.now) (seen c.loop-round.self)
+    (seen c.recover_round.new.self) c.loop-round.invariant.leads c.recover_round.ensures.leads).follows c.show_what_holds.ensures
 
 pub returns-then-not-branch-clause-holds : goal.returns-then-not-branch-clause-holds
-returns-then-not-branch-clause-holds g c = (leads-both (seen c.args.self.now) (seen c.loop-round.self) (seen c.recover_round.new.self) c.loop-round.invariant.leads c.recover_round.ensures.leads).holds c.show_what_holds.ensures
+returns-then-not-branch-clause-holds g c = (leads-both (seen c.args.self.now) (seen c.loop-round.self) (seen c.recover_round.new.self) c.loop-round.invariant.leads c.recover_round.ensures.leads).holds
+    c.show_what_holds.ensures
 
 pub returns-then-not-branch-clause-well : goal.returns-then-not-branch-clause-well
 returns-then-not-branch-clause-well g c =

@@ -17,14 +17,18 @@ returns-clause-round g c _ =
     (r, (record { rests = c.requires.settled; tells = c.in_ok-tell.ensures.tells; settles = c.in_ok-settle_on.ensures.well.well; settled = c.in_ok-settle_on.ensures.settled }, refl), advances-now)
   where
     advances-now : IgnoreInactivity c.args.self.now → Advances c.args.self.now c.settle_on.new.self
-    advances-now ignore = advances round-laws c.in-Some.side c.in-Some.now c.args.self.now c.tell.new.self c.settle_on.new.self c.show_what_is_kept.ensures.0 c.show_what_is_kept.ensures.1 c.in_ok-tell.ensures.expires.0 c.in_ok-tell.ensures.expires.1
-        c.in_ok-settle_on.ensures.well.runs (λ s put e own has. c.show_rest.ensures c.in_ok-settle_on.ensures.settled s put e has) ignore (next-least c.in-Some.side c.in-Some.now c.args.self.now c.in_ok-tell.ensures.tells.next)
+    advances-now ignore = advances round-laws c.in-Some.side c.in-Some.now c.args.self.now c.tell.new.self c.settle_on.new.self c.show_what_is_kept.ensures.0 c.show_what_is_kept.ensures.1
+        c.in_ok-tell.ensures.expires.0 c.in_ok-tell.ensures.expires.1
+        c.in_ok-settle_on.ensures.well.runs (λ s put e own has. c.show_rest.ensures c.in_ok-settle_on.ensures.settled s put e has) ignore
+        (next-least c.in-Some.side c.in-Some.now c.args.self.now c.in_ok-tell.ensures.tells.next)
 
 pub returns-clause-leads : goal.returns-clause-leads
-returns-clause-leads g c = leads-both (seen c.args.self.now) (seen c.tell.new.self) (seen c.settle_on.new.self) c.tell.ensures.leads (record { follows = λ _. c.settle_on.ensures.follows; holds = λ _. c.settle_on.ensures.holds })
+returns-clause-leads g c = leads-both (seen c.args.self.now) (seen c.tell.new.self) (seen c.settle_on.new.self) c.tell.ensures.leads
+    (record { follows = λ _. c.settle_on.ensures.follows; holds = λ _. c.settle_on.ensures.holds })
 
 pub returns-in_err-settle_on-clause-leads : goal.returns-in_err-settle_on-clause-leads
-returns-in_err-settle_on-clause-leads g c = leads-both (seen c.args.self.now) (seen c.tell.new.self) (seen c.settle_on.new.self) c.tell.ensures.leads (record { follows = λ _. c.settle_on.ensures.follows; holds = λ _. c.settle_on.ensures.holds })
+returns-in_err-settle_on-clause-leads g c = leads-both (seen c.args.self.now) (seen c.tell.new.self) (seen c.settle_on.new.self) c.tell.ensures.leads
+    (record { follows = λ _. c.settle_on.ensures.follows; holds = λ _. c.settle_on.ensures.holds })
 
 pub returns-in_err-tell-clause-ends : goal.returns-in_err-tell-clause-ends
 returns-in_err-tell-clause-ends g c =

@@ -68,4 +68,5 @@ returns-clause-idle g c =
     subst (λ (w : WorldState). Steps c.args.event.now did.Nothing w c.settle_by.new.self) (sym same) idle
 
 pub returns-clause-well : goal.returns-clause-well
-returns-clause-well g c = on-then c.args.event.now c.args.event.now (next_of c.args.event.now) c.args.self.now c.loop-happened.self c.settle_by.new.self c.loop-happened.invariant.well (c.in_ok-settle_by.ensures.well_last c.if-branch.false)
+returns-clause-well g c = on-then c.args.event.now c.args.event.now (next_of c.args.event.now) c.args.self.now c.loop-happened.self c.settle_by.new.self c.loop-happened.invariant.well
+    (c.in_ok-settle_by.ensures.well_last c.if-branch.false)

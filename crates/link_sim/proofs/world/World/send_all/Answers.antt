@@ -25,7 +25,8 @@ returns-then-polled-clause-leads g c = leads-both (seen c.args.self.now) (seen c
 pub returns-then-polled-clause-less : goal.returns-then-polled-clause-less
 returns-then-polled-clause-less g c happened =
     let less : world_work c.repeat.new.self < world_work c.args.self.now = c.in_ok-polled.ensures.less c.if-polled.true in
-    let most : world_work c.repeat-2.new.self ≤ world_work c.repeat.new.self = lowers-most c.in_ok-flushed.flushed c.repeat.new.self c.repeat-2.new.self (c.in_ok-flushed.ensures.less, c.in_ok-flushed.ensures.same) in
+    let most : world_work c.repeat-2.new.self ≤ world_work c.repeat.new.self =
+    lowers-most c.in_ok-flushed.flushed c.repeat.new.self c.repeat-2.new.self (c.in_ok-flushed.ensures.less, c.in_ok-flushed.ensures.same) in
     omega (arith, less, most)
 
 pub returns-else-polled-clause-less : goal.returns-else-polled-clause-less
@@ -35,7 +36,9 @@ returns-else-polled-clause-less g c happened =
     omega (arith, less, same)
 
 pub returns-then-polled-clause-well : goal.returns-then-polled-clause-well
-returns-then-polled-clause-well g c = on-both (event.Poll c.args.side) (event.Flush c.args.side) (next_of (event.Flush c.args.side)) c.args.self.now c.repeat.new.self c.repeat-2.new.self c.in_ok-polled.ensures.well c.in_ok-flushed.ensures.well
+returns-then-polled-clause-well g c = on-both (event.Poll c.args.side) (event.Flush c.args.side)
+    (next_of (event.Flush c.args.side)) c.args.self.now c.repeat.new.self c.repeat-2.new.self c.in_ok-polled.ensures.well c.in_ok-flushed.ensures.well
 
 pub returns-else-polled-clause-well : goal.returns-else-polled-clause-well
-returns-else-polled-clause-well g c = on-both (event.Poll c.args.side) (event.Flush c.args.side) (next_of (event.Flush c.args.side)) c.args.self.now c.repeat.new.self c.repeat-2.new.self c.in_ok-polled.ensures.well c.in_ok-flushed.ensures.well
+returns-else-polled-clause-well g c = on-both (event.Poll c.args.side) (event.Flush c.args.side)
+    (next_of (event.Flush c.args.side)) c.args.self.now c.repeat.new.self c.repeat-2.new.self c.in_ok-polled.ensures.well c.in_ok-flushed.ensures.well

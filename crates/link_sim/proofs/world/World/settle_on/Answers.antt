@@ -17,10 +17,12 @@ loop-preserved g c = record {
 }
 
 pub returns-in_err-settle_round-clause-follows : goal.returns-in_err-settle_round-clause-follows
-returns-in_err-settle_round-clause-follows g c = (leads-both (seen c.args.self.now) (seen c.loop.self) (seen c.settle_round.new.self) c.loop.invariant.leads c.settle_round.ensures.leads).follows c.show_what_holds.ensures
+returns-in_err-settle_round-clause-follows g c = (leads-both (seen c.args.self.now) (seen c.loop.self) (seen c.settle_round.new.self) c.loop.invariant.leads c.settle_round.ensures.leads).follows
+    c.show_what_holds.ensures
 
 pub returns-in_err-settle_round-clause-holds : goal.returns-in_err-settle_round-clause-holds
-returns-in_err-settle_round-clause-holds g c = (leads-both (seen c.args.self.now) (seen c.loop.self) (seen c.settle_round.new.self) c.loop.invariant.leads c.settle_round.ensures.leads).holds c.show_what_holds.ensures
+returns-in_err-settle_round-clause-holds g c = (leads-both (seen c.args.self.now) (seen c.loop.self) (seen c.settle_round.new.self) c.loop.invariant.leads c.settle_round.ensures.leads).holds
+    c.show_what_holds.ensures
 
 pub returns-clause-follows : goal.returns-clause-follows
 returns-clause-follows g c = (leads-both (seen c.args.self.now) (seen c.loop.self) (seen c.settle_round.new.self) c.loop.invariant.leads c.settle_round.ensures.leads).follows c.show_what_holds.ensures

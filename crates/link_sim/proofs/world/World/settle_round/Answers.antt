@@ -44,7 +44,8 @@ pub returns-in_err-from_one-clause-cause : goal.returns-in_err-from_one-clause-c
 returns-in_err-from_one-clause-cause g c =
     let p = err_from_is_err_and c.from_residual-in_err-from_one.result c.from_residual-in_err-from_one.ensures.1 in
     let e : SettleError = c.in_err-from_one.field-0.0 in
-    let well : GoesOnFrom first_event (event.Deliver One) c.args.self.now c.send_all-2.new.self = on-both first_event (event.Poll Two) (event.Deliver One) c.args.self.now c.send_all.new.self c.send_all-2.new.self c.in_ok-one.ensures.well c.in_ok-two.ensures.well in
+    let well : GoesOnFrom first_event (event.Deliver One) c.args.self.now c.send_all-2.new.self =
+    on-both first_event (event.Poll Two) (event.Deliver One) c.args.self.now c.send_all.new.self c.send_all-2.new.self c.in_ok-one.ensures.well c.in_ok-two.ensures.well in
     err-then c.from_residual-in_err-from_one.result (λ error. HasCause error c.args.self.now c.repeat.new.self) p.0 e p.1 p.2
     (cause-then e first_event (event.Deliver One) c.args.self.now c.send_all-2.new.self c.repeat.new.self (inr well) c.in_err-from_one.ensures.cause)
 
@@ -53,31 +54,40 @@ returns-in_err-from_two-clause-cause g c =
     let p = err_from_is_err_and c.from_residual-in_err-from_two.result c.from_residual-in_err-from_two.ensures.1 in
     let e : SettleError = c.in_err-from_two.field-0.0 in
     let well : GoesOnFrom first_event (event.Deliver Two) c.args.self.now c.repeat.new.self =
-    on-both first_event (event.Deliver One) (event.Deliver Two) c.args.self.now c.send_all-2.new.self c.repeat.new.self (on-both first_event (event.Poll Two) (event.Deliver One) c.args.self.now c.send_all.new.self c.send_all-2.new.self c.in_ok-one.ensures.well c.in_ok-two.ensures.well) c.in_ok-from_one.ensures.well in
+    on-both first_event (event.Deliver One) (event.Deliver Two) c.args.self.now c.send_all-2.new.self c.repeat.new.self
+    (on-both first_event (event.Poll Two) (event.Deliver One) c.args.self.now c.send_all.new.self c.send_all-2.new.self c.in_ok-one.ensures.well c.in_ok-two.ensures.well)
+    c.in_ok-from_one.ensures.well in
     err-then c.from_residual-in_err-from_two.result (λ error. HasCause error c.args.self.now c.repeat-2.new.self) p.0 e p.1 p.2
     (cause-then e first_event (event.Deliver Two) c.args.self.now c.repeat.new.self c.repeat-2.new.self (inr well) c.in_err-from_two.ensures.cause)
 
 pub returns-then-from_one-clause-well : goal.returns-then-from_one-clause-well
 returns-then-from_one-clause-well g c =
-    let two : GoesOnFrom first_event (event.Deliver One) c.args.self.now c.send_all-2.new.self = on-both first_event (event.Poll Two) (event.Deliver One) c.args.self.now c.send_all.new.self c.send_all-2.new.self c.in_ok-one.ensures.well c.in_ok-two.ensures.well in
-    let three : GoesOnFrom first_event (event.Deliver Two) c.args.self.now c.repeat.new.self = on-both first_event (event.Deliver One) (event.Deliver Two) c.args.self.now c.send_all-2.new.self c.repeat.new.self two c.in_ok-from_one.ensures.well in
+    let two : GoesOnFrom first_event (event.Deliver One) c.args.self.now c.send_all-2.new.self =
+    on-both first_event (event.Poll Two) (event.Deliver One) c.args.self.now c.send_all.new.self c.send_all-2.new.self c.in_ok-one.ensures.well c.in_ok-two.ensures.well in
+    let three : GoesOnFrom first_event (event.Deliver Two) c.args.self.now c.repeat.new.self =
+    on-both first_event (event.Deliver One) (event.Deliver Two) c.args.self.now c.send_all-2.new.self c.repeat.new.self two c.in_ok-from_one.ensures.well in
     on-both first_event (event.Deliver Two) first_event c.args.self.now c.repeat.new.self c.repeat-2.new.self three c.in_ok-from_two.ensures.well
 
 pub returns-then-from_one-clause-less : goal.returns-then-from_one-clause-less
 returns-then-from_one-clause-less g c happened =
     let two : Lowers (c.in_ok-one.one || c.in_ok-two.two) c.args.self.now c.send_all-2.new.self =
-    lowers-both c.in_ok-one.one c.in_ok-two.two c.args.self.now c.send_all.new.self c.send_all-2.new.self (c.in_ok-one.ensures.less, c.in_ok-one.ensures.same) (c.in_ok-two.ensures.less, c.in_ok-two.ensures.same) in
+    lowers-both c.in_ok-one.one c.in_ok-two.two c.args.self.now c.send_all.new.self c.send_all-2.new.self (c.in_ok-one.ensures.less, c.in_ok-one.ensures.same)
+    (c.in_ok-two.ensures.less, c.in_ok-two.ensures.same) in
     let three : Lowers ((c.in_ok-one.one || c.in_ok-two.two) || c.in_ok-from_one.from_one) c.args.self.now c.repeat.new.self =
-    lowers-both (c.in_ok-one.one || c.in_ok-two.two) c.in_ok-from_one.from_one c.args.self.now c.send_all-2.new.self c.repeat.new.self two (c.in_ok-from_one.ensures.less, c.in_ok-from_one.ensures.same) in
+    lowers-both (c.in_ok-one.one || c.in_ok-two.two) c.in_ok-from_one.from_one c.args.self.now c.send_all-2.new.self c.repeat.new.self two
+    (c.in_ok-from_one.ensures.less, c.in_ok-from_one.ensures.same) in
     let less : world_work c.repeat.new.self < world_work c.args.self.now = three.0 (any-true c.in_ok-one.one c.in_ok-two.two c.in_ok-from_one.from_one c.if-from_one.either) in
-    let most : world_work c.repeat-2.new.self ≤ world_work c.repeat.new.self = lowers-most c.in_ok-from_two.from_two c.repeat.new.self c.repeat-2.new.self (c.in_ok-from_two.ensures.less, c.in_ok-from_two.ensures.same) in
+    let most : world_work c.repeat-2.new.self ≤ world_work c.repeat.new.self =
+    lowers-most c.in_ok-from_two.from_two c.repeat.new.self c.repeat-2.new.self (c.in_ok-from_two.ensures.less, c.in_ok-from_two.ensures.same) in
     omega (arith, less, most)
 
 pub returns-else-from_one-clause-less : goal.returns-else-from_one-clause-less
 returns-else-from_one-clause-less g c happened =
     let one : world_work c.send_all.new.self ≤ world_work c.args.self.now = lowers-most c.in_ok-one.one c.args.self.now c.send_all.new.self (c.in_ok-one.ensures.less, c.in_ok-one.ensures.same) in
-    let two : world_work c.send_all-2.new.self ≤ world_work c.send_all.new.self = lowers-most c.in_ok-two.two c.send_all.new.self c.send_all-2.new.self (c.in_ok-two.ensures.less, c.in_ok-two.ensures.same) in
-    let three : world_work c.repeat.new.self ≤ world_work c.send_all-2.new.self = lowers-most c.in_ok-from_one.from_one c.send_all-2.new.self c.repeat.new.self (c.in_ok-from_one.ensures.less, c.in_ok-from_one.ensures.same) in
+    let two : world_work c.send_all-2.new.self ≤ world_work c.send_all.new.self =
+    lowers-most c.in_ok-two.two c.send_all.new.self c.send_all-2.new.self (c.in_ok-two.ensures.less, c.in_ok-two.ensures.same) in
+    let three : world_work c.repeat.new.self ≤ world_work c.send_all-2.new.self =
+    lowers-most c.in_ok-from_one.from_one c.send_all-2.new.self c.repeat.new.self (c.in_ok-from_one.ensures.less, c.in_ok-from_one.ensures.same) in
     let less : world_work c.repeat-2.new.self < world_work c.repeat.new.self = c.in_ok-from_two.ensures.less happened in
     omega (arith, one, two, three, less)
 
@@ -90,6 +100,8 @@ returns-else-from_one-clause-settled g c none =
 
 pub returns-else-from_one-clause-well : goal.returns-else-from_one-clause-well
 returns-else-from_one-clause-well g c =
-    let two : GoesOnFrom first_event (event.Deliver One) c.args.self.now c.send_all-2.new.self = on-both first_event (event.Poll Two) (event.Deliver One) c.args.self.now c.send_all.new.self c.send_all-2.new.self c.in_ok-one.ensures.well c.in_ok-two.ensures.well in
-    let three : GoesOnFrom first_event (event.Deliver Two) c.args.self.now c.repeat.new.self = on-both first_event (event.Deliver One) (event.Deliver Two) c.args.self.now c.send_all-2.new.self c.repeat.new.self two c.in_ok-from_one.ensures.well in
+    let two : GoesOnFrom first_event (event.Deliver One) c.args.self.now c.send_all-2.new.self =
+    on-both first_event (event.Poll Two) (event.Deliver One) c.args.self.now c.send_all.new.self c.send_all-2.new.self c.in_ok-one.ensures.well c.in_ok-two.ensures.well in
+    let three : GoesOnFrom first_event (event.Deliver Two) c.args.self.now c.repeat.new.self =
+    on-both first_event (event.Deliver One) (event.Deliver Two) c.args.self.now c.send_all-2.new.self c.repeat.new.self two c.in_ok-from_one.ensures.well in
     on-both first_event (event.Deliver Two) first_event c.args.self.now c.repeat.new.self c.repeat-2.new.self three c.in_ok-from_two.ensures.well

@@ -31,20 +31,24 @@ returns-clause-spreads g c =
     spreads c.args.side c.args.self.now c.loop-self.self c.does.new.self c.loop-self.invariant.sent (c.in_ok-does.ensures.idle c.if-branch.false)
 
 pub returns-in_err-does-clause-follows : goal.returns-in_err-does-clause-follows
-returns-in_err-does-clause-follows g c = (leads-both (seen c.args.self.now) (seen c.loop-self.self) (seen c.does.new.self) c.loop-self.invariant.leads c.does.ensures.leads).follows c.show_what_holds.ensures
+returns-in_err-does-clause-follows g c = (leads-both (seen c.args.self.now) (seen c.loop-self.self) (seen c.does.new.self) c.loop-self.invariant.leads c.does.ensures.leads).follows
+    c.show_what_holds.ensures
 
 pub returns-in_err-does-clause-holds : goal.returns-in_err-does-clause-holds
-returns-in_err-does-clause-holds g c = (leads-both (seen c.args.self.now) (seen c.loop-self.self) (seen c.does.new.self) c.loop-self.invariant.leads c.does.ensures.leads).holds c.show_what_holds.ensures
+returns-in_err-does-clause-holds g c = (leads-both (seen c.args.self.now) (seen c.loop-self.self) (seen c.does.new.self) c.loop-self.invariant.leads c.does.ensures.leads).holds
+    c.show_what_holds.ensures
 
 pub returns-in_err-_flushed-clause-follows : goal.returns-in_err-_flushed-clause-follows
 returns-in_err-_flushed-clause-follows g c =
     (leads-both (seen c.args.self.now) (seen c.does.new.self) (seen c.does-in-loop-self.new.self)
-    (leads-both (seen c.args.self.now) (seen c.loop-self.self) (seen c.does.new.self) c.loop-self.invariant.leads c.does.ensures.leads) c.does-in-loop-self.ensures.leads).follows c.show_what_holds.ensures
+    (leads-both (seen c.args.self.now) (seen c.loop-self.self) (seen c.does.new.self) c.loop-self.invariant.leads c.does.ensures.leads) c.does-in-loop-self.ensures.leads).follows
+    c.show_what_holds.ensures
 
 pub returns-in_err-_flushed-clause-holds : goal.returns-in_err-_flushed-clause-holds
 returns-in_err-_flushed-clause-holds g c =
     (leads-both (seen c.args.self.now) (seen c.does.new.self) (seen c.does-in-loop-self.new.self)
-    (leads-both (seen c.args.self.now) (seen c.loop-self.self) (seen c.does.new.self) c.loop-self.invariant.leads c.does.ensures.leads) c.does-in-loop-self.ensures.leads).holds c.show_what_holds.ensures
+    (leads-both (seen c.args.self.now) (seen c.loop-self.self) (seen c.does.new.self) c.loop-self.invariant.leads c.does.ensures.leads) c.does-in-loop-self.ensures.leads).holds
+    c.show_what_holds.ensures
 
 pub returns-clause-follows : goal.returns-clause-follows
 returns-clause-follows g c = (leads-both (seen c.args.self.now) (seen c.loop-self.self) (seen c.does.new.self) c.loop-self.invariant.leads c.does.ensures.leads).follows c.show_what_holds.ensures

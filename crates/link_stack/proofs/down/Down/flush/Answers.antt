@@ -7,7 +7,8 @@ use Rattle.link_stack.proofs.down.Down.flush.Goals as goal
 
 pub returns-clause-idle : goal.returns-clause-idle
 returns-clause-idle c =
-    subst (λ (x : PackerState). (length (flush_of x) ≤ 1) × (busy (flush_of x) ≡ [])) (same_packing c.args.self.now c.self.inside.link c.self.inside.packer c.self.inside.packets c.self.inside.frames (sym c.self.view_is) c.self.invariant.1)
+    subst (λ (x : PackerState). (length (flush_of x) ≤ 1) × (busy (flush_of x) ≡ []))
+    (same_packing c.args.self.now c.self.inside.link c.self.inside.packer c.self.inside.packets c.self.inside.frames (sym c.self.view_is) c.self.invariant.1)
     c.flush.ensures.idle
 
 pub returns-clause-stream : goal.returns-clause-stream
@@ -19,6 +20,7 @@ returns-clause-stream c ps made is =
     let same : p ≡ packing d = same_packing d link p c.self.inside.packets c.self.inside.frames (sym c.self.view_is) size in
     let at : IsAt p ps made = at_of d link p c.self.inside.packets c.self.inside.frames ps made (sym c.self.view_is) size is in
     let none : busy (flush_of (packing d)) ≡ [] = subst (λ (x : PackerState). busy (flush_of x) ≡ []) same (c.flush.ensures.idle.1) in
-    down_is d link p c.flush.new.self c.self.inside.packets c.self.inside.frames c.self.inside.packets c.self.inside.frames ps (ps ++ flush_of (packing d)) made made (sym c.self.view_is) (c.flush.ensures.fixed.0 ∙ size)
+    down_is d link p c.flush.new.self c.self.inside.packets c.self.inside.frames c.self.inside.packets c.self.inside.frames ps (ps ++ flush_of (packing d)) made made (sym c.self.view_is)
+    (c.flush.ensures.fixed.0 ∙ size)
     (λ all. idle_of_link link ps (flush_of (packing d)) none all) (λ e. e) is
     (subst (λ (x : PackerState). IsAt c.flush.new.self (ps ++ flush_of x) made) same (c.flush.ensures.stream ps made at))

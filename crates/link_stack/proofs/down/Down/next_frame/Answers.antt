@@ -24,11 +24,13 @@ returns-clause-stream c ps made is done =
     let both : ZoneOf ps made p.size c.in-Some.pointer c.zone.new.out × IsAt c.zone.new.self ps (made + 1) = c.in-Some.ensures.stream ps made at in
     let zo : ZoneOf ps made link.zone c.in-Some.pointer c.zone.new.out = subst (λ (z : ℕ). ZoneOf ps made z c.in-Some.pointer c.zone.new.out) size both.0 in
     let count : c.next.result ≡ made % frame_counts = c.next.ensures.count ∙ ap (λ x. x.frame_count) c.self.view_is ∙ is.counted in
-    let text : c.put_headers.new.out ++ c.zone.new.out ≡ frame_of link ps made = written_frame link ps made c.next.result c.in-Some.pointer c.put_headers.new.out c.zone.new.out count c.put_headers.ensures zo in
+    let text : c.put_headers.new.out ++ c.zone.new.out ≡ frame_of link ps made =
+    written_frame link ps made c.next.result c.in-Some.pointer c.put_headers.new.out c.zone.new.out count c.put_headers.ensures zo in
     let inside : made * link.zone + link.zone ≤ length (stream ps) = zo.inside in
     let ours : link ≡ d.link = ap (λ x. x.link) c.self.view_is in (
       subst (λ (l : LinkConfig). c.put_headers.new.out ++ c.zone.new.out ≡ frame_of l ps made) ours text,
       subst (λ (l : LinkConfig). made * l.zone + l.zone ≤ length (stream ps)) ours inside,
-      down_is d link p c.zone.new.self c.self.inside.packets c.self.inside.frames c.self.inside.packets c.next.new.self ps ps made (made + 1) (sym c.self.view_is) (c.zone.ensures.fixed.0 ∙ size) (λ all. all)
+      down_is d link p c.zone.new.self c.self.inside.packets c.self.inside.frames c.self.inside.packets c.next.new.self ps ps made (made + 1) (sym c.self.view_is) (c.zone.ensures.fixed.0 ∙ size)
+          (λ all. all)
           (λ e. next_count c.self.inside.frames c.next.new.self made e c.next.ensures.after) is both.1,
     )

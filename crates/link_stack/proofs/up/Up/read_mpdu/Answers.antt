@@ -26,5 +26,9 @@ returns-clause-front c none =
     ∙ ap (λ (l : List ℕ). packets_read (Some seen) mid.begun (follows up.last seen) (pointer_of c.args.mpdu.now) l) all
     ∙ sym (ap (λ (b : Bool). if b then idle_read seen else packets_read (Some seen) up.begun (follows up.last seen) (pointer_of c.args.mpdu.now) zone) busy) in
     let front : TakesFront (mpdu_read up seen c.args.mpdu.now) up c.read_zone.new.self (octets_of_each c.args.out.now.items) (octets_of_each c.read_zone.new.out.items) =
-    front_again (packets_read mid.last mid.begun c.follows-in_order.result c.read_pointer-pointer.result behind) (mpdu_read up seen c.args.mpdu.now) up mid c.read_zone.new.self (octets_of_each c.args.out.now.items) (octets_of_each c.read_zone.new.out.items) same refl refl (c.read_zone.ensures.front none) in
-    (busy, subst (λ (u : LinkReceiverState). TakesFront (mpdu_read u seen c.args.mpdu.now) u c.read_zone.new.self (octets_of_each c.args.out.now.items) (octets_of_each c.read_zone.new.out.items)) c.self.view_is front)
+    front_again (packets_read mid.last mid.begun c.follows-in_order.result c.read_pointer-pointer.result behind) (mpdu_read up seen c.args.mpdu.now) up mid c.read_zone.new.self
+    (octets_of_each c.args.out.now.items) (octets_of_each c.read_zone.new.out.items) same refl refl (c.read_zone.ensures.front none) in (
+      busy,
+      subst (λ (u : LinkReceiverState). TakesFront (mpdu_read u seen c.args.mpdu.now) u c.read_zone.new.self (octets_of_each c.args.out.now.items) (octets_of_each c.read_zone.new.out.items))
+          c.self.view_is front,
+    )

@@ -10,4 +10,5 @@ stays old middle new at n end is first second =
     second ∙ rw is cut
 
 pub returns-clause-behind : goal.returns-clause-behind
-returns-clause-behind c = stays c.args.out.now c.encode-at.new.out c.put_file_size.new.out c.encode-at.result (file_size_octets c.args.large) c.put_file_size.result c.put_file_size.ensures.end c.encode-at.ensures.behind c.put_file_size.ensures.behind
+returns-clause-behind c = stays c.args.out.now c.encode-at.new.out c.put_file_size.new.out c.encode-at.result
+    (file_size_octets c.args.large) c.put_file_size.result c.put_file_size.ensures.end c.encode-at.ensures.behind c.put_file_size.ensures.behind
