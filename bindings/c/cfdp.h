@@ -45,7 +45,7 @@ enum {
     /* cfdp_put, the first that holds in the order Name, TableFull, .. as the numbers stand here */
     CFDP_NO_SUCH_FILE = 21,  /* the outbox has no file of that name; after CFDP_NUMBERS_SPENT */
     CFDP_BAD_NAME = 22,      /* a name hasn't 1 to 255 octets; the first of all */
-    CFDP_TOO_LARGE = 23,     /* the file has 2^32 octets or more; after CFDP_NO_SUCH_FILE */
+    CFDP_TOO_LARGE = 23,     /* the file has more than 2^48 octets; after CFDP_NO_SUCH_FILE */
     CFDP_TABLE_FULL = 24,    /* the station has had 4,096 transactions */
     CFDP_NUMBERS_SPENT = 25, /* the next number doesn't fit number_width */
     CFDP_SOURCE_FAULT = 26,  /* the outbox failed; one in memory never does */

@@ -14,7 +14,7 @@ pub enum Error {
     NoSuchFile,
     /// A name hasn't 1 to 255 octets.
     BadName,
-    /// The file has 2^32 octets or more.
+    /// The file has more than 2^48 octets.
     TooLarge,
     /// The station has had 4,096 transactions.
     TableFull,

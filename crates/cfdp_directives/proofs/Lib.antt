@@ -5,4 +5,4 @@ pub mod Spelling
 pub mod Sums
 pub mod Puts
 pub mod Addressed
-pub mod Small
+pub mod FileSizes

@@ -8,7 +8,7 @@ use Rattle.cfdp_header.specs.declared.value.Header.{Header}
 use Rattle.cfdp_header.specs.declared.value.TransactionId.{TransactionId}
 use Rattle.cfdp_directives.specs.declared.user.indication.Indication.{Indication}
 use Rattle.cfdp_directives.specs.Pdu.Content.{Content}
-use Rattle.cfdp_directives.specs.Pdu.Small.{SpellsSmall}
+use Rattle.cfdp_directives.specs.Pdu.Grammar.{SpellsPdu}
 use Rattle.cfdp_directives.specs.User.Put.{Put, SomePdu, IsMetadataOf, IsEofOf, Brings, HeardInFull, overwritten, inbox_after}
 use Rattle.cfdp_header.specs.Files.{FileMap}
 use Rattle.cfdp_directives.specs.User.Completions.{completion, completions, is_finished}
@@ -36,14 +36,14 @@ Any-one P x p = (0, x, omega arith, refl, p)
 
 -- more PDUs are heard
 pub SomePdu-append_left : (P : Header → Content → Type 0) (old new : List (List ℕ)) → SomePdu P old → SomePdu P (old ++ new)
-SomePdu-append_left P old new a = Any-append_left (λ text. (h : Header) × ((v : Content) × (SpellsSmall h v text × P h v))) old new a
+SomePdu-append_left P old new a = Any-append_left (λ text. (h : Header) × ((v : Content) × (SpellsPdu h v text × P h v))) old new a
 
 pub SomePdu-append_right : (P : Header → Content → Type 0) (old new : List (List ℕ)) → SomePdu P new → SomePdu P (old ++ new)
-SomePdu-append_right P old new a = Any-append_right (λ text. (h : Header) × ((v : Content) × (SpellsSmall h v text × P h v))) old new a
+SomePdu-append_right P old new a = Any-append_right (λ text. (h : Header) × ((v : Content) × (SpellsPdu h v text × P h v))) old new a
 
 -- the PDU heard last
-pub SomePdu-last : (P : Header → Content → Type 0) (old : List (List ℕ)) (text : List ℕ) (h : Header) (v : Content) → SpellsSmall h v text → P h v → SomePdu P (old ++ text ∷ [])
-SomePdu-last P old text h v s p = SomePdu-append_right P old (text ∷ []) (Any-one (λ text. (h : Header) × ((v : Content) × (SpellsSmall h v text × P h v))) text (h, (v, (s, p))))
+pub SomePdu-last : (P : Header → Content → Type 0) (old : List (List ℕ)) (text : List ℕ) (h : Header) (v : Content) → SpellsPdu h v text → P h v → SomePdu P (old ++ text ∷ [])
+SomePdu-last P old text h v s p = SomePdu-append_right P old (text ∷ []) (Any-one (λ text. (h : Header) × ((v : Content) × (SpellsPdu h v text × P h v))) text (h, (v, (s, p))))
 
 -- what was heard in full stays so
 pub HeardInFull-append : (put : Put) (old new : List (List ℕ)) → HeardInFull put old → HeardInFull put (old ++ new)

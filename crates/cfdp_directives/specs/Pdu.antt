@@ -6,7 +6,6 @@ pub mod Content
 pub mod Grammar
 pub mod Faults
 pub mod Written
-pub mod Small
 pub mod Direction
 pub mod Addressing
 pub mod Checksum

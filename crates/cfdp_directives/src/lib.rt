@@ -23,7 +23,7 @@ pub use pdu::codes::{
 pub use pdu::content::Pdu;
 pub use pdu::direction::{direction_fits, is_for};
 pub use pdu::error::PduError;
-pub use pdu::file_size::{file_size_octets, is_file_size};
+pub use pdu::file_size::{file_size_octets, is_file_size, is_large, size_limit};
 pub use pdu::laws::{
     a_pdu_read_can_be_answered, no_pdu_begins_another, written_pdu_is_read, written_pdu_len,
 };
@@ -35,7 +35,6 @@ pub use pdu::octets::Octets;
 pub use pdu::pair_iter::PairIter;
 pub use pdu::pairs::Pairs;
 pub use pdu::reading::decode;
-pub use pdu::small::{a_small_pdu_read_can_be_answered, decode_small, no_small_pdu_begins_another};
 pub use pdu::tlv::Tlvs;
 pub use pdu::tlv_iter::TlvIter;
 pub use pdu::writing::{can_write, encode};

@@ -12,7 +12,6 @@ pub(crate) mod octets;
 pub(crate) mod pair_iter;
 pub(crate) mod pairs;
 pub(crate) mod reading;
-pub(crate) mod small;
 pub(crate) mod tlv;
 pub(crate) mod tlv_iter;
 pub(crate) mod writing;

@@ -1,5 +1,5 @@
 -- What a table and an entity keep stays where the PDUs heard are among others, in whatever order.
-use Rattle.std.proofs.Common.{◌≡◌, ℕ, List, Option}
+use Rattle.std.proofs.Common.{ℕ, List, Option}
 use Rattle.std.specs.Prelude.{Contains}
 use Rattle.cfdp_header.specs.declared.value.TransactionId.{TransactionId}
 use Rattle.cfdp_header.specs.Files.{FileMap}
@@ -8,7 +8,6 @@ use Rattle.cfdp_store.specs.Staged.{OctetMap}
 use Rattle.cfdp_receiver.specs.State.{ReceiverState}
 use Rattle.cfdp_receiver.specs.Sound.{Sound}
 use Rattle.cfdp_receiver.proofs.Among.{some-among, full-among}
-use Rattle.cfdp_entity.specs.Entity.{EntityState}
 use Rattle.cfdp_entity.specs.Seen.{Seen, Sends, Receives}
 use Rattle.cfdp_entity.specs.Table.{TableState}
 use Rattle.cfdp_entity.specs.Telling.{TellsNoMore}

@@ -54,13 +54,13 @@ grows-fired (timer ∷ timers) st = grows-then st (expired timer st) (all_expire
     by (Some place) = grows-of (λ e. expires st.policy st.files timer.1 e.1) place (slice_get st.records place) st
 
 grows-step : (s : TableStep) (st : TableState) → Grows st (table_step s st)
-grows-step (Hears stored place v) st = grows-of (λ e. hears stored st.policy.times st.files v e.1) place (slice_get st.records place) st
+grows-step (Hears stored place large v) st = grows-of (λ e. hears stored st.policy.times st.files large v e.1) place (slice_get st.records place) st
 grows-step (Spoils place v noted) st = grows-none st _ refl refl
 grows-step (Expires place kind) st = grows-of (λ e. expires st.policy st.files kind e.1) place (slice_get st.records place) st
 grows-step (Calls place c) st = grows-of (λ e. calls st.policy.times st.files c e.1) place (slice_get st.records place) st
 grows-step (Takes stored place) st = grows-of (λ e. takes stored st.policy.times st.sources st.files e.1) place (slice_get st.records place) st
 grows-step (Puts t) st = record { gained = _; told = refl; sources = refl }
-grows-step (Opens begun stored a v) st = record { gained = _; told = refl; sources = refl }
+grows-step (Opens begun stored a large v) st = record { gained = _; told = refl; sources = refl }
 grows-step (Tells now) st = grows-none st _ refl refl
 grows-step (Fires timers) st = grows-fired timers st
 
@@ -106,8 +106,8 @@ ticked-goes now old new t is =
 
 taken-goes : (r : Route) (h : Header) (v : Content) (old new : Counted) → TakesPdu r h v old new → GoesOn old.state new.state
 taken-goes (routes.Drops d) h v old new t = absurd t
-taken-goes (routes.Steps place) h v old new t = by-step (Hears t.stored place v) old.state new.state t.steps
-taken-goes routes.Opens h v old new t = by-step (Opens t.begun t.stored (addressing_of h) v) old.state new.state t.opens
+taken-goes (routes.Steps place) h v old new t = by-step (Hears t.stored place h.large v) old.state new.state t.steps
+taken-goes routes.Opens h v old new t = by-step (Opens t.begun t.stored (addressing_of h) h.large v) old.state new.state t.opens
 taken-goes (routes.Queues s) h v old new t =
     stays old.state new.state (ap (λ (c : Counted). c.state.table) t) (ap (λ (c : Counted). c.state.config) t) (ap (λ (c : Counted). c.state.next) t)
 

@@ -1,5 +1,5 @@
 -- Exported: what every step of a table keeps.
-use Rattle.std.proofs.Common.{◌≡◌, ◌≢◌, ℕ, zero, suc, ◌+◌, ◌<◌, ◌≤◌, true, false, not, cond, List, [], ◌∷◌, ◌++◌, take, length, slice_get, Option, Some, None, refl, sym, ap, subst, ◌∙◌, arith}
+use Rattle.std.proofs.Common.{◌≡◌, ◌≢◌, ℕ, zero, suc, ◌+◌, ◌<◌, ◌≤◌, Bool, true, false, not, cond, List, [], ◌∷◌, ◌++◌, take, length, slice_get, Option, Some, None, refl, sym, ap, subst, ◌∙◌, arith}
 use Rattle.std.specs.FinMap.{empty}
 use Rattle.std.specs.List.{IsDistinct, AllByRecursion, position_or_len}
 use Rattle.std.proofs.lemmas.List.{append-nil}
@@ -125,26 +125,27 @@ module _ (laws : Machines) where
   }
 
   module _ (policy : Policy) (files : FileMap) where
-    pub hears-so : (stored : Stored) (v : Content) (s : Seen) → Behaves s (hears stored policy.times files v s)
-    hears-so stored (Ack acknowledged.Eof condition status) (Sends x) = by-sender policy.times files policy [] (inputs.HearsAck condition) x tt
-    hears-so stored (Nak start end pairs) (Sends x) = by-sender policy.times files policy [] (inputs.HearsNak pairs) x tt
-    hears-so stored (Finished condition delivery status tlvs) (Sends x) =
+    pub hears-so : (stored : Stored) (large : Bool) (v : Content) (s : Seen) → Behaves s (hears stored policy.times files large v s)
+    hears-so stored large (Ack acknowledged.Eof condition status) (Sends x) = by-sender policy.times files policy [] (inputs.HearsAck condition) x tt
+    hears-so stored large (Nak start end pairs) (Sends x) = by-sender policy.times files policy [] (inputs.HearsNak pairs) x tt
+    hears-so stored large (Finished condition delivery status tlvs) (Sends x) =
         by-sender policy.times files policy [] (inputs.HearsFinished (record { condition = condition; delivery = delivery; status = status })) x tt
-    hears-so stored (KeepAlive progress) (Sends x) = by-sender policy.times files policy [] (inputs.HearsKeepAlive progress) x tt
-    hears-so stored (Ack acknowledged.Finished condition status) (Sends x) = rests files (Sends x)
-    hears-so stored (Metadata kind size source destination options) (Sends x) = rests files (Sends x)
-    hears-so stored (FileData offset bytes) (Sends x) = rests files (Sends x)
-    hears-so stored (Eof condition checksum size tlvs) (Sends x) = rests files (Sends x)
-    hears-so stored (Prompt keep_alive) (Sends x) = rests files (Sends x)
-    hears-so stored (Metadata kind size source destination options) (Receives r m) = by-receiver policy.times stored (machine.Hears (Metadata kind size source destination options)) m files r
-    hears-so stored (FileData offset bytes) (Receives r m) = by-receiver policy.times stored (machine.Hears (FileData offset bytes)) m files r
-    hears-so stored (Eof condition checksum size tlvs) (Receives r m) = by-receiver policy.times stored (machine.Hears (Eof condition checksum size tlvs)) m files r
-    hears-so stored (Ack acknowledged.Finished condition status) (Receives r m) = by-receiver policy.times stored (machine.Hears (Ack acknowledged.Finished condition status)) m files r
-    hears-so stored (Prompt keep_alive) (Receives r m) = by-receiver policy.times stored (machine.Hears (Prompt keep_alive)) m files r
-    hears-so stored (Ack acknowledged.Eof condition status) (Receives r m) = rests files (Receives r m)
-    hears-so stored (Finished condition delivery status tlvs) (Receives r m) = rests files (Receives r m)
-    hears-so stored (Nak start end pairs) (Receives r m) = rests files (Receives r m)
-    hears-so stored (KeepAlive progress) (Receives r m) = rests files (Receives r m)
+    hears-so stored large (KeepAlive progress) (Sends x) = by-sender policy.times files policy [] (inputs.HearsKeepAlive progress) x tt
+    hears-so stored large (Ack acknowledged.Finished condition status) (Sends x) = rests files (Sends x)
+    hears-so stored large (Metadata kind size source destination options) (Sends x) = rests files (Sends x)
+    hears-so stored large (FileData offset bytes) (Sends x) = rests files (Sends x)
+    hears-so stored large (Eof condition checksum size tlvs) (Sends x) = rests files (Sends x)
+    hears-so stored large (Prompt keep_alive) (Sends x) = rests files (Sends x)
+    hears-so stored large (Metadata kind size source destination options) (Receives r m) =
+        by-receiver policy.times stored (machine.Hears large (Metadata kind size source destination options)) m files r
+    hears-so stored large (FileData offset bytes) (Receives r m) = by-receiver policy.times stored (machine.Hears large (FileData offset bytes)) m files r
+    hears-so stored large (Eof condition checksum size tlvs) (Receives r m) = by-receiver policy.times stored (machine.Hears large (Eof condition checksum size tlvs)) m files r
+    hears-so stored large (Ack acknowledged.Finished condition status) (Receives r m) = by-receiver policy.times stored (machine.Hears large (Ack acknowledged.Finished condition status)) m files r
+    hears-so stored large (Prompt keep_alive) (Receives r m) = by-receiver policy.times stored (machine.Hears large (Prompt keep_alive)) m files r
+    hears-so stored large (Ack acknowledged.Eof condition status) (Receives r m) = rests files (Receives r m)
+    hears-so stored large (Finished condition delivery status tlvs) (Receives r m) = rests files (Receives r m)
+    hears-so stored large (Nak start end pairs) (Receives r m) = rests files (Receives r m)
+    hears-so stored large (KeepAlive progress) (Receives r m) = rests files (Receives r m)
 
     pub expires-so : (k : Kind) (s : Seen) → Behaves s (expires policy files k s)
     expires-so k (Sends x) = by-sender policy.times files policy [] (inputs.Expires k) x tt
@@ -388,26 +389,27 @@ pub record OpensOnce (a : Addressing) (after : After) : Type 0 where
   pub own : (other : TransactionId) → same_id a.id other ≡ false → finished_count other after.told ≡ 0
 
 pub record Openings : Type 0 where
-  pub once : (stored : Stored) (files : FileMap) (addressing : Addressing) (id : TransactionId) → finished_count id (receiver.opens stored files addressing).told
-      + open_count (receiver.opens stored files addressing).receiver.phase ≤ 1
-  pub own : (stored : Stored) (files : FileMap) (addressing : Addressing) (id : TransactionId) → same_id addressing.id id ≡ false → finished_count id (receiver.opens stored files addressing).told ≡ 0
+  pub once : (stored : Stored) (large : Bool) (files : FileMap) (addressing : Addressing) (id : TransactionId) → finished_count id (receiver.opens stored large files addressing).told
+      + open_count (receiver.opens stored large files addressing).receiver.phase ≤ 1
+  pub own : (stored : Stored) (large : Bool) (files : FileMap) (addressing : Addressing) (id : TransactionId) → same_id addressing.id id ≡ false →
+      finished_count id (receiver.opens stored large files addressing).told ≡ 0
 
 pub puts-once : (files : FileMap) (t : Transfer) → OpensOnce t.addressing (puts files t)
 puts-once files t = record { is = refl; once = omega arith; own = λ other apart. refl }
 
 module _ (laws : Machines) (openings : Openings) (policy : Policy) (files : FileMap) (a : Addressing) where
-  begins-once : (begun stored : Stored) (v : Content) → OpensOnce a (begins begun stored policy.times files v a)
-  begins-once Done stored v =
-      let b = hears-so laws policy files stored v (Receives (opened_receiver a) empty) in
-      record { is = same-id (Receives (opened_receiver a) empty) (begins Done stored policy.times files v a).seen b.goes_on; once = b.once; own = b.own }
-  begins-once Refused stored v = record { is = refl; once = openings.once Refused files a a.id; own = openings.own Refused files a }
+  begins-once : (begun stored : Stored) (large : Bool) (v : Content) → OpensOnce a (begins begun stored policy.times files large v a)
+  begins-once Done stored large v =
+      let b = hears-so laws policy files stored large v (Receives (opened_receiver a) empty) in
+      record { is = same-id (Receives (opened_receiver a) empty) (begins Done stored policy.times files large v a).seen b.goes_on; once = b.once; own = b.own }
+  begins-once Refused stored large v = record { is = refl; once = openings.once Refused large files a a.id; own = openings.own Refused large files a }
 
-  opens-once : (o : Option ℕ) (begun stored : Stored) (v : Content) → OpensOnce a (opens_by o begun stored policy.times files v a)
-  opens-once (Some condition) begun stored v = record { is = refl; once = omega arith; own = λ other apart. refl }
-  opens-once None begun stored v = begins-once begun stored v
+  opens-once : (o : Option ℕ) (begun stored : Stored) (large : Bool) (v : Content) → OpensOnce a (opens_by o begun stored policy.times files large v a)
+  opens-once (Some condition) begun stored large v = record { is = refl; once = omega arith; own = λ other apart. refl }
+  opens-once None begun stored large v = begins-once begun stored large v
 
-  pub opens-so : (begun stored : Stored) (v : Content) → OpensOnce a (opens begun stored policy.times files v a)
-  opens-so begun stored v = opens-once (closing v) begun stored v
+  pub opens-so : (begun stored : Stored) (large : Bool) (v : Content) → OpensOnce a (opens begun stored policy.times files large v a)
+  opens-so begun stored large v = opens-once (closing v) begun stored large v
 
 kept-push : (a : Addressing) (after : After) (st : TableState) → place_of a.id st.records ≡ None → OpensOnce a after → Kept st (with_record a.id after st)
 kept-push a after st none o = record {
@@ -444,13 +446,13 @@ module _ (laws : Machines) (openings : Openings) where
           }
 
   pub kept-step : (s : TableStep) (st : TableState) → MayHappen s st → Kept st (table_step s st)
-  kept-step (Hears stored place v) st may = kept-at (λ e. hears stored st.policy.times st.files v e.1) (λ e. hears-so laws st.policy st.files stored v e.1) place st
+  kept-step (Hears stored place large v) st may = kept-at (λ e. hears stored st.policy.times st.files large v e.1) (λ e. hears-so laws st.policy st.files stored large v e.1) place st
   kept-step (Spoils place v noted) st may = kept-spoiled place v noted st may
   kept-step (Expires place k) st may = kept-at (λ e. expires st.policy st.files k e.1) (λ e. expires-so laws st.policy st.files k e.1) place st
   kept-step (Calls place c) st may = kept-at (λ e. calls st.policy.times st.files c e.1) (λ e. calls-so laws st.policy st.files c e.1) place st
   kept-step (Takes stored place) st may = kept-at (λ e. takes stored st.policy.times st.sources st.files e.1) (λ e. takes-so laws st.policy st.files stored st.sources e.1) place st
   kept-step (Puts t) st may = kept-push t.addressing (puts st.files t) st may (puts-once st.files t)
-  kept-step (Opens begun stored a v) st may = kept-push a (opens begun stored st.policy.times st.files v a) st may (opens-so laws openings st.policy st.files a begun stored v)
+  kept-step (Opens begun stored a large v) st may = kept-push a (opens begun stored st.policy.times st.files large v a) st may (opens-so laws openings st.policy st.files a begun stored large v)
   kept-step (Tells now) st may = record { records = keeps-all st.records; once = λ w. w }
   kept-step (Fires timers) st may = kept-fired timers st
 

@@ -43,17 +43,17 @@ module _ (files : FileMap) (r : ReceiverState) (over : is_receiving r.phase ≡ 
       ∙ core times (heard (leaving empty files r)) over m
       ∙ sym (ap (λ b. by_receiver times (heard (if b then receives_metadata stored checksum_kind size source destination empty files r else leaving empty files r))) over)
 
-  pub masks-data : (stored : Stored) (offset : ℕ) (bytes : List ℕ) → Masks (λ m. hears_data stored offset bytes m files r)
-  masks-data stored offset bytes times m =
-      ap (λ b. by_receiver times (heard (if b then receives_data stored offset bytes m files r else leaving m files r))) over
+  pub masks-data : (stored : Stored) (large : Bool) (offset : ℕ) (bytes : List ℕ) → Masks (λ m. hears_data stored large offset bytes m files r)
+  masks-data stored large offset bytes times m =
+      ap (λ b. by_receiver times (heard (if b then receives_data stored large offset bytes m files r else leaving m files r))) over
       ∙ core times (heard (leaving empty files r)) over m
-      ∙ sym (ap (λ b. by_receiver times (heard (if b then receives_data stored offset bytes empty files r else leaving empty files r))) over)
+      ∙ sym (ap (λ b. by_receiver times (heard (if b then receives_data stored large offset bytes empty files r else leaving empty files r))) over)
 
-  pub masks-eof : (stored : Stored) (condition checksum size : ℕ) → Masks (λ m. hears_eof stored condition checksum size m files r)
-  masks-eof stored condition checksum size times m =
-      ap (λ b. by_receiver times (heard (if b then receives_eof stored condition checksum size m files r else leaving m files (record r { ack_due = Some condition })))) over
+  pub masks-eof : (stored : Stored) (large : Bool) (condition checksum size : ℕ) → Masks (λ m. hears_eof stored large condition checksum size m files r)
+  masks-eof stored large condition checksum size times m =
+      ap (λ b. by_receiver times (heard (if b then receives_eof stored large condition checksum size m files r else leaving m files (record r { ack_due = Some condition })))) over
       ∙ core times (heard (leaving empty files (record r { ack_due = Some condition }))) over m
-      ∙ sym (ap (λ b. by_receiver times (heard (if b then receives_eof stored condition checksum size empty files r else leaving empty files (record r { ack_due = Some condition })))) over)
+      ∙ sym (ap (λ b. by_receiver times (heard (if b then receives_eof stored large condition checksum size empty files r else leaving empty files (record r { ack_due = Some condition })))) over)
 
   pub masks-prompt : (keep_alive : Bool) → Masks (λ m. hears_prompt keep_alive m files r)
   masks-prompt keep_alive times m =

@@ -74,8 +74,8 @@ module _ (entity next : ℕ) (before old new : TableState) (same : old ≡ befor
   pub free-called : (place : ℕ) (c : Call) → new ≡ called_at place c old → AreFree entity next new.records
   free-called place c is = free-stepped (λ e. calls old.policy.times old.files c e.1) place is
 
-  pub free-heard : (stored : Stored) (place : ℕ) (v : Content) → new ≡ heard_at stored place v old → AreFree entity next new.records
-  free-heard stored place v is = free-stepped (λ e. hears stored old.policy.times old.files v e.1) place is
+  pub free-heard : (stored : Stored) (place : ℕ) (large : Bool) (v : Content) → new ≡ heard_at stored place large v old → AreFree entity next new.records
+  free-heard stored place large v is = free-stepped (λ e. hears stored old.policy.times old.files large v e.1) place is
 
   pub free-taken : (stored : Stored) (place : ℕ) → new ≡ taken_at stored place old → AreFree entity next new.records
   free-taken stored place is = free-stepped (λ e. takes stored old.policy.times old.sources old.files e.1) place is
@@ -99,12 +99,12 @@ module _ (entity next : ℕ) (before old new : TableState) (same : old ≡ befor
       ap (λ (t : TableState). place_of (own_id entity n) t.records) is ∙ place-push old.records (t.addressing.id, (puts old.files t).seen) (own_id entity n) left apart
 
   -- and so does a record of the peer's
-  pub free-opened : (begun stored : Stored) (a : Addressing) (v : Content) → new ≡ opened_by begun stored a v old → a.id.source ≢ entity → AreFree entity next new.records
+  pub free-opened : (begun stored : Stored) (a : Addressing) (large : Bool) (v : Content) → new ≡ opened_by begun stored a large v old → a.id.source ≢ entity → AreFree entity next new.records
   unfolding AreFree
-  free-opened begun stored a v is other = λ n l.
+  free-opened begun stored a large v is other = λ n l.
       let apart : same_id (own_id entity n) (a.id) ≡ false = ap (λ b. b && (n == a.id.number)) (ne_eqb entity a.id.source (λ h. other (sym h))) in
       let left : place_of (own_id entity n) old.records ≡ None = ap (λ (t : TableState). place_of (own_id entity n) t.records) same ∙ free n l in
-      ap (λ (t : TableState). place_of (own_id entity n) t.records) is ∙ place-push old.records (a.id, (opens begun stored old.policy.times old.files v a).seen) (own_id entity n) left apart
+      ap (λ (t : TableState). place_of (own_id entity n) t.records) is ∙ place-push old.records (a.id, (opens begun stored old.policy.times old.files large v a).seen) (own_id entity n) left apart
 
 -- where all are free that are not below a number, it is free itself
 pub free-at : (entity next : ℕ) (records : List Entry) → AreFree entity next records → place_of (own_id entity next) records ≡ None

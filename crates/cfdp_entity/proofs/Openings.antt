@@ -1,5 +1,5 @@
 -- How a PDU opens a record.
-use Rattle.std.proofs.Common.{◌≡◌, ℕ, true, sym, ap, subst, ◌∙◌}
+use Rattle.std.proofs.Common.{◌≡◌, ℕ, Bool, true, sym, ap, subst, ◌∙◌}
 use Rattle.std.specs.FinSet as set
 use Rattle.cfdp_header.specs.declared.value.TransactionId.{TransactionId}
 use Rattle.cfdp_header.specs.Files.{FileMap}
@@ -25,7 +25,8 @@ ready-here a staged before r s same is addressed ready sources =
     (receiver-ready staged sources a.id s (ap (λ (x : Addressing). x.id) addressed) (subst (λ t. IsReady t s) (sym same) ready))
 
 -- nothing is asked of what is staged for a receiver that is closed
-pub closed-ready : (staged : Staged) (a : Addressing) (condition : ℕ) (r : ReceiverState) → r ≡ opened_closed condition a → (sources : FileMap) → IsReadyRecord staged sources a.id (held.Receives r)
-closed-ready staged a condition r is sources =
+pub closed-ready : (staged : Staged) (a : Addressing) (large : Bool) (condition : ℕ) (r : ReceiverState) → r ≡ opened_closed large condition a → (sources : FileMap) →
+    IsReadyRecord staged sources a.id (held.Receives r)
+closed-ready staged a large condition r is sources =
     receiver-ready staged sources a.id r (ap (λ (x : ReceiverState). x.addressing.id) is)
     (subst (IsReady staged) (sym is) (record { begun = λ h. absurd cc; backed = λ h n g. absurd cc }))

@@ -1,5 +1,5 @@
 -- What a step asks of the inbox, said of the inbox and said of the count of its failures.
-use Rattle.std.proofs.Common.{◌≡◌, ℕ, List, slice_get, Option, Some, None, Result, Ok, Err, IfOk, refl, sym, subst}
+use Rattle.std.proofs.Common.{◌≡◌, ℕ, Bool, List, slice_get, Option, Some, None, Result, Ok, Err, IfOk, refl, sym, subst}
 use Rattle.std.specs.Map.{keys_of, values_of}
 use Rattle.cfdp_header.specs.declared.value.TransactionId.{TransactionId}
 use Rattle.cfdp_header.specs.Files.{FileMap}
@@ -35,15 +35,16 @@ module _ {S : Type 0} (steps : S → InboxCall → S → Type 0) (failures : S �
   settled : (stored : Stored) (r s : ReceiverState) (old new : S) → Settles (Makes steps failures) stored r s old new → Settles Raises stored r s (failures old) (failures new)
   settled = settles (Makes steps failures) Raises failures raised
 
-  heard : (v : Content) (stored : Stored) (r s : ReceiverState) (old new : S) → AsksHeard (Makes steps failures) v stored r s old new → AsksHeard Raises v stored r s (failures old) (failures new)
-  heard (Metadata kind size source destination options) stored r s old new h = settled stored r s old new h
-  heard (FileData offset bytes) stored r s old new h = stages (Makes steps failures) Raises failures raised stored (staged_pieces offset bytes r) r s old new h
-  heard (Eof condition checksum size tlvs) stored r s old new h = settled stored r s old new h
-  heard (Finished condition delivery status tlvs) stored r s old new h = h.1
-  heard (Ack of condition status) stored r s old new h = h.1
-  heard (Nak start end pairs) stored r s old new h = h.1
-  heard (Prompt keep_alive) stored r s old new h = h.1
-  heard (KeepAlive progress) stored r s old new h = h.1
+  heard : (large : Bool) (v : Content) (stored : Stored) (r s : ReceiverState) (old new : S) → AsksHeard (Makes steps failures) large v stored r s old new →
+      AsksHeard Raises large v stored r s (failures old) (failures new)
+  heard large (Metadata kind size source destination options) stored r s old new h = settled stored r s old new h
+  heard large (FileData offset bytes) stored r s old new h = stages (Makes steps failures) Raises failures raised stored (staged_pieces large offset bytes r) r s old new h
+  heard large (Eof condition checksum size tlvs) stored r s old new h = settled stored r s old new h
+  heard large (Finished condition delivery status tlvs) stored r s old new h = h.1
+  heard large (Ack of condition status) stored r s old new h = h.1
+  heard large (Nak start end pairs) stored r s old new h = h.1
+  heard large (Prompt keep_alive) stored r s old new h = h.1
+  heard large (KeepAlive progress) stored r s old new h = h.1
 
   called : (c : Call) (r s : ReceiverState) (old new : S) → AsksCalled (Makes steps failures) c r s old new → AsksCalled Raises c r s (failures old) (failures new)
   called call.Cancel r s old new h = settled Done r s old new h
@@ -52,10 +53,11 @@ module _ {S : Type 0} (steps : S → InboxCall → S → Type 0) (failures : S �
   called (call.Prompt keep_alive) r s old new h = h.1
 
   -- file data
-  pub data-heard : {E : Type 0} (answer : Result Stored E) (v : Content) (offset : ℕ) (bytes : List ℕ) → v ≡ FileData offset bytes → (r s : ReceiverState) (old new : S)
-      → IfOk answer (λ stored. Stages (Makes steps failures) stored (staged_pieces offset bytes r) r s old new) → IfOk answer (λ stored. AsksHeard (Makes steps failures) v stored r s old new)
-  data-heard (Ok stored) v offset bytes is r s old new h = subst (λ w. AsksHeard (Makes steps failures) w stored r s old new) (sym is) h
-  data-heard (Err e) v offset bytes is r s old new h = tt
+  pub data-heard : {E : Type 0} (answer : Result Stored E) (large : Bool) (v : Content) (offset : ℕ) (bytes : List ℕ) → v ≡ FileData offset bytes → (r s : ReceiverState) (old new : S)
+      → IfOk answer (λ stored. Stages (Makes steps failures) stored (staged_pieces large offset bytes r) r s old new)
+      → IfOk answer (λ stored. AsksHeard (Makes steps failures) large v stored r s old new)
+  data-heard (Ok stored) large v offset bytes is r s old new h = subst (λ w. AsksHeard (Makes steps failures) large w stored r s old new) (sym is) h
+  data-heard (Err e) large v offset bytes is r s old new h = tt
 
   -- the record of a receiver
   module _ (k : Record) (r s : ReceiverState) (is : k ≡ held.Receives r) (staged staged_now : Option OctetMap) (old new : S) where
@@ -63,10 +65,10 @@ module _ {S : Type 0} (steps : S → InboxCall → S → Type 0) (failures : S �
         AsksAs Raises Asks (seen staged k) (seen staged_now (held.Receives s)) (failures old) (failures new)
     here Asks h = subst (λ (q : Record). AsksAs Raises Asks (seen staged q) (seen staged_now (held.Receives s)) (failures old) (failures new)) (sym is) h
 
-    pub heard-here : {E : Type 0} (answer : Result Stored E) (v : Content) → IfOk answer (λ stored. AsksHeard (Makes steps failures) v stored r s old new)
-        → IfOk answer (λ stored. AsksAs Raises (AsksHeard Raises v stored) (seen staged k) (seen staged_now (held.Receives s)) (failures old) (failures new))
-    heard-here (Ok stored) v h = here (AsksHeard Raises v stored) (heard v stored r s old new h)
-    heard-here (Err e) v h = tt
+    pub heard-here : {E : Type 0} (answer : Result Stored E) (large : Bool) (v : Content) → IfOk answer (λ stored. AsksHeard (Makes steps failures) large v stored r s old new)
+        → IfOk answer (λ stored. AsksAs Raises (AsksHeard Raises large v stored) (seen staged k) (seen staged_now (held.Receives s)) (failures old) (failures new))
+    heard-here (Ok stored) large v h = here (AsksHeard Raises large v stored) (heard large v stored r s old new h)
+    heard-here (Err e) large v h = tt
 
     pub expired-here : Settles (Makes steps failures) Done r s old new → AsksAs Raises (Settles Raises Done) (seen staged k) (seen staged_now (held.Receives s)) (failures old) (failures new)
     expired-here h = here (Settles Raises Done) (settled Done r s old new h)
@@ -76,23 +78,24 @@ module _ {S : Type 0} (steps : S → InboxCall → S → Type 0) (failures : S �
     called-here c h = here (AsksCalled Raises c) (called c r s old new h)
 
   -- a record more
-  pub opened : (closes : Option ℕ) (begun stored : Stored) (v : Content) (a : Addressing) (s : Seen) (old new : S) → AsksFirst (Makes steps failures) closes begun stored v a s old new →
-      AsksFirst Raises closes begun stored v a s (failures old) (failures new)
-  opened (Some condition) begun stored v a s old new h = h.1
-  opened None Done stored v a (Receives r m) old new h =
-      (failures h.0, begins (Makes steps failures) Raises failures raised Done a.id old h.0 h.1, heard v stored (opened_receiver a) r h.0 new h.2)
-  opened None Done stored v a (Sends x) old new h = absurd h.2
-  opened None Refused stored v a s old new h = begins (Makes steps failures) Raises failures raised Refused a.id old new h
+  pub opened : (closes : Option ℕ) (begun stored : Stored) (large : Bool) (v : Content) (a : Addressing) (s : Seen) (old new : S) →
+      AsksFirst (Makes steps failures) closes begun stored large v a s old new →
+      AsksFirst Raises closes begun stored large v a s (failures old) (failures new)
+  opened (Some condition) begun stored large v a s old new h = h.1
+  opened None Done stored large v a (Receives r m) old new h =
+      (failures h.0, begins (Makes steps failures) Raises failures raised Done a.id old h.0 h.1, heard large v stored (opened_receiver a) r h.0 new h.2)
+  opened None Done stored large v a (Sends x) old new h = absurd h.2
+  opened None Refused stored large v a s old new h = begins (Makes steps failures) Raises failures raised Refused a.id old new h
 
 -- the record of a sender
 pub sender-asks : (Asks : (r s : ReceiverState) → (old new : ℕ) → Type 0) (k : Record) (x : SenderState) → k ≡ held.Sends x → (staged : Option OctetMap) (after : Seen) (n : ℕ) →
     AsksAs Raises Asks (seen staged k) after n n
 sender-asks Asks k x is staged after n = subst (λ (q : Record). AsksAs Raises Asks (seen staged q) after n n) (sym is) refl
 
-pub sender-heard : {E : Type 0} (answer : Result Stored E) (v : Content) (k : Record) (x : SenderState) → k ≡ held.Sends x → (staged : Option OctetMap) (after : Seen) (n : ℕ) →
-    IfOk answer (λ stored. AsksAs Raises (AsksHeard Raises v stored) (seen staged k) after n n)
-sender-heard (Ok stored) v k x is staged after n = sender-asks (AsksHeard Raises v stored) k x is staged after n
-sender-heard (Err e) v k x is staged after n = tt
+pub sender-heard : {E : Type 0} (answer : Result Stored E) (large : Bool) (v : Content) (k : Record) (x : SenderState) → k ≡ held.Sends x → (staged : Option OctetMap) (after : Seen) (n : ℕ) →
+    IfOk answer (λ stored. AsksAs Raises (AsksHeard Raises large v stored) (seen staged k) after n n)
+sender-heard (Ok stored) large v k x is staged after n = sender-asks (AsksHeard Raises large v stored) k x is staged after n
+sender-heard (Err e) large v k x is staged after n = tt
 
 -- ---- the record at a place
 pub asks-there : (Asks : (r s : ReceiverState) → (old new : ℕ) → Type 0) (f : Entry → After) (staged : Staged) (es : List (TransactionId × Record)) (place : ℕ) (id : TransactionId) (k : Record)

@@ -21,7 +21,7 @@ use Rattle.cfdp_timers.specs.Armed.{TimersState}
 use Rattle.cfdp_timers.specs.Waits.{waited}
 use Rattle.cfdp_receiver.specs.declared.state.ReceiverPhase.{ReceiverPhase}
 use Rattle.cfdp_receiver.specs.declared.state.ReceiverPhase.TheVariants as phase
-use Rattle.cfdp_receiver.specs.State.{ReceiverState, is_receiving, IsReady}
+use Rattle.cfdp_receiver.specs.State.{ReceiverState, flagged, is_receiving, IsReady}
 use Rattle.cfdp_receiver.specs.Steps as receiver
 use Rattle.cfdp_receiver.specs.Does as receiver_does
 use Rattle.cfdp_sender.specs.State.{SenderState, transfer_of}
@@ -30,7 +30,7 @@ use Rattle.cfdp_sender.specs.declared.phase.SenderPhase.TheVariants.{Sending, Ca
 use Rattle.cfdp_sender.specs.declared.due.SenderDue.{SenderDue}
 use Rattle.cfdp_sender.specs.declared.due.SenderDue.TheVariants as due
 use Rattle.cfdp_extents.specs.Offsets.{range}
-use Rattle.cfdp_directives.specs.Pdu.Codes.{no_error}
+use Rattle.cfdp_directives.specs.Pdu.Codes.{no_error, is_large}
 use Rattle.cfdp_directives.specs.User.Policy.{finished_told, another_try}
 use Rattle.cfdp_directives.specs.declared.user.handler.Handler.{Handler}
 use Rattle.cfdp_directives.specs.declared.user.handler.Handler.TheVariants.{Cancel, Suspend, Ignore, Abandon}
@@ -43,7 +43,7 @@ use Rattle.cfdp_entity.specs.declared.call.Call.{Call}
 use Rattle.cfdp_entity.specs.declared.call.Call.TheVariants as call
 use Rattle.cfdp_entity.specs.declared.record.Record.{Record}
 use Rattle.cfdp_entity.specs.declared.record.Record.TheVariants as held
-use Rattle.cfdp_entity.specs.Seen.{Seen, Sends, seen, octets_seen, due_octets, due_len, due_content, addressing_of, octets_of, len_of, carries_by, carries_data}
+use Rattle.cfdp_entity.specs.Seen.{Seen, Sends, seen, octets_seen, due_octets, due_len, due_content, addressing_of, large_of, octets_of, len_of, carries_by, carries_data}
 use Rattle.cfdp_entity.specs.Seen as seens
 use Rattle.cfdp_entity.specs.Steps.{After, by_sender, by_receiver, no_step, sender_after, receiver_after, hears, calls, called_sender, called_receiver, expires, takes, sender_takes, receiver_takes}
 use Rattle.cfdp_entity.specs.Does.{Does, Keeps}
@@ -112,20 +112,24 @@ module _ (times : Times) (id : TransactionId) (r r_now : ReceiverState) (files f
     files = does.1.0;
   }
 
-  pub receiver-hears : (stored : Stored) (v : Content) → ReceiverDoes times
-      (receiver_after stored v (staged_for old r.addressing.id) files r) r r_now told told_now timers timers_now files files_now old new
-      → Does id (hears stored times files v (seen (old id) (held.Receives r))) (seen (new id) (held.Receives r_now)) told told_now timers timers_now files_now
-  receiver-hears stored (Metadata kind size source destination options) does =
-      receiver-does (λ m. receiver.hears_metadata stored kind size source destination m files r) (λ over. masks-metadata files r over stored kind size source destination) does
-  receiver-hears stored (FileData offset bytes) does = receiver-does (λ m. receiver.hears_data stored offset bytes m files r) (λ over. masks-data files r over stored offset bytes) does
-  receiver-hears stored (Eof condition checksum size tlvs) does = receiver-does (λ m. receiver.hears_eof stored condition checksum size m files r)
-      (λ over. masks-eof files r over stored condition checksum size) does
-  receiver-hears stored (Ack acknowledged.Finished condition status) does = receiver-does (λ m. receiver.hears_ack m files r) (λ over. masks-ack files r over) does
-  receiver-hears stored (Ack acknowledged.Eof condition status) does = receiver-rests does
-  receiver-hears stored (Prompt keep_alive) does = receiver-does (λ m. receiver.hears_prompt keep_alive m files r) (λ over. masks-prompt files r over keep_alive) does
-  receiver-hears stored (Finished condition delivery status tlvs) does = receiver-rests does
-  receiver-hears stored (Nak start end pairs) does = receiver-rests does
-  receiver-hears stored (KeepAlive progress) does = receiver-rests does
+  pub receiver-hears : (stored : Stored) (large : Bool) (v : Content) → ReceiverDoes times
+      (receiver_after stored large v (staged_for old r.addressing.id) files r) r r_now told told_now timers timers_now files files_now old new
+      → Does id (hears stored times files large v (seen (old id) (held.Receives r))) (seen (new id) (held.Receives r_now)) told told_now timers timers_now files_now
+  receiver-hears stored large (Metadata kind size source destination options) does =
+      receiver-does (λ m. receiver.hears_metadata stored kind size source destination m files (flagged large r))
+      (λ over. masks-metadata files (flagged large r) over stored kind size source destination) does
+  receiver-hears stored large (FileData offset bytes) does = receiver-does (λ m. receiver.hears_data stored large offset bytes m files (flagged large r))
+      (λ over. masks-data files (flagged large r) over stored large offset bytes) does
+  receiver-hears stored large (Eof condition checksum size tlvs) does = receiver-does (λ m. receiver.hears_eof stored large condition checksum size m files (flagged large r))
+      (λ over. masks-eof files (flagged large r) over stored large condition checksum size) does
+  receiver-hears stored large (Ack acknowledged.Finished condition status) does = receiver-does (λ m. receiver.hears_ack m files (flagged large r))
+      (λ over. masks-ack files (flagged large r) over) does
+  receiver-hears stored large (Ack acknowledged.Eof condition status) does = receiver-rests does
+  receiver-hears stored large (Prompt keep_alive) does = receiver-does (λ m. receiver.hears_prompt keep_alive m files (flagged large r))
+      (λ over. masks-prompt files (flagged large r) over keep_alive) does
+  receiver-hears stored large (Finished condition delivery status tlvs) does = receiver-rests does
+  receiver-hears stored large (Nak start end pairs) does = receiver-rests does
+  receiver-hears stored large (KeepAlive progress) does = receiver-rests does
 
   pub receiver-called : (c : Call) → ReceiverDoes times (called_receiver c (staged_for old r.addressing.id) files r) r r_now told told_now timers timers_now files files_now old new
       → Does id (calls times files c (seen (old id) (held.Receives r))) (seen (new id) (held.Receives r_now)) told told_now timers timers_now files_now
@@ -287,14 +291,14 @@ quiet-receives times a r r_now told timers timers_now files staged now quiet sam
   others = λ other apart. refl;
 }
 
-pub acked-receives : (times : Times) (of : Acknowledged) (condition : ℕ) (status : TransactionStatus) (stored : Stored) (r r_now : ReceiverState) (told : List Indication)
+pub acked-receives : (times : Times) (large : Bool) (of : Acknowledged) (condition : ℕ) (status : TransactionStatus) (stored : Stored) (r r_now : ReceiverState) (told : List Indication)
     (timers timers_now : TimersState) (files : FileMap) (staged : Staged)
-    → ReceiverAcks times of r r_now timers timers_now → r_now.addressing ≡ r.addressing
-    → ReceiverDoes times (receiver_after stored (Ack of condition status) (staged_for staged r.addressing.id) files r) r r_now told told timers timers_now files files staged staged
-acked-receives times acknowledged.Finished condition status stored r r_now told timers timers_now files staged acks addr =
-    quiet-receives times (receiver.hears_ack (staged_for staged r.addressing.id) files r) r r_now told timers timers_now files staged
+    → ReceiverAcks times large of r r_now timers timers_now → r_now.addressing ≡ r.addressing
+    → ReceiverDoes times (receiver_after stored large (Ack of condition status) (staged_for staged r.addressing.id) files r) r r_now told told timers timers_now files files staged staged
+acked-receives times large acknowledged.Finished condition status stored r r_now told timers timers_now files staged acks addr =
+    quiet-receives times (receiver.hears_ack (staged_for staged r.addressing.id) files (flagged large r)) r r_now told timers timers_now files staged
     (acks.0 (staged_for staged r.addressing.id) files) refl refl refl addr acks.1
-acked-receives times acknowledged.Eof condition status stored r r_now told timers timers_now files staged acks addr =
+acked-receives times large acknowledged.Eof condition status stored r r_now told timers timers_now files staged acks addr =
     (record { state = acks.0; tells = refl; timers = acks.1 }, (refl, refl))
 
 -- ---- what a call of a sender leaves of its record
@@ -331,16 +335,16 @@ module _ (times : Times) (id : TransactionId) (s : Record) (x x_now : SenderStat
     kept-ready (transfer_of x) (ap transfer_of does.state) refl,
   )
 
-  pub sender-hears : (stored : Stored) (v : Content) → SenderDoes times (sender_after v x) x x_now told told_now timers timers_now → Steps (hears stored times files v)
-  sender-hears stored (Ack acknowledged.Eof condition status) does = stepped-so (hears stored times files (Ack acknowledged.Eof condition status)) _ refl (kept-ack condition x) does
-  sender-hears stored (Ack acknowledged.Finished condition status) does = rests-so (hears stored times files (Ack acknowledged.Finished condition status)) refl does
-  sender-hears stored (Nak start end pairs) does = stepped-so (hears stored times files (Nak start end pairs)) _ refl (kept-asks_in x.phase pairs x) does
-  sender-hears stored (Finished condition delivery status tlvs) does = stepped-so (hears stored times files (Finished condition delivery status tlvs)) _ refl refl does
-  sender-hears stored (KeepAlive progress) does = stepped-so (hears stored times files (KeepAlive progress)) _ refl refl does
-  sender-hears stored (FileData offset bytes) does = rests-so (hears stored times files (FileData offset bytes)) refl does
-  sender-hears stored (Metadata kind size source destination options) does = rests-so (hears stored times files (Metadata kind size source destination options)) refl does
-  sender-hears stored (Eof condition checksum size tlvs) does = rests-so (hears stored times files (Eof condition checksum size tlvs)) refl does
-  sender-hears stored (Prompt keep_alive) does = rests-so (hears stored times files (Prompt keep_alive)) refl does
+  pub sender-hears : (stored : Stored) (large : Bool) (v : Content) → SenderDoes times (sender_after v x) x x_now told told_now timers timers_now → Steps (hears stored times files large v)
+  sender-hears stored large (Ack acknowledged.Eof condition status) does = stepped-so (hears stored times files large (Ack acknowledged.Eof condition status)) _ refl (kept-ack condition x) does
+  sender-hears stored large (Ack acknowledged.Finished condition status) does = rests-so (hears stored times files large (Ack acknowledged.Finished condition status)) refl does
+  sender-hears stored large (Nak start end pairs) does = stepped-so (hears stored times files large (Nak start end pairs)) _ refl (kept-asks_in x.phase pairs x) does
+  sender-hears stored large (Finished condition delivery status tlvs) does = stepped-so (hears stored times files large (Finished condition delivery status tlvs)) _ refl refl does
+  sender-hears stored large (KeepAlive progress) does = stepped-so (hears stored times files large (KeepAlive progress)) _ refl refl does
+  sender-hears stored large (FileData offset bytes) does = rests-so (hears stored times files large (FileData offset bytes)) refl does
+  sender-hears stored large (Metadata kind size source destination options) does = rests-so (hears stored times files large (Metadata kind size source destination options)) refl does
+  sender-hears stored large (Eof condition checksum size tlvs) does = rests-so (hears stored times files large (Eof condition checksum size tlvs)) refl does
+  sender-hears stored large (Prompt keep_alive) does = rests-so (hears stored times files large (Prompt keep_alive)) refl does
 
   pub sender-called : (c : Call) → SenderDoes times (Some (called_sender c x)) x x_now told told_now timers timers_now → Steps (calls times files c)
   sender-called c does = stepped-so (calls times files c) _ refl (kept-called c x) does
@@ -361,6 +365,9 @@ module _ (times : Times) (id : TransactionId) (s : Record) (x x_now : SenderStat
   addressed : addressing_of (seen (staged id) s) ≡ x.addressing
   addressed = ap (λ (k : Record). addressing_of (seen (staged id) k)) is
 
+  flag-is : large_of (seen (staged id) s) ≡ is_large x.size
+  flag-is = ap (λ (k : Record). large_of (seen (staged id) k)) is
+
   -- what taking its PDU does, by what it answered
   abbrev pub Took : List ℕ → List ℕ → Taken → Type 0
   Took out out_now Nothing = Steps (takes Done times sources files) × Gives (due_octets sources (seen (staged id) s)) (due_len sources (seen (staged id) s)) (Octets 0) out out_now
@@ -370,11 +377,12 @@ module _ (times : Times) (id : TransactionId) (s : Record) (x x_now : SenderStat
   pub sender-took : (out out_now : List ℕ) (t : Taken) → sender_does.Takes times (octets_in sources x.source) (sender_due x) t x x_now told told_now timers timers_now out out_now → Took out out_now t
   sender-took out out_now t takes_so = by (sender_due x) refl t takes_so
     where
-      octets_are : (o : Option SenderDue) → sender_due x ≡ o → due_octets sources (seen (staged id) s) ≡ octets_of x.addressing (seens.sender_content (octets_in sources x.source) x o)
-      octets_are o due_is = λ i. octets_of (addressed i) (content-is o due_is i)
+      octets_are : (o : Option SenderDue) → sender_due x ≡ o → due_octets sources (seen (staged id) s) ≡
+          octets_of (is_large x.size) x.addressing (seens.sender_content (octets_in sources x.source) x o)
+      octets_are o due_is = λ i. octets_of (flag-is i) (addressed i) (content-is o due_is i)
 
-      len_is : (o : Option SenderDue) → sender_due x ≡ o → due_len sources (seen (staged id) s) ≡ len_of x.addressing (seens.sender_content (octets_in sources x.source) x o)
-      len_is o due_is = λ i. len_of (addressed i) (content-is o due_is i)
+      len_is : (o : Option SenderDue) → sender_due x ≡ o → due_len sources (seen (staged id) s) ≡ len_of (is_large x.size) x.addressing (seens.sender_content (octets_in sources x.source) x o)
+      len_is o due_is = λ i. len_of (flag-is i) (addressed i) (content-is o due_is i)
 
       by : (o : Option SenderDue) → sender_due x ≡ o → (t : Taken) → sender_does.Takes times (octets_in sources x.source) o t x x_now told told_now timers timers_now out out_now → Took out out_now t
       by None due_is Nothing h = (
@@ -417,14 +425,14 @@ module _ (times : Times) (id : TransactionId) (s : Record) (x x_now : SenderStat
       by (Prompt keep_alive) keeps = absurd keeps
 
   -- by what hearing a PDU answered
-  module _ {E : Type 0} (answer : Result Stored E) (v : Content) (does : OnOk answer (SenderDoes times (sender_after v x) x x_now told told_now timers timers_now))
+  module _ {E : Type 0} (answer : Result Stored E) (large : Bool) (v : Content) (does : OnOk answer (SenderDoes times (sender_after v x) x x_now told told_now timers timers_now))
       (keeps : OnErr answer (SenderKeeps v x x_now told told_now timers timers_now)) where
-    pub sender-answered : IfOk answer (λ stored. Does id (hears stored times files v (seen (staged id) s)) (Sends x_now) told told_now timers timers_now files)
+    pub sender-answered : IfOk answer (λ stored. Does id (hears stored times files large v (seen (staged id) s)) (Sends x_now) told told_now timers timers_now files)
     sender-answered = by answer does
       where
         by : (a : Result Stored E) → OnOk a (SenderDoes times (sender_after v x) x x_now told told_now timers timers_now) →
-            IfOk a (λ stored. Does id (hears stored times files v (seen (staged id) s)) (Sends x_now) told told_now timers timers_now files)
-        by (Ok stored) h = (sender-hears stored v h).0
+            IfOk a (λ stored. Does id (hears stored times files large v (seen (staged id) s)) (Sends x_now) told told_now timers timers_now files)
+        by (Ok stored) h = (sender-hears stored large v h).0
         by (Err e) h = tt
 
     pub sender-failed : OnErr answer (Keeps v (seen (staged id) s) (Sends x_now) told told_now timers timers_now files files)
@@ -439,7 +447,7 @@ module _ (times : Times) (id : TransactionId) (s : Record) (x x_now : SenderStat
       where
         by : (a : Result Stored E) → OnOk a (SenderDoes times (sender_after v x) x x_now told told_now timers timers_now) → OnErr a (SenderKeeps v x x_now told told_now timers timers_now) →
             IsReadyRecord staged sources id (held.Sends x_now)
-        by (Ok stored) h k = (sender-hears stored v h).1
+        by (Ok stored) h k = (sender-hears stored large v h).1
         by (Err e) h k = (sender-keeps v k).1
 
 -- ---- and of a receiver
@@ -456,10 +464,11 @@ module _ (times : Times) (id : TransactionId) (s : Record) (r r_now : ReceiverSt
       → Does id (f (seen (old id) s)) (seen (new id) (held.Receives r_now)) told told_now timers timers_now files_now
   of-seen-there f does = subst (λ (k : Record). Does id (f (seen (old id) k)) (seen (new id) (held.Receives r_now)) told told_now timers timers_now files_now) (sym is) does
 
-  pub heard-there : (stored : Stored) (v : Content) → ReceiverDoes times
-      (receiver_after stored v (staged_for old r.addressing.id) files r) r r_now told told_now timers timers_now files files_now old new
-      → Does id (hears stored times files v (seen (old id) s)) (seen (new id) (held.Receives r_now)) told told_now timers timers_now files_now
-  heard-there stored v does = of-seen-there (hears stored times files v) (receiver-hears times id r r_now files files_now old new told told_now timers timers_now rid addr stored v does)
+  pub heard-there : (stored : Stored) (large : Bool) (v : Content) → ReceiverDoes times
+      (receiver_after stored large v (staged_for old r.addressing.id) files r) r r_now told told_now timers timers_now files files_now old new
+      → Does id (hears stored times files large v (seen (old id) s)) (seen (new id) (held.Receives r_now)) told told_now timers timers_now files_now
+  heard-there stored large v does = of-seen-there (hears stored times files large v)
+      (receiver-hears times id r r_now files files_now old new told told_now timers timers_now rid addr stored large v does)
 
   pub called-there : (c : Call) → ReceiverDoes times (called_receiver c (staged_for old r.addressing.id) files r) r r_now told told_now timers timers_now files files_now old new
       → Does id (calls times files c (seen (old id) s)) (seen (new id) (held.Receives r_now)) told told_now timers timers_now files_now
@@ -489,16 +498,22 @@ module _ (times : Times) (id : TransactionId) (s : Record) (r r_now : ReceiverSt
   addressed-there : addressing_of (seen (old id) s) ≡ r.addressing
   addressed-there = ap (λ (k : Record). addressing_of (seen (old id) k)) is
 
+  flag-there : large_of (seen (old id) s) ≡ r.large
+  flag-there = ap (λ (k : Record). large_of (seen (old id) k)) is
+
   pub took-there : new ≡ old → files_now ≡ files → told_now ≡ told → (n : ℕ) (out out_now : List ℕ) → ReceiverTook times (receiver_due r) r r_now timers timers_now n out out_now
       → Does id (takes Done times sources files (seen (old id) s)) (seen (new id) (held.Receives r_now)) told told_now timers timers_now files_now
       × Gives (due_octets sources (seen (old id) s)) (due_len sources (seen (old id) s)) (Octets n) out out_now
   took-there same_staged same_files same_told n out out_now took = by (receiver_due r) refl took
     where
-      gives : (o : Option Due) → receiver_due r ≡ o → Gives (octets_of r.addressing (seens.receiver_content r o)) (len_of r.addressing (seens.receiver_content r o)) (Octets n) out out_now
+      gives : (o : Option Due) → receiver_due r ≡ o → Gives (octets_of r.large r.addressing (seens.receiver_content r o))
+          (len_of r.large r.addressing (seens.receiver_content r o)) (Octets n) out out_now
           → Gives (due_octets sources (seen (old id) s)) (due_len sources (seen (old id) s)) (Octets n) out out_now
       gives o due_is h =
-          let octets : due_octets sources (seen (old id) s) ≡ octets_of r.addressing (seens.receiver_content r o) = (λ i. octets_of (addressed-there i) (content-there o due_is i)) in
-          let len : due_len sources (seen (old id) s) ≡ len_of r.addressing (seens.receiver_content r o) = (λ i. len_of (addressed-there i) (content-there o due_is i)) in
+          let octets : due_octets sources (seen (old id) s) ≡ octets_of r.large r.addressing (seens.receiver_content r o) =
+          (λ i. octets_of (flag-there i) (addressed-there i) (content-there o due_is i)) in
+          let len : due_len sources (seen (old id) s) ≡ len_of r.large r.addressing (seens.receiver_content r o) =
+          (λ i. len_of (flag-there i) (addressed-there i) (content-there o due_is i)) in
           (h.0 ∙ sym len, record { front = h.1.front ∙ sym octets; behind = h.1.behind })
 
       by : (o : Option Due) → receiver_due r ≡ o → ReceiverTook times o r r_now timers timers_now n out out_now →
@@ -528,16 +543,16 @@ module _ (times : Times) (id : TransactionId) (s : Record) (r r_now : ReceiverSt
       )
 
   -- by what hearing a PDU answered
-  module _ {E : Type 0} (answer : Result Stored E) (v : Content)
-      (does : IfOk answer (λ stored. ReceiverDoes times (receiver_after stored v (staged_for old r.addressing.id) files r) r r_now told told_now timers timers_now files files_now old new))
+  module _ {E : Type 0} (answer : Result Stored E) (large : Bool) (v : Content)
+      (does : IfOk answer (λ stored. ReceiverDoes times (receiver_after stored large v (staged_for old r.addressing.id) files r) r r_now told told_now timers timers_now files files_now old new))
       (keeps : OnErr answer (ReceiverKeeps v r r_now told told_now timers timers_now files files_now old new)) where
-    pub heard-answered : IfOk answer (λ stored. Does id (hears stored times files v (seen (old id) s)) (seen (new id) (held.Receives r_now)) told told_now timers timers_now files_now)
+    pub heard-answered : IfOk answer (λ stored. Does id (hears stored times files large v (seen (old id) s)) (seen (new id) (held.Receives r_now)) told told_now timers timers_now files_now)
     heard-answered = by answer does
       where
         by : (a : Result Stored E) → IfOk a (λ stored. ReceiverDoes times
-            (receiver_after stored v (staged_for old r.addressing.id) files r) r r_now told told_now timers timers_now files files_now old new)
-            → IfOk a (λ stored. Does id (hears stored times files v (seen (old id) s)) (seen (new id) (held.Receives r_now)) told told_now timers timers_now files_now)
-        by (Ok stored) h = heard-there stored v h
+            (receiver_after stored large v (staged_for old r.addressing.id) files r) r r_now told told_now timers timers_now files files_now old new)
+            → IfOk a (λ stored. Does id (hears stored times files large v (seen (old id) s)) (seen (new id) (held.Receives r_now)) told told_now timers timers_now files_now)
+        by (Ok stored) h = heard-there stored large v h
         by (Err e) h = tt
 
     pub heard-failed : OnErr answer (Keeps v (seen (old id) s) (seen (new id) (held.Receives r_now)) told told_now timers timers_now files files_now)
@@ -555,17 +570,17 @@ done-counts (Err e) n h = tt
 
 -- ---- how long the PDU of a sender is
 pub len-of-sender : (sources : FileMap) (x : SenderState) (n : Option ℕ) → HasFile sources x.source x.size
-    → ((file : List ℕ) → length file ≡ x.size → n ≡ option_map (λ d. written_len x.addressing false (sender_says file x d)) (sender_due x))
+    → ((file : List ℕ) → length file ≡ x.size → n ≡ option_map (λ d. written_len x.addressing (is_large x.size) (sender_says file x d)) (sender_due x))
     → unwrap_or n 0 ≡ due_len sources (Sends x)
 len-of-sender sources x n file len = ap (λ o. unwrap_or o 0) (len (octets_in sources x.source) file.whole) ∙ by (sender_due x)
   where
-    by : (o : Option SenderDue) → unwrap_or (option_map (λ d. written_len x.addressing false (sender_says (octets_in sources x.source) x d)) o) 0
-        ≡ len_of x.addressing (seens.sender_content (octets_in sources x.source) x o)
+    by : (o : Option SenderDue) → unwrap_or (option_map (λ d. written_len x.addressing (is_large x.size) (sender_says (octets_in sources x.source) x d)) o) 0
+        ≡ len_of (is_large x.size) x.addressing (seens.sender_content (octets_in sources x.source) x o)
     by (Some d) = refl
     by None = refl
 
 -- and that it fits
-pub fits-sender : (file : List ℕ) (x : SenderState) (o : Option SenderDue) (n : ℕ) → len_of x.addressing (seens.sender_content file x o) ≤ n →
-    IfSome o (λ d. written_len x.addressing false (sender_says file x d) ≤ n)
+pub fits-sender : (file : List ℕ) (x : SenderState) (o : Option SenderDue) (n : ℕ) → len_of (is_large x.size) x.addressing (seens.sender_content file x o) ≤ n →
+    IfSome o (λ d. written_len x.addressing (is_large x.size) (sender_says file x d) ≤ n)
 fits-sender file x (Some d) n h = h
 fits-sender file x None n h = tt

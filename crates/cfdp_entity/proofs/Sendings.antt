@@ -1,5 +1,5 @@
 -- A table that sends the truth.
-use Rattle.std.proofs.Common.{◌≡◌, ℕ, zero, suc, ◌≤◌, List, [], ◌∷◌, ◌++◌, take, length, slice_get, Option, Some, None, refl, sym, ap, subst, ◌∙◌}
+use Rattle.std.proofs.Common.{◌≡◌, ℕ, zero, suc, ◌≤◌, Bool, List, [], ◌∷◌, ◌++◌, take, length, slice_get, Option, Some, None, refl, sym, ap, subst, ◌∙◌}
 use Rattle.indexmap.specs.IndexMap.{set_value_at}
 use Rattle.cfdp_header.specs.declared.value.TransactionId.{TransactionId}
 use Rattle.cfdp_header.specs.Files.{FileMap}
@@ -68,17 +68,18 @@ module _ (laws : TrueSender) (put_of : TransactionId → Option Put) where
     by-receiver times files r m None = tt
 
     module _ (policy : Policy) (files : FileMap) where
-      hears-put : (stored : Stored) (v : Content) (s : Seen) → SendsItsPut put_of sources id s → SendsItsPut put_of sources id (hears stored policy.times files v s).seen
-      hears-put stored v (Receives r m) k = by-receiver policy.times files r m (receiver_after stored v m files r)
-      hears-put stored (Ack acknowledged.Eof condition status) (Sends x) k = by-sender policy (inputs.HearsAck condition) x tt k
-      hears-put stored (Nak start end pairs) (Sends x) k = by-sender policy (inputs.HearsNak pairs) x tt k
-      hears-put stored (Finished condition delivery status tlvs) (Sends x) k = by-sender policy (inputs.HearsFinished (record { condition = condition; delivery = delivery; status = status })) x tt k
-      hears-put stored (KeepAlive progress) (Sends x) k = by-sender policy (inputs.HearsKeepAlive progress) x tt k
-      hears-put stored (Ack acknowledged.Finished condition status) (Sends x) k = k
-      hears-put stored (Metadata kind size source destination options) (Sends x) k = k
-      hears-put stored (FileData offset bytes) (Sends x) k = k
-      hears-put stored (Eof condition checksum size tlvs) (Sends x) k = k
-      hears-put stored (Prompt keep_alive) (Sends x) k = k
+      hears-put : (stored : Stored) (large : Bool) (v : Content) (s : Seen) → SendsItsPut put_of sources id s → SendsItsPut put_of sources id (hears stored policy.times files large v s).seen
+      hears-put stored large v (Receives r m) k = by-receiver policy.times files r m (receiver_after stored large v m files r)
+      hears-put stored large (Ack acknowledged.Eof condition status) (Sends x) k = by-sender policy (inputs.HearsAck condition) x tt k
+      hears-put stored large (Nak start end pairs) (Sends x) k = by-sender policy (inputs.HearsNak pairs) x tt k
+      hears-put stored large (Finished condition delivery status tlvs) (Sends x) k =
+          by-sender policy (inputs.HearsFinished (record { condition = condition; delivery = delivery; status = status })) x tt k
+      hears-put stored large (KeepAlive progress) (Sends x) k = by-sender policy (inputs.HearsKeepAlive progress) x tt k
+      hears-put stored large (Ack acknowledged.Finished condition status) (Sends x) k = k
+      hears-put stored large (Metadata kind size source destination options) (Sends x) k = k
+      hears-put stored large (FileData offset bytes) (Sends x) k = k
+      hears-put stored large (Eof condition checksum size tlvs) (Sends x) k = k
+      hears-put stored large (Prompt keep_alive) (Sends x) k = k
 
       expires-put : (kind : Kind) (s : Seen) → SendsItsPut put_of sources id s → SendsItsPut put_of sources id (expires policy files kind s).seen
       expires-put kind (Sends x) k = by-sender policy (inputs.Expires kind) x tt k
@@ -118,13 +119,13 @@ module _ (laws : TrueSender) (put_of : TransactionId → Option Put) where
       spoiled (Prompt keep_alive) (Sends x) t h k = subst (SendsItsPut put_of sources id) (sym h) k
 
       -- a record that is opened
-      begins-put : (begun stored : Stored) (v : Content) (a : Addressing) → SendsItsPut put_of sources id (begins begun stored policy.times files v a).seen
-      begins-put Done stored v a = by-receiver policy.times files (opened_receiver a) _ (receiver_after stored v _ files (opened_receiver a))
-      begins-put Refused stored v a = tt
+      begins-put : (begun stored : Stored) (large : Bool) (v : Content) (a : Addressing) → SendsItsPut put_of sources id (begins begun stored policy.times files large v a).seen
+      begins-put Done stored large v a = by-receiver policy.times files (opened_receiver a) _ (receiver_after stored large v _ files (opened_receiver a))
+      begins-put Refused stored large v a = tt
 
-      opens-put : (o : Option ℕ) (begun stored : Stored) (v : Content) (a : Addressing) → SendsItsPut put_of sources id (opens_by o begun stored policy.times files v a).seen
-      opens-put (Some condition) begun stored v a = tt
-      opens-put None begun stored v a = begins-put begun stored v a
+      opens-put : (o : Option ℕ) (begun stored : Stored) (large : Bool) (v : Content) (a : Addressing) → SendsItsPut put_of sources id (opens_by o begun stored policy.times files large v a).seen
+      opens-put (Some condition) begun stored large v a = tt
+      opens-put None begun stored large v a = begins-put begun stored large v a
 
     -- ---- what is due
     sender-says : (file : List ℕ) (x : SenderState) (o : Option SenderDue) (v : Content) (put : Put) → sender_due x ≡ o → sender_content file x o ≡ Some v → octets_in sources x.source ≡ file →
@@ -206,7 +207,8 @@ module _ (laws : TrueSender) (put_of : TransactionId → Option Put) where
       by (Some e) at = all-set st.sources st.records place e noted at (spoiled st.sources e.0 st.policy st.files v e.1 noted (may e at) (t.sends place e at)) t.sends
 
   pub sends-step : (s : TableStep) (st : TableState) → MayHappen s st → FindsPut put_of s st → SendsTruth put_of st → SendsTruth put_of (table_step s st)
-  sends-step (Hears stored place v) st may finds t = sends-at (λ e. hears stored st.policy.times st.files v e.1) place st (λ e k. hears-put st.sources e.0 st.policy st.files stored v e.1 k) t
+  sends-step (Hears stored place large v) st may finds t = sends-at (λ e. hears stored st.policy.times st.files large v e.1) place st
+      (λ e k. hears-put st.sources e.0 st.policy st.files stored large v e.1 k) t
   sends-step (Spoils place v noted) st may finds t = sends-spoiled place v noted st may t
   sends-step (Expires place kind) st may finds t = sends-at (λ e. expires st.policy st.files kind e.1) place st (λ e k. expires-put st.sources e.0 st.policy st.files kind e.1 k) t
   sends-step (Calls place c) st may finds t = sends-at (λ e. calls st.policy.times st.files c e.1) place st (λ e k. calls-put st.sources e.0 st.policy st.files c e.1 k) t
@@ -221,8 +223,8 @@ module _ (laws : TrueSender) (put_of : TransactionId → Option Put) where
         octets = refl;
       } in
       sends-push transfer.addressing.id (puts st.files transfer) st k t
-  sends-step (Opens begun stored a v) st may finds t = sends-push a.id (opens begun stored st.policy.times st.files v a) st
-      (opens-put st.sources a.id st.policy st.files (closing v) begun stored v a) t
+  sends-step (Opens begun stored a large v) st may finds t = sends-push a.id (opens begun stored st.policy.times st.files large v a) st
+      (opens-put st.sources a.id st.policy st.files (closing v) begun stored large v a) t
   sends-step (Tells now) st may finds t = record { sends = t.sends }
   sends-step (Fires timers) st may finds t = sends-fired timers st t
 

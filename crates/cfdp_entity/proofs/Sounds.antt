@@ -1,16 +1,14 @@
 -- An entity that hears nothing but the truth: each call is a step of its table, or some steps.
-use Rattle.std.proofs.Common.{◌≡◌, ℕ, zero, suc, nat_lt, Bool, true, false, not, List, [], ◌∷◌, length, get_or, slice_get, Option, Some, None, IsSome, refl, sym, ap, subst, ◌∙◌, if◌then◌else◌}
+use Rattle.std.proofs.Common.{◌≡◌, ℕ, nat_lt, Bool, true, false, not, List, length, Option, Some, None, IsSome, refl, sym, ap, subst, ◌∙◌, if◌then◌else◌}
 use Rattle.std.specs.Prelude.{Contains}
-use Rattle.std.proofs.lemmas.List.Quantifiers.{position-Some}
 use Rattle.cfdp_header.specs.declared.value.Header.{Header}
 use Rattle.cfdp_header.specs.declared.value.TransactionId.{TransactionId}
 use Rattle.cfdp_header.specs.Files.{FileMap}
-use Rattle.cfdp_header.specs.Ids.{same_id}
 use Rattle.cfdp_directives.specs.declared.pdu.error.PduError.{PduError}
 use Rattle.cfdp_directives.specs.Pdu.Addressing.{addressing_of}
 use Rattle.cfdp_directives.specs.Pdu.Content.{Content, FileData, Metadata, Eof, Finished, Ack, Nak, Prompt, KeepAlive}
 use Rattle.cfdp_directives.specs.Pdu.Direction.{direction_fits, is_for}
-use Rattle.cfdp_directives.specs.Pdu.Small.{SpellsSmall}
+use Rattle.cfdp_directives.specs.Pdu.Grammar.{SpellsPdu}
 use Rattle.cfdp_directives.specs.User.Put.{Put, IsTruthful, IsOfPut, SaysTruth, SaysComplete, SomePdu, IsMetadataOf, IsEofOf, Brings}
 use Rattle.cfdp_store.specs.declared.stored.Stored.{Stored}
 use Rattle.cfdp_store.specs.Files.{octets_in}
@@ -31,7 +29,7 @@ use Rattle.cfdp_entity.specs.Polling.{Turn, Stray, Place, Rests, served}
 use Rattle.cfdp_entity.specs.Putting.{Accepts, next_id, next_transfer}
 use Rattle.cfdp_entity.specs.Sending.{SendsTruth, FindsPut}
 use Rattle.cfdp_entity.specs.Sound.{IsSound, FindsById, next_put, ComesTrue}
-use Rattle.cfdp_entity.specs.Table.{Entry, TableState, Ticks, place_of, heard_at, taken_at, opened_by, put_in, at_time, all_expired, most_records}
+use Rattle.cfdp_entity.specs.Table.{TableState, Ticks, place_of, heard_at, taken_at, opened_by, put_in, at_time, all_expired, most_records}
 use Rattle.cfdp_entity.specs.Telling.{TellsNoMore, HearsDelivered}
 use Rattle.cfdp_entity.specs.Truth.{IsTrueOf, TellsTruth, IsTrueTable}
 use Rattle.cfdp_entity.specs.Timed.{AreTimed}
@@ -77,13 +75,13 @@ module _ (put_of : TransactionId → Option Put) (heard : List (List ℕ)) (firs
 
   -- ---- a PDU that comes
   module _ (by_id : FindsById put_of) (peer : ℕ) (pdu : List ℕ) (among : Contains heard pdu) (h : Header) where
-    some-pdu : (P : Header → Content → Type 0) (v : Content) → SpellsSmall h v pdu → P h v → SomePdu P heard
+    some-pdu : (P : Header → Content → Type 0) (v : Content) → SpellsPdu h v pdu → P h v → SomePdu P heard
     some-pdu P v s p = (among.0, pdu, among.1, among.2, (h, (v, (s, p))))
 
     true-as : (v : Content) (put : Put) → IsOfPut peer put_of h.id v → put_of h.id ≡ Some put → (h.id ≡ put.id) × IsTruthful put v
     true-as v put t is = (sym (by_id h.id put is), subst (λ p. IsTruthful p v) (same-put t.0 put (sym t.1.1 ∙ is)) t.1.2)
 
-    true-of : (v : Content) → SpellsSmall h v pdu → SaysTruth peer put_of h.id v → IsTrueOf put_of heard h.id v
+    true-of : (v : Content) → SpellsPdu h v pdu → SaysTruth peer put_of h.id v → IsTrueOf put_of heard h.id v
     true-of (FileData offset bytes) s t = λ put is. (let a = true-as (FileData offset bytes) put t is in (a.1, λ n low high. some-pdu (Brings put n) (FileData offset bytes) s (a.0, low, high, a.1)))
     true-of (Metadata kind size source destination options) s t = λ put is.
         (let a = true-as (Metadata kind size source destination options) put t is in (a.1, some-pdu (IsMetadataOf put) (Metadata kind size source destination options) s a))
@@ -150,34 +148,34 @@ module _ (put_of : TransactionId → Option Put) (heard : List (List ℕ)) (firs
 
     -- ---- a PDU that is taken
     module _ (by_id : FindsById put_of) (pdu : List ℕ) (old new : Counted) (comes : ComesTrue old.state.config.peer put_of heard pdu) (h : Header) (k : IsSound put_of heard first old.state) where
-      stepped : (place : ℕ) (v : Content) → SpellsSmall h v pdu → place_of h.id old.state.table.records ≡ Some place → TakesPdu (routes.Steps place) h v old new → IsSound put_of heard first new.state
+      stepped : (place : ℕ) (v : Content) → SpellsPdu h v pdu → place_of h.id old.state.table.records ≡ Some place → TakesPdu (routes.Steps place) h v old new → IsSound put_of heard first new.state
       stepped place v s is t =
           let truth : IsTrueOf put_of heard h.id v = true-of by_id old.state.config.peer pdu comes.among h v s (comes.says h v s) in
-          sound-like (with_table old.state (heard_at t.stored place v old.state.table)) new.state (ap (λ (e : EntityState). e.config) t.steps) (ap (λ (e : EntityState). e.table) t.steps)
-          (sound-step old.state (Hears t.stored place v) tt (λ e at. subst (λ i. IsTrueOf put_of heard i v) (key-there h.id old.state.table.records place e is at) truth) tt
+          sound-like (with_table old.state (heard_at t.stored place h.large v old.state.table)) new.state (ap (λ (e : EntityState). e.config) t.steps) (ap (λ (e : EntityState). e.table) t.steps)
+          (sound-step old.state (Hears t.stored place h.large v) tt (λ e at. subst (λ i. IsTrueOf put_of heard i v) (key-there h.id old.state.table.records place e is at) truth) tt
           (λ e at tlvs says. some-pdu by_id old.state.config.peer pdu comes.among h (SaysComplete e.0) v s (key-there h.id old.state.table.records place e is at, (tlvs, says)))
-          (step-timed _ place old.state.table k.once.distinct (λ e at. hears-set t.stored old.state.table.policy.times old.state.table.files v e.1) k.timed) k)
+          (step-timed _ place old.state.table k.once.distinct (λ e at. hears-set t.stored old.state.table.policy.times old.state.table.files h.large v e.1) k.timed) k)
 
-      opened : (v : Content) → IsForReceiver v → SpellsSmall h v pdu → place_of h.id old.state.table.records ≡ None → IsOfPut old.state.config.peer put_of h.id v →
+      opened : (v : Content) → IsForReceiver v → SpellsPdu h v pdu → place_of h.id old.state.table.records ≡ None → IsOfPut old.state.config.peer put_of h.id v →
           TakesPdu (if nat_lt (length old.state.table.records) most_records then routes.Opens else routes.Drops drops.TableFull) h v old new → IsSound put_of heard first new.state
       opened v for_it s none put taken =
-          let o : OpensOne (addressing_of h) v old new = taken-if (nat_lt (length old.state.table.records) most_records) drops.TableFull routes.Opens h v old new taken in
+          let o : OpensOne (addressing_of h) h.large v old new = taken-if (nat_lt (length old.state.table.records) most_records) drops.TableFull routes.Opens h v old new taken in
           let truth : IsTrueOf put_of heard h.id v = true-of by_id old.state.config.peer pdu comes.among h v s (comes.says h v s) in
           let some : IsSome (put_of h.id) = subst IsSome (sym put.1.1) refl in
           let not_own : h.id.source ≡ old.state.config.entity → ⊥ = λ own. k.config.ids.apart (sym own ∙ put.1.0) in
-          sound-like (with_table old.state (opened_by o.begun o.stored (addressing_of h) v old.state.table)) new.state (ap (λ (e : EntityState). e.config) o.opens)
+          sound-like (with_table old.state (opened_by o.begun o.stored (addressing_of h) h.large v old.state.table)) new.state (ap (λ (e : EntityState). e.config) o.opens)
           (ap (λ (e : EntityState). e.table) o.opens)
-          (sound-step old.state (Opens o.begun o.stored (addressing_of h) v) none (not_own, (some, truth)) tt tt
-          (push-timed h.id _ old.state.table none (opens-set o.begun o.stored old.state.table.policy.times old.state.table.files v (addressing_of h) for_it) k.timed) k)
+          (sound-step old.state (Opens o.begun o.stored (addressing_of h) h.large v) none (not_own, (some, truth)) tt tt
+          (push-timed h.id _ old.state.table none (opens-set o.begun o.stored old.state.table.policy.times old.state.table.files h.large v (addressing_of h) for_it) k.timed) k)
 
-      by-place : (o : Option ℕ) (v : Content) → SpellsSmall h v pdu → place_of h.id old.state.table.records ≡ o → TakesPdu (route_by o h v old.state) h v old new → IsSound put_of heard first new.state
+      by-place : (o : Option ℕ) (v : Content) → SpellsPdu h v pdu → place_of h.id old.state.table.records ≡ o → TakesPdu (route_by o h v old.state) h v old new → IsSound put_of heard first new.state
       by-place (Some place) v s is t = stepped place v s is t
       by-place None (FileData offset bytes) s is t = opened (FileData offset bytes) tt s is (comes.says h (FileData offset bytes) s) t
       by-place None (Metadata kind size source destination options) s is t =
           opened (Metadata kind size source destination options) tt s is (comes.says h (Metadata kind size source destination options) s) t
       by-place None (Eof condition checksum size tlvs) s is t = opened (Eof condition checksum size tlvs) tt s is (comes.says h (Eof condition checksum size tlvs) s) t
       by-place None (Finished condition delivery status tlvs) s is t =
-          let q = taken-if _ drops.TableFull (routes.Queues (record { addressing = addressing_of h; condition = condition })) h (Finished condition delivery status tlvs) old new t in
+          let q = taken-if _ drops.TableFull (routes.Queues (record { addressing = addressing_of h; large = h.large; condition = condition })) h (Finished condition delivery status tlvs) old new t in
           sound-like old.state new.state (ap (λ (c : Counted). c.state.config) q) (ap (λ (c : Counted). c.state.table) q) k
       by-place None (Ack of condition status) s is t = absurd t
       by-place None (Nak start end pairs) s is t = absurd t

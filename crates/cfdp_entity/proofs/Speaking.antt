@@ -1,5 +1,5 @@
 -- What an entity that hears nothing but the truth says of its puts, and of what it received.
-use Rattle.std.proofs.Common.{◌≡◌, ℕ, zero, suc, ◌<◌, true, false, not, ◌==◌, List, [], ◌∷◌, ◌++◌, length, slice_get, Option, Some, None, refl, sym, ap, subst, ◌∙◌, arith, if◌then◌else◌}
+use Rattle.std.proofs.Common.{◌≡◌, ℕ, zero, suc, ◌<◌, Bool, true, false, not, ◌==◌, List, [], ◌∷◌, ◌++◌, length, slice_get, Option, Some, None, refl, sym, ap, subst, ◌∙◌, arith, if◌then◌else◌}
 use Rattle.std.specs.Prelude.{Contains}
 use Rattle.std.proofs.lemmas.Bool.{eqb-true}
 use Rattle.cfdp_header.specs.declared.value.Header.{Header}
@@ -15,7 +15,7 @@ use Rattle.cfdp_directives.specs.Pdu.Addressing.{header_of}
 use Rattle.cfdp_directives.specs.Pdu.Codes.{no_error}
 use Rattle.cfdp_directives.specs.User.Completions.{completion, completions}
 use Rattle.cfdp_directives.specs.Pdu.Content.{Content, FileData, Metadata, Eof, Finished, Ack, Nak, Prompt, KeepAlive}
-use Rattle.cfdp_directives.specs.Pdu.Small.{SpellsSmall}
+use Rattle.cfdp_directives.specs.Pdu.Grammar.{SpellsPdu}
 use Rattle.cfdp_directives.specs.User.Policy.{finished_told}
 use Rattle.cfdp_directives.specs.User.Put.{Put, IsTruthful, IsOfPut, SaysTruth}
 use Rattle.cfdp_directives.specs.Pdu.Tlv.{Tlv}
@@ -34,7 +34,7 @@ use Rattle.cfdp_receiver.specs.Due.{receiver_due, receiver_says}
 use Rattle.cfdp_store.specs.Staged.{OctetMap}
 use Rattle.cfdp_entity.specs.Entity.{EntityState}
 use Rattle.cfdp_entity.specs.Polling.{Turn, Stray, Place, Rests, turn_octets}
-use Rattle.cfdp_entity.specs.Seen.{Seen, Sends, Receives, addressing_of, due_content, due_octets, sender_content, receiver_content}
+use Rattle.cfdp_entity.specs.Seen.{Seen, Sends, Receives, addressing_of, large_of, due_content, due_octets, sender_content, receiver_content}
 use Rattle.cfdp_entity.specs.Sending.{SendsPut, SendsTruth}
 use Rattle.cfdp_entity.specs.Sound.{IsSound, SaysDelivered, SpellsDue, SpellsEntry, SpellsTurn}
 use Rattle.cfdp_entity.specs.Strays.{stray_says, stray_octets}
@@ -87,7 +87,7 @@ of-put own put_of id (KeepAlive progress) p = tt
 
 -- ---- what an entity says
 pub record Speakers : Type 0 where
-  pub unique : (a b x y : List ℕ) (h k : Header) (v w : Content) → SpellsSmall h v a → SpellsSmall k w b → a ++ x ≡ b ++ y → (a ≡ b) × (h ≡ k) × (v ≡ w)
+  pub unique : (a b x y : List ℕ) (h k : Header) (v w : Content) → SpellsPdu h v a → SpellsPdu k w b → a ++ x ≡ b ++ y → (a ≡ b) × (h ≡ k) × (v ≡ w)
   pub truthful : (put_of : TransactionId → Option Put) (st : TableState) (place : ℕ) (e : Entry) (v : Content) (put : Put) → SendsTruth put_of st → slice_get st.records place ≡ Some e →
       due_content st.sources e.1 ≡ Some v → put_of e.0 ≡ Some put → IsTruthful put v
   pub finished : (r : ReceiverState) (o : Outcome) → receiver_due r ≡ Some (due.Finished o) → r.outcome ≡ Some o
@@ -97,10 +97,10 @@ module _ (laws : Speakers) (put_of : TransactionId → Option Put) (heard : List
   Says id v = SaysTruth e.config.entity put_of id v × SaysDelivered e.config.entity e.table.told id v
 
   -- octets that spell what is due spell nothing else
-  said : (o : Option Content) (a : Addressing) (octets : List ℕ) (h : Header) (v : Content) → SpellsDue o a octets → SpellsSmall h v octets → (o ≡ Some v) × (h.id ≡ a.id)
-  said None a octets h v spells p = absurd spells
-  said (Some w) a octets h v spells p =
-      let b = laws.unique octets octets [] [] h (header_of a false w) v w p spells refl in
+  said : (large : Bool) (o : Option Content) (a : Addressing) (octets : List ℕ) (h : Header) (v : Content) → SpellsDue large o a octets → SpellsPdu h v octets → (o ≡ Some v) × (h.id ≡ a.id)
+  said large None a octets h v spells p = absurd spells
+  said large (Some w) a octets h v spells p =
+      let b = laws.unique octets octets [] [] h (header_of a large w) v w p spells refl in
       (ap (λ c. Some c) (sym b.2), ap (λ (k : Header). k.id) b.1)
 
   module _ (place : ℕ) (id : TransactionId) where
@@ -135,16 +135,16 @@ module _ (laws : Speakers) (put_of : TransactionId → Option Put) (heard : List
     record-says (Sends x) v at is = sender-says x v at is
     record-says (Receives r m) v at is = receiver-says r m (receiver_due r) v at refl is
 
-  entry-says : (place : ℕ) (o : Option Entry) (h : Header) (v : Content) → slice_get e.table.records place ≡ o → SpellsEntry e.table.sources o → SpellsSmall h v (octets_due e.table.sources o) →
+  entry-says : (place : ℕ) (o : Option Entry) (h : Header) (v : Content) → slice_get e.table.records place ≡ o → SpellsEntry e.table.sources o → SpellsPdu h v (octets_due e.table.sources o) →
       Says h.id v
   entry-says place None h v at spells p = absurd spells
   entry-says place (Some d) h v at spells p =
-      let b = said (due_content e.table.sources d.1) (addressing_of d.1) (due_octets e.table.sources d.1) h v spells p in
+      let b = said (large_of d.1) (due_content e.table.sources d.1) (addressing_of d.1) (due_octets e.table.sources d.1) h v spells p in
       subst (λ i. Says i v) (sym (b.1 ∙ s.once.own place d at)) (record-says place d.0 d.1 v at b.0)
 
-  pub turn-says : (t : Turn) (h : Header) (v : Content) → SpellsTurn t e → SpellsSmall h v (turn_octets t e) → Says h.id v
+  pub turn-says : (t : Turn) (h : Header) (v : Content) → SpellsTurn t e → SpellsPdu h v (turn_octets t e) → Says h.id v
   turn-says (Stray stray strays) h v spells p =
-      let b = said (Some (stray_says stray)) stray.addressing (stray_octets stray) h v spells p in
+      let b = said stray.large (Some (stray_says stray)) stray.addressing (stray_octets stray) h v spells p in
       let same : stray_says stray ≡ v = cc in
       subst (Says h.id) same (tt, λ tlvs f. absurd cc)
   turn-says (Place place) h v spells p = entry-says place (slice_get e.table.records place) h v refl spells p

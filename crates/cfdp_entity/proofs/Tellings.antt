@@ -125,10 +125,10 @@ belongs own put_of heard id (Receives r m) k = (k.same_id, k.not_own)
 pub record Tellers : Type 0 where
   pub outcome : (stored : Stored) (input : ReceiverInput) (m : OctetMap) (files : FileMap) (r : ReceiverState) (o : Outcome) → (receiver_step stored input m files r).receiver.outcome ≡ Some o
       → (r.outcome ≡ Some o) ⊎ Contains (receiver_step stored input m files r).told (finished_told r.addressing.id o)
-  pub opens_outcome : (stored : Stored) (files : FileMap) (addressing : Addressing) (o : Outcome) → (receiver.opens stored files addressing).receiver.outcome ≡ Some o
-      → Contains (receiver.opens stored files addressing).told (finished_told addressing.id o)
-  pub opens_own : (stored : Stored) (files : FileMap) (addressing : Addressing) (id : TransactionId) → same_id addressing.id id ≡ false →
-      finished_count id (receiver.opens stored files addressing).told ≡ 0
+  pub opens_outcome : (stored : Stored) (large : Bool) (files : FileMap) (addressing : Addressing) (o : Outcome) → (receiver.opens stored large files addressing).receiver.outcome ≡ Some o
+      → Contains (receiver.opens stored large files addressing).told (finished_told addressing.id o)
+  pub opens_own : (stored : Stored) (large : Bool) (files : FileMap) (addressing : Addressing) (id : TransactionId) → same_id addressing.id id ≡ false →
+      finished_count id (receiver.opens stored large files addressing).told ≡ 0
   pub delivered : (policy : Policy) (file : List ℕ) (input : SenderInput) (x : SenderState) (id : TransactionId) →
       Contains (sender_step policy file input x).told (indication.Finished id no_error Complete Retained) → input ≡ inputs.HearsFinished delivered
 
@@ -166,35 +166,39 @@ module _ (own : ℕ) (heard : List (List ℕ)) where
         }
 
     module _ (policy : Policy) (files : FileMap) (id : TransactionId) where
-      sender-hears : (v : Content) → ((tlvs : List Tlv) → v ≡ Finished no_error Complete Retained tlvs → SomePdu (SaysComplete id) heard) → (stored : Stored) (x : SenderState) → x.addressing.id ≡ id →
-          StepTells (Sends x) (hears stored policy.times files v (Sends x))
-      sender-hears (Ack acknowledged.Eof condition status) d stored x k = by-sender policy.times files policy [] (inputs.HearsAck condition) id x tt k (λ h. absurd cc)
-      sender-hears (Nak start end pairs) d stored x k = by-sender policy.times files policy [] (inputs.HearsNak pairs) id x tt k (λ h. absurd cc)
-      sender-hears (Finished condition delivery status tlvs) d stored x k =
+      sender-hears : (v : Content) → ((tlvs : List Tlv) → v ≡ Finished no_error Complete Retained tlvs → SomePdu (SaysComplete id) heard) → (stored : Stored) (large : Bool) (x : SenderState) →
+          x.addressing.id ≡ id →
+          StepTells (Sends x) (hears stored policy.times files large v (Sends x))
+      sender-hears (Ack acknowledged.Eof condition status) d stored large x k = by-sender policy.times files policy [] (inputs.HearsAck condition) id x tt k (λ h. absurd cc)
+      sender-hears (Nak start end pairs) d stored large x k = by-sender policy.times files policy [] (inputs.HearsNak pairs) id x tt k (λ h. absurd cc)
+      sender-hears (Finished condition delivery status tlvs) d stored large x k =
           by-sender policy.times files policy [] (inputs.HearsFinished (record { condition = condition; delivery = delivery; status = status })) id x tt k
           (λ h. (let o : record { condition = condition; delivery = delivery; status = status } ≡ delivered = cc in d tlvs (ap (λ (p : Outcome). Finished p.condition p.delivery p.status tlvs) o)))
-      sender-hears (KeepAlive progress) d stored x k = by-sender policy.times files policy [] (inputs.HearsKeepAlive progress) id x tt k (λ h. absurd cc)
-      sender-hears (Ack acknowledged.Finished condition status) d stored x k = rests files (Sends x)
-      sender-hears (Metadata kind size source destination options) d stored x k = rests files (Sends x)
-      sender-hears (FileData offset bytes) d stored x k = rests files (Sends x)
-      sender-hears (Eof condition checksum size tlvs) d stored x k = rests files (Sends x)
-      sender-hears (Prompt keep_alive) d stored x k = rests files (Sends x)
+      sender-hears (KeepAlive progress) d stored large x k = by-sender policy.times files policy [] (inputs.HearsKeepAlive progress) id x tt k (λ h. absurd cc)
+      sender-hears (Ack acknowledged.Finished condition status) d stored large x k = rests files (Sends x)
+      sender-hears (Metadata kind size source destination options) d stored large x k = rests files (Sends x)
+      sender-hears (FileData offset bytes) d stored large x k = rests files (Sends x)
+      sender-hears (Eof condition checksum size tlvs) d stored large x k = rests files (Sends x)
+      sender-hears (Prompt keep_alive) d stored large x k = rests files (Sends x)
 
-      receiver-hears : (stored : Stored) (v : Content) (r : ReceiverState) (m : OctetMap) → Belongs own id (Receives r m) → StepTells (Receives r m) (hears stored policy.times files v (Receives r m))
-      receiver-hears stored (Metadata kind size source destination options) r m k = by-receiver policy.times stored (machine.Hears (Metadata kind size source destination options)) files id r m k
-      receiver-hears stored (FileData offset bytes) r m k = by-receiver policy.times stored (machine.Hears (FileData offset bytes)) files id r m k
-      receiver-hears stored (Eof condition checksum size tlvs) r m k = by-receiver policy.times stored (machine.Hears (Eof condition checksum size tlvs)) files id r m k
-      receiver-hears stored (Ack acknowledged.Finished condition status) r m k = by-receiver policy.times stored (machine.Hears (Ack acknowledged.Finished condition status)) files id r m k
-      receiver-hears stored (Prompt keep_alive) r m k = by-receiver policy.times stored (machine.Hears (Prompt keep_alive)) files id r m k
-      receiver-hears stored (Ack acknowledged.Eof condition status) r m k = rests files (Receives r m)
-      receiver-hears stored (Finished condition delivery status tlvs) r m k = rests files (Receives r m)
-      receiver-hears stored (Nak start end pairs) r m k = rests files (Receives r m)
-      receiver-hears stored (KeepAlive progress) r m k = rests files (Receives r m)
+      receiver-hears : (stored : Stored) (large : Bool) (v : Content) (r : ReceiverState) (m : OctetMap) → Belongs own id (Receives r m) →
+          StepTells (Receives r m) (hears stored policy.times files large v (Receives r m))
+      receiver-hears stored large (Metadata kind size source destination options) r m k =
+          by-receiver policy.times stored (machine.Hears large (Metadata kind size source destination options)) files id r m k
+      receiver-hears stored large (FileData offset bytes) r m k = by-receiver policy.times stored (machine.Hears large (FileData offset bytes)) files id r m k
+      receiver-hears stored large (Eof condition checksum size tlvs) r m k = by-receiver policy.times stored (machine.Hears large (Eof condition checksum size tlvs)) files id r m k
+      receiver-hears stored large (Ack acknowledged.Finished condition status) r m k = by-receiver policy.times stored (machine.Hears large (Ack acknowledged.Finished condition status)) files id r m k
+      receiver-hears stored large (Prompt keep_alive) r m k = by-receiver policy.times stored (machine.Hears large (Prompt keep_alive)) files id r m k
+      receiver-hears stored large (Ack acknowledged.Eof condition status) r m k = rests files (Receives r m)
+      receiver-hears stored large (Finished condition delivery status tlvs) r m k = rests files (Receives r m)
+      receiver-hears stored large (Nak start end pairs) r m k = rests files (Receives r m)
+      receiver-hears stored large (KeepAlive progress) r m k = rests files (Receives r m)
 
-      hears-tells : (stored : Stored) (v : Content) (s : Seen) → ((tlvs : List Tlv) → v ≡ Finished no_error Complete Retained tlvs → SomePdu (SaysComplete id) heard) → Belongs own id s →
-          StepTells s (hears stored policy.times files v s)
-      hears-tells stored v (Sends x) d k = sender-hears v d stored x k
-      hears-tells stored v (Receives r m) d k = receiver-hears stored v r m k
+      hears-tells : (stored : Stored) (large : Bool) (v : Content) (s : Seen) → ((tlvs : List Tlv) → v ≡ Finished no_error Complete Retained tlvs → SomePdu (SaysComplete id) heard) →
+          Belongs own id s →
+          StepTells s (hears stored policy.times files large v s)
+      hears-tells stored large v (Sends x) d k = sender-hears v d stored large x k
+      hears-tells stored large v (Receives r m) d k = receiver-hears stored large v r m k
 
       expires-tells : (kind : Kind) (s : Seen) → Belongs own id s → StepTells s (expires policy files kind s)
       expires-tells kind (Sends x) k = by-sender policy.times files policy [] (inputs.Expires kind) id x tt k (λ h. absurd cc)
@@ -245,20 +249,20 @@ module _ (own : ℕ) (heard : List (List ℕ)) where
     puts-tells files id q (is_own, (zero, low, is)) = let h : indication.Transaction id ≡ indication.Finished q no_error Complete Retained = is in cc
     puts-tells files id q (is_own, (suc k, low, is)) = let l : suc k < 1 = low in omega (arith, l)
 
-    module _ (policy : Policy) (files : FileMap) (a : Addressing) (not_own : a.id.source ≡ own → ⊥) (v : Content) where
-      begins-tells : (begun stored : Stored) → OpensTelling (begins begun stored policy.times files v a)
+    module _ (policy : Policy) (files : FileMap) (a : Addressing) (not_own : a.id.source ≡ own → ⊥) (large : Bool) (v : Content) where
+      begins-tells : (begun stored : Stored) → OpensTelling (begins begun stored policy.times files large v a)
       begins-tells Done stored =
-          let s : StepTells (Receives (opened_receiver a) map.empty) (begins Done stored policy.times files v a) =
-          receiver-hears policy files a.id stored v (opened_receiver a) map.empty (refl, not_own) in
+          let s : StepTells (Receives (opened_receiver a) map.empty) (begins Done stored policy.times files large v a) =
+          receiver-hears policy files a.id stored large v (opened_receiver a) map.empty (refl, not_own) in
           record { indicated = λ told. s.indicated told (fresh told (opened_receiver a) map.empty refl); told = s.told }
       begins-tells Refused stored = record {
-        indicated = λ told o is. Contains-append_right told (receiver.opens Refused files a).told (finished_told a.id o) (tellers.opens_outcome Refused files a o is);
-        told = λ q h. absurd (not_own (ap (λ (i : TransactionId). i.source) (of-own a.id q (receiver.opens Refused files a).told (tellers.opens_own Refused files a) h.1) ∙ h.0));
+        indicated = λ told o is. Contains-append_right told (receiver.opens Refused large files a).told (finished_told a.id o) (tellers.opens_outcome Refused large files a o is);
+        told = λ q h. absurd (not_own (ap (λ (i : TransactionId). i.source) (of-own a.id q (receiver.opens Refused large files a).told (tellers.opens_own Refused large files a) h.1) ∙ h.0));
       }
 
-      opens-tells : (o : Option ℕ) (begun stored : Stored) → OpensTelling (opens_by o begun stored policy.times files v a)
+      opens-tells : (o : Option ℕ) (begun stored : Stored) → OpensTelling (opens_by o begun stored policy.times files large v a)
       opens-tells (Some condition) begun stored = record {
-        indicated = λ told. fresh (told ++ []) (receiver.opened_closed condition a) map.empty refl;
+        indicated = λ told. fresh (told ++ []) (receiver.opened_closed large condition a) map.empty refl;
         told = λ q h. absurd (nothing-in _ h.1);
       }
       opens-tells None begun stored = begins-tells begun stored
@@ -324,8 +328,8 @@ module _ (own : ℕ) (heard : List (List ℕ)) where
 
       pub tells-step : (s : TableStep) (st : TableState) → MayHappen s st → TellsTruth own put_of heard s st → HearsDelivered heard s st → IsTrueTable own put_of heard first st →
           TellsNoMore own heard st → TellsNoMore own heard (table_step s st)
-      tells-step (Hears stored place v) st may tells d k t = tells-at (λ e. hears stored st.policy.times st.files v e.1) place st
-          (λ e at. hears-tells st.policy st.files e.0 stored v e.1 (d e at) (mine st place e k at)) t
+      tells-step (Hears stored place large v) st may tells d k t = tells-at (λ e. hears stored st.policy.times st.files large v e.1) place st
+          (λ e at. hears-tells st.policy st.files e.0 stored large v e.1 (d e at) (mine st place e k at)) t
       tells-step (Spoils place v noted) st may tells d k t = tells-spoiled place v noted st may t
       tells-step (Expires place kind) st may tells d k t = tells-expired place kind st k t
       tells-step (Calls place c) st may tells d k t = tells-at (λ e. calls st.policy.times st.files c e.1) place st (λ e at. calls-tells st.policy st.files e.0 c e.1 (mine st place e k at)) t
@@ -333,8 +337,8 @@ module _ (own : ℕ) (heard : List (List ℕ)) where
           (λ e at. takes-tells st.policy st.files e.0 stored st.sources e.1 (mine st place e k at)) t
       tells-step (Puts transfer) st may tells d k t =
           tells-push transfer.addressing.id (puts st.files transfer) st (record { indicated = λ told. tt; told = λ q h. absurd (puts-tells st.files transfer.addressing.id q h) }) t
-      tells-step (Opens begun stored a v) st may tells d k t = tells-push a.id (opens begun stored st.policy.times st.files v a) st
-          (opens-tells st.policy st.files a tells.0 v (closing v) begun stored) t
+      tells-step (Opens begun stored a large v) st may tells d k t = tells-push a.id (opens begun stored st.policy.times st.files large v a) st
+          (opens-tells st.policy st.files a tells.0 large v (closing v) begun stored) t
       tells-step (Tells now) st may tells d k t = record { indicated = t.indicated; told = t.told }
       tells-step (Fires timers) st may tells d k t = tells-fired timers st k t
 

@@ -1,5 +1,5 @@
 -- Exported: timers are armed as the records wait for them, and what each step of a table makes of that.
-use Rattle.std.proofs.Common.{◌≡◌, ℕ, zero, suc, ◌<◌, arith, length, get_or, Bool, true, false, not, ◌&&◌, ◌||◌, ◌⊎◌, inl, inr, cond, List, [], ◌∷◌, ◌++◌, nat_lt, min, ◌==◌, slice_get, take, Option, Some, None, is_some, max, refl, sym, ap, subst, ◌∙◌, if◌then◌else◌}
+use Rattle.std.proofs.Common.{◌≡◌, ℕ, zero, suc, ◌<◌, arith, length, get_or, Bool, true, false, not, ◌&&◌, ◌||◌, ◌⊎◌, inl, inr, cond, List, [], ◌∷◌, nat_lt, min, ◌==◌, slice_get, take, Option, Some, None, is_some, max, refl, sym, ap, subst, ◌∙◌, if◌then◌else◌}
 use Rattle.std.specs.List.{IsDistinct}
 use Rattle.std.specs.Map.{keys_of}
 use Rattle.std.specs.FinMap as map
@@ -22,7 +22,7 @@ use Rattle.cfdp_timers.specs.declared.kind.Kind.{Kind}
 use Rattle.cfdp_timers.specs.declared.kind.Kind.TheVariants as kinds
 use Rattle.cfdp_timers.specs.declared.wait.Waits.{Waits}
 use Rattle.cfdp_timers.specs.Armed.{Armed}
-use Rattle.cfdp_timers.specs.Due.{AreDue, is_due, still_armed}
+use Rattle.cfdp_timers.specs.Due.{is_due}
 use Rattle.cfdp_timers.specs.Order.{Timer, timer_cmp}
 use Rattle.std.specs.Cmp.{Equal-is}
 use Rattle.std.specs.List.{list_any}
@@ -40,7 +40,7 @@ use Rattle.cfdp_sender.specs.Steps as sender
 use Rattle.cfdp_sender.specs.Does as sender_does
 use Rattle.cfdp_receiver.specs.declared.due.Due.{Due}
 use Rattle.cfdp_receiver.specs.Due.{receiver_due}
-use Rattle.cfdp_receiver.specs.State.{ReceiverState, opened_receiver}
+use Rattle.cfdp_receiver.specs.State.{ReceiverState, opened_receiver, flagged}
 use Rattle.cfdp_receiver.specs.Steps as receiver
 use Rattle.cfdp_receiver.specs.Does as receiver_does
 use Rattle.cfdp_entity.specs.declared.call.Call.{Call}
@@ -121,13 +121,13 @@ by-receiver times a = record { waits = receiver_does.waits_of times a.anew a.rec
 none-set : (files : FileMap) (s : Seen) → Sets (Some s) (no_step files s)
 none-set files s = inr (record { is = refl; same = λ k. refl })
 
-pub hears-set : (stored : Stored) (times : Times) (files : FileMap) (v : Content) (s : Seen) → Sets (Some s) (hears stored times files v s)
-hears-set stored times files v (Sends x) = by (sender_after v x)
+pub hears-set : (stored : Stored) (times : Times) (files : FileMap) (large : Bool) (v : Content) (s : Seen) → Sets (Some s) (hears stored times files large v s)
+hears-set stored times files large v (Sends x) = by (sender_after v x)
   where
     by : (o : Option sender.SenderAfter) → Sets (Some (Sends x)) (if_sender times files x o)
     by (Some a) = inl (by-sender times files a)
     by None = none-set files (Sends x)
-hears-set stored times files v (Receives r m) = by (receiver_after stored v m files r)
+hears-set stored times files large v (Receives r m) = by (receiver_after stored large v m files r)
   where
     by : (o : Option receiver.ReceiverAfter) → Sets (Some (Receives r m)) (if_receiver times files r m o)
     by (Some a) = inl (by-receiver times a)
@@ -140,15 +140,16 @@ IsForReceiver (Metadata kind size source destination options) = Unit {0}
 IsForReceiver (Eof condition checksum size tlvs) = Unit {0}
 IsForReceiver _ = ⊥
 
-heard-set : (stored : Stored) (times : Times) (files : FileMap) (v : Content) (r : ReceiverState) (m : OctetMap) → IsForReceiver v → SetsAll (hears stored times files v (Receives r m))
-heard-set stored times files (FileData offset bytes) r m is = by-receiver times (receiver.hears_data stored offset bytes m files r)
-heard-set stored times files (Metadata kind size source destination options) r m is = by-receiver times (receiver.hears_metadata stored kind size source destination m files r)
-heard-set stored times files (Eof condition checksum size tlvs) r m is = by-receiver times (receiver.hears_eof stored condition checksum size m files r)
-heard-set stored times files (Ack of condition status) r m is = absurd is
-heard-set stored times files (Finished condition delivery status tlvs) r m is = absurd is
-heard-set stored times files (Nak start end pairs) r m is = absurd is
-heard-set stored times files (Prompt keep_alive) r m is = absurd is
-heard-set stored times files (KeepAlive progress) r m is = absurd is
+heard-set : (stored : Stored) (times : Times) (files : FileMap) (large : Bool) (v : Content) (r : ReceiverState) (m : OctetMap) → IsForReceiver v →
+    SetsAll (hears stored times files large v (Receives r m))
+heard-set stored times files large (FileData offset bytes) r m is = by-receiver times (receiver.hears_data stored large offset bytes m files (flagged large r))
+heard-set stored times files large (Metadata kind size source destination options) r m is = by-receiver times (receiver.hears_metadata stored kind size source destination m files (flagged large r))
+heard-set stored times files large (Eof condition checksum size tlvs) r m is = by-receiver times (receiver.hears_eof stored large condition checksum size m files (flagged large r))
+heard-set stored times files large (Ack of condition status) r m is = absurd is
+heard-set stored times files large (Finished condition delivery status tlvs) r m is = absurd is
+heard-set stored times files large (Nak start end pairs) r m is = absurd is
+heard-set stored times files large (Prompt keep_alive) r m is = absurd is
+heard-set stored times files large (KeepAlive progress) r m is = absurd is
 
 expires-set : (policy : Policy) (files : FileMap) (k : Kind) (s : Seen) → SetsAll (expires policy files k s)
 expires-set policy files k (Sends x) = by-sender policy.times files (sender.sender_expires k policy x)
@@ -185,23 +186,23 @@ puts-set files t = inr (record { is = refl; same = same })
     same kinds.Inactivity = refl
 
 -- of a PDU that is for a receiver
-pub opens-set : (begun stored : Stored) (times : Times) (files : FileMap) (v : Content) (a : Addressing) → IsForReceiver v → Sets None (opens begun stored times files v a)
-opens-set begun stored times files v a is_for = by (closing v)
+pub opens-set : (begun stored : Stored) (times : Times) (files : FileMap) (large : Bool) (v : Content) (a : Addressing) → IsForReceiver v → Sets None (opens begun stored times files large v a)
+opens-set begun stored times files large v a is_for = by (closing v)
   where
-    closed : (condition : ℕ) (k : Kind) → receiver.waits k (receiver.opened_closed condition a) ≡ false
+    closed : (condition : ℕ) (k : Kind) → receiver.waits k (receiver.opened_closed large condition a) ≡ false
     closed condition k = refl
 
-    refused : (k : Kind) → receiver.waits k (receiver.opens Refused files a).receiver ≡ false
+    refused : (k : Kind) → receiver.waits k (receiver.opens Refused large files a).receiver ≡ false
     refused kinds.EofAck = refl
     refused kinds.Nak = refl
     refused kinds.FinishedAck = refl
     refused kinds.Inactivity = refl
 
-    by-begun : (begun : Stored) → Sets None (begins begun stored times files v a)
+    by-begun : (begun : Stored) → Sets None (begins begun stored times files large v a)
     by-begun Refused = inr (record { is = refl; same = refused })
-    by-begun Done = inl (heard-set stored times files v (opened_receiver a) map.empty is_for)
+    by-begun Done = inl (heard-set stored times files large v (opened_receiver a) map.empty is_for)
 
-    by : (o : Option ℕ) → Sets None (opens_by o begun stored times files v a)
+    by : (o : Option ℕ) → Sets None (opens_by o begun stored times files large v a)
     by (Some condition) = inr (record { is = refl; same = closed condition })
     by None = by-begun begun
 
@@ -489,9 +490,9 @@ fired-policy [] st = refl
 fired-policy (t ∷ ts) st = fired-policy ts (expired t st) ∙ expired-policy t st
 
 pub policy-step : (s : history.TableStep) (st : TableState) → (table_step s st).policy ≡ st.policy
-policy-step (history.Hears stored place v) st = at (slice_get st.records place)
+policy-step (history.Hears stored place large v) st = at (slice_get st.records place)
   where
-    at : (o : Option Entry) → (step_of (λ e. hears stored st.policy.times st.files v e.1) place o st).policy ≡ st.policy
+    at : (o : Option Entry) → (step_of (λ e. hears stored st.policy.times st.files large v e.1) place o st).policy ≡ st.policy
     at None = refl
     at (Some e) = refl
 policy-step (history.Spoils place v noted) st = refl
@@ -511,6 +512,6 @@ policy-step (history.Takes stored place) st = at (slice_get st.records place)
     at None = refl
     at (Some e) = refl
 policy-step (history.Puts t) st = refl
-policy-step (history.Opens begun stored a v) st = refl
+policy-step (history.Opens begun stored a large v) st = refl
 policy-step (history.Tells now) st = refl
 policy-step (history.Fires timers) st = fired-policy timers st

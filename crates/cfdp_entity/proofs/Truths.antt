@@ -60,14 +60,14 @@ use Rattle.cfdp_entity.proofs.Sparing.{spoils-receives}
 pub record TrueReceiver : Type 0 where
   pub stays : (put : Put) (heard : List (List ℕ)) (stored : Stored) (input : ReceiverInput) (m : OctetMap) (files : FileMap) (r : ReceiverState) → IsTrueInput put heard input → Sound put heard r m
       → Sound put heard (receiver_step stored input m files r).receiver (receiver_step stored input m files r).octets
-  pub opened : (put : Put) (heard : List (List ℕ)) (stored : Stored) (files : FileMap) (addressing : Addressing) →
-      Sound put heard (receiver.opens stored files addressing).receiver (receiver.opens stored files addressing).octets
-  pub closed : (put : Put) (heard : List (List ℕ)) (condition : ℕ) (addressing : Addressing) (m : OctetMap) → Sound put heard (receiver.opened_closed condition addressing) m
+  pub opened : (put : Put) (heard : List (List ℕ)) (stored : Stored) (large : Bool) (files : FileMap) (addressing : Addressing) →
+      Sound put heard (receiver.opens stored large files addressing).receiver (receiver.opens stored large files addressing).octets
+  pub closed : (put : Put) (heard : List (List ℕ)) (large : Bool) (condition : ℕ) (addressing : Addressing) (m : OctetMap) → Sound put heard (receiver.opened_closed large condition addressing) m
   pub staged : (put : Put) (heard : List (List ℕ)) (r : ReceiverState) (m n : OctetMap) → (r.phase ≡ Receiving → (k : ℕ) → set.contains r.held k ≡ true → map.get n k ≡ map.get m k) →
       Sound put heard r m → Sound put heard r n
   pub publishes : (put : Put) (heard : List (List ℕ)) (stored : Stored) (input : ReceiverInput) (m : OctetMap) (files : FileMap) (r : ReceiverState) → IsTrueInput put heard input → Sound put heard r m
       → PublishesNone files (receiver_step stored input m files r) ⊎ PublishesPut put heard r.addressing.id files (receiver_step stored input m files r)
-  pub opens_none : (stored : Stored) (files : FileMap) (addressing : Addressing) → PublishesNone files (receiver.opens stored files addressing)
+  pub opens_none : (stored : Stored) (large : Bool) (files : FileMap) (addressing : Addressing) → PublishesNone files (receiver.opens stored large files addressing)
 
 -- ---- what is indicated complete
 none-in : (id : TransactionId) → Contains [] id → ⊥
@@ -182,28 +182,30 @@ module _ (own : ℕ) (put_of : TransactionId → Option Put) (heard : List (List
             }
 
     module _ (policy : Policy) (files : FileMap) (id : TransactionId) where
-      hears-true : (stored : Stored) (v : Content) (s : Seen) → IsTrueOf put_of heard id v → KnowsTruth own put_of heard id s → StepsTrue files id (hears stored policy.times files v s)
-      hears-true stored (Ack acknowledged.Eof condition status) (Sends x) t k = true-sender policy.times files policy [] (inputs.HearsAck condition) id x tt k
-      hears-true stored (Nak start end pairs) (Sends x) t k = true-sender policy.times files policy [] (inputs.HearsNak pairs) id x tt k
-      hears-true stored (Finished condition delivery status tlvs) (Sends x) t k =
+      hears-true : (stored : Stored) (large : Bool) (v : Content) (s : Seen) → IsTrueOf put_of heard id v → KnowsTruth own put_of heard id s →
+          StepsTrue files id (hears stored policy.times files large v s)
+      hears-true stored large (Ack acknowledged.Eof condition status) (Sends x) t k = true-sender policy.times files policy [] (inputs.HearsAck condition) id x tt k
+      hears-true stored large (Nak start end pairs) (Sends x) t k = true-sender policy.times files policy [] (inputs.HearsNak pairs) id x tt k
+      hears-true stored large (Finished condition delivery status tlvs) (Sends x) t k =
           true-sender policy.times files policy [] (inputs.HearsFinished (record { condition = condition; delivery = delivery; status = status })) id x tt k
-      hears-true stored (KeepAlive progress) (Sends x) t k = true-sender policy.times files policy [] (inputs.HearsKeepAlive progress) id x tt k
-      hears-true stored (Ack acknowledged.Finished condition status) (Sends x) t k = rests files id (Sends x) k
-      hears-true stored (Metadata kind size source destination options) (Sends x) t k = rests files id (Sends x) k
-      hears-true stored (FileData offset bytes) (Sends x) t k = rests files id (Sends x) k
-      hears-true stored (Eof condition checksum size tlvs) (Sends x) t k = rests files id (Sends x) k
-      hears-true stored (Prompt keep_alive) (Sends x) t k = rests files id (Sends x) k
-      hears-true stored (Metadata kind size source destination options) (Receives r m) t k =
-          true-receiver policy.times stored (machine.Hears (Metadata kind size source destination options)) files id r m k (t k.put k.is_put)
-      hears-true stored (FileData offset bytes) (Receives r m) t k = true-receiver policy.times stored (machine.Hears (FileData offset bytes)) files id r m k (t k.put k.is_put)
-      hears-true stored (Eof condition checksum size tlvs) (Receives r m) t k = true-receiver policy.times stored (machine.Hears (Eof condition checksum size tlvs)) files id r m k (t k.put k.is_put)
-      hears-true stored (Ack acknowledged.Finished condition status) (Receives r m) t k =
-          true-receiver policy.times stored (machine.Hears (Ack acknowledged.Finished condition status)) files id r m k (t k.put k.is_put)
-      hears-true stored (Prompt keep_alive) (Receives r m) t k = true-receiver policy.times stored (machine.Hears (Prompt keep_alive)) files id r m k (t k.put k.is_put)
-      hears-true stored (Ack acknowledged.Eof condition status) (Receives r m) t k = rests files id (Receives r m) k
-      hears-true stored (Finished condition delivery status tlvs) (Receives r m) t k = rests files id (Receives r m) k
-      hears-true stored (Nak start end pairs) (Receives r m) t k = rests files id (Receives r m) k
-      hears-true stored (KeepAlive progress) (Receives r m) t k = rests files id (Receives r m) k
+      hears-true stored large (KeepAlive progress) (Sends x) t k = true-sender policy.times files policy [] (inputs.HearsKeepAlive progress) id x tt k
+      hears-true stored large (Ack acknowledged.Finished condition status) (Sends x) t k = rests files id (Sends x) k
+      hears-true stored large (Metadata kind size source destination options) (Sends x) t k = rests files id (Sends x) k
+      hears-true stored large (FileData offset bytes) (Sends x) t k = rests files id (Sends x) k
+      hears-true stored large (Eof condition checksum size tlvs) (Sends x) t k = rests files id (Sends x) k
+      hears-true stored large (Prompt keep_alive) (Sends x) t k = rests files id (Sends x) k
+      hears-true stored large (Metadata kind size source destination options) (Receives r m) t k =
+          true-receiver policy.times stored (machine.Hears large (Metadata kind size source destination options)) files id r m k (t k.put k.is_put)
+      hears-true stored large (FileData offset bytes) (Receives r m) t k = true-receiver policy.times stored (machine.Hears large (FileData offset bytes)) files id r m k (t k.put k.is_put)
+      hears-true stored large (Eof condition checksum size tlvs) (Receives r m) t k =
+          true-receiver policy.times stored (machine.Hears large (Eof condition checksum size tlvs)) files id r m k (t k.put k.is_put)
+      hears-true stored large (Ack acknowledged.Finished condition status) (Receives r m) t k =
+          true-receiver policy.times stored (machine.Hears large (Ack acknowledged.Finished condition status)) files id r m k (t k.put k.is_put)
+      hears-true stored large (Prompt keep_alive) (Receives r m) t k = true-receiver policy.times stored (machine.Hears large (Prompt keep_alive)) files id r m k (t k.put k.is_put)
+      hears-true stored large (Ack acknowledged.Eof condition status) (Receives r m) t k = rests files id (Receives r m) k
+      hears-true stored large (Finished condition delivery status tlvs) (Receives r m) t k = rests files id (Receives r m) k
+      hears-true stored large (Nak start end pairs) (Receives r m) t k = rests files id (Receives r m) k
+      hears-true stored large (KeepAlive progress) (Receives r m) t k = rests files id (Receives r m) k
 
       expires-true : (kind : Kind) (s : Seen) → KnowsTruth own put_of heard id s → StepsTrue files id (expires policy files kind s)
       expires-true kind (Sends x) k = true-sender policy.times files policy [] (inputs.Expires kind) id x tt k
@@ -254,20 +256,22 @@ module _ (own : ℕ) (put_of : TransactionId → Option Put) (heard : List (List
       spoiled (Prompt keep_alive) (Sends x) t h k = subst (KnowsTruth own put_of heard id) (sym h) k
 
     -- ---- a record that is opened
-    module _ (policy : Policy) (files : FileMap) (a : Addressing) (not_own : a.id.source ≡ own → ⊥) (put : Put) (is_put : put_of a.id ≡ Some put) (v : Content)
+    module _ (policy : Policy) (files : FileMap) (a : Addressing) (not_own : a.id.source ≡ own → ⊥) (put : Put) (is_put : put_of a.id ≡ Some put) (large : Bool) (v : Content)
         (truth : IsTrueOf put_of heard a.id v) where
       known : (r : ReceiverState) (m : OctetMap) → r.addressing.id ≡ a.id → Sound put heard r m → KnowsPut own put_of heard a.id r m
       known r m same s = record { put = put; is_put = is_put; same_id = same; not_own = not_own; sound = s }
 
-      begins-true : (begun stored : Stored) → StepsTrue files a.id (begins begun stored policy.times files v a)
-      begins-true Done stored = hears-true policy files a.id stored v (Receives (opened_receiver a) map.empty) truth (known (opened_receiver a) map.empty refl (laws.opened put heard Done files a))
+      begins-true : (begun stored : Stored) → StepsTrue files a.id (begins begun stored policy.times files large v a)
+      begins-true Done stored = hears-true policy files a.id stored large v (Receives (opened_receiver a) map.empty) truth
+          (known (opened_receiver a) map.empty refl (laws.opened put heard Done large files a))
       begins-true Refused stored =
-          quiet files a.id (begins Refused stored policy.times files v a) (known (receiver.opens Refused files a).receiver map.empty refl (laws.opened put heard Refused files a)) refl
-          ((laws.opens_none Refused files a).no_completion own)
+          quiet files a.id (begins Refused stored policy.times files large v a) (known (receiver.opens Refused large files a).receiver map.empty refl
+          (laws.opened put heard Refused large files a)) refl
+          ((laws.opens_none Refused large files a).no_completion own)
 
-      opens-true : (o : Option ℕ) (begun stored : Stored) → StepsTrue files a.id (opens_by o begun stored policy.times files v a)
-      opens-true (Some condition) begun stored = rests files a.id (Receives (receiver.opened_closed condition a) map.empty)
-          (known (receiver.opened_closed condition a) map.empty refl (laws.closed put heard condition a map.empty))
+      opens-true : (o : Option ℕ) (begun stored : Stored) → StepsTrue files a.id (opens_by o begun stored policy.times files large v a)
+      opens-true (Some condition) begun stored = rests files a.id (Receives (receiver.opened_closed large condition a) map.empty)
+          (known (receiver.opened_closed large condition a) map.empty refl (laws.closed put heard large condition a map.empty))
       opens-true None begun stored = begins-true begun stored
 
     -- ---- the table
@@ -351,16 +355,17 @@ module _ (own : ℕ) (put_of : TransactionId → Option Put) (heard : List (List
 
       pub true-step : (s : TableStep) (st : TableState) → MayHappen s st → TellsTruth own put_of heard s st → IsTrueTable own put_of heard first st →
           IsTrueTable own put_of heard first (table_step s st)
-      true-step (Hears stored place v) st may tells t = true-at (λ e. hears stored st.policy.times st.files v e.1) place st (λ e at k. hears-true st.policy st.files e.0 stored v e.1 (tells e at) k) t
+      true-step (Hears stored place large v) st may tells t = true-at (λ e. hears stored st.policy.times st.files large v e.1) place st
+          (λ e at k. hears-true st.policy st.files e.0 stored large v e.1 (tells e at) k) t
       true-step (Spoils place v noted) st may tells t = true-spoiled place v noted st may t
       true-step (Expires place kind) st may tells t = true-at (λ e. expires st.policy st.files kind e.1) place st (λ e at k. expires-true st.policy st.files e.0 kind e.1 k) t
       true-step (Calls place c) st may tells t = true-at (λ e. calls st.policy.times st.files c e.1) place st (λ e at k. calls-true st.policy st.files e.0 c e.1 k) t
       true-step (Takes stored place) st may tells t = true-at (λ e. takes stored st.policy.times st.sources st.files e.1) place st
           (λ e at k. takes-true st.policy st.files e.0 stored st.sources e.1 k) t
       true-step (Puts transfer) st may tells t = true-push transfer.addressing.id (puts st.files transfer) st (quiet st.files transfer.addressing.id (puts st.files transfer) (refl, tells) refl refl) t
-      true-step (Opens begun stored a v) st may tells t =
+      true-step (Opens begun stored a large v) st may tells t =
           let put = some-put (put_of a.id) tells.1.0 in
-          true-push a.id (opens begun stored st.policy.times st.files v a) st (opens-true st.policy st.files a tells.0 put.0 put.1 v tells.1.1 (closing v) begun stored) t
+          true-push a.id (opens begun stored st.policy.times st.files large v a) st (opens-true st.policy st.files a tells.0 put.0 put.1 large v tells.1.1 (closing v) begun stored) t
       true-step (Tells now) st may tells t = record { knows = t.knows; inbox = t.inbox; caused = t.caused }
       true-step (Fires timers) st may tells t = true-fired timers st t
 

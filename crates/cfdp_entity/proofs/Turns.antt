@@ -1,7 +1,8 @@
 -- Whose turn it is, and that its PDU has octets.
-use Rattle.std.proofs.Common.{arith, ◌≡◌, ℕ, zero, suc, ◌≤◌, true, false, List, [], ◌∷◌, get_or, slice_get, Option, Some, None, is_some, refl, sym, ap, subst, ◌∙◌}
+use Rattle.std.proofs.Common.{arith, ◌≡◌, ℕ, zero, suc, ◌≤◌, Bool, true, false, List, [], ◌∷◌, get_or, slice_get, Option, Some, None, is_some, refl, sym, ap, subst, ◌∙◌}
 use Rattle.cfdp_header.specs.Files.{FileMap}
 use Rattle.cfdp_directives.specs.declared.pdu.addressing.Addressing.{Addressing}
+use Rattle.cfdp_directives.specs.Pdu.Codes.{is_large}
 use Rattle.cfdp_directives.specs.Pdu.Content.{Content}
 use Rattle.cfdp_store.specs.declared.stored.Stored.TheVariants.{Done}
 use Rattle.cfdp_store.specs.Files.{octets_in}
@@ -24,16 +25,16 @@ use Rattle.cfdp_entity.proofs.CallerLemmas.{next-due}
 use Rattle.cfdp_entity.proofs.Sparing.{resting}
 use Rattle.cfdp_entity.proofs.Spelled.{entry-spells}
 
-some-len : (a : Addressing) (v : Content) → 1 ≤ len_of a (Some v)
-some-len a v = omega arith
+some-len : (large : Bool) (a : Addressing) (v : Content) → 1 ≤ len_of large a (Some v)
+some-len large a v = omega arith
 
-sender-len : (file : List ℕ) (x : SenderState) (o : Option SenderDue) → is_some o ≡ true → 1 ≤ len_of x.addressing (sender_content file x o)
+sender-len : (file : List ℕ) (x : SenderState) (o : Option SenderDue) → is_some o ≡ true → 1 ≤ len_of (is_large x.size) x.addressing (sender_content file x o)
 sender-len file x None due = absurd (cc)
-sender-len file x (Some d) due = some-len x.addressing _
+sender-len file x (Some d) due = some-len (is_large x.size) x.addressing _
 
-receiver-len : (r : ReceiverState) (o : Option Due) → is_some o ≡ true → 1 ≤ len_of r.addressing (receiver_content r o)
+receiver-len : (r : ReceiverState) (o : Option Due) → is_some o ≡ true → 1 ≤ len_of r.large r.addressing (receiver_content r o)
 receiver-len r None due = absurd (cc)
-receiver-len r (Some d) due = some-len r.addressing _
+receiver-len r (Some d) due = some-len r.large r.addressing _
 
 seen-len : (sources : FileMap) (s : Seen) → is_due s ≡ true → 1 ≤ due_len sources s
 seen-len sources (Sends x) due = sender-len (octets_in sources x.source) x (sender_due x) due

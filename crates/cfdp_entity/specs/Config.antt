@@ -1,5 +1,5 @@
 -- How an entity may be set up.
-use Rattle.std.specs.Prelude.{◌≡◌, ◌≢◌, ℕ, ◌≤◌, ◌⊎◌}
+use Rattle.std.specs.Prelude.{◌≡◌, ◌≢◌, ◌≤◌, ◌⊎◌}
 use Rattle.cfdp_header.specs.Header.{FitsWidth, IsWidth}
 use Rattle.cfdp_directives.specs.Pdu.Codes.{modular, null}
 use Rattle.cfdp_directives.specs.User.Limits.{IsValidTimes}

@@ -1,5 +1,5 @@
 -- The state of an entity, and how it is kept.
-use Rattle.std.specs.Prelude.{◌≡◌, ◌≤◌, ℕ, ◌+◌, ◌-◌, ◌^◌, List, [], replicate, get_or, slice_get, slice_set, Option, Some, None}
+use Rattle.std.specs.Prelude.{◌≡◌, ◌≤◌, ℕ, ◌^◌, List, [], replicate, get_or, slice_get, slice_set, Option, Some, None}
 use Rattle.cfd_bits.specs.Counting.{raised}
 use Rattle.cfdp_header.specs.Files.{FileMap}
 use Rattle.cfdp_header.specs.declared.value.TransactionId.{TransactionId}

@@ -6,7 +6,7 @@ use Rattle.cfdp_directives.specs.declared.pdu.addressing.Addressing.{Addressing}
 use Rattle.cfdp_directives.specs.Pdu.Addressing.{addressing_of}
 use Rattle.cfdp_directives.specs.Pdu.Content.{Content, FileData, Metadata, Eof, Finished}
 use Rattle.cfdp_directives.specs.Pdu.Direction.{direction_fits, is_for}
-use Rattle.cfdp_directives.specs.Pdu.Small.{SpellsSmall}
+use Rattle.cfdp_directives.specs.Pdu.Grammar.{SpellsPdu}
 use Rattle.cfdp_store.specs.declared.stored.Stored.{Stored}
 use Rattle.cfdp_store.specs.Chains.{Raises}
 use Rattle.cfdp_store.specs.Stores.{Counts}
@@ -40,7 +40,7 @@ route_new h (Metadata kind size source destination options) e = opens_record e
 route_new h (FileData offset bytes) e = opens_record e
 route_new h (Eof condition checksum size tlvs) e = opens_record e
 route_new h (Finished condition delivery status tlvs) e =
-    queues (record { addressing = addressing_of h; condition = condition }) e
+    queues (record { addressing = addressing_of h; large = h.large; condition = condition }) e
 route_new h _ e = Drops drops.Unknown
 
 abbrev pub route_by : Option ℕ → Header → Content → EntityState → Route
@@ -58,21 +58,21 @@ route h v e =
 
 -- ---- what is heard
 -- The record at a place made its step, by what the inbox answered.
-pub record StepsAt (place : ℕ) (v : Content) (old new : Counted) : Type 0 where
+pub record StepsAt (place : ℕ) (large : Bool) (v : Content) (old new : Counted) : Type 0 where
   pub stored : Stored
-  pub steps : new.state ≡ with_table old.state (heard_at stored place v old.state.table)
+  pub steps : new.state ≡ with_table old.state (heard_at stored place large v old.state.table)
   pub counts : Counts stored old.inbox_failures new.inbox_failures
-  pub raises : AsksToHear Raises stored place v old.state.table old.inbox_failures
+  pub raises : AsksToHear Raises stored place large v old.state.table old.inbox_failures
       new.inbox_failures
   pub outbox : new.outbox_failures ≡ old.outbox_failures
 
 -- A record was opened and made its step, by what the inbox answered to each.
-pub record OpensOne (a : Addressing) (v : Content) (old new : Counted) : Type 0 where
+pub record OpensOne (a : Addressing) (large : Bool) (v : Content) (old new : Counted) : Type 0 where
   pub begun : Stored
   pub stored : Stored
-  pub opens : new.state ≡ with_table old.state (opened_by begun stored a v old.state.table)
+  pub opens : new.state ≡ with_table old.state (opened_by begun stored a large v old.state.table)
   pub counts : CountsBoth begun stored old.inbox_failures new.inbox_failures
-  pub raises : AsksToOpen Raises begun stored a v old.state.table old.inbox_failures
+  pub raises : AsksToOpen Raises begun stored a large v old.state.table old.inbox_failures
       new.inbox_failures
   pub outbox : new.outbox_failures ≡ old.outbox_failures
 
@@ -82,8 +82,8 @@ queued s e = record e { strays = e.strays ++ s ∷ [] }
 -- The PDU was taken on this route.
 abbrev pub Takes : Route → Header → Content → (old new : Counted) → Type 0
 Takes (Drops d) h v old new = ⊥
-Takes (Steps place) h v old new = StepsAt place v old new
-Takes Opens h v old new = OpensOne (addressing_of h) v old new
+Takes (Steps place) h v old new = StepsAt place h.large v old new
+Takes Opens h v old new = OpensOne (addressing_of h) h.large v old new
 Takes (Queues s) h v old new = new ≡ record old { state = queued s old.state }
 
 -- ---- what is dropped
@@ -109,14 +109,14 @@ DropsBy (Queues s) by v old new = ⊥
 pub record HearsOctets (octets : List ℕ) (old new : Counted) : Type 0 where
   pub header : Header
   pub content : Content
-  pub spells : SpellsSmall header content octets
+  pub spells : SpellsPdu header content octets
   pub takes : Takes (route header content old.state) header content old new
 
 -- The octets are a PDU, and it was dropped.
 pub record DropsPdu (octets : List ℕ) (by : EntityDrop) (old new : Counted) : Type 0 where
   pub header : Header
   pub content : Content
-  pub spells : SpellsSmall header content octets
+  pub spells : SpellsPdu header content octets
   pub drops : DropsBy (route header content old.state) by content old new
 
 -- The octets were dropped: they are no PDU, and by that cause, or they are one.

@@ -1,5 +1,5 @@
 -- All that may happen to a table, as one step, and what every step keeps.
-use Rattle.std.specs.Prelude.{◌≡◌, ℕ, ◌+◌, ◌≤◌, List, [], ◌∷◌, slice_get, Option, Some, None}
+use Rattle.std.specs.Prelude.{◌≡◌, ℕ, ◌+◌, ◌≤◌, Bool, List, [], ◌∷◌, slice_get, Option, Some, None}
 use Rattle.std.specs.List.{IsDistinct}
 use Rattle.std.specs.Map.{keys_of}
 use Rattle.indexmap.specs.IndexMap.{set_value_at}
@@ -23,29 +23,29 @@ use Rattle.cfdp_entity.specs.Seen.{Seen, Sends, Receives, addressing_of}
 use Rattle.cfdp_entity.specs.Steps as steps
 use Rattle.cfdp_entity.specs.Table.{Entry, TableState, place_of, record_of, heard_at, expired_at, called_at, taken_at, put_in, opened_by, at_time, all_expired}
 
--- `stored` and `begun` are how a store answered
+-- `stored` and `begun` are how a store answered, `large` is the large file flag of a PDU
 pub data TableStep : Type 0 where
-  Hears : (stored : Stored) (place : ℕ) (v : Content) → TableStep
+  Hears : (stored : Stored) (place : ℕ) (large : Bool) (v : Content) → TableStep
   -- a record found no memory for a PDU, and is so then
   Spoils : (place : ℕ) (v : Content) (noted : Seen) → TableStep
   Expires : (place : ℕ) (k : Kind) → TableStep
   Calls : (place : ℕ) (c : Call) → TableStep
   Takes : (stored : Stored) (place : ℕ) → TableStep
   Puts : (t : Transfer) → TableStep
-  Opens : (begun stored : Stored) (a : Addressing) (v : Content) → TableStep
+  Opens : (begun stored : Stored) (a : Addressing) (large : Bool) (v : Content) → TableStep
   -- the time is told, and these timers fire
   Tells : (now : ℕ) → TableStep
   Fires : (timers : List Timer) → TableStep
 
 abbrev pub table_step : TableStep → TableState → TableState
-table_step (Hears stored place v) st = heard_at stored place v st
+table_step (Hears stored place large v) st = heard_at stored place large v st
 table_step (Spoils place v noted) st =
     record st { records = set_value_at st.records place noted }
 table_step (Expires place k) st = expired_at place k st
 table_step (Calls place c) st = called_at place c st
 table_step (Takes stored place) st = taken_at stored place st
 table_step (Puts t) st = put_in t st
-table_step (Opens begun stored a v) st = opened_by begun stored a v st
+table_step (Opens begun stored a large v) st = opened_by begun stored a large v st
 table_step (Tells now) st = at_time now st
 table_step (Fires timers) st = all_expired timers st
 
@@ -53,7 +53,7 @@ table_step (Fires timers) st = all_expired timers st
 -- is as it may then be.
 abbrev pub MayHappen : TableStep → TableState → Type 0
 MayHappen (Puts t) st = place_of t.addressing.id st.records ≡ None
-MayHappen (Opens begun stored a v) st = place_of a.id st.records ≡ None
+MayHappen (Opens begun stored a large v) st = place_of a.id st.records ≡ None
 MayHappen (Spoils place v noted) st =
     (e : Entry) → slice_get st.records place ≡ Some e → steps.Spoils v e.1 noted
 MayHappen _ st = Unit {0}

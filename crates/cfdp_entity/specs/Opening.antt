@@ -1,5 +1,5 @@
 -- How a put or a PDU opens a record.
-use Rattle.std.specs.Prelude.{◌≡◌, ℕ, ◌==◌, [], ◌∷◌, Option, Some, None, if◌then◌else◌}
+use Rattle.std.specs.Prelude.{◌≡◌, ℕ, Bool, ◌==◌, [], ◌∷◌, Option, Some, None, if◌then◌else◌}
 use Rattle.std.specs.FinMap as map
 use Rattle.cfdp_header.specs.Files.{FileMap}
 use Rattle.cfdp_directives.specs.declared.pdu.addressing.Addressing.{Addressing}
@@ -36,22 +36,26 @@ closing (Eof condition checksum size tlvs) = error_of condition
 closing _ = None
 
 -- The inbox is asked to begin the transaction. If it does, the record hears the PDU, which sets its
--- timers. If it refuses, that is a fault, the PDU isn't taken further, and no timer is set.
-abbrev pub begins : (begun stored : Stored) → Times → FileMap → Content → Addressing → After
-begins Done stored times files v a =
-    hears stored times files v (Receives (opened_receiver a) map.empty)
-begins Refused stored times files v a =
-    record (by_receiver times (receiver.opens Refused files a)) { waits = [] }
+-- timers. If it refuses, that is a fault, of the PDU only its large file flag counts, and no timer
+-- is set.
+abbrev pub begins : (begun stored : Stored) → Times → FileMap → (large : Bool) → Content →
+    Addressing → After
+begins Done stored times files large v a =
+    hears stored times files large v (Receives (opened_receiver a) map.empty)
+begins Refused stored times files large v a =
+    record (by_receiver times (receiver.opens Refused large files a)) { waits = [] }
 
 -- An EOF with an error opens a record that is closed, and the inbox isn't called.
-abbrev pub opens_by : Option ℕ → (begun stored : Stored) → Times → FileMap → Content → Addressing →
-    After
-opens_by (Some condition) begun stored times files v a =
-    no_step files (Receives (receiver.opened_closed condition a) map.empty)
-opens_by None begun stored times files v a = begins begun stored times files v a
+abbrev pub opens_by : Option ℕ → (begun stored : Stored) → Times → FileMap → (large : Bool) →
+    Content → Addressing → After
+opens_by (Some condition) begun stored times files large v a =
+    no_step files (Receives (receiver.opened_closed large condition a) map.empty)
+opens_by None begun stored times files large v a = begins begun stored times files large v a
 
-abbrev pub opens : (begun stored : Stored) → Times → FileMap → Content → Addressing → After
-opens begun stored times files v a = opens_by (closing v) begun stored times files v a
+abbrev pub opens : (begun stored : Stored) → Times → FileMap → (large : Bool) → Content →
+    Addressing → After
+opens begun stored times files large v a =
+    opens_by (closing v) begun stored times files large v a
 
 -- Both answers of the inbox were counted.
 abbrev pub CountsBoth : (begun stored : Stored) → (before after : ℕ) → Type 0

@@ -4,6 +4,7 @@ use Rattle.std.specs.FinMap as map
 use Rattle.std.specs.Option.{option_or}
 use Rattle.cfdp_header.specs.declared.value.TransactionId.{TransactionId}
 use Rattle.cfdp_directives.specs.declared.pdu.addressing.Addressing.{Addressing}
+use Rattle.cfdp_directives.specs.Pdu.Codes.{size_limit}
 use Rattle.cfdp_directives.specs.User.FileName.{IsFileName, is_file_name}
 use Rattle.cfdp_store.specs.declared.stored.Stored.{Stored}
 use Rattle.cfdp_store.specs.declared.stored.Stored.TheVariants.{Done, Refused}
@@ -44,7 +45,8 @@ are_names source destination = is_file_name source && is_file_name destination
 -- what is told of the file
 abbrev pub file_refusal : Option (List ℕ) → Option PutError
 file_refusal None = Some NoSuchFile
-file_refusal (Some octets) = if nat_lt (length octets) (2 ^ 32) then None else Some TooLarge
+file_refusal (Some octets) =
+    if nat_le (length octets) (size_limit true) then None else Some TooLarge
 
 -- the outbox was asked for the file
 abbrev pub asked : Stored → Option (List ℕ) → Option PutError

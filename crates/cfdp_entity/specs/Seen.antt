@@ -5,6 +5,7 @@ use Rattle.cfdp_header.specs.Files.{FileMap}
 use Rattle.cfdp_directives.specs.declared.pdu.addressing.Addressing.{Addressing}
 use Rattle.cfdp_directives.specs.declared.user.phase.Phase.{Phase}
 use Rattle.cfdp_directives.specs.Pdu.Addressing.{header_of, written_len}
+use Rattle.cfdp_directives.specs.Pdu.Codes.{is_large}
 use Rattle.cfdp_directives.specs.Pdu.Content.{Content}
 use Rattle.cfdp_directives.specs.Pdu.Written.{pdu_octets}
 use Rattle.cfdp_store.specs.Staged.{OctetMap}
@@ -39,6 +40,12 @@ abbrev pub addressing_of : Seen → Addressing
 addressing_of (Sends x) = x.addressing
 addressing_of (Receives r m) = r.addressing
 
+-- whether the PDUs that it sends have the large file flag: those of a sender by its file, those of
+-- a receiver once it heard a PDU that has it
+abbrev pub large_of : Seen → Bool
+large_of (Sends x) = is_large x.size
+large_of (Receives r m) = r.large
+
 abbrev pub sender_content : List ℕ → SenderState → Option SenderDue → Option Content
 sender_content file x (Some d) = Some (sends.sender_says file x d)
 sender_content file x None = None
@@ -52,20 +59,20 @@ abbrev pub due_content : FileMap → Seen → Option Content
 due_content sources (Sends x) = sender_content (octets_in sources x.source) x (sends.sender_due x)
 due_content sources (Receives r m) = receiver_content r (receives.receiver_due r)
 
-abbrev pub octets_of : Addressing → Option Content → List ℕ
-octets_of a (Some v) = pdu_octets (header_of a false v) v
-octets_of a None = []
+abbrev pub octets_of : (large : Bool) → Addressing → Option Content → List ℕ
+octets_of large a (Some v) = pdu_octets (header_of a large v) v
+octets_of large a None = []
 
-abbrev pub len_of : Addressing → Option Content → ℕ
-len_of a (Some v) = written_len a false v
-len_of a None = 0
+abbrev pub len_of : (large : Bool) → Addressing → Option Content → ℕ
+len_of large a (Some v) = written_len a large v
+len_of large a None = 0
 
 -- its octets, and how many they are; none where nothing is due
 abbrev pub due_octets : FileMap → Seen → List ℕ
-due_octets sources s = octets_of (addressing_of s) (due_content sources s)
+due_octets sources s = octets_of (large_of s) (addressing_of s) (due_content sources s)
 
 abbrev pub due_len : FileMap → Seen → ℕ
-due_len sources s = len_of (addressing_of s) (due_content sources s)
+due_len sources s = len_of (large_of s) (addressing_of s) (due_content sources s)
 
 abbrev pub carries_by : Option SenderDue → Bool
 carries_by (Some d) = sends.carries d

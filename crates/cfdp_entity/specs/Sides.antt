@@ -1,5 +1,5 @@
 -- How a call of the machine of one side is tied to its step, if it makes one.
-use Rattle.std.specs.Prelude.{◌≡◌, ◌++◌, ℕ, List, [], Option, Some, None}
+use Rattle.std.specs.Prelude.{◌≡◌, ◌++◌, ℕ, Bool, List, [], Option, Some, None}
 use Rattle.cfdp_header.specs.Files.{FileMap}
 use Rattle.cfdp_directives.specs.declared.user.indication.Indication.{Indication}
 use Rattle.cfdp_directives.specs.declared.user.limits.Times.{Times}
@@ -13,7 +13,7 @@ use Rattle.cfdp_sender.specs.State.{SenderState}
 use Rattle.cfdp_sender.specs.Steps as sender
 use Rattle.cfdp_sender.specs.Does as sender_does
 use Rattle.cfdp_receiver.specs.declared.state.ReceiverPhase.TheVariants.{Receiving}
-use Rattle.cfdp_receiver.specs.State.{ReceiverState}
+use Rattle.cfdp_receiver.specs.State.{ReceiverState, flagged}
 use Rattle.cfdp_receiver.specs.Steps as receiver
 use Rattle.cfdp_receiver.specs.Does as receiver_does
 use Rattle.cfdp_receiver.specs.declared.due.Due.{Due}
@@ -91,16 +91,18 @@ abbrev pub ReceiverTook : Times → Option Due → (old new : ReceiverState) →
 ReceiverTook times (Some d) old new timers timers_now n out out_now =
     ((new ≡ receiver_taken d old)
     × (timers_now ≡ receiver_does.timers_set times (receiver.anew_once_taken d) new timers))
-    × Gives (octets_of old.addressing (Some (receiver_says old d)))
-    (len_of old.addressing (Some (receiver_says old d)))
+    × Gives (octets_of old.large old.addressing (Some (receiver_says old d)))
+    (len_of old.large old.addressing (Some (receiver_says old d)))
     (Octets n) out out_now
 ReceiverTook times None old new timers timers_now n out out_now =
     ((new ≡ old) × (timers_now ≡ timers)) × Gives [] 0 (Octets n) out out_now
 
 -- what an ACK does to a receiver: that of EOF is not for it
-abbrev pub ReceiverAcks : Times → Acknowledged → (old new : ReceiverState) →
+abbrev pub ReceiverAcks : Times → (large : Bool) → Acknowledged → (old new : ReceiverState) →
     (timers_before timers_now : TimersState) → Type 0
-ReceiverAcks times acknowledged.Finished old new timers timers_now =
-    ((m : OctetMap) (files : FileMap) → new ≡ (receiver.hears_ack m files old).receiver)
+ReceiverAcks times large acknowledged.Finished old new timers timers_now =
+    ((m : OctetMap) (files : FileMap) →
+    new ≡ (receiver.hears_ack m files (flagged large old)).receiver)
     × (timers_now ≡ receiver_does.timers_set times (Some kind.Inactivity) new timers)
-ReceiverAcks times acknowledged.Eof old new timers timers_now = (new ≡ old) × (timers_now ≡ timers)
+ReceiverAcks times large acknowledged.Eof old new timers timers_now =
+    (new ≡ old) × (timers_now ≡ timers)

@@ -1,6 +1,6 @@
 -- What an entity keeps that hears nothing but the truth of puts. `put_of` finds the put of a
 -- transaction, `heard` is the PDUs that came to it, `first` the files published at first.
-use Rattle.std.specs.Prelude.{◌≡◌, ◌≤◌, ◌++◌, ℕ, List, Option, Some, None, slice_get, Contains, false}
+use Rattle.std.specs.Prelude.{◌≡◌, ◌≤◌, ◌++◌, ℕ, List, Option, Some, None, slice_get, Contains, Bool}
 use Rattle.cfdp_header.specs.declared.value.Header.{Header}
 use Rattle.cfdp_header.specs.declared.value.TransactionId.{TransactionId}
 use Rattle.cfdp_header.specs.Files.{FileMap}
@@ -12,7 +12,7 @@ use Rattle.cfdp_directives.specs.Pdu.Addressing.{header_of}
 use Rattle.cfdp_directives.specs.Pdu.Codes.{no_error}
 use Rattle.cfdp_directives.specs.User.Completions.{completions}
 use Rattle.cfdp_directives.specs.Pdu.Content.{Content, Finished}
-use Rattle.cfdp_directives.specs.Pdu.Small.{SpellsSmall}
+use Rattle.cfdp_directives.specs.Pdu.Grammar.{SpellsPdu}
 use Rattle.cfdp_directives.specs.User.Put.{Put, SaysTruth}
 use Rattle.cfdp_directives.specs.Pdu.Tlv.{Tlv}
 use Rattle.cfdp_store.specs.Files.{octets_in}
@@ -21,7 +21,7 @@ use Rattle.cfdp_entity.specs.Entity.{EntityState}
 use Rattle.cfdp_entity.specs.History.{FinishesOnce}
 use Rattle.cfdp_entity.specs.Polling.{Turn, Stray, Place, Rests}
 use Rattle.cfdp_entity.specs.Putting.{next_id}
-use Rattle.cfdp_entity.specs.Seen.{addressing_of, due_content, due_octets}
+use Rattle.cfdp_entity.specs.Seen.{addressing_of, large_of, due_content, due_octets}
 use Rattle.cfdp_entity.specs.Sending.{SendsTruth}
 use Rattle.cfdp_entity.specs.Strays.{stray_says, stray_octets}
 use Rattle.cfdp_entity.specs.Table.{Entry}
@@ -66,7 +66,7 @@ next_put source destination e = record {
 pub record ComesTrue (peer : ℕ) (put_of : TransactionId → Option Put) (heard : List (List ℕ))
     (pdu : List ℕ) : Type 0 where
   pub among : Contains heard pdu
-  pub says : (h : Header) (v : Content) → SpellsSmall h v pdu → SaysTruth peer put_of h.id v
+  pub says : (h : Header) (v : Content) → SpellsPdu h v pdu → SaysTruth peer put_of h.id v
 
 -- ---- what is sent
 -- A Finished says that a file was delivered only of a transaction that the entity `own` completed.
@@ -75,24 +75,25 @@ SaysDelivered own told id v = (tlvs : List Tlv) → v ≡ Finished no_error Comp
     → Contains (completions own told) id
 
 -- These octets are those of what is due, behind its header.
-abbrev pub SpellsDue : Option Content → Addressing → List ℕ → Type 0
-SpellsDue None a octets = ⊥
-SpellsDue (Some v) a octets = SpellsSmall (header_of a false v) v octets
+abbrev pub SpellsDue : (large : Bool) → Option Content → Addressing → List ℕ → Type 0
+SpellsDue large None a octets = ⊥
+SpellsDue large (Some v) a octets = SpellsPdu (header_of a large v) v octets
 
 abbrev pub SpellsEntry : FileMap → Option Entry → Type 0
 SpellsEntry sources None = ⊥
-SpellsEntry sources (Some e) =
-    SpellsDue (due_content sources e.1) (addressing_of e.1) (due_octets sources e.1)
+SpellsEntry sources (Some e) = SpellsDue (large_of e.1) (due_content sources e.1)
+    (addressing_of e.1) (due_octets sources e.1)
 
 -- A PDU has the turn, and its octets are those of what it says.
 abbrev pub SpellsTurn : Turn → EntityState → Type 0
-SpellsTurn (Stray s strays) e = SpellsDue (Some (stray_says s)) s.addressing (stray_octets s)
+SpellsTurn (Stray s strays) e =
+    SpellsDue s.large (Some (stray_says s)) s.addressing (stray_octets s)
 SpellsTurn (Place place) e = SpellsEntry e.table.sources (slice_get e.table.records place)
 SpellsTurn Rests e = ⊥
 
 -- the octets of the longest PDU
 abbrev pub longest_pdu : ℕ
-longest_pdu = 4128
+longest_pdu = 4132
 
 -- ---- what stays
 -- What was indicated stays, and more is added behind; the files to send and the configuration stay,

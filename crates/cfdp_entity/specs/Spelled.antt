@@ -1,5 +1,5 @@
 -- What is due is spelled by its octets.
-use Rattle.std.specs.Prelude.{List, [], ◌∷◌, Option, Some, None}
+use Rattle.std.specs.Prelude.{Bool, List, [], ◌∷◌, Option, Some, None}
 use Rattle.cfdp_header.specs.Files.{FileMap}
 use Rattle.cfdp_directives.specs.declared.pdu.addressing.Addressing.{Addressing}
 use Rattle.cfdp_directives.specs.Pdu.Content.{Content}
@@ -7,19 +7,19 @@ use Rattle.cfdp_entity.specs.declared.polled.EntityPolled.{EntityPolled}
 use Rattle.cfdp_entity.specs.declared.polled.EntityPolled.TheVariants.{Moved}
 use Rattle.cfdp_entity.specs.Entity.{EntityState}
 use Rattle.cfdp_entity.specs.Polling.{turn}
-use Rattle.cfdp_entity.specs.Seen.{Seen, addressing_of, due_content, octets_of}
+use Rattle.cfdp_entity.specs.Seen.{Seen, addressing_of, large_of, due_content, octets_of}
 use Rattle.cfdp_entity.specs.Sound.{SpellsDue, SpellsTurn}
 use Rattle.cfdp_entity.specs.Strays.{StrayAck, stray_says, stray_octets}
 use Rattle.cfdp_entity.specs.Table.{Entry}
 
 -- Where something is due, its octets are those of what it says.
-abbrev pub IsSpelled : Addressing → Option Content → Type 0
-IsSpelled a None = Unit {0}
-IsSpelled a (Some v) = SpellsDue (Some v) a (octets_of a (Some v))
+abbrev pub IsSpelled : (large : Bool) → Addressing → Option Content → Type 0
+IsSpelled large a None = Unit {0}
+IsSpelled large a (Some v) = SpellsDue large (Some v) a (octets_of large a (Some v))
 
 -- of what a record has due
 unfoldable pub SeenIsSpelled : FileMap → Seen → Type 0
-SeenIsSpelled sources s = IsSpelled (addressing_of s) (due_content sources s)
+SeenIsSpelled sources s = IsSpelled (large_of s) (addressing_of s) (due_content sources s)
 
 abbrev pub EntryIsSpelled : FileMap → Option Entry → Type 0
 EntryIsSpelled sources None = Unit {0}
@@ -27,7 +27,7 @@ EntryIsSpelled sources (Some e) = SeenIsSpelled sources e.1
 
 -- of a stray acknowledgement, and of the first that waits
 abbrev pub StrayIsSpelled : StrayAck → Type 0
-StrayIsSpelled s = SpellsDue (Some (stray_says s)) s.addressing (stray_octets s)
+StrayIsSpelled s = SpellsDue s.large (Some (stray_says s)) s.addressing (stray_octets s)
 
 abbrev pub FirstIsSpelled : List StrayAck → Type 0
 FirstIsSpelled [] = Unit {0}

@@ -1,6 +1,6 @@
 -- One step of one record: a PDU that it hears, a timer that expires, a call of its user, or a PDU
 -- that it sends.
-use Rattle.std.specs.Prelude.{◌≡◌, ℕ, true, List, [], ◌∷◌, take, Option, Some, None}
+use Rattle.std.specs.Prelude.{◌≡◌, ℕ, Bool, true, List, [], ◌∷◌, take, Option, Some, None}
 use Rattle.std.specs.FinMap as map
 use Rattle.std.specs.FinSet as set
 use Rattle.cfdp_header.specs.Files.{FileMap}
@@ -22,7 +22,7 @@ use Rattle.cfdp_sender.specs.declared.due.SenderDue.{SenderDue}
 use Rattle.cfdp_sender.specs.Due.{sender_due}
 use Rattle.cfdp_sender.specs.Does as sender_does
 use Rattle.cfdp_sender.specs.Steps as sender
-use Rattle.cfdp_receiver.specs.State.{ReceiverState}
+use Rattle.cfdp_receiver.specs.State.{ReceiverState, flagged}
 use Rattle.cfdp_receiver.specs.declared.due.Due.{Due}
 use Rattle.cfdp_receiver.specs.Due.{receiver_due}
 use Rattle.cfdp_receiver.specs.Does as receiver_does
@@ -81,30 +81,31 @@ abbrev pub if_sender : Times → FileMap → SenderState → Option sender.Sende
 if_sender times files x (Some a) = by_sender times files a
 if_sender times files x None = no_step files (Sends x)
 
--- by a receiver: all others are
-abbrev pub receiver_after : Stored → Content → OctetMap → FileMap → ReceiverState →
-    Option receiver.ReceiverAfter
-receiver_after stored (Metadata kind size source destination options) m files r =
-    Some (receiver.hears_metadata stored kind size source destination m files r)
-receiver_after stored (FileData offset bytes) m files r =
-    Some (receiver.hears_data stored offset bytes m files r)
-receiver_after stored (Eof condition checksum size tlvs) m files r =
-    Some (receiver.hears_eof stored condition checksum size m files r)
-receiver_after stored (Ack acknowledged.Finished condition status) m files r =
-    Some (receiver.hears_ack m files r)
-receiver_after stored (Prompt keep_alive) m files r =
-    Some (receiver.hears_prompt keep_alive m files r)
-receiver_after stored _ m files r = None
+-- by a receiver: all others are. The large file flag counts, and then what the PDU says
+abbrev pub receiver_after : Stored → (large : Bool) → Content → OctetMap → FileMap →
+    ReceiverState → Option receiver.ReceiverAfter
+receiver_after stored large (Metadata kind size source destination options) m files r =
+    Some (receiver.hears_metadata stored kind size source destination m files (flagged large r))
+receiver_after stored large (FileData offset bytes) m files r =
+    Some (receiver.hears_data stored large offset bytes m files (flagged large r))
+receiver_after stored large (Eof condition checksum size tlvs) m files r =
+    Some (receiver.hears_eof stored large condition checksum size m files (flagged large r))
+receiver_after stored large (Ack acknowledged.Finished condition status) m files r =
+    Some (receiver.hears_ack m files (flagged large r))
+receiver_after stored large (Prompt keep_alive) m files r =
+    Some (receiver.hears_prompt keep_alive m files (flagged large r))
+receiver_after stored large _ m files r = None
 
 abbrev pub if_receiver : Times → FileMap → ReceiverState → OctetMap →
     Option receiver.ReceiverAfter → After
 if_receiver times files r m (Some a) = by_receiver times a
 if_receiver times files r m None = no_step files (Receives r m)
 
-abbrev pub hears : Stored → Times → FileMap → Content → Seen → After
-hears stored times files v (Sends x) = if_sender times files x (sender_after v x)
-hears stored times files v (Receives r m) =
-    if_receiver times files r m (receiver_after stored v m files r)
+-- the large file flag is nothing to a sender: it knows its file
+abbrev pub hears : Stored → Times → FileMap → (large : Bool) → Content → Seen → After
+hears stored times files large v (Sends x) = if_sender times files x (sender_after v x)
+hears stored times files large v (Receives r m) =
+    if_receiver times files r m (receiver_after stored large v m files r)
 
 -- Where there was no memory for what a PDU brings, the record is as before, but for two things:
 -- file data may have staged octets at offsets that are not held, and a NAK may have asked for a

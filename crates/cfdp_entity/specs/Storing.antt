@@ -1,7 +1,7 @@
 -- Which calls of the inbox a step of an entity makes, in which order: those of the receiver whose
 -- step it is, and no other. `By` says that some calls lead from one state of the inbox to another.
 -- Where it is `Raises`, these states are counts of failures.
-use Rattle.std.specs.Prelude.{ℕ, max, List, [], ◌∷◌, slice_get, Option, Some, None}
+use Rattle.std.specs.Prelude.{ℕ, max, Bool, List, [], ◌∷◌, slice_get, Option, Some, None}
 use Rattle.std.specs.FinMap as map
 use Rattle.cfdp_header.specs.declared.value.TransactionId.{TransactionId}
 use Rattle.cfdp_directives.specs.declared.pdu.addressing.Addressing.{Addressing}
@@ -24,13 +24,15 @@ use Rattle.cfdp_entity.specs.Table.{Entry, TableState, place_of, expired, at_tim
 module _ {A : Type 0} (By : List InboxCall → A → A → Type 0) where
   -- ---- one step of a receiver
   -- It heard a PDU. Only Metadata, file data and EOF ask something of the inbox.
-  abbrev pub AsksHeard : Content → Stored → (r s : ReceiverState) → (old new : A) → Type 0
-  AsksHeard (Metadata kind size source destination options) stored r s old new =
+  abbrev pub AsksHeard : (large : Bool) → Content → Stored → (r s : ReceiverState) →
+      (old new : A) → Type 0
+  AsksHeard large (Metadata kind size source destination options) stored r s old new =
       Settles By stored r s old new
-  AsksHeard (FileData offset bytes) stored r s old new =
-      Stages By stored (staged_pieces offset bytes r) r s old new
-  AsksHeard (Eof condition checksum size tlvs) stored r s old new = Settles By stored r s old new
-  AsksHeard _ stored r s old new = By [] old new
+  AsksHeard large (FileData offset bytes) stored r s old new =
+      Stages By stored (staged_pieces large offset bytes r) r s old new
+  AsksHeard large (Eof condition checksum size tlvs) stored r s old new =
+      Settles By stored r s old new
+  AsksHeard large _ stored r s old new = By [] old new
 
   -- Its user called it. Only a cancel asks something of the inbox.
   abbrev pub AsksCalled : Call → (r s : ReceiverState) → (old new : A) → Type 0
@@ -52,9 +54,11 @@ module _ {A : Type 0} (By : List InboxCall → A → A → Type 0) where
   AsksOf Asks f None old new = By [] old new
 
   -- the record at a place heard a PDU
-  abbrev pub AsksToHear : Stored → ℕ → Content → TableState → (old new : A) → Type 0
-  AsksToHear stored place v st old new = AsksOf (AsksHeard v stored)
-      (λ e. hears stored st.policy.times st.files v e.1) (slice_get st.records place) old new
+  abbrev pub AsksToHear : Stored → ℕ → (large : Bool) → Content → TableState →
+      (old new : A) → Type 0
+  AsksToHear stored place large v st old new = AsksOf (AsksHeard large v stored)
+      (λ e. hears stored st.policy.times st.files large v e.1) (slice_get st.records place)
+      old new
 
   -- its user called it
   abbrev pub AsksToCall : Call → ℕ → TableState → (old new : A) → Type 0
@@ -81,23 +85,24 @@ module _ {A : Type 0} (By : List InboxCall → A → A → Type 0) where
 
   -- ---- a record more
   -- The inbox began the transaction, and then the record heard the PDU; or it refused.
-  abbrev pub AsksToBegin : (begun stored : Stored) → Content → Addressing → (opened : Seen) →
-      (old new : A) → Type 0
-  AsksToBegin Done stored v a opened old new = (mid : A) × Begins By Done a.id old mid
-      × AsksAs (AsksHeard v stored) (Receives (opened_receiver a) map.empty) opened mid new
-  AsksToBegin Refused stored v a opened old new = Begins By Refused a.id old new
+  abbrev pub AsksToBegin : (begun stored : Stored) → (large : Bool) → Content → Addressing →
+      (opened : Seen) → (old new : A) → Type 0
+  AsksToBegin Done stored large v a opened old new = (mid : A) × Begins By Done a.id old mid
+      × AsksAs (AsksHeard large v stored) (Receives (opened_receiver a) map.empty) opened mid new
+  AsksToBegin Refused stored large v a opened old new = Begins By Refused a.id old new
 
   -- An EOF with an error asks nothing of the inbox.
-  abbrev pub AsksFirst : (closes : Option ℕ) → (begun stored : Stored) → Content → Addressing →
-      (opened : Seen) → (old new : A) → Type 0
-  AsksFirst (Some condition) begun stored v a opened old new = By [] old new
-  AsksFirst None begun stored v a opened old new = AsksToBegin begun stored v a opened old new
+  abbrev pub AsksFirst : (closes : Option ℕ) → (begun stored : Stored) → (large : Bool) →
+      Content → Addressing → (opened : Seen) → (old new : A) → Type 0
+  AsksFirst (Some condition) begun stored large v a opened old new = By [] old new
+  AsksFirst None begun stored large v a opened old new =
+      AsksToBegin begun stored large v a opened old new
 
   -- a PDU opened a record
-  abbrev pub AsksToOpen : (begun stored : Stored) → Addressing → Content → TableState →
-      (old new : A) → Type 0
-  AsksToOpen begun stored a v st old new = AsksFirst (closing v) begun stored v a
-      (opens begun stored st.policy.times st.files v a).seen old new
+  abbrev pub AsksToOpen : (begun stored : Stored) → Addressing → (large : Bool) → Content →
+      TableState → (old new : A) → Type 0
+  AsksToOpen begun stored a large v st old new = AsksFirst (closing v) begun stored large v a
+      (opens begun stored st.policy.times st.files large v a).seen old new
 
   -- ---- timers that fired, one after another: each step finds what the earlier ones left
   unfoldable pub AsksToFire : List Timer → TableState → (old new : A) → Type 0

@@ -103,8 +103,9 @@ step_of f place (Some e) st = stepped place e.0 (f e) st
 abbrev pub step_at : (Entry → After) → ℕ → TableState → TableState
 step_at f place st = step_of f place (slice_get st.records place) st
 
-abbrev pub heard_at : Stored → ℕ → Content → TableState → TableState
-heard_at stored place v st = step_at (λ e. hears stored st.policy.times st.files v e.1) place st
+abbrev pub heard_at : Stored → ℕ → (large : Bool) → Content → TableState → TableState
+heard_at stored place large v st =
+    step_at (λ e. hears stored st.policy.times st.files large v e.1) place st
 
 abbrev pub expired_at : ℕ → Kind → TableState → TableState
 expired_at place k st = step_at (λ e. expires st.policy st.files k e.1) place st
@@ -129,9 +130,10 @@ abbrev pub put_in : Transfer → TableState → TableState
 put_in t st = with_record t.addressing.id (puts st.files t) st
 
 -- a PDU of no record opens one; `begun` and `stored` are the answers of the inbox
-abbrev pub opened_by : (begun stored : Stored) → Addressing → Content → TableState → TableState
-opened_by begun stored a v st =
-    with_record a.id (opens begun stored st.policy.times st.files v a) st
+abbrev pub opened_by : (begun stored : Stored) → Addressing → (large : Bool) → Content →
+    TableState → TableState
+opened_by begun stored a large v st =
+    with_record a.id (opens begun stored st.policy.times st.files large v a) st
 
 abbrev pub first_table : FileMap → FileMap → Policy → TableState
 first_table sources files policy = record {

@@ -30,7 +30,7 @@ pub record TellsNoMore (own : ℕ) (heard : List (List ℕ)) (st : TableState) :
 
 -- A Finished that a record hears, and that says that its file was delivered, was heard.
 abbrev pub HearsDelivered : List (List ℕ) → TableStep → TableState → Type 0
-HearsDelivered heard (Hears stored place v) st =
+HearsDelivered heard (Hears stored place large v) st =
     (e : Entry) → slice_get st.records place ≡ Some e → (tlvs : List Tlv)
     → v ≡ Finished no_error Complete Retained tlvs → SomePdu (SaysComplete e.0) heard
 HearsDelivered heard _ st = Unit {0}

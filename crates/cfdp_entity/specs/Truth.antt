@@ -39,9 +39,9 @@ IsTrueOf put_of heard id v =
 -- put of another entity, and a put is of this one.
 abbrev pub TellsTruth : ℕ → (TransactionId → Option Put) → List (List ℕ) → TableStep → TableState →
     Type 0
-TellsTruth own put_of heard (Hears stored place v) st =
+TellsTruth own put_of heard (Hears stored place large v) st =
     (e : Entry) → slice_get st.records place ≡ Some e → IsTrueOf put_of heard e.0 v
-TellsTruth own put_of heard (Opens begun stored a v) st =
+TellsTruth own put_of heard (Opens begun stored a large v) st =
     (a.id.source ≡ own → ⊥) × (IsSome (put_of a.id) × IsTrueOf put_of heard a.id v)
 TellsTruth own put_of heard (Puts t) st = t.addressing.id.source ≡ own
 TellsTruth own put_of heard _ st = Unit {0}

@@ -10,7 +10,7 @@ use thiserror::Error;
 /// told.
 #[derive(Clone, Copy, Debug, PartialEq, Eq, Error)]
 pub enum EntityDrop {
-    /// The octets are no PDU. Told first.
+    /// The octets are no PDU. Told first. The large file flag of a header is never the cause.
     #[error("{0}")]
     Pdu(PduError),
     /// The direction bit of the header isn't the one for what the PDU says.
@@ -34,7 +34,8 @@ pub enum EntityDrop {
 }
 
 impl EntityDrop {
-    /// All causes, in the order of their numbers.
+    /// All causes, in the order of their numbers. The sixth, the large file flag of a header, keeps
+    /// its number, but is told of no PDU.
     pub const ALL: [EntityDrop; 17] = [
         EntityDrop::Pdu(PduError::Header(HeaderError::Short)),
         EntityDrop::Pdu(PduError::Header(HeaderError::Version)),
@@ -143,7 +144,7 @@ pub enum PutError {
     /// The outbox has no file of that name.
     #[error("there is no such file")]
     NoSuchFile,
-    /// The file has 2^32 octets or more.
+    /// The file has more than 2^48 octets.
     #[error("the file is too large")]
     TooLarge,
     /// There is no memory for the record. Told last.

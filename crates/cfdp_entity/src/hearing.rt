@@ -2,7 +2,7 @@
 ghost use Rattle.std.specs.Prelude.{◌≡◌, ◌<◌, length, None, IfErr, OnOk, OnErr};
 ghost use Rattle.cfdp_directives.specs.Pdu.Addressing.{addressing_of, FitsAddressing};
 ghost use Rattle.cfdp_directives.specs.Pdu.Content.{view};
-ghost use Rattle.cfdp_directives.specs.Pdu.Small.{small_pdu_fault};
+ghost use Rattle.cfdp_directives.specs.Pdu.Faults.{pdu_fault};
 ghost use Rattle.cfdp_entity.specs.declared.error.EntityDrop.TheVariants as drops;
 ghost use Rattle.cfdp_entity.specs.declared.route.Route.TheVariants as routes;
 ghost use Rattle.cfdp_entity.specs.Entity.{with_table};
@@ -17,7 +17,7 @@ use crate::route::Route;
 use crate::stray::Stray;
 use crate::table::MOST_RECORDS;
 use cfdp_directives::{
-    Addressing, Pdu, a_small_pdu_read_can_be_answered, decode_small, direction_fits, is_for,
+    Addressing, Pdu, a_pdu_read_can_be_answered, decode, direction_fits, is_for,
 };
 use cfdp_header::Header;
 use cfdp_store::{Inbox, Outbox};
@@ -41,7 +41,8 @@ impl<O: Outbox, I: Inbox> Entity<O, I> {
     /// Hears a PDU, which is all the octets. It makes one step of its transaction's record.
     /// Metadata, file data and an EOF of a transaction without a record open one, and a Finished of
     /// such a transaction is answered. Answers are written in the widths of the PDU that opened the
-    /// record, or of that Finished.
+    /// record, or of that Finished. They have the large file flag once a PDU that a receiver hears
+    /// had it, or where that Finished has it.
     ///
     /// # Errors
     ///
@@ -52,12 +53,12 @@ impl<O: Outbox, I: Inbox> Entity<O, I> {
     /// count as held. No call of a store failed then.
     pub fn hear(&mut self, pdu: &[u8]) -> Result<(), EntityDrop>
         ensures heard { OnOk result (HearsOctets pdu.now self.old self.new) }
-        ensures dropped { IfErr result (λ by. DropsOctets (small_pdu_fault pdu.now) pdu.now by
-            self.old self.new) }
+        ensures dropped { IfErr result (λ by. DropsOctets (pdu_fault pdu.now) pdu.now by self.old
+            self.new) }
     {
-        match decode_small(pdu) {
+        match decode(pdu) {
             Ok((header, pdu)) => {
-                a_small_pdu_read_can_be_answered();
+                a_pdu_read_can_be_answered();
                 self.hear_pdu(&header, &pdu)
             }
             Err(e) => {
@@ -80,8 +81,8 @@ impl<O: Outbox, I: Inbox> Entity<O, I> {
                 self.count(drop);
                 Err(drop)
             }
-            Route::Steps(place) => self.hear_at(place, pdu),
-            Route::Opens => self.hear_first(Addressing::of(header), pdu),
+            Route::Steps(place) => self.hear_at(place, header.large, pdu),
+            Route::Opens => self.hear_first(Addressing::of(header), header.large, pdu),
             Route::Queues(stray) => {
                 self.queue(stray);
                 Ok(())
@@ -141,13 +142,13 @@ impl<O: Outbox, I: Inbox> Entity<O, I> {
         }
     }
 
-    // The record at a place hears a PDU.
-    fn hear_at(&mut self, place: usize, pdu: &Pdu<'_>) -> Result<(), EntityDrop>
-        ensures heard { OnOk result (StepsAt place (view pdu.now) self.old self.new) }
+    // The record at a place hears a PDU, with its large file flag.
+    fn hear_at(&mut self, place: usize, large: bool, pdu: &Pdu<'_>) -> Result<(), EntityDrop>
+        ensures heard { OnOk result (StepsAt place large (view pdu.now) self.old self.new) }
         ensures dropped { IfErr result (λ by. (by ≡ drops.NoMemory)
             × FindsNoMemory place (view pdu.now) self.old self.new) }
     {
-        match self.step_at(place, pdu) {
+        match self.step_at(place, large, pdu) {
             Ok(()) => Ok(()),
             Err(_) => {
                 self.count(EntityDrop::NoMemory);
@@ -156,8 +157,8 @@ impl<O: Outbox, I: Inbox> Entity<O, I> {
         }
     }
 
-    fn step_at(&mut self, place: usize, pdu: &Pdu<'_>) -> Result<(), AllocError>
-        ensures steps { OnOk result (StepsAt place (view pdu.now) self.old self.new) }
+    fn step_at(&mut self, place: usize, large: bool, pdu: &Pdu<'_>) -> Result<(), AllocError>
+        ensures steps { OnOk result (StepsAt place large (view pdu.now) self.old self.new) }
         ensures spoils { OnErr result (SpoiledAt place (view pdu.now) self.old.state.table
             self.new.state.table) }
         ensures table { self.new.state ≡ with_table self.old.state self.new.state.table }
@@ -166,21 +167,26 @@ impl<O: Outbox, I: Inbox> Entity<O, I> {
         ensures outbox { self.new.outbox_failures ≡ self.old.outbox_failures }
     {
         self.table.reserve(3)?;
-        self.table.hear(place, pdu)?;
+        self.table.hear(place, large, pdu)?;
         Ok(())
     }
 
-    // A PDU opens a record, which hears it.
-    fn hear_first(&mut self, addressing: Addressing, pdu: &Pdu<'_>) -> Result<(), EntityDrop>
+    // A PDU opens a record, which hears it, with its large file flag.
+    fn hear_first(
+        &mut self,
+        addressing: Addressing,
+        large: bool,
+        pdu: &Pdu<'_>,
+    ) -> Result<(), EntityDrop>
         requires fits { FitsAddressing addressing }
         requires from_peer { addressing.id.source ≡ self.old.state.config.peer }
         requires absent { tables.place_of addressing.id self.old.state.table.records ≡ None }
         requires not_full { length self.old.state.table.records < 4096 }
-        ensures heard { OnOk result (OpensOne addressing (view pdu.now) self.old self.new) }
+        ensures heard { OnOk result (OpensOne addressing large (view pdu.now) self.old self.new) }
         ensures dropped { IfErr result (λ by. DropsBy routes.Opens by (view pdu.now) self.old
             self.new) }
     {
-        match self.open(addressing, pdu) {
+        match self.open(addressing, large, pdu) {
             Ok(()) => Ok(()),
             Err(_) => {
                 self.count(EntityDrop::NoMemory);
@@ -189,18 +195,18 @@ impl<O: Outbox, I: Inbox> Entity<O, I> {
         }
     }
 
-    fn open(&mut self, addressing: Addressing, pdu: &Pdu<'_>) -> Result<(), AllocError>
+    fn open(&mut self, addressing: Addressing, large: bool, pdu: &Pdu<'_>) -> Result<(), AllocError>
         requires fits { FitsAddressing addressing }
         requires from_peer { addressing.id.source ≡ self.old.state.config.peer }
         requires absent { tables.place_of addressing.id self.old.state.table.records ≡ None }
         requires not_full { length self.old.state.table.records < 4096 }
-        ensures opens { OnOk result (OpensOne addressing (view pdu.now) self.old self.new) }
+        ensures opens { OnOk result (OpensOne addressing large (view pdu.now) self.old self.new) }
         ensures err { OnErr result (self.new.state ≡ self.old.state) }
         ensures none { OnErr result
             (self.new.inbox_failures ≡ self.old.inbox_failures) }
         ensures outbox { self.new.outbox_failures ≡ self.old.outbox_failures }
     {
-        self.table.open(addressing, pdu)?;
+        self.table.open(addressing, large, pdu)?;
         Ok(())
     }
 

@@ -7,7 +7,8 @@ ghost use Rattle.cfdp_header.specs.Ids.{same_id};
 ghost use Rattle.cfdp_header.specs.declared.value.Header.{Header};
 ghost use Rattle.cfdp_directives.specs.declared.user.policy.Policy.{Policy};
 ghost use Rattle.cfdp_directives.specs.Pdu.Content.{Content};
-ghost use Rattle.cfdp_directives.specs.Pdu.Small.{SpellsSmall, small_pdu_fault};
+ghost use Rattle.cfdp_directives.specs.Pdu.Faults.{pdu_fault};
+ghost use Rattle.cfdp_directives.specs.Pdu.Grammar.{SpellsPdu};
 ghost use Rattle.cfdp_directives.specs.User.Put.{Put, IsTruthful, SaysTruth};
 ghost use Rattle.cfdp_store.specs.declared.stored.Stored.{Stored};
 ghost use Rattle.cfdp_sender.specs.Inputs.{finished_count};
@@ -29,7 +30,7 @@ ghost use Rattle.cfdp_entity.specs.Polling.{turn, turn_octets, served};
 ghost use Rattle.cfdp_entity.specs.Putting.{Accepts};
 ghost use Rattle.cfdp_entity.specs.Sound.{IsSound, FindsMore, FindsById, next_put, ComesTrue, SpellsTurn, SaysDelivered, GoesOn};
 
-use cfdp_directives::no_small_pdu_begins_another;
+use cfdp_directives::no_pdu_begins_another;
 use cfdp_receiver::{
     a_completion_publishes_the_put, a_finished_says_what_was_indicated,
     a_transaction_is_finished_once, an_opening_may_finish, more_is_heard,
@@ -209,7 +210,7 @@ pub fn an_entity_keeps_the_truth()
         → IsSound put_of heard first old.state → IsSound put_of heard first new.state }
     ensures dropped { (put_of : TransactionId → Option Put) (heard : List (List ℕ))
         (first : FileMap) (pdu : List ℕ) (by : EntityDrop) (old new : Counted) →
-        DropsOctets (small_pdu_fault pdu) pdu by old new
+        DropsOctets (pdu_fault pdu) pdu by old new
         → IsSound put_of heard first old.state → IsSound put_of heard first new.state }
     ensures served { (put_of : TransactionId → Option Put) (heard : List (List ℕ))
         (first : FileMap) (stored : Stored) (e : EntityState) →
@@ -232,7 +233,7 @@ pub fn an_entity_goes_on()
     ensures heard { (pdu : List ℕ) (old new : Counted) → HearsOctets pdu old new
         → GoesOn old.state new.state }
     ensures dropped { (pdu : List ℕ) (by : EntityDrop) (old new : Counted) →
-        DropsOctets (small_pdu_fault pdu) pdu by old new → GoesOn old.state new.state }
+        DropsOctets (pdu_fault pdu) pdu by old new → GoesOn old.state new.state }
     ensures served { (stored : Stored) (e : EntityState) → GoesOn e (served stored (turn e) e) }
 {}
 
@@ -241,11 +242,11 @@ pub fn an_entity_goes_on()
 pub fn an_entity_sends_the_truth()
     ensures { (put_of : TransactionId → Option Put) (heard : List (List ℕ)) (first : FileMap)
         (e : EntityState) (h : Header) (v : Content) → IsSound put_of heard first e
-        → SpellsTurn (turn e) e → SpellsSmall h v (turn_octets (turn e) e)
+        → SpellsTurn (turn e) e → SpellsPdu h v (turn_octets (turn e) e)
         → SaysTruth e.config.entity put_of h.id v
         × SaysDelivered e.config.entity e.table.told h.id v }
 {
-    no_small_pdu_begins_another();
+    no_pdu_begins_another();
     a_finished_says_what_was_indicated();
     a_table_sends_the_truth();
 }

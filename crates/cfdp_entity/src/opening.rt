@@ -55,8 +55,8 @@ fn error_of(condition: Condition) -> Option<Condition>
     }
 }
 
-/// Opens the record of a PDU, and lets it hear the PDU. Room for what that indicates was made
-/// before.
+/// Opens the record of a PDU, and lets it hear the PDU, with its large file flag. Room for what
+/// that indicates was made before.
 pub(crate) fn open_heard<I: Inbox>(
     alloc: Global,
     inbox: &mut I,
@@ -64,12 +64,13 @@ pub(crate) fn open_heard<I: Inbox>(
     told: &mut Vec<Indication>,
     policy: &Policy,
     addressing: Addressing,
+    large: bool,
     pdu: &Pdu<'_>,
 ) -> Result<(Record, Opened), AllocError>
     requires fits { FitsAddressing addressing }
     requires room { 3 ≤ spare told.old }
     ensures does { IfOk result (λ o. Does addressing.id (opens o.1.begun o.1.stored
-        policy.now.times (I.published inbox.old) (view pdu.now) addressing)
+        policy.now.times (I.published inbox.old) large (view pdu.now) addressing)
         (seen (I.staged inbox.new addressing.id) o.0) told.old.items told.new.items
         (record timers.old { roomy = timers.new.roomy }) timers.new (I.published inbox.new)) }
     ensures keeps { OnErr result (OpensNone told.old.items told.new.items timers.old timers.new
@@ -85,13 +86,13 @@ pub(crate) fn open_heard<I: Inbox>(
     ensures asks { IfOk result (λ o. AsksInOrder (openings.closing (view pdu.now)) o.1.begun
         o.1.stored) }
     ensures calls { IfOk result (λ o. AsksFirst (Makes I.steps I.failures)
-        (openings.closing (view pdu.now)) o.1.begun o.1.stored (view pdu.now) addressing
+        (openings.closing (view pdu.now)) o.1.begun o.1.stored large (view pdu.now) addressing
         (seen (I.staged inbox.new addressing.id) o.0) inbox.old inbox.new) }
     ensures none { OnErr result (I.failures inbox.new ≡ I.failures inbox.old) }
 {
     match closing(pdu) {
         Some(condition) => {
-            let receiver = Receiver::open_closed(alloc, addressing, timers, condition)?;
+            let receiver = Receiver::open_closed(alloc, addressing, large, timers, condition)?;
             let opened = Opened {
                 begun: Stored::Done,
                 stored: Stored::Done,
@@ -99,7 +100,9 @@ pub(crate) fn open_heard<I: Inbox>(
             Ok((Record::Receives(receiver), opened))
         }
         None => {
-            let (receiver, opened) = begin(alloc, inbox, timers, told, policy, addressing, pdu)?;
+            let (receiver, opened) = begin(
+                alloc, inbox, timers, told, policy, addressing, large, pdu,
+            )?;
             Ok((Record::Receives(receiver), opened))
         }
     }
@@ -113,12 +116,13 @@ fn begin<I: Inbox>(
     told: &mut Vec<Indication>,
     policy: &Policy,
     addressing: Addressing,
+    large: bool,
     pdu: &Pdu<'_>,
 ) -> Result<(Receiver, Opened), AllocError>
     requires fits { FitsAddressing addressing }
     requires room { 3 ≤ spare told.old }
     ensures does { IfOk result (λ o. Does addressing.id (begins o.1.begun o.1.stored
-        policy.now.times (I.published inbox.old) (view pdu.now) addressing)
+        policy.now.times (I.published inbox.old) large (view pdu.now) addressing)
         (seen (I.staged inbox.new addressing.id) (variants.Receives o.0)) told.old.items
         told.new.items (record timers.old { roomy = timers.new.roomy }) timers.new
         (I.published inbox.new)) }
@@ -134,13 +138,13 @@ fn begin<I: Inbox>(
         (I.failures inbox.new)) }
     ensures asks { IfOk result (λ o. AsksInOrder None o.1.begun o.1.stored) }
     ensures calls { IfOk result (λ o. AsksToBegin (Makes I.steps I.failures) o.1.begun o.1.stored
-        (view pdu.now) addressing (seen (I.staged inbox.new addressing.id) (variants.Receives o.0))
-        inbox.old inbox.new) }
+        large (view pdu.now) addressing
+        (seen (I.staged inbox.new addressing.id) (variants.Receives o.0)) inbox.old inbox.new) }
     ensures none { OnErr result (I.failures inbox.new ≡ I.failures inbox.old) }
 {
-    let (mut receiver, begun) = Receiver::open(alloc, addressing, timers, told, inbox)?;
+    let (mut receiver, begun) = Receiver::open(alloc, addressing, large, timers, told, inbox)?;
     let stored = match begun {
-        Stored::Done => receiver_hears(&mut receiver, inbox, timers, told, policy, pdu)?,
+        Stored::Done => receiver_hears(&mut receiver, inbox, timers, told, policy, large, pdu)?,
         Stored::Refused => Stored::Done,
     };
     Ok((receiver, Opened { begun, stored }))

@@ -19,7 +19,7 @@ use std::alloc::AllocError;
 impl<O: Outbox, I: Inbox> Entity<O, I> {
     /// Takes the PDU that is due next: stray acknowledgements come first, then the records in order
     /// of opening, round robin from behind the one served last. It is written over the first octets
-    /// of `out`, where it has at most `room` octets. No PDU is longer than 4,128 octets.
+    /// of `out`, where it has at most `room` octets. No PDU is longer than 4,132 octets.
     ///
     /// # Errors
     ///

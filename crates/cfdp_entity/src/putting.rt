@@ -1,8 +1,9 @@
 // Files that an entity is asked to send.
-ghost use Rattle.std.specs.Prelude.{◌≡◌, ◌<◌, ◌^◌, nat_lt, None, Some, is_some, IfSome, IfErr, IfOk, OnOk, OnErr};
+ghost use Rattle.std.specs.Prelude.{◌≡◌, ◌<◌, ◌≤◌, ◌^◌, nat_lt, true, None, Some, is_some, IfSome, IfErr, IfOk, OnOk, OnErr};
 ghost use Rattle.std.specs.FinMap as map;
 ghost use Rattle.std.specs.Result.{result_err};
 ghost use Rattle.cfdp_header.specs.Header.{IsWidth};
+ghost use Rattle.cfdp_directives.specs.Pdu.Codes as codes;
 ghost use Rattle.cfdp_store.specs.declared.stored.Stored.TheVariants as storeds;
 ghost use Rattle.cfdp_store.specs.Stores.{failures_after};
 ghost use Rattle.cfdp_sender.specs.Does.{HasFile};
@@ -14,7 +15,7 @@ ghost use Rattle.cfdp_entity.specs.Table.{place_of};
 use crate::entity::Entity;
 use crate::error::PutError;
 use crate::table::MOST_RECORDS;
-use cfdp_directives::{Addressing, Octets, is_file_name, is_file_size};
+use cfdp_directives::{Addressing, Octets, is_file_name, size_limit};
 use cfdp_header::{TransactionId, fits_width};
 use cfdp_sender::Transfer;
 use cfdp_store::{Inbox, Outbox};
@@ -94,7 +95,7 @@ impl<O: Outbox, I: Inbox> Entity<O, I> {
     // Octets of a file of the outbox, where it can be sent.
     fn source_size(&mut self, source: &[u8]) -> Result<u64, PutError>
         ensures size { IfOk result (λ size. HasFile self.old.state.table.sources source.now size
-            × (size < 2 ^ 32)) }
+            × (size ≤ codes.size_limit true)) }
         ensures allowed { OnOk result (asked storeds.Done (map.get self.old.state.table.sources
             source.now) ≡ None) }
         ensures refused { IfErr result (λ by. asked (stored_by_error by) (map.get
@@ -106,7 +107,7 @@ impl<O: Outbox, I: Inbox> Entity<O, I> {
     {
         match self.table.source_len(source) {
             Ok(Some(size)) => {
-                if is_file_size(false, size) {
+                if size <= size_limit(true) {
                     Ok(size)
                 } else {
                     Err(PutError::TooLarge)
@@ -128,7 +129,7 @@ impl<O: Outbox, I: Inbox> Entity<O, I> {
         requires number { number ≡ self.old.state.next }
         requires may { MayPut source.now destination.now self.old.state }
         requires file { HasFile self.old.state.table.sources source.now size }
-        requires small { size < 2 ^ 32 }
+        requires limit { size ≤ codes.size_limit true }
         ensures put { OnOk result (self.new.state
             ≡ with_put (next_transfer source.now destination.now size self.old.state)
             self.old.state) }
@@ -156,7 +157,7 @@ impl<O: Outbox, I: Inbox> Entity<O, I> {
     ) -> Result<Transfer, AllocError>
         requires number { number ≡ self.now.state.next }
         requires may { MayPut source.now destination.now self.now.state }
-        requires small { size < 2 ^ 32 }
+        requires limit { size ≤ codes.size_limit true }
         ensures transfer { IfOk result (λ t. t ≡ next_transfer source.now destination.now size
             self.now.state) }
         ensures sendable { IfOk result IsSendable }

@@ -104,7 +104,7 @@ impl Record {
         }
     }
 
-    /// Hears a PDU of its transaction.
+    /// Hears a PDU of its transaction, with its large file flag.
     pub(crate) fn hear<O: Outbox, I: Inbox>(
         &mut self,
         outbox: &O,
@@ -113,13 +113,14 @@ impl Record {
         told: &mut Vec<Indication>,
         policy: &Policy,
         id: TransactionId,
+        large: bool,
         pdu: &Pdu<'_>,
     ) -> Result<Stored, AllocError>
         requires room { 3 ≤ spare told.old }
         requires has_room { set.contains timers.old.roomy id ≡ true }
         requires ready { IsReadyRecord (I.staged inbox.old) (O.files outbox.now) id self.old }
         ensures does { IfOk result (λ stored. Does id (hears stored policy.now.times
-            (I.published inbox.old) (view pdu.now) (seen (I.staged inbox.old id) self.old))
+            (I.published inbox.old) large (view pdu.now) (seen (I.staged inbox.old id) self.old))
             (seen (I.staged inbox.new id) self.new) told.old.items told.new.items timers.old
             timers.new (I.published inbox.new)) }
         ensures keeps { OnErr result (Keeps (view pdu.now) (seen (I.staged inbox.old id) self.old)
@@ -128,8 +129,9 @@ impl Record {
             (I.published inbox.new)) }
         ensures counts { IfOk result (λ stored. Counts stored (I.failures inbox.old)
             (I.failures inbox.new)) }
-        ensures raises { IfOk result (λ stored. AsksAs Raises (AsksHeard Raises (view pdu.now)
-            stored) (seen (I.staged inbox.old id) self.old) (seen (I.staged inbox.new id) self.new)
+        ensures raises { IfOk result (λ stored. AsksAs Raises (AsksHeard Raises large
+            (view pdu.now) stored) (seen (I.staged inbox.old id) self.old)
+            (seen (I.staged inbox.new id) self.new)
             (I.failures inbox.old) (I.failures inbox.new)) }
         ensures none { OnErr result (I.failures inbox.new ≡ I.failures inbox.old) }
         ensures ready { IsReadyRecord (I.staged inbox.new) (O.files outbox.now) id self.new }
@@ -139,7 +141,7 @@ impl Record {
         match self {
             Record::Sends(sender) => sender_hears(sender, timers, told, policy, pdu),
             Record::Receives(receiver) => receiver_hears(
-                receiver, inbox, timers, told, policy, pdu,
+                receiver, inbox, timers, told, policy, large, pdu,
             ),
         }
     }
@@ -344,20 +346,21 @@ fn sender_hears(
     Ok(Stored::Done)
 }
 
-/// A receiver hears what is for it.
+/// A receiver hears what is for it, with the PDU's large file flag.
 pub(crate) fn receiver_hears<I: Inbox>(
     receiver: &mut Receiver,
     inbox: &mut I,
     timers: &mut Timers,
     told: &mut Vec<Indication>,
     policy: &Policy,
+    large: bool,
     pdu: &Pdu<'_>,
 ) -> Result<Stored, AllocError>
     requires room { 3 ≤ spare told.old }
     requires has_room { set.contains timers.old.roomy receiver.old.addressing.id ≡ true }
     requires ready { IsReady (I.staged inbox.old) receiver.old }
     ensures does { IfOk result (λ stored. ReceiverDoes policy.now.times (receiver_after stored
-        (view pdu.now) (staged_for (I.staged inbox.old) receiver.old.addressing.id)
+        large (view pdu.now) (staged_for (I.staged inbox.old) receiver.old.addressing.id)
         (I.published inbox.old) receiver.old)
         receiver.old receiver.new told.old.items told.new.items timers.old timers.new
         (I.published inbox.old) (I.published inbox.new) (I.staged inbox.old)
@@ -368,8 +371,8 @@ pub(crate) fn receiver_hears<I: Inbox>(
         (I.staged inbox.old) (I.staged inbox.new)) }
     ensures counts { IfOk result (λ stored. Counts stored (I.failures inbox.old)
         (I.failures inbox.new)) }
-    ensures calls { IfOk result (λ stored. AsksHeard (Makes I.steps I.failures) (view pdu.now)
-        stored receiver.old receiver.new inbox.old inbox.new) }
+    ensures calls { IfOk result (λ stored. AsksHeard (Makes I.steps I.failures) large
+        (view pdu.now) stored receiver.old receiver.new inbox.old inbox.new) }
     ensures roomy { timers.new.roomy ≡ timers.old.roomy }
     ensures none { OnErr result (I.failures inbox.new ≡ I.failures inbox.old) }
     ensures ready { IsReady (I.staged inbox.new) receiver.new }
@@ -391,10 +394,10 @@ pub(crate) fn receiver_hears<I: Inbox>(
                 source,
                 destination,
             };
-            receiver.on_metadata(timers, policy, told, inbox, &metadata)
+            receiver.on_metadata(timers, policy, told, inbox, large, &metadata)
         }
         Pdu::FileData { offset, bytes } => {
-            receiver.on_data(timers, policy, told, inbox, *offset, bytes)
+            receiver.on_data(timers, policy, told, inbox, large, *offset, bytes)
         }
         Pdu::Eof {
             condition,
@@ -406,14 +409,14 @@ pub(crate) fn receiver_hears<I: Inbox>(
                 checksum: *checksum,
                 size: *size,
             };
-            Ok(receiver.on_eof(timers, policy, told, inbox, *condition, ending))
+            Ok(receiver.on_eof(timers, policy, told, inbox, large, *condition, ending))
         }
         Pdu::Ack { of, .. } => {
-            receiver_hears_ack(receiver, timers, policy, *of);
+            receiver_hears_ack(receiver, timers, policy, large, *of);
             Ok(Stored::Done)
         }
         Pdu::Prompt { keep_alive } => {
-            receiver.on_prompt(timers, policy, *keep_alive);
+            receiver.on_prompt(timers, policy, large, *keep_alive);
             Ok(Stored::Done)
         }
         _ => Ok(Stored::Done),
@@ -425,15 +428,17 @@ fn receiver_hears_ack(
     receiver: &mut Receiver,
     timers: &mut Timers,
     policy: &Policy,
+    large: bool,
     of: Acknowledged,
 )
     requires { set.contains timers.old.roomy receiver.old.addressing.id ≡ true }
-    ensures acks { ReceiverAcks policy.now.times of receiver.old receiver.new timers.old timers.new }
+    ensures acks { ReceiverAcks policy.now.times large of receiver.old receiver.new timers.old
+        timers.new }
     ensures ready { (staged : Staged) → IsReady staged receiver.old → IsReady staged receiver.new }
     ensures addressing { receiver.new.addressing ≡ receiver.old.addressing }
 {
     match of {
-        Acknowledged::Finished => receiver.on_ack(timers, policy),
+        Acknowledged::Finished => receiver.on_ack(timers, policy, large),
         Acknowledged::Eof => {}
     }
 }
@@ -474,8 +479,8 @@ fn send_of_receiver(
     out: &mut [u8],
 ) -> usize
     requires has_room { set.contains timers.old.roomy receiver.old.addressing.id ≡ true }
-    requires fits { seens.len_of receiver.old.addressing (seens.receiver_content receiver.old
-        (receiver_due receiver.old)) ≤ length out.old }
+    requires fits { seens.len_of receiver.old.large receiver.old.addressing
+        (seens.receiver_content receiver.old (receiver_due receiver.old)) ≤ length out.old }
     ensures took { ReceiverTook policy.now.times (receiver_due receiver.old) receiver.old
         receiver.new timers.old timers.new result out.old out.new }
     ensures ready { (staged : Staged) → IsReady staged receiver.old → IsReady staged receiver.new }

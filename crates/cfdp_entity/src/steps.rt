@@ -87,7 +87,7 @@ pub(crate) fn refusal_at(
     }
 }
 
-/// The record at a place hears a PDU.
+/// The record at a place hears a PDU, with its large file flag.
 pub(crate) fn hear_at<O: Outbox, I: Inbox>(
     records: &mut IndexMap<TransactionId, Record>,
     ready: &mut Ready,
@@ -97,6 +97,7 @@ pub(crate) fn hear_at<O: Outbox, I: Inbox>(
     told: &mut Vec<Indication>,
     policy: &Policy,
     place: usize,
+    large: bool,
     pdu: &Pdu<'_>,
 ) -> Result<Stored, AllocError>
     requires whole { IsWhole (I.staged inbox.old) (O.files outbox.now) records.old.entries ready.old
@@ -104,7 +105,7 @@ pub(crate) fn hear_at<O: Outbox, I: Inbox>(
     requires room { 3 ≤ spare told.old }
     ensures heard { IfOk result (λ stored. state_of (I.staged inbox.new) (I.published inbox.new)
         (O.files outbox.now) policy.now records.new.entries timers.new told.new.items
-        ≡ heard_at stored place (view pdu.now)
+        ≡ heard_at stored place large (view pdu.now)
         (state_of (I.staged inbox.old) (I.published inbox.old)
         (O.files outbox.now) policy.now records.old.entries timers.old told.old.items)) }
     ensures err { OnErr result (SpoiledAt place (view pdu.now) (state_of (I.staged inbox.old)
@@ -113,7 +114,7 @@ pub(crate) fn hear_at<O: Outbox, I: Inbox>(
         (O.files outbox.now) policy.now records.new.entries timers.new told.new.items)) }
     ensures counts { IfOk result (λ stored. Counts stored (I.failures inbox.old)
         (I.failures inbox.new)) }
-    ensures raises { IfOk result (λ stored. AsksToHear Raises stored place (view pdu.now)
+    ensures raises { IfOk result (λ stored. AsksToHear Raises stored place large (view pdu.now)
         (state_of (I.staged inbox.old) (I.published inbox.old)
         (O.files outbox.now) policy.now records.old.entries timers.old told.old.items)
         (I.failures inbox.old) (I.failures inbox.new)) }
@@ -126,7 +127,7 @@ pub(crate) fn hear_at<O: Outbox, I: Inbox>(
     };
     match records.get_index_mut(place) {
         Some(record) => {
-            let answer = record.hear(outbox, inbox, timers, told, policy, id, pdu);
+            let answer = record.hear(outbox, inbox, timers, told, policy, id, large, pdu);
             ready.set(place, record.is_due());
             answer
         }
@@ -321,7 +322,7 @@ pub(crate) fn put_record<O: Outbox, I: Inbox>(
     Ok(())
 }
 
-/// Opens the record of a PDU that has none.
+/// Opens the record of a PDU that has none, by its large file flag too.
 pub(crate) fn open_record<O: Outbox, I: Inbox>(
     alloc: Global,
     records: &mut IndexMap<TransactionId, Record>,
@@ -332,6 +333,7 @@ pub(crate) fn open_record<O: Outbox, I: Inbox>(
     told: &mut Vec<Indication>,
     policy: &Policy,
     addressing: Addressing,
+    large: bool,
     pdu: &Pdu<'_>,
 ) -> Result<Opened, AllocError>
     requires whole { IsWhole (I.staged inbox.old) (O.files outbox.now) records.old.entries ready.old
@@ -341,7 +343,7 @@ pub(crate) fn open_record<O: Outbox, I: Inbox>(
     requires fits { FitsAddressing addressing }
     ensures opened { IfOk result (λ o. state_of (I.staged inbox.new) (I.published inbox.new)
         (O.files outbox.now) policy.now records.new.entries timers.new told.new.items
-        ≡ opened_by o.begun o.stored addressing (view pdu.now)
+        ≡ opened_by o.begun o.stored addressing large (view pdu.now)
         (state_of (I.staged inbox.old) (I.published inbox.old)
         (O.files outbox.now) policy.now records.old.entries timers.old told.old.items)) }
     ensures err { OnErr result (state_of (I.staged inbox.new) (I.published inbox.new)
@@ -351,8 +353,8 @@ pub(crate) fn open_record<O: Outbox, I: Inbox>(
     ensures counts { IfOk result (λ o. CountsBoth o.begun o.stored (I.failures inbox.old)
         (I.failures inbox.new)) }
     ensures asks { IfOk result (λ o. AsksInOrder (closing (view pdu.now)) o.begun o.stored) }
-    ensures raises { IfOk result (λ o. AsksToOpen Raises o.begun o.stored addressing (view pdu.now)
-        (state_of (I.staged inbox.old) (I.published inbox.old)
+    ensures raises { IfOk result (λ o. AsksToOpen Raises o.begun o.stored addressing large
+        (view pdu.now) (state_of (I.staged inbox.old) (I.published inbox.old)
         (O.files outbox.now) policy.now records.old.entries timers.old told.old.items)
         (I.failures inbox.old) (I.failures inbox.new)) }
     ensures none { OnErr result (I.failures inbox.new ≡ I.failures inbox.old) }
@@ -361,7 +363,7 @@ pub(crate) fn open_record<O: Outbox, I: Inbox>(
 {
     let _ = outbox;
     room_in(records, told)?;
-    let (record, opened) = open_heard(alloc, inbox, timers, told, policy, addressing, pdu)?;
+    let (record, opened) = open_heard(alloc, inbox, timers, told, policy, addressing, large, pdu)?;
     ready.push(record.is_due());
     push_record(records, addressing.id, record);
     Ok(opened)

@@ -15,6 +15,8 @@ use std::marker::Model;
 #[derive(Drop)]
 pub struct Stray {
     addressing: Addressing,
+    // The Finished's large file flag.
+    large: bool,
     condition: Condition,
 }
 
@@ -24,19 +26,29 @@ impl Model for Stray {
 
     ghost Value = { StrayAck };
 
-    ghost view = { λ s. record { addressing = s.addressing; condition = s.condition } };
+    ghost view = { λ s. record {
+      addressing = s.addressing;
+      large = s.large;
+      condition = s.condition;
+    } };
 
     ghost invariant = { λ s. FitsAddressing s.addressing };
 }
 
 impl Stray {
-    /// The answer to a Finished with this header and condition.
+    /// The answer to a Finished with this header and condition. It has the Finished's large file
+    /// flag.
     pub(crate) fn of(header: &Header, condition: Condition) -> Self
         requires { FitsAddressing (addressing_of header.now) }
-        ensures { result ≡ record { addressing = addressing_of header.now; condition = condition } }
+        ensures { result ≡ record {
+          addressing = addressing_of header.now;
+          large = header.now.large;
+          condition = condition;
+        } }
     {
         Stray {
             addressing: Addressing::of(header),
+            large: header.large,
             condition,
         }
     }
@@ -58,7 +70,7 @@ impl Stray {
         ensures spelled { StrayIsSpelled self.now }
     {
         let _any_condition_fits = self.condition.code();
-        self.addressing.written_len(false, &self.pdu())
+        self.addressing.written_len(self.large, &self.pdu())
     }
 
     /// Writes it over the first octets of `out`, and says how many they are.
@@ -67,6 +79,6 @@ impl Stray {
         ensures len { result ≡ stray_len self.now }
         ensures writes { Writes (stray_octets self.now) result out.old out.new }
     {
-        self.addressing.write_pdu(false, &self.pdu(), out)
+        self.addressing.write_pdu(self.large, &self.pdu(), out)
     }
 }

@@ -189,16 +189,16 @@ impl<O: Outbox, I: Inbox> Table<O, I> {
         self.told.reserve(more)
     }
 
-    /// The record at a place hears a PDU.
-    pub fn hear(&mut self, place: usize, pdu: &Pdu<'_>) -> Result<Stored, AllocError>
+    /// The record at a place hears a PDU, with its large file flag.
+    pub fn hear(&mut self, place: usize, large: bool, pdu: &Pdu<'_>) -> Result<Stored, AllocError>
         requires room { 3 ≤ self.old.spare }
-        ensures heard { IfOk result (λ stored. self.new.state ≡ heard_at stored place
+        ensures heard { IfOk result (λ stored. self.new.state ≡ heard_at stored place large
             (view pdu.now) self.old.state) }
         ensures err { OnErr result (SpoiledAt place (view pdu.now) self.old.state self.new.state) }
         ensures counts { IfOk result (λ stored. Counts stored self.old.inbox_failures
             self.new.inbox_failures) }
-        ensures raises { IfOk result (λ stored. AsksToHear Raises stored place (view pdu.now)
-            self.old.state self.old.inbox_failures self.new.inbox_failures) }
+        ensures raises { IfOk result (λ stored. AsksToHear Raises stored place large
+            (view pdu.now) self.old.state self.old.inbox_failures self.new.inbox_failures) }
         ensures none { OnErr result
             (self.new.inbox_failures ≡ self.old.inbox_failures) }
         ensures outbox { self.new.outbox_failures ≡ self.old.outbox_failures }
@@ -212,6 +212,7 @@ impl<O: Outbox, I: Inbox> Table<O, I> {
             &mut self.told,
             &self.policy,
             place,
+            large,
             pdu,
         )
     }
@@ -310,19 +311,24 @@ impl<O: Outbox, I: Inbox> Table<O, I> {
         )
     }
 
-    /// A PDU of no record opens one, which hears it if the inbox begins its transaction. An EOF
-    /// with an error opens one that is closed.
-    pub fn open(&mut self, addressing: Addressing, pdu: &Pdu<'_>) -> Result<Opened, AllocError>
+    /// A PDU of no record opens one, which hears it, with its large file flag, if the inbox begins
+    /// its transaction. An EOF with an error opens one that is closed.
+    pub fn open(
+        &mut self,
+        addressing: Addressing,
+        large: bool,
+        pdu: &Pdu<'_>,
+    ) -> Result<Opened, AllocError>
         requires absent { tables.place_of addressing.id self.old.state.records ≡ None }
         requires not_full { length self.old.state.records < 4096 }
         requires addressing { FitsAddressing addressing }
         ensures opened { IfOk result (λ o. self.new.state ≡ opened_by o.begun o.stored addressing
-            (view pdu.now) self.old.state) }
+            large (view pdu.now) self.old.state) }
         ensures err { OnErr result (self.new.state ≡ self.old.state) }
         ensures counts { IfOk result (λ o. CountsBoth o.begun o.stored self.old.inbox_failures
             self.new.inbox_failures) }
         ensures asks { IfOk result (λ o. AsksInOrder (closing (view pdu.now)) o.begun o.stored) }
-        ensures raises { IfOk result (λ o. AsksToOpen Raises o.begun o.stored addressing
+        ensures raises { IfOk result (λ o. AsksToOpen Raises o.begun o.stored addressing large
             (view pdu.now) self.old.state self.old.inbox_failures self.new.inbox_failures) }
         ensures none { OnErr result
             (self.new.inbox_failures ≡ self.old.inbox_failures) }
@@ -338,6 +344,7 @@ impl<O: Outbox, I: Inbox> Table<O, I> {
             &mut self.told,
             &self.policy,
             addressing,
+            large,
             pdu,
         )
     }

@@ -22,8 +22,8 @@ pub enum HeaderError {
     /// The transmission mode is 1, unacknowledged.
     #[error("the transmission mode is unacknowledged")]
     Unacknowledged,
-    /// The large file flag is 1. `decode` never tells it: it reads both flags. One who takes small
-    /// files alone does.
+    /// The large file flag is 1. Nothing tells it any more, since both flags are read: its number
+    /// stays unused.
     #[error("the file is large: its offsets have 64 bits")]
     LargeFile,
 }

@@ -7,7 +7,7 @@ use Rattle.std.proofs.lemmas.Grind.{flat_map-append}
 use Rattle.std.proofs.lemmas.List.{take-append-drop, take-append-le}
 use Rattle.cfdp_header.specs.Files.{FileMap}
 use Rattle.cfdp_directives.specs.declared.user.indication.Indication.{Indication}
-use Rattle.cfdp_directives.specs.Pdu.Small.{small_pdu_fault}
+use Rattle.cfdp_directives.specs.Pdu.Faults.{pdu_fault}
 use Rattle.cfdp_store.specs.declared.stored.Stored.{Stored}
 use Rattle.cfdp_store.specs.declared.stored.Stored.TheVariants.{Done, Refused}
 use Rattle.cfdp_entity.specs.declared.error.EntityDrop.{EntityDrop}
@@ -59,7 +59,7 @@ longer-times Step of each (suc count) a b (mid, before, step) =
 pub record GoesOnLaws : Type 0 where
   pub ticked : (now : ℕ) (old new : EntityState) → Ticks now old.table new.table → new ≡ with_table old new.table → GoesOn old new
   pub heard : (pdu : List ℕ) (old new : Counted) → HearsOctets pdu old new → GoesOn old.state new.state
-  pub dropped : (pdu : List ℕ) (by : EntityDrop) (old new : Counted) → DropsOctets (small_pdu_fault pdu) pdu by old new → GoesOn old.state new.state
+  pub dropped : (pdu : List ℕ) (by : EntityDrop) (old new : Counted) → DropsOctets (pdu_fault pdu) pdu by old new → GoesOn old.state new.state
   pub served : (stored : Stored) (e : EntityState) → GoesOn e (served stored (turn e) e)
 
 module _ (laws : GoesOnLaws) where

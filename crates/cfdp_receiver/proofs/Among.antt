@@ -4,7 +4,7 @@ use Rattle.std.proofs.Common.{◌≡◌, ℕ, List, Option, Some, None}
 use Rattle.std.specs.Prelude.{Any, Contains, IfSome}
 use Rattle.cfdp_header.specs.declared.value.Header.{Header}
 use Rattle.cfdp_directives.specs.Pdu.Content.{Content}
-use Rattle.cfdp_directives.specs.Pdu.Small.{SpellsSmall}
+use Rattle.cfdp_directives.specs.Pdu.Grammar.{SpellsPdu}
 use Rattle.cfdp_directives.specs.User.Put.{Put, SomePdu, IsMetadataOf, IsEofOf, Brings, HeardInFull}
 use Rattle.cfdp_store.specs.Staged.{OctetMap}
 use Rattle.cfdp_receiver.specs.declared.state.FileInfo.{FileInfo}
@@ -17,7 +17,7 @@ any-among P xs ys among a = let c = among a.1 (a.0, a.2, a.3) in (c.0, a.1, c.1,
 
 module _ (heard others : List (List ℕ)) (among : (text : List ℕ) → Contains heard text → Contains others text) where
   pub some-among : (P : Header → Content → Type 0) → SomePdu P heard → SomePdu P others
-  some-among P a = any-among (λ text. (h : Header) × ((v : Content) × (SpellsSmall h v text × P h v))) heard others among a
+  some-among P a = any-among (λ text. (h : Header) × ((v : Content) × (SpellsPdu h v text × P h v))) heard others among a
 
   pub full-among : (put : Put) → HeardInFull put heard → HeardInFull put others
   full-among put h = record {

@@ -137,8 +137,8 @@ other_phase Receiving h = cc
 other_phase Finishing h = refl
 other_phase Closed h = refl
 
-no_staged : (offset : ℕ) (bytes : List ℕ) (r : ReceiverState) → new_pieces r.held offset bytes ≡ [] → staged_pieces offset bytes r ≡ []
-no_staged offset bytes r none = by (is_receiving r.phase && not (exceeds r.ending (offset + length bytes)))
+no_staged : (large : Bool) (offset : ℕ) (bytes : List ℕ) (r : ReceiverState) → new_pieces r.held offset bytes ≡ [] → staged_pieces large offset bytes r ≡ []
+no_staged large offset bytes r none = by (is_receiving r.phase && not (exceeds large r.ending (offset + length bytes)))
   where
     by : (b : Bool) → (if b then new_pieces r.held offset bytes else []) ≡ []
     by true = none
@@ -159,37 +159,38 @@ module _ {S : Type 0} (Steps : S → InboxCall → S → Type 0) (failures : S �
       ))
 
   -- nothing is new
-  none-staged : (stored : Stored) (s : ReceiverState) (a c : S) → staged_pieces offset bytes old ≡ [] → Settles (Makes Steps failures) stored old s a c
-      → Stages (Makes Steps failures) stored (staged_pieces offset bytes old) old s a c
-  none-staged stored s a c none settles =
+  none-staged : (large : Bool) (stored : Stored) (s : ReceiverState) (a c : S) → staged_pieces large offset bytes old ≡ [] → Settles (Makes Steps failures) stored old s a c
+      → Stages (Makes Steps failures) stored (staged_pieces large offset bytes old) old s a c
+  none-staged large stored s a c none settles =
       inl (a, subst (λ ps. Makes Steps failures (writes old.addressing.id ps) a a) (sym none) (refl, refl), settles)
 
-  pub covered-stages : (stored : Stored) (s : ReceiverState) (a c : S) → set.is_subset (range offset (offset + length bytes)) r.held ≡ true → Settles (Makes Steps failures) stored old s a c
-      → Stages (Makes Steps failures) stored (staged_pieces offset bytes old) old s a c
-  covered-stages stored s a c all settles =
-      none-staged stored s a c (subst (λ (x : ReceiverState). staged_pieces offset bytes x ≡ []) is (no_staged offset bytes r (no_pieces r.held offset bytes all))) settles
+  pub covered-stages : (large : Bool) (stored : Stored) (s : ReceiverState) (a c : S) → set.is_subset (range offset (offset + length bytes)) r.held ≡ true →
+      Settles (Makes Steps failures) stored old s a c
+      → Stages (Makes Steps failures) stored (staged_pieces large offset bytes old) old s a c
+  covered-stages large stored s a c all settles =
+      none-staged large stored s a c (subst (λ (x : ReceiverState). staged_pieces large offset bytes x ≡ []) is (no_staged large offset bytes r (no_pieces r.held offset bytes all))) settles
 
   -- some are new
-  pub new-stages : {E : Type 0} (result : Result Stored E) (s : ReceiverState) (a c : S) → old.phase ≡ Receiving → exceeds r.ending (offset + length bytes) ≡ false
+  pub new-stages : (large : Bool) {E : Type 0} (result : Result Stored E) (s : ReceiverState) (a c : S) → old.phase ≡ Receiving → exceeds large r.ending (offset + length bytes) ≡ false
       → IfOk result (λ stored. Stages (Makes Steps failures) stored (new_pieces old.held offset bytes) old s a c)
-      → IfOk result (λ stored. Stages (Makes Steps failures) stored (staged_pieces offset bytes old) old s a c)
-  new-stages result s a c receiving fits stages =
-      let within : exceeds old.ending (offset + length bytes) ≡ false = subst (λ (x : ReceiverState). exceeds x.ending (offset + length bytes) ≡ false) is fits in
-      let same : staged_pieces offset bytes old ≡ new_pieces old.held offset bytes = (λ i. if is_receiving (receiving i) && not (within i) then new_pieces old.held offset bytes else []) in
+      → IfOk result (λ stored. Stages (Makes Steps failures) stored (staged_pieces large offset bytes old) old s a c)
+  new-stages large result s a c receiving fits stages =
+      let within : exceeds large old.ending (offset + length bytes) ≡ false = subst (λ (x : ReceiverState). exceeds large x.ending (offset + length bytes) ≡ false) is fits in
+      let same : staged_pieces large offset bytes old ≡ new_pieces old.held offset bytes = (λ i. if is_receiving (receiving i) && not (within i) then new_pieces old.held offset bytes else []) in
       subst (λ ps. IfOk result (λ stored. Stages (Makes Steps failures) stored ps old s a c)) (sym same) stages
 
   -- once the PDU was heard
-  pub heard-stages : (stored stored_now : Stored) (s t u : ReceiverState) (a b c : S) → u ≡ tidied t → t ≡ s → stored_now ≡ stored → c ≡ b
-      → Stages (Makes Steps failures) stored (staged_pieces offset bytes old) old s a b → Stages (Makes Steps failures) stored_now (staged_pieces offset bytes old) old u a c
-  heard-stages stored stored_now s t u a b c tidy same answer there stages =
-      subst (λ (x : ReceiverState). Stages (Makes Steps failures) stored_now (staged_pieces offset bytes old) old x a c) (sym (tidy ∙ ap tidied same))
-      (subst (λ x. Stages (Makes Steps failures) x (staged_pieces offset bytes old) old (tidied s) a c) (sym answer)
-      (subst (λ x. Stages (Makes Steps failures) stored (staged_pieces offset bytes old) old (tidied s) a x) (sym there) stages))
+  pub heard-stages : (large : Bool) (stored stored_now : Stored) (s t u : ReceiverState) (a b c : S) → u ≡ tidied t → t ≡ s → stored_now ≡ stored → c ≡ b
+      → Stages (Makes Steps failures) stored (staged_pieces large offset bytes old) old s a b → Stages (Makes Steps failures) stored_now (staged_pieces large offset bytes old) old u a c
+  heard-stages large stored stored_now s t u a b c tidy same answer there stages =
+      subst (λ (x : ReceiverState). Stages (Makes Steps failures) stored_now (staged_pieces large offset bytes old) old x a c) (sym (tidy ∙ ap tidied same))
+      (subst (λ x. Stages (Makes Steps failures) x (staged_pieces large offset bytes old) old (tidied s) a c) (sym answer)
+      (subst (λ x. Stages (Makes Steps failures) stored (staged_pieces large offset bytes old) old (tidied s) a x) (sym there) stages))
 
-  pub rests-stages : (stored_now : Stored) (t u : ReceiverState) (a c : S) → u ≡ tidied t → t ≡ old → stored_now ≡ Done → c ≡ a → sameb the_type r.phase Receiving ≡ false
-      → Stages (Makes Steps failures) stored_now (staged_pieces offset bytes old) old u a c
-  rests-stages stored_now t u a c tidy same answer there apart =
+  pub rests-stages : (large : Bool) (stored_now : Stored) (t u : ReceiverState) (a c : S) → u ≡ tidied t → t ≡ old → stored_now ≡ Done → c ≡ a → sameb the_type r.phase Receiving ≡ false
+      → Stages (Makes Steps failures) stored_now (staged_pieces large offset bytes old) old u a c
+  rests-stages large stored_now t u a c tidy same answer there apart =
       let other : is_receiving old.phase ≡ false = subst (λ (x : ReceiverState). is_receiving x.phase ≡ false) is (other_phase r.phase apart) in
-      let none : staged_pieces offset bytes old ≡ [] = (λ i. if other i && not (exceeds old.ending (offset + length bytes)) then new_pieces old.held offset bytes else []) in
-      heard-stages Done stored_now old t u a a c tidy same answer there
-      (none-staged Done old a a none ((λ _. (refl, refl)), λ receiving _. absurd (let bad : true ≡ false = sym (ap is_receiving receiving) ∙ other in cc)))
+      let none : staged_pieces large offset bytes old ≡ [] = (λ i. if other i && not (exceeds large old.ending (offset + length bytes)) then new_pieces old.held offset bytes else []) in
+      heard-stages large Done stored_now old t u a a c tidy same answer there
+      (none-staged large Done old a a none ((λ _. (refl, refl)), λ receiving _. absurd (let bad : true ≡ false = sym (ap is_receiving receiving) ∙ other in cc)))

@@ -1,6 +1,6 @@
 -- Exported: what any step of a receiver may do: end a transaction with what it indicates, and
 -- publish its file.
-use Rattle.std.proofs.Common.{◌≡◌, ◌⊎◌, inl, inr, ℕ, ◌+◌, ◌<◌, ◌≤◌, true, false, not, ◌&&◌, ◌||◌, ◌==◌, List, [], ◌∷◌, ◌++◌, length, Option, Some, None, is_none, is_some, refl, sym, ap, subst, ◌∙◌, arith, nat_lt, nat_le, if◌then◌else◌}
+use Rattle.std.proofs.Common.{◌≡◌, ◌⊎◌, inl, inr, ℕ, ◌+◌, ◌<◌, ◌≤◌, true, false, not, ◌&&◌, ◌||◌, ◌==◌, List, [], ◌∷◌, ◌++◌, length, Option, Some, None, is_none, is_some, refl, sym, ap, subst, ◌∙◌, arith, nat_lt, nat_le, if◌then◌else◌, Bool}
 use Rattle.std.specs.Prelude.{Contains}
 use Rattle.std.specs.FinSet as set
 use Rattle.std.specs.Cmp.{nat_cmp_total}
@@ -17,7 +17,7 @@ use Rattle.cfdp_directives.specs.declared.user.indication.Indication.{Indication
 use Rattle.cfdp_directives.specs.declared.user.indication.Indication.TheVariants as indication
 use Rattle.cfdp_directives.specs.declared.user.policy.Policy.{Policy}
 use Rattle.cfdp_directives.specs.declared.user.telling.Outcome.{Outcome}
-use Rattle.cfdp_directives.specs.Pdu.Codes.{no_error, positive_ack_limit, filestore_rejection, file_checksum_failure, file_size_error, nak_limit, inactivity, unsupported_checksum_type, suspend_request, cancel_request}
+use Rattle.cfdp_directives.specs.Pdu.Codes.{no_error, positive_ack_limit, filestore_rejection, file_checksum_failure, file_size_error, nak_limit, inactivity, unsupported_checksum_type, suspend_request, cancel_request, size_limit}
 use Rattle.cfdp_directives.specs.User.Completions.{completions}
 use Rattle.cfdp_directives.specs.Pdu.Content.{Content, FileData, Metadata, Eof, Finished, Ack, Nak, Prompt, KeepAlive}
 use Rattle.cfdp_directives.specs.User.Policy.{another_try, finished_told, fault_told}
@@ -35,12 +35,12 @@ use Rattle.cfdp_receiver.specs.declared.state.ReceiverPhase.{ReceiverPhase}
 use Rattle.cfdp_receiver.specs.declared.state.ReceiverPhase.TheVariants.{Receiving, Finishing, Closed}
 use Rattle.cfdp_receiver.specs.declared.state.FileInfo.{FileInfo}
 use Rattle.cfdp_receiver.specs.declared.state.Ending.{Ending}
-use Rattle.cfdp_receiver.specs.State.{ReceiverState, is_receiving, is_finishing, size_limit}
+use Rattle.cfdp_receiver.specs.State.{ReceiverState, flagged, is_receiving, is_finishing}
 use Rattle.cfdp_receiver.specs.Due.{receiver_taken}
 use Rattle.cfdp_receiver.specs.Missing.{tidied}
 use Rattle.cfdp_receiver.specs.Pieces.{new_pieces, staged_with}
 use Rattle.cfdp_receiver.specs.Steps.{ReceiverAfter, leaving, telling, closed, ends, complete, failed, faulted, agrees, published_by, completed_by, completed, is_supported, receives_metadata, exceeds, with_data, receives_new, receives_data, first_eof, cancelled_by, receives_eof, heard, acknowledged_by, prompted_for, takes, waits, handled, asking_again, nak_expires, finished_expires, expires_by, tidying, anew_once_expired}
-use Rattle.cfdp_receiver.specs.Sound.{ReceiverInput, Hears, Takes, Expires, Cancels, Suspends, Resumes, receiver_hears, receiver_step, held_after, PublishesNone, Publishes}
+use Rattle.cfdp_receiver.specs.Sound.{ReceiverInput, Hears, Takes, Expires, Cancels, Suspends, Resumes, receiver_hears, receiver_step, held_after, PublishesNone, Publishes, hears_content}
 
 pub is_receiving-is : (p : ReceiverPhase) → is_receiving p ≡ true → p ≡ Receiving
 is_receiving-is Receiving h = refl
@@ -219,32 +219,32 @@ module _ (ranges : RangesHold) (stored : Stored) (files : FileMap) (m : OctetMap
       (λ _. completes ranges stored files m r1 is)
       (λ _. faults stored files unsupported_checksum_type m r1)))
 
-  data-ends : (offset : ℕ) (bytes : List ℕ) → r.phase ≡ Receiving
-      → MayEnd stored r.addressing r.phase r.outcome (set.union r.held (range offset (offset + length bytes))) files (receives_data stored offset bytes m files r)
-  data-ends offset bytes is =
+  data-ends : (large : Bool) (offset : ℕ) (bytes : List ℕ) → r.phase ≡ Receiving
+      → MayEnd stored r.addressing r.phase r.outcome (set.union r.held (range offset (offset + length bytes))) files (receives_data stored large offset bytes m files r)
+  data-ends large offset bytes is =
       let end : ℕ = offset + length bytes in
       let all : Offsets = set.union r.held (range offset end) in
       let P : ReceiverAfter → Type 0 = MayEnd stored r.addressing r.phase r.outcome all files in
       let more : (n : ℕ) → set.contains r.held n ≡ true → set.contains all n ≡ true = λ n was. set.contains-union nat_cmp_total r.held (range offset end) n
       ∙ or_left (set.contains r.held n) (set.contains (range offset end) n) was in
-      cond_both (exceeds r.ending end) (faulted file_size_error m files r)
+      cond_both (exceeds large r.ending end) (faulted file_size_error m files r)
       (if set.is_subset (range offset end) r.held then completed stored m files r else receives_new stored offset bytes m files r) P
       (λ _. wider stored files r all (faulted file_size_error m files r) more (faults stored files file_size_error m r))
       (λ _. cond_both (set.is_subset (range offset end) r.held) (completed stored m files r) (receives_new stored offset bytes m files r) P
       (λ _. wider stored files r all (completed stored m files r) more (completes ranges stored files m r is))
       (λ _. new_data ranges stored files m r offset bytes is))
 
-  eof-ends : (condition checksum size : ℕ) → r.phase ≡ Receiving → Ends (receives_eof stored condition checksum size m files r)
-  eof-ends condition checksum size is =
+  eof-ends : (large : Bool) (condition checksum size : ℕ) → r.phase ≡ Receiving → Ends (receives_eof stored large condition checksum size m files r)
+  eof-ends large condition checksum size is =
       let again : ReceiverAfter = leaving m files (record r { ack_due = Some no_error; nak_cursor = Some 0 }) in
       let ending : Ending = record { checksum = checksum; size = size } in
       let r1 : ReceiverState = record r { ending = Some ending; ack_due = Some no_error; nak_cursor = Some 0 } in
-      let tested : ReceiverAfter = if nat_lt size (end_of r.held) || nat_lt size_limit size then faulted file_size_error m files r1 else completed stored m files r1 in
-      cond_both (not (condition == no_error)) (cancelled_by condition m files r) (if is_none r.ending then first_eof stored checksum size m files r else again) Ends
+      let tested : ReceiverAfter = if nat_lt size (end_of r.held) || nat_lt (size_limit large) size then faulted file_size_error m files r1 else completed stored m files r1 in
+      cond_both (not (condition == no_error)) (cancelled_by condition m files r) (if is_none r.ending then first_eof stored large checksum size m files r else again) Ends
       (λ _. told_over stored files r (cancelled_by condition m files r) (record { condition = condition; delivery = Incomplete; status = Discarded }) refl refl (λ own. refl) (0, omega arith, refl))
-      (λ _. cond_both (is_none r.ending) (first_eof stored checksum size m files r) again Ends
+      (λ _. cond_both (is_none r.ending) (first_eof stored large checksum size m files r) again Ends
       (λ _. telling-first stored files (indication.EofRecv r.addressing.id) r tested (λ own. refl)
-      (cond_both (nat_lt size (end_of r.held) || nat_lt size_limit size) (faulted file_size_error m files r1) (completed stored m files r1) Ends
+      (cond_both (nat_lt size (end_of r.held) || nat_lt (size_limit large) size) (faulted file_size_error m files r1) (completed stored m files r1) Ends
       (λ _. faults stored files file_size_error m r1)
       (λ _. completes ranges stored files m r1 is)))
       (λ _. keeps stored files r again refl refl (λ own. refl)))
@@ -256,35 +256,35 @@ module _ (ranges : RangesHold) (stored : Stored) (files : FileMap) (m : OctetMap
   heard-quiet : (r1 : ReceiverState) → r1.outcome ≡ r.outcome → Ends (heard (leaving m files r1))
   heard-quiet r1 e = timed stored files (Some kind.Inactivity) r (leaving m files r1) (quiet r1 e)
 
-  hears-ends : (v : Content) → MayEnd stored r.addressing r.phase r.outcome (held_after (Hears v) r.held) files (receiver_hears stored v m files r)
-  hears-ends (Metadata checksum_kind size source destination options) =
+  content-ends : (large : Bool) (v : Content) → MayEnd stored r.addressing r.phase r.outcome (held_after (Hears large v) r.held) files (hears_content stored large v m files r)
+  content-ends large (Metadata checksum_kind size source destination options) =
       let step : ReceiverAfter = receives_metadata stored checksum_kind size source destination m files r in
       timed stored files (Some kind.Inactivity) r (if is_receiving r.phase then step else leaving m files r)
       (receiving-only r.held step (leaving m files r) (metadata-ends checksum_kind size source destination) same)
-  hears-ends (FileData offset bytes) =
-      let step : ReceiverAfter = receives_data stored offset bytes m files r in
+  content-ends large (FileData offset bytes) =
+      let step : ReceiverAfter = receives_data stored large offset bytes m files r in
       let all : Offsets = set.union r.held (range offset (offset + length bytes)) in
       let more : (n : ℕ) → set.contains r.held n ≡ true → set.contains all n ≡ true = λ n was. set.contains-union nat_cmp_total r.held (range offset (offset + length bytes)) n
       ∙ or_left (set.contains r.held n) (set.contains (range offset (offset + length bytes)) n) was in
       timed stored files (Some kind.Inactivity) (record r { held = all }) (if is_receiving r.phase then step else leaving m files r)
-      (receiving-only all step (leaving m files r) (data-ends offset bytes) (wider stored files r all (leaving m files r) more same))
-  hears-ends (Eof condition checksum size tlvs) =
-      let step : ReceiverAfter = receives_eof stored condition checksum size m files r in
+      (receiving-only all step (leaving m files r) (data-ends large offset bytes) (wider stored files r all (leaving m files r) more same))
+  content-ends large (Eof condition checksum size tlvs) =
+      let step : ReceiverAfter = receives_eof stored large condition checksum size m files r in
       let over : ReceiverState = record r { ack_due = Some condition } in
       timed stored files (Some kind.Inactivity) r (if is_receiving r.phase then step else leaving m files over)
-      (receiving-only r.held step (leaving m files over) (eof-ends condition checksum size) (quiet over refl))
-  hears-ends (Ack acknowledged.Finished condition status) =
+      (receiving-only r.held step (leaving m files over) (eof-ends large condition checksum size) (quiet over refl))
+  content-ends large (Ack acknowledged.Finished condition status) =
       heard-quiet (acknowledged_by r) (cond_both (is_finishing r.phase && r.finished_taken) (closed r) r (λ (x : ReceiverState). x.outcome ≡ r.outcome) (λ _. refl) (λ _. refl))
-  hears-ends (Ack acknowledged.Eof condition status) = same
-  hears-ends (Prompt true) =
+  content-ends large (Ack acknowledged.Eof condition status) = same
+  content-ends large (Prompt true) =
       heard-quiet (if is_receiving r.phase then prompted_for true r else r)
       (cond_both (is_receiving r.phase) (prompted_for true r) r (λ (x : ReceiverState). x.outcome ≡ r.outcome) (λ _. refl) (λ _. refl))
-  hears-ends (Prompt false) =
+  content-ends large (Prompt false) =
       heard-quiet (if is_receiving r.phase then prompted_for false r else r)
       (cond_both (is_receiving r.phase) (prompted_for false r) r (λ (x : ReceiverState). x.outcome ≡ r.outcome) (λ _. refl) (λ _. refl))
-  hears-ends (Finished condition delivery status tlvs) = same
-  hears-ends (Nak start end pairs) = same
-  hears-ends (KeepAlive progress) = same
+  content-ends large (Finished condition delivery status tlvs) = same
+  content-ends large (Nak start end pairs) = same
+  content-ends large (KeepAlive progress) = same
 
   -- ---- what expires
   -- indications that end nothing
@@ -323,21 +323,27 @@ module _ (ranges : RangesHold) (stored : Stored) (files : FileMap) (m : OctetMap
   takes-ends due.KeepAlive = quiet (receiver_taken due.KeepAlive r) refl
   takes-ends (due.Finished o) = keeps stored files r (takes (due.Finished o) m files r) refl refl (λ own. refl)
 
-  -- Any step may end so.
-  pub step-ends : (input : ReceiverInput) → MayEnd stored r.addressing r.phase r.outcome (held_after input r.held) files (receiver_step stored input m files r)
-  step-ends (Hears v) = hears-ends v
-  step-ends (Takes d) = takes-ends d
-  step-ends (Expires k policy) =
+  -- Any step may end so, if one may that hears a PDU.
+  step-by : ((large : Bool) (v : Content) → MayEnd stored r.addressing r.phase r.outcome (held_after (Hears large v) r.held) files (receiver_hears stored large v m files r)) →
+      (input : ReceiverInput) → MayEnd stored r.addressing r.phase r.outcome (held_after input r.held) files (receiver_step stored input m files r)
+  step-by heard (Hears large v) = heard large v
+  step-by heard (Takes d) = takes-ends d
+  step-by heard (Expires k policy) =
       let a : ReceiverAfter = expires_by k policy m files r in
       cond_both (waits k r) (record (tidying a) { anew = anew_once_expired k }) (leaving m files r) Ends (λ _. timed stored files (anew_once_expired k) r a (expires-ends k policy)) (λ _. same)
-  step-ends Cancels =
+  step-by heard Cancels =
       cond_both (is_receiving r.phase) (ends (failed cancel_request) m files r) (leaving m files r) Ends
       (λ _. told_over stored files r (ends (failed cancel_request) m files r) (failed cancel_request) refl refl (λ own. refl) (0, omega arith, refl)) (λ _. same)
-  step-ends Suspends =
+  step-by heard Suspends =
       let r1 : ReceiverState = record r { suspended = true } in
       let a : ReceiverAfter = telling (indication.Suspended r.addressing.id suspend_request ∷ []) (leaving m files r1) in
       cond_both (is_receiving r.phase && not r.suspended) a (leaving m files r) Ends (λ _. keeps stored files r a refl refl (λ own. refl)) (λ _. same)
-  step-ends Resumes =
+  step-by heard Resumes =
       let r1 : ReceiverState = record r { suspended = false; nak_count = 0; finished_count = 0 } in
       let a : ReceiverAfter = telling (indication.Resumed r.addressing.id ∷ []) (leaving m files r1) in
       cond_both r.suspended a (leaving m files r) Ends (λ _. keeps stored files r a refl refl (λ own. refl)) (λ _. same)
+
+-- Any step may end so.
+pub step-ends : (ranges : RangesHold) (stored : Stored) (files : FileMap) (m : OctetMap) (r : ReceiverState) (input : ReceiverInput) →
+    MayEnd stored r.addressing r.phase r.outcome (held_after input r.held) files (receiver_step stored input m files r)
+step-ends ranges stored files m r = step-by ranges stored files m r (λ large v. content-ends ranges stored files m (flagged large r) large v)

@@ -15,11 +15,11 @@ use Rattle.cfdp_store.specs.declared.stored.Stored.{Stored}
 use Rattle.cfdp_store.specs.Staged.{OctetMap}
 use Rattle.cfdp_receiver.specs.declared.due.Due.{Due}
 use Rattle.cfdp_receiver.specs.declared.due.Due.TheVariants as due
-use Rattle.cfdp_receiver.specs.State.{ReceiverState, is_receiving}
+use Rattle.cfdp_receiver.specs.State.{ReceiverState, is_receiving, flagged}
 use Rattle.cfdp_receiver.specs.Due.{receiver_taken}
 use Rattle.cfdp_receiver.specs.Missing.{metadata_pair, missing_pairs, is_empty, asked, has_more, last_end, next_cursor, cursor_by, tidied, scope_limit}
 use Rattle.cfdp_receiver.specs.Steps.{ReceiverAfter, leaving, telling, receives_metadata, receives_data, receives_eof, acknowledged_by, prompted_for, ends, failed, takes, waits, expires_by, tidying, anew_once_expired}
-use Rattle.cfdp_receiver.specs.Sound.{ReceiverInput, Hears, Takes, Expires, Cancels, Suspends, Resumes, receiver_hears, receiver_step, asks_from, is_tidy}
+use Rattle.cfdp_receiver.specs.Sound.{ReceiverInput, Hears, Takes, Expires, Cancels, Suspends, Resumes, receiver_hears, receiver_step, asks_from, is_tidy, hears_content}
 use Rattle.cfdp_receiver.proofs.Facts.{RangesHold}
 use Rattle.cfdp_receiver.proofs.FactsPieces.{UnionsHold, DifferencesHold, GapsAre, is_inside}
 
@@ -133,18 +133,18 @@ module _ (ranges : RangesHold) (unions : UnionsHold) (differences : DifferencesH
     still : (r1 : ReceiverState) → r1.nak_cursor ≡ r.nak_cursor → ((c : ℕ) → missing_pairs c r1 ≡ missing_pairs c r) → is_tidy r1 ≡ true
     still r1 cursor missing = ap (λ o. asks_from o r1) cursor ∙ asks-same r.nak_cursor r r1 missing ∙ was
 
-    hears-tidy : (v : Content) → Tidy (receiver_hears stored v m files r)
-    hears-tidy (Metadata checksum_kind size source destination options) =
+    content-tidy : (large : Bool) (v : Content) → Tidy (hears_content stored large v m files r)
+    content-tidy large (Metadata checksum_kind size source destination options) =
         tidied-tidy (if is_receiving r.phase then receives_metadata stored checksum_kind size source destination m files r else leaving m files r).receiver
-    hears-tidy (FileData offset bytes) = tidied-tidy (if is_receiving r.phase then receives_data stored offset bytes m files r else leaving m files r).receiver
-    hears-tidy (Eof condition checksum size tlvs) = tidied-tidy (if is_receiving r.phase then receives_eof stored condition checksum size m files r
+    content-tidy large (FileData offset bytes) = tidied-tidy (if is_receiving r.phase then receives_data stored large offset bytes m files r else leaving m files r).receiver
+    content-tidy large (Eof condition checksum size tlvs) = tidied-tidy (if is_receiving r.phase then receives_eof stored large condition checksum size m files r
         else leaving m files (record r { ack_due = Some condition })).receiver
-    hears-tidy (Ack acknowledged.Finished condition status) = tidied-tidy (acknowledged_by r)
-    hears-tidy (Ack acknowledged.Eof condition status) = was
-    hears-tidy (Prompt keep_alive) = tidied-tidy (if is_receiving r.phase then prompted_for keep_alive r else r)
-    hears-tidy (Finished condition delivery status tlvs) = was
-    hears-tidy (Nak start end pairs) = was
-    hears-tidy (KeepAlive progress) = was
+    content-tidy large (Ack acknowledged.Finished condition status) = tidied-tidy (acknowledged_by r)
+    content-tidy large (Ack acknowledged.Eof condition status) = was
+    content-tidy large (Prompt keep_alive) = tidied-tidy (if is_receiving r.phase then prompted_for keep_alive r else r)
+    content-tidy large (Finished condition delivery status tlvs) = was
+    content-tidy large (Nak start end pairs) = was
+    content-tidy large (KeepAlive progress) = was
 
     takes-tidy : (d : Due) → Tidy (takes d m files r)
     takes-tidy (due.AckOfEof condition) = still (receiver_taken (due.AckOfEof condition) r) refl (λ c. refl)
@@ -152,19 +152,22 @@ module _ (ranges : RangesHold) (unions : UnionsHold) (differences : DifferencesH
     takes-tidy due.KeepAlive = still (receiver_taken due.KeepAlive r) refl (λ c. refl)
     takes-tidy (due.Finished o) = still (receiver_taken (due.Finished o) r) refl (λ c. refl)
 
-    -- In any step a NAK that is due keeps something to ask for.
-    pub step-tidy : (input : ReceiverInput) → Tidy (receiver_step stored input m files r)
-    step-tidy (Hears v) = hears-tidy v
-    step-tidy (Takes d) = takes-tidy d
-    step-tidy (Expires k policy) =
+    step-by : ((large : Bool) (v : Content) → Tidy (receiver_hears stored large v m files r)) → (input : ReceiverInput) → Tidy (receiver_step stored input m files r)
+    step-by heard (Hears large v) = heard large v
+    step-by heard (Takes d) = takes-tidy d
+    step-by heard (Expires k policy) =
         let a : ReceiverAfter = expires_by k policy m files r in
         cond_both (waits k r) (record (tidying a) { anew = anew_once_expired k }) (leaving m files r) Tidy (λ _. tidied-tidy a.receiver) (λ _. was)
-    step-tidy Cancels = cond_both (is_receiving r.phase) (ends (failed cancel_request) m files r) (leaving m files r) Tidy (λ _. refl) (λ _. was)
-    step-tidy Suspends =
+    step-by heard Cancels = cond_both (is_receiving r.phase) (ends (failed cancel_request) m files r) (leaving m files r) Tidy (λ _. refl) (λ _. was)
+    step-by heard Suspends =
         let told : List Indication = indication.Suspended r.addressing.id suspend_request ∷ [] in
         cond_both (is_receiving r.phase && not r.suspended) (telling told (leaving m files (record r { suspended = true }))) (leaving m files r) Tidy
         (λ _. still (record r { suspended = true }) refl (λ c. refl)) (λ _. was)
-    step-tidy Resumes =
+    step-by heard Resumes =
         let told : List Indication = indication.Resumed r.addressing.id ∷ [] in
         cond_both r.suspended (telling told (leaving m files (record r { suspended = false; nak_count = 0; finished_count = 0 }))) (leaving m files r) Tidy
         (λ _. still (record r { suspended = false; nak_count = 0; finished_count = 0 }) refl (λ c. refl)) (λ _. was)
+
+  -- In any step a NAK that is due keeps something to ask for.
+  pub step-tidy : (stored : Stored) (m : OctetMap) (files : FileMap) (r : ReceiverState) → is_tidy r ≡ true → (input : ReceiverInput) → is_tidy (receiver_step stored input m files r).receiver ≡ true
+  step-tidy stored m files r was = step-by stored m files r was (λ large v. content-tidy stored m files (flagged large r) (asks-same r.nak_cursor r (flagged large r) (λ c. refl) ∙ was) large v)

@@ -19,7 +19,7 @@ use Rattle.cfdp_receiver.specs.declared.due.Due.{Due}
 use Rattle.cfdp_receiver.specs.declared.state.FileInfo.{FileInfo}
 use Rattle.cfdp_receiver.specs.declared.state.Ending.{Ending}
 use Rattle.cfdp_receiver.specs.declared.state.ReceiverPhase.TheVariants.{Receiving, Finishing}
-use Rattle.cfdp_receiver.specs.State.{ReceiverState, is_receiving}
+use Rattle.cfdp_receiver.specs.State.{ReceiverState, is_receiving, flagged}
 use Rattle.cfdp_receiver.specs.Pieces.{new_pieces, staged_with}
 use Rattle.cfdp_receiver.specs.Steps.{ReceiverAfter, leaving, faulted, completed, completed_by, exceeds, with_data, receives_new, receives_data, hears_data}
 use Rattle.cfdp_receiver.specs.Sound.{ReceiverInput, Hears, Takes, Expires, Cancels, Suspends, Resumes, receiver_step, held_after}
@@ -66,11 +66,12 @@ module _ (staged : StagedNew) (sets : SetsHold) (offset : ℕ) (bytes : List ℕ
       ∙ no_new (is_within offset (offset + length bytes) n) (set.contains r.held n) (slice_get bytes (n - offset)) (map.get m n) was
   new-octets Refused m files r was = refl
 
-  pub data-octets : (stored : Stored) (m : OctetMap) (files : FileMap) (r : ReceiverState) → set.contains r.held n ≡ true → map.get (hears_data stored offset bytes m files r).octets n ≡ map.get m n
-  data-octets stored m files r was =
+  pub data-octets : (large : Bool) (stored : Stored) (m : OctetMap) (files : FileMap) (r : ReceiverState) → set.contains r.held n ≡ true →
+      map.get (hears_data stored large offset bytes m files r).octets n ≡ map.get m n
+  data-octets large stored m files r was =
       let Same : ReceiverAfter → Type 0 = λ a. map.get a.octets n ≡ map.get m n in
-      cond_both (is_receiving r.phase) (receives_data stored offset bytes m files r) (leaving m files r) Same
-      (λ _. cond_both (exceeds r.ending (offset + length bytes)) (faulted file_size_error m files r)
+      cond_both (is_receiving r.phase) (receives_data stored large offset bytes m files r) (leaving m files r) Same
+      (λ _. cond_both (exceeds large r.ending (offset + length bytes)) (faulted file_size_error m files r)
       (if set.is_subset (range offset (offset + length bytes)) r.held then completed stored m files r else receives_new stored offset bytes m files r) Same
       (λ _. refl)
       (λ _. cond_both (set.is_subset (range offset (offset + length bytes)) r.held) (completed stored m files r) (receives_new stored offset bytes m files r) Same
@@ -85,12 +86,12 @@ module _ (staged : StagedNew) (sets : SetsHold) (offset : ℕ) (bytes : List ℕ
       ap (λ h. set.contains h n) (completed-held Done r1.metadata r1.ending (staged_with m (new_pieces r.held offset bytes)) files r1 is)
   new-held Refused m files r is = no_more is
 
-  pub data-held : (stored : Stored) (m : OctetMap) (files : FileMap) (r : ReceiverState) → (hears_data stored offset bytes m files r).receiver.phase ≡ Receiving
-      → set.contains (hears_data stored offset bytes m files r).receiver.held n ≡ set.contains (set.union r.held (range offset (offset + length bytes))) n
-  data-held stored m files r =
+  pub data-held : (large : Bool) (stored : Stored) (m : OctetMap) (files : FileMap) (r : ReceiverState) → (hears_data stored large offset bytes m files r).receiver.phase ≡ Receiving
+      → set.contains (hears_data stored large offset bytes m files r).receiver.held n ≡ set.contains (set.union r.held (range offset (offset + length bytes))) n
+  data-held large stored m files r =
       let Holds : ReceiverAfter → Type 0 = λ a. a.receiver.phase ≡ Receiving → set.contains a.receiver.held n ≡ set.contains (set.union r.held (range offset (offset + length bytes))) n in
-      cond_both (is_receiving r.phase) (receives_data stored offset bytes m files r) (leaving m files r) Holds
-      (λ _. cond_both (exceeds r.ending (offset + length bytes)) (faulted file_size_error m files r)
+      cond_both (is_receiving r.phase) (receives_data stored large offset bytes m files r) (leaving m files r) Holds
+      (λ _. cond_both (exceeds large r.ending (offset + length bytes)) (faulted file_size_error m files r)
       (if set.is_subset (range offset (offset + length bytes)) r.held then completed stored m files r else receives_new stored offset bytes m files r) Holds
       (λ _ is. no_more is)
       (λ _. cond_both (set.is_subset (range offset (offset + length bytes)) r.held) (completed stored m files r) (receives_new stored offset bytes m files r) Holds
@@ -107,16 +108,16 @@ module _ (stored : Stored) (m : OctetMap) (files : FileMap) (r : ReceiverState) 
     pub octets : a.octets ≡ m
     pub held : a.receiver.phase ≡ Receiving → a.receiver.held ≡ r.held
 
-  hears-leaves : (v : Content) → is_file_data v ≡ false → Leaves (receiver_step stored (Hears v) m files r)
-  hears-leaves (Metadata checksum_kind size source destination options) other = record { octets = search rules; held = search rules }
-  hears-leaves (FileData offset bytes) other = absurd (false≢true (sym other))
-  hears-leaves (Eof condition checksum size tlvs) other = record { octets = search rules; held = search rules }
-  hears-leaves (Ack acknowledged.Finished condition status) other = record { octets = refl; held = search rules }
-  hears-leaves (Ack acknowledged.Eof condition status) other = record { octets = refl; held = λ _. refl }
-  hears-leaves (Prompt keep_alive) other = record { octets = refl; held = search rules }
-  hears-leaves (Finished condition delivery status tlvs) other = record { octets = refl; held = λ _. refl }
-  hears-leaves (Nak start end pairs) other = record { octets = refl; held = λ _. refl }
-  hears-leaves (KeepAlive progress) other = record { octets = refl; held = λ _. refl }
+  hears-leaves : (large : Bool) (v : Content) → is_file_data v ≡ false → Leaves (receiver_step stored (Hears large v) m files r)
+  hears-leaves large (Metadata checksum_kind size source destination options) other = record { octets = search rules; held = search rules }
+  hears-leaves large (FileData offset bytes) other = absurd (false≢true (sym other))
+  hears-leaves large (Eof condition checksum size tlvs) other = record { octets = search rules; held = search rules }
+  hears-leaves large (Ack acknowledged.Finished condition status) other = record { octets = refl; held = search rules }
+  hears-leaves large (Ack acknowledged.Eof condition status) other = record { octets = refl; held = λ _. refl }
+  hears-leaves large (Prompt keep_alive) other = record { octets = refl; held = search rules }
+  hears-leaves large (Finished condition delivery status tlvs) other = record { octets = refl; held = λ _. refl }
+  hears-leaves large (Nak start end pairs) other = record { octets = refl; held = λ _. refl }
+  hears-leaves large (KeepAlive progress) other = record { octets = refl; held = λ _. refl }
 
   expires-leaves : (k : Kind) (policy : Policy) → Leaves (receiver_step stored (Expires k policy) m files r)
   expires-leaves k policy = record { octets = search rules; held = search rules }
@@ -142,17 +143,18 @@ module _ (staged : StagedNew) (sets : SetsHold) (stored : Stored) (m : OctetMap)
   held_leaves a l is = ap (λ h. set.contains h n) (l.held is)
 
   pub step-octets : (input : ReceiverInput) → set.contains r.held n ≡ true → map.get (receiver_step stored input m files r).octets n ≡ map.get m n
-  step-octets (Hears (FileData offset bytes)) was = data-octets staged sets offset bytes n stored m files r was
-  step-octets (Hears (Metadata checksum_kind size source destination options)) was =
-      from_leaves (receiver_step stored (Hears (Metadata checksum_kind size source destination options)) m files r)
-      (hears-leaves stored m files r (Metadata checksum_kind size source destination options) refl)
-  step-octets (Hears (Eof condition checksum size tlvs)) was = from_leaves (receiver_step stored (Hears (Eof condition checksum size tlvs)) m files r)
-      (hears-leaves stored m files r (Eof condition checksum size tlvs) refl)
-  step-octets (Hears (Ack of condition status)) was = from_leaves (receiver_step stored (Hears (Ack of condition status)) m files r) (hears-leaves stored m files r (Ack of condition status) refl)
-  step-octets (Hears (Prompt keep_alive)) was = refl
-  step-octets (Hears (Finished condition delivery status tlvs)) was = refl
-  step-octets (Hears (Nak start end pairs)) was = refl
-  step-octets (Hears (KeepAlive progress)) was = refl
+  step-octets (Hears large (FileData offset bytes)) was = data-octets staged sets offset bytes n large stored m files (flagged large r) was
+  step-octets (Hears large (Metadata checksum_kind size source destination options)) was =
+      from_leaves (receiver_step stored (Hears large (Metadata checksum_kind size source destination options)) m files r)
+      (hears-leaves stored m files r large (Metadata checksum_kind size source destination options) refl)
+  step-octets (Hears large (Eof condition checksum size tlvs)) was = from_leaves (receiver_step stored (Hears large (Eof condition checksum size tlvs)) m files r)
+      (hears-leaves stored m files r large (Eof condition checksum size tlvs) refl)
+  step-octets (Hears large (Ack of condition status)) was = from_leaves (receiver_step stored (Hears large (Ack of condition status)) m files r) (hears-leaves stored m files r large
+      (Ack of condition status) refl)
+  step-octets (Hears large (Prompt keep_alive)) was = refl
+  step-octets (Hears large (Finished condition delivery status tlvs)) was = refl
+  step-octets (Hears large (Nak start end pairs)) was = refl
+  step-octets (Hears large (KeepAlive progress)) was = refl
   step-octets (Takes d) was = refl
   step-octets (Expires k policy) was = from_leaves (receiver_step stored (Expires k policy) m files r) (expires-leaves stored m files r k policy)
   step-octets Cancels was = from_leaves (receiver_step stored Cancels m files r) (cancels-leaves stored m files r)
@@ -161,17 +163,18 @@ module _ (staged : StagedNew) (sets : SetsHold) (stored : Stored) (m : OctetMap)
 
   pub step-held : (input : ReceiverInput) → (receiver_step stored input m files r).receiver.phase ≡ Receiving → set.contains (receiver_step stored input m files r).receiver.held n
       ≡ set.contains (held_after input r.held) n
-  step-held (Hears (FileData offset bytes)) = data-held staged sets offset bytes n stored m files r
-  step-held (Hears (Metadata checksum_kind size source destination options)) =
-      held_leaves (receiver_step stored (Hears (Metadata checksum_kind size source destination options)) m files r)
-      (hears-leaves stored m files r (Metadata checksum_kind size source destination options) refl)
-  step-held (Hears (Eof condition checksum size tlvs)) = held_leaves (receiver_step stored (Hears (Eof condition checksum size tlvs)) m files r)
-      (hears-leaves stored m files r (Eof condition checksum size tlvs) refl)
-  step-held (Hears (Ack of condition status)) = held_leaves (receiver_step stored (Hears (Ack of condition status)) m files r) (hears-leaves stored m files r (Ack of condition status) refl)
-  step-held (Hears (Prompt keep_alive)) = held_leaves (receiver_step stored (Hears (Prompt keep_alive)) m files r) (hears-leaves stored m files r (Prompt keep_alive) refl)
-  step-held (Hears (Finished condition delivery status tlvs)) = λ _. refl
-  step-held (Hears (Nak start end pairs)) = λ _. refl
-  step-held (Hears (KeepAlive progress)) = λ _. refl
+  step-held (Hears large (FileData offset bytes)) = data-held staged sets offset bytes n large stored m files (flagged large r)
+  step-held (Hears large (Metadata checksum_kind size source destination options)) =
+      held_leaves (receiver_step stored (Hears large (Metadata checksum_kind size source destination options)) m files r)
+      (hears-leaves stored m files r large (Metadata checksum_kind size source destination options) refl)
+  step-held (Hears large (Eof condition checksum size tlvs)) = held_leaves (receiver_step stored (Hears large (Eof condition checksum size tlvs)) m files r)
+      (hears-leaves stored m files r large (Eof condition checksum size tlvs) refl)
+  step-held (Hears large (Ack of condition status)) = held_leaves (receiver_step stored (Hears large (Ack of condition status)) m files r) (hears-leaves stored m files r large
+      (Ack of condition status) refl)
+  step-held (Hears large (Prompt keep_alive)) = held_leaves (receiver_step stored (Hears large (Prompt keep_alive)) m files r) (hears-leaves stored m files r large (Prompt keep_alive) refl)
+  step-held (Hears large (Finished condition delivery status tlvs)) = λ _. refl
+  step-held (Hears large (Nak start end pairs)) = λ _. refl
+  step-held (Hears large (KeepAlive progress)) = λ _. refl
   step-held (Takes d) = held_leaves (receiver_step stored (Takes d) m files r) (takes-leaves stored m files r d)
   step-held (Expires k policy) = held_leaves (receiver_step stored (Expires k policy) m files r) (expires-leaves stored m files r k policy)
   step-held Cancels = held_leaves (receiver_step stored Cancels m files r) (cancels-leaves stored m files r)

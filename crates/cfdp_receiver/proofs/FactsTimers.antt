@@ -76,24 +76,25 @@ module _ (law : AreWaitedFor) (times : Times) (anew : Option Kind) (r : Receiver
       ∙ ap (λ b. if b then deadline_by timers.time (wait_for (waits_of times anew r) k) (deadline_of timers id k) else deadline_of timers id k) other
 
 -- ---- a receiver that was just opened
-pub none_refused : (files : FileMap) (addressing : Addressing) (k : Kind) → waits k (opens Refused files addressing).receiver ≡ false
-none_refused files addressing kind.EofAck = refl
-none_refused files addressing kind.Nak = refl
-none_refused files addressing kind.FinishedAck = refl
-none_refused files addressing kind.Inactivity = refl
+pub none_refused : (large : Bool) (files : FileMap) (addressing : Addressing) (k : Kind) → waits k (opens Refused large files addressing).receiver ≡ false
+none_refused large files addressing kind.EofAck = refl
+none_refused large files addressing kind.Nak = refl
+none_refused large files addressing kind.FinishedAck = refl
+none_refused large files addressing kind.Inactivity = refl
 
-pub none_closed : (condition : ℕ) (addressing : Addressing) (k : Kind) → waits k (opened_closed condition addressing) ≡ false
-none_closed condition addressing kind.EofAck = refl
-none_closed condition addressing kind.Nak = refl
-none_closed condition addressing kind.FinishedAck = refl
-none_closed condition addressing kind.Inactivity = refl
+pub none_closed : (large : Bool) (condition : ℕ) (addressing : Addressing) (k : Kind) → waits k (opened_closed large condition addressing) ≡ false
+none_closed large condition addressing kind.EofAck = refl
+none_closed large condition addressing kind.Nak = refl
+none_closed large condition addressing kind.FinishedAck = refl
+none_closed large condition addressing kind.Inactivity = refl
 
 -- no step changes the transaction
 abbrev pub KeepsAddressing : Type 0
 KeepsAddressing = (stored : Stored) (input : ReceiverInput) (m : OctetMap) (files : FileMap) (r : ReceiverState) → (receiver_step stored input m files r).receiver.addressing ≡ r.addressing
 
-own_id : KeepsAddressing → (stored : Stored) (v : Content) (files : FileMap) (addressing : Addressing) → (opens_hearing Done stored v files addressing).receiver.addressing.id ≡ addressing.id
-own_id keeps stored v files addressing = ap (λ (a : Addressing). a.id) (keeps stored (Hears v) map.empty files (opened_receiver addressing))
+own_id : KeepsAddressing → (stored : Stored) (large : Bool) (v : Content) (files : FileMap) (addressing : Addressing) →
+    (opens_hearing Done stored large v files addressing).receiver.addressing.id ≡ addressing.id
+own_id keeps stored large v files addressing = ap (λ (a : Addressing). a.id) (keeps stored (Hears large v) map.empty files (opened_receiver addressing))
 
 abbrev pub OwnArmed : Type 0
 OwnArmed = (times : Times) (anew : Option Kind) (r : ReceiverState) (timers : TimersState) (k : Kind) → waits k r ≡ true → IsSome (deadline_of (timers_set times anew r timers) r.addressing.id k)
@@ -105,27 +106,28 @@ abbrev pub OthersKept : Type 0
 OthersKept = (times : Times) (anew : Option Kind) (r : ReceiverState) (timers : TimersState) (id : TransactionId) (k : Kind) → same_id r.addressing.id id ≡ false →
     deadline_of (timers_set times anew r timers) id k ≡ deadline_of timers id k
 
-pub opened-armed : OwnArmed → KeepsAddressing → (times : Times) (begun stored : Stored) (v : Content) (files : FileMap) (addressing : Addressing) (timers : TimersState) (k : Kind)
-    → waits k (opens_hearing begun stored v files addressing).receiver ≡ true
-    → IsSome (deadline_of (timers_opened times begun (opens_hearing begun stored v files addressing) timers) addressing.id k)
-opened-armed law keeps times Done stored v files addressing timers k h =
-    let a : ReceiverAfter = opens_hearing Done stored v files addressing in
-    subst (λ id. IsSome (deadline_of (timers_set times a.anew a.receiver timers) id k)) (own_id keeps stored v files addressing) (law times a.anew a.receiver timers k h)
-opened-armed law keeps times Refused stored v files addressing timers k h = absurd (false≢true (sym (none_refused files addressing k) ∙ h))
+pub opened-armed : OwnArmed → KeepsAddressing → (times : Times) (begun stored : Stored) (large : Bool) (v : Content) (files : FileMap) (addressing : Addressing) (timers : TimersState) (k : Kind)
+    → waits k (opens_hearing begun stored large v files addressing).receiver ≡ true
+    → IsSome (deadline_of (timers_opened times begun (opens_hearing begun stored large v files addressing) timers) addressing.id k)
+opened-armed law keeps times Done stored large v files addressing timers k h =
+    let a : ReceiverAfter = opens_hearing Done stored large v files addressing in
+    subst (λ id. IsSome (deadline_of (timers_set times a.anew a.receiver timers) id k)) (own_id keeps stored large v files addressing) (law times a.anew a.receiver timers k h)
+opened-armed law keeps times Refused stored large v files addressing timers k h = absurd (false≢true (sym (none_refused large files addressing k) ∙ h))
 
-pub opened-clear : OwnClear → KeepsAddressing → (times : Times) (begun stored : Stored) (v : Content) (files : FileMap) (addressing : Addressing) (timers : TimersState) (k : Kind)
-    → deadline_of timers addressing.id k ≡ None → waits k (opens_hearing begun stored v files addressing).receiver ≡ false
-    → deadline_of (timers_opened times begun (opens_hearing begun stored v files addressing) timers) addressing.id k ≡ None
-opened-clear law keeps times Done stored v files addressing timers k none h =
-    let a : ReceiverAfter = opens_hearing Done stored v files addressing in
-    subst (λ id. deadline_of (timers_set times a.anew a.receiver timers) id k ≡ None) (own_id keeps stored v files addressing) (law times a.anew a.receiver timers k h)
-opened-clear law keeps times Refused stored v files addressing timers k none h = none
+pub opened-clear : OwnClear → KeepsAddressing → (times : Times) (begun stored : Stored) (large : Bool) (v : Content) (files : FileMap) (addressing : Addressing) (timers : TimersState) (k : Kind)
+    → deadline_of timers addressing.id k ≡ None → waits k (opens_hearing begun stored large v files addressing).receiver ≡ false
+    → deadline_of (timers_opened times begun (opens_hearing begun stored large v files addressing) timers) addressing.id k ≡ None
+opened-clear law keeps times Done stored large v files addressing timers k none h =
+    let a : ReceiverAfter = opens_hearing Done stored large v files addressing in
+    subst (λ id. deadline_of (timers_set times a.anew a.receiver timers) id k ≡ None) (own_id keeps stored large v files addressing) (law times a.anew a.receiver timers k h)
+opened-clear law keeps times Refused stored large v files addressing timers k none h = none
 
-pub opened-others : OthersKept → KeepsAddressing → (times : Times) (begun stored : Stored) (v : Content) (files : FileMap) (addressing : Addressing) (timers : TimersState) (id : TransactionId)
+pub opened-others : OthersKept → KeepsAddressing →
+    (times : Times) (begun stored : Stored) (large : Bool) (v : Content) (files : FileMap) (addressing : Addressing) (timers : TimersState) (id : TransactionId)
     (k : Kind)
     → same_id addressing.id id ≡ false
-    → deadline_of (timers_opened times begun (opens_hearing begun stored v files addressing) timers) id k ≡ deadline_of timers id k
-opened-others law keeps times Done stored v files addressing timers id k other =
-    let a : ReceiverAfter = opens_hearing Done stored v files addressing in
-    law times a.anew a.receiver timers id k (ap (λ (own : TransactionId). same_id own id) (own_id keeps stored v files addressing) ∙ other)
-opened-others law keeps times Refused stored v files addressing timers id k other = refl
+    → deadline_of (timers_opened times begun (opens_hearing begun stored large v files addressing) timers) id k ≡ deadline_of timers id k
+opened-others law keeps times Done stored large v files addressing timers id k other =
+    let a : ReceiverAfter = opens_hearing Done stored large v files addressing in
+    law times a.anew a.receiver timers id k (ap (λ (own : TransactionId). same_id own id) (own_id keeps stored large v files addressing) ∙ other)
+opened-others law keeps times Refused stored large v files addressing timers id k other = refl

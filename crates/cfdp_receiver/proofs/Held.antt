@@ -1,16 +1,21 @@
 -- Offsets that are held: of ranges, of unions, and none.
-use Rattle.std.proofs.Common.{◌≡◌, ℕ, zero, suc, ◌+◌, ◌-◌, ◌<◌, ◌≤◌, Bool, true, false, not, ◌||◌, ◌&&◌, List, ◌∷◌, sym, ap, ◌∙◌, arith, ◌⊎◌, inl, inr, eqb}
+use Rattle.std.proofs.Common.{◌≡◌, ℕ, zero, suc, ◌+◌, ◌-◌, ◌<◌, ◌≤◌, Bool, true, false, not, ◌||◌, ◌&&◌, List, ◌∷◌, Option, Some, None, IfSome, sym, ap, ◌∙◌, arith, ◌⊎◌, inl, inr, eqb}
 use Rattle.std.specs.FinSet as set
 use Rattle.std.specs.Ordering.{nat_cmp}
 use Rattle.std.specs.Cmp.{nat_cmp_total, unsigned_tied}
 use Rattle.std.proofs.lemmas.Bool.{cases_lt, leb-true, ltb-true, le-leb, lt-ltb, and_parts, and_from}
 use Rattle.std.proofs.lemmas.Bool.Decides.{nat_tests}
+use Rattle.cfdp_directives.specs.declared.pdu.addressing.Addressing.{Addressing}
+use Rattle.cfdp_directives.specs.Pdu.Codes.{size_limit}
+use Rattle.cfdp_directives.proofs.FileSizes.{limit_old}
 use Rattle.cfdp_extents.specs.Offsets.{Offsets, is_within, offsets_from, range, union_of, missing_from}
-use Rattle.cfdp_receiver.specs.State.{size_limit}
+use Rattle.cfdp_receiver.specs.declared.state.Ending.{Ending}
+use Rattle.cfdp_receiver.specs.declared.state.ReceiverPhase.{ReceiverPhase}
+use Rattle.cfdp_receiver.specs.State.{IsReceiver}
 
-pub none_held : (held : Offsets) (n : ℕ) → held ≡ set.empty → set.contains held n ≡ true →
-    n < size_limit
-none_held held n none is =
+pub none_held : (large : Bool) (held : Offsets) (n : ℕ) → held ≡ set.empty → set.contains held n ≡ true →
+    n < size_limit large
+none_held large held n none is =
     let not_so : false ≡ true =
     sym (ap (λ (s : Offsets). set.contains s n) none ∙ set.contains-empty nat_cmp n) ∙ is in cc
 
@@ -63,10 +68,10 @@ held_with held s e n is =
     ]
 
 -- so none is beyond the greatest size, where the range isn't
-pub held_below_with : (held all : Offsets) (s e n : ℕ) → all ≡ set.union held (range s e) →
-    ((k : ℕ) → set.contains held k ≡ true → k < size_limit) → e ≤ size_limit →
-    set.contains all n ≡ true → n < size_limit
-held_below_with held all s e n is old high h =
+pub held_below_with : (most : ℕ) (held all : Offsets) (s e n : ℕ) → all ≡ set.union held (range s e) →
+    ((k : ℕ) → set.contains held k ≡ true → k < most) → e ≤ most →
+    set.contains all n ≡ true → n < most
+held_below_with most held all s e n is old high h =
     elim (held_with held s e n (sym (ap (λ (o : Offsets). set.contains o n) is) ∙ h)) [
       | inl k ↦ old n k
       | inr k ↦ omega arith
@@ -88,9 +93,24 @@ contains-missing held s e n =
     ∙ ap (λ b. b && not (set.contains held n)) (contains-range s e n)
 
 -- the end of what is held isn't beyond the greatest size
-pub end_below : (held : Offsets) (end : ℕ) → (0 < end → set.contains held (end - 1) ≡ true) →
-    ((n : ℕ) → set.contains held n ≡ true → n < size_limit) → end ≤ size_limit
-end_below held end last below = elim (cases_lt 0 end) [
-  | inl some ↦ (let low : end - 1 < size_limit = below (end - 1) (last some) in omega arith)
+pub end_below : (large : Bool) (held : Offsets) (end : ℕ) → (0 < end → set.contains held (end - 1) ≡ true) →
+    ((n : ℕ) → set.contains held n ≡ true → n < size_limit large) → end ≤ size_limit large
+end_below large held end last below = elim (cases_lt 0 end) [
+  | inl some ↦ (let low : end - 1 < size_limit large = below (end - 1) (last some) in omega arith)
   | inr none ↦ omega arith
 ]
+
+-- a flag that is added lowers no limit
+pub limits_raised : (phase : ReceiverPhase) (suspended : Bool) (ending : Option Ending) (held : Offsets) (cursor : Option ℕ) (addressing : Addressing) (old new : Bool) →
+    IsReceiver addressing old phase suspended ending held cursor → IsReceiver addressing (old || new) phase suspended ending held cursor
+limits_raised phase suspended ending held cursor addressing old new r = record {
+  addressing_fits = r.addressing_fits;
+  suspended_receives = r.suspended_receives;
+  held_below = λ n h. (let low : n < size_limit old = r.held_below n h in omega (arith, low, limit_old old new));
+  size_below = λ is. at_most ending (λ (e : Ending). e.size) (r.size_below is);
+  cursor_below = at_most cursor (λ n. n) r.cursor_below;
+}
+  where
+    at_most : {X : Type 0} (o : Option X) (value : X → ℕ) → IfSome o (λ x. value x ≤ size_limit old) → IfSome o (λ x. value x ≤ size_limit (old || new))
+    at_most None value h = tt
+    at_most (Some x) value h = omega (arith, h, limit_old old new)

@@ -14,6 +14,7 @@ use Rattle.cfdp_directives.specs.declared.user.handler.Handler.{Handler}
 use Rattle.cfdp_directives.specs.declared.user.handler.Handler.TheVariants as handler
 use Rattle.cfdp_directives.specs.declared.user.indication.Indication.TheVariants as indication
 use Rattle.cfdp_directives.specs.declared.user.policy.Policy.{Policy}
+use Rattle.cfdp_directives.specs.Pdu.Codes.{size_limit}
 use Rattle.cfdp_directives.specs.Pdu.Content.{Nak, Ack, Finished}
 use Rattle.cfdp_directives.specs.User.Policy.{default_policy}
 use Rattle.cfdp_directives.specs.Pdu.Tlv.{fault_location}
@@ -157,7 +158,7 @@ unsupported m files = refl
 
 -- file data behind the EOF's size
 behind_the_end : (m : OctetMap) (files : FileMap) →
-    (hears_data Done 4 (1 ∷ 2 ∷ []) m files (record x { ending = Some five })).told
+    (hears_data Done false 4 (1 ∷ 2 ∷ []) m files (record x { ending = Some five })).told
     ≡ indication.Fault a.id 6 ∷ indication.Finished a.id 6 Incomplete Discarded ∷ []
 behind_the_end m files = refl
 
@@ -195,18 +196,18 @@ too_early m files = refl
 
 -- ---- an EOF after the close
 eof_after_close : (m : OctetMap) (files : FileMap) →
-    receiver_due (hears_eof Done 0 0 5 m files (closed sent_twice_more)).receiver
+    receiver_due (hears_eof Done false 0 0 5 m files (closed sent_twice_more)).receiver
     ≡ Some (due.AckOfEof 0)
 eof_after_close m files = refl
 
 ack_after_close : receiver_says (closed x) (due.AckOfEof 0) ≡ Ack acknowledged.Eof 0 Terminated
 ack_after_close = refl
 
-opened_by_a_cancel : receiver_due (opened_closed 15 a) ≡ Some (due.AckOfEof 15)
+opened_by_a_cancel : receiver_due (opened_closed false 15 a) ≡ Some (due.AckOfEof 15)
 opened_by_a_cancel = refl
 
 cancelled_by_its_sender : (m : OctetMap) (files : FileMap) →
-    (hears_eof Done 15 0 4 m files x).told ≡ indication.Finished a.id 15 Incomplete Discarded ∷ []
+    (hears_eof Done false 15 0 4 m files x).told ≡ indication.Finished a.id 15 Incomplete Discarded ∷ []
 cancelled_by_its_sender m files = refl
 
 -- ---- faults that have handlers
@@ -274,15 +275,36 @@ cancel_says = refl
 -- ---- sizes that don't fit
 -- an EOF whose size is before the end of what is held
 smaller_size : (held : Offsets) (m : OctetMap) (files : FileMap) → end_of held ≡ 7 →
-    (hears_eof Done 0 0 5 m files (record x { held = held })).told
+    (hears_eof Done false 0 0 5 m files (record x { held = held })).told
     ≡ indication.EofRecv a.id ∷ indication.Fault a.id 6 ∷ indication.Finished a.id 6 Incomplete Discarded ∷ []
 smaller_size held m files seven = rw seven refl
 
 -- file data behind the greatest size there is
 behind_all : (m : OctetMap) (files : FileMap) →
-    (hears_data Done 4294967295 (1 ∷ []) m files x).told
+    (hears_data Done false 4294967295 (1 ∷ []) m files x).told
     ≡ indication.Fault a.id 6 ∷ indication.Finished a.id 6 Incomplete Discarded ∷ []
+unfolding size_limit
 behind_all m files = refl
+
+-- the same with the large file flag, from the greatest offset that a field holds, and from 2^48
+behind_all_large : (m : OctetMap) (files : FileMap) →
+    (hears_data Done true 18446744073709551615 (1 ∷ []) m files x).told
+    ≡ indication.Fault a.id 6 ∷ indication.Finished a.id 6 Incomplete Discarded ∷ []
+unfolding size_limit
+behind_all_large m files = refl
+
+behind_2_48 : (m : OctetMap) (files : FileMap) →
+    (hears_data Done true 281474976710656 (1 ∷ []) m files x).told
+    ≡ indication.Fault a.id 6 ∷ indication.Finished a.id 6 Incomplete Discarded ∷ []
+unfolding size_limit
+behind_2_48 m files = refl
+
+-- and an EOF of one octet more than 2^48
+too_large : (held : Offsets) (m : OctetMap) (files : FileMap) → end_of held ≡ 7 →
+    (hears_eof Done true 0 0 281474976710657 m files (record x { held = held })).told
+    ≡ indication.EofRecv a.id ∷ indication.Fault a.id 6 ∷ indication.Finished a.id 6 Incomplete Discarded ∷ []
+unfolding size_limit
+too_large held m files seven = rw seven refl
 
 -- ---- forty gaps in 8,100 octets
 abbrev gapped : Offsets → ReceiverState
@@ -305,6 +327,6 @@ gapped_next held gaps = rw gaps refl
 
 -- ---- an inbox that can't begin
 not_begun : (files : FileMap) →
-    (opens Refused files a).told
+    (opens Refused false files a).told
     ≡ indication.Fault a.id 4 ∷ indication.Finished a.id 4 Incomplete Rejected ∷ []
 not_begun files = refl

@@ -12,7 +12,7 @@ use Rattle.cfdp_directives.specs.declared.user.handler.Handler.TheVariants.{Canc
 use Rattle.cfdp_directives.specs.declared.user.indication.Indication.{Indication}
 use Rattle.cfdp_directives.specs.declared.user.indication.Indication.TheVariants as indication
 use Rattle.cfdp_directives.specs.declared.user.policy.Policy.{Policy}
-use Rattle.cfdp_directives.specs.Pdu.Codes.{no_error, positive_ack_limit, filestore_rejection, file_size_error, nak_limit, inactivity, unsupported_checksum_type, suspend_request, cancel_request}
+use Rattle.cfdp_directives.specs.Pdu.Codes.{size_limit, no_error, positive_ack_limit, filestore_rejection, file_size_error, nak_limit, inactivity, unsupported_checksum_type, suspend_request, cancel_request}
 use Rattle.cfdp_directives.specs.User.Completions.{completions}
 use Rattle.cfdp_directives.specs.Pdu.Content.{Content, FileData, Metadata, Eof, Finished, Ack, Nak, Prompt, KeepAlive}
 use Rattle.cfdp_directives.specs.User.Policy.{another_try, fault_told}
@@ -30,11 +30,11 @@ use Rattle.cfdp_receiver.specs.declared.due.Due.TheVariants as due
 use Rattle.cfdp_receiver.specs.declared.state.ReceiverPhase.TheVariants.{Receiving, Finishing, Closed}
 use Rattle.cfdp_receiver.specs.declared.state.FileInfo.{FileInfo}
 use Rattle.cfdp_receiver.specs.declared.state.Ending.{Ending}
-use Rattle.cfdp_receiver.specs.State.{ReceiverState, is_receiving, is_finishing, size_limit}
+use Rattle.cfdp_receiver.specs.State.{ReceiverState, flagged, is_receiving, is_finishing}
 use Rattle.cfdp_receiver.specs.Due.{receiver_taken}
 use Rattle.cfdp_receiver.specs.Pieces.{new_pieces, staged_with, sum_with}
 use Rattle.cfdp_receiver.specs.Steps.{ReceiverAfter, leaving, telling, closed, ends, failed, faulted, completed, is_supported, receives_metadata, exceeds, with_data, receives_new, receives_data, first_eof, cancelled_by, receives_eof, heard, acknowledged_by, prompted_for, takes, waits, handled, asking_again, nak_expires, finished_expires, expires_by, tidying, anew_once_expired}
-use Rattle.cfdp_receiver.specs.Sound.{ReceiverInput, Hears, Takes, Expires, Cancels, Suspends, Resumes, receiver_hears, receiver_step, IsEndOf, HoldsOctet, Sound, IsAmong, IsTrueInput, BeginsWithin, is_file_fault, IsReceivable}
+use Rattle.cfdp_receiver.specs.Sound.{ReceiverInput, Hears, Takes, Expires, Cancels, Suspends, Resumes, receiver_hears, receiver_step, IsEndOf, HoldsOctet, Sound, IsAmong, IsTrueInput, BeginsWithin, is_file_fault, IsReceivable, hears_content}
 use Rattle.cfdp_receiver.proofs.Facts.{is_receiving-is}
 use Rattle.cfdp_receiver.proofs.Sums.{sum-with}
 use Rattle.cfdp_receiver.proofs.SoundSteps.{data-is, LowerLaws, After, Known, over, keeps, faults, telling-first, timed, completes, itself}
@@ -93,28 +93,27 @@ module _ (laws : LowerLaws) (put : Put) (pdus : List (List ℕ)) (fits : Type 0)
             }
       ]
 
-  no-excess : (offset : ℕ) (bytes : List ℕ) → IsReceivable put → offset ≤ length put.octets → IsTruthful put (FileData offset bytes) → (ending : Option Ending) → IfSome ending (IsEndOf put pdus) →
-      exceeds ending (offset + length bytes) ≡ false
-  no-excess offset bytes f low truth (Some ending) e =
+  no-excess : (large : Bool) (offset : ℕ) (bytes : List ℕ) → length put.octets ≤ size_limit large → offset ≤ length put.octets → IsTruthful put (FileData offset bytes) → (ending : Option Ending) →
+      IfSome ending (IsEndOf put pdus) → exceeds large ending (offset + length bytes) ≡ false
+  no-excess large offset bytes most low truth (Some ending) e =
       let end : ℕ = offset + length bytes in
       let within : end ≤ length put.octets = omega (arith, low, ap length truth, length-take (length bytes) (drop offset put.octets), length-drop offset put.octets) in
       let size : ending.size ≡ length put.octets = e.1 in
-      let most : length put.octets ≤ size_limit = f.size in
-      or_from (nat_lt ending.size end) (nat_lt size_limit end) (le-ltb ending.size end (omega (arith, within, size))) (le-ltb size_limit end (omega (arith, within, most)))
-  no-excess offset bytes f low truth None e =
+      or_from (nat_lt ending.size end) (nat_lt (size_limit large) end) (le-ltb ending.size end (omega (arith, within, size))) (le-ltb (size_limit large) end (omega (arith, within, most)))
+  no-excess large offset bytes most low truth None e =
       let end : ℕ = offset + length bytes in
       let within : end ≤ length put.octets = omega (arith, low, ap length truth, length-take (length bytes) (drop offset put.octets), length-drop offset put.octets) in
-      let most : length put.octets ≤ size_limit = f.size in
-      le-ltb size_limit end (omega (arith, within, most))
+      le-ltb (size_limit large) end (omega (arith, within, most))
 
-  data-true : (stored : Stored) (offset : ℕ) (bytes : List ℕ) → r.phase ≡ Receiving → IsTruthful put (FileData offset bytes) → IsAmong put pdus (FileData offset bytes) →
-      (fits → offset ≤ length put.octets)
-      → To (receives_data stored offset bytes m files r)
-  data-true stored offset bytes is truth among begins =
+  data-true : (stored : Stored) (large : Bool) (offset : ℕ) (bytes : List ℕ) → r.phase ≡ Receiving → IsTruthful put (FileData offset bytes) → IsAmong put pdus (FileData offset bytes) →
+      (fits → (offset ≤ length put.octets) × (length put.octets ≤ size_limit large))
+      → To (receives_data stored large offset bytes m files r)
+  data-true stored large offset bytes is truth among begins =
       let end : ℕ = offset + length bytes in
-      cond_both (exceeds r.ending end) (faulted file_size_error m files r)
+      cond_both (exceeds large r.ending end) (faulted file_size_error m files r)
       (if set.is_subset (range offset end) r.held then completed stored m files r else receives_new stored offset bytes m files r) To
-      (λ far. faults laws put pdus fits files file_size_error m r known (λ f. absurd (both_ways (exceeds r.ending end) (no-excess offset bytes (receivable f) (begins f) truth r.ending s.end) far)))
+      (λ far. faults laws put pdus fits files file_size_error m r known (λ f. absurd (both_ways (exceeds large r.ending end) (no-excess large offset bytes (begins f).1
+      (begins f).0 truth r.ending s.end) far)))
       (λ _. cond_both (set.is_subset (range offset end) r.held) (completed stored m files r) (receives_new stored offset bytes m files r) To
       (λ _. completes laws put pdus fits files m r is s stored)
       (λ _. new stored))
@@ -160,34 +159,33 @@ module _ (laws : LowerLaws) (put : Put) (pdus : List (List ℕ)) (fits : Type 0)
     | inr none ↦ omega arith
   ]
 
-  eof-true : (stored : Stored) (condition checksum size : ℕ) (tlvs : List Tlv) → r.phase ≡ Receiving → IsTruthful put (Eof condition checksum size tlvs) →
-      IsAmong put pdus (Eof condition checksum size tlvs)
-      → To (receives_eof stored condition checksum size m files r)
-  eof-true stored condition checksum size tlvs is truth among =
+  eof-true : (stored : Stored) (large : Bool) (condition checksum size : ℕ) (tlvs : List Tlv) → r.phase ≡ Receiving → IsTruthful put (Eof condition checksum size tlvs) →
+      IsAmong put pdus (Eof condition checksum size tlvs) → (fits → length put.octets ≤ size_limit large)
+      → To (receives_eof stored large condition checksum size m files r)
+  eof-true stored large condition checksum size tlvs is truth among begins =
       let again : ReceiverAfter = leaving m files (record r { ack_due = Some no_error; nak_cursor = Some 0 }) in
       let i : Indication = indication.EofRecv r.addressing.id in
       let ending : Ending = record { checksum = checksum; size = size } in
       let r1 : ReceiverState = record r { ending = Some ending; ack_due = Some no_error; nak_cursor = Some 0 } in
-      let tested : ReceiverAfter = if nat_lt size (end_of r.held) || nat_lt size_limit size then faulted file_size_error m files r1 else completed stored m files r1 in
-      cond_both (not (condition == no_error)) (cancelled_by condition m files r) (if is_none r.ending then first_eof stored checksum size m files r else again) To
+      let tested : ReceiverAfter = if nat_lt size (end_of r.held) || nat_lt (size_limit large) size then faulted file_size_error m files r1 else completed stored m files r1 in
+      cond_both (not (condition == no_error)) (cancelled_by condition m files r) (if is_none r.ending then first_eof stored large checksum size m files r else again) To
       (λ _. keeps laws put pdus fits files r.addressing.id (cancelled_by condition m files r) (over laws put pdus fits files Closed r.metadata r.ending set.empty 0 m refl s.name s.end) refl
       (λ own. refl) refl)
       (λ fine.
       let clean : condition ≡ no_error = eqb-true condition no_error (not_false (condition == no_error) fine) in
       let t = truth clean in
       let s1 : Sound put pdus r1 m = record { name = s.name; end = (t.0, t.1, among clean); octets = s.octets; sum = s.sum } in
-      cond_both (is_none r.ending) (first_eof stored checksum size m files r) again To
+      cond_both (is_none r.ending) (first_eof stored large checksum size m files r) again To
       (λ _. telling-first laws put pdus fits files i r.addressing.id tested (λ own. refl) refl
-      (cond_both (nat_lt size (end_of r.held) || nat_lt size_limit size) (faulted file_size_error m files r1) (completed stored m files r1) To
+      (cond_both (nat_lt size (end_of r.held) || nat_lt (size_limit large) size) (faulted file_size_error m files r1) (completed stored m files r1) To
       (λ far. faults laws put pdus fits files file_size_error m r1 (s1.name, s1.end)
-      (λ f. absurd (both_ways (nat_lt size (end_of r.held) || nat_lt size_limit size) (not-far is size t.1 (receivable f)) far)))
+      (λ f. absurd (both_ways (nat_lt size (end_of r.held) || nat_lt (size_limit large) size) (not-far is size t.1 (begins f)) far)))
       (λ _. completes laws put pdus fits files m r1 is s1 stored)))
       (λ _. keeps laws put pdus fits files r.addressing.id again s refl (λ own. refl) refl))
     where
-      not-far : r.phase ≡ Receiving → (size : ℕ) → size ≡ length put.octets → IsReceivable put → (nat_lt size (end_of r.held) || nat_lt size_limit size) ≡ false
-      not-far is size same f =
-          let most : length put.octets ≤ size_limit = f.size in
-          or_from (nat_lt size (end_of r.held)) (nat_lt size_limit size) (le-ltb size (end_of r.held) (end-within is size same)) (le-ltb size_limit size (omega (arith, most, same)))
+      not-far : r.phase ≡ Receiving → (size : ℕ) → size ≡ length put.octets → length put.octets ≤ size_limit large → (nat_lt size (end_of r.held) || nat_lt (size_limit large) size) ≡ false
+      not-far is size same most =
+          or_from (nat_lt size (end_of r.held)) (nat_lt (size_limit large) size) (le-ltb size (end_of r.held) (end-within is size same)) (le-ltb (size_limit large) size (omega (arith, most, same)))
 
   -- ---- all that is heard
   -- what differs in what is due alone
@@ -206,28 +204,29 @@ module _ (laws : LowerLaws) (put : Put) (pdus : List (List ℕ)) (fits : Type 0)
   shut : Sound put pdus (closed r) m
   shut = over laws put pdus fits files Closed r.metadata r.ending set.empty 0 m refl s.name s.end
 
-  pub hears-true : (stored : Stored) (v : Content) → IsTruthful put v → IsAmong put pdus v → (fits → BeginsWithin put (Hears v)) → To (receiver_hears stored v m files r)
-  hears-true stored (Metadata checksum_kind size source destination options) truth among begins =
+  content-true : (stored : Stored) (large : Bool) (v : Content) → IsTruthful put v → IsAmong put pdus v → (fits → BeginsWithin put (Hears large v)) → To (hears_content stored large v m files r)
+  content-true stored large (Metadata checksum_kind size source destination options) truth among begins =
       heard-one (receives_metadata stored checksum_kind size source destination m files r) (leaving m files r)
       (λ is. metadata-true stored checksum_kind size source destination options is truth among) same
-  hears-true stored (FileData offset bytes) truth among begins =
-      heard-one (receives_data stored offset bytes m files r) (leaving m files r) (λ is. data-true stored offset bytes is truth among begins) same
-  hears-true stored (Eof condition checksum size tlvs) truth among begins =
-      heard-one (receives_eof stored condition checksum size m files r) (leaving m files (record r { ack_due = Some condition })) (λ is. eof-true stored condition checksum size tlvs is truth among)
+  content-true stored large (FileData offset bytes) truth among begins =
+      heard-one (receives_data stored large offset bytes m files r) (leaving m files r) (λ is. data-true stored large offset bytes is truth among begins) same
+  content-true stored large (Eof condition checksum size tlvs) truth among begins =
+      heard-one (receives_eof stored large condition checksum size m files r) (leaving m files (record r { ack_due = Some condition }))
+      (λ is. eof-true stored large condition checksum size tlvs is truth among begins)
       (quiet (record r { ack_due = Some condition }) s)
-  hears-true stored (Ack acknowledged.Finished condition status) truth among begins =
+  content-true stored large (Ack acknowledged.Finished condition status) truth among begins =
       timed laws put pdus fits files (Some kind.Inactivity) r.addressing.id (leaving m files (acknowledged_by r))
       (quiet (acknowledged_by r) (cond_both (is_finishing r.phase && r.finished_taken) (closed r) r (λ (x : ReceiverState). Sound put pdus x m) (λ _. shut) (λ _. s)))
-  hears-true stored (Ack acknowledged.Eof condition status) truth among begins = same
-  hears-true stored (Prompt true) truth among begins =
+  content-true stored large (Ack acknowledged.Eof condition status) truth among begins = same
+  content-true stored large (Prompt true) truth among begins =
       timed laws put pdus fits files (Some kind.Inactivity) r.addressing.id (leaving m files (if is_receiving r.phase then prompted_for true r else r))
       (quiet (if is_receiving r.phase then prompted_for true r else r) (cond_both (is_receiving r.phase) (prompted_for true r) r (λ (x : ReceiverState). Sound put pdus x m) (λ _. s) (λ _. s)))
-  hears-true stored (Prompt false) truth among begins =
+  content-true stored large (Prompt false) truth among begins =
       timed laws put pdus fits files (Some kind.Inactivity) r.addressing.id (leaving m files (if is_receiving r.phase then prompted_for false r else r))
       (quiet (if is_receiving r.phase then prompted_for false r else r) (cond_both (is_receiving r.phase) (prompted_for false r) r (λ (x : ReceiverState). Sound put pdus x m) (λ _. s) (λ _. s)))
-  hears-true stored (Finished condition delivery status tlvs) truth among begins = same
-  hears-true stored (Nak start end pairs) truth among begins = same
-  hears-true stored (KeepAlive progress) truth among begins = same
+  content-true stored large (Finished condition delivery status tlvs) truth among begins = same
+  content-true stored large (Nak start end pairs) truth among begins = same
+  content-true stored large (KeepAlive progress) truth among begins = same
 
   -- ---- all else
   tells-quiet : (r1 : ReceiverState) (told : List Indication) → Sound put pdus r1 m → ((own : ℕ) → completions own (told ++ []) ≡ []) → list_any is_file_fault (told ++ []) ≡ false →
@@ -269,23 +268,30 @@ module _ (laws : LowerLaws) (put : Put) (pdus : List (List ℕ)) (fits : Type 0)
   takes-true due.KeepAlive = quiet (receiver_taken due.KeepAlive r) s
   takes-true (due.Finished o) = keeps laws put pdus fits files r.addressing.id (takes (due.Finished o) m files r) s refl (λ own. refl) refl
 
-  -- Any step of a receiver that heard the truth.
-  pub step-true : (stored : Stored) (input : ReceiverInput) → IsTrueInput put pdus input → (fits → BeginsWithin put input) → To (receiver_step stored input m files r)
-  step-true stored (Hears v) t begins = hears-true stored v t.0 t.1 begins
-  step-true stored (Takes d) t begins = takes-true d
-  step-true stored (Expires k policy) t begins =
+  -- Any step of a receiver that heard the truth, if one is so that hears a PDU.
+  step-by : (stored : Stored) → ((large : Bool) (v : Content) → IsTruthful put v → IsAmong put pdus v → (fits → BeginsWithin put (Hears large v)) → To (receiver_hears stored large v m files r)) →
+      (input : ReceiverInput) → IsTrueInput put pdus input → (fits → BeginsWithin put input) → To (receiver_step stored input m files r)
+  step-by stored heard (Hears large v) t begins = heard large v t.0 t.1 begins
+  step-by stored heard (Takes d) t begins = takes-true d
+  step-by stored heard (Expires k policy) t begins =
       let a : ReceiverAfter = expires_by k policy m files r in
       cond_both (waits k r) (record (tidying a) { anew = anew_once_expired k }) (leaving m files r) To
       (λ _. timed laws put pdus fits files (anew_once_expired k) r.addressing.id a (expires-true k policy)) (λ _. same)
-  step-true stored Cancels t begins =
+  step-by stored heard Cancels t begins =
       cond_both (is_receiving r.phase) (ends (failed cancel_request) m files r) (leaving m files r) To
       (λ _. keeps laws put pdus fits files r.addressing.id (ends (failed cancel_request) m files r) (over laws put pdus fits files Finishing r.metadata r.ending set.empty 0 m refl s.name s.end) refl
       (λ own. refl) refl) (λ _. same)
-  step-true stored Suspends t begins =
+  step-by stored heard Suspends t begins =
       let r1 : ReceiverState = record r { suspended = true } in
       let told : List Indication = indication.Suspended r.addressing.id suspend_request ∷ [] in
       cond_both (is_receiving r.phase && not r.suspended) (telling told (leaving m files r1)) (leaving m files r) To (λ _. tells-quiet r1 told s (λ own. refl) refl) (λ _. same)
-  step-true stored Resumes t begins =
+  step-by stored heard Resumes t begins =
       let r1 : ReceiverState = record r { suspended = false; nak_count = 0; finished_count = 0 } in
       let told : List Indication = indication.Resumed r.addressing.id ∷ [] in
       cond_both r.suspended (telling told (leaving m files r1)) (leaving m files r) To (λ _. tells-quiet r1 told s (λ own. refl) refl) (λ _. same)
+
+-- Any step of a receiver that heard the truth.
+pub step-true : (laws : LowerLaws) (put : Put) (pdus : List (List ℕ)) (fits : Type 0) → (fits → IsReceivable put) → (files : FileMap) (m : OctetMap) (r : ReceiverState) → Sound put pdus r m →
+    (stored : Stored) (input : ReceiverInput) → IsTrueInput put pdus input → (fits → BeginsWithin put input) → After laws put pdus fits files r (receiver_step stored input m files r)
+step-true laws put pdus fits receivable files m r s stored =
+    step-by laws put pdus fits receivable files m r s stored (λ large v. content-true laws put pdus fits receivable files m (flagged large r) s stored large v)

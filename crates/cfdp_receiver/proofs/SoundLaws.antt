@@ -1,5 +1,5 @@
 -- How a sound receiver begins, and what more that is heard leaves of it.
-use Rattle.std.proofs.Common.{◌≡◌, ℕ, ◌<◌, true, List, [], ◌∷◌, ◌++◌, length, Option, Some, None, sym, ◌∙◌}
+use Rattle.std.proofs.Common.{◌≡◌, ℕ, ◌<◌, true, List, [], ◌∷◌, ◌++◌, length, Option, Some, None, sym, ◌∙◌, Bool}
 use Rattle.std.specs.Prelude.{IfSome}
 use Rattle.std.specs.FinMap as map
 use Rattle.std.specs.FinSet as set
@@ -10,7 +10,7 @@ use Rattle.cfdp_header.specs.Files.{FileMap}
 use Rattle.cfdp_directives.specs.declared.pdu.addressing.Addressing.{Addressing}
 use Rattle.cfdp_directives.specs.Pdu.Checksum.{modular_checksum}
 use Rattle.cfdp_directives.specs.Pdu.Content.{Content, FileData, Metadata, Eof, Finished, Ack, Nak, Prompt, KeepAlive}
-use Rattle.cfdp_directives.specs.Pdu.Small.{SpellsSmall}
+use Rattle.cfdp_directives.specs.Pdu.Grammar.{SpellsPdu}
 use Rattle.cfdp_directives.specs.User.Put.{Put, IsTruthful, IsMetadataOf, IsEofOf, Brings}
 use Rattle.cfdp_directives.proofs.Puts.{SomePdu-append_left, SomePdu-last}
 use Rattle.cfdp_store.specs.declared.stored.Stored.{Stored}
@@ -53,7 +53,7 @@ sound-staged put heard r m n same s = record {
 }
 
 -- the PDU that was heard last is among those heard
-pub among-last : (put : Put) (heard : List (List ℕ)) (text : List ℕ) (h : Header) (v : Content) → SpellsSmall h v text → h.id ≡ put.id → IsTruthful put v → IsAmong put (heard ++ text ∷ []) v
+pub among-last : (put : Put) (heard : List (List ℕ)) (text : List ℕ) (h : Header) (v : Content) → SpellsPdu h v text → h.id ≡ put.id → IsTruthful put v → IsAmong put (heard ++ text ∷ []) v
 among-last put heard text h (Metadata kind size source destination options) spells same truth =
     SomePdu-last (IsMetadataOf put) heard text h (Metadata kind size source destination options) spells (same, truth)
 among-last put heard text h (FileData offset bytes) spells same truth = λ n low high. SomePdu-last (Brings put n) heard text h (FileData offset bytes) spells (same, low, high, truth)
@@ -73,13 +73,13 @@ nothing put heard phase m = record {
   sum = λ _. sym (sum-empty put.octets);
 }
 
-pub sound-opens : (put : Put) (heard : List (List ℕ)) (stored : Stored) (files : FileMap) (addressing : Addressing) →
-    Sound put heard (opens stored files addressing).receiver (opens stored files addressing).octets
-sound-opens put heard Done files addressing = nothing put heard Receiving map.empty
-sound-opens put heard Refused files addressing = nothing put heard Finishing map.empty
+pub sound-opens : (put : Put) (heard : List (List ℕ)) (stored : Stored) (large : Bool) (files : FileMap) (addressing : Addressing) →
+    Sound put heard (opens stored large files addressing).receiver (opens stored large files addressing).octets
+sound-opens put heard Done large files addressing = nothing put heard Receiving map.empty
+sound-opens put heard Refused large files addressing = nothing put heard Finishing map.empty
 
-pub sound-closed : (put : Put) (heard : List (List ℕ)) (condition : ℕ) (addressing : Addressing) (m : OctetMap) → Sound put heard (opened_closed condition addressing) m
-sound-closed put heard condition addressing m = nothing put heard Closed m
+pub sound-closed : (put : Put) (heard : List (List ℕ)) (large : Bool) (condition : ℕ) (addressing : Addressing) (m : OctetMap) → Sound put heard (opened_closed large condition addressing) m
+sound-closed put heard large condition addressing m = nothing put heard Closed m
 
 -- ---- the checksum of all
 pub sum-whole : WholeSum → (put : Put) (heard : List (List ℕ)) (r : ReceiverState) (m : OctetMap) → Sound put heard r m → r.phase ≡ Receiving →

@@ -9,9 +9,9 @@ use Rattle.cfdp_receiver.specs.State.{ReceiverState}
 use Rattle.cfdp_receiver.specs.Steps.{ReceiverAfter, completed, faulted, contradicts, first_eof}
 use Rattle.cfdp_receiver.specs.Does.{Stores}
 
-pub first_eof_stores : (stored : Stored) (checksum size : ℕ) (files files_now : FileMap)
+pub first_eof_stores : (stored : Stored) (large : Bool) (checksum size : ℕ) (files files_now : FileMap)
     (staged staged_now : TransactionId → Option OctetMap) (old r : ReceiverState) →
-    r ≡ old → contradicts size r ≡ false →
+    r ≡ old → contradicts large size r ≡ false →
     Stores (completed stored (staged_for staged r.addressing.id) files
     (record r {
       ending =
@@ -20,9 +20,9 @@ pub first_eof_stores : (stored : Stored) (checksum size : ℕ) (files files_now 
       nak_cursor =
           Some 0;
     })) files_now staged staged_now →
-    Stores (first_eof stored checksum size (staged_for staged old.addressing.id) files old)
+    Stores (first_eof stored large checksum size (staged_for staged old.addressing.id) files old)
     files_now staged staged_now
-first_eof_stores stored checksum size files files_now staged staged_now old r is fits stores =
+first_eof_stores stored large checksum size files files_now staged staged_now old r is fits stores =
     let r1 : ReceiverState =
     record r {
       ending =
@@ -33,7 +33,7 @@ first_eof_stores stored checksum size files files_now staged staged_now old r is
     let m : OctetMap = staged_for staged r.addressing.id in
     let P : ReceiverState →
     Type 0 = λ s. Stores
-    (first_eof stored checksum size (staged_for staged s.addressing.id) files s) files_now
+    (first_eof stored large checksum size (staged_for staged s.addressing.id) files s) files_now
     staged staged_now in
     let by : Bool → ReceiverAfter =
     λ b. if b then faulted file_size_error m files r1 else completed stored m files r1 in

@@ -1,10 +1,9 @@
 -- What one NAK asks for, as it lies in memory.
-use Rattle.std.specs.Prelude.{◌≡◌, ℕ, ◌≤◌, ◌++◌, Bool, List, [], ◌∷◌, length, take, if◌then◌else◌, false}
+use Rattle.std.specs.Prelude.{◌≡◌, ℕ, ◌≤◌, ◌++◌, Bool, List, [], ◌∷◌, length, take, if◌then◌else◌}
 use Rattle.std.specs.List.{AllByRecursion}
-use Rattle.cfdp_directives.specs.Pdu.Codes.{file_size_octets}
+use Rattle.cfdp_directives.specs.Pdu.Codes.{file_size_octets, size_limit}
 use Rattle.cfdp_directives.specs.Pdu.Pair.{IsPair}
 use Rattle.cfdp_receiver.specs.declared.asked.Asked.{Asked}
-use Rattle.cfdp_receiver.specs.State.{size_limit}
 use Rattle.cfdp_receiver.specs.Missing.{asked, has_more, last_end}
 
 -- gaps, and Metadata ahead of them if it is asked for
@@ -15,12 +14,15 @@ with_metadata metadata gaps = (if metadata then (0, 0) ∷ [] else []) ++ gaps
 abbrev pub pairs_of : Asked → List (ℕ × ℕ)
 pairs_of a = take a.count a.pairs
 
--- Its pairs can be written.
-pub record IsWritable (a : Asked) : Type 0 where
+-- It has so many pairs, and no more than one NAK has.
+pub record IsFilled (a : Asked) : Type 0 where
   pub few : a.count ≤ 32
   pub len : length (pairs_of a) ≡ a.count
-  pub pairs : AllByRecursion (IsPair (file_size_octets false)) (pairs_of a)
-  pub end : a.end ≤ size_limit
+
+-- Its pairs can be written, by the large file flag.
+pub record IsWritable (large : Bool) (a : Asked) : Type 0 where
+  pub pairs : AllByRecursion (IsPair (file_size_octets large)) (pairs_of a)
+  pub end : a.end ≤ size_limit large
 
 -- It is what one NAK asks for, of all that is missing.
 pub record AsksFor (all : List (ℕ × ℕ)) (a : Asked) : Type 0 where

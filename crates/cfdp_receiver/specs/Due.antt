@@ -6,7 +6,7 @@ use Rattle.cfdp_directives.specs.declared.pdu.codes.TransactionStatus.{Transacti
 use Rattle.cfdp_directives.specs.declared.pdu.codes.TransactionStatus.TheVariants.{Active, Terminated}
 use Rattle.cfdp_directives.specs.declared.user.telling.Outcome.{Outcome}
 use Rattle.cfdp_directives.specs.Pdu.Addressing.{written_len}
-use Rattle.cfdp_directives.specs.Pdu.Codes.{no_error, unsupported_checksum_type}
+use Rattle.cfdp_directives.specs.Pdu.Codes.{size_limit, no_error, unsupported_checksum_type}
 use Rattle.cfdp_directives.specs.Pdu.Content.{Content, Finished, Ack, Nak, KeepAlive}
 use Rattle.cfdp_directives.specs.Pdu.Tlv.{Tlv, fault_location}
 use Rattle.cfdp_extents.specs.Terms.{end_of}
@@ -14,7 +14,7 @@ use Rattle.cfdp_receiver.specs.declared.due.Due.{Due}
 use Rattle.cfdp_receiver.specs.declared.due.Due.TheVariants as due
 use Rattle.cfdp_receiver.specs.declared.state.ReceiverPhase.{ReceiverPhase}
 use Rattle.cfdp_receiver.specs.declared.state.ReceiverPhase.TheVariants.{Receiving, Finishing, Closed}
-use Rattle.cfdp_receiver.specs.State.{ReceiverState, size_limit}
+use Rattle.cfdp_receiver.specs.State.{ReceiverState}
 use Rattle.cfdp_receiver.specs.Missing.{missing_pairs, asked, scope_end, scope_limit, next_cursor}
 
 abbrev pub keep_alive_first : Bool → Option Due
@@ -80,7 +80,7 @@ receiver_taken due.KeepAlive r = record r { keep_alive_due = false }
 receiver_taken (due.Finished o) r = record r { finished_due = false; finished_taken = true }
 
 abbrev pub len_of : ReceiverState → Option Due → Option ℕ
-len_of r (Some d) = Some (written_len r.addressing false (receiver_says r d))
+len_of r (Some d) = Some (written_len r.addressing r.large (receiver_says r d))
 len_of r None = None
 
 -- octets of the PDU that is due, its header too
@@ -89,7 +89,7 @@ due_len r = len_of r (receiver_due r)
 
 -- A NAK is due only while it receives, and from an offset that can be written.
 abbrev pub IsWritableIn : ReceiverState → Due → Type 0
-IsWritableIn r (due.Nak cursor) = (r.phase ≡ Receiving) × (cursor ≤ size_limit)
+IsWritableIn r (due.Nak cursor) = (r.phase ≡ Receiving) × (cursor ≤ size_limit r.large)
 IsWritableIn r (due.AckOfEof condition) = Unit {0}
 IsWritableIn r due.KeepAlive = Unit {0}
 IsWritableIn r (due.Finished o) = Unit {0}

@@ -13,7 +13,7 @@ use Rattle.cfdp_directives.specs.declared.user.indication.Indication.TheVariants
 use Rattle.cfdp_directives.specs.declared.user.limits.Times.{Times}
 use Rattle.cfdp_directives.specs.declared.user.policy.Policy.{Policy}
 use Rattle.cfdp_directives.specs.declared.user.telling.Outcome.{Outcome}
-use Rattle.cfdp_directives.specs.Pdu.Codes.{no_error, file_checksum_failure, file_size_error, unsupported_checksum_type}
+use Rattle.cfdp_directives.specs.Pdu.Codes.{size_limit, no_error, file_checksum_failure, file_size_error, unsupported_checksum_type}
 use Rattle.cfdp_directives.specs.User.Completions.{completions, is_complete}
 use Rattle.cfdp_directives.specs.Pdu.Content.{Content, FileData, Metadata, Eof, Finished, Ack, Nak, Prompt, KeepAlive}
 use Rattle.cfdp_directives.specs.Pdu.Checksum.{weight, checksum_of}
@@ -31,7 +31,7 @@ use Rattle.cfdp_receiver.specs.declared.state.ReceiverPhase.TheVariants.{Receivi
 use Rattle.cfdp_receiver.specs.declared.state.FileInfo.{FileInfo}
 use Rattle.cfdp_receiver.specs.declared.state.Ending.{Ending}
 use Rattle.cfdp_receiver.specs.Does.{timers_set}
-use Rattle.cfdp_receiver.specs.State.{ReceiverState, opened_receiver, is_receiving, is_finishing, size_limit}
+use Rattle.cfdp_receiver.specs.State.{ReceiverState, opened_receiver, flagged, is_receiving, is_finishing}
 use Rattle.cfdp_receiver.specs.Missing.{missing_pairs, is_empty}
 use Rattle.cfdp_receiver.specs.Steps.{ReceiverAfter, leaving, complete, is_supported, hears_metadata, hears_data, hears_eof, hears_ack, hears_prompt, opens, takes, expires, cancels, suspends, resumes}
 
@@ -39,7 +39,8 @@ use Rattle.cfdp_receiver.specs.Steps.{ReceiverAfter, leaving, complete, is_suppo
 -- What comes to a receiver: a PDU of its transaction, its turn to send what is due, the expiry of a
 -- timer, or a call of its user.
 pub data ReceiverInput : Type 0 where
-  Hears : (v : Content) → ReceiverInput
+  -- with its large file flag
+  Hears : (large : Bool) (v : Content) → ReceiverInput
   Takes : (d : Due) → ReceiverInput
   Expires : (k : Kind) (policy : Policy) → ReceiverInput
   Cancels : ReceiverInput
@@ -50,22 +51,30 @@ abbrev pub hears_ack_of : Acknowledged → OctetMap → FileMap → ReceiverStat
 hears_ack_of acknowledged.Finished m files r = hears_ack m files r
 hears_ack_of acknowledged.Eof m files r = leaving m files r
 
--- the step for a PDU; those that only a sender hears change nothing
-abbrev pub receiver_hears : Stored → Content → OctetMap → FileMap → ReceiverState → ReceiverAfter
-receiver_hears stored (Metadata kind size source destination options) m files r =
+-- the step for what a PDU says, which has this large file flag; what only a sender hears changes
+-- nothing
+abbrev pub hears_content : Stored → (large : Bool) → Content →
+    OctetMap → FileMap → ReceiverState → ReceiverAfter
+hears_content stored large (Metadata kind size source destination options) m files r =
     hears_metadata stored kind size source destination m files r
-receiver_hears stored (FileData offset bytes) m files r = hears_data stored offset bytes m files r
-receiver_hears stored (Eof condition checksum size tlvs) m files r =
-    hears_eof stored condition checksum size m files r
-receiver_hears stored (Ack of condition status) m files r = hears_ack_of of m files r
-receiver_hears stored (Prompt keep_alive) m files r = hears_prompt keep_alive m files r
-receiver_hears stored (Finished condition delivery status tlvs) m files r = leaving m files r
-receiver_hears stored (Nak start end pairs) m files r = leaving m files r
-receiver_hears stored (KeepAlive progress) m files r = leaving m files r
+hears_content stored large (FileData offset bytes) m files r =
+    hears_data stored large offset bytes m files r
+hears_content stored large (Eof condition checksum size tlvs) m files r =
+    hears_eof stored large condition checksum size m files r
+hears_content stored large (Ack of condition status) m files r = hears_ack_of of m files r
+hears_content stored large (Prompt keep_alive) m files r = hears_prompt keep_alive m files r
+hears_content stored large (Finished condition delivery status tlvs) m files r = leaving m files r
+hears_content stored large (Nak start end pairs) m files r = leaving m files r
+hears_content stored large (KeepAlive progress) m files r = leaving m files r
+
+-- the step for a PDU: its large file flag counts, and then what it says
+abbrev pub receiver_hears : Stored → (large : Bool) → Content →
+    OctetMap → FileMap → ReceiverState → ReceiverAfter
+receiver_hears stored large v m files r = hears_content stored large v m files (flagged large r)
 
 abbrev pub receiver_step : Stored → ReceiverInput → OctetMap → FileMap → ReceiverState →
     ReceiverAfter
-receiver_step stored (Hears v) m files r = receiver_hears stored v m files r
+receiver_step stored (Hears large v) m files r = receiver_hears stored large v m files r
 receiver_step stored (Takes d) m files r = takes d m files r
 receiver_step stored (Expires k policy) m files r = expires k policy m files r
 receiver_step stored Cancels m files r = cancels m files r
@@ -73,10 +82,11 @@ receiver_step stored Suspends m files r = suspends m files r
 receiver_step stored Resumes m files r = resumes m files r
 
 -- A receiver is opened and, where the inbox began the transaction, hears the PDU that opened it.
-abbrev pub opens_hearing : (begun stored : Stored) → Content → FileMap → Addressing → ReceiverAfter
-opens_hearing Done stored v files addressing =
-    receiver_hears stored v map.empty files (opened_receiver addressing)
-opens_hearing Refused stored v files addressing = opens Refused files addressing
+abbrev pub opens_hearing : (begun stored : Stored) → (large : Bool) → Content → FileMap →
+    Addressing → ReceiverAfter
+opens_hearing Done stored large v files addressing =
+    receiver_hears stored large v map.empty files (opened_receiver addressing)
+opens_hearing Refused stored large v files addressing = opens Refused large files addressing
 
 -- the timers after that: it is the PDU heard that sets them
 abbrev pub timers_opened : Times → Stored → ReceiverAfter → TimersState → TimersState
@@ -98,16 +108,16 @@ fault_count condition told = count_by (is_fault condition) told
 
 -- the offsets held once this was taken in
 abbrev pub held_after : ReceiverInput → Offsets → Offsets
-held_after (Hears (FileData offset bytes)) held =
+held_after (Hears large (FileData offset bytes)) held =
     set.union held (range offset (offset + length bytes))
 held_after _ held = held
 
 abbrev pub brings_metadata : ReceiverInput → Bool
-brings_metadata (Hears (Metadata checksum_kind size source destination options)) = true
+brings_metadata (Hears large (Metadata checksum_kind size source destination options)) = true
 brings_metadata _ = false
 
 abbrev pub brings_ending : ReceiverInput → Bool
-brings_ending (Hears (Eof condition checksum size tlvs)) = condition == no_error
+brings_ending (Hears large (Eof condition checksum size tlvs)) = condition == no_error
 brings_ending _ = false
 
 -- No file was published, and none was indicated complete.
@@ -187,12 +197,16 @@ IsAmong put heard _ = Unit {0}
 
 -- A PDU that comes is true of the put, and among those heard. Other inputs say nothing of the file.
 abbrev pub IsTrueInput : Put → List (List ℕ) → ReceiverInput → Type 0
-IsTrueInput put heard (Hears v) = IsTruthful put v × IsAmong put heard v
+IsTrueInput put heard (Hears large v) = IsTruthful put v × IsAmong put heard v
 IsTrueInput put heard _ = Unit {0}
 
--- File data begin in the file, or at its end.
+-- File data begin in the file, or at its end. They and an EOF have a large file flag that allows
+-- the file's size.
 abbrev pub BeginsWithin : Put → ReceiverInput → Type 0
-BeginsWithin put (Hears (FileData offset bytes)) = offset ≤ length put.octets
+BeginsWithin put (Hears large (FileData offset bytes)) =
+    (offset ≤ length put.octets) × (length put.octets ≤ size_limit large)
+BeginsWithin put (Hears large (Eof condition checksum size tlvs)) =
+    length put.octets ≤ size_limit large
 BeginsWithin put _ = Unit {0}
 
 -- The put's file was published under its name, and the put was heard in full.
@@ -213,7 +227,7 @@ is_file_fault _ = false
 -- A put that a receiver can take: it makes checksums of its kind, and its file isn't too large.
 pub record IsReceivable (put : Put) : Type 0 where
   pub supported : is_supported put.checksum_kind ≡ true
-  pub size : length put.octets ≤ size_limit
+  pub size : length put.octets ≤ size_limit true
 
 -- ---- where a receiver stands
 -- whether Metadata and EOF are known, and every offset below the EOF's size is held

@@ -1,11 +1,12 @@
 -- What a receiver of one transaction keeps (CCSDS 727.0-B-5, 4.6.1.2 and 4.6.4).
-use Rattle.std.specs.Prelude.{◌≡◌, ℕ, ◌<◌, ◌≤◌, Bool, true, false, Option, None, IfSome, IsSome}
+use Rattle.std.specs.Prelude.{◌≡◌, ◌||◌, ℕ, ◌<◌, ◌≤◌, Bool, true, false, Option, None, IfSome, IsSome}
 use Rattle.std.specs.FinMap as map
 use Rattle.std.specs.FinSet as set
 use Rattle.cfdp_header.specs.declared.value.TransactionId.{TransactionId}
 use Rattle.cfdp_directives.specs.declared.pdu.addressing.Addressing.{Addressing}
 use Rattle.cfdp_directives.specs.declared.user.telling.Outcome.{Outcome}
 use Rattle.cfdp_directives.specs.Pdu.Addressing.{FitsAddressing}
+use Rattle.cfdp_directives.specs.Pdu.Codes.{size_limit}
 use Rattle.cfdp_directives.specs.declared.user.phase.Phase.{Phase}
 use Rattle.cfdp_directives.specs.declared.user.phase.Phase.TheVariants as phase
 use Rattle.cfdp_extents.specs.Offsets.{Offsets}
@@ -18,6 +19,8 @@ use Rattle.cfdp_receiver.specs.declared.state.Ending.{Ending}
 pub record ReceiverState : Type 0 where
   -- the transaction, and how its first PDU was written: answers are written so too
   pub addressing : Addressing
+  -- whether a PDU with the large file flag was heard: answers have it from then on
+  pub large : Bool
   pub phase : ReceiverPhase
   pub suspended : Bool
   -- what the first Metadata said, and the first EOF without an error
@@ -43,6 +46,7 @@ pub record ReceiverState : Type 0 where
 abbrev pub opened_receiver : Addressing → ReceiverState
 opened_receiver addressing = record {
   addressing = addressing;
+  large = false;
   phase = Receiving;
   suspended = false;
   metadata = None;
@@ -58,6 +62,10 @@ opened_receiver addressing = record {
   nak_count = 0;
   finished_count = 0;
 }
+
+-- a receiver that heard a PDU with this large file flag
+abbrev pub flagged : Bool → ReceiverState → ReceiverState
+flagged large r = record r { large = r.large || large }
 
 abbrev pub is_receiving : ReceiverPhase → Bool
 is_receiving Receiving = true
@@ -75,19 +83,17 @@ public_phase Receiving = phase.Receiving
 public_phase Finishing = phase.Finishing
 public_phase Closed = phase.Closed
 
--- the greatest size of a file
-abbrev pub size_limit : ℕ
-size_limit = 4294967295
-
 -- What holds of every receiver: its transaction can be written in its widths, it is suspended only
--- while it receives, and each offset that it may have to write is at most the greatest size.
-pub record IsReceiver (addressing : Addressing) (phase : ReceiverPhase) (suspended : Bool)
-    (ending : Option Ending) (held : Offsets) (nak_cursor : Option ℕ) : Type 0 where
+-- while it receives, and each offset that it may have to write is at most the greatest size, by the
+-- large file flag that it writes.
+pub record IsReceiver (addressing : Addressing) (large : Bool) (phase : ReceiverPhase)
+    (suspended : Bool) (ending : Option Ending) (held : Offsets) (nak_cursor : Option ℕ)
+    : Type 0 where
   pub addressing_fits : FitsAddressing addressing
   pub suspended_receives : suspended ≡ true → phase ≡ Receiving
-  pub held_below : (n : ℕ) → set.contains held n ≡ true → n < size_limit
-  pub size_below : phase ≡ Receiving → IfSome ending (λ e. e.size ≤ size_limit)
-  pub cursor_below : IfSome nak_cursor (λ cursor. cursor ≤ size_limit)
+  pub held_below : (n : ℕ) → set.contains held n ≡ true → n < size_limit large
+  pub size_below : phase ≡ Receiving → IfSome ending (λ e. e.size ≤ size_limit large)
+  pub cursor_below : IfSome nak_cursor (λ cursor. cursor ≤ size_limit large)
 
 -- While it receives, its transaction is begun in the inbox, and what is held is staged there.
 pub record IsReady (staged : TransactionId → Option OctetMap) (r : ReceiverState) : Type 0 where

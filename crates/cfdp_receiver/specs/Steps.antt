@@ -15,7 +15,7 @@ use Rattle.cfdp_directives.specs.declared.user.indication.Indication.{Indication
 use Rattle.cfdp_directives.specs.declared.user.indication.Indication.TheVariants as indication
 use Rattle.cfdp_directives.specs.declared.user.policy.Policy.{Policy}
 use Rattle.cfdp_directives.specs.declared.user.telling.Outcome.{Outcome}
-use Rattle.cfdp_directives.specs.Pdu.Codes.{no_error, positive_ack_limit, filestore_rejection, file_checksum_failure, file_size_error, nak_limit, inactivity, unsupported_checksum_type, suspend_request, cancel_request, modular, null}
+use Rattle.cfdp_directives.specs.Pdu.Codes.{size_limit, no_error, positive_ack_limit, filestore_rejection, file_checksum_failure, file_size_error, nak_limit, inactivity, unsupported_checksum_type, suspend_request, cancel_request, modular, null}
 use Rattle.cfdp_directives.specs.User.Policy.{another_try, finished_told, fault_told}
 use Rattle.cfdp_extents.specs.Offsets.{range}
 use Rattle.cfdp_extents.specs.Terms.{end_of}
@@ -30,7 +30,7 @@ use Rattle.cfdp_receiver.specs.declared.state.ReceiverPhase.{ReceiverPhase}
 use Rattle.cfdp_receiver.specs.declared.state.ReceiverPhase.TheVariants.{Receiving, Finishing, Closed}
 use Rattle.cfdp_receiver.specs.declared.state.FileInfo.{FileInfo}
 use Rattle.cfdp_receiver.specs.declared.state.Ending.{Ending}
-use Rattle.cfdp_receiver.specs.State.{ReceiverState, opened_receiver, is_receiving, is_finishing, size_limit}
+use Rattle.cfdp_receiver.specs.State.{ReceiverState, opened_receiver, flagged, is_receiving, is_finishing}
 use Rattle.cfdp_receiver.specs.Missing.{tidied}
 use Rattle.cfdp_receiver.specs.Due.{receiver_taken}
 use Rattle.cfdp_receiver.specs.Pieces.{new_pieces, staged_with, sum_with}
@@ -146,10 +146,11 @@ receives_metadata stored checksum_kind size source destination m files r =
     if is_supported checksum_kind then completed stored m files r1
     else faulted unsupported_checksum_type m files r1)
 
--- whether an end is behind the EOF's size, where one was heard, or behind the greatest size
-abbrev pub exceeds : Option Ending → ℕ → Bool
-exceeds (Some ending) end = nat_lt ending.size end || nat_lt size_limit end
-exceeds None end = nat_lt size_limit end
+-- whether an end is behind the EOF's size, where one was heard, or behind the greatest size, by the
+-- large file flag of the PDU
+abbrev pub exceeds : Bool → Option Ending → ℕ → Bool
+exceeds large (Some ending) end = nat_lt ending.size end || nat_lt (size_limit large) end
+exceeds large None end = nat_lt (size_limit large) end
 
 -- with octets from an offset on: those that weren't held are summed and held, and some were new
 abbrev pub with_data : ℕ → List ℕ → ReceiverState → ReceiverState
@@ -165,26 +166,29 @@ receives_new Done offset bytes m files r =
     completed Done (staged_with m (new_pieces r.held offset bytes)) files (with_data offset bytes r)
 receives_new Refused offset bytes m files r = faulted filestore_rejection m files r
 
-abbrev pub receives_data : Stored → ℕ → List ℕ → OctetMap → FileMap → ReceiverState → ReceiverAfter
-receives_data stored offset bytes m files r =
-    if exceeds r.ending (offset + length bytes) then faulted file_size_error m files r
+abbrev pub receives_data : Stored → (large : Bool) → ℕ → List ℕ →
+    OctetMap → FileMap → ReceiverState → ReceiverAfter
+receives_data stored large offset bytes m files r =
+    if exceeds large r.ending (offset + length bytes) then faulted file_size_error m files r
     else if set.is_subset (range offset (offset + length bytes)) r.held
     then completed stored m files r
     else receives_new stored offset bytes m files r
 
--- whether an EOF's size is below what is held, or above the greatest size
-abbrev pub contradicts : ℕ → ReceiverState → Bool
-contradicts size r = nat_lt size (end_of r.held) || nat_lt size_limit size
+-- whether an EOF's size is below what is held, or above the greatest size, by the EOF's large file
+-- flag. Without the flag no EOF can say more than that
+abbrev pub contradicts : Bool → ℕ → ReceiverState → Bool
+contradicts large size r = nat_lt size (end_of r.held) || nat_lt (size_limit large) size
 
 -- the first EOF without an error: what is still missing is asked for
-abbrev pub first_eof : Stored → (checksum size : ℕ) →
+abbrev pub first_eof : Stored → (large : Bool) → (checksum size : ℕ) →
     OctetMap → FileMap → ReceiverState → ReceiverAfter
-first_eof stored checksum size m files r =
+first_eof stored large checksum size m files r =
     telling (indication.EofRecv r.addressing.id ∷ [])
     (let ending : Ending = record { checksum = checksum; size = size } in
     let r1 : ReceiverState =
     record r { ending = Some ending; ack_due = Some no_error; nak_cursor = Some 0 } in
-    if contradicts size r then faulted file_size_error m files r1 else completed stored m files r1)
+    if contradicts large size r then faulted file_size_error m files r1
+    else completed stored m files r1)
 
 -- what a transaction comes to that its sender gave up
 abbrev pub given_up : ℕ → Outcome
@@ -200,11 +204,11 @@ cancelled_by condition m files r =
     telling (finished_told r.addressing.id (given_up condition) ∷ [])
     (leaving m files (cancelled condition r))
 
-abbrev pub receives_eof : Stored → (condition checksum size : ℕ) →
+abbrev pub receives_eof : Stored → (large : Bool) → (condition checksum size : ℕ) →
     OctetMap → FileMap → ReceiverState → ReceiverAfter
-receives_eof stored condition checksum size m files r =
+receives_eof stored large condition checksum size m files r =
     if not (condition == no_error) then cancelled_by condition m files r
-    else if is_none r.ending then first_eof stored checksum size m files r
+    else if is_none r.ending then first_eof stored large checksum size m files r
     else leaving m files (record r { ack_due = Some no_error; nak_cursor = Some 0 })
 
 -- ---- what is heard
@@ -219,16 +223,17 @@ hears_metadata stored checksum_kind size source destination m files r =
     then receives_metadata stored checksum_kind size source destination m files r
     else leaving m files r)
 
-abbrev pub hears_data : Stored → ℕ → List ℕ → OctetMap → FileMap → ReceiverState → ReceiverAfter
-hears_data stored offset bytes m files r =
-    heard (if is_receiving r.phase then receives_data stored offset bytes m files r
+abbrev pub hears_data : Stored → (large : Bool) → ℕ → List ℕ →
+    OctetMap → FileMap → ReceiverState → ReceiverAfter
+hears_data stored large offset bytes m files r =
+    heard (if is_receiving r.phase then receives_data stored large offset bytes m files r
     else leaving m files r)
 
 -- once the transaction is over, each EOF is acknowledged
-abbrev pub hears_eof : Stored → (condition checksum size : ℕ) →
+abbrev pub hears_eof : Stored → (large : Bool) → (condition checksum size : ℕ) →
     OctetMap → FileMap → ReceiverState → ReceiverAfter
-hears_eof stored condition checksum size m files r =
-    heard (if is_receiving r.phase then receives_eof stored condition checksum size m files r
+hears_eof stored large condition checksum size m files r =
+    heard (if is_receiving r.phase then receives_eof stored large condition checksum size m files r
     else leaving m files (record r { ack_due = Some condition }))
 
 -- the ACK of a Finished that was sent closes the transaction, whatever it says
@@ -250,16 +255,16 @@ hears_prompt keep_alive m files r =
 -- ---- how a record is opened
 -- by Metadata, file data or an EOF without an error, once the inbox began the transaction. The
 -- receiver hears that PDU next, which arms its timers. Where the inbox refuses, the PDU isn't taken
--- further, and no timer is waited for
-abbrev pub opens : Stored → FileMap → Addressing → ReceiverAfter
-opens Done files addressing = leaving map.empty files (opened_receiver addressing)
-opens Refused files addressing =
-    faulted filestore_rejection map.empty files (opened_receiver addressing)
+-- further but for its large file flag, and no timer is waited for
+abbrev pub opens : Stored → (large : Bool) → FileMap → Addressing → ReceiverAfter
+opens Done large files addressing = leaving map.empty files (opened_receiver addressing)
+opens Refused large files addressing =
+    faulted filestore_rejection map.empty files (flagged large (opened_receiver addressing))
 
 -- by an EOF with an error: it is closed, and nothing is indicated
-abbrev pub opened_closed : ℕ → Addressing → ReceiverState
-opened_closed condition addressing =
-    record (closed (opened_receiver addressing)) { ack_due = Some condition }
+abbrev pub opened_closed : (large : Bool) → ℕ → Addressing → ReceiverState
+opened_closed large condition addressing =
+    record (closed (flagged large (opened_receiver addressing))) { ack_due = Some condition }
 
 -- ---- taking what is due
 abbrev pub anew_once_taken : Due → Option Kind

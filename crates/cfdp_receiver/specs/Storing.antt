@@ -24,9 +24,9 @@ writes id pieces = map (λ (p : Piece). Write id p.offset p.bytes (Ok tt)) piece
 
 -- the pieces of file data that a receiver stages: those that are new, while it receives and none
 -- lies behind the file's end
-abbrev pub staged_pieces : ℕ → List ℕ → ReceiverState → List Piece
-staged_pieces offset bytes r =
-    if is_receiving r.phase && not (exceeds r.ending (offset + length bytes))
+abbrev pub staged_pieces : (large : Bool) → ℕ → List ℕ → ReceiverState → List Piece
+staged_pieces large offset bytes r =
+    if is_receiving r.phase && not (exceeds large r.ending (offset + length bytes))
     then new_pieces r.held offset bytes else []
 
 abbrev pub delivers : Delivery → Bool

@@ -1,9 +1,9 @@
 // The pairs of a NAK.
-ghost use Rattle.std.specs.Prelude.{◌≡◌, ◌≤◌, [], Some, None, length, if◌then◌else◌};
+ghost use Rattle.std.specs.Prelude.{◌≡◌, ◌≤◌, Bool, [], Some, None, length, if◌then◌else◌};
 ghost use Rattle.std.specs.List.{All};
 ghost use Rattle.cfdp_extents.specs.Offsets.{LiesIn};
-ghost use Rattle.cfdp_receiver.specs.State.{size_limit};
-ghost use Rattle.cfdp_receiver.specs.Asked.{pairs_of, with_metadata, IsWritable, AsksFor};
+ghost use Rattle.cfdp_directives.specs.Pdu.Codes.{size_limit};
+ghost use Rattle.cfdp_receiver.specs.Asked.{pairs_of, with_metadata, IsFilled, IsWritable, AsksFor};
 ghost use Rattle.cfdp_receiver.specs.Missing.{asked};
 
 use cfdp_directives::Pairs;
@@ -28,7 +28,8 @@ impl Asked {
     /// Nothing, or Metadata.
     pub(crate) fn new(metadata: bool) -> Asked
         ensures asks { AsksFor (with_metadata metadata []) result }
-        ensures writable { IsWritable result }
+        ensures filled { IsFilled result }
+        ensures writable { (large : Bool) → IsWritable large result }
     {
         Asked {
             pairs: [(0, 0); 32],
@@ -40,10 +41,10 @@ impl Asked {
 
     /// The first of these gaps, and ahead of them Metadata if it is asked for.
     pub(crate) fn of(metadata: bool, gaps: Gaps<'_>, start: u64, limit: u64) -> Asked
-        requires limit { limit ≤ size_limit }
         requires inside { All (LiesIn start limit) gaps }
         ensures asks { AsksFor (with_metadata metadata gaps.entry) result }
-        ensures writable { IsWritable result }
+        ensures filled { IsFilled result }
+        ensures writable { (large : Bool) → limit ≤ size_limit large → IsWritable large result }
     {
         let mut asked = Asked::new(metadata);
         for (from, to) in gaps {
@@ -60,7 +61,7 @@ impl Asked {
 
     /// The pairs.
     pub(crate) fn pairs(&self) -> Pairs<'_>
-        requires { IsWritable self.now }
+        requires { IsFilled self.now }
         ensures { result ≡ pairs_of self.now }
     {
         Pairs::of(&self.pairs[..self.count])

@@ -8,7 +8,8 @@ ghost use Rattle.cfdp_store.specs.Stores.{Counts};
 ghost use Rattle.cfdp_timers.specs.declared.kind.Kind.TheVariants as kinds;
 ghost use Rattle.cfdp_header.specs.Files.{FileMap};
 ghost use Rattle.cfdp_header.specs.declared.value.TransactionId.{TransactionId};
-ghost use Rattle.cfdp_receiver.specs.State.{IsReady, size_limit};
+ghost use Rattle.cfdp_receiver.specs.State.{IsReady, flagged};
+ghost use Rattle.cfdp_directives.specs.Pdu.Codes as codes;
 ghost use Rattle.cfdp_receiver.specs.Missing.{tidied};
 ghost use Rattle.cfdp_receiver.specs.Steps as steps;
 ghost use Rattle.cfdp_receiver.specs.Steps.{cancelled, given_up, contradicts, receives_metadata, receives_data, receives_new, receives_eof, first_eof, hears_metadata, hears_data, hears_eof, hears_ack, hears_prompt};
@@ -17,11 +18,12 @@ ghost use Rattle.cfdp_receiver.specs.Pieces.{new_pieces};
 ghost use Rattle.cfdp_receiver.specs.Storing.{Discards, Settles, Stages, staged_pieces, writes};
 
 use crate::ending::tell_finished;
-use crate::receiver::{Receiver, SIZE_LIMIT};
+use crate::receiver::Receiver;
 use crate::staging::stage;
 use crate::state::{Ending, FileInfo, ReceiverPhase};
 use cfdp_directives::{
-    ChecksumKind, Condition, Delivery, FileStatus, Indication, Octets, Outcome, Policy, tell,
+    ChecksumKind, Condition, Delivery, FileStatus, Indication, Octets, Outcome, Policy, size_limit,
+    tell,
 };
 use cfdp_store::{Inbox, Stored};
 use cfdp_timers::{Kind, Timers};
@@ -101,8 +103,9 @@ impl Receiver {
         Ok(Stored::Done)
     }
 
-    /// Hears Metadata. In Receiving the first one is indicated, and the file is published if all of
-    /// it is there; a checksum type that isn't known is a fault. Any other changes nothing.
+    /// Hears Metadata, with its large file flag. In Receiving the first one is indicated, and the
+    /// file is published if all of it is there; a checksum type that isn't known is a fault. Any
+    /// other changes nothing but the flag that answers have.
     ///
     /// # Errors
     ///
@@ -113,6 +116,7 @@ impl Receiver {
         policy: &Policy,
         told: &mut Vec<Indication>,
         inbox: &mut I,
+        large: bool,
         metadata: &Metadata<'_>,
     ) -> Result<Stored, AllocError>
         requires has_room { set.contains timers.old.roomy self.old.addressing.id ≡ true }
@@ -122,12 +126,13 @@ impl Receiver {
             metadata.now.checksum_kind metadata.now.size metadata.now.source.now
             metadata.now.destination.now
             (staged_for (I.staged inbox.old) self.old.addressing.id) (I.published inbox.old)
-            self.old) self.new told.old.items told.new.items) }
+            (flagged large self.old)) self.new told.old.items told.new.items) }
         ensures stores { IfOk result (λ stored. Stores (hears_metadata stored
             metadata.now.checksum_kind metadata.now.size metadata.now.source.now
             metadata.now.destination.now
             (staged_for (I.staged inbox.old) self.old.addressing.id) (I.published inbox.old)
-            self.old) (I.published inbox.new) (I.staged inbox.old) (I.staged inbox.new)) }
+            (flagged large self.old)) (I.published inbox.new)
+            (I.staged inbox.old) (I.staged inbox.new)) }
         ensures timers { IfOk result (λ stored. timers.new
             ≡ timers_set policy.now.times (Some kinds.Inactivity) self.new timers.old) }
         ensures keeps { OnErr result (Keeps self.old self.new told.old.items told.new.items
@@ -145,8 +150,16 @@ impl Receiver {
         ensures calls { IfOk result (λ stored. Settles (Makes I.steps I.failures) stored
             self.old self.new inbox.old inbox.new) }
     {
+        let before = self.large;
+        self.raise(large);
         let stored = if self.phase == ReceiverPhase::Receiving {
-            self.receive_metadata(told, inbox, metadata)?
+            match self.receive_metadata(told, inbox, metadata) {
+                Ok(stored) => stored,
+                Err(e) => {
+                    self.large = before;
+                    return Err(e);
+                }
+            }
         } else {
             Stored::Done
         };
@@ -160,16 +173,18 @@ impl Receiver {
         &mut self,
         told: &mut Vec<Indication>,
         inbox: &mut I,
+        large: bool,
         offset: u64,
         bytes: &[u8],
     ) -> Result<Stored, AllocError>
         requires room { vec_len told.old + 3 ≤ vec_capacity told.old }
         requires ready { IsReady (I.staged inbox.old) self.old }
         requires receiving { self.old.phase ≡ ReceiverPhase.Receiving }
-        ensures does { IfOk result (λ stored. Does (receives_data stored offset bytes.now
+        requires limit { codes.size_limit large ≤ codes.size_limit self.old.large }
+        ensures does { IfOk result (λ stored. Does (receives_data stored large offset bytes.now
             (staged_for (I.staged inbox.old) self.old.addressing.id) (I.published inbox.old)
             self.old) self.new told.old.items told.new.items) }
-        ensures stores { IfOk result (λ stored. Stores (receives_data stored offset bytes.now
+        ensures stores { IfOk result (λ stored. Stores (receives_data stored large offset bytes.now
             (staged_for (I.staged inbox.old) self.old.addressing.id) (I.published inbox.old)
             self.old) (I.published inbox.new) (I.staged inbox.old) (I.staged inbox.new)) }
         ensures keeps { OnErr result (Keeps self.old self.new told.old.items told.new.items
@@ -183,13 +198,13 @@ impl Receiver {
         ensures lets_go { LetsGo self.old self.new (I.failures inbox.old) (I.failures inbox.new)
             (I.staged inbox.new) }
         ensures calls { IfOk result (λ stored. Stages (Makes I.steps I.failures) stored
-            (staged_pieces offset bytes.now self.old) self.old self.new inbox.old inbox.new) }
+            (staged_pieces large offset bytes.now self.old) self.old self.new inbox.old inbox.new) }
         ensures keeps_calls { OnErr result (Makes I.steps I.failures (writes
-            self.old.addressing.id (staged_pieces offset bytes.now self.old))
+            self.old.addressing.id (staged_pieces large offset bytes.now self.old))
             inbox.old inbox.new) }
         ensures keeps_failures { OnErr result (I.failures inbox.new ≡ I.failures inbox.old) }
     {
-        if exceeds(self.ending, offset, bytes.len()) {
+        if exceeds(large, self.ending, offset, bytes.len()) {
             self.fault(told, inbox, Condition::FILE_SIZE_ERROR);
             return Ok(Stored::Done);
         }
@@ -211,7 +226,7 @@ impl Receiver {
         requires room { vec_len told.old + 3 ≤ vec_capacity told.old }
         requires ready { IsReady (I.staged inbox.old) self.old }
         requires receiving { self.old.phase ≡ ReceiverPhase.Receiving }
-        requires fits { offset + length bytes.now ≤ size_limit }
+        requires fits { offset + length bytes.now ≤ codes.size_limit self.old.large }
         ensures does { IfOk result (λ stored. Does (receives_new stored offset bytes.now
             (staged_for (I.staged inbox.old) self.old.addressing.id) (I.published inbox.old)
             self.old) self.new told.old.items told.new.items) }
@@ -259,9 +274,10 @@ impl Receiver {
         }
     }
 
-    /// Hears file data. In Receiving the octets that aren't held yet are staged, and those that are
-    /// keep their value; the file is published if all of it is there. Data that end behind the
-    /// EOF's size, or behind the greatest size, are a fault. Otherwise nothing changes.
+    /// Hears file data, with their large file flag. In Receiving the octets that aren't held yet
+    /// are staged, and those that are keep their value; the file is published if all of it is there.
+    /// Data that end behind the EOF's size, or behind the greatest size that their flag allows, are
+    /// a fault. Otherwise nothing changes but the flag that answers have.
     ///
     /// # Errors
     ///
@@ -273,18 +289,20 @@ impl Receiver {
         policy: &Policy,
         told: &mut Vec<Indication>,
         inbox: &mut I,
+        large: bool,
         offset: u64,
         bytes: &[u8],
     ) -> Result<Stored, AllocError>
         requires has_room { set.contains timers.old.roomy self.old.addressing.id ≡ true }
         requires room { vec_len told.old + 3 ≤ vec_capacity told.old }
         requires ready { IsReady (I.staged inbox.old) self.old }
-        ensures does { IfOk result (λ stored. Does (hears_data stored offset bytes.now
+        ensures does { IfOk result (λ stored. Does (hears_data stored large offset bytes.now
             (staged_for (I.staged inbox.old) self.old.addressing.id) (I.published inbox.old)
-            self.old) self.new told.old.items told.new.items) }
-        ensures stores { IfOk result (λ stored. Stores (hears_data stored offset bytes.now
+            (flagged large self.old)) self.new told.old.items told.new.items) }
+        ensures stores { IfOk result (λ stored. Stores (hears_data stored large offset bytes.now
             (staged_for (I.staged inbox.old) self.old.addressing.id) (I.published inbox.old)
-            self.old) (I.published inbox.new) (I.staged inbox.old) (I.staged inbox.new)) }
+            (flagged large self.old)) (I.published inbox.new)
+            (I.staged inbox.old) (I.staged inbox.new)) }
         ensures timers { IfOk result (λ stored. timers.new
             ≡ timers_set policy.now.times (Some kinds.Inactivity) self.new timers.old) }
         ensures keeps { OnErr result (Keeps self.old self.new told.old.items told.new.items
@@ -299,14 +317,22 @@ impl Receiver {
         ensures lets_go { LetsGo self.old self.new (I.failures inbox.old) (I.failures inbox.new)
             (I.staged inbox.new) }
         ensures calls { IfOk result (λ stored. Stages (Makes I.steps I.failures) stored
-            (staged_pieces offset bytes.now self.old) self.old self.new inbox.old inbox.new) }
+            (staged_pieces large offset bytes.now self.old) self.old self.new inbox.old inbox.new) }
         ensures keeps_calls { OnErr result (Makes I.steps I.failures (writes
-            self.old.addressing.id (staged_pieces offset bytes.now self.old))
+            self.old.addressing.id (staged_pieces large offset bytes.now self.old))
             inbox.old inbox.new) }
         ensures keeps_failures { OnErr result (I.failures inbox.new ≡ I.failures inbox.old) }
     {
+        let before = self.large;
+        self.raise(large);
         let stored = if self.phase == ReceiverPhase::Receiving {
-            self.receive_data(told, inbox, offset, bytes)?
+            match self.receive_data(told, inbox, large, offset, bytes) {
+                Ok(stored) => stored,
+                Err(e) => {
+                    self.large = before;
+                    return Err(e);
+                }
+            }
         } else {
             Stored::Done
         };
@@ -319,16 +345,18 @@ impl Receiver {
         &mut self,
         told: &mut Vec<Indication>,
         inbox: &mut I,
+        large: bool,
         condition: Condition,
         ending: Ending,
     ) -> Stored
         requires room { vec_len told.old + 3 ≤ vec_capacity told.old }
         requires ready { IsReady (I.staged inbox.old) self.old }
         requires receiving { self.old.phase ≡ ReceiverPhase.Receiving }
-        ensures does { Does (receives_eof result condition ending.checksum ending.size
+        requires limit { codes.size_limit large ≤ codes.size_limit self.old.large }
+        ensures does { Does (receives_eof result large condition ending.checksum ending.size
             (staged_for (I.staged inbox.old) self.old.addressing.id) (I.published inbox.old)
             self.old) self.new told.old.items told.new.items }
-        ensures stores { Stores (receives_eof result condition ending.checksum ending.size
+        ensures stores { Stores (receives_eof result large condition ending.checksum ending.size
             (staged_for (I.staged inbox.old) self.old.addressing.id) (I.published inbox.old)
             self.old) (I.published inbox.new) (I.staged inbox.old) (I.staged inbox.new) }
         ensures ready { IsReady (I.staged inbox.new) self.new }
@@ -344,7 +372,7 @@ impl Receiver {
             return Stored::Done;
         }
         if self.ending.is_none() {
-            return self.receive_first_eof(told, inbox, ending);
+            return self.receive_first_eof(told, inbox, large, ending);
         }
         self.ack_due = Some(Condition::NO_ERROR);
         self.nak_cursor = Some(0);
@@ -356,15 +384,17 @@ impl Receiver {
         &mut self,
         told: &mut Vec<Indication>,
         inbox: &mut I,
+        large: bool,
         ending: Ending,
     ) -> Stored
         requires room { vec_len told.old + 3 ≤ vec_capacity told.old }
         requires ready { IsReady (I.staged inbox.old) self.old }
         requires receiving { self.old.phase ≡ ReceiverPhase.Receiving }
-        ensures does { Does (first_eof result ending.checksum ending.size
+        requires limit { codes.size_limit large ≤ codes.size_limit self.old.large }
+        ensures does { Does (first_eof result large ending.checksum ending.size
             (staged_for (I.staged inbox.old) self.old.addressing.id) (I.published inbox.old)
             self.old) self.new told.old.items told.new.items }
-        ensures stores { Stores (first_eof result ending.checksum ending.size
+        ensures stores { Stores (first_eof result large ending.checksum ending.size
             (staged_for (I.staged inbox.old) self.old.addressing.id) (I.published inbox.old)
             self.old) (I.published inbox.new) (I.staged inbox.old) (I.staged inbox.new) }
         ensures ready { IsReady (I.staged inbox.new) self.new }
@@ -377,7 +407,7 @@ impl Receiver {
     {
         tell(told, Indication::EofRecv(self.addressing.id));
         self.ack_due = Some(Condition::NO_ERROR);
-        if self.contradicts(ending.size) {
+        if self.contradicts(large, ending.size) {
             self.fault(told, inbox, Condition::FILE_SIZE_ERROR);
             self.ending = Some(ending);
             return Stored::Done;
@@ -387,12 +417,13 @@ impl Receiver {
         self.complete(told, inbox)
     }
 
-    /// Whether the size that an EOF tells is below what is held, or above the greatest size.
-    fn contradicts(&self, size: u64) -> bool
-        ensures value { result ≡ contradicts size self.now }
-        ensures fits { result ≡ false → size ≤ size_limit }
+    /// Whether the size that an EOF tells is below what is held, or above the greatest size, by its
+    /// large file flag.
+    fn contradicts(&self, large: bool, size: u64) -> bool
+        ensures value { result ≡ contradicts large size self.now }
+        ensures fits { result ≡ false → size ≤ codes.size_limit large }
     {
-        size < self.held.end() || SIZE_LIMIT < size
+        size < self.held.end() || size_limit(large) < size
     }
 
     /// An EOF with an error ends the transaction.
@@ -428,28 +459,30 @@ impl Receiver {
         });
     }
 
-    /// Hears an EOF, with what it says of the file. It is acknowledged. In Receiving the first one
-    /// without an error is indicated, and the file is published if all of it is there; else what is
-    /// missing is asked for. One with an error ends the transaction. A size below what is held, or
-    /// above the greatest size, is a fault. Takes no memory.
+    /// Hears an EOF, with its large file flag and what it says of the file. It is acknowledged. In
+    /// Receiving the first one without an error is indicated, and the file is published if all of
+    /// it is there; else what is missing is asked for. One with an error ends the transaction. A
+    /// size below what is held, or above the greatest size, is a fault. Takes no memory.
     pub fn on_eof<I: Inbox>(
         &mut self,
         timers: &mut Timers,
         policy: &Policy,
         told: &mut Vec<Indication>,
         inbox: &mut I,
+        large: bool,
         condition: Condition,
         ending: Ending,
     ) -> Stored
         requires has_room { set.contains timers.old.roomy self.old.addressing.id ≡ true }
         requires room { vec_len told.old + 3 ≤ vec_capacity told.old }
         requires ready { IsReady (I.staged inbox.old) self.old }
-        ensures does { Does (hears_eof result condition ending.checksum ending.size
+        ensures does { Does (hears_eof result large condition ending.checksum ending.size
             (staged_for (I.staged inbox.old) self.old.addressing.id) (I.published inbox.old)
-            self.old) self.new told.old.items told.new.items }
-        ensures stores { Stores (hears_eof result condition ending.checksum ending.size
+            (flagged large self.old)) self.new told.old.items told.new.items }
+        ensures stores { Stores (hears_eof result large condition ending.checksum ending.size
             (staged_for (I.staged inbox.old) self.old.addressing.id) (I.published inbox.old)
-            self.old) (I.published inbox.new) (I.staged inbox.old) (I.staged inbox.new) }
+            (flagged large self.old)) (I.published inbox.new)
+            (I.staged inbox.old) (I.staged inbox.new) }
         ensures timers { timers.new
             ≡ timers_set policy.now.times (Some kinds.Inactivity) self.new timers.old }
         ensures ready { IsReady (I.staged inbox.new) self.new }
@@ -460,8 +493,9 @@ impl Receiver {
         ensures calls { Settles (Makes I.steps I.failures) result self.old self.new
             inbox.old inbox.new }
     {
+        self.raise(large);
         let stored = if self.phase == ReceiverPhase::Receiving {
-            self.receive_eof(told, inbox, condition, ending)
+            self.receive_eof(told, inbox, large, condition, ending)
         } else {
             self.ack_due = Some(condition);
             Stored::Done
@@ -470,36 +504,38 @@ impl Receiver {
         stored
     }
 
-    /// Hears an ACK of Finished, whatever it says. Where the Finished was sent the transaction is
-    /// closed; otherwise nothing changes. Takes no memory.
-    pub fn on_ack(&mut self, timers: &mut Timers, policy: &Policy)
+    /// Hears an ACK of Finished, with its large file flag, whatever it says. Where the Finished was
+    /// sent the transaction is closed; otherwise nothing changes but that flag. Takes no memory.
+    pub fn on_ack(&mut self, timers: &mut Timers, policy: &Policy, large: bool)
         requires has_room { set.contains timers.old.roomy self.old.addressing.id ≡ true }
         ensures receiver { (m : OctetMap) (files : FileMap) → self.new
-            ≡ (hears_ack m files self.old).receiver }
+            ≡ (hears_ack m files (flagged large self.old)).receiver }
         ensures ready { (staged : TransactionId → Option OctetMap) →
             IsReady staged self.old → IsReady staged self.new }
         ensures addressing { self.new.addressing ≡ self.old.addressing }
         ensures timers { timers.new
             ≡ timers_set policy.now.times (Some kinds.Inactivity) self.new timers.old }
     {
+        self.raise(large);
         if self.phase == ReceiverPhase::Finishing && self.finished_taken {
             self.end(ReceiverPhase::Closed);
         }
         self.heard(timers, policy);
     }
 
-    /// Hears a Prompt. In Receiving a Keep Alive is due, or a NAK; otherwise nothing changes. Takes
-    /// no memory.
-    pub fn on_prompt(&mut self, timers: &mut Timers, policy: &Policy, keep_alive: bool)
+    /// Hears a Prompt, with its large file flag. In Receiving a Keep Alive is due, or a NAK;
+    /// otherwise nothing changes but that flag. Takes no memory.
+    pub fn on_prompt(&mut self, timers: &mut Timers, policy: &Policy, large: bool, keep_alive: bool)
         requires has_room { set.contains timers.old.roomy self.old.addressing.id ≡ true }
         ensures receiver { (m : OctetMap) (files : FileMap) → self.new
-            ≡ (hears_prompt keep_alive m files self.old).receiver }
+            ≡ (hears_prompt keep_alive m files (flagged large self.old)).receiver }
         ensures ready { (staged : TransactionId → Option OctetMap) →
             IsReady staged self.old → IsReady staged self.new }
         ensures addressing { self.new.addressing ≡ self.old.addressing }
         ensures timers { timers.new
             ≡ timers_set policy.now.times (Some kinds.Inactivity) self.new timers.old }
     {
+        self.raise(large);
         if self.phase == ReceiverPhase::Receiving {
             if keep_alive {
                 self.keep_alive_due = true;
@@ -508,6 +544,14 @@ impl Receiver {
             }
         }
         self.heard(timers, policy);
+    }
+
+    /// A PDU with this large file flag is heard: what is sent has the flag once one was.
+    pub(crate) fn raise(&mut self, large: bool)
+        ensures receiver { self.new ≡ flagged large self.old }
+        ensures limit { codes.size_limit large ≤ codes.size_limit self.new.large }
+    {
+        self.large |= large;
     }
 
     /// A PDU was heard: a NAK that is due is over if nothing is missing, and Inactivity is armed
@@ -531,14 +575,15 @@ fn is_supported(kind: ChecksumKind) -> bool
 }
 
 /// Whether file data of so many octets, from an offset on, end behind the EOF's size, where one was
-/// heard, or behind the greatest size.
-fn exceeds(ending: Option<Ending>, offset: u64, len: usize) -> bool
-    ensures value { result ≡ steps.exceeds ending (offset + len) }
-    ensures fits { result ≡ false → offset + len ≤ size_limit }
+/// heard, or behind the greatest size, by their large file flag. An end that no number can say is
+/// behind that too.
+fn exceeds(large: bool, ending: Option<Ending>, offset: u64, len: usize) -> bool
+    ensures value { result ≡ steps.exceeds large ending (offset + len) }
+    ensures fits { result ≡ false → offset + len ≤ codes.size_limit large }
 {
     let end = offset.saturating_add(len as u64);
     match ending {
-        Some(ending) => ending.size < end || SIZE_LIMIT < end,
-        None => SIZE_LIMIT < end,
+        Some(ending) => ending.size < end || size_limit(large) < end,
+        None => size_limit(large) < end,
     }
 }

@@ -16,7 +16,7 @@ ghost use Rattle.cfdp_directives.specs.Pdu.Checksum.{modular_checksum};
 ghost use Rattle.cfdp_directives.specs.Pdu.Codes.{filestore_rejection};
 ghost use Rattle.cfdp_directives.specs.User.Completions.{is_finished};
 ghost use Rattle.cfdp_directives.specs.Pdu.Content.{Content};
-ghost use Rattle.cfdp_directives.specs.Pdu.Small.{SpellsSmall};
+ghost use Rattle.cfdp_directives.specs.Pdu.Grammar.{SpellsPdu};
 ghost use Rattle.cfdp_directives.specs.User.Policy.{finished_told};
 ghost use Rattle.cfdp_directives.specs.User.Put.{Put, IsTruthful};
 ghost use Rattle.cfdp_extents.specs.Offsets.{Offsets, is_within};
@@ -109,17 +109,17 @@ pub fn a_transaction_is_finished_once()
 
 /// What opens a record indicates at most that it is finished, where the inbox refused to begin.
 pub fn an_opening_may_finish()
-    ensures once { (stored : Stored) (files : FileMap) (addressing : Addressing)
-        (id : TransactionId) → count_by (is_finished id) (opens stored files addressing).told
-        + open_count (opens stored files addressing).receiver.phase ≤ 1 }
-    ensures own { (stored : Stored) (files : FileMap) (addressing : Addressing)
+    ensures once { (stored : Stored) (large : Bool) (files : FileMap) (addressing : Addressing)
+        (id : TransactionId) → count_by (is_finished id) (opens stored large files addressing).told
+        + open_count (opens stored large files addressing).receiver.phase ≤ 1 }
+    ensures own { (stored : Stored) (large : Bool) (files : FileMap) (addressing : Addressing)
         (id : TransactionId) → same_id addressing.id id ≡ false
-        → count_by (is_finished id) (opens stored files addressing).told ≡ 0 }
-    ensures none { (stored : Stored) (files : FileMap) (addressing : Addressing) →
-        PublishesNone files (opens stored files addressing) }
-    ensures outcome { (stored : Stored) (files : FileMap) (addressing : Addressing)
-        (o : Outcome) → (opens stored files addressing).receiver.outcome ≡ Some o
-        → Contains (opens stored files addressing).told (finished_told addressing.id o) }
+        → count_by (is_finished id) (opens stored large files addressing).told ≡ 0 }
+    ensures none { (stored : Stored) (large : Bool) (files : FileMap) (addressing : Addressing) →
+        PublishesNone files (opens stored large files addressing) }
+    ensures outcome { (stored : Stored) (large : Bool) (files : FileMap) (addressing : Addressing)
+        (o : Outcome) → (opens stored large files addressing).receiver.outcome ≡ Some o
+        → Contains (opens stored large files addressing).told (finished_told addressing.id o) }
 {}
 
 /// In Finishing, a Finished is due or was taken. It says what was indicated.
@@ -127,10 +127,10 @@ pub fn a_finished_says_what_was_indicated()
     ensures step { (stored : Stored) (input : ReceiverInput) (m : OctetMap) (files : FileMap)
         (r : ReceiverState) → owes_finished r ≡ true
         → owes_finished (receiver_step stored input m files r).receiver ≡ true }
-    ensures opened { (stored : Stored) (files : FileMap) (addressing : Addressing) →
-        owes_finished (opens stored files addressing).receiver ≡ true }
-    ensures closed { (condition : ℕ) (addressing : Addressing) →
-        owes_finished (opened_closed condition addressing) ≡ true }
+    ensures opened { (stored : Stored) (large : Bool) (files : FileMap) (addressing : Addressing) →
+        owes_finished (opens stored large files addressing).receiver ≡ true }
+    ensures closed { (large : Bool) (condition : ℕ) (addressing : Addressing) →
+        owes_finished (opened_closed large condition addressing) ≡ true }
     ensures says { (r : ReceiverState) (o : Outcome) →
         receiver_due r ≡ Some (due.Finished o) → r.outcome ≡ Some o }
 {}
@@ -140,10 +140,10 @@ pub fn a_nak_that_is_due_asks_for_something()
     ensures step { (stored : Stored) (input : ReceiverInput) (m : OctetMap) (files : FileMap)
         (r : ReceiverState) → is_tidy r ≡ true
         → is_tidy (receiver_step stored input m files r).receiver ≡ true }
-    ensures opened { (stored : Stored) (files : FileMap) (addressing : Addressing) →
-        is_tidy (opens stored files addressing).receiver ≡ true }
-    ensures closed { (condition : ℕ) (addressing : Addressing) →
-        is_tidy (opened_closed condition addressing) ≡ true }
+    ensures opened { (stored : Stored) (large : Bool) (files : FileMap) (addressing : Addressing) →
+        is_tidy (opens stored large files addressing).receiver ≡ true }
+    ensures closed { (large : Bool) (condition : ℕ) (addressing : Addressing) →
+        is_tidy (opened_closed large condition addressing) ≡ true }
 {
     a_set_is_what_it_holds();
     the_gaps_are_those_ranges();
@@ -166,10 +166,10 @@ pub fn a_file_that_comes_in_lacks_something()
     ensures step { (stored : Stored) (input : ReceiverInput) (m : OctetMap) (files : FileMap)
         (r : ReceiverState) → is_lacking r ≡ true
         → is_lacking (receiver_step stored input m files r).receiver ≡ true }
-    ensures opened { (stored : Stored) (files : FileMap) (addressing : Addressing) →
-        is_lacking (opens stored files addressing).receiver ≡ true }
-    ensures closed { (condition : ℕ) (addressing : Addressing) →
-        is_lacking (opened_closed condition addressing) ≡ true }
+    ensures opened { (stored : Stored) (large : Bool) (files : FileMap) (addressing : Addressing) →
+        is_lacking (opens stored large files addressing).receiver ≡ true }
+    ensures closed { (large : Bool) (condition : ℕ) (addressing : Addressing) →
+        is_lacking (opened_closed large condition addressing) ≡ true }
 {}
 
 /// While no end without a whole file is indicated, a transaction is received or came to a whole
@@ -180,9 +180,9 @@ pub fn what_goes_well_ends_well()
         list_any is_bad_end (receiver_step stored input m files r).told ≡ false
         → goes_well r ≡ true
         → goes_well (receiver_step stored input m files r).receiver ≡ true }
-    ensures opened { (stored : Stored) (files : FileMap) (addressing : Addressing) →
-        list_any is_bad_end (opens stored files addressing).told ≡ false
-        → goes_well (opens stored files addressing).receiver ≡ true }
+    ensures opened { (stored : Stored) (large : Bool) (files : FileMap) (addressing : Addressing) →
+        list_any is_bad_end (opens stored large files addressing).told ≡ false
+        → goes_well (opens stored large files addressing).receiver ≡ true }
 {}
 
 /// A fault of the inbox is indicated only where the inbox refused. Where it refused and no such
@@ -192,8 +192,8 @@ pub fn a_rejection_has_a_refusal()
         (r : ReceiverState) →
         0 < fault_count filestore_rejection (receiver_step stored input m files r).told
         → stored ≡ Refused }
-    ensures opened { (stored : Stored) (files : FileMap) (addressing : Addressing) →
-        0 < fault_count filestore_rejection (opens stored files addressing).told
+    ensures opened { (stored : Stored) (large : Bool) (files : FileMap) (addressing : Addressing) →
+        0 < fault_count filestore_rejection (opens stored large files addressing).told
         → stored ≡ Refused }
     ensures indicated { (input : ReceiverInput) (m : OctetMap) (files : FileMap)
         (r : ReceiverState) →
@@ -221,26 +221,28 @@ pub fn timers_are_those_waited_for()
 /// The same of a receiver that was just opened and heard the PDU that opened it, if none of its
 /// timers was armed before. One that isn't begun, or is closed at once, waits for none.
 pub fn an_opened_receiver_has_its_timers()
-    ensures armed { (times : Times) (begun stored : Stored) (v : Content) (files : FileMap)
-        (addressing : Addressing) (timers : TimersState) (k : Kind) →
-        waits k (opens_hearing begun stored v files addressing).receiver ≡ true
+    ensures armed { (times : Times) (begun stored : Stored) (large : Bool) (v : Content)
+        (files : FileMap) (addressing : Addressing) (timers : TimersState) (k : Kind) →
+        waits k (opens_hearing begun stored large v files addressing).receiver ≡ true
         → IsSome (deadline_of (timers_opened times begun
-        (opens_hearing begun stored v files addressing) timers) addressing.id k) }
-    ensures clear { (times : Times) (begun stored : Stored) (v : Content) (files : FileMap)
-        (addressing : Addressing) (timers : TimersState) (k : Kind) →
+        (opens_hearing begun stored large v files addressing) timers) addressing.id k) }
+    ensures clear { (times : Times) (begun stored : Stored) (large : Bool) (v : Content)
+        (files : FileMap) (addressing : Addressing) (timers : TimersState) (k : Kind) →
         deadline_of timers addressing.id k ≡ None
-        → waits k (opens_hearing begun stored v files addressing).receiver ≡ false
+        → waits k (opens_hearing begun stored large v files addressing).receiver ≡ false
         → deadline_of (timers_opened times begun
-        (opens_hearing begun stored v files addressing) timers) addressing.id k ≡ None }
-    ensures others { (times : Times) (begun stored : Stored) (v : Content) (files : FileMap)
-        (addressing : Addressing) (timers : TimersState) (id : TransactionId) (k : Kind) →
+        (opens_hearing begun stored large v files addressing) timers) addressing.id k ≡ None }
+    ensures others { (times : Times) (begun stored : Stored) (large : Bool) (v : Content)
+        (files : FileMap) (addressing : Addressing) (timers : TimersState) (id : TransactionId)
+        (k : Kind) →
         same_id addressing.id id ≡ false
         → deadline_of (timers_opened times begun
-        (opens_hearing begun stored v files addressing) timers) id k ≡ deadline_of timers id k }
-    ensures refused { (files : FileMap) (addressing : Addressing) (k : Kind) →
-        waits k (opens Refused files addressing).receiver ≡ false }
-    ensures closed { (condition : ℕ) (addressing : Addressing) (k : Kind) →
-        waits k (opened_closed condition addressing) ≡ false }
+        (opens_hearing begun stored large v files addressing) timers) id k
+        ≡ deadline_of timers id k }
+    ensures refused { (large : Bool) (files : FileMap) (addressing : Addressing) (k : Kind) →
+        waits k (opens Refused large files addressing).receiver ≡ false }
+    ensures closed { (large : Bool) (condition : ℕ) (addressing : Addressing) (k : Kind) →
+        waits k (opened_closed large condition addressing) ≡ false }
 {
     a_transaction_is_finished_once();
     timers_are_those_waited_for();
@@ -255,12 +257,12 @@ pub fn what_is_heard_true_is_kept_true()
         IsTrueInput put heard input → Sound put heard r m
         → Sound put heard (receiver_step stored input m files r).receiver
         (receiver_step stored input m files r).octets }
-    ensures opened { (put : Put) (heard : List (List ℕ)) (stored : Stored) (files : FileMap)
-        (addressing : Addressing) → Sound put heard (opens stored files addressing).receiver
-        (opens stored files addressing).octets }
-    ensures closed { (put : Put) (heard : List (List ℕ)) (condition : ℕ)
+    ensures opened { (put : Put) (heard : List (List ℕ)) (stored : Stored) (large : Bool)
+        (files : FileMap) (addressing : Addressing) → Sound put heard
+        (opens stored large files addressing).receiver (opens stored large files addressing).octets }
+    ensures closed { (put : Put) (heard : List (List ℕ)) (large : Bool) (condition : ℕ)
         (addressing : Addressing) (m : OctetMap) →
-        Sound put heard (opened_closed condition addressing) m }
+        Sound put heard (opened_closed large condition addressing) m }
 {
     a_set_is_what_it_holds();
     the_end_is_one_past_the_last();
@@ -277,7 +279,7 @@ pub fn more_is_heard()
         ((text : List ℕ) → Contains heard text → Contains others text)
         → Sound put heard r m → Sound put others r m }
     ensures last { (put : Put) (heard : List (List ℕ)) (text : List ℕ) (h : Header)
-        (v : Content) → SpellsSmall h v text → h.id ≡ put.id → IsTruthful put v
+        (v : Content) → SpellsPdu h v text → h.id ≡ put.id → IsTruthful put v
         → IsAmong put (heard ++ text ∷ []) v }
     ensures staged { (put : Put) (heard : List (List ℕ)) (r : ReceiverState) (m n : OctetMap) →
         (r.phase ≡ Receiving → (k : ℕ) → set.contains r.held k ≡ true → map.get n k ≡ map.get m k)

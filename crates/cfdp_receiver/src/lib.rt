@@ -5,8 +5,8 @@
 //! ```rust
 //! let address = Addressing::of(&header);
 //! let (mut receiver, _) =
-//!     Receiver::open(alloc, address, &mut timers, &mut told, &mut inbox)?;
-//! receiver.on_data(&mut timers, &policy, &mut told, &mut inbox, 0, b"hello")?;
+//!     Receiver::open(alloc, address, false, &mut timers, &mut told, &mut inbox)?;
+//! receiver.on_data(&mut timers, &policy, &mut told, &mut inbox, false, 0, b"hello")?;
 //! if receiver.due().is_some() {
 //!     let len = receiver.take_pdu(&mut timers, &policy, &mut out);
 //!     // The PDU is the first `len` octets of `out`.

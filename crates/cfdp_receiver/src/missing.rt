@@ -1,7 +1,7 @@
 // What a receiver misses.
 ghost use Rattle.std.specs.Prelude.{◌≡◌, ◌==◌, ◌&&◌, ◌≤◌, not, is_none};
 ghost use Rattle.cfdp_extents.specs.Terms.{end_of};
-ghost use Rattle.cfdp_receiver.specs.State.{size_limit};
+ghost use Rattle.cfdp_directives.specs.Pdu.Codes.{size_limit};
 ghost use Rattle.cfdp_receiver.specs.Missing as missing;
 ghost use Rattle.cfdp_receiver.specs.Missing.{missing_pairs, is_empty, tidied};
 
@@ -12,7 +12,8 @@ impl Receiver {
     /// Up to which offset something can be missing.
     pub(crate) fn scope_limit(&self) -> u64
         ensures value { result ≡ missing.scope_limit self.now }
-        ensures fits { self.now.phase ≡ ReceiverPhase.Receiving → result ≤ size_limit }
+        ensures fits { self.now.phase ≡ ReceiverPhase.Receiving
+            → result ≤ size_limit self.now.large }
     {
         match self.ending {
             Some(ending) => ending.size,
@@ -24,7 +25,7 @@ impl Receiver {
     #[tactic(auto, using(crate::proofs::Held::end_below))]
     pub(crate) fn held_end(&self) -> u64
         ensures value { result ≡ end_of self.now.held }
-        ensures fits { result ≤ size_limit }
+        ensures fits { result ≤ size_limit self.now.large }
     {
         self.held.end()
     }

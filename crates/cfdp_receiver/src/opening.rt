@@ -20,8 +20,8 @@ impl Receiver {
     /// Opens the record of a transaction, by its first Metadata, file data or EOF without an error.
     /// The transaction is begun in the inbox. Where that answers `Done`, the receiver hears the PDU
     /// next, and that sets its timers; until then none runs. Where the inbox refuses, that is a
-    /// fault, the receiver waits for no timer, and the PDU isn't taken further. Answers are written
-    /// in the widths given.
+    /// fault, the receiver waits for no timer, and of the PDU only its large file flag counts.
+    /// Answers are written in the widths given.
     ///
     /// # Errors
     ///
@@ -29,6 +29,7 @@ impl Receiver {
     pub fn open<I: Inbox>(
         alloc: Global,
         addressing: Addressing,
+        large: bool,
         timers: &mut Timers,
         told: &mut Vec<Indication>,
         inbox: &mut I,
@@ -36,10 +37,10 @@ impl Receiver {
         requires addressing { FitsAddressing addressing }
         requires room { vec_len told.old + 3 ≤ vec_capacity told.old }
         ensures does { IfOk result (λ opened. Does
-            (opens opened.1 (I.published inbox.old) addressing)
+            (opens opened.1 large (I.published inbox.old) addressing)
             opened.0 told.old.items told.new.items) }
         ensures stores { IfOk result (λ opened. Stores
-            (opens opened.1 (I.published inbox.old) addressing)
+            (opens opened.1 large (I.published inbox.old) addressing)
             (I.published inbox.new) (I.staged inbox.old) (I.staged inbox.new)) }
         ensures tells_nothing { IfOk result (λ opened.
             opened.1 ≡ Stored.Done → told.new ≡ told.old) }
@@ -63,14 +64,16 @@ impl Receiver {
         match inbox.begin(addressing.id) {
             Ok(()) => Ok((receiver, Stored::Done)),
             Err(_) => {
+                receiver.raise(large);
                 receiver.fault(told, inbox, Condition::FILESTORE_REJECTION);
                 Ok((receiver, Stored::Refused))
             }
         }
     }
 
-    /// Opens the record of a transaction by an EOF with an error: it is closed at once, and the EOF
-    /// is acknowledged. Nothing is indicated, and the inbox isn't called.
+    /// Opens the record of a transaction by an EOF with an error, with its large file flag: it is
+    /// closed at once, and the EOF is acknowledged. Nothing is indicated, and the inbox isn't
+    /// called.
     ///
     /// # Errors
     ///
@@ -78,11 +81,13 @@ impl Receiver {
     pub fn open_closed(
         alloc: Global,
         addressing: Addressing,
+        large: bool,
         timers: &mut Timers,
         condition: Condition,
     ) -> Result<Receiver, AllocError>
         requires addressing { FitsAddressing addressing }
-        ensures receiver { IfOk result (λ receiver. receiver ≡ opened_closed condition addressing) }
+        ensures receiver { IfOk result (λ receiver.
+            receiver ≡ opened_closed large condition addressing) }
         ensures timers { OnOk result (timers.new
             ≡ record timers.old { roomy = set.insert timers.old.roomy addressing.id }) }
         ensures keeps_timers { OnErr result (timers.new ≡ timers.old) }
@@ -91,6 +96,7 @@ impl Receiver {
         timers.room(addressing.id)?;
         let mut receiver = Receiver::new(alloc, addressing);
         receiver.end(ReceiverPhase::Closed);
+        receiver.raise(large);
         receiver.ack_due = Some(condition);
         Ok(receiver)
     }

@@ -16,9 +16,6 @@ use cfdp_timers::{Kind, Timers, Wait, Waits, is_anew};
 use std::alloc::{AllocError, Global};
 use std::marker::Model;
 
-/// The greatest size of a file, in octets.
-pub(crate) const SIZE_LIMIT: u64 = 4_294_967_295;
-
 /// The receiving side of one transaction (CCSDS 727.0-B-5, 4.6.1.2 and 4.6.4).
 ///
 /// It keeps which octets of the file are held, and their checksum, but no octets: those are staged
@@ -28,6 +25,8 @@ pub(crate) const SIZE_LIMIT: u64 = 4_294_967_295;
 pub struct Receiver {
     pub(crate) alloc: Global,
     pub(crate) addressing: Addressing,
+    // Whether a PDU with the large file flag was heard.
+    pub(crate) large: bool,
     pub(crate) phase: ReceiverPhase,
     pub(crate) suspended: bool,
     pub(crate) metadata: Option<FileInfo>,
@@ -59,6 +58,7 @@ impl Model for Receiver {
 
     ghost view = { λ r. record {
       addressing = r.addressing;
+      large = r.large;
       phase = r.phase;
       suspended = r.suspended;
       metadata = r.metadata;
@@ -76,7 +76,7 @@ impl Model for Receiver {
     } };
 
     ghost invariant = { λ r.
-        IsReceiver r.addressing r.phase r.suspended r.ending r.held r.nak_cursor };
+        IsReceiver r.addressing r.large r.phase r.suspended r.ending r.held r.nak_cursor };
 }
 
 impl Receiver {
@@ -89,6 +89,7 @@ impl Receiver {
         Receiver {
             alloc,
             addressing,
+            large: false,
             phase: ReceiverPhase::Receiving,
             suspended: false,
             metadata: None,

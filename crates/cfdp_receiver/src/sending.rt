@@ -3,16 +3,16 @@ ghost use Rattle.std.specs.Prelude.{◌≡◌, ◌≤◌, Option, Some, is_some,
 ghost use Rattle.std.specs.FinSet as set;
 ghost use Rattle.cfdp_header.specs.declared.value.TransactionId.{TransactionId};
 ghost use Rattle.cfdp_directives.specs.Pdu.Addressing as addressings;
-ghost use Rattle.cfdp_directives.specs.Pdu.Codes.{file_size_octets};
+ghost use Rattle.cfdp_directives.specs.Pdu.Codes.{file_size_octets, size_limit};
 ghost use Rattle.cfdp_directives.specs.Pdu.Content.{view};
 ghost use Rattle.cfdp_directives.specs.Pdu.Written.{content_len, FitsContent, CanWrite, pdu_octets};
 ghost use Rattle.std.specs.List.{flat_map};
 ghost use Rattle.cfdp_directives.specs.Pdu.Tlv.{tlv};
 ghost use Rattle.cfdp_store.specs.Staged.{OctetMap};
 ghost use Rattle.cfdp_receiver.specs.declared.due.Due.TheVariants as due_is;
-ghost use Rattle.cfdp_receiver.specs.State.{IsReady, size_limit};
+ghost use Rattle.cfdp_receiver.specs.State.{IsReady};
 ghost use Rattle.cfdp_receiver.specs.Missing.{missing_pairs};
-ghost use Rattle.cfdp_receiver.specs.Asked.{IsWritable, AsksFor};
+ghost use Rattle.cfdp_receiver.specs.Asked.{IsFilled, IsWritable, AsksFor};
 ghost use Rattle.cfdp_receiver.specs.Due as dues;
 ghost use Rattle.cfdp_receiver.specs.Due.{receiver_due, receiver_says, receiver_taken, nak_first, finished_by, due_len, location_told, IsWritableIn};
 ghost use Rattle.cfdp_receiver.specs.Steps as steps;
@@ -36,7 +36,7 @@ impl Receiver {
         ensures len { result ≡ due_len self.now }
         ensures short { IfSome result (λ len. len ≤ 4128) }
         ensures can_write { IfSome (receiver_due self.now) (λ d. let v = receiver_says self.now d in
-            CanWrite (addressings.header_of self.now.addressing false v) v) }
+            CanWrite (addressings.header_of self.now.addressing self.now.large v) v) }
     {
         let due = self.next_due()?;
         Some(self.len_of(&due))
@@ -59,7 +59,7 @@ impl Receiver {
         ensures len { due_len self.old ≡ Some result }
         ensures front { IfSome (receiver_due self.old) (λ d. let v = receiver_says self.old d in
             take result out.new
-            ≡ pdu_octets (addressings.header_of self.old.addressing false v) v) }
+            ≡ pdu_octets (addressings.header_of self.old.addressing self.old.large v) v) }
         ensures behind { drop result out.new ≡ drop result out.old }
         ensures receiver { IfSome (receiver_due self.old) (λ d.
             self.new ≡ receiver_taken d self.old) }
@@ -128,16 +128,21 @@ impl Receiver {
     fn len_of(&self, due: &Due) -> usize
         requires { IsWritableIn self.now due.now }
         ensures len { result
-            ≡ addressings.written_len self.now.addressing false (receiver_says self.now due.now) }
+            ≡ addressings.written_len self.now.addressing self.now.large
+            (receiver_says self.now due.now) }
         ensures short { result ≤ 4128 }
         ensures can_write { let v = receiver_says self.now due.now in
-            CanWrite (addressings.header_of self.now.addressing false v) v }
+            CanWrite (addressings.header_of self.now.addressing self.now.large v) v }
     {
         match due {
-            Due::AckOfEof(condition) => self.addressing.written_len(false, &self.ack(*condition)),
+            Due::AckOfEof(condition) => self
+                .addressing
+                .written_len(self.large, &self.ack(*condition)),
             Due::Nak(cursor) => self.len_of_nak(*cursor),
-            Due::KeepAlive => self.addressing.written_len(false, &self.keep_alive()),
-            Due::Finished(outcome) => self.addressing.written_len(false, &self.finished(outcome)),
+            Due::KeepAlive => self.addressing.written_len(self.large, &self.keep_alive()),
+            Due::Finished(outcome) => self
+                .addressing
+                .written_len(self.large, &self.finished(outcome)),
         }
     }
 
@@ -146,29 +151,31 @@ impl Receiver {
     #[tactic(auto, using(crate::proofs::AskedLemmas::nak_fits))]
     fn len_of_nak(&self, cursor: u64) -> usize
         requires receiving { self.now.phase ≡ ReceiverPhase.Receiving }
-        requires cursor { cursor ≤ size_limit }
+        requires cursor { cursor ≤ size_limit self.now.large }
         ensures len { result
-            ≡ addressings.written_len self.now.addressing false
+            ≡ addressings.written_len self.now.addressing self.now.large
             (receiver_says self.now (due_is.Nak cursor)) }
         ensures short { result ≤ 4128 }
         ensures can_write { let v = receiver_says self.now (due_is.Nak cursor) in
-            CanWrite (addressings.header_of self.now.addressing false v) v }
+            CanWrite (addressings.header_of self.now.addressing self.now.large v) v }
     {
         let gaps = self.held.missing_in(cursor, self.scope_limit());
         let pairs = count_asked(self.asks_for_metadata(cursor), gaps);
         Header::len_in_widths(self.addressing.id_width, self.addressing.number_width)
-            + nak_len(false, pairs)
+            + nak_len(self.large, pairs)
     }
 
     /// Writes the PDU, and goes on behind it.
     fn send(&mut self, due: &Due, out: &mut [u8]) -> usize
         requires writable { IsWritableIn self.old due.now }
-        requires room { addressings.written_len self.old.addressing false
+        requires room { addressings.written_len self.old.addressing self.old.large
             (receiver_says self.old due.now) ≤ length out.old }
         ensures len { result
-            ≡ addressings.written_len self.old.addressing false (receiver_says self.old due.now) }
+            ≡ addressings.written_len self.old.addressing self.old.large
+            (receiver_says self.old due.now) }
         ensures front { let v = receiver_says self.old due.now in
-            take result out.new ≡ pdu_octets (addressings.header_of self.old.addressing false v) v }
+            take result out.new
+            ≡ pdu_octets (addressings.header_of self.old.addressing self.old.large v) v }
         ensures behind { drop result out.new ≡ drop result out.old }
         ensures receiver { self.new ≡ receiver_taken due.now self.old }
         ensures ready { (staged : TransactionId → Option OctetMap) →
@@ -177,7 +184,9 @@ impl Receiver {
     {
         match due {
             Due::AckOfEof(condition) => {
-                let len = self.addressing.write_pdu(false, &self.ack(*condition), out);
+                let len = self
+                    .addressing
+                    .write_pdu(self.large, &self.ack(*condition), out);
                 self.ack_due = None;
                 len
             }
@@ -185,19 +194,21 @@ impl Receiver {
                 let asked = self.asked(*cursor);
                 let len = self
                     .addressing
-                    .write_pdu(false, &self.nak(*cursor, &asked), out);
+                    .write_pdu(self.large, &self.nak(*cursor, &asked), out);
                 self.nak_cursor = asked.next_cursor();
                 len
             }
             Due::KeepAlive => {
-                let len = self.addressing.write_pdu(false, &self.keep_alive(), out);
+                let len = self
+                    .addressing
+                    .write_pdu(self.large, &self.keep_alive(), out);
                 self.keep_alive_due = false;
                 len
             }
             Due::Finished(outcome) => {
                 let len = self
                     .addressing
-                    .write_pdu(false, &self.finished(outcome), out);
+                    .write_pdu(self.large, &self.finished(outcome), out);
                 self.finished_due = false;
                 self.finished_taken = true;
                 len
@@ -207,8 +218,8 @@ impl Receiver {
 
     fn ack<'a>(&self, condition: Condition) -> Pdu<'a>
         ensures says { view result ≡ receiver_says self.now (due_is.AckOfEof condition) }
-        ensures fits { FitsContent (file_size_octets false) (view result) }
-        ensures short { content_len (file_size_octets false) (view result) ≤ 4100 }
+        ensures fits { FitsContent (file_size_octets self.now.large) (view result) }
+        ensures short { content_len (file_size_octets self.now.large) (view result) ≤ 4100 }
     {
         let _any_condition_fits = condition.code();
         Pdu::Ack {
@@ -218,10 +229,11 @@ impl Receiver {
         }
     }
 
+    #[tactic(auto, using(crate::proofs::AskedLemmas::fits_field))]
     fn keep_alive<'a>(&self) -> Pdu<'a>
         ensures says { view result ≡ receiver_says self.now due_is.KeepAlive }
-        ensures fits { FitsContent (file_size_octets false) (view result) }
-        ensures short { content_len (file_size_octets false) (view result) ≤ 4100 }
+        ensures fits { FitsContent (file_size_octets self.now.large) (view result) }
+        ensures short { content_len (file_size_octets self.now.large) (view result) ≤ 4100 }
     {
         Pdu::KeepAlive {
             progress: self.held_end(),
@@ -230,8 +242,8 @@ impl Receiver {
 
     fn finished<'a>(&self, outcome: &Outcome) -> Pdu<'a>
         ensures says { view result ≡ receiver_says self.now (due_is.Finished outcome.now) }
-        ensures fits { FitsContent (file_size_octets false) (view result) }
-        ensures short { content_len (file_size_octets false) (view result) ≤ 4100 }
+        ensures fits { FitsContent (file_size_octets self.now.large) (view result) }
+        ensures short { content_len (file_size_octets self.now.large) (view result) ≤ 4100 }
     {
         let condition = outcome.condition;
         let _any_condition_fits = condition.code();
@@ -255,14 +267,16 @@ impl Receiver {
         }
     }
 
+    #[tactic(auto, using(crate::proofs::AskedLemmas::fits_field))]
     fn nak<'a>(&self, cursor: u64, asked: &'a Asked) -> Pdu<'a>
         requires receiving { self.now.phase ≡ ReceiverPhase.Receiving }
-        requires cursor { cursor ≤ size_limit }
+        requires cursor { cursor ≤ size_limit self.now.large }
         requires asks { AsksFor (missing_pairs cursor self.now) asked.now }
-        requires writable { IsWritable asked.now }
+        requires filled { IsFilled asked.now }
+        requires writable { IsWritable self.now.large asked.now }
         ensures says { view result ≡ receiver_says self.now (due_is.Nak cursor) }
-        ensures fits { FitsContent (file_size_octets false) (view result) }
-        ensures short { content_len (file_size_octets false) (view result) ≤ 4100 }
+        ensures fits { FitsContent (file_size_octets self.now.large) (view result) }
+        ensures short { content_len (file_size_octets self.now.large) (view result) ≤ 4100 }
     {
         Pdu::Nak {
             start: cursor,
@@ -275,7 +289,8 @@ impl Receiver {
     fn asked(&self, cursor: u64) -> Asked
         requires { self.now.phase ≡ ReceiverPhase.Receiving }
         ensures asks { AsksFor (missing_pairs cursor self.now) result }
-        ensures writable { IsWritable result }
+        ensures filled { IsFilled result }
+        ensures writable { IsWritable self.now.large result }
     {
         let limit = self.scope_limit();
         let gaps = self.held.missing_in(cursor, limit);

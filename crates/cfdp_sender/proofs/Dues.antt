@@ -15,7 +15,8 @@ use Rattle.cfdp_extents.proofs.CallerLemmas.{contains-range, front-is}
 use Rattle.std.specs.Option.{option_map}
 use Rattle.cfdp_directives.specs.Pdu.Content.{Content}
 use Rattle.cfdp_directives.specs.Pdu.Addressing.{header_of, written_len}
-use Rattle.cfdp_directives.specs.Pdu.Codes.{file_size_octets, IsCondition, modular}
+use Rattle.cfdp_directives.specs.Pdu.Codes.{file_size_octets, is_large, IsCondition, modular}
+use Rattle.cfdp_directives.proofs.FileSizes.{own_fits, octets_most}
 use Rattle.cfdp_directives.specs.Pdu.Tlv.{tlv, fault_location}
 use Rattle.cfdp_directives.specs.Pdu.Written.{content_len, FitsContent, CanWrite}
 use Rattle.cfdp_directives.proofs.Addressed.{can_write}
@@ -129,32 +130,38 @@ told-fits x s = elim (x.checksum_kind == modular) as (λ b. (if b then x.checksu
 
 -- each number fits its field, and the data field is short
 abbrev pub Fits : SenderState → SenderDue → List ℕ → Type 0
-Fits x d bytes = FitsContent (file_size_octets false) (pdu_says bytes x d) × (content_len (file_size_octets false) (pdu_says bytes x d) < 2 ^ 16)
+Fits x d bytes = FitsContent (file_size_octets (is_large x.size)) (pdu_says bytes x d) × (content_len (file_size_octets (is_large x.size)) (pdu_says bytes x d) < 2 ^ 16)
 
-eof-fits : (x : SenderState) (p : SenderPhase) → IsSender x → FitsContent (file_size_octets false) (eof_says p x) × (content_len (file_size_octets false) (eof_says p x) < 2 ^ 16)
-eof-fits x Sending s = (((lit< tt, refl), told-fits x s, s.transfer.size), lit< tt)
+-- each offset of the file and its size fit their fields
+pub below-fits : (x : SenderState) (n : ℕ) → IsSender x → n ≤ x.size → n < 256 ^ file_size_octets (is_large x.size)
+below-fits x n s low = omega (arith, low, own_fits x.size s.transfer.size)
+
+eof-fits : (x : SenderState) (p : SenderPhase) → IsSender x →
+    FitsContent (file_size_octets (is_large x.size)) (eof_says p x) × (content_len (file_size_octets (is_large x.size)) (eof_says p x) < 2 ^ 16)
+eof-fits x Sending s = (((lit< tt, refl), told-fits x s, below-fits x x.size s (omega arith)), omega (arith, octets_most (is_large x.size)))
 eof-fits x Cancelling s = (
-  (s.condition, told-fits x s, omega (arith, s.sent, s.transfer.size)),
+  (s.condition, told-fits x s, below-fits x x.sent s s.sent),
   let len = location-len x.addressing.id.source x.addressing.id_width in
-      omega (arith, len, s.transfer.addressing.id.id_width.1),
+      omega (arith, len, octets_most (is_large x.size), s.transfer.addressing.id.id_width.1),
 )
 eof-fits x Closed s = (
-  (s.condition, told-fits x s, omega (arith, s.sent, s.transfer.size)),
+  (s.condition, told-fits x s, below-fits x x.sent s s.sent),
   let len = location-len x.addressing.id.source x.addressing.id_width in
-      omega (arith, len, s.transfer.addressing.id.id_width.1),
+      omega (arith, len, octets_most (is_large x.size), s.transfer.addressing.id.id_width.1),
 )
 
 pub due-fits : (x : SenderState) (d : SenderDue) (bytes : List ℕ) → IsSender x → IsDue x d → length bytes ≤ 4096 → Fits x d bytes
 due-fits x (due.AckOfFinished condition) bytes s is le = (subst (λ o. IfSome o IsCondition) is s.ack, lit< tt)
 due-fits x (due.Prompt keep_alive) bytes s is le = (tt, lit< tt)
 due-fits x due.Metadata bytes s is le = (
-  (s.transfer.kind, s.transfer.size, omega (arith, s.transfer.source.1), omega (arith, s.transfer.destination.1)),
-  omega (arith, s.transfer.source.1, s.transfer.destination.1),
+  (s.transfer.kind, below-fits x x.size s (omega arith), omega (arith, s.transfer.source.1), omega (arith, s.transfer.destination.1)),
+  omega (arith, octets_most (is_large x.size), s.transfer.source.1, s.transfer.destination.1),
 )
 due-fits x (due.AskedData start end) bytes s is le =
     let part = asked-segment x start end s is in
-    (omega (arith, part.some, part.within, s.transfer.size), omega (arith, le))
-due-fits x (due.NewData start end) bytes s is le = (omega (arith, is.0, is.1, s.transfer.size), omega (arith, le))
+    (below-fits x start s (omega (arith, part.some, part.within)), omega (arith, octets_most (is_large x.size), le))
+due-fits x (due.NewData start end) bytes s is le =
+    (below-fits x start s (omega (arith, is.0, is.1)), omega (arith, octets_most (is_large x.size), le))
 due-fits x due.Eof bytes s is le = eof-fits x x.phase s
 
 -- what is due can be written
@@ -166,38 +173,41 @@ carried-short x (due.Prompt keep_alive) file part most = omega arith
 carried-short x due.Metadata file part most = omega arith
 carried-short x due.Eof file part most = omega arith
 
-pub due-can_write : (x : SenderState) (d : SenderDue) (file : List ℕ) → IsSender x → sender_due x ≡ Some d → CanWrite (header_of x.addressing false (sender_says file x d)) (sender_says file x d)
+pub due-can_write : (x : SenderState) (d : SenderDue) (file : List ℕ) → IsSender x → sender_due x ≡ Some d →
+    CanWrite (header_of x.addressing (is_large x.size) (sender_says file x d)) (sender_says file x d)
 due-can_write x d file s is =
     let of = due-is x d is in
     let fits : Fits x d (carried file d) = due-fits x d (carried file d) s of (carried-short x d file (carries-segment x d s of) s.transfer.most) in
-    can_write x.addressing false (sender_says file x d) s.transfer.addressing fits.0 fits.1
+    can_write x.addressing (is_large x.size) (sender_says file x d) s.transfer.addressing fits.0 fits.1
 
 -- and is no longer than file data of a whole segment
 none-carried : (count : ℕ) → (0 < count → false ≡ true) → count ≡ 0
 none-carried zero some = refl
 none-carried (suc n) some = let e : false ≡ true = some (omega arith) in absurd (cc)
 
-eof-short : (x : SenderState) (p : SenderPhase) → IsSender x → content_len (file_size_octets false) (eof_says p x) ≤ 20
-eof-short x Sending s = omega arith
-eof-short x Cancelling s = let len = location-len x.addressing.id.source x.addressing.id_width in omega (arith, len, s.transfer.addressing.id.id_width.1)
-eof-short x Closed s = let len = location-len x.addressing.id.source x.addressing.id_width in omega (arith, len, s.transfer.addressing.id.id_width.1)
+eof-short : (x : SenderState) (p : SenderPhase) → IsSender x → content_len (file_size_octets (is_large x.size)) (eof_says p x) ≤ 24
+eof-short x Sending s = omega (arith, octets_most (is_large x.size))
+eof-short x Cancelling s = let len = location-len x.addressing.id.source x.addressing.id_width in omega (arith, len, octets_most (is_large x.size), s.transfer.addressing.id.id_width.1)
+eof-short x Closed s = let len = location-len x.addressing.id.source x.addressing.id_width in omega (arith, len, octets_most (is_large x.size), s.transfer.addressing.id.id_width.1)
 
-pub content-short : (x : SenderState) (d : SenderDue) (count : ℕ) → IsSender x → count ≤ 4096 → (0 < count → carries d ≡ true) → content_len (file_size_octets false) (pdu_says [] x d) + count ≤ 4100
-content-short x (due.AckOfFinished condition) count s le some = omega (arith, none-carried count some)
-content-short x (due.Prompt keep_alive) count s le some = omega (arith, none-carried count some)
-content-short x due.Metadata count s le some = omega (arith, none-carried count some, s.transfer.source.1, s.transfer.destination.1)
-content-short x (due.AskedData start end) count s le some = omega (arith, le)
-content-short x (due.NewData start end) count s le some = omega (arith, le)
-content-short x due.Eof count s le some = omega (arith, none-carried count some, eof-short x x.phase s)
+pub content-short : (x : SenderState) (d : SenderDue) (count : ℕ) → IsSender x → count ≤ 4096 → (0 < count → carries d ≡ true) →
+    content_len (file_size_octets (is_large x.size)) (pdu_says [] x d) + count ≤ 4104
+content-short x (due.AckOfFinished condition) count s le some = omega (arith, octets_most (is_large x.size), none-carried count some)
+content-short x (due.Prompt keep_alive) count s le some = omega (arith, octets_most (is_large x.size), none-carried count some)
+content-short x due.Metadata count s le some = omega (arith, octets_most (is_large x.size), none-carried count some, s.transfer.source.1, s.transfer.destination.1)
+content-short x (due.AskedData start end) count s le some = omega (arith, octets_most (is_large x.size), le)
+content-short x (due.NewData start end) count s le some = omega (arith, octets_most (is_large x.size), le)
+content-short x due.Eof count s le some = omega (arith, octets_most (is_large x.size), none-carried count some, eof-short x x.phase s)
 
 -- the octets carried add to the length of a PDU without them
-pub says-len : (x : SenderState) (d : SenderDue) (file : List ℕ) → content_len (file_size_octets false) (pdu_says (carried file d) x d) ≡ content_len (file_size_octets false) (pdu_says [] x d)
+pub says-len : (x : SenderState) (d : SenderDue) (file : List ℕ) →
+    content_len (file_size_octets (is_large x.size)) (pdu_says (carried file d) x d) ≡ content_len (file_size_octets (is_large x.size)) (pdu_says [] x d)
     + length (carried file d)
 says-len x (due.AckOfFinished condition) file = refl
 says-len x (due.Prompt keep_alive) file = refl
 says-len x due.Metadata file = sym (add-zero _)
-says-len x (due.AskedData start end) file = refl
-says-len x (due.NewData start end) file = refl
+says-len x (due.AskedData start end) file = omega arith
+says-len x (due.NewData start end) file = omega arith
 says-len x due.Eof file = sym (add-zero _)
 
 -- an extent whose octets are those carried has their length
@@ -223,12 +233,13 @@ fits-short x d bytes s is le = due-fits x d bytes s (due-is x d is) le
 
 -- the length that is told of what is due
 pub due-len : (x : SenderState) (d : SenderDue) (file : List ℕ) (start len r : ℕ) (v : Content)
-    → sender_due x ≡ Some d → v ≡ pdu_says [] x d → r ≡ written_len x.addressing false v
+    → sender_due x ≡ Some d → v ≡ pdu_says [] x d → r ≡ written_len x.addressing (is_large x.size) v
     → carried file d ≡ take len (drop start file) → length file ≡ x.size → start + len ≤ x.size
-    → Some (r + len) ≡ option_map (λ d. written_len x.addressing false (sender_says file x d)) (sender_due x)
+    → Some (r + len) ≡ option_map (λ d. written_len x.addressing (is_large x.size) (sender_says file x d)) (sender_due x)
 due-len x d file start len r v is says written part whole within =
     let add = says-len x d file in
     let same : length (carried file d) ≡ len = extent-len file (carried file d) start len x.size part whole within in
-    let content : content_len (file_size_octets false) v ≡ content_len (file_size_octets false) (pdu_says [] x d) = ap (content_len (file_size_octets false)) says in
-    let total : r + len ≡ written_len x.addressing false (sender_says file x d) = omega (arith, add, same, content, written) in
-    ap Some total ∙ ap (option_map (λ d. written_len x.addressing false (sender_says file x d))) (sym is)
+    let content : content_len (file_size_octets (is_large x.size)) v ≡ content_len (file_size_octets (is_large x.size)) (pdu_says [] x d) = ap (content_len (file_size_octets
+    (is_large x.size))) says in
+    let total : r + len ≡ written_len x.addressing (is_large x.size) (sender_says file x d) = omega (arith, add, same, content, written) in
+    ap Some total ∙ ap (option_map (λ d. written_len x.addressing (is_large x.size) (sender_says file x d))) (sym is)

@@ -108,7 +108,10 @@ asks-phase : (p : ℕ × ℕ) (x : SenderState) → (asks p x).phase ≡ x.phase
 asks-phase p x = elim ((p.0 == 0) && (p.1 == 0)) as (λ b. (if b then record x { metadata_due = true }
     else (if nat_lt p.0 (min p.1 x.sent) then record x { asked = set.union x.asked (range p.0 (min p.1 x.sent)) } else x)).phase ≡ x.phase) [
       | true ↦ refl
-      | false ↦ elim (nat_lt p.0 (min p.1 x.sent)) as (λ (b : Bool). (if b then record x { asked = set.union x.asked (range p.0 (min p.1 x.sent)) } else x).phase ≡ x.phase) [ true ↦ refl | false ↦ refl ]
+      | false ↦ elim (nat_lt p.0 (min p.1 x.sent)) as (λ (b : Bool). (if b then record x {
+        asked = set.union x.asked (range p.0
+            (min p.1 x.sent));
+      } else x).phase ≡ x.phase) [ true ↦ refl | false ↦ refl ]
     ]
 
 asks_all-phase : (ps : List (ℕ × ℕ)) (x : SenderState) → (asks_all ps x).phase ≡ x.phase

@@ -1,11 +1,11 @@
 -- What stands in the octets of a PDU that carries some of the file.
-use Rattle.std.proofs.Common.{◌≡◌, ℕ, ◌+◌, ◌-◌, ◌≤◌, List, [], ◌++◌, length, take, drop, Option, Some, refl, sym, ap, subst, ◌∙◌, arith, false}
+use Rattle.std.proofs.Common.{◌≡◌, ℕ, ◌+◌, ◌-◌, ◌≤◌, List, [], ◌++◌, length, take, drop, Option, Some, refl, sym, ap, subst, ◌∙◌, arith, Bool}
 use Rattle.std.proofs.lemmas.List.{length-append, length-take, length-drop, drop-drop, drop-take, drop_at, append_assoc}
 use Rattle.cfd_bits.specs.Field.{octets}
 use Rattle.cfdp_header.specs.Header.{header_octets}
 use Rattle.cfdp_directives.specs.declared.pdu.addressing.Addressing.{Addressing}
 use Rattle.cfdp_directives.specs.Pdu.Addressing.{header_of, data_front_len}
-use Rattle.cfdp_directives.specs.Pdu.Codes.{file_size_octets}
+use Rattle.cfdp_directives.specs.Pdu.Codes.{file_size_octets, is_large}
 use Rattle.cfdp_directives.specs.Pdu.Content.{FileData}
 use Rattle.cfdp_directives.specs.Pdu.Written.{pdu_octets}
 use Rattle.cfdp_sender.specs.declared.due.SenderDue.{SenderDue}
@@ -22,11 +22,11 @@ use Rattle.cfdp_sender.specs.Steps.{pdu_sent, sender_sends}
 use Rattle.cfdp_sender.specs.Does.{Leaves, Takes, Writes, timers_set}
 
 -- a front, and then octets of the file behind it, are a whole PDU
-pub data-writes : (a : Addressing) (start count at : ℕ) (file out middle new : List ℕ) → start + count ≤ length file → at ≡ data_front_len a false
-    → ((bytes : List ℕ) → length bytes ≡ count → take at middle ++ bytes ≡ pdu_octets (header_of a false (FileData start bytes)) (FileData start bytes))
+pub data-writes : (large : Bool) (a : Addressing) (start count at : ℕ) (file out middle new : List ℕ) → start + count ≤ length file → at ≡ data_front_len a large
+    → ((bytes : List ℕ) → length bytes ≡ count → take at middle ++ bytes ≡ pdu_octets (header_of a large (FileData start bytes)) (FileData start bytes))
     → drop at middle ≡ drop at out → take (at + count) new ≡ take at middle ++ take count (drop start file) → drop (at + count) new ≡ drop (at + count) middle
-    → Writes a (FileData start (take count (drop start file))) (at + count) out new
-data-writes a start count at file out middle new within is front stays put rest =
+    → Writes large a (FileData start (take count (drop start file))) (at + count) out new
+data-writes large a start count at file out middle new within is front stays put rest =
     let bytes = take count (drop start file) in
     let len : length bytes ≡ count = omega (arith, length-take count (drop start file), length-drop start file, within) in
     let cut : drop (at + count) middle ≡ drop (at + count) out = sym (drop-drop count at middle) ∙ ap (λ (t : List ℕ). drop count t) stays ∙ drop-drop count at out in
@@ -50,19 +50,20 @@ nothing_at_end new len count is =
     (omega (arith, is), rw none refl)
 
 -- the last octets of a PDU are those of the file that it carries
-pub carried-last : (x : SenderState) (d : SenderDue) (file out new : List ℕ) (len count : ℕ) → Writes x.addressing (sender_says file x d) len out new → len ≤ length new → length (carried file d)
+pub carried-last : (x : SenderState) (d : SenderDue) (file out new : List ℕ) (len count : ℕ) → Writes (is_large x.size) x.addressing (sender_says file x d) len out new → len ≤ length new →
+    length (carried file d)
     ≡ count
     → (count ≤ len) × (take (len - (len - count)) (drop (len - count) new) ≡ carried file d)
 carried-last x (due.AskedData start end) file out new len count w room some =
     let bytes = carried file (due.AskedData start end) in
     let v = FileData start bytes in
-    at_end (header_octets (header_of x.addressing false v) ++ octets (file_size_octets false) start) bytes new len count room
-    (w.front ∙ sym (append_assoc (header_octets (header_of x.addressing false v)) (octets (file_size_octets false) start) bytes)) some
+    at_end (header_octets (header_of x.addressing (is_large x.size) v) ++ octets (file_size_octets (is_large x.size)) start) bytes new len count room
+    (w.front ∙ sym (append_assoc (header_octets (header_of x.addressing (is_large x.size) v)) (octets (file_size_octets (is_large x.size)) start) bytes)) some
 carried-last x (due.NewData start end) file out new len count w room some =
     let bytes = carried file (due.NewData start end) in
     let v = FileData start bytes in
-    at_end (header_octets (header_of x.addressing false v) ++ octets (file_size_octets false) start) bytes new len count room
-    (w.front ∙ sym (append_assoc (header_octets (header_of x.addressing false v)) (octets (file_size_octets false) start) bytes)) some
+    at_end (header_octets (header_of x.addressing (is_large x.size) v) ++ octets (file_size_octets (is_large x.size)) start) bytes new len count room
+    (w.front ∙ sym (append_assoc (header_octets (header_of x.addressing (is_large x.size) v)) (octets (file_size_octets (is_large x.size)) start) bytes)) some
 carried-last x (due.AckOfFinished condition) file out new len count w room some = nothing_at_end new len count some
 carried-last x (due.Prompt keep_alive) file out new len count w room some = nothing_at_end new len count some
 carried-last x due.Metadata file out new len count w room some = nothing_at_end new len count some
@@ -71,7 +72,7 @@ carried-last x due.Eof file out new len count w room some = nothing_at_end new l
 -- what is left where the PDU that was due was written
 pub takes-moved : (times : Times) (file octets : List ℕ) (x new : SenderState) (d : SenderDue) (len : ℕ) (anew : Option Kind) (told told_now : List Indication) (timers timers_now : TimersState)
     (out out_now : List ℕ)
-    → sender_due x ≡ Some d → Writes x.addressing (sender_says file x d) len out out_now → octets ≡ carried file d
+    → sender_due x ≡ Some d → Writes (is_large x.size) x.addressing (sender_says file x d) len out out_now → octets ≡ carried file d
     → Leaves (pdu_sent Done octets x d) new told told_now → anew ≡ (pdu_sent Done octets x d).anew → timers_now ≡ timers_set times anew new timers
     → Takes times file (sender_due x) (Moved len) x new told told_now timers timers_now out out_now
 takes-moved times file octets x new d len anew told told_now timers timers_now out out_now is w same l armed t =

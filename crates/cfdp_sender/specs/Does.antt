@@ -6,6 +6,7 @@ use Rattle.cfdp_header.specs.Files.{FileMap}
 use Rattle.cfdp_directives.specs.declared.user.indication.Indication.{Indication}
 use Rattle.cfdp_directives.specs.declared.user.limits.Times.{Times}
 use Rattle.cfdp_directives.specs.declared.pdu.addressing.Addressing.{Addressing}
+use Rattle.cfdp_directives.specs.Pdu.Codes.{is_large}
 use Rattle.cfdp_directives.specs.Pdu.Addressing.{header_of, written_len}
 use Rattle.cfdp_directives.specs.Pdu.Written.{pdu_octets}
 use Rattle.cfdp_directives.specs.Pdu.Content.{Content}
@@ -89,11 +90,12 @@ pub record Rests (old new : SenderState) (told_before told_now : List Indication
   pub timers : timers_now ≡ timers_before
   pub out : out_now ≡ out_before
 
--- So many octets were written, those of this PDU, and the octets behind stay.
-pub record Writes (a : Addressing) (v : Content) (octets : ℕ)
+-- So many octets were written, those of this PDU with this large file flag, and the octets behind
+-- stay.
+pub record Writes (large : Bool) (a : Addressing) (v : Content) (octets : ℕ)
     (out_before out_now : List ℕ) : Type 0 where
-  pub end : octets ≡ written_len a false v
-  pub front : take octets out_now ≡ pdu_octets (header_of a false v) v
+  pub end : octets ≡ written_len a large v
+  pub front : take octets out_now ≡ pdu_octets (header_of a large v) v
   pub behind : drop octets out_now ≡ drop octets out_before
 
 -- What taking a PDU did, by what was due: where that is data which the outbox failed to give, no
@@ -103,7 +105,7 @@ abbrev pub Takes : Times → List ℕ → Option SenderDue → Taken → (old ne
 Takes times file None Nothing old new told told' timers timers' out out' =
     Rests old new told told' timers timers' out out'
 Takes times file (Some d) (Moved octets) old new told told' timers timers' out out' =
-    Writes old.addressing (sender_says file old d) octets out out'
+    Writes (is_large old.size) old.addressing (sender_says file old d) octets out out'
     × Does times (sender_sends Done file old d) new told told' timers timers'
 Takes times file (Some d) SourceFailed old new told told' timers timers' out out' =
     (carries d ≡ true) × Does times (sender_sends Refused file old d) new told told' timers timers'

@@ -4,7 +4,7 @@ use Rattle.std.specs.FinSet as set
 use Rattle.cfdp_extents.specs.Offsets.{Offsets}
 use Rattle.cfdp_directives.specs.declared.pdu.addressing.Addressing.{Addressing}
 use Rattle.cfdp_directives.specs.Pdu.Addressing.{FitsAddressing}
-use Rattle.cfdp_directives.specs.Pdu.Codes.{IsCondition, no_error}
+use Rattle.cfdp_directives.specs.Pdu.Codes.{IsCondition, no_error, size_limit}
 use Rattle.cfdp_directives.specs.User.FileName.{IsFileName}
 use Rattle.cfdp_sender.specs.declared.transfer.Transfer.{Transfer}
 use Rattle.cfdp_sender.specs.declared.phase.SenderPhase.{SenderPhase}
@@ -79,7 +79,7 @@ pub record IsSendable (t : Transfer) : Type 0 where
   pub most : t.segment ≤ most_segment
   pub source : IsFileName t.source
   pub destination : IsFileName t.destination
-  pub size : t.size < 2 ^ 32
+  pub size : t.size ≤ size_limit true
 
 -- what a sender is to send
 abbrev pub transfer_of : SenderState → Transfer

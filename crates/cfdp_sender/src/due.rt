@@ -1,6 +1,7 @@
 // What a sender sends next, and what that PDU says.
 ghost use Rattle.std.specs.Prelude.{◌≡◌, ◌+◌, ◌^◌, ◌<◌, ◌≤◌, ℕ, List, [], length, take, drop, true, Some, is_some, IfSome, false};
 ghost use Rattle.std.specs.Option.{option_map};
+ghost use Rattle.cfdp_directives.specs.Pdu.Codes as codes;
 ghost use Rattle.cfdp_directives.specs.Pdu.Content.{FileData, view};
 ghost use Rattle.cfdp_directives.specs.Pdu.Addressing.{header_of, written_len};
 ghost use Rattle.cfdp_directives.specs.Pdu.Written.{CanWrite};
@@ -9,7 +10,9 @@ ghost use Rattle.cfdp_sender.specs.Due.{sender_due, sender_says, pdu_says, carri
 
 use crate::phase::SenderPhase;
 use crate::sender::Sender;
-use cfdp_directives::{Acknowledged, ChecksumKind, Condition, Pdu, Tlvs, TransactionStatus};
+use cfdp_directives::{
+    Acknowledged, ChecksumKind, Condition, Pdu, Tlvs, TransactionStatus, is_large,
+};
 
 /// What a sender sends next.
 #[derive(Clone, Copy, Debug, PartialEq, Eq)]
@@ -29,21 +32,22 @@ pub enum SenderDue {
 impl Sender {
     /// Octets of the PDU that is due, its header too: of what `take_pdu` would write now. `None`
     /// where none is due, as of a suspended transaction. Whatever the file holds, its size alone
-    /// counts. What is due can be written, and has 4,128 octets at the most.
+    /// counts. What is due can be written, and has 4,132 octets at the most.
     pub fn due(&self) -> Option<usize>
         ensures some { is_some result ≡ is_some (sender_due self.now) }
-        ensures short { IfSome result (λ len. len ≤ 4128) }
+        ensures short { IfSome result (λ len. len ≤ 4132) }
         ensures can_write { (file : List ℕ) → IfSome (sender_due self.now)
             (λ d. let v = sender_says file self.now d in
-            CanWrite (header_of self.now.addressing false v) v) }
+            CanWrite (header_of self.now.addressing (codes.is_large self.now.size) v) v) }
         ensures len { (file : List ℕ) → length file ≡ self.now.size → result
-            ≡ option_map (λ d. written_len self.now.addressing false (sender_says file self.now d))
-            (sender_due self.now) }
+            ≡ option_map (λ d. written_len self.now.addressing (codes.is_large self.now.size)
+            (sender_says file self.now d)) (sender_due self.now) }
     {
         let _size = self.size;
         let due = self.next()?;
         let (_, carried) = self.extent(&due);
-        Some(self.addressing.written_len(false, &self.says(&due)) + carried)
+        let large = self.is_large();
+        Some(self.addressing.written_len(large, &self.says(&due)) + carried)
     }
 
     /// Whether a PDU is due: whether [`due`](Self::due) answers a length, which costs more.
@@ -51,6 +55,13 @@ impl Sender {
         ensures { result ≡ is_some (sender_due self.now) }
     {
         self.next().is_some()
+    }
+
+    // Whether its file is large: all that it sends has the large file flag then.
+    pub(crate) fn is_large(&self) -> bool
+        ensures { result ≡ codes.is_large self.now.size }
+    {
+        is_large(self.size)
     }
 
     // Where the octets of the file begin that a PDU carries, and how many they are.

@@ -2,6 +2,7 @@
 ghost use Rattle.std.specs.Prelude.{◌≡◌, ◌+◌, ◌≤◌, ◌++◌, [], length, take, drop, vec_len, vec_capacity, true, IfOk, IfSome, OnErr, OnOk, IsSome, Some, is_ok, false};
 ghost use Rattle.std.specs.FinMap as map;
 ghost use Rattle.cfdp_directives.specs.Pdu.Addressing.{written_len, data_front_len};
+ghost use Rattle.cfdp_directives.specs.Pdu.Codes as codes;
 ghost use Rattle.cfdp_directives.specs.Pdu.Content.{FileData};
 ghost use Rattle.cfdp_store.specs.Files.{octets_in};
 ghost use Rattle.cfdp_store.specs.Stores.{failures_after};
@@ -21,7 +22,8 @@ use cfdp_store::{Outbox, StoreError};
 use cfdp_timers::{Kind, Timers};
 
 impl Sender {
-    /// Sends the PDU that is due: writes it into the first octets of `out`, whose others stay. File
+    /// Sends the PDU that is due: writes it into the first octets of `out`, whose others stay. It
+    /// has the large file flag where the file has 2^32 octets or more. File
     /// data are read from the outbox; where that fails, it is fault 4, the transaction is
     /// cancelled, and what `out` then holds is left open. Sending EOF for the first time is
     /// indicated. Takes no memory, what the outbox takes for itself apart.
@@ -42,8 +44,8 @@ impl Sender {
         requires room { vec_len told.old + 3 ≤ vec_capacity told.old }
         requires fits { let file = octets_in (O.files outbox.old) self.old.source in
             IfSome (sender_due self.old)
-            (λ d. written_len self.old.addressing false (sender_says file self.old d)
-            ≤ length out.old) }
+            (λ d. written_len self.old.addressing (codes.is_large self.old.size)
+            (sender_says file self.old d) ≤ length out.old) }
         ensures takes { Takes policy.now.times (octets_in (O.files outbox.old) self.old.source)
             (sender_due self.old) result self.old self.new told.old.items told.new.items timers.old
             timers.new out.old out.new }
@@ -81,11 +83,11 @@ impl Sender {
         requires due { sender_due self.now ≡ Some due.now }
         requires file { HasFile (O.files outbox.old) self.now.source self.now.size }
         requires fits { let file = octets_in (O.files outbox.old) self.now.source in
-            written_len self.now.addressing false (sender_says file self.now due.now)
-            ≤ length out.old }
+            written_len self.now.addressing (codes.is_large self.now.size)
+            (sender_says file self.now due.now) ≤ length out.old }
         ensures written { let file = octets_in (O.files outbox.old) self.now.source in
-            IfOk result (λ len. Writes self.now.addressing (sender_says file self.now due.now) len
-            out.old out.new) }
+            IfOk result (λ len. Writes (codes.is_large self.now.size) self.now.addressing
+            (sender_says file self.now due.now) len out.old out.new) }
         ensures refused { OnErr result (carries due.now ≡ true) }
         ensures files { O.files outbox.new ≡ O.files outbox.old }
         ensures failures { O.failures outbox.new
@@ -101,7 +103,10 @@ impl Sender {
             SenderDue::AckOfFinished(_)
             | SenderDue::Prompt(_)
             | SenderDue::Metadata
-            | SenderDue::Eof => Ok(self.addressing.write_pdu(false, &self.says(due), out)),
+            | SenderDue::Eof => {
+                let large = self.is_large();
+                Ok(self.addressing.write_pdu(large, &self.says(due), out))
+            }
         }
     }
 
@@ -116,9 +121,10 @@ impl Sender {
         requires file { HasFile (O.files outbox.old) self.now.source self.now.size }
         requires within { start + count ≤ self.now.size }
         requires short { count ≤ 4096 }
-        requires room { data_front_len self.now.addressing false + count ≤ length out.old }
+        requires room { data_front_len self.now.addressing (codes.is_large self.now.size) + count
+            ≤ length out.old }
         ensures written { let file = octets_in (O.files outbox.old) self.now.source in
-            IfOk result (λ len. Writes self.now.addressing
+            IfOk result (λ len. Writes (codes.is_large self.now.size) self.now.addressing
             (FileData start (take count (drop start file))) len out.old out.new) }
         ensures files { O.files outbox.new ≡ O.files outbox.old }
         ensures failures { O.failures outbox.new
@@ -126,7 +132,8 @@ impl Sender {
         ensures calls { ReadsOnce O.steps self.now.source start count (is_ok result)
             outbox.old outbox.new }
     {
-        let at = self.addressing.write_data_front(false, start, count, out);
+        let large = self.is_large();
+        let at = self.addressing.write_data_front(large, start, count, out);
         read_to(outbox, self.source.as_slice(), start, out, at, count)?;
         Ok(at + count)
     }

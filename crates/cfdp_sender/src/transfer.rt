@@ -1,7 +1,7 @@
 ghost use Rattle.std.specs.Prelude.{◌↔◌, IsTrue};
 ghost use Rattle.cfdp_sender.specs.State.{IsSendable};
 
-use cfdp_directives::{Addressing, ChecksumKind, Octets, is_file_name, is_file_size};
+use cfdp_directives::{Addressing, ChecksumKind, Octets, is_file_name, size_limit};
 
 /// The most octets of a file that one PDU may carry.
 pub const MOST_SEGMENT: u16 = 4096;
@@ -35,6 +35,6 @@ impl Transfer {
             && self.segment <= MOST_SEGMENT
             && is_file_name(self.source.as_slice())
             && is_file_name(self.destination.as_slice())
-            && is_file_size(false, self.size)
+            && self.size <= size_limit(true)
     }
 }

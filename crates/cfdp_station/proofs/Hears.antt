@@ -1,7 +1,7 @@
 -- PDUs heard, one after another.
 use Rattle.std.proofs.Common.{◌≡◌, ℕ, zero, suc, ◌+◌, ◌<◌, List, [], ◌∷◌, length, get_or, drop, add-one, Vec, Global, Result, Ok, Err, OnOk, IfErr, inl, inr, refl, sym, subst, arith}
 use Rattle.mpdu.specs.Feeding.{octets_of_each}
-use Rattle.cfdp_directives.specs.Pdu.Small.{small_pdu_fault}
+use Rattle.cfdp_directives.specs.Pdu.Faults.{pdu_fault}
 use Rattle.cfdp_entity.specs.declared.error.EntityDrop.{EntityDrop}
 use Rattle.cfdp_entity.specs.Entity.{Counted}
 use Rattle.cfdp_entity.specs.Hearing.{HearsOctets, DropsOctets}
@@ -9,7 +9,7 @@ use Rattle.cfdp_station.specs.Taking.{HearsPdu, HearsAll}
 
 -- whichever way it went
 pub hears_either : {X : Type 0} (r : Result X EntityDrop) (pdu : List ℕ) (old new : Counted) →
-    OnOk r (HearsOctets pdu old new) → IfErr r (λ by. DropsOctets (small_pdu_fault pdu) pdu by old new) → HearsPdu pdu old new
+    OnOk r (HearsOctets pdu old new) → IfErr r (λ by. DropsOctets (pdu_fault pdu) pdu by old new) → HearsPdu pdu old new
 hears_either (Ok x) pdu old new heard dropped = inl heard
 hears_either (Err by) pdu old new heard dropped = inr (by, dropped)
 

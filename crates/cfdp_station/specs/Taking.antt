@@ -5,7 +5,7 @@ use Rattle.link_stack.specs.declared.drops.LinkDrop.TheVariants.{NoMemory}
 use Rattle.link_stack.specs.Drops.{counted}
 use Rattle.link_stack.specs.Frames.{pdus_in}
 use Rattle.link_stack.specs.Upward.{LinkReceiverState, Takes, TakesFront, TakesNext, TakesNextOf, TakesNextFront, TakesNextFrontOf, HasZone, IsUp, IsUpOf, IsNextFrame, IsNextFrameOf, frame_read}
-use Rattle.cfdp_directives.specs.Pdu.Small.{small_pdu_fault}
+use Rattle.cfdp_directives.specs.Pdu.Faults.{pdu_fault}
 use Rattle.cfdp_entity.specs.declared.error.EntityDrop.{EntityDrop}
 use Rattle.cfdp_entity.specs.Entity.{Counted}
 use Rattle.cfdp_entity.specs.Hearing.{HearsOctets, DropsOctets}
@@ -14,7 +14,7 @@ use Rattle.cfdp_station.specs.Station.{StationState}
 -- A PDU is heard: it is taken, or dropped and counted.
 abbrev pub HearsPdu : List ℕ → (old new : Counted) → Type 0
 HearsPdu pdu old new =
-    HearsOctets pdu old new ⊎ ((by : EntityDrop) × DropsOctets (small_pdu_fault pdu) pdu by old new)
+    HearsOctets pdu old new ⊎ ((by : EntityDrop) × DropsOctets (pdu_fault pdu) pdu by old new)
 
 -- These PDUs are heard, each once, in this order, and nothing else happens.
 abbrev pub HearsAll : List (List ℕ) → (old new : Counted) → Type 0

@@ -270,7 +270,7 @@ impl<O: Outbox, I: Inbox> Station<O, I> {
     }
 
     /// Moves the PDU whose turn it is down the link, in a packet of its own, where one is due and
-    /// there is room for it. One that doesn't fit stays due. A PDU has 4,128 octets at the most.
+    /// there is room for it. One that doesn't fit stays due. A PDU has 4,132 octets at the most.
     ///
     /// # Errors
     ///

@@ -3,7 +3,8 @@
 -- first one.
 use Rattle.std.specs.Prelude.{◌≡◌, ◌≢◌, ◌⊎◌, ℕ, ◌≤◌, ◌==◌, ◌||◌, true, false, List, [], length, slice_get, Option, Some, IsSome}
 use Rattle.cfdp_header.specs.declared.value.TransactionId.{TransactionId}
-use Rattle.cfdp_directives.specs.Pdu.Direction.{direction_fits, is_for}
+use Rattle.cfdp_directives.specs.Pdu.Codes.{is_large}
+use Rattle.cfdp_directives.specs.Pdu.Direction.{direction_fits, goes_toward_sender, is_for}
 use Rattle.cfdp_directives.specs.User.Put.{Put}
 use Rattle.cfdp_entity.specs.declared.config.EntityConfig.{EntityConfig}
 use Rattle.cfdp_entity.specs.Entity.{EntityState}
@@ -14,13 +15,16 @@ use Rattle.cfdp_entity.specs.Table.{Entry, record_of, most_records}
 use Rattle.link_sim.specs.Between.{Pdu}
 use Rattle.link_sim.specs.Exchange.{AllTrue}
 
--- A PDU is for this entity, and of an accepted put.
+-- A PDU is for this entity, and of an accepted put. Toward the file's receiver it has the large
+-- file flag if the file is large, and else not.
 pub record IsDirected (put_of : TransactionId → Option Put) (theirs : EntityState) (p : Pdu)
     : Type 0 where
   pub fits : direction_fits p.0 p.1 ≡ true
   pub addressed : is_for theirs.config.entity theirs.config.peer p.0 ≡ true
   pub named : names_no_file p.1 ≡ false
   pub of_put : IsSome (put_of p.0.id)
+  pub flag : goes_toward_sender p.1 ≡ false → (put : Put) → put_of p.0.id ≡ Some put
+      → p.0.large ≡ is_large (length put.octets)
 
 -- There is a record, and it sends.
 abbrev pub IsSending : Option Seen → Type 0

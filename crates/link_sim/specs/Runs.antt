@@ -51,6 +51,7 @@ pub record IsItsSender (put : Put) (x : SenderState) : Type 0 where
   pub in_file : IsInFile x
 
 -- ---- one step of it
+-- `large` is the large file flag of a PDU that a receiver hears.
 pub record SenderSends (put : Put) (old new : Exchange) : Type 0 where
   pub own : IsItsSender put old.sender
   pub due : SenderDue
@@ -101,13 +102,14 @@ pub record ReceiverHears (put : Put) (old new : Exchange) : Type 0 where
   pub receiver : ReceiverState
   pub is_receiver : old.receiver ≡ Some receiver
   pub own : receiver.addressing.id ≡ put.id
+  pub large : Bool
   pub heard : Content
   pub rest : List Content
   pub front : old.forth ≡ heard ∷ rest
   pub octets : OctetMap
   pub files : FileMap
   pub after : ReceiverAfter
-  pub is_after : receiver_after Done heard octets files receiver ≡ Some after
+  pub is_after : receiver_after Done large heard octets files receiver ≡ Some after
   pub good : IsTrueForth put heard → list_any is_file_fault after.told ≡ false
   pub is : new ≡ record old {
     receiver = Some after.receiver;
@@ -119,16 +121,18 @@ pub record ReceiverHears (put : Put) (old new : Exchange) : Type 0 where
 pub record ReceiverPasses (old new : Exchange) : Type 0 where
   pub receiver : ReceiverState
   pub is_receiver : old.receiver ≡ Some receiver
+  pub large : Bool
   pub heard : Content
   pub rest : List Content
   pub front : old.forth ≡ heard ∷ rest
   pub octets : OctetMap
   pub files : FileMap
-  pub none : receiver_after Done heard octets files receiver ≡ None
+  pub none : receiver_after Done large heard octets files receiver ≡ None
   pub is : new ≡ record old { forth = rest }
 
 pub record ReceiverOpens (put : Put) (old new : Exchange) : Type 0 where
   pub none : old.receiver ≡ None
+  pub large : Bool
   pub heard : Content
   pub rest : List Content
   pub front : old.forth ≡ heard ∷ rest
@@ -139,13 +143,15 @@ pub record ReceiverOpens (put : Put) (old new : Exchange) : Type 0 where
   pub files : FileMap
   pub receiver : ReceiverState
   pub octets : OctetMap
-  pub is_receiver : (opens Done Done times files heard addressing).seen ≡ Receives receiver octets
+  pub is_receiver :
+      (opens Done Done times files large heard addressing).seen ≡ Receives receiver octets
   pub good : IsTrueForth put heard
-      → list_any is_file_fault (opens Done Done times files heard addressing).told ≡ false
+      → list_any is_file_fault (opens Done Done times files large heard addressing).told ≡ false
   pub is : new ≡ record old {
     receiver = Some receiver;
     forth = rest;
-    told_there = told_then put old.told_there (opens Done Done times files heard addressing).told;
+    told_there = told_then put old.told_there
+        (opens Done Done times files large heard addressing).told;
   }
 
 -- a PDU that opens no record comes where there is none

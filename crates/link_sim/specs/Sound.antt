@@ -3,7 +3,7 @@ use Rattle.std.specs.Prelude.{◌≡◌, ◌<◌, ℕ, List, Contains}
 use Rattle.cfdp_header.specs.declared.value.Header.{Header}
 use Rattle.cfdp_header.specs.Files.{FileMap}
 use Rattle.cfdp_directives.specs.Pdu.Content.{Content}
-use Rattle.cfdp_directives.specs.Pdu.Small.{SpellsSmall}
+use Rattle.cfdp_directives.specs.Pdu.Grammar.{SpellsPdu}
 use Rattle.cfdp_directives.specs.User.Put.{SaysTruth}
 use Rattle.cfdp_entity.specs.Sound.{IsSound as IsSoundEntity, SaysDelivered}
 use Rattle.link_sim.specs.declared.side.Side.{Side}
@@ -19,7 +19,7 @@ use Rattle.link_sim.specs.WorldWork.{most_offset}
 -- A PDU that a station sent tells the truth of its puts, and that a file was delivered only where
 -- the station completed it.
 abbrev pub SentTruly : Side → WorldState → List ℕ → Type 0
-SentTruly s w text = (h : Header) (v : Content) → SpellsSmall h v text →
+SentTruly s w text = (h : Header) (v : Content) → SpellsPdu h v text →
     let e = entity_at s w in
     SaysTruth e.config.entity (put_of (seen w)) h.id v
     × SaysDelivered e.config.entity e.table.told h.id v

@@ -8,7 +8,7 @@ use Rattle.cfdp_header.specs.Files.{FileMap}
 use Rattle.cfdp_header.specs.Ids.{same_id}
 use Rattle.cfdp_directives.specs.declared.user.indication.Indication.{Indication}
 use Rattle.cfdp_directives.specs.Pdu.Content.{Content}
-use Rattle.cfdp_directives.specs.Pdu.Small.{SpellsSmall}
+use Rattle.cfdp_directives.specs.Pdu.Grammar.{SpellsPdu}
 use Rattle.cfdp_directives.specs.User.Put.{Put, HeardInFull, SomePdu, SaysTruth, SaysComplete, inbox_after}
 use Rattle.cfdp_directives.specs.User.Completions.{completions, FinishedOnce, IsToldComplete}
 use Rattle.cfdp_entity.specs.Sound.{FindsMore}
@@ -107,7 +107,7 @@ ToldAt s w = (id : TransactionId) → IsToldComplete (at s w).entity (at s w).to
 -- made.
 abbrev pub TruthAt : Side → WorldSeen → Type 0
 TruthAt s w = (text : List ℕ) → Contains (at s w).sent text →
-    (h : Header) (v : Content) → SpellsSmall h v text → SaysTruth (at s w).entity (put_of w) h.id v
+    (h : Header) (v : Content) → SpellsPdu h v text → SaysTruth (at s w).entity (put_of w) h.id v
 
 -- What holds of every world that events led to.
 pub record HoldsAt (s : Side) (w : WorldSeen) : Type 0 where

@@ -11,7 +11,7 @@ use Rattle.cfdp_directives.specs.declared.user.limits.Limits.{Limits}
 use Rattle.cfdp_directives.specs.declared.user.policy.Policy.{Policy}
 use Rattle.cfdp_directives.specs.Pdu.Codes.{no_error, inactivity}
 use Rattle.cfdp_directives.specs.Pdu.Content.{Content}
-use Rattle.cfdp_directives.specs.Pdu.Small.{SpellsSmall}
+use Rattle.cfdp_directives.specs.Pdu.Grammar.{SpellsPdu}
 use Rattle.cfdp_sender.specs.declared.phase.SenderPhase.{SenderPhase}
 use Rattle.cfdp_sender.specs.declared.phase.SenderPhase.TheVariants as sending
 use Rattle.cfdp_receiver.specs.declared.state.ReceiverPhase.{ReceiverPhase}
@@ -111,7 +111,7 @@ pub record IsComing (id : TransactionId) (w : WorldState) : Type 0 where
   pub among : Contains (on_way (way_from (other to) w)) text
   pub header : Header
   pub content : Content
-  pub spells : SpellsSmall header content text
+  pub spells : SpellsPdu header content text
   pub of : header.id ≡ id
   pub none : record_of id (entity_at to w).table.records ≡ None
 

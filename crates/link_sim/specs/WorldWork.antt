@@ -1,14 +1,15 @@
 -- Proof-only: how much a world may still do in a settling: a number that falls with each poll,
 -- flush and delivery that does something.
-use Rattle.std.specs.Prelude.{ℕ, ◌+◌, ◌-◌, ◌*◌, length}
+use Rattle.std.specs.Prelude.{ℕ, ◌+◌, ◌-◌, ◌*◌, true, length}
+use Rattle.cfdp_directives.specs.Pdu.Codes.{size_limit}
 use Rattle.link_sim.specs.OneWay.{OneWayState, on_way}
 use Rattle.link_sim.specs.Work.{entity_work, texts_work}
 use Rattle.link_sim.specs.World.State.{WorldState, way_from}
 use Rattle.link_sim.specs.declared.side.Side.TheVariants.{One, Two}
 
--- no file's size, and no offset that is held, passes this
+-- no file's size, and no offset that is held, passes this: the greatest size of a large file
 abbrev pub most_offset : ℕ
-most_offset = 4294967295
+most_offset = size_limit true
 
 -- what the entities and the PDUs on their way may still do
 abbrev pub pdus_left : WorldState → ℕ

@@ -4,18 +4,15 @@
 //!     closed CODE      of a record that an EOF with this condition opened: the transaction, and
 //!                      the octets that are due
 //!     long SIZE        why a put of a file of so many octets is refused, or that it isn't
-ghost use Rattle.std.specs.Prelude.{[], ◌∷◌, replicate};
-ghost use Rattle.std.specs.FinMap as map;
-
 use crate::bench::{Bench, played, unknown};
-use crate::setup::first_entity;
+use crate::large::{LongFile, sending};
 use crate::words::{number, octet};
 use cfdp_directives::{Addressing, ChecksumKind, Condition, Octets};
 use cfdp_entity::Entity;
 use cfdp_header::TransactionId;
 use cfdp_receiver::Receiver;
 use cfdp_sender::Transfer;
-use cfdp_store::{MemoryInbox, Outbox, StoreError};
+use cfdp_store::MemoryInbox;
 use cfdp_timers::Timers;
 use std::alloc::{AllocError, Global};
 
@@ -82,53 +79,17 @@ fn closed(
     if !PUT.is_writable() {
         return Err(AllocError);
     }
-    let closed = Receiver::open_closed(alloc, PUT, &mut timers, condition)?;
+    let closed = Receiver::open_closed(alloc, PUT, false, &mut timers, condition)?;
     Ok((closed.id(), closed.due()))
 }
 
-/// An outbox whose one file, `a`, has so many octets, all 0. It gives none of them.
-#[derive(Drop)]
-struct LongFile {
-    octets: u64,
-    failed: u64,
-}
-
-impl Outbox for LongFile {
-    ghost files = { λ o. map.insert map.empty (97 ∷ []) (replicate o.octets 0) };
-
-    ghost failures = { λ o. o.failed };
-
-    #[tactic(auto, using(crate::proofs::LongFiles::is_there, crate::proofs::LongFiles::is_absent))]
-    fn len(&mut self, name: &[u8]) -> Result<Option<u64>, StoreError> {
-        if name.cmp(b"a".as_slice()).is_eq() {
-            Ok(Some(self.octets))
-        } else {
-            Ok(None)
-        }
-    }
-
-    fn read(&mut self, _name: &[u8], _offset: u64, _out: &mut [u8]) -> Result<(), StoreError> {
-        self.failed = self.failed.saturating_add(1);
-        Err(StoreError::Device)
-    }
-
-    fn failures(&self) -> u64 {
-        self.failed
-    }
-}
-
 fn put_of(alloc: Global, octets: u64) -> Result<&'static str, AllocError> {
-    let config = first_entity("").config;
-    if !config.is_valid() {
-        return Err(AllocError);
-    }
-    let outbox = LongFile { octets, failed: 0 };
-    let mut entity = Entity::new(alloc, config, outbox, MemoryInbox::new(alloc))?;
+    let mut entity = sending(alloc, LongFile::of(octets, 0))?;
     Ok(put(&mut entity))
 }
 
 fn put(entity: &mut Entity<LongFile, MemoryInbox>) -> &'static str {
-    match entity.put(b"a", b"b") {
+    match entity.put(b"a.txt", b"b.txt") {
         Ok(_) => "accepted",
         Err(e) => e.name(),
     }

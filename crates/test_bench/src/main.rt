@@ -16,6 +16,7 @@ mod entity;
 mod frames;
 mod fuses;
 mod joined;
+mod large;
 mod link;
 mod machines;
 mod own_link;
@@ -123,6 +124,7 @@ fn play_ends(
     match name {
         "machines" => machines::play(alloc, transcript, out),
         "setups" => setup::play(transcript, out),
+        "large" => large::play(alloc, setup, transcript, out),
         "sender" => entity::play(alloc, &setup::first_entity(setup), transcript, out),
         "receiver" => entity::play(alloc, &setup::second_entity(setup), transcript, out),
         "entities" => entity::play_both(alloc, setup, transcript, out),

@@ -1,5 +1,5 @@
 -- The codes of the standard's tables, and the octets of a file-size field.
-use Rattle.std.specs.Prelude.{ℕ, Bool, ◌==◌, ◌||◌, ◌≡◌, ◌<◌, false, if◌then◌else◌}
+use Rattle.std.specs.Prelude.{ℕ, Bool, ◌==◌, ◌||◌, ◌≡◌, ◌<◌, ◌-◌, ◌^◌, nat_lt, false, if◌then◌else◌}
 use Rattle.cfdp_directives.specs.declared.pdu.codes.Delivery.{Delivery}
 use Rattle.cfdp_directives.specs.declared.pdu.codes.Delivery.TheVariants.{Complete, Incomplete}
 use Rattle.cfdp_directives.specs.declared.pdu.codes.FileStatus.{FileStatus}
@@ -13,6 +13,14 @@ use Rattle.cfdp_directives.specs.declared.pdu.codes.Acknowledged.TheVariants as 
 -- 727.0-B-5, 5.1.10)
 abbrev pub file_size_octets : Bool → ℕ
 file_size_octets large = if large then 8 else 4
+
+-- the greatest size of a file that isn't large, which is what 4 octets can say, and of one that is
+unfoldable pub size_limit : Bool → ℕ
+size_limit large = if large then 2 ^ 48 else 2 ^ 32 - 1
+
+-- whether a file of so many octets is large
+abbrev pub is_large : ℕ → Bool
+is_large size = nat_lt (size_limit false) size
 
 -- the conditions (CCSDS 727.0-B-5, table 5-5)
 abbrev pub no_error : ℕ

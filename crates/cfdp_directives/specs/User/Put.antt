@@ -9,7 +9,7 @@ use Rattle.cfdp_directives.specs.declared.pdu.codes.FileStatus.TheVariants.{Reta
 use Rattle.cfdp_directives.specs.Pdu.Codes.{no_error}
 use Rattle.cfdp_directives.specs.Pdu.Content.{Content, FileData, Metadata, Eof, Finished}
 use Rattle.cfdp_directives.specs.Pdu.Tlv.{Tlv}
-use Rattle.cfdp_directives.specs.Pdu.Small.{SpellsSmall}
+use Rattle.cfdp_directives.specs.Pdu.Grammar.{SpellsPdu}
 use Rattle.cfdp_directives.specs.Pdu.Checksum.{checksum_of}
 
 -- An accepted put: its id, the names, the octets that the outbox of its station has under the
@@ -54,10 +54,9 @@ abbrev pub SaysComplete : TransactionId → Header → Content → Type 0
 SaysComplete id h v =
     (h.id ≡ id) × ((tlvs : List Tlv) × (v ≡ Finished no_error Complete Retained tlvs))
 
--- One of the PDUs, each a list of octets, is spelled by a header and a content of which P holds,
--- and its large file flag is 0.
+-- One of the PDUs, each a list of octets, is spelled by a header and a content of which P holds.
 abbrev pub SomePdu : (Header → Content → Type 0) → List (List ℕ) → Type 0
-SomePdu P pdus = Any (λ text. (h : Header) × ((v : Content) × (SpellsSmall h v text × P h v))) pdus
+SomePdu P pdus = Any (λ text. (h : Header) × ((v : Content) × (SpellsPdu h v text × P h v))) pdus
 
 -- It is Metadata of the put, and truthful.
 abbrev pub IsMetadataOf : Put → Header → Content → Type 0

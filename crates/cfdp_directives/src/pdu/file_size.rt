@@ -1,4 +1,5 @@
-// The octets of a file-size field, as an offset: their number stands here alone.
+// The octets of a file-size field, as an offset, and the greatest size of a file: their numbers
+// stand here alone.
 ghost use Rattle.std.specs.Prelude.{◌≡◌, ◌+◌, ◌*◌, ◌^◌, ◌<◌, ◌≤◌, ◌++◌, ◌↔◌, false, length, take, drop, IsTrue};
 ghost use Rattle.cfd_bits.specs.Field.{field, octets};
 ghost use Rattle.cfdp_directives.specs.Pdu.Codes as codes;
@@ -13,6 +14,9 @@ const LARGE: usize = 8;
 
 /// The largest number that a field holds where the file isn't large.
 const LARGEST_SMALL: u64 = u64::MAX >> (64 - 8 * SMALL);
+
+/// The greatest size of a file that is large, in octets.
+const LARGEST_FILE: u64 = 1 << 48;
 
 /// Octets of a file-size field, as an offset, where the file is large and where it isn't (CCSDS
 /// 727.0-B-5, 5.1.10): 8 and 4.
@@ -31,6 +35,25 @@ pub fn is_file_size(large: bool, value: u64) -> bool
     ensures { IsTrue result ↔ (value < 256 ^ codes.file_size_octets large) }
 {
     large || value <= LARGEST_SMALL
+}
+
+/// The greatest size of a file, in octets: 4,294,967,295, and where it is large 2^48.
+#[inline]
+#[tactic(auto, unfolding(crate::specs::Pdu::Codes::size_limit))]
+pub fn size_limit(large: bool) -> u64
+    ensures value { result ≡ codes.size_limit large }
+    ensures fits { result < 256 ^ codes.file_size_octets large }
+    ensures most { result ≤ 2 ^ 48 }
+{
+    if large { LARGEST_FILE } else { LARGEST_SMALL }
+}
+
+/// Whether a file of so many octets is large: all that is sent of it then has the large file flag.
+#[inline]
+pub fn is_large(size: u64) -> bool
+    ensures { result ≡ codes.is_large size }
+{
+    size_limit(false) < size
 }
 
 /// The number in the file-size field at the front.

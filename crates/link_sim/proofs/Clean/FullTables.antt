@@ -99,7 +99,7 @@ module _ (stays : (old new : TableState) → Leads old new → KeepsRecords old.
     heard-fills (inr (inl o)) =
         let a : Addressing = addressing_in h in
         let st : TableState = old.state.table in
-        let s : Seen = (opens o.opens.begun o.opens.stored st.policy.times st.files v a).seen in
+        let s : Seen = (opens o.opens.begun o.opens.stored st.policy.times st.files h.large v a).seen in
         let long : length new.state.table.records ≡ length st.records + 1 = ap (λ (e : EntityState). length e.table.records) o.opens.opens ∙ length-append st.records ((a.id, s) ∷ []) in
         fills-same old.state new.state (omega (arith, long)) (ap (λ (e : EntityState). e.drops) o.opens.opens)
     heard-fills (inr (inr (inl d))) = dropped-fills h v old new d

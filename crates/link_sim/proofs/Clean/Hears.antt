@@ -1,6 +1,6 @@
 -- What an entity makes of the PDUs that it hears, where nothing goes wrong: it tells nothing bad, gives up
 -- nothing, and drops nothing but for want of room.
-use Rattle.std.proofs.Common.{◌≡◌, ◌≢◌, ℕ, zero, suc, ◌-◌, ◌^◌, ◌<◌, ◌≤◌, Bool, true, false, List, [], ◌∷◌, ◌++◌, get_or, slice_get, take, Option, Some, None, ◌⊎◌, inl, inr, refl, sym, ap, subst, ◌∙◌, arith}
+use Rattle.std.proofs.Common.{◌≡◌, ◌≢◌, ℕ, zero, suc, ◌-◌, ◌^◌, ◌<◌, ◌≤◌, Bool, true, false, List, [], ◌∷◌, ◌++◌, length, get_or, slice_get, take, Option, Some, None, ◌⊎◌, inl, inr, refl, sym, ap, subst, ◌∙◌, arith}
 use Rattle.std.specs.List.{list_any}
 use Rattle.std.specs.FinMap as map
 use Rattle.std.proofs.lemmas.Bool.{or_parts, or_from}
@@ -14,8 +14,11 @@ use Rattle.cfdp_directives.specs.declared.pdu.addressing.Addressing.{Addressing}
 use Rattle.cfdp_directives.specs.declared.pdu.codes.Acknowledged.TheVariants as acknowledged
 use Rattle.cfdp_directives.specs.declared.user.limits.Times.{Times}
 use Rattle.cfdp_directives.specs.Pdu.Addressing.{addressing_of as addressing_in}
+use Rattle.cfdp_directives.specs.Pdu.Codes.{is_large, size_limit}
 use Rattle.cfdp_directives.specs.Pdu.Content.{Content, FileData, Metadata, Eof, Finished, Ack, Nak, Prompt, KeepAlive}
+use Rattle.cfdp_directives.specs.Pdu.Direction.{goes_toward_sender}
 use Rattle.cfdp_directives.specs.User.Put.{Put, IsTruthful}
+use Rattle.cfdp_directives.proofs.FileSizes.{own_allows}
 use Rattle.cfdp_store.specs.declared.stored.Stored.{Stored}
 use Rattle.cfdp_store.specs.declared.stored.Stored.TheVariants.{Done, Refused}
 use Rattle.cfdp_store.specs.Staged.{OctetMap}
@@ -118,15 +121,31 @@ pub record HearingLaws : Type 0 where
   pub faultless : (put : Put) (heard : List (List ℕ)) (stored : Stored) (input : ReceiverInput) (m : OctetMap) (files : FileMap) (r : ReceiverState) → IsReceivable put → IsTrueInput put heard input →
       BeginsWithin put input → Sound put heard r m →
       list_any is_file_fault (receiver_step stored input m files r).told ≡ false
-  pub opened : (put : Put) (heard : List (List ℕ)) (stored : Stored) (files : FileMap) (addressing : Addressing) →
-      Sound put heard (opens_receiver stored files addressing).receiver (opens_receiver stored files addressing).octets
+  pub opened : (put : Put) (heard : List (List ℕ)) (stored : Stored) (large : Bool) (files : FileMap) (addressing : Addressing) →
+      Sound put heard (opens_receiver stored large files addressing).receiver (opens_receiver stored large files addressing).octets
+
+-- Toward a receiver it says the truth of a put that can be received, and its large file flag allows the file's size.
+abbrev pub IsFineForth : Put → Pdu → Type 0
+IsFineForth put p = IsTrueForth put p.1 × IsReceivable put × (length put.octets ≤ size_limit p.0.large)
 
 -- A PDU says the truth of its put to the one that hears it, and was heard.
 pub record IsFine (put_of : TransactionId → Option Put) (heard : List (List ℕ)) (p : Pdu) : Type 0 where
   pub put : Put
   pub is_put : put_of p.0.id ≡ Some put
-  pub says : (IsTrueForth put p.1 × IsReceivable put) ⊎ IsTrueBack p.1
+  pub says : IsFineForth put p ⊎ IsTrueBack p.1
   pub truth : IsTruthful put p.1 × IsAmong put heard p.1
+
+-- such a PDU goes toward the receiver
+pub forth-away : (put : Put) (v : Content) → IsTrueForth put v → goes_toward_sender v ≡ false
+forth-away put (FileData offset bytes) t = refl
+forth-away put (Metadata kind size source destination options) t = refl
+forth-away put (Eof condition checksum size tlvs) t = refl
+forth-away put (Prompt keep_alive) t = refl
+forth-away put (Ack acknowledged.Finished condition status) t = refl
+forth-away put (Ack acknowledged.Eof condition status) t = absurd t
+forth-away put (Finished condition delivery status tlvs) t = absurd t
+forth-away put (Nak start end pairs) t = absurd t
+forth-away put (KeepAlive progress) t = absurd t
 
 -- what a receiver hears, a sender doesn't
 forth-none : (put : Put) (v : Content) (x : SenderState) → IsTrueForth put v → sender_after v x ≡ None
@@ -140,37 +159,42 @@ forth-none put (Finished condition delivery status tlvs) x t = absurd t
 forth-none put (Nak start end pairs) x t = absurd t
 forth-none put (KeepAlive progress) x t = absurd t
 
-back-none : (v : Content) (m : OctetMap) (files : FileMap) (r : ReceiverState) → IsTrueBack v → receiver_after Done v m files r ≡ None
-back-none (Finished condition delivery status tlvs) m files r t = refl
-back-none (Ack acknowledged.Eof condition status) m files r t = refl
-back-none (Nak start end pairs) m files r t = refl
-back-none (KeepAlive progress) m files r t = refl
-back-none (Ack acknowledged.Finished condition status) m files r t = absurd t
-back-none (FileData offset bytes) m files r t = absurd t
-back-none (Metadata kind size source destination options) m files r t = absurd t
-back-none (Eof condition checksum size tlvs) m files r t = absurd t
-back-none (Prompt keep_alive) m files r t = absurd t
+back-none : (large : Bool) (v : Content) (m : OctetMap) (files : FileMap) (r : ReceiverState) → IsTrueBack v → receiver_after Done large v m files r ≡ None
+back-none large (Finished condition delivery status tlvs) m files r t = refl
+back-none large (Ack acknowledged.Eof condition status) m files r t = refl
+back-none large (Nak start end pairs) m files r t = refl
+back-none large (KeepAlive progress) m files r t = refl
+back-none large (Ack acknowledged.Finished condition status) m files r t = absurd t
+back-none large (FileData offset bytes) m files r t = absurd t
+back-none large (Metadata kind size source destination options) m files r t = absurd t
+back-none large (Eof condition checksum size tlvs) m files r t = absurd t
+back-none large (Prompt keep_alive) m files r t = absurd t
 
-pub forth-some : (put : Put) (v : Content) (m : OctetMap) (files : FileMap) (r : ReceiverState) → IsTrueForth put v → receiver_after Done v m files r ≡ Some (receiver_hears Done v m files r)
-forth-some put (FileData offset bytes) m files r t = refl
-forth-some put (Metadata kind size source destination options) m files r t = refl
-forth-some put (Eof condition checksum size tlvs) m files r t = refl
-forth-some put (Prompt keep_alive) m files r t = refl
-forth-some put (Ack acknowledged.Finished condition status) m files r t = refl
-forth-some put (Ack acknowledged.Eof condition status) m files r t = absurd t
-forth-some put (Finished condition delivery status tlvs) m files r t = absurd t
-forth-some put (Nak start end pairs) m files r t = absurd t
-forth-some put (KeepAlive progress) m files r t = absurd t
+pub forth-some : (put : Put) (large : Bool) (v : Content) (m : OctetMap) (files : FileMap) (r : ReceiverState) → IsTrueForth put v →
+    receiver_after Done large v m files r ≡ Some (receiver_hears Done large v m files r)
+forth-some put large (FileData offset bytes) m files r t = refl
+forth-some put large (Metadata kind size source destination options) m files r t = refl
+forth-some put large (Eof condition checksum size tlvs) m files r t = refl
+forth-some put large (Prompt keep_alive) m files r t = refl
+forth-some put large (Ack acknowledged.Finished condition status) m files r t = refl
+forth-some put large (Ack acknowledged.Eof condition status) m files r t = absurd t
+forth-some put large (Finished condition delivery status tlvs) m files r t = absurd t
+forth-some put large (Nak start end pairs) m files r t = absurd t
+forth-some put large (KeepAlive progress) m files r t = absurd t
 
-pub begins-within : (put : Put) (v : Content) → IsTrueForth put v → BeginsWithin put (Hears v)
-begins-within put (FileData offset bytes) t = omega (arith, t)
-begins-within put (Metadata kind size source destination options) t = tt
-begins-within put (Eof condition checksum size tlvs) t = tt
-begins-within put (Prompt keep_alive) t = tt
-begins-within put (Ack of condition status) t = tt
-begins-within put (Finished condition delivery status tlvs) t = tt
-begins-within put (Nak start end pairs) t = tt
-begins-within put (KeepAlive progress) t = tt
+-- the flag of a file's size allows that size
+pub flag-allows : (large : Bool) (n : ℕ) → large ≡ is_large n → n ≤ size_limit true → n ≤ size_limit large
+flag-allows large n is most = subst (λ b. n ≤ size_limit b) (sym is) (own_allows n most)
+
+pub begins-within : (put : Put) (large : Bool) (v : Content) → length put.octets ≤ size_limit large → IsTrueForth put v → BeginsWithin put (Hears large v)
+begins-within put large (FileData offset bytes) allowed t = (omega (arith, t), allowed)
+begins-within put large (Metadata kind size source destination options) allowed t = tt
+begins-within put large (Eof condition checksum size tlvs) allowed t = allowed
+begins-within put large (Prompt keep_alive) allowed t = tt
+begins-within put large (Ack of condition status) allowed t = tt
+begins-within put large (Finished condition delivery status tlvs) allowed t = tt
+begins-within put large (Nak start end pairs) allowed t = tt
+begins-within put large (KeepAlive progress) allowed t = tt
 
 pub closing-none : (put : Put) (v : Content) → IsTrueForth put v → closing v ≡ None
 closing-none put (FileData offset bytes) t = refl
@@ -221,7 +245,7 @@ pub record HearsClean (old new : EntityState) : Type 0 where
 
 module _ (laws : HearingLaws) (put_of : TransactionId → Option Put) (heard : List (List ℕ)) where
   module _ (times : Times) (files : FileMap) (p : Pdu) (fine : IsFine put_of heard p) where
-    sender-clean : (x : SenderState) (o : Option SenderAfter) → sender_after p.1 x ≡ o → x.phase ≢ sending.Cancelling → (IsTrueForth fine.put p.1 × IsReceivable fine.put) ⊎ IsTrueBack p.1 →
+    sender-clean : (x : SenderState) (o : Option SenderAfter) → sender_after p.1 x ≡ o → x.phase ≢ sending.Cancelling → IsFineForth fine.put p ⊎ IsTrueBack p.1 →
         StaysClean (if_sender times files x o)
     sender-clean x None is not_ says = record { told = refl; kept = λ id. uncancelling x.phase not_ }
     sender-clean x (Some a) is not_ (inl forth) = absurd (some-none a (sym is ∙ forth-none fine.put p.1 x forth.0))
@@ -229,26 +253,26 @@ module _ (laws : HearingLaws) (put_of : TransactionId → Option Put) (heard : L
         let w : GoesWell a = hears-back-well p.1 x a back is not_ in
         record { told = w.told; kept = λ id. uncancelling a.sender.phase w.uncancelled }
 
-    receiver-clean : (r : ReceiverState) (m : OctetMap) → Sound fine.put heard r m → (IsTrueForth fine.put p.1 × IsReceivable fine.put) ⊎ IsTrueBack p.1 →
-        StaysClean (if_receiver times files r m (receiver_after Done p.1 m files r))
+    receiver-clean : (r : ReceiverState) (m : OctetMap) → Sound fine.put heard r m → IsFineForth fine.put p ⊎ IsTrueBack p.1 →
+        StaysClean (if_receiver times files r m (receiver_after Done p.0.large p.1 m files r))
     receiver-clean r m sound (inl forth) =
-        let faults : list_any is_file_fault (receiver_hears Done p.1 m files r).told ≡ false =
-        laws.faultless fine.put heard Done (Hears p.1) m files r forth.1 fine.truth (begins-within fine.put p.1 forth.0) sound in
-        let good : list_any is_bad (receiver_hears Done p.1 m files r).told ≡ false = hears-well m files r fine.put p.1 forth.0 faults in
-        subst (λ (o : Option ReceiverAfter). StaysClean (if_receiver times files r m o)) (sym (forth-some fine.put p.1 m files r forth.0)) (record { told = good; kept = λ id. refl })
+        let faults : list_any is_file_fault (receiver_hears Done p.0.large p.1 m files r).told ≡ false =
+        laws.faultless fine.put heard Done (Hears p.0.large p.1) m files r forth.1 fine.truth (begins-within fine.put p.0.large p.1 forth.2 forth.0) sound in
+        let good : list_any is_bad (receiver_hears Done p.0.large p.1 m files r).told ≡ false = hears-well m files r p.0.large fine.put p.1 forth.0 faults in
+        subst (λ (o : Option ReceiverAfter). StaysClean (if_receiver times files r m o)) (sym (forth-some fine.put p.0.large p.1 m files r forth.0)) (record { told = good; kept = λ id. refl })
     receiver-clean r m sound (inr back) =
-        subst (λ (o : Option ReceiverAfter). StaysClean (if_receiver times files r m o)) (sym (back-none p.1 m files r back)) (record { told = refl; kept = λ id. refl })
+        subst (λ (o : Option ReceiverAfter). StaysClean (if_receiver times files r m o)) (sym (back-none p.0.large p.1 m files r back)) (record { told = refl; kept = λ id. refl })
 
-    pub hears-clean : (own : ℕ) (s : Seen) → KnowsTruth own put_of heard p.0.id s → IsKept s → StaysClean (hears Done times files p.1 s)
+    pub hears-clean : (own : ℕ) (s : Seen) → KnowsTruth own put_of heard p.0.id s → IsKept s → StaysClean (hears Done times files p.0.large p.1 s)
     hears-clean own (Sends x) knows kept = sender-clean x (sender_after p.1 x) refl (not-cancelling x.phase (kept p.0.id)) fine.says
     hears-clean own (Receives r m) knows kept =
         receiver-clean r m (subst (λ (q : Put). Sound q heard r m) (same-put knows.put fine.put (sym knows.is_put ∙ fine.is_put)) knows.sound) fine.says
 
-    opens-clean : (a : Addressing) → StaysClean (opens Done Done times files p.1 a)
+    opens-clean : (a : Addressing) → StaysClean (opens Done Done times files p.0.large p.1 a)
     opens-clean a =
         let none : closing p.1 ≡ None = elim fine.says [ inl forth ↦ closing-none fine.put p.1 forth.0 | inr back ↦ back-closing p.1 back ] in
-        subst (λ (o : Option ℕ). StaysClean (opens_by o Done Done times files p.1 a)) (sym none)
-        (receiver-clean (opened_receiver a) map.empty (laws.opened fine.put heard Done files a) fine.says)
+        subst (λ (o : Option ℕ). StaysClean (opens_by o Done Done times files p.0.large p.1 a)) (sym none)
+        (receiver-clean (opened_receiver a) map.empty (laws.opened fine.put heard Done p.0.large files a) fine.says)
 
   -- ---- one PDU
   clean-table : (old new : EntityState) (t : TableState) → new.table ≡ t → new.drops ≡ old.drops → IsCleanTable t → HearsClean old new
@@ -295,8 +319,8 @@ module _ (laws : HearingLaws) (put_of : TransactionId → Option Put) (heard : L
         let st : TableState = old.state.table in
         let done : s.steps.stored ≡ Done = was-done s.steps.stored old.inbox_failures new.inbox_failures s.steps.counts same low in
         clean-table old.state new.state _ (ap (λ (e : EntityState). e.table) s.steps.steps) (ap (λ (e : EntityState). e.drops) s.steps.steps)
-        (step-clean (λ (e : Entry). hears s.steps.stored st.policy.times st.files p.1 e.1) s.place st (slice_get st.records s.place)
-        (λ e at. subst (λ (t : Stored). StaysClean (hears t st.policy.times st.files p.1 e.1)) (sym done)
+        (step-clean (λ (e : Entry). hears s.steps.stored st.policy.times st.files p.0.large p.1 e.1) s.place st (slice_get st.records s.place)
+        (λ e at. subst (λ (t : Stored). StaysClean (hears t st.policy.times st.files p.0.large p.1 e.1)) (sym done)
         (hears-clean st.policy.times st.files p fine own e.1
         (subst (λ (i : TransactionId). KnowsTruth own put_of heard i e.1) (sym (key-there p.0.id st.records s.place e s.at at)) (knows.knows s.place e at))
         (kept-at st.records s.place e k.kept at))) k)
@@ -307,11 +331,11 @@ module _ (laws : HearingLaws) (put_of : TransactionId → Option Put) (heard : L
         let a : Addressing = addressing_in p.0 in
         let begun : o.opens.begun ≡ Done = was-done o.opens.begun old.inbox_failures new.inbox_failures o.opens.counts.0 same low in
         let done : o.opens.stored ≡ Done = was-done o.opens.stored old.inbox_failures new.inbox_failures o.opens.counts.1 same low in
-        let clean : StaysClean (opens o.opens.begun o.opens.stored st.policy.times st.files p.1 a) =
-        subst (λ (b : Stored). StaysClean (opens b o.opens.stored st.policy.times st.files p.1 a)) (sym begun)
-        (subst (λ (b : Stored). StaysClean (opens Done b st.policy.times st.files p.1 a)) (sym done) (opens-clean st.policy.times st.files p fine a)) in
+        let clean : StaysClean (opens o.opens.begun o.opens.stored st.policy.times st.files p.0.large p.1 a) =
+        subst (λ (b : Stored). StaysClean (opens b o.opens.stored st.policy.times st.files p.0.large p.1 a)) (sym begun)
+        (subst (λ (b : Stored). StaysClean (opens Done b st.policy.times st.files p.0.large p.1 a)) (sym done) (opens-clean st.policy.times st.files p fine a)) in
         clean-table old.state new.state _ (ap (λ (e : EntityState). e.table) o.opens.opens) (ap (λ (e : EntityState). e.drops) o.opens.opens)
-        (push-clean a.id (opens o.opens.begun o.opens.stored st.policy.times st.files p.1 a) st clean k)
+        (push-clean a.id (opens o.opens.begun o.opens.stored st.policy.times st.files p.0.large p.1 a) st clean k)
 
     unheard : DropsNew p.0 p.1 old new → HearsClean old.state new.state
     unheard d = record {

@@ -12,7 +12,7 @@ use Rattle.cfdp_header.proofs.Ids.{same_id-itself}
 use Rattle.cfdp_directives.specs.Pdu.Codes.{modular, null}
 use Rattle.cfdp_directives.specs.Pdu.Content.{Content, FileData, Metadata, Eof, Finished, Ack, Nak, Prompt, KeepAlive}
 use Rattle.cfdp_directives.specs.Pdu.Direction.{goes_toward_sender}
-use Rattle.cfdp_directives.specs.Pdu.Small.{SpellsSmall}
+use Rattle.cfdp_directives.specs.Pdu.Grammar.{SpellsPdu}
 use Rattle.cfdp_directives.specs.User.Put.{Put, IsTruthful, IsOfPut, SaysTruth, SomePdu, IsMetadataOf, IsEofOf, Brings}
 use Rattle.cfdp_receiver.specs.Sound.{IsReceivable}
 use Rattle.cfdp_receiver.specs.Steps.{is_supported}
@@ -41,7 +41,7 @@ use Rattle.link_sim.specs.Waiting.{IsUncancelled, spoils}
 use Rattle.link_sim.specs.Work.{AreWithin, IsSeenWithin}
 use Rattle.link_sim.specs.World.State.{WorldState, entity_at, way_from}
 use Rattle.link_sim.specs.WorldWork.{most_offset}
-use Rattle.link_sim.proofs.Clean.Hears.{IsFine, not-cancelling}
+use Rattle.link_sim.proofs.Clean.Hears.{IsFine, IsFineForth, flag-allows, not-cancelling}
 use Rattle.link_sim.proofs.Events.Keeping.{other-other}
 use Rattle.link_sim.proofs.EveryPut.Routes.{directed-own, directed-peer}
 use Rattle.link_sim.proofs.Clean.NotBad.{none-weaker, spoils-bad, pauses-bad}
@@ -81,7 +81,7 @@ of-id-at Is id (q ∷ pdus) (suc n) p all at same =
 pub record IsText (texts : List (List ℕ)) (p : Pdu) : Type 0 where
   pub text : List ℕ
   pub among : Contains texts text
-  pub spells : SpellsSmall p.0 p.1 text
+  pub spells : SpellsPdu p.0 p.1 text
 
 pub text-at : (texts : List (List ℕ)) (pdus : List Pdu) (n : ℕ) (p : Pdu) → AreSpelled texts pdus → slice_get pdus n ≡ Some p → IsText texts p
 text-at [] [] n p s at = absurd cc
@@ -89,7 +89,7 @@ text-at [] (q ∷ pdus) n p s at = absurd s
 text-at (t ∷ texts) [] n p s at = absurd s
 text-at (t ∷ texts) (q ∷ pdus) zero p s at =
     let is : q ≡ p = cc in
-    record { text = t; among = (0, omega arith, refl); spells = subst (λ (x : Pdu). SpellsSmall x.0 x.1 t) is s.0 }
+    record { text = t; among = (0, omega arith, refl); spells = subst (λ (x : Pdu). SpellsPdu x.0 x.1 t) is s.0 }
 text-at (t ∷ texts) (q ∷ pdus) (suc n) p s at =
     let i : IsText texts p = text-at texts pdus n p s.1 at in
     let k : ℕ = i.among.0 in
@@ -224,13 +224,13 @@ module _ (w : WorldState) (sound : IsSound w) (sizes : (s : Side) → AreWithin 
 -- ---- what comes is true of its put
 module _ (put_of : TransactionId → Option Put) (heard : List (List ℕ)) (by_id : (id : TransactionId) (put : Put) → put_of id ≡ Some put → put.id ≡ id) (peer : ℕ) (pdu : List ℕ)
     (among : Contains heard pdu) (h : Header) where
-  some-pdu : (P : Header → Content → Type 0) (v : Content) → SpellsSmall h v pdu → P h v → SomePdu P heard
+  some-pdu : (P : Header → Content → Type 0) (v : Content) → SpellsPdu h v pdu → P h v → SomePdu P heard
   some-pdu P v s p = (among.0, pdu, among.1, among.2, (h, (v, (s, p))))
 
   true-as : (v : Content) (put : Put) → IsOfPut peer put_of h.id v → put_of h.id ≡ Some put → (h.id ≡ put.id) × IsTruthful put v
   true-as v put t is = (sym (by_id h.id put is), subst (λ p. IsTruthful p v) (same-put t.0 put (sym t.1.1 ∙ is)) t.1.2)
 
-  pub true-of : (v : Content) → SpellsSmall h v pdu → SaysTruth peer put_of h.id v → IsTrueOf put_of heard h.id v
+  pub true-of : (v : Content) → SpellsPdu h v pdu → SaysTruth peer put_of h.id v → IsTrueOf put_of heard h.id v
   true-of (FileData offset bytes) s t = λ put is. (let a = true-as (FileData offset bytes) put t is in (a.1, λ n low high. some-pdu (Brings put n) (FileData offset bytes) s (a.0, low, high, a.1)))
   true-of (Metadata kind size source destination options) s t = λ put is.
       (let a = true-as (Metadata kind size source destination options) put t is in (a.1, some-pdu (IsMetadataOf put) (Metadata kind size source destination options) s a))
@@ -249,7 +249,7 @@ some-put None h = absurd cc
 -- ---- a PDU on its way says the truth of its put, and that put can be received
 module _ (s : Side) (w : WorldState) (sound : IsSound w) (clean : IsClean w) (sizes : (t : Side) → AreWithin most_offset (entity_at t w).table.records) (c : IsCourseFrom s w)
     (heard : List (List ℕ)) where
-  pub fine-at : (n : ℕ) (p : Pdu) → slice_get c.forth n ≡ Some p → (text : List ℕ) → SpellsSmall p.0 p.1 text → ComesTrue (entity_at (other s) w).config.peer (put_of (seen w)) heard text →
+  pub fine-at : (n : ℕ) (p : Pdu) → slice_get c.forth n ≡ Some p → (text : List ℕ) → SpellsPdu p.0 p.1 text → ComesTrue (entity_at (other s) w).config.peer (put_of (seen w)) heard text →
       IsFine (put_of (seen w)) heard p
   fine-at n p at text spells comes =
       let there : EntityState = entity_at (other s) w in
@@ -259,7 +259,7 @@ module _ (s : Side) (w : WorldState) (sound : IsSound w) (clean : IsClean w) (si
       let id : put.id ≡ p.0.id = puts-by-id (seen w) p.0.id put found.1 in
       let named : put_of (seen w) put.id ≡ Some put = ap (put_of (seen w)) id ∙ found.1 in
       let own : same_id put.id p.0.id ≡ true = ap (λ i. same_id i p.0.id) id ∙ same_id-itself p.0.id in
-      let says : (IsTrueForth put p.1 × IsReceivable put) ⊎ IsTrueBack p.1 = elim (cases_Bool (goes_toward_sender p.1)) [
+      let says : IsFineForth put p ⊎ IsTrueBack p.1 = elim (cases_Bool (goes_toward_sender p.1)) [
         | inl toward ↦ (let mine : put.id.source ≡ there.config.entity = ap (λ (i : TransactionId). i.source) id ∙ directed-own (put_of (seen w)) there p.0 p.1 d toward in
             let o = on-course (other s) w c.back c.forth clean c.puts_back put named mine in
             inr (of-id-at IsTrueBack put.id c.forth n p o.course.truth.true_back at own))
@@ -267,7 +267,8 @@ module _ (s : Side) (w : WorldState) (sound : IsSound w) (clean : IsClean w) (si
             let peer : there.config.peer ≡ (entity_at s w).config.entity = (sound (other s)).peer ∙ ap (λ t. (entity_at t w).config.entity) (other-other s) in
             let mine : put.id.source ≡ (entity_at s w).config.entity = ap (λ (i : TransactionId). i.source) id ∙ from_peer ∙ peer in
             let o = on-course s w c.forth c.back clean c.puts put named mine in
-            inl (of-id-at (IsTrueForth put) put.id c.forth n p o.course.truth.true_forth at own, receivable w sound sizes s c.forth c.back c.known put named mine))
+            let can : IsReceivable put = receivable w sound sizes s c.forth c.back c.known put named mine in
+            inl (of-id-at (IsTrueForth put) put.id c.forth n p o.course.truth.true_forth at own, can, flag-allows p.0.large (length put.octets) (d.flag away put found.1) can.size))
       ] in
       record {
         put = put;

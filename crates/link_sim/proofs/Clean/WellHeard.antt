@@ -25,8 +25,8 @@ use Rattle.cfdp_sender.specs.Steps.{SenderAfter, sender_sends, sender_hears_ack,
 use Rattle.cfdp_receiver.specs.declared.state.Ending.{Ending}
 use Rattle.cfdp_receiver.specs.declared.state.FileInfo.{FileInfo}
 use Rattle.cfdp_receiver.specs.Pieces.{new_pieces, staged_with}
-use Rattle.cfdp_receiver.specs.Sound.{receiver_hears, is_file_fault}
-use Rattle.cfdp_receiver.specs.State.{ReceiverState, is_receiving}
+use Rattle.cfdp_receiver.specs.Sound.{hears_content, receiver_hears, is_file_fault}
+use Rattle.cfdp_receiver.specs.State.{ReceiverState, flagged, is_receiving}
 use Rattle.cfdp_receiver.specs.Steps.{ReceiverAfter, leaving, telling, ends, failed, faulted, agrees, published_by, completed_by, completed, is_supported, receives_metadata, exceeds, with_data, receives_new, receives_data, contradicts, first_eof, receives_eof}
 use Rattle.cfdp_entity.specs.Steps.{sender_after}
 use Rattle.link_sim.specs.Clean.{is_bad}
@@ -70,40 +70,44 @@ module _ (m : OctetMap) (files : FileMap) (r : ReceiverState) where
       (cond_both (is_supported kind) (completed Done m files r1) (faulted unsupported_checksum_type m files r1) Well (λ _. completes m files r1)
       (λ _. by-fault m files r1 unsupported_checksum_type refl)))
 
-  data-well : (offset : ℕ) (bytes : List ℕ) → Well (receives_data Done offset bytes m files r)
-  data-well offset bytes =
+  data-well : (large : Bool) (offset : ℕ) (bytes : List ℕ) → Well (receives_data Done large offset bytes m files r)
+  data-well large offset bytes =
       let end : ℕ = offset + length bytes in
-      cond_both (exceeds r.ending end) (faulted file_size_error m files r) (if set.is_subset (range offset end) r.held then completed Done m files r else receives_new Done offset bytes m files r) Well
+      cond_both (exceeds large r.ending end) (faulted file_size_error m files r)
+      (if set.is_subset (range offset end) r.held then completed Done m files r else receives_new Done offset bytes m files r) Well
       (λ _. by-fault m files r file_size_error refl)
       (λ _. cond_both (set.is_subset (range offset end) r.held) (completed Done m files r) (receives_new Done offset bytes m files r) Well
       (λ _. completes m files r)
       (λ _. completes (staged_with m (new_pieces r.held offset bytes)) files (with_data offset bytes r)))
 
-  eof-well : (checksum size : ℕ) → Well (receives_eof Done no_error checksum size m files r)
-  eof-well checksum size =
+  eof-well : (large : Bool) (checksum size : ℕ) → Well (receives_eof Done large no_error checksum size m files r)
+  eof-well large checksum size =
       let r1 : ReceiverState = record r { ending = Some (record { checksum = checksum; size = size }); ack_due = Some no_error; nak_cursor = Some 0 } in
-      let tested : ReceiverAfter = if contradicts size r then faulted file_size_error m files r1 else completed Done m files r1 in
-      cond_both (is_none r.ending) (first_eof Done checksum size m files r) (leaving m files (record r { ack_due = Some no_error; nak_cursor = Some 0 })) Well
+      let tested : ReceiverAfter = if contradicts large size r then faulted file_size_error m files r1 else completed Done m files r1 in
+      cond_both (is_none r.ending) (first_eof Done large checksum size m files r) (leaving m files (record r { ack_due = Some no_error; nak_cursor = Some 0 })) Well
       (λ _. telling-well m files (indication.EofRecv r.addressing.id) tested refl refl
-      (cond_both (contradicts size r) (faulted file_size_error m files r1) (completed Done m files r1) Well (λ _. by-fault m files r1 file_size_error refl) (λ _. completes m files r1)))
+      (cond_both (contradicts large size r) (faulted file_size_error m files r1) (completed Done m files r1) Well (λ _. by-fault m files r1 file_size_error refl) (λ _. completes m files r1)))
       (λ _ none. refl)
 
-  -- what is heard of a transaction that goes well tells nothing bad
-  pub hears-well : (put : Put) (v : Content) → IsTrueForth put v → Well (receiver_hears Done v m files r)
-  hears-well put (Metadata kind size source destination options) true_ =
+  content-well : (large : Bool) (put : Put) (v : Content) → IsTrueForth put v → Well (hears_content Done large v m files r)
+  content-well large put (Metadata kind size source destination options) true_ =
       cond_both (is_receiving r.phase) (receives_metadata Done kind size source destination m files r) (leaving m files r) Well (λ _. metadata-well kind size source destination) (λ _ none. refl)
-  hears-well put (FileData offset bytes) true_ =
-      cond_both (is_receiving r.phase) (receives_data Done offset bytes m files r) (leaving m files r) Well (λ _. data-well offset bytes) (λ _ none. refl)
-  hears-well put (Eof condition checksum size tlvs) true_ =
-      subst (λ (c : ℕ). Well (receiver_hears Done (Eof c checksum size tlvs) m files r)) (sym true_.0)
-      (cond_both (is_receiving r.phase) (receives_eof Done no_error checksum size m files r) (leaving m files (record r { ack_due = Some no_error })) Well (λ _. eof-well checksum size)
+  content-well large put (FileData offset bytes) true_ =
+      cond_both (is_receiving r.phase) (receives_data Done large offset bytes m files r) (leaving m files r) Well (λ _. data-well large offset bytes) (λ _ none. refl)
+  content-well large put (Eof condition checksum size tlvs) true_ =
+      subst (λ (c : ℕ). Well (hears_content Done large (Eof c checksum size tlvs) m files r)) (sym true_.0)
+      (cond_both (is_receiving r.phase) (receives_eof Done large no_error checksum size m files r) (leaving m files (record r { ack_due = Some no_error })) Well (λ _. eof-well large checksum size)
       (λ _ none. refl))
-  hears-well put (Ack acknowledged.Finished condition status) true_ = λ none. refl
-  hears-well put (Ack acknowledged.Eof condition status) true_ = λ none. absurd true_
-  hears-well put (Prompt keep_alive) true_ = λ none. refl
-  hears-well put (Finished condition delivery status tlvs) true_ = λ none. absurd true_
-  hears-well put (Nak start end pairs) true_ = λ none. absurd true_
-  hears-well put (KeepAlive progress) true_ = λ none. absurd true_
+  content-well large put (Ack acknowledged.Finished condition status) true_ = λ none. refl
+  content-well large put (Ack acknowledged.Eof condition status) true_ = λ none. absurd true_
+  content-well large put (Prompt keep_alive) true_ = λ none. refl
+  content-well large put (Finished condition delivery status tlvs) true_ = λ none. absurd true_
+  content-well large put (Nak start end pairs) true_ = λ none. absurd true_
+  content-well large put (KeepAlive progress) true_ = λ none. absurd true_
+
+-- what is heard of a transaction that goes well tells nothing bad
+pub hears-well : (m : OctetMap) (files : FileMap) (r : ReceiverState) (large : Bool) (put : Put) (v : Content) → IsTrueForth put v → Well (receiver_hears Done large v m files r)
+hears-well m files r large put v true_ = content-well m files (flagged large r) large put v true_
 
 -- ---- a sender that isn't cancelled
 -- it told nothing bad, and isn't cancelled now

@@ -29,8 +29,8 @@ use Rattle.cfdp_receiver.specs.declared.state.Ending.{Ending}
 use Rattle.cfdp_receiver.specs.Due.{receiver_says, receiver_taken}
 use Rattle.cfdp_receiver.specs.Missing.{limit_by, scope_limit, missing_pairs, is_empty, most_pairs, last_end, next_cursor, cursor_by, tidied}
 use Rattle.cfdp_receiver.specs.Pieces.{new_pieces, staged_with}
-use Rattle.cfdp_receiver.specs.Sound.{receiver_hears}
-use Rattle.cfdp_receiver.specs.State.{ReceiverState, is_receiving, is_finishing}
+use Rattle.cfdp_receiver.specs.Sound.{hears_content, receiver_hears}
+use Rattle.cfdp_receiver.specs.State.{ReceiverState, flagged, is_receiving, is_finishing}
 use Rattle.cfdp_receiver.specs.Steps.{ReceiverAfter, leaving, telling, closed, faulted, agrees, published_by, completed_by, completed, is_supported, receives_metadata, exceeds, with_data, receives_new, receives_data, contradicts, first_eof, cancelled_by, receives_eof, prompted_for}
 use Rattle.link_sim.specs.Course.{AsksFirst, AsksFrom, owes_metadata, owes_octet}
 use Rattle.link_sim.specs.Exchange.{is_eof, names, names_metadata, IsTrueForth, once_ended, has_ended}
@@ -364,10 +364,10 @@ module _ (P : ReceiverState → Type 0) (put : Put) (stored : Stored) (m : Octet
   new-keeps Done offset bytes = completed-keeps P s.over stored files Done r.metadata r.ending (staged_with m (new_pieces r.held offset bytes)) (with_data offset bytes r) (s.filled offset bytes)
   new-keeps Refused offset bytes = s.over _ refl
 
-  data-keeps : (offset : ℕ) (bytes : List ℕ) → Later (receives_data stored offset bytes m files r)
-  data-keeps offset bytes =
+  data-keeps : (large : Bool) (offset : ℕ) (bytes : List ℕ) → Later (receives_data stored large offset bytes m files r)
+  data-keeps large offset bytes =
       let end : ℕ = offset + length bytes in
-      cond_both (exceeds r.ending end) (faulted file_size_error m files r)
+      cond_both (exceeds large r.ending end) (faulted file_size_error m files r)
       (if set.is_subset (range offset end) r.held then completed stored m files r else receives_new stored offset bytes m files r) Later
       (λ _. s.over _ refl)
       (λ _. cond_both (set.is_subset (range offset end) r.held) (completed stored m files r) (receives_new stored offset bytes m files r) Later
@@ -376,33 +376,35 @@ module _ (P : ReceiverState → Type 0) (put : Put) (stored : Stored) (m : Octet
 
 -- by an EOF, whatever was true before
 module _ (P : ReceiverState → Type 0) (over : (r : ReceiverState) → has_ended r ≡ true → P r) (stored : Stored) (m : OctetMap) (files : FileMap) (r : ReceiverState) where
-  eof-keeps : (condition checksum size : ℕ) → P (record r { ending = Some (record { checksum = checksum; size = size }); ack_due = Some no_error; nak_cursor = Some 0 })
-      → (is_none r.ending ≡ false → P (record r { ack_due = Some no_error; nak_cursor = Some 0 })) → P (receives_eof stored condition checksum size m files r).receiver
-  eof-keeps condition checksum size closes again =
+  eof-keeps : (large : Bool) (condition checksum size : ℕ) → P (record r { ending = Some (record { checksum = checksum; size = size }); ack_due = Some no_error; nak_cursor = Some 0 })
+      → (is_none r.ending ≡ false → P (record r { ack_due = Some no_error; nak_cursor = Some 0 })) → P (receives_eof stored large condition checksum size m files r).receiver
+  eof-keeps large condition checksum size closes again =
       let r1 : ReceiverState = record r { ending = Some (record { checksum = checksum; size = size }); ack_due = Some no_error; nak_cursor = Some 0 } in
       cond_both (not (condition == no_error)) (cancelled_by condition m files r)
-      (if is_none r.ending then first_eof stored checksum size m files r else leaving m files (record r { ack_due = Some no_error; nak_cursor = Some 0 })) (λ (a : ReceiverAfter). P a.receiver)
+      (if is_none r.ending then first_eof stored large checksum size m files r else leaving m files (record r { ack_due = Some no_error; nak_cursor = Some 0 }))
+      (λ (a : ReceiverAfter). P a.receiver)
       (λ _. over _ refl)
-      (λ _. cond_both (is_none r.ending) (first_eof stored checksum size m files r) (leaving m files (record r { ack_due = Some no_error; nak_cursor = Some 0 })) (λ (a : ReceiverAfter). P a.receiver)
-      (λ _. cond_both (contradicts size r) (faulted file_size_error m files r1) (completed stored m files r1) (λ (a : ReceiverAfter). P a.receiver)
+      (λ _. cond_both (is_none r.ending) (first_eof stored large checksum size m files r) (leaving m files (record r { ack_due = Some no_error; nak_cursor = Some 0 }))
+      (λ (a : ReceiverAfter). P a.receiver)
+      (λ _. cond_both (contradicts large size r) (faulted file_size_error m files r1) (completed stored m files r1) (λ (a : ReceiverAfter). P a.receiver)
       (λ _. over _ refl)
       (λ _. completed-keeps P over stored files stored r1.metadata r1.ending m r1 closes))
       again)
 
 -- by any PDU
 module _ (P : ReceiverState → Type 0) (put : Put) (stored : Stored) (m : OctetMap) (files : FileMap) (r : ReceiverState) (is : r.phase ≡ Receiving) (s : StandsMore P (length put.octets) r)
-    (tidies : (r1 : ReceiverState) → P r1 → P (tidied r1)) where
+    (tidies : (r1 : ReceiverState) → P r1 → P (tidied r1)) (large : Bool) where
   while-receiving : (a b : ReceiverAfter) → P a.receiver → P (if is_receiving r.phase then a else b).receiver
   while-receiving a b h = subst (λ p. P (if is_receiving p then a else b).receiver) (sym is) h
 
-  receiver-keeps : (v : Content) → IsTrueForth put v → P (receiver_hears stored v m files r).receiver
+  receiver-keeps : (v : Content) → IsTrueForth put v → P (hears_content stored large v m files r).receiver
   receiver-keeps (Metadata kind size source destination options) t =
       tidies _ (while-receiving (receives_metadata stored kind size source destination m files r) (leaving m files r) (metadata-keeps P put stored m files r s kind size source destination))
   receiver-keeps (FileData offset bytes) t =
-      tidies _ (while-receiving (receives_data stored offset bytes m files r) (leaving m files r) (data-keeps P put stored m files r s offset bytes))
+      tidies _ (while-receiving (receives_data stored large offset bytes m files r) (leaving m files r) (data-keeps P put stored m files r s large offset bytes))
   receiver-keeps (Eof condition checksum size tlvs) t =
-      tidies _ (while-receiving (receives_eof stored condition checksum size m files r) (leaving m files (record r { ack_due = Some condition }))
-      (eof-keeps P s.over stored m files r condition checksum size
+      tidies _ (while-receiving (receives_eof stored large condition checksum size m files r) (leaving m files (record r { ack_due = Some condition }))
+      (eof-keeps P s.over stored m files r large condition checksum size
       (subst (λ n. P (record r { ending = Some (record { checksum = checksum; size = n }); ack_due = Some no_error; nak_cursor = Some 0 })) (sym t.1) (s.closed checksum))
       (λ _. s.again)))
   receiver-keeps (Ack acknowledged.Finished condition status) t =
@@ -455,22 +457,34 @@ metadata-more n r a = record {
     by true = inr (record { phase = a.phase; cursor = a.cursor })
     by false = inr (record { phase = a.phase; cursor = refl })
 
-module _ (put : Put) (stored : Stored) (m : OctetMap) (files : FileMap) (r : ReceiverState) where
-  -- what a receiver asks for it still asks for, or holds, once it heard a PDU
-  pub hears-owes : (k : ℕ) → k < length put.octets → AsksFrom k r → (v : Content) → IsTrueForth put v → OwesOctet k (receiver_hears stored v m files r).receiver
-  hears-owes k below a v t = receiver-keeps (OwesOctet k) put stored m files r a.phase (owes-more k (length put.octets) r below a) (tidied-owes k) v t
-
-  pub hears-metadata : AsksFirst r → (v : Content) → IsTrueForth put v → OwesMetadata (receiver_hears stored v m files r).receiver
-  hears-metadata a v t = receiver-keeps OwesMetadata put stored m files r a.phase (metadata-more (length put.octets) r a) tidied-metadata v t
-
+module _ (put : Put) (stored : Stored) (large : Bool) (m : OctetMap) (files : FileMap) (r : ReceiverState) where
   -- a true EOF makes a receiver ask for all that it misses
   eof-in : (phase : ReceiverPhase) (condition checksum size : ℕ) → r.phase ≡ phase → (r.phase ≡ Receiving → IfSome r.ending (λ e. e.size ≡ length put.octets)) → size ≡ length put.octets
-      → OwesAll (length put.octets) (if is_receiving phase then receives_eof stored condition checksum size m files r else leaving m files (record r { ack_due = Some condition })).receiver
-  eof-in Receiving condition checksum size is ending same = eof-keeps (OwesAll (length put.octets)) (λ r1 h. inl h) stored m files r condition checksum size
+      → OwesAll (length put.octets) (if is_receiving phase then receives_eof stored large condition checksum size m files r else leaving m files (record r { ack_due = Some condition })).receiver
+  eof-in Receiving condition checksum size is ending same = eof-keeps (OwesAll (length put.octets)) (λ r1 h. inl h) stored m files r large condition checksum size
       (inr (record { phase = is; cursor = refl; limit = omega arith }))
       (λ some. inr (record { phase = is; cursor = refl; limit = limit-is put r.ending r.held some (ending is) }))
   eof-in Finishing condition checksum size is ending same = inl (ap (λ p. once_ended p false) is)
   eof-in Closed condition checksum size is ending same = inl (ap (λ p. once_ended p false) is)
+
+-- a large file flag changes nothing of what is asked for
+flag-first : (large : Bool) (r : ReceiverState) → AsksFirst r → AsksFirst (flagged large r)
+flag-first large r a = record { phase = a.phase; cursor = a.cursor }
+
+flag-from : (k : ℕ) (large : Bool) (r : ReceiverState) → AsksFrom k r → AsksFrom k (flagged large r)
+flag-from k large r a = record { phase = a.phase; cursor = a.cursor; is_cursor = a.is_cursor; low = a.low; below = a.below }
+
+module _ (put : Put) (stored : Stored) (large : Bool) (m : OctetMap) (files : FileMap) (r : ReceiverState) where
+  -- what a receiver asks for it still asks for, or holds, once it heard a PDU
+  pub hears-owes : (k : ℕ) → k < length put.octets → AsksFrom k r → (v : Content) → IsTrueForth put v → OwesOctet k (receiver_hears stored large v m files r).receiver
+  hears-owes k below a v t =
+      let s : StandsMore (OwesOctet k) (length put.octets) (flagged large r) = owes-more k (length put.octets) (flagged large r) below (flag-from k large r a) in
+      receiver-keeps (OwesOctet k) put stored m files (flagged large r) a.phase s (tidied-owes k) large v t
+
+  pub hears-metadata : AsksFirst r → (v : Content) → IsTrueForth put v → OwesMetadata (receiver_hears stored large v m files r).receiver
+  hears-metadata a v t =
+      let s : StandsMore OwesMetadata (length put.octets) (flagged large r) = metadata-more (length put.octets) (flagged large r) (flag-first large r a) in
+      receiver-keeps OwesMetadata put stored m files (flagged large r) a.phase s tidied-metadata large v t
 
   -- the receiver that heard one, before its NAK is tidied
   pub record AsksForAll (r1 : ReceiverState) : Type 0 where
@@ -479,10 +493,11 @@ module _ (put : Put) (stored : Stored) (m : OctetMap) (files : FileMap) (r : Rec
     pub tidies : r1 ≡ tidied before
 
   pub eof-asks : (r.phase ≡ Receiving → IfSome r.ending (λ e. e.size ≡ length put.octets)) → (v : Content) → IsTrueForth put v → is_eof v ≡ true →
-      AsksForAll (receiver_hears stored v m files r).receiver
+      AsksForAll (receiver_hears stored large v m files r).receiver
   eof-asks ending (Eof condition checksum size tlvs) t e = record {
-    before = (if is_receiving r.phase then receives_eof stored condition checksum size m files r else leaving m files (record r { ack_due = Some condition })).receiver;
-    owes = eof-in r.phase condition checksum size refl ending t.1;
+    before = (let r1 : ReceiverState = flagged large r in
+        if is_receiving r.phase then receives_eof stored large condition checksum size m files r1 else leaving m files (record r1 { ack_due = Some condition })).receiver;
+    owes = eof-in put stored large m files (flagged large r) r.phase condition checksum size refl ending t.1;
     tidies = refl;
   }
   eof-asks ending (Metadata kind size source destination options) t e = absurd (false≢true e)
@@ -496,7 +511,7 @@ module _ (put : Put) (stored : Stored) (m : OctetMap) (files : FileMap) (r : Rec
 
   -- all of this, as the debts take it
   pub still-asks : (r.phase ≡ Receiving → IfSome r.ending (λ e. e.size ≡ length put.octets)) → (v : Content) → IsTrueForth put v →
-      StillAsks (length put.octets) v r (receiver_hears stored v m files r).receiver
+      StillAsks (length put.octets) v r (receiver_hears stored large v m files r).receiver
   still-asks ending v t = record {
     metadata = λ a. hears-metadata a v t;
     octets = λ k below a. hears-owes k below a v t;

@@ -23,8 +23,8 @@ use Rattle.cfdp_receiver.specs.declared.state.FileInfo.{FileInfo}
 use Rattle.cfdp_receiver.specs.declared.state.Ending.{Ending}
 use Rattle.cfdp_receiver.specs.Missing.{tidied}
 use Rattle.cfdp_receiver.specs.Pieces.{new_pieces, staged_with}
-use Rattle.cfdp_receiver.specs.Sound.{is_whole, is_done, receiver_hears}
-use Rattle.cfdp_receiver.specs.State.{ReceiverState, is_receiving, is_finishing}
+use Rattle.cfdp_receiver.specs.Sound.{is_whole, is_done, asks_from, hears_content, receiver_hears}
+use Rattle.cfdp_receiver.specs.State.{ReceiverState, flagged, is_receiving, is_finishing}
 use Rattle.cfdp_receiver.specs.Steps.{ReceiverAfter, leaving, telling, closed, faulted, completed, is_supported, receives_metadata, exceeds, with_data, receives_new, receives_data, contradicts, first_eof, receives_eof, acknowledged_by, prompted_for}
 use Rattle.cfdp_receiver.proofs.Facts.{is_receiving-is}
 use Rattle.cfdp_extents.proofs.Members.{contains-range}
@@ -139,11 +139,12 @@ module _ (put : Put) (stored : Stored) (m : OctetMap) (files : FileMap) (r : Rec
       })
   new-advances Refused offset bytes = faults-not put (FileData offset bytes) r is filestore_rejection m files r own refl
 
-  data-advances : (offset : ℕ) (bytes : List ℕ) → To (FileData offset bytes) (receives_data stored offset bytes m files r)
-  data-advances offset bytes =
+  data-advances : (large : Bool) (offset : ℕ) (bytes : List ℕ) → To (FileData offset bytes) (receives_data stored large offset bytes m files r)
+  data-advances large offset bytes =
       let v : Content = FileData offset bytes in
       let end : ℕ = offset + length bytes in
-      cond_both (exceeds r.ending end) (faulted file_size_error m files r) (if set.is_subset (range offset end) r.held then completed stored m files r else receives_new stored offset bytes m files r)
+      cond_both (exceeds large r.ending end) (faulted file_size_error m files r)
+      (if set.is_subset (range offset end) r.held then completed stored m files r else receives_new stored offset bytes m files r)
       (To v)
       (λ _. faults-not put v r is file_size_error m files r own refl)
       (λ _. cond_both (set.is_subset (range offset end) r.held) (completed stored m files r) (receives_new stored offset bytes m files r) (To v)
@@ -156,13 +157,13 @@ module _ (put : Put) (stored : Stored) (m : OctetMap) (files : FileMap) (r : Rec
   some-since (Some e) h = refl
   some-since None h = absurd (true≢false h)
 
-  eof-advances : (checksum size : ℕ) (tlvs : List Tlv) → size ≡ length put.octets → To (Eof no_error checksum size tlvs) (receives_eof stored no_error checksum size m files r)
-  eof-advances checksum size tlvs right =
+  eof-advances : (large : Bool) (checksum size : ℕ) (tlvs : List Tlv) → size ≡ length put.octets → To (Eof no_error checksum size tlvs) (receives_eof stored large no_error checksum size m files r)
+  eof-advances large checksum size tlvs right =
       let v : Content = Eof no_error checksum size tlvs in
       let ending : Ending = record { checksum = checksum; size = size } in
       let r1 : ReceiverState = record r { ending = Some ending; ack_due = Some no_error; nak_cursor = Some 0 } in
       let r2 : ReceiverState = record r { ack_due = Some no_error; nak_cursor = Some 0 } in
-      let tested : ReceiverAfter = if contradicts size r then faulted file_size_error m files r1 else completed stored m files r1 in
+      let tested : ReceiverAfter = if contradicts large size r then faulted file_size_error m files r1 else completed stored m files r1 in
       let g : Gains put v r r1 = record {
         phase = is;
         own = own;
@@ -175,9 +176,9 @@ module _ (put : Put) (stored : Stored) (m : OctetMap) (files : FileMap) (r : Rec
         ending = λ _. refl;
         held = λ n h. elim h [ inl was ↦ was | inr now ↦ not_so now ];
       } in
-      cond_both (is_none r.ending) (first_eof stored checksum size m files r) (leaving m files r2) (To v)
+      cond_both (is_none r.ending) (first_eof stored large checksum size m files r) (leaving m files r2) (To v)
       (λ _. telling-first put v r is (indication.EofRecv r.addressing.id) tested refl
-      (cond_both (contradicts size r) (faulted file_size_error m files r1) (completed stored m files r1) (To v)
+      (cond_both (contradicts large size r) (faulted file_size_error m files r1) (completed stored m files r1) (To v)
       (λ _. faults-not put v r is file_size_error m files r1 own refl)
       (λ _. completes put v r is stored m files r1 g)))
       (λ again. stays-waits v r2 (record { addressing = refl; phase = refl; suspended = refl; metadata = refl; ending = refl; held = refl })
@@ -288,7 +289,7 @@ module _ (put : Put) (r : ReceiverState) (c : IsReceiverTrue put r) (over : r.ph
 not-receiving : (phase : ReceiverPhase) → is_receiving phase ≡ false → phase ≡ Receiving → ⊥
 not-receiving phase other is = both_ways (is_receiving phase) other (ap is_receiving is)
 
-module _ (put : Put) (stored : Stored) (m : OctetMap) (files : FileMap) (r : ReceiverState) (c : IsReceiverTrue put r) (own : r.addressing.id ≡ put.id) where
+module _ (put : Put) (stored : Stored) (large : Bool) (m : OctetMap) (files : FileMap) (r : ReceiverState) (c : IsReceiverTrue put r) (own : r.addressing.id ≡ put.id) where
   abbrev Heard : Content → ReceiverAfter → Type 0
   Heard v a = one_tells (spoils put.id) a.told ≡ false → Advances put v r (tidied a.receiver) a.told
 
@@ -306,28 +307,61 @@ module _ (put : Put) (stored : Stored) (m : OctetMap) (files : FileMap) (r : Rec
   ack-heard condition status Closed is = λ _. ack-advances put r c (λ e. let both : Closed ≡ Receiving = sym is ∙ e in cc) condition status
 
   eof-heard : (checksum size : ℕ) (tlvs : List Tlv) → size ≡ length put.octets
-      → Heard (Eof no_error checksum size tlvs) (if is_receiving r.phase then receives_eof stored no_error checksum size m files r else leaving m files (record r { ack_due = Some no_error }))
-  eof-heard checksum size tlvs right = by-phase (Eof no_error checksum size tlvs) (receives_eof stored no_error checksum size m files r) (leaving m files (record r { ack_due = Some no_error }))
-      (λ is. eof-advances put stored m files r c own is checksum size tlvs right)
+      → Heard (Eof no_error checksum size tlvs) (if is_receiving r.phase then receives_eof stored large no_error checksum size m files r else leaving m files (record r { ack_due = Some no_error }))
+  eof-heard checksum size tlvs right = by-phase (Eof no_error checksum size tlvs) (receives_eof stored large no_error checksum size m files r) (leaving m files (record r { ack_due = Some no_error }))
+      (λ is. eof-advances put stored m files r c own is large checksum size tlvs right)
       (λ over _. same-advances put r c over (Eof no_error checksum size tlvs) (Some no_error) refl refl refl)
 
-  -- A true PDU that spoils nothing moves a receiver on.
-  pub hears-advances : (v : Content) → IsTrueForth put v → one_tells (spoils put.id) (receiver_hears stored v m files r).told ≡ false →
-      Advances put v r (receiver_hears stored v m files r).receiver (receiver_hears stored v m files r).told
-  hears-advances (Metadata checksum_kind size source destination options) t good =
+  content-advances : (v : Content) → IsTrueForth put v → one_tells (spoils put.id) (hears_content stored large v m files r).told ≡ false →
+      Advances put v r (hears_content stored large v m files r).receiver (hears_content stored large v m files r).told
+  content-advances (Metadata checksum_kind size source destination options) t good =
       by-phase (Metadata checksum_kind size source destination options) (receives_metadata stored checksum_kind size source destination m files r) (leaving m files r)
       (λ is. metadata-advances put stored m files r c own is checksum_kind size source destination options)
       (λ over _. other-advances put r c over (Metadata checksum_kind size source destination options) refl refl) good
-  hears-advances (FileData offset bytes) t good =
-      by-phase (FileData offset bytes) (receives_data stored offset bytes m files r) (leaving m files r)
-      (λ is. data-advances put stored m files r c own is offset bytes)
+  content-advances (FileData offset bytes) t good =
+      by-phase (FileData offset bytes) (receives_data stored large offset bytes m files r) (leaving m files r)
+      (λ is. data-advances put stored m files r c own is large offset bytes)
       (λ over _. other-advances put r c over (FileData offset bytes) refl refl) good
-  hears-advances (Eof condition checksum size tlvs) t good =
-      subst (λ n. Heard (Eof n checksum size tlvs) (if is_receiving r.phase then receives_eof stored n checksum size m files r else leaving m files (record r { ack_due = Some n })))
+  content-advances (Eof condition checksum size tlvs) t good =
+      subst (λ n. Heard (Eof n checksum size tlvs) (if is_receiving r.phase then receives_eof stored large n checksum size m files r else leaving m files (record r { ack_due = Some n })))
       (sym t.0) (eof-heard checksum size tlvs t.1) good
-  hears-advances (Ack acknowledged.Finished condition status) t good = ack-heard condition status r.phase refl good
-  hears-advances (Ack acknowledged.Eof condition status) t good = absurd t
-  hears-advances (Prompt keep_alive) t good = prompt-heard keep_alive good
-  hears-advances (Finished condition delivery status tlvs) t good = absurd t
-  hears-advances (Nak start end pairs) t good = absurd t
-  hears-advances (KeepAlive progress) t good = absurd t
+  content-advances (Ack acknowledged.Finished condition status) t good = ack-heard condition status r.phase refl good
+  content-advances (Ack acknowledged.Eof condition status) t good = absurd t
+  content-advances (Prompt keep_alive) t good = prompt-heard keep_alive good
+  content-advances (Finished condition delivery status tlvs) t good = absurd t
+  content-advances (Nak start end pairs) t good = absurd t
+  content-advances (KeepAlive progress) t good = absurd t
+
+-- ---- the large file flag of a PDU changes nothing of this
+flag-asks : (cursor : Option ℕ) (large : Bool) (r : ReceiverState) → asks_from cursor (flagged large r) ≡ asks_from cursor r
+flag-asks (Some at) large r = refl
+flag-asks None large r = refl
+
+flag-true : (put : Put) (large : Bool) (r : ReceiverState) → IsReceiverTrue put r → IsReceiverTrue put (flagged large r)
+flag-true put large r c = record { ending = c.ending; lacking = c.lacking; tidy = flag-asks r.nak_cursor large r ∙ c.tidy; well = c.well; owes = c.owes }
+
+flag-advances : (put : Put) (v : Content) (large : Bool) (r r1 : ReceiverState) (told : List Indication) → Advances put v (flagged large r) r1 told → Advances put v r r1 told
+flag-advances put v large r r1 told a = record {
+  clean = a.clean;
+  metadata = a.metadata;
+  ending = a.ending;
+  held = a.held;
+  ended = a.ended;
+  finished = a.finished;
+  due = a.due;
+  closes = a.closes;
+  closed = a.closed;
+  tells = a.tells;
+  active = a.active;
+  heard = a.heard;
+  acks = a.acks;
+  ack_new = a.ack_new;
+}
+
+-- A true PDU that spoils nothing moves a receiver on.
+pub hears-advances : (put : Put) (stored : Stored) (large : Bool) (m : OctetMap) (files : FileMap) (r : ReceiverState) → IsReceiverTrue put r → r.addressing.id ≡ put.id → (v : Content) →
+    IsTrueForth put v → one_tells (spoils put.id) (receiver_hears stored large v m files r).told ≡ false →
+    Advances put v r (receiver_hears stored large v m files r).receiver (receiver_hears stored large v m files r).told
+hears-advances put stored large m files r c own v t good =
+    let a : ReceiverAfter = receiver_hears stored large v m files r in
+    flag-advances put v large r a.receiver a.told (content-advances put stored large m files (flagged large r) (flag-true put large r c) own v t good)

@@ -67,13 +67,13 @@ pub record CourseLaws : Type 0 where
       r.addressing.id ≡ put.id → receiver_due r ≡ Some d →
       let a = takes d m published r in IsCourse put awake acks files ends x (Some r) forth back b c → TellsWell put awake a.told →
       IsCourse put awake acks files ends x (Some a.receiver) forth (back ++ receiver_says r d ∷ []) b (told_with put c a.told)
-  pub receiver_hears : (put : Put) (awake acks files ends : Bool) (x : SenderState) (r : ReceiverState) (before after back : List Content) (v : Content) (b c : Bool) (stored : Stored) (m : OctetMap)
-      (published : FileMap) (a : ReceiverAfter) → r.addressing.id ≡ put.id → x.size ≡ length put.octets → receiver_after stored v m published r ≡ Some a →
+  pub receiver_hears : (put : Put) (awake acks files ends : Bool) (x : SenderState) (r : ReceiverState) (before after back : List Content) (large : Bool) (v : Content) (b c : Bool)
+      (stored : Stored) (m : OctetMap) (published : FileMap) (a : ReceiverAfter) → r.addressing.id ≡ put.id → x.size ≡ length put.octets → receiver_after stored large v m published r ≡ Some a →
       IsCourse put awake acks files ends x (Some r) (before ++ v ∷ after) back b c → TellsWell put awake a.told →
       IsCourse put awake acks files ends x (Some a.receiver) (before ++ after) back b (told_with put c a.told)
-  pub receiver_opens : (put : Put) (awake acks files ends : Bool) (x : SenderState) (before after back : List Content) (v : Content) (b c : Bool) (begun stored : Stored) (published : FileMap)
-      (addressing : Addressing) → addressing.id ≡ put.id → x.size ≡ length put.octets → opening_work v ≢ 0 →
-      let a = opens_hearing begun stored v published addressing in IsCourse put awake acks files ends x None (before ++ v ∷ after) back b c → TellsWell put awake a.told →
+  pub receiver_opens : (put : Put) (awake acks files ends : Bool) (x : SenderState) (before after back : List Content) (large : Bool) (v : Content) (b c : Bool) (begun stored : Stored)
+      (published : FileMap) (addressing : Addressing) → addressing.id ≡ put.id → x.size ≡ length put.octets → opening_work v ≢ 0 →
+      let a = opens_hearing begun stored large v published addressing in IsCourse put awake acks files ends x None (before ++ v ∷ after) back b c → TellsWell put awake a.told →
       IsCourse put awake acks files ends x (Some a.receiver) (before ++ after) back b (told_with put c a.told)
   -- a PDU that opens no record is lost where there is none, and that does no harm
   pub none_hears : (put : Put) (awake acks files ends : Bool) (x : SenderState) (before after back : List Content) (v : Content) (b c : Bool) → opening_work v ≡ 0 →

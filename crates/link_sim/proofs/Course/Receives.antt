@@ -35,35 +35,35 @@ use Rattle.link_sim.proofs.Course.Heard.{hears-advances}
 use Rattle.link_sim.proofs.Course.Does.{takes-course, expires-course, called-course}
 
 -- a PDU that a receiver hears
-pub after-is : (stored : Stored) (v : Content) (m : OctetMap) (files : FileMap) (r : ReceiverState) (a : ReceiverAfter) → receiver_after stored v m files r ≡ Some a → a
-    ≡ receiver_hears stored v m files r
-after-is stored (Metadata checksum_kind size source destination options) m files r a is = cc
-after-is stored (FileData offset bytes) m files r a is = cc
-after-is stored (Eof condition checksum size tlvs) m files r a is = cc
-after-is stored (Ack acknowledged.Finished condition status) m files r a is = cc
-after-is stored (Ack acknowledged.Eof condition status) m files r a is = cc
-after-is stored (Prompt keep_alive) m files r a is = cc
-after-is stored (Finished condition delivery status tlvs) m files r a is = cc
-after-is stored (Nak start end pairs) m files r a is = cc
-after-is stored (KeepAlive progress) m files r a is = cc
+pub after-is : (stored : Stored) (large : Bool) (v : Content) (m : OctetMap) (files : FileMap) (r : ReceiverState) (a : ReceiverAfter) → receiver_after stored large v m files r ≡ Some a → a
+    ≡ receiver_hears stored large v m files r
+after-is stored large (Metadata checksum_kind size source destination options) m files r a is = cc
+after-is stored large (FileData offset bytes) m files r a is = cc
+after-is stored large (Eof condition checksum size tlvs) m files r a is = cc
+after-is stored large (Ack acknowledged.Finished condition status) m files r a is = cc
+after-is stored large (Ack acknowledged.Eof condition status) m files r a is = cc
+after-is stored large (Prompt keep_alive) m files r a is = cc
+after-is stored large (Finished condition delivery status tlvs) m files r a is = cc
+after-is stored large (Nak start end pairs) m files r a is = cc
+after-is stored large (KeepAlive progress) m files r a is = cc
 
 module _ (put : Put) (awake acks files ends : Bool) (x : SenderState) where
   abbrev Course : Option ReceiverState → (forth back : List Content) → (b c : Bool) → Type 0
   Course o forth back b c = IsCourse put awake acks files ends x o forth back b c
 
   -- ---- it hears a PDU
-  hears-course : (r : ReceiverState) (before after back : List Content) (v : Content) (b c : Bool) (stored : Stored) (m : OctetMap) (published : FileMap) → r.addressing.id ≡ put.id →
-      Course (Some r) (before ++ v ∷ after) back b c
-      → let a = receiver_hears stored v m published r in TellsWell put awake a.told → Course (Some a.receiver) (before ++ after) back b (told_with put c a.told)
-  hears-course r before after back v b c stored m published own k w =
-      let a1 : ReceiverAfter = receiver_hears stored v m published r in
+  hears-course : (r : ReceiverState) (before after back : List Content) (large : Bool) (v : Content) (b c : Bool) (stored : Stored) (m : OctetMap) (published : FileMap) →
+      r.addressing.id ≡ put.id → Course (Some r) (before ++ v ∷ after) back b c
+      → let a = receiver_hears stored large v m published r in TellsWell put awake a.told → Course (Some a.receiver) (before ++ after) back b (told_with put c a.told)
+  hears-course r before after back large v b c stored m published own k w =
+      let a1 : ReceiverAfter = receiver_hears stored large v m published r in
       let t : IsTrueForth put v = (true-parts (IsTrueForth put) before after v k.truth.true_forth).0 in
-      let a : Advances put v r a1.receiver a1.told = hears-advances put stored m published r k.truth.receiver own v t w.good in
+      let a : Advances put v r a1.receiver a1.told = hears-advances put stored large m published r k.truth.receiver own v t w.good in
       record {
         truth = comes-some put x r a1.receiver before after back v b c a1.told k.truth a;
         active = λ f. record { sender = (k.active f).sender; receiver = a.active (k.active f).receiver };
         ack_comes = λ f. hears-ack put x r a1.receiver before after back v a1.told a (k.ack_comes f);
-        file_comes = λ f. hears-file put x r a1.receiver before after back v a1.told a (still-asks put stored m published r k.truth.receiver.ending v t) (k.file_comes f);
+        file_comes = λ f. hears-file put x r a1.receiver before after back v a1.told a (still-asks put stored large m published r k.truth.receiver.ending v t) (k.file_comes f);
         end_comes = λ f. hears-end put x r a1.receiver before after back v a1.told a (λ here. k.truth.over (k.truth.ack_forth (waits-here is_ack_of_finished before after v here))) (k.end_comes f);
       }
 
@@ -94,23 +94,23 @@ pub receiver-takes : (put : Put) (awake acks files ends : Bool) (x : SenderState
     IsCourse put awake acks files ends x (Some a.receiver) forth (back ++ receiver_says r d ∷ []) b (told_with put c a.told)
 receiver-takes put awake acks files ends x r forth back b c d m published own is k w = takes-course put awake acks files ends x r forth back b c own k m published d is
 
-pub receiver-hears : (put : Put) (awake acks files ends : Bool) (x : SenderState) (r : ReceiverState) (before after back : List Content) (v : Content) (b c : Bool) (stored : Stored) (m : OctetMap)
-    (published : FileMap) (a : ReceiverAfter) → r.addressing.id ≡ put.id → x.size ≡ length put.octets → receiver_after stored v m published r ≡ Some a →
+pub receiver-hears : (put : Put) (awake acks files ends : Bool) (x : SenderState) (r : ReceiverState) (before after back : List Content) (large : Bool) (v : Content) (b c : Bool)
+    (stored : Stored) (m : OctetMap) (published : FileMap) (a : ReceiverAfter) → r.addressing.id ≡ put.id → x.size ≡ length put.octets → receiver_after stored large v m published r ≡ Some a →
     IsCourse put awake acks files ends x (Some r) (before ++ v ∷ after) back b c → TellsWell put awake a.told →
     IsCourse put awake acks files ends x (Some a.receiver) (before ++ after) back b (told_with put c a.told)
-receiver-hears put awake acks files ends x r before after back v b c stored m published a own size is k =
+receiver-hears put awake acks files ends x r before after back large v b c stored m published a own size is k =
     subst (λ (a : ReceiverAfter). TellsWell put awake a.told → IsCourse put awake acks files ends x (Some a.receiver) (before ++ after) back b (told_with put c a.told))
-    (sym (after-is stored v m published r a is))
-    (hears-course put awake acks files ends x r before after back v b c stored m published own k)
+    (sym (after-is stored large v m published r a is))
+    (hears-course put awake acks files ends x r before after back large v b c stored m published own k)
 
-pub receiver-opens : (put : Put) (awake acks files ends : Bool) (x : SenderState) (before after back : List Content) (v : Content) (b c : Bool) (begun stored : Stored) (published : FileMap)
-    (addressing : Addressing) → addressing.id ≡ put.id → x.size ≡ length put.octets → opening_work v ≢ 0 →
-    let a = opens_hearing begun stored v published addressing in IsCourse put awake acks files ends x None (before ++ v ∷ after) back b c → TellsWell put awake a.told →
+pub receiver-opens : (put : Put) (awake acks files ends : Bool) (x : SenderState) (before after back : List Content) (large : Bool) (v : Content) (b c : Bool) (begun stored : Stored)
+    (published : FileMap) (addressing : Addressing) → addressing.id ≡ put.id → x.size ≡ length put.octets → opening_work v ≢ 0 →
+    let a = opens_hearing begun stored large v published addressing in IsCourse put awake acks files ends x None (before ++ v ∷ after) back b c → TellsWell put awake a.told →
     IsCourse put awake acks files ends x (Some a.receiver) (before ++ after) back b (told_with put c a.told)
-receiver-opens put awake acks files ends x before after back v b c Done stored published addressing own size opening k w =
-    hears-course put awake acks files ends x (opened_receiver addressing) before after back v b c stored map.empty published own
+receiver-opens put awake acks files ends x before after back large v b c Done stored published addressing own size opening k w =
+    hears-course put awake acks files ends x (opened_receiver addressing) before after back large v b c stored map.empty published own
     (opened-course put awake acks files ends x addressing (before ++ v ∷ after) back b c k) w
-receiver-opens put awake acks files ends x before after back v b c Refused stored published addressing own size opening k w =
+receiver-opens put awake acks files ends x before after back large v b c Refused stored published addressing own size opening k w =
     absurd (fault-spoils put.id addressing.id filestore_rejection (finished_told addressing.id (failed filestore_rejection) ∷ []) own refl w.good)
 
 pub none-hears : (put : Put) (awake acks files ends : Bool) (x : SenderState) (before after back : List Content) (v : Content) (b c : Bool) → opening_work v ≡ 0 →

@@ -8,7 +8,7 @@ use Rattle.cfdp_header.specs.Files.{FileMap}
 use Rattle.cfdp_directives.specs.declared.user.indication.Indication.{Indication}
 use Rattle.cfdp_directives.specs.User.Completions.{completions, is_finished, IsToldComplete}
 use Rattle.cfdp_directives.specs.Pdu.Content.{Content, FileData, Metadata, Eof, Finished, Ack, Nak, Prompt, KeepAlive}
-use Rattle.cfdp_directives.specs.Pdu.Small.{SpellsSmall}
+use Rattle.cfdp_directives.specs.Pdu.Grammar.{SpellsPdu}
 use Rattle.cfdp_directives.specs.User.Put.{Put, SaysTruth, IsOfPut, SaysComplete, SomePdu, HeardInFull, inbox_after}
 use Rattle.cfdp_directives.proofs.Puts.{completions-append, inbox_after-append, Contains-append_left, Contains-append_right}
 use Rattle.mpdu.specs.Stream.{survivors}
@@ -123,7 +123,7 @@ pub record SideMoves (t u : Side) (old new : WorldState) : Type 0 where
   pub texts : List (List ℕ)
   pub sent : pdus_sent (way_from t new) ≡ pdus_sent (way_from t old) ++ texts
   pub says : (p : TransactionId → Option Put) (heard : List (List ℕ)) (first : FileMap) → IsSoundEntity p heard first (entity_at t old) → (x : List ℕ) → Contains texts x → (h : Header) (v : Content) →
-      SpellsSmall h v x →
+      SpellsPdu h v x →
       SaysTruth (entity_at t old).config.entity p h.id v × SaysDelivered (entity_at t old).config.entity (entity_at t old).table.told h.id v
   pub more : List (List ℕ)
   pub delivered : pdus_delivered (way_from u new) ≡ pdus_delivered (way_from u old) ++ more
@@ -235,7 +235,7 @@ module _ (grounds : Grounds) where
         let said = heard.4 in
         let h : Header = said.0 in
         let v : Content = said.1.0 in
-        let spelled : SpellsSmall h v text = said.1.1.0 in
+        let spelled : SpellsPdu h v text = said.1.1.0 in
         let is = said.1.1.1 in
         let told = ((sound (other s)).sent text sent h v spelled).1 in
         subst (λ (x : TransactionId). Contains (done (other s) w) x) is.0 (told is.1.0 is.1.1)

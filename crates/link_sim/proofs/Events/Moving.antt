@@ -9,7 +9,8 @@ use Rattle.cfdp_header.specs.declared.value.Header.{Header}
 use Rattle.cfdp_header.specs.declared.value.TransactionId.{TransactionId}
 use Rattle.cfdp_header.specs.Files.{FileMap}
 use Rattle.cfdp_directives.specs.Pdu.Content.{Content}
-use Rattle.cfdp_directives.specs.Pdu.Small.{SpellsSmall, small_pdu_fault}
+use Rattle.cfdp_directives.specs.Pdu.Faults.{pdu_fault}
+use Rattle.cfdp_directives.specs.Pdu.Grammar.{SpellsPdu}
 use Rattle.cfdp_directives.specs.User.Put.{Put, SaysTruth}
 use Rattle.cfdp_store.specs.declared.stored.Stored.{Stored}
 use Rattle.cfdp_store.specs.declared.stored.Stored.TheVariants.{Done, Refused}
@@ -55,7 +56,7 @@ pub record EntityLaws : Type 0 where
   pub heard : (p : TransactionId → Option Put) (heard : List (List ℕ)) (first : FileMap) (pdu : List ℕ) (old new : Counted) → FindsById p → ComesTrue old.state.config.peer p heard pdu →
       HearsOctets pdu old new →
       IsSoundEntity p heard first old.state → IsSoundEntity p heard first new.state
-  pub dropped : (p : TransactionId → Option Put) (heard : List (List ℕ)) (first : FileMap) (pdu : List ℕ) (by : EntityDrop) (old new : Counted) → DropsOctets (small_pdu_fault pdu) pdu by old new →
+  pub dropped : (p : TransactionId → Option Put) (heard : List (List ℕ)) (first : FileMap) (pdu : List ℕ) (by : EntityDrop) (old new : Counted) → DropsOctets (pdu_fault pdu) pdu by old new →
       IsSoundEntity p heard first old.state → IsSoundEntity p heard first new.state
   pub served_by : (p : TransactionId → Option Put) (heard : List (List ℕ)) (first : FileMap) (stored : Stored) (e : EntityState) → IsSoundEntity p heard first e →
       IsSoundEntity p heard first (served stored (turn e) e)
@@ -63,10 +64,10 @@ pub record EntityLaws : Type 0 where
   pub called_on : (c : Call) (id : TransactionId) (old new : EntityState) → IsCalled c id old new → GoesOn old new
   pub ticked_on : (now : ℕ) (old new : EntityState) → Ticks now old.table new.table → new ≡ with_table old new.table → GoesOn old new
   pub heard_on : (pdu : List ℕ) (old new : Counted) → HearsOctets pdu old new → GoesOn old.state new.state
-  pub dropped_on : (pdu : List ℕ) (by : EntityDrop) (old new : Counted) → DropsOctets (small_pdu_fault pdu) pdu by old new → GoesOn old.state new.state
+  pub dropped_on : (pdu : List ℕ) (by : EntityDrop) (old new : Counted) → DropsOctets (pdu_fault pdu) pdu by old new → GoesOn old.state new.state
   pub served_on : (stored : Stored) (e : EntityState) → GoesOn e (served stored (turn e) e)
   pub sends : (p : TransactionId → Option Put) (heard : List (List ℕ)) (first : FileMap) (e : EntityState) (h : Header) (v : Content) → IsSoundEntity p heard first e → SpellsTurn (turn e) e →
-      SpellsSmall h v (turn_octets (turn e) e) →
+      SpellsPdu h v (turn_octets (turn e) e) →
       SaysTruth e.config.entity p h.id v × SaysDelivered e.config.entity e.table.told h.id v
 
 -- ---- going on
@@ -333,7 +334,7 @@ module _ (laws : EntityLaws) (old new : WorldState) (sound : IsSound old) where
         way = h.sends.way;
         texts = turn_octets (turn e) e ∷ [];
         sent = h.sends.pdus;
-        says = λ p heard first is x c h2 v spelled. laws.sends p heard first e h2 v is h.spells (subst (λ (l : List ℕ). SpellsSmall h2 v l) (is-it x (turn_octets (turn e) e) c) spelled);
+        says = λ p heard first is x c h2 v spelled. laws.sends p heard first e h2 v is h.spells (subst (λ (l : List ℕ). SpellsPdu h2 v l) (is-it x (turn_octets (turn e) e) c) spelled);
         more = [];
         delivered = ap pdus_delivered back ∙ sym (append-nil (pdus_delivered (way_from (other s) old)));
         kept = λ heard first true_ k. served-kept s Done h.served heard first k;

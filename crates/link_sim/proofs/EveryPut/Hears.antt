@@ -71,13 +71,13 @@ module _ (laws : CourseLaws) (put : Put) (put_of : TransactionId → Option Put)
 
   -- ---- what became of the entity
   -- what the record that was opened leaves
-  abbrev left : OpensOne (addressing_in h) v old new → After
-  left o = opens o.begun o.stored st.policy.times st.files v (addressing_in h)
+  abbrev left : OpensOne (addressing_in h) h.large v old new → After
+  left o = opens o.begun o.stored st.policy.times st.files h.large v (addressing_in h)
 
   same-drops : (t : TableState) → new.state ≡ with_table old.state t → HasHeardAll new.state → HasHeardAll old.state
   same-drops t is heard = λ n apart. ap (λ (e : EntityState). get_or e.drops n 0) (sym is) ∙ heard n apart
 
-  grew-opened : (o : OpensOne (addressing_in h) v old new) → Grew old.state new.state (left o).told
+  grew-opened : (o : OpensOne (addressing_in h) h.large v old new) → Grew old.state new.state (left o).told
   grew-opened o = record { told = ap (λ (e : EntityState). e.table.told) o.opens; drops = same-drops _ o.opens }
 
   grew-dropped : (by : EntityDrop) → drop_number by < 18 → new.state ≡ dropped by old.state → Grew old.state new.state []
@@ -109,7 +109,7 @@ module _ (laws : CourseLaws) (put : Put) (put_of : TransactionId → Option Put)
   is-there : (place : ℕ) (e : Entry) → place_of h.id st.records ≡ Some place → slice_get st.records place ≡ Some e → h.id ≡ e.0
   is-there place e is at = key-there h.id st.records place e is at
 
-  opened-other : (o : OpensOne (addressing_in h) v old new) → same_id put.id h.id ≡ false → record_of put.id new.state.table.records ≡ record_of put.id st.records
+  opened-other : (o : OpensOne (addressing_in h) h.large v old new) → same_id put.id h.id ≡ false → record_of put.id new.state.table.records ≡ record_of put.id st.records
   opened-other o differs = ap (λ (e : EntityState). record_of put.id e.table.records) o.opens ∙ push-other st.records h.id put.id (left o).seen differs
 
   none-there : h.id ≡ put.id → place_of h.id st.records ≡ None → record_of put.id st.records ≡ None
@@ -124,13 +124,13 @@ module _ (laws : CourseLaws) (put : Put) (put_of : TransactionId → Option Put)
     AfterMine lossless = StaysOnCourse lossless put new.state theirs forth rest
 
     mine-stepped : (lossless : Bool) → StepsRecord h v old new → BeforeMine lossless → AfterMine lossless
-    mine-stepped lossless k = mine-at laws lossless put put_of found (hears k.steps.stored st.policy.times st.files v) k.place forth forth (p ∷ rest) rest old.state new.state theirs order
+    mine-stepped lossless k = mine-at laws lossless put put_of found (hears k.steps.stored st.policy.times st.files h.large v) k.place forth forth (p ∷ rest) rest old.state new.state theirs order
         (ap (λ (e : EntityState). e.table) k.steps.steps) (same-drops _ k.steps.steps)
         (λ none. absurd (no-place h.id st.records k.place k.at none))
         (λ e at differs. (refl, is-other rest (differs-too put.id h.id e.0 (is-there k.place e k.at at) differs)))
-        (λ x i at. subst (λ l. SenderGoes lossless put x (hears k.steps.stored st.policy.times st.files v (Sends x)) (of_id put.id forth) (of_id put.id forth) l (of_id put.id rest))
+        (λ x i at. subst (λ l. SenderGoes lossless put x (hears k.steps.stored st.policy.times st.files h.large v (Sends x)) (of_id put.id forth) (of_id put.id forth) l (of_id put.id rest))
         (is-own rest (is-there k.place (put.id, Sends x) k.at at))
-        (sender-hears laws lossless put x i.is_sender i.in_file st.policy.times st.files k.steps.stored (of_id put.id forth) (of_id put.id rest) v))
+        (sender-hears laws lossless put x i.is_sender i.in_file st.policy.times st.files k.steps.stored (of_id put.id forth) (of_id put.id rest) h.large v))
 
     -- where it has no record the put isn't on its course
     none-mine : (lossless : Bool) (gained : List Indication) → Grew old.state new.state gained → h.id ≡ put.id → place_of h.id st.records ≡ None → BeforeMine lossless → AfterMine lossless
@@ -188,14 +188,15 @@ module _ (laws : CourseLaws) (put : Put) (put_of : TransactionId → Option Put)
     AfterTheirs lossless = StaysOnCourse lossless put mine new.state rest back
 
     theirs-stepped : (lossless : Bool) → StepsRecord h v old new → BeforeTheirs lossless → AfterTheirs lossless
-    theirs-stepped lossless k = theirs-at laws lossless put put_of found (hears k.steps.stored st.policy.times st.files v) k.place (p ∷ rest) rest back back mine old.state new.state order_mine order
+    theirs-stepped lossless k = theirs-at laws lossless put put_of found (hears k.steps.stored st.policy.times st.files h.large v) k.place (p ∷ rest) rest back back mine old.state new.state
+        order_mine order
         (ap (λ (e : EntityState). e.table) k.steps.steps) (same-drops _ k.steps.steps)
         (λ none. absurd (no-place h.id st.records k.place k.at none))
         (λ e at differs. (is-other rest (differs-too put.id h.id e.0 (is-there k.place e k.at at) differs), refl))
-        (λ x r m size is_id at. subst (λ l. ReceiverGoes lossless put x r (hears k.steps.stored st.policy.times st.files v (Receives r m)) l (of_id put.id rest) (of_id put.id back)
+        (λ x r m size is_id at. subst (λ l. ReceiverGoes lossless put x r (hears k.steps.stored st.policy.times st.files h.large v (Receives r m)) l (of_id put.id rest) (of_id put.id back)
         (of_id put.id back))
         (is-own rest (is-there k.place (put.id, Receives r m) k.at at))
-        (receiver-hears laws lossless put x size r m is_id st.policy.times st.files k.steps.stored (of_id put.id rest) (of_id put.id back) v))
+        (receiver-hears laws lossless put x size r m is_id st.policy.times st.files k.steps.stored (of_id put.id rest) (of_id put.id back) h.large v))
 
     theirs-opened : (lossless : Bool) → OpensRecord h v old new → BeforeTheirs lossless → AfterTheirs lossless
     theirs-opened lossless k s = elim (same_id put.id h.id) as (λ b. same_id put.id h.id ≡ b → AfterTheirs lossless) [
@@ -211,8 +212,8 @@ module _ (laws : CourseLaws) (put : Put) (put_of : TransactionId → Option Put)
             receiver-opens laws lossless put mine old.state new.state (p ∷ rest) rest back back a (grew-opened k.opens) none
             (ap (λ (e : EntityState). record_of put.id e.table.records) k.opens.opens ∙ ap (λ q. record_of put.id (st.records ++ (q, a.seen) ∷ [])) same ∙ push-own st.records put.id a.seen none)
             (λ x here. subst (λ l. ReceiverOpens lossless put x a l (of_id put.id rest) (of_id put.id back)) (is-own rest same)
-            (receiver-opened laws lossless put x (sends-there put put_of found mine.table order_mine x here).is_sender.size (addressing_in h) same st.policy.times st.files k.opens.begun k.opens.stored
-            (of_id put.id rest) (of_id put.id back) v k.opening))
+            (receiver-opened laws lossless put x (sends-there put put_of found mine.table order_mine x here).is_sender.size (addressing_in h) same st.policy.times st.files h.large k.opens.begun
+            k.opens.stored (of_id put.id rest) (of_id put.id back) v k.opening))
             refl s
 
     -- dropped where the put has no receiver

@@ -5,17 +5,18 @@ use Rattle.std.specs.Prelude.{IsSome, nat_lt, nat_le, if◌then◌else◌}
 use Rattle.std.specs.FinMap.{empty, get}
 use Rattle.std.specs.Option.{option_or}
 use Rattle.std.specs.Bool.{beq}
-use Rattle.std.proofs.lemmas.Bool.{eq-eqb, leb-false, ne_eqb}
+use Rattle.std.proofs.lemmas.Bool.{eq-eqb, false≢true, leb-false, ne_eqb}
 use Rattle.cfdp_header.specs.declared.value.Header.{Header}
 use Rattle.cfdp_header.specs.declared.value.TransactionId.{TransactionId}
 use Rattle.cfdp_header.specs.Files.{FileMap}
 use Rattle.cfdp_header.specs.Ids.{same_id}
 use Rattle.cfdp_directives.specs.declared.pdu.addressing.Addressing.{Addressing}
 use Rattle.cfdp_directives.specs.Pdu.Addressing.{header_of, addressing_of as addressing_in}
+use Rattle.cfdp_directives.specs.Pdu.Codes.{is_large}
 use Rattle.cfdp_directives.specs.Pdu.Content.{Content}
 use Rattle.cfdp_directives.specs.Pdu.Direction.{goes_toward_sender, is_for}
 use Rattle.cfdp_directives.specs.User.FileName.{is_file_name}
-use Rattle.cfdp_directives.specs.Pdu.Small.{SpellsSmall}
+use Rattle.cfdp_directives.specs.Pdu.Grammar.{SpellsPdu}
 use Rattle.cfdp_directives.specs.User.Put.{Put}
 use Rattle.cfdp_store.specs.declared.stored.Stored.{Stored}
 use Rattle.cfdp_store.specs.declared.stored.Stored.TheVariants.{Done, Refused}
@@ -44,7 +45,7 @@ use Rattle.cfdp_entity.specs.History.{GoesOn, KeepsRecords, Leads, TableStep, He
 use Rattle.cfdp_entity.specs.Opening.{opens, opens_by, closing}
 use Rattle.cfdp_entity.specs.Polling.{Place, turn, record_turn, turn_octets, served}
 use Rattle.cfdp_entity.specs.Putting.{Accepts, next_id, next_transfer, asked, are_names, put_refusal}
-use Rattle.cfdp_entity.specs.Seen.{Seen, Sends, Receives, addressing_of, due_content, due_octets, sender_content, receiver_content}
+use Rattle.cfdp_entity.specs.Seen.{Seen, Sends, Receives, addressing_of, large_of, due_content, due_octets, sender_content, receiver_content}
 use Rattle.cfdp_entity.specs.Sound.{IsSound, FindsMore, SpellsDue, SpellsEntry, SpellsTurn}
 use Rattle.cfdp_entity.specs.Steps.{After, hears, expires, calls, takes}
 use Rattle.cfdp_entity.specs.Sending.{SendsItsPut}
@@ -173,12 +174,18 @@ directed-so put_of puts_then old new more same pdus all = all-so (IsDirected put
     some id None is h = absurd cc
     some id (Some put) is h = subst IsSome (sym (more id put is)) refl
 
+    -- a put that is found now was found before
+    was : (id : TransactionId) (o : Option Put) (put : Put) → put_of id ≡ o → IsSome o → puts_then id ≡ Some put → put_of id ≡ Some put
+    was id None put is h found = absurd cc
+    was id (Some before) put is h found = is ∙ sym (more id before is) ∙ found
+
     one : (p : Pdu) → IsDirected put_of old p → IsDirected puts_then new p
     one p d = record {
       fits = d.fits;
       addressed = ap (λ (c : EntityConfig). is_for c.entity c.peer p.0) same ∙ d.addressed;
       named = d.named;
       of_put = some p.0.id (put_of p.0.id) refl d.of_put;
+      flag = λ down put found. d.flag down put (was p.0.id (put_of p.0.id) put refl d.of_put found);
     }
 
 -- ---- an entity that went on
@@ -250,17 +257,17 @@ pub record TurnSays (e : EntityState) : Type 0 where
   pub at : slice_get e.table.records place ≡ Some entry
   pub content : Content
   pub due : due_content e.table.sources entry.1 ≡ Some content
-  pub spells : SpellsSmall (header_of (addressing_of entry.1) false content) content (turn_octets (turn e) e)
+  pub spells : SpellsPdu (header_of (addressing_of entry.1) (large_of entry.1) content) content (turn_octets (turn e) e)
 
 -- the PDU, as it is on its way
 abbrev pub pdu_of : Entry → Content → Pdu
-pdu_of e v = (header_of (addressing_of e.1) false v, v)
+pdu_of e v = (header_of (addressing_of e.1) (large_of e.1) v, v)
 
 turn-none : (e : EntityState) → e.strays ≡ [] → turn e ≡ record_turn (next_due e.cursor e.table.records)
 turn-none e none = rw none refl
 
 content-says : (e : EntityState) (place : ℕ) (d : Entry) (o : Option Content) → turn e ≡ Place place → slice_get e.table.records place ≡ Some d → due_content e.table.sources d.1 ≡ o
-    → SpellsDue o (addressing_of d.1) (due_octets e.table.sources d.1) → due_octets e.table.sources d.1 ≡ turn_octets (turn e) e → TurnSays e
+    → SpellsDue (large_of d.1) o (addressing_of d.1) (due_octets e.table.sources d.1) → due_octets e.table.sources d.1 ≡ turn_octets (turn e) e → TurnSays e
 content-says e place d None is at due s octets = absurd s
 content-says e place d (Some v) is at due s octets = record {
   place = place;
@@ -270,7 +277,7 @@ content-says e place d (Some v) is at due s octets = record {
   content = v;
   due = due;
   spells =
-      subst (SpellsSmall (header_of (addressing_of d.1) false v) v) octets s;
+      subst (SpellsPdu (header_of (addressing_of d.1) (large_of d.1) v) v) octets s;
 }
 
 entry-says : (e : EntityState) (place : ℕ) (o : Option Entry) → turn e ≡ Place place → slice_get e.table.records place ≡ o → SpellsEntry e.table.sources o → TurnSays e
@@ -353,8 +360,15 @@ module _ (put_of : TransactionId → Option Put) (heard : List (List ℕ)) (mine
   some-put : (a b : TransactionId) (put : Put) → a ≡ b → put_of b ≡ Some put → IsSome (put_of a)
   some-put a b put is found = subst (λ i. IsSome (put_of i)) (sym is) (subst IsSome (sym found) refl)
 
+  -- the flag is that of the put's size
+  its-flag : (a b : TransactionId) (size : ℕ) (kept put : Put) → a ≡ b → put_of b ≡ Some kept → put_of a ≡ Some put → size ≡ length kept.octets → is_large size ≡ is_large (length put.octets)
+  its-flag a b size kept put is found own same =
+      let both : Some kept ≡ Some put = sym found ∙ ap put_of (sym is) ∙ own in
+      let one : kept ≡ put = cc in
+      ap is_large (same ∙ ap (λ (p : Put). length p.octets) one)
+
   directed-seen : (s : Seen) → due_content mine.table.sources s ≡ Some v → IsWithPeer mine.config s → KnowsTruth mine.config.entity put_of heard id s → SendsItsPut put_of mine.table.sources id s
-      → IsDirected put_of theirs (header_of (addressing_of s) false v, v)
+      → IsDirected put_of theirs (header_of (addressing_of s) (large_of s) v, v)
   directed-seen (Sends x) due peer knows sends =
       let says = sender-down (octets_in mine.table.sources x.source) x (sender_due x) v due peer.1 in
       record {
@@ -363,6 +377,7 @@ module _ (put_of : TransactionId → Option Put) (heard : List (List ℕ)) (mine
             (ap (λ (i : TransactionId). i.source) knows.0 ∙ knows.1 ∙ sym peers.of_theirs) (peer.0 ∙ peers.of_mine);
         named = says.1;
         of_put = some-put x.addressing.id id sends.put knows.0 sends.is_put;
+        flag = λ down put found. its-flag x.addressing.id id x.size sends.put put knows.0 sends.is_put found sends.sender.size;
       }
   directed-seen (Receives r m) due peer knows sends =
       let says = receiver-up r (receiver_due r) v due in
@@ -372,6 +387,7 @@ module _ (put_of : TransactionId → Option Put) (heard : List (List ℕ)) (mine
             (peer.0 ∙ peers.of_mine) (peer.1 ∙ sym peers.of_theirs);
         named = says.1;
         of_put = some-put r.addressing.id id knows.put knows.same_id knows.is_put;
+        flag = λ down put found. absurd (false≢true (sym down ∙ says.0));
       }
 
 pub directed-due : (put_of : TransactionId → Option Put) (heard : List (List ℕ)) (first : FileMap) (mine theirs : EntityState) (forth : List Pdu) (place : ℕ) (e : Entry) (v : Content) →
@@ -526,19 +542,19 @@ module _ (stays : (old new : TableState) → Leads old new → KeepsRecords old.
   receiver-on a (Receives r m) g = g.0
   receiver-on a (Sends x) g = absurd g
 
-  opened-of : (begun stored : Stored) (v : Content) (a : Addressing) (st : TableState) → IsReceiverOf a (opens begun stored st.policy.times st.files v a).seen
-  opened-of begun stored v a st = by (closing v) begun
+  opened-of : (begun stored : Stored) (large : Bool) (v : Content) (a : Addressing) (st : TableState) → IsReceiverOf a (opens begun stored st.policy.times st.files large v a).seen
+  opened-of begun stored large v a st = by (closing v) begun
     where
       alone : TableState
       alone = record st { records = (a.id, Receives (opened_receiver a) empty) ∷ [] }
 
-      heard-first : IsReceiverOf a (hears stored st.policy.times st.files v (Receives (opened_receiver a) empty)).seen
+      heard-first : IsReceiverOf a (hears stored st.policy.times st.files large v (Receives (opened_receiver a) empty)).seen
       heard-first =
-          let k = stays alone (heard_at stored 0 v alone) (leads-one (Hears stored 0 v) alone tt) 0 (a.id, Receives (opened_receiver a) empty) refl in
-          let is : (hears stored st.policy.times st.files v (Receives (opened_receiver a) empty)).seen ≡ k.0 = same-seen a.id _ k.0 k.1.0 in
+          let k = stays alone (heard_at stored 0 large v alone) (leads-one (Hears stored 0 large v) alone tt) 0 (a.id, Receives (opened_receiver a) empty) refl in
+          let is : (hears stored st.policy.times st.files large v (Receives (opened_receiver a) empty)).seen ≡ k.0 = same-seen a.id _ k.0 k.1.0 in
           subst (IsReceiverOf a) (sym is) (receiver-on a k.0 k.1.1)
 
-      by : (o : Option ℕ) (begun : Stored) → IsReceiverOf a (opens_by o begun stored st.policy.times st.files v a).seen
+      by : (o : Option ℕ) (begun : Stored) → IsReceiverOf a (opens_by o begun stored st.policy.times st.files large v a).seen
       by (Some condition) begun = refl
       by None Done = heard-first
       by None Refused = refl
@@ -551,8 +567,8 @@ module _ (stays : (old new : TableState) → Leads old new → KeepsRecords old.
     pub stepped-on : StepsRecord h v old new → Continues old.state new.state
     stepped-on s =
         let stored = s.steps.stored in
-        continues-to old.state new.state (heard_at stored s.place v old.state.table) s.steps.steps
-        (step-keeps (Hears stored s.place v) old.state.table tt (step-long (λ e. hears stored old.state.table.policy.times old.state.table.files v e.1) s.place old.state.table))
+        continues-to old.state new.state (heard_at stored s.place h.large v old.state.table) s.steps.steps
+        (step-keeps (Hears stored s.place h.large v) old.state.table tt (step-long (λ e. hears stored old.state.table.policy.times old.state.table.files h.large v e.1) s.place old.state.table))
 
     dropped-on : DropsNew h v old new → Continues old.state new.state
     dropped-on d = subst (Continues old.state) (sym d.is) (record { config = refl; strays = refl; records = keeps-none old.state.table.records })
@@ -574,13 +590,13 @@ module _ (stays : (old new : TableState) → Leads old new → KeepsRecords old.
         let a : Addressing = addressing_in h in
         let begun = o.opens.begun in
         let stored = o.opens.stored in
-        let t : TableState = opened_by begun stored a v old.state.table in
-        let s : Seen = (opens begun stored old.state.table.policy.times old.state.table.files v a).seen in
+        let t : TableState = opened_by begun stored a h.large v old.state.table in
+        let s : Seen = (opens begun stored old.state.table.policy.times old.state.table.files h.large v a).seen in
         let is : new.state ≡ with_table old.state t = o.opens.opens in
         let peer = directed-peer put_of old.state h v d o.down in
         known-more put_of put_of (λ id put found. found) old.state new.state theirs forth a.id s (ap (λ (e : EntityState). e.config) is) (ap (λ (e : EntityState). e.strays) is)
         (ap (λ (e : EntityState). e.table.records) is) o.room
-        (receiver-peer old.state.config a s (opened-of begun stored v a old.state.table) peer.0 peer.1)
+        (receiver-peer old.state.config a s (opened-of begun stored h.large v a old.state.table) peer.0 peer.1)
         (λ q some own. sending-kept q old.state.table.records (old.state.table.records ++ (a.id, s) ∷ []) (keeps-push old.state.table.records ((a.id, s) ∷ [])) (k.sends q some own)) k
 
     so-known : IsDirected put_of old.state (h, v) → AreKnown put_of old.state theirs forth back → HeardSo h v old new → AreKnown put_of new.state theirs forth back

@@ -8,8 +8,10 @@ use Rattle.cfdp_header.specs.declared.value.Header.{Header}
 use Rattle.cfdp_header.specs.Header.{header_len, header_len_told}
 use Rattle.cfdp_directives.specs.declared.pdu.error.PduError.{PduError}
 use Rattle.cfdp_directives.specs.Pdu.Content.{Content, FileData, Metadata, Eof, Finished, Ack, Nak, Prompt, KeepAlive}
-use Rattle.cfdp_directives.specs.Pdu.Small.{SpellsSmall, small_pdu_fault}
-use Rattle.cfdp_directives.proofs.Small.{only, one_form}
+use Rattle.cfdp_directives.specs.Pdu.Faults.{pdu_fault}
+use Rattle.cfdp_directives.specs.Pdu.Grammar.{SpellsPdu}
+use Rattle.cfdp_directives.proofs.Only.{only}
+use Rattle.cfdp_directives.proofs.Spelling.{one_form}
 use Rattle.cfdp_entity.specs.declared.error.EntityDrop.{EntityDrop}
 use Rattle.cfdp_entity.specs.Entity.{Counted}
 use Rattle.cfdp_entity.specs.Hearing.{Takes, DropsBy, route, HearsOctets, DropsOctets, DropsPdu}
@@ -62,7 +64,7 @@ part-spelled given (t ∷ texts) [] is s = absurd s
 part-spelled [] (t ∷ texts) (p ∷ pdus) is s = record { part = []; spelled = tt; is = tt }
 part-spelled (g ∷ given) (t ∷ texts) (p ∷ pdus) (inl e) s =
     let r = part-spelled given texts pdus e.1 s.1 in
-    record { part = p ∷ r.part; spelled = (subst (SpellsSmall p.0 p.1) (sym e.0) s.0, r.spelled); is = inl (refl, r.is) }
+    record { part = p ∷ r.part; spelled = (subst (SpellsPdu p.0 p.1) (sym e.0) s.0, r.spelled); is = inl (refl, r.is) }
 part-spelled (g ∷ given) (t ∷ texts) (p ∷ pdus) (inr e) s =
     let r = part-spelled (g ∷ given) texts pdus e s.1 in
     record { part = r.part; spelled = r.spelled; is = part-more r.part p pdus r.is }
@@ -82,13 +84,13 @@ module _ {X : Type 0} (P : List X → Type 0) (lose : (before : List X) (x : X) 
   all-lost part whole rest is h = lost-behind [] part whole rest is h
 
 -- ---- a text is one PDU, and has no fault
-pub one-pdu : (h k : Header) (v w : Content) (text : List ℕ) → SpellsSmall h v text → SpellsSmall k w text → (h ≡ k) × (v ≡ w)
+pub one-pdu : (h k : Header) (v w : Content) (text : List ℕ) → SpellsPdu h v text → SpellsPdu k w text → (h ≡ k) × (v ≡ w)
 one-pdu h k v w text a b = let is = one_form text text [] [] h k v w a b refl in (is.1, is.2)
 
-pub no-fault : (h : Header) (v : Content) (text : List ℕ) → SpellsSmall h v text → small_pdu_fault text ≡ None
-no-fault h v text a = by (small_pdu_fault text) refl
+pub no-fault : (h : Header) (v : Content) (text : List ℕ) → SpellsPdu h v text → pdu_fault text ≡ None
+no-fault h v text a = by (pdu_fault text) refl
   where
-    by : (o : Option PduError) → o ≡ small_pdu_fault text → small_pdu_fault text ≡ None
+    by : (o : Option PduError) → o ≡ pdu_fault text → pdu_fault text ≡ None
     by None is = sym is
     by (Some e) is = absurd (only (Err e) text tt is h v a)
 
@@ -102,7 +104,7 @@ abbrev pub HearsEach : List Pdu → (old new : Counted) → Type 0
 HearsEach [] old new = new ≡ old
 HearsEach (p ∷ pdus) old new = (mid : Counted) × HearsOne p.0 p.1 old mid × HearsEach pdus mid new
 
-module _ (h : Header) (v : Content) (text : List ℕ) (spells : SpellsSmall h v text) (old new : Counted) where
+module _ (h : Header) (v : Content) (text : List ℕ) (spells : SpellsPdu h v text) (old new : Counted) where
   takes-one : HearsOctets text old new → Takes (route h v old.state) h v old new
   takes-one o =
       let is = one-pdu o.header h o.content v text o.spells spells in
@@ -128,10 +130,10 @@ told : (b : Bool) → eqb (flag b) 1 ≡ b
 told true = refl
 told false = refl
 
-told-len : (h : Header) (v : Content) (text : List ℕ) → SpellsSmall h v text → header_len_told text ≡ header_len h.id_width h.number_width
+told-len : (h : Header) (v : Content) (text : List ℕ) → SpellsPdu h v text → header_len_told text ≡ header_len h.id_width h.number_width
 told-len h v text s = let q = s.header in rw (q.id_width, q.number_width) refl
 
-pub text-work : (most : ℕ) (h : Header) (v : Content) (text : List ℕ) → SpellsSmall h v text → text_work most text ≡ content_work most v
+pub text-work : (most : ℕ) (h : Header) (v : Content) (text : List ℕ) → SpellsPdu h v text → text_work most text ≡ content_work most v
 unfolding text_work
 text-work most h (FileData offset bytes) text s = rw (s.header.file_data, s.content.0) refl
 text-work most h (Metadata kind size source destination options) text s = rw (s.header.file_data, s.content.0, told-len h (Metadata kind size source destination options) text s, s.content.1.code) refl

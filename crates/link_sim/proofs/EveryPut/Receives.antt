@@ -79,60 +79,61 @@ module _ (laws : CourseLaws) (lossless : Bool) (put : Put) (x : SenderState) (si
 
     -- it hears the PDU at the front
     module _ (times : Times) (files : FileMap) (stored : Stored) (rest back : List Content) where
-      heard : (v : Content) (a : ReceiverAfter) → receiver_after stored v m files r ≡ Some a → ReceiverGoes lossless put x r (by_receiver times a) (v ∷ rest) rest back back
-      heard v a is = record {
+      heard : (large : Bool) (v : Content) (a : ReceiverAfter) → receiver_after stored large v m files r ≡ Some a → ReceiverGoes lossless put x r (by_receiver times a) (v ∷ rest) rest back back
+      heard large v a is = record {
         receiver = a.receiver;
         octets = octets_seen a.receiver a.octets;
         is_receiver = refl;
-        course = λ b c good h. laws.receiver_hears put lossless lossless lossless lossless x r [] rest back v b c stored m files a is_id size is h good;
+        course = λ b c good h. laws.receiver_hears put lossless lossless lossless lossless x r [] rest back large v b c stored m files a is_id size is h good;
       }
 
-      pub receiver-hears : (v : Content) → ReceiverGoes lossless put x r (hears stored times files v (Receives r m)) (v ∷ rest) rest back back
-      receiver-hears (Metadata kind size source destination options) = heard _ _ refl
-      receiver-hears (FileData offset bytes) = heard _ _ refl
-      receiver-hears (Eof condition checksum size tlvs) = heard _ _ refl
-      receiver-hears (Ack acknowledged.Finished condition status) = heard _ _ refl
-      receiver-hears (Prompt keep_alive) = heard _ _ refl
-      receiver-hears (Ack acknowledged.Eof condition status) = record { receiver = r; octets = m; is_receiver = refl; course = λ b c good h. absurd (h.truth.true_forth.0) }
-      receiver-hears (Finished condition delivery status tlvs) = record { receiver = r; octets = m; is_receiver = refl; course = λ b c good h. absurd (h.truth.true_forth.0) }
-      receiver-hears (Nak start end pairs) = record { receiver = r; octets = m; is_receiver = refl; course = λ b c good h. absurd (h.truth.true_forth.0) }
-      receiver-hears (KeepAlive progress) = record { receiver = r; octets = m; is_receiver = refl; course = λ b c good h. absurd (h.truth.true_forth.0) }
+      pub receiver-hears : (large : Bool) (v : Content) → ReceiverGoes lossless put x r (hears stored times files large v (Receives r m)) (v ∷ rest) rest back back
+      receiver-hears large (Metadata kind size source destination options) = heard large _ _ refl
+      receiver-hears large (FileData offset bytes) = heard large _ _ refl
+      receiver-hears large (Eof condition checksum size tlvs) = heard large _ _ refl
+      receiver-hears large (Ack acknowledged.Finished condition status) = heard large _ _ refl
+      receiver-hears large (Prompt keep_alive) = heard large _ _ refl
+      receiver-hears large (Ack acknowledged.Eof condition status) = record { receiver = r; octets = m; is_receiver = refl; course = λ b c good h. absurd (h.truth.true_forth.0) }
+      receiver-hears large (Finished condition delivery status tlvs) = record { receiver = r; octets = m; is_receiver = refl; course = λ b c good h. absurd (h.truth.true_forth.0) }
+      receiver-hears large (Nak start end pairs) = record { receiver = r; octets = m; is_receiver = refl; course = λ b c good h. absurd (h.truth.true_forth.0) }
+      receiver-hears large (KeepAlive progress) = record { receiver = r; octets = m; is_receiver = refl; course = λ b c good h. absurd (h.truth.true_forth.0) }
 
   -- ---- a record that is opened by the PDU at the front
-  module _ (a : Addressing) (is_id : a.id ≡ put.id) (times : Times) (files : FileMap) (begun stored : Stored) (rest back : List Content) where
-    begins-well : (v : Content) → (opening_work v ≢ 0) → (b c : Bool) (begun : Stored) (o : ReceiverAfter) → o ≡ opens_hearing begun stored v files a → TellsWell put lossless o.told →
+  module _ (a : Addressing) (is_id : a.id ≡ put.id) (times : Times) (files : FileMap) (large : Bool) (begun stored : Stored) (rest back : List Content) where
+    begins-well : (v : Content) → (opening_work v ≢ 0) → (b c : Bool) (begun : Stored) (o : ReceiverAfter) → o ≡ opens_hearing begun stored large v files a →
+        TellsWell put lossless o.told →
         IsCourse put lossless lossless lossless lossless x None (v ∷ rest) back b c
         → IsCourse put lossless lossless lossless lossless x (Some o.receiver) rest back b (told_with put c o.told)
     begins-well v opening b c begun o is good h =
         subst (λ (p : ReceiverAfter). TellsWell put lossless p.told → IsCourse put lossless lossless lossless lossless x (Some p.receiver) rest back b (told_with put c p.told)) (sym is)
-        (λ well. laws.receiver_opens put lossless lossless lossless lossless x [] rest back v b c begun stored files a is_id size opening h well) good
+        (λ well. laws.receiver_opens put lossless lossless lossless lossless x [] rest back large v b c begun stored files a is_id size opening h well) good
 
-    began : (begun : Stored) (v : Content) (b c : Bool) → opening_work v ≢ 0 → (o : ReceiverAfter) → receiver_after stored v map.empty files (opened_receiver a) ≡ Some o →
-        opens_hearing Done stored v files a ≡ o
-        → TellsWell put lossless (begins begun stored times files v a).told → IsCourse put lossless lossless lossless lossless x None (v ∷ rest) back b c
-        → (r : ReceiverState) × ((m : OctetMap) × (((begins begun stored times files v a).seen ≡ Receives r m)
-        × IsCourse put lossless lossless lossless lossless x (Some r) rest back b (told_with put c (begins begun stored times files v a).told)))
+    began : (begun : Stored) (v : Content) (b c : Bool) → opening_work v ≢ 0 → (o : ReceiverAfter) → receiver_after stored large v map.empty files (opened_receiver a) ≡ Some o →
+        opens_hearing Done stored large v files a ≡ o
+        → TellsWell put lossless (begins begun stored times files large v a).told → IsCourse put lossless lossless lossless lossless x None (v ∷ rest) back b c
+        → (r : ReceiverState) × ((m : OctetMap) × (((begins begun stored times files large v a).seen ≡ Receives r m)
+        × IsCourse put lossless lossless lossless lossless x (Some r) rest back b (told_with put c (begins begun stored times files large v a).told)))
     began Done v b c opening o is same good h = subst
         (λ p. TellsWell put lossless (if_receiver times files (opened_receiver a) map.empty p).told → (r : ReceiverState)
         × ((m : OctetMap) × (((if_receiver times files (opened_receiver a) map.empty p).seen ≡ Receives r m)
         × IsCourse put lossless lossless lossless lossless x (Some r) rest back b (told_with put c (if_receiver times files (opened_receiver a) map.empty p).told))))
         (sym is) (λ well. (o.receiver, (octets_seen o.receiver o.octets, (refl, begins-well v opening b c Done o (sym same) well h)))) good
     began Refused v b c opening o is same good h = (
-      (steps.opens Refused files a).receiver,
+      (steps.opens Refused large files a).receiver,
       (
-        octets_seen (steps.opens Refused files a).receiver (steps.opens Refused files a).octets,
-        (refl, begins-well v opening b c Refused (steps.opens Refused files a) refl good h),
+        octets_seen (steps.opens Refused large files a).receiver (steps.opens Refused large files a).octets,
+        (refl, begins-well v opening b c Refused (steps.opens Refused large files a) refl good h),
       ),
     )
 
-    pub receiver-opened : (v : Content) → opening_work v ≢ 0 → ReceiverOpens lossless put x (opens begun stored times files v a) (v ∷ rest) rest back
+    pub receiver-opened : (v : Content) → opening_work v ≢ 0 → ReceiverOpens lossless put x (opens begun stored times files large v a) (v ∷ rest) rest back
     receiver-opened (Metadata kind size source destination options) opening b c good h = began begun _ b c opening _ refl refl good h
     receiver-opened (FileData offset bytes) opening b c good h = began begun _ b c opening _ refl refl good h
     receiver-opened (Eof condition checksum size tlvs) opening b c good h =
         let no : error_of condition ≡ None = ap error_of h.truth.true_forth.0.0 in
-        subst (λ o. TellsWell put lossless (opens_by o begun stored times files (Eof condition checksum size tlvs) a).told → (r : ReceiverState)
-        × ((m : OctetMap) × (((opens_by o begun stored times files (Eof condition checksum size tlvs) a).seen ≡ Receives r m)
-        × IsCourse put lossless lossless lossless lossless x (Some r) rest back b (told_with put c (opens_by o begun stored times files (Eof condition checksum size tlvs) a).told))))
+        subst (λ o. TellsWell put lossless (opens_by o begun stored times files large (Eof condition checksum size tlvs) a).told → (r : ReceiverState)
+        × ((m : OctetMap) × (((opens_by o begun stored times files large (Eof condition checksum size tlvs) a).seen ≡ Receives r m)
+        × IsCourse put lossless lossless lossless lossless x (Some r) rest back b (told_with put c (opens_by o begun stored times files large (Eof condition checksum size tlvs) a).told))))
         (sym no) (λ well. began begun _ b c opening _ refl refl well h) good
     receiver-opened (Ack of condition status) opening b c good h = absurd (opening refl)
     receiver-opened (Finished condition delivery status tlvs) opening b c good h = absurd (opening refl)

@@ -61,7 +61,7 @@ module _ (put_of : TransactionId → Option Put) (e : EntityState) (h : Header) 
 pub record StepsRecord (h : Header) (v : Content) (old new : Counted) : Type 0 where
   pub place : ℕ
   pub at : place_of h.id old.state.table.records ≡ Some place
-  pub steps : StepsAt place v old new
+  pub steps : StepsAt place h.large v old new
 
 -- It opened a record.
 pub record OpensRecord (h : Header) (v : Content) (old new : Counted) : Type 0 where
@@ -69,7 +69,7 @@ pub record OpensRecord (h : Header) (v : Content) (old new : Counted) : Type 0 w
   pub room : length old.state.table.records < most_records
   pub opening : opening_work v ≢ 0
   pub down : goes_toward_sender v ≡ false
-  pub opens : OpensOne (addressing_in h) v old new
+  pub opens : OpensOne (addressing_in h) h.large v old new
 
 -- It was dropped, where its transaction has no record: if none is opened for it that is cause 14, and by cause 15
 -- only where the table is full.
@@ -104,7 +104,7 @@ module _ (h : Header) (old new : Counted) (none : place_of h.id old.state.table.
   module _ (v : Content) (opening : opening_work v ≢ 0) (down : goes_toward_sender v ≡ false) where
     open-takes : (b : Bool) → nat_lt (length old.state.table.records) most_records ≡ b → Takes (opens_record old.state) h v old new → HeardSo h v old new
     open-takes true is t =
-        let f : Takes (opens_record old.state) h v old new → OpensOne (addressing_in h) v old new = rw is (λ o. o) in
+        let f : Takes (opens_record old.state) h v old new → OpensOne (addressing_in h) h.large v old new = rw is (λ o. o) in
         inr (inl (record { none = none; room = ltb-true (length old.state.table.records) most_records is; opening = opening; down = down; opens = f t }))
     open-takes false is t =
         let f : Takes (opens_record old.state) h v old new → ⊥ = rw is (λ o. o) in

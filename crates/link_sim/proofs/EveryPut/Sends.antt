@@ -191,17 +191,17 @@ module _ (laws : CourseLaws) (lossless : Bool) (put : Put) (x : SenderState) (is
       course = λ o b c no good h. laws.sender_hears put lossless lossless lossless lossless x o forth [] rest v b c a is_sender s is h good;
     }
 
-    pub sender-hears : (v : Content) → SenderGoes lossless put x (hears stored times files v (Sends x)) forth forth (v ∷ rest) rest
-    sender-hears (Ack acknowledged.Eof condition status) = heard _ (steps.sender_hears_ack condition x) refl (λ h. stays-ack put.id x is_sender.id s h condition)
-    sender-hears (Nak start end pairs) = heard _ (steps.sender_hears_nak pairs x) refl (λ h. stays-nak put.id x is_sender.id s h pairs)
-    sender-hears (Finished condition delivery status tlvs) = heard _ (steps.sender_hears_finished (record { condition = condition; delivery = delivery; status = status }) x) refl
+    pub sender-hears : (large : Bool) (v : Content) → SenderGoes lossless put x (hears stored times files large v (Sends x)) forth forth (v ∷ rest) rest
+    sender-hears large (Ack acknowledged.Eof condition status) = heard _ (steps.sender_hears_ack condition x) refl (λ h. stays-ack put.id x is_sender.id s h condition)
+    sender-hears large (Nak start end pairs) = heard _ (steps.sender_hears_nak pairs x) refl (λ h. stays-nak put.id x is_sender.id s h pairs)
+    sender-hears large (Finished condition delivery status tlvs) = heard _ (steps.sender_hears_finished (record { condition = condition; delivery = delivery; status = status }) x) refl
         (λ h. stays-finished put.id x is_sender.id s h (record { condition = condition; delivery = delivery; status = status }))
-    sender-hears (KeepAlive progress) = heard _ (steps.sender_hears_keep_alive progress x) refl (λ h none. h)
-    sender-hears (Ack acknowledged.Finished condition status) = record { sender = x; is_sender = refl; stays = λ none h. h; course = λ o b c no good h. absurd (h.truth.true_back.0) }
-    sender-hears (FileData offset bytes) = record { sender = x; is_sender = refl; stays = λ none h. h; course = λ o b c no good h. absurd (h.truth.true_back.0) }
-    sender-hears (Metadata kind size source destination options) = record { sender = x; is_sender = refl; stays = λ none h. h; course = λ o b c no good h. absurd (h.truth.true_back.0) }
-    sender-hears (Eof condition checksum size tlvs) = record { sender = x; is_sender = refl; stays = λ none h. h; course = λ o b c no good h. absurd (h.truth.true_back.0) }
-    sender-hears (Prompt keep_alive) = record { sender = x; is_sender = refl; stays = λ none h. h; course = λ o b c no good h. absurd (h.truth.true_back.0) }
+    sender-hears large (KeepAlive progress) = heard _ (steps.sender_hears_keep_alive progress x) refl (λ h none. h)
+    sender-hears large (Ack acknowledged.Finished condition status) = record { sender = x; is_sender = refl; stays = λ none h. h; course = λ o b c no good h. absurd (h.truth.true_back.0) }
+    sender-hears large (FileData offset bytes) = record { sender = x; is_sender = refl; stays = λ none h. h; course = λ o b c no good h. absurd (h.truth.true_back.0) }
+    sender-hears large (Metadata kind size source destination options) = record { sender = x; is_sender = refl; stays = λ none h. h; course = λ o b c no good h. absurd (h.truth.true_back.0) }
+    sender-hears large (Eof condition checksum size tlvs) = record { sender = x; is_sender = refl; stays = λ none h. h; course = λ o b c no good h. absurd (h.truth.true_back.0) }
+    sender-hears large (Prompt keep_alive) = record { sender = x; is_sender = refl; stays = λ none h. h; course = λ o b c no good h. absurd (h.truth.true_back.0) }
 
 -- ---- it found no memory for the PDU at the front, which is lost
 module _ (laws : CourseLaws) (put : Put) (x : SenderState) (is_sender : IsSenderOf put x) (s : IsInFile x) (files : FileMap) (forth rest : List Content) where

@@ -20,7 +20,7 @@ use Rattle.link_sim.specs.Between.{Pdu, of_id}
 use Rattle.link_sim.specs.Known.{AreKnown}
 use Rattle.link_sim.specs.OnWayPdus.{AreSpelled}
 use Rattle.link_sim.proofs.Clean.Given.{one-sound, one-goes, so, known-next}
-use Rattle.link_sim.proofs.Clean.Hears.{HearingLaws}
+use Rattle.link_sim.proofs.Clean.Hears.{HearingLaws, flag-allows, forth-away}
 use Rattle.link_sim.proofs.Clean.Puts.{true-of}
 use Rattle.link_sim.proofs.EveryPut.Steady.{end-differs, end-is}
 use Rattle.link_sim.proofs.EveryPut.Steps.{IsInOrder, SendsIt, sends-it, in-order}
@@ -79,7 +79,9 @@ module _ (laws : EntityLaws) (hearing : HearingLaws) (stays : (old new : TableSt
           mine = λ put found. goes-both put old.state theirs forth (p ∷ (pdus ++ rest)) mid.state theirs forth (pdus ++ rest) new.state theirs forth rest
               (heard-mine put put_of found p.0 p.1 old mid order kinds spared_now theirs forth (pdus ++ rest) said) (then.mine put found);
           theirs_too = λ put found fits. goes-both put theirs old.state (p ∷ (pdus ++ rest)) forth theirs mid.state (pdus ++ rest) forth theirs new.state rest forth
-              (heard-theirs put put_of found p.0 p.1 old mid order kinds spared_now hearing fits heard truth old.state.config.entity sound.knows.knows theirs (pdus ++ rest) forth said)
+              (heard-theirs put put_of found p.0 p.1 old mid order kinds spared_now hearing fits
+              (λ key t. flag-allows p.0.large (length put.octets) (k.1.directed.0.flag (forth-away put p.1 t) put (ap put_of key ∙ found)) fits.size)
+              heard truth old.state.config.entity sound.knows.knows theirs (pdus ++ rest) forth said)
               (then.theirs_too put found fits);
         }
 

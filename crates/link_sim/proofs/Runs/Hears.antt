@@ -1,6 +1,6 @@
 -- The run of its own that a put makes where one of the two entities hears a PDU, and nothing is
 -- short there.
-use Rattle.std.proofs.Common.{◌≡◌, ◌≢◌, ℕ, ◌-◌, ◌^◌, ◌<◌, ◌≤◌, ◌==◌, true, false, List, [], ◌∷◌, ◌++◌, append-nil, length, get_or, Option, Some, None, ◌⊎◌, inl, inr, refl, sym, ap, subst, ◌∙◌, arith, get_or-set_same, get_or-set_other}
+use Rattle.std.proofs.Common.{◌≡◌, ◌≢◌, ℕ, ◌-◌, ◌^◌, ◌<◌, ◌≤◌, ◌==◌, Bool, true, false, List, [], ◌∷◌, ◌++◌, append-nil, length, get_or, Option, Some, None, ◌⊎◌, inl, inr, refl, sym, ap, subst, ◌∙◌, arith, get_or-set_same, get_or-set_other}
 use Rattle.std.specs.Prelude.{slice_get}
 use Rattle.std.specs.List.{list_any}
 use Rattle.std.specs.FinMap as map
@@ -13,6 +13,7 @@ use Rattle.cfdp_header.specs.Ids.{same_id}
 use Rattle.cfdp_directives.specs.declared.pdu.addressing.Addressing.{Addressing}
 use Rattle.cfdp_directives.specs.declared.user.limits.Times.{Times}
 use Rattle.cfdp_directives.specs.Pdu.Addressing.{addressing_of as addressing_in}
+use Rattle.cfdp_directives.specs.Pdu.Codes.{size_limit}
 use Rattle.cfdp_directives.specs.Pdu.Content.{Content}
 use Rattle.cfdp_directives.specs.User.Put.{Put}
 use Rattle.cfdp_store.specs.declared.stored.Stored.TheVariants.{Done}
@@ -172,23 +173,24 @@ module _ (by : EntityDrop) (old new : Counted) (s : Spared old new) (low : drop_
   only-unknown (inr (inr is16)) = absurd (shows 16 is16 s.memory s.memory_low)
 
 -- ---- what a put's receiver tells of a PDU
-module _ (laws : HearingLaws) (put : Put) (fits : IsReceivable put) (put_of : TransactionId → Option Put) (found : put_of put.id ≡ Some put) (heard : List (List ℕ)) (v : Content)
-    (true_of : IsTrueOf put_of heard put.id v) where
-  faultless : (m : OctetMap) (files : FileMap) (r : ReceiverState) → Sound put heard r m → IsTrueForth put v → list_any is_file_fault (receiver_hears Done v m files r).told ≡ false
-  faultless m files r sound t = laws.faultless put heard Done (Hears v) m files r fits (true_of put found) (begins-within put v t) sound
+module _ (laws : HearingLaws) (put : Put) (fits : IsReceivable put) (put_of : TransactionId → Option Put) (found : put_of put.id ≡ Some put) (heard : List (List ℕ)) (large : Bool) (v : Content)
+    (allowed : IsTrueForth put v → length put.octets ≤ size_limit large) (true_of : IsTrueOf put_of heard put.id v) where
+  faultless : (m : OctetMap) (files : FileMap) (r : ReceiverState) → Sound put heard r m → IsTrueForth put v →
+      list_any is_file_fault (receiver_hears Done large v m files r).told ≡ false
+  faultless m files r sound t = laws.faultless put heard Done (Hears large v) m files r fits (true_of put found) (begins-within put large v (allowed t) t) sound
 
-  faultless-heard : (m : OctetMap) (files : FileMap) (r : ReceiverState) → Sound put heard r m → (a : ReceiverAfter) → receiver_after Done v m files r ≡ Some a → IsTrueForth put v →
+  faultless-heard : (m : OctetMap) (files : FileMap) (r : ReceiverState) → Sound put heard r m → (a : ReceiverAfter) → receiver_after Done large v m files r ≡ Some a → IsTrueForth put v →
       list_any is_file_fault a.told ≡ false
   faultless-heard m files r sound a is t =
-      let same : receiver_hears Done v m files r ≡ a = some-same (sym (forth-some put v m files r t) ∙ is) in
+      let same : receiver_hears Done large v m files r ≡ a = some-same (sym (forth-some put large v m files r t) ∙ is) in
       subst (λ (b : ReceiverAfter). list_any is_file_fault b.told ≡ false) same (faultless m files r sound t)
 
-  faultless-opened : (times : Times) (files : FileMap) (a : Addressing) → IsTrueForth put v → list_any is_file_fault (opens Done Done times files v a).told ≡ false
+  faultless-opened : (times : Times) (files : FileMap) (a : Addressing) → IsTrueForth put v → list_any is_file_fault (opens Done Done times files large v a).told ≡ false
   faultless-opened times files a t =
-      subst (λ (o : Option ℕ). list_any is_file_fault (opens_by o Done Done times files v a).told ≡ false) (sym (closing-none put v t))
+      subst (λ (o : Option ℕ). list_any is_file_fault (opens_by o Done Done times files large v a).told ≡ false) (sym (closing-none put v t))
       (subst (λ (o : Option ReceiverAfter). list_any is_file_fault (if_receiver times files (opened_receiver a) map.empty o).told ≡ false)
-      (sym (forth-some put v map.empty files (opened_receiver a) t))
-      (faultless map.empty files (opened_receiver a) (laws.opened put heard Done files a) t))
+      (sym (forth-some put large v map.empty files (opened_receiver a) t))
+      (faultless map.empty files (opened_receiver a) (laws.opened put heard Done large files a) t))
 
 -- ---- one PDU
 module _ (put : Put) (put_of : TransactionId → Option Put) (found : put_of put.id ≡ Some put) (h : Header) (v : Content) (old new : Counted) (order : IsInOrder put_of old.state.table)
@@ -232,25 +234,25 @@ module _ (put : Put) (put_of : TransactionId → Option Put) (found : put_of put
 
   -- what the record leaves that was opened
   abbrev left : Addressing → After
-  left a = opens Done Done st.policy.times st.files v a
+  left a = opens Done Done st.policy.times st.files h.large v a
 
-  opened-left : (k : OpensRecord h v old new) → opens k.opens.begun k.opens.stored st.policy.times st.files v (addressing_in h) ≡ left (addressing_in h)
+  opened-left : (k : OpensRecord h v old new) → opens k.opens.begun k.opens.stored st.policy.times st.files h.large v (addressing_in h) ≡ left (addressing_in h)
   opened-left k =
       let begun : k.opens.begun ≡ Done = was-done k.opens.begun old.inbox_failures new.inbox_failures k.opens.counts.0 spared.inbox inbox-low in
       let done : k.opens.stored ≡ Done = was-done k.opens.stored old.inbox_failures new.inbox_failures k.opens.counts.1 spared.inbox inbox-low in
-      ap (λ b. opens b k.opens.stored st.policy.times st.files v (addressing_in h)) begun ∙ ap (λ s. opens Done s st.policy.times st.files v (addressing_in h)) done
+      ap (λ b. opens b k.opens.stored st.policy.times st.files h.large v (addressing_in h)) begun ∙ ap (λ s. opens Done s st.policy.times st.files h.large v (addressing_in h)) done
 
   opened-told : (k : OpensRecord h v old new) → new.state.table.told ≡ st.told ++ (left (addressing_in h)).told
   opened-told k = ap (λ (e : EntityState). e.table.told) k.opens.opens ∙ ap (λ (a : After). st.told ++ a.told) (opened-left k)
 
   opened-other : (k : OpensRecord h v old new) → same_id put.id h.id ≡ false → record_of put.id new.state.table.records ≡ record_of put.id st.records
   opened-other k differs = ap (λ (e : EntityState). record_of put.id e.table.records) k.opens.opens
-      ∙ push-other st.records h.id put.id (opens k.opens.begun k.opens.stored st.policy.times st.files v (addressing_in h)).seen differs
+      ∙ push-other st.records h.id put.id (opens k.opens.begun k.opens.stored st.policy.times st.files h.large v (addressing_in h)).seen differs
 
   opened-own : (k : OpensRecord h v old new) → h.id ≡ put.id → record_of put.id new.state.table.records ≡ Some (left (addressing_in h)).seen
   opened-own k same =
       let none : record_of put.id st.records ≡ None = none-there same k.none in
-      let a : After = opens k.opens.begun k.opens.stored st.policy.times st.files v (addressing_in h) in
+      let a : After = opens k.opens.begun k.opens.stored st.policy.times st.files h.large v (addressing_in h) in
       ap (λ (e : EntityState). record_of put.id e.table.records) k.opens.opens ∙ ap (λ q. record_of put.id (st.records ++ (q, a.seen) ∷ [])) same ∙ push-own st.records put.id a.seen none
       ∙ ap (λ (x : After). Some x.seen) (opened-left k)
 
@@ -263,22 +265,22 @@ module _ (put : Put) (put_of : TransactionId → Option Put) (found : put_of put
     mine-stepped k = by (slice_get st.records k.place) refl (ap (λ (e : EntityState). e.table) k.steps.steps)
       where
         g : Seen → After
-        g s = hears k.steps.stored st.policy.times st.files v s
+        g s = hears k.steps.stored st.policy.times st.files h.large v s
 
-        by : (o : Option Entry) → slice_get st.records k.place ≡ o → new.state.table ≡ step_of (λ e. hears k.steps.stored st.policy.times st.files v e.1) k.place o st → MineGoes
+        by : (o : Option Entry) → slice_get st.records k.place ≡ o → new.state.table ≡ step_of (λ e. hears k.steps.stored st.policy.times st.files h.large v e.1) k.place o st → MineGoes
         by None none is = absurd (no-place h.id st.records k.place k.at none)
-        by (Some e) at is = mine-steps put old.state new.state theirs forth forth (p ∷ rest) rest k.place e (hears k.steps.stored st.policy.times st.files v e.1) order.distinct at
+        by (Some e) at is = mine-steps put old.state new.state theirs forth forth (p ∷ rest) rest k.place e (hears k.steps.stored st.policy.times st.files h.large v e.1) order.distinct at
             (ap (λ (t : TableState). t.records) is) (ap (λ (t : TableState). t.told) is) (λ _. refl) (λ differs. is-other rest (differs-too put.id h.id e.0 (is-there k.place e k.at at) differs))
             (λ same. own e.1 same (at ∙ ap (λ i. Some (i, e.1)) (sym same)))
           where
             own : (s : Seen) → put.id ≡ e.0 → slice_get st.records k.place ≡ Some (put.id, s) →
-                MineTo put s (hears k.steps.stored st.policy.times st.files v s) (of_id put.id forth) (of_id put.id forth) (of_id put.id (p ∷ rest)) (of_id put.id rest)
+                MineTo put s (hears k.steps.stored st.policy.times st.files h.large v s) (of_id put.id forth) (of_id put.id forth) (of_id put.id (p ∷ rest)) (of_id put.id rest)
             own (Receives r m) same there = tt
             own (Sends x) same there =
                 let i : SendsIt put st.sources x = sends-it put put_of found st.sources put.id x refl (order.own k.place (put.id, Sends x) there).1 in
-                subst (λ l. SenderTo put x (hears k.steps.stored st.policy.times st.files v (Sends x)) (of_id put.id forth) (of_id put.id forth) l (of_id put.id rest))
+                subst (λ l. SenderTo put x (hears k.steps.stored st.policy.times st.files h.large v (Sends x)) (of_id put.id forth) (of_id put.id forth) l (of_id put.id rest))
                 (is-own rest (is-there k.place (put.id, Sends x) k.at there))
-                (sender-hears put x (record { is_sender = i.is_sender; in_file = i.in_file }) st.policy.times st.files k.steps.stored (of_id put.id forth) (of_id put.id rest) v)
+                (sender-hears put x (record { is_sender = i.is_sender; in_file = i.in_file }) st.policy.times st.files k.steps.stored (of_id put.id forth) (of_id put.id rest) h.large v)
 
     -- where it has no record there is no exchange
     none-mine : h.id ≡ put.id → place_of h.id st.records ≡ None → MineGoes
@@ -306,7 +308,8 @@ module _ (put : Put) (put_of : TransactionId → Option Put) (found : put_of put
     heard-mine (inr (inr (inr k))) = absurd (never-spoiled k)
 
   -- ---- the other entity hears the PDU at the front of its way
-  module _ (laws : HearingLaws) (fits : IsReceivable put) (heard : List (List ℕ)) (true_of : IsTrueOf put_of heard h.id v) (own : ℕ)
+  module _ (laws : HearingLaws) (fits : IsReceivable put) (allowed : h.id ≡ put.id → IsTrueForth put v → length put.octets ≤ size_limit h.large) (heard : List (List ℕ))
+      (true_of : IsTrueOf put_of heard h.id v) (own : ℕ)
       (knows : (place : ℕ) (e : Entry) → slice_get st.records place ≡ Some e → KnowsTruth own put_of heard e.0 e.1)
       (mine : EntityState) (rest back : List Pdu) where
     abbrev TheirsGoes : Type 0
@@ -318,32 +321,32 @@ module _ (put : Put) (put_of : TransactionId → Option Put) (found : put_of put
     theirs-stepped : StepsRecord h v old new → TheirsGoes
     theirs-stepped k = by (slice_get st.records k.place) refl (ap (λ (e : EntityState). e.table) k.steps.steps)
       where
-        by : (o : Option Entry) → slice_get st.records k.place ≡ o → new.state.table ≡ step_of (λ e. hears k.steps.stored st.policy.times st.files v e.1) k.place o st → TheirsGoes
+        by : (o : Option Entry) → slice_get st.records k.place ≡ o → new.state.table ≡ step_of (λ e. hears k.steps.stored st.policy.times st.files h.large v e.1) k.place o st → TheirsGoes
         by None none is = absurd (no-place h.id st.records k.place k.at none)
-        by (Some e) at is = theirs-steps put mine old.state new.state (p ∷ rest) rest back back k.place e (hears k.steps.stored st.policy.times st.files v e.1) order.distinct at
+        by (Some e) at is = theirs-steps put mine old.state new.state (p ∷ rest) rest back back k.place e (hears k.steps.stored st.policy.times st.files h.large v e.1) order.distinct at
             (ap (λ (t : TableState). t.records) is) (ap (λ (t : TableState). t.told) is) (λ differs. is-other rest (differs-too put.id h.id e.0 (is-there k.place e k.at at) differs)) (λ _. refl)
             (λ same. its e.1 same (at ∙ ap (λ i. Some (i, e.1)) (sym same)))
           where
             its : (s : Seen) → put.id ≡ e.0 → slice_get st.records k.place ≡ Some (put.id, s) →
-                TheirsTo put s (hears k.steps.stored st.policy.times st.files v s) (of_id put.id (p ∷ rest)) (of_id put.id rest) (of_id put.id back) (of_id put.id back)
+                TheirsTo put s (hears k.steps.stored st.policy.times st.files h.large v s) (of_id put.id (p ∷ rest)) (of_id put.id rest) (of_id put.id back) (of_id put.id back)
             its (Sends x) same there = tt
             its (Receives r m) same there =
                 let key : h.id ≡ put.id = is-there k.place (put.id, Receives r m) k.at there in
                 let it : KnowsPut own put_of heard put.id r m = knows k.place (put.id, Receives r m) there in
                 let sound : Sound put heard r m = subst (λ (q : Put). Sound q heard r m) (some-same (sym it.is_put ∙ found)) it.sound in
-                subst (λ l. ReceiverTo put r (hears k.steps.stored st.policy.times st.files v (Receives r m)) l (of_id put.id rest) (of_id put.id back) (of_id put.id back)) (is-own rest key)
-                (subst (λ s. ReceiverTo put r (hears s st.policy.times st.files v (Receives r m)) (v ∷ of_id put.id rest) (of_id put.id rest) (of_id put.id back) (of_id put.id back))
+                subst (λ l. ReceiverTo put r (hears k.steps.stored st.policy.times st.files h.large v (Receives r m)) l (of_id put.id rest) (of_id put.id back) (of_id put.id back)) (is-own rest key)
+                (subst (λ s. ReceiverTo put r (hears s st.policy.times st.files h.large v (Receives r m)) (v ∷ of_id put.id rest) (of_id put.id rest) (of_id put.id back) (of_id put.id back))
                 (sym (stepped-done k))
-                (receiver-hears put r m it.same_id st.policy.times st.files (of_id put.id rest) (of_id put.id back) v
-                (faultless-heard laws put fits put_of found heard v (of-put key) m st.files r sound)))
+                (receiver-hears put r m it.same_id st.policy.times st.files (of_id put.id rest) (of_id put.id back) h.large v
+                (faultless-heard laws put fits put_of found heard h.large v (allowed key) (of-put key) m st.files r sound)))
 
     theirs-opened : OpensRecord h v old new → TheirsGoes
     theirs-opened k = elim (same_id put.id h.id) as (λ b. same_id put.id h.id ≡ b → TheirsGoes) [
       | true ↦ λ is. (let key : h.id ≡ put.id = sym (same_id-true put.id h.id is) in
           receiver-opens put mine old.state new.state (p ∷ rest) rest back back (left (addressing_in h)) (opened-told k) (none-there key k.none) (opened-own k key) refl
           (subst (λ l. OpensTo put (left (addressing_in h)) l (of_id put.id rest) (of_id put.id back)) (is-own rest key)
-          (receiver-opened st.policy.times st.files (addressing_in h) put key (of_id put.id rest) (of_id put.id back) v k.opening
-          (faultless-opened laws put fits put_of found heard v (of-put key) st.policy.times st.files (addressing_in h)))))
+          (receiver-opened st.policy.times st.files h.large (addressing_in h) put key (of_id put.id rest) (of_id put.id back) v k.opening
+          (faultless-opened laws put fits put_of found heard h.large v (allowed key) (of-put key) st.policy.times st.files (addressing_in h)))))
       | false ↦ λ differs. stays-same put mine old.state (p ∷ rest) back mine new.state rest back [] (left (addressing_in h)).told (sym (append-nil mine.table.told)) (opened-told k) refl
           (opened-other k differs) (is-other rest differs) refl
     ] refl

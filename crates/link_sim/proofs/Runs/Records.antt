@@ -55,8 +55,9 @@ module _ (put : Put) (x : SenderState) (own : IsItsSender put x) where
           }))
 
   -- it hears the PDU at the front
-  pub sender-hears : (times : Times) (files : FileMap) (stored : Stored) (forth rest : List Content) (v : Content) → SenderTo put x (hears stored times files v (Sends x)) forth forth (v ∷ rest) rest
-  sender-hears times files stored forth rest v = by (sender_after v x) refl
+  pub sender-hears : (times : Times) (files : FileMap) (stored : Stored) (forth rest : List Content) (large : Bool) (v : Content) →
+      SenderTo put x (hears stored times files large v (Sends x)) forth forth (v ∷ rest) rest
+  sender-hears times files stored forth rest large v = by (sender_after v x) refl
     where
       by : (o : Option SenderAfter) → sender_after v x ≡ o → SenderTo put x (if_sender times files x o) forth forth (v ∷ rest) rest
       by (Some a) is = record {
@@ -88,12 +89,12 @@ module _ (put : Put) (r : ReceiverState) (m : OctetMap) (is_id : r.addressing.id
           })
 
   -- it hears the PDU at the front, and of one that is true of its put it tells no fault of the file
-  pub receiver-hears : (times : Times) (files : FileMap) (rest back : List Content) (v : Content) →
-      ((a : ReceiverAfter) → receiver_after Done v m files r ≡ Some a → IsTrueForth put v → list_any is_file_fault a.told ≡ false)
-      → ReceiverTo put r (hears Done times files v (Receives r m)) (v ∷ rest) rest back back
-  receiver-hears times files rest back v good = by (receiver_after Done v m files r) refl
+  pub receiver-hears : (times : Times) (files : FileMap) (rest back : List Content) (large : Bool) (v : Content) →
+      ((a : ReceiverAfter) → receiver_after Done large v m files r ≡ Some a → IsTrueForth put v → list_any is_file_fault a.told ≡ false)
+      → ReceiverTo put r (hears Done times files large v (Receives r m)) (v ∷ rest) rest back back
+  receiver-hears times files rest back large v good = by (receiver_after Done large v m files r) refl
     where
-      by : (o : Option ReceiverAfter) → receiver_after Done v m files r ≡ o → ReceiverTo put r (if_receiver times files r m o) (v ∷ rest) rest back back
+      by : (o : Option ReceiverAfter) → receiver_after Done large v m files r ≡ o → ReceiverTo put r (if_receiver times files r m o) (v ∷ rest) rest back back
       by (Some a) is = record {
         receiver = a.receiver;
         octets = octets_seen a.receiver a.octets;
@@ -102,6 +103,7 @@ module _ (put : Put) (r : ReceiverState) (m : OctetMap) (is_id : r.addressing.id
           receiver = r;
           is_receiver = refl;
           own = is_id;
+          large = large;
           heard = v;
           rest = rest;
           front = refl;
@@ -120,6 +122,7 @@ module _ (put : Put) (r : ReceiverState) (m : OctetMap) (is_id : r.addressing.id
         step = λ x b c. inr (inr (inr (inr (inr (inl (record {
           receiver = r;
           is_receiver = refl;
+          large = large;
           heard = v;
           rest = rest;
           front = refl;
@@ -138,12 +141,12 @@ record Opened (a : After) : Type 0 where
   octets : OctetMap
   is : a.seen ≡ Receives receiver octets
 
-module _ (times : Times) (files : FileMap) (a : Addressing) where
-  opened-eof : (condition checksum size : ℕ) (tlvs : List Tlv) (c : Option ℕ) → Opened (opens_by c Done Done times files (Eof condition checksum size tlvs) a)
-  opened-eof condition checksum size tlvs (Some cause) = record { receiver = steps.opened_closed cause a; octets = map.empty; is = refl }
+module _ (times : Times) (files : FileMap) (large : Bool) (a : Addressing) where
+  opened-eof : (condition checksum size : ℕ) (tlvs : List Tlv) (c : Option ℕ) → Opened (opens_by c Done Done times files large (Eof condition checksum size tlvs) a)
+  opened-eof condition checksum size tlvs (Some cause) = record { receiver = steps.opened_closed large cause a; octets = map.empty; is = refl }
   opened-eof condition checksum size tlvs None = record { receiver = _; octets = _; is = refl }
 
-  opened : (v : Content) → opening_work v ≢ 0 → Opened (opens Done Done times files v a)
+  opened : (v : Content) → opening_work v ≢ 0 → Opened (opens Done Done times files large v a)
   opened (Metadata kind size source destination options) opening = record { receiver = _; octets = _; is = refl }
   opened (FileData offset bytes) opening = record { receiver = _; octets = _; is = refl }
   opened (Eof condition checksum size tlvs) opening = opened-eof condition checksum size tlvs (error_of condition)
@@ -154,16 +157,17 @@ module _ (times : Times) (files : FileMap) (a : Addressing) where
   opened (KeepAlive progress) opening = absurd (opening refl)
 
   pub receiver-opened : (put : Put) → a.id ≡ put.id → (rest back : List Content) (v : Content) → opening_work v ≢ 0 →
-      (IsTrueForth put v → list_any is_file_fault (opens Done Done times files v a).told ≡ false)
-      → OpensTo put (opens Done Done times files v a) (v ∷ rest) rest back
+      (IsTrueForth put v → list_any is_file_fault (opens Done Done times files large v a).told ≡ false)
+      → OpensTo put (opens Done Done times files large v a) (v ∷ rest) rest back
   receiver-opened put is_id rest back v opening good =
-      let o : Opened (opens Done Done times files v a) = opened v opening in
+      let o : Opened (opens Done Done times files large v a) = opened v opening in
       record {
         receiver = o.receiver;
         octets = o.octets;
         is_receiver = o.is;
         step = λ x b c. inr (inr (inr (inr (inr (inr (inl (record {
           none = refl;
+          large = large;
           heard = v;
           rest = rest;
           front = refl;

@@ -27,8 +27,8 @@ use Rattle.cfdp_receiver.specs.declared.state.FileInfo.{FileInfo}
 use Rattle.cfdp_receiver.specs.declared.state.ReceiverPhase.{ReceiverPhase}
 use Rattle.cfdp_receiver.specs.declared.state.ReceiverPhase.TheVariants as receiving
 use Rattle.cfdp_receiver.specs.Pieces.{new_pieces, staged_with}
-use Rattle.cfdp_receiver.specs.Sound.{receiver_hears}
-use Rattle.cfdp_receiver.specs.State.{ReceiverState, is_receiving, is_finishing}
+use Rattle.cfdp_receiver.specs.Sound.{hears_content, receiver_hears}
+use Rattle.cfdp_receiver.specs.State.{ReceiverState, flagged, is_receiving, is_finishing}
 use Rattle.cfdp_receiver.specs.Steps.{ReceiverAfter, leaving, telling, closed, faulted, agrees, published_by, completed_by, completed, is_supported, receives_metadata, exceeds, with_data, receives_new, receives_data, contradicts, first_eof, cancelled_by, receives_eof, prompted_for, takes}
 use Rattle.cfdp_entity.specs.Steps.{sender_after}
 use Rattle.link_sim.specs.Exchange.{is_closed_in, is_closed, maybe}
@@ -165,25 +165,25 @@ module _ (m : OctetMap) (files : FileMap) (r : ReceiverState) where
       (λ _. by-fewer m s.metadata s.ending s (record { naks = omega arith; finisheds = omega arith }))
       (λ _. faulted-fewer unsupported_checksum_type m s))
 
-  data-fewer : (offset : ℕ) (bytes : List ℕ) → FewerAfter (receives_data Done offset bytes m files r)
-  data-fewer offset bytes =
+  data-fewer : (large : Bool) (offset : ℕ) (bytes : List ℕ) → FewerAfter (receives_data Done large offset bytes m files r)
+  data-fewer large offset bytes =
       let end : ℕ = offset + length bytes in
       let s : ReceiverState = with_data offset bytes r in
-      cond_both (exceeds r.ending end) (faulted file_size_error m files r)
+      cond_both (exceeds large r.ending end) (faulted file_size_error m files r)
       (if set.is_subset (range offset end) r.held then completed Done m files r else receives_new Done offset bytes m files r) FewerAfter
       (λ _. faulted-fewer file_size_error m r)
       (λ _. cond_both (set.is_subset (range offset end) r.held) (completed Done m files r) (receives_new Done offset bytes m files r) FewerAfter
       (λ _. by-fewer m r.metadata r.ending r (same-fewer r))
       (λ _. by-fewer (staged_with m (new_pieces r.held offset bytes)) s.metadata s.ending s (record { naks = omega arith; finisheds = omega arith })))
 
-  eof-fewer : (condition checksum size : ℕ) → FewerAfter (receives_eof Done condition checksum size m files r)
-  eof-fewer condition checksum size =
+  eof-fewer : (large : Bool) (condition checksum size : ℕ) → FewerAfter (receives_eof Done large condition checksum size m files r)
+  eof-fewer large condition checksum size =
       let s : ReceiverState = record r { ending = Some (record { checksum = checksum; size = size }); ack_due = Some no_error; nak_cursor = Some 0 } in
       cond_both (not (condition == no_error)) (cancelled_by condition m files r)
-      (if is_none r.ending then first_eof Done checksum size m files r else leaving m files (record r { ack_due = Some no_error; nak_cursor = Some 0 })) FewerAfter
+      (if is_none r.ending then first_eof Done large checksum size m files r else leaving m files (record r { ack_due = Some no_error; nak_cursor = Some 0 })) FewerAfter
       (λ _. record { naks = omega arith; finisheds = omega arith })
-      (λ _. cond_both (is_none r.ending) (first_eof Done checksum size m files r) (leaving m files (record r { ack_due = Some no_error; nak_cursor = Some 0 })) FewerAfter
-      (λ _. cond_both (contradicts size r) (faulted file_size_error m files s) (completed Done m files s) FewerAfter
+      (λ _. cond_both (is_none r.ending) (first_eof Done large checksum size m files r) (leaving m files (record r { ack_due = Some no_error; nak_cursor = Some 0 })) FewerAfter
+      (λ _. cond_both (contradicts large size r) (faulted file_size_error m files s) (completed Done m files s) FewerAfter
       (λ _. faulted-fewer file_size_error m s)
       (λ _. by-fewer m s.metadata s.ending s (record { naks = omega arith; finisheds = omega arith })))
       (λ _. record { naks = omega arith; finisheds = omega arith }))
@@ -202,22 +202,28 @@ module _ (m : OctetMap) (files : FileMap) (r : ReceiverState) where
   prompt-fewer true = record { naks = omega arith; finisheds = omega arith }
   prompt-fewer false = record { naks = omega arith; finisheds = omega arith }
 
-  pub receiver-keeps : (v : Content) → ReceiverKeeps r (receiver_hears Done v m files r).receiver
-  receiver-keeps (Metadata kind size source destination options) = tidy-keeps _
+  content-keeps : (large : Bool) (v : Content) → ReceiverKeeps r (hears_content Done large v m files r).receiver
+  content-keeps large (Metadata kind size source destination options) = tidy-keeps _
       (in-phase (receives_metadata Done kind size source destination m files r) (leaving m files r) (metadata-fewer kind size source destination) (same-fewer r) refl) _
-  receiver-keeps (FileData offset bytes) = tidy-keeps _ (in-phase (receives_data Done offset bytes m files r) (leaving m files r) (data-fewer offset bytes) (same-fewer r) refl) _
-  receiver-keeps (Eof condition checksum size tlvs) = tidy-keeps _ (in-phase (receives_eof Done condition checksum size m files r) (leaving m files (record r { ack_due = Some condition }))
-      (eof-fewer condition checksum size) (record { naks = omega arith; finisheds = omega arith }) refl) _
-  receiver-keeps (Ack acknowledged.Finished condition status) = tidy-keeps _ (cond_both (is_finishing r.phase && r.finished_taken) (closed r) r (ReceiverKeeps r)
+  content-keeps large (FileData offset bytes) = tidy-keeps _ (in-phase (receives_data Done large offset bytes m files r) (leaving m files r) (data-fewer large offset bytes) (same-fewer r) refl) _
+  content-keeps large (Eof condition checksum size tlvs) = tidy-keeps _ (in-phase (receives_eof Done large condition checksum size m files r) (leaving m files (record r { ack_due = Some condition }))
+      (eof-fewer large condition checksum size) (record { naks = omega arith; finisheds = omega arith }) refl) _
+  content-keeps large (Ack acknowledged.Finished condition status) = tidy-keeps _ (cond_both (is_finishing r.phase && r.finished_taken) (closed r) r (ReceiverKeeps r)
       (λ _. record { fewer = record { naks = omega arith; finisheds = omega arith }; closed = λ _. refl })
       (λ _. record { fewer = same-fewer r; closed = λ h. h })) _
-  receiver-keeps (Ack acknowledged.Eof condition status) = record { fewer = same-fewer r; closed = λ h. h }
-  receiver-keeps (Prompt keep_alive) = tidy-keeps _ (cond_both (is_receiving r.phase) (prompted_for keep_alive r) r (ReceiverKeeps r)
+  content-keeps large (Ack acknowledged.Eof condition status) = record { fewer = same-fewer r; closed = λ h. h }
+  content-keeps large (Prompt keep_alive) = tidy-keeps _ (cond_both (is_receiving r.phase) (prompted_for keep_alive r) r (ReceiverKeeps r)
       (λ is. record { fewer = prompt-fewer keep_alive; closed = λ h. absurd (true≢false (sym is ∙ ap is_receiving h)) })
       (λ _. record { fewer = same-fewer r; closed = λ h. h })) _
-  receiver-keeps (Finished condition delivery status tlvs) = record { fewer = same-fewer r; closed = λ h. h }
-  receiver-keeps (Nak start end pairs) = record { fewer = same-fewer r; closed = λ h. h }
-  receiver-keeps (KeepAlive progress) = record { fewer = same-fewer r; closed = λ h. h }
+  content-keeps large (Finished condition delivery status tlvs) = record { fewer = same-fewer r; closed = λ h. h }
+  content-keeps large (Nak start end pairs) = record { fewer = same-fewer r; closed = λ h. h }
+  content-keeps large (KeepAlive progress) = record { fewer = same-fewer r; closed = λ h. h }
+
+-- a large file flag changes none of this
+pub receiver-keeps : (m : OctetMap) (files : FileMap) (r : ReceiverState) (large : Bool) (v : Content) → ReceiverKeeps r (receiver_hears Done large v m files r).receiver
+receiver-keeps m files r large v =
+    let k : ReceiverKeeps (flagged large r) (receiver_hears Done large v m files r).receiver = content-keeps m files (flagged large r) large v in
+    record { fewer = record { naks = k.fewer.naks; finisheds = k.fewer.finisheds }; closed = k.closed }
 
 -- ---- of a transaction
 -- where there was a receiver, there is one still
@@ -256,8 +262,8 @@ settles-keep put a b (inr (inr (inr (inl s)))) = subst (ExchangeKeeps a) (sym s.
 settles-keep put a b (inr (inr (inr (inr (inl s))))) = subst (ExchangeKeeps a) (sym s.is) (record {
   sender = itself-keeps a.sender;
   receiver = by-receiver a.receiver _ s.receiver s.after.receiver s.is_receiver refl
-      (subst (λ (c : ReceiverAfter). ReceiverKeeps s.receiver c.receiver) (sym (after-is Done s.heard s.octets s.files s.receiver s.after s.is_after))
-      (receiver-keeps s.octets s.files s.receiver s.heard));
+      (subst (λ (c : ReceiverAfter). ReceiverKeeps s.receiver c.receiver) (sym (after-is Done s.large s.heard s.octets s.files s.receiver s.after s.is_after))
+      (receiver-keeps s.octets s.files s.receiver s.large s.heard));
 })
 settles-keep put a b (inr (inr (inr (inr (inr (inl s)))))) = subst (ExchangeKeeps a) (sym s.is) (record { sender = itself-keeps a.sender; receiver = same-receiver a.receiver })
 settles-keep put a b (inr (inr (inr (inr (inr (inr (inl s))))))) = subst (ExchangeKeeps a) (sym s.is) (record {

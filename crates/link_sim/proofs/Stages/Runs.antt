@@ -38,19 +38,19 @@ record OpensAs (o : After) (a : ReceiverAfter) : Type 0 where
   pub seen : o.seen ≡ Receives a.receiver octets
   pub told : o.told ≡ a.told
 
-opened-as : (put : Put) (v : Content) → IsTrueForth put v → opening_work v ≢ 0 → (times : Times) (files : FileMap) (addressing : Addressing)
-    → OpensAs (opens Done Done times files v addressing) (opens_hearing Done Done v files addressing)
-opened-as put (Metadata kind size source destination options) t opening times files addressing = record { octets = _; seen = refl; told = refl }
-opened-as put (FileData offset bytes) t opening times files addressing = record { octets = _; seen = refl; told = refl }
-opened-as put (Eof condition checksum size tlvs) t opening times files addressing =
+opened-as : (put : Put) (large : Bool) (v : Content) → IsTrueForth put v → opening_work v ≢ 0 → (times : Times) (files : FileMap) (addressing : Addressing)
+    → OpensAs (opens Done Done times files large v addressing) (opens_hearing Done Done large v files addressing)
+opened-as put large (Metadata kind size source destination options) t opening times files addressing = record { octets = _; seen = refl; told = refl }
+opened-as put large (FileData offset bytes) t opening times files addressing = record { octets = _; seen = refl; told = refl }
+opened-as put large (Eof condition checksum size tlvs) t opening times files addressing =
     let v : Content = Eof condition checksum size tlvs in
     let no : error_of condition ≡ None = ap error_of t.0 in
-    subst (λ o. OpensAs (opens_by o Done Done times files v addressing) (opens_hearing Done Done v files addressing)) (sym no) (record { octets = _; seen = refl; told = refl })
-opened-as put (Ack of condition status) t opening times files addressing = absurd (opening refl)
-opened-as put (Finished condition delivery status tlvs) t opening times files addressing = absurd (opening refl)
-opened-as put (Nak start end pairs) t opening times files addressing = absurd (opening refl)
-opened-as put (Prompt keep_alive) t opening times files addressing = absurd (opening refl)
-opened-as put (KeepAlive progress) t opening times files addressing = absurd (opening refl)
+    subst (λ o. OpensAs (opens_by o Done Done times files large v addressing) (opens_hearing Done Done large v files addressing)) (sym no) (record { octets = _; seen = refl; told = refl })
+opened-as put large (Ack of condition status) t opening times files addressing = absurd (opening refl)
+opened-as put large (Finished condition delivery status tlvs) t opening times files addressing = absurd (opening refl)
+opened-as put large (Nak start end pairs) t opening times files addressing = absurd (opening refl)
+opened-as put large (Prompt keep_alive) t opening times files addressing = absurd (opening refl)
+opened-as put large (KeepAlive progress) t opening times files addressing = absurd (opening refl)
 
 one-receiver : (s : Seen) (r p : ReceiverState) (m n : OctetMap) → s ≡ Receives r m → s ≡ Receives p n → r ≡ p
 one-receiver s r p m n e f = (let both : Receives r m ≡ Receives p n = sym e ∙ f in cc)
@@ -59,25 +59,25 @@ one-receiver s r p m n e f = (let both : Receives r m ≡ Receives p n = sym e �
 pub heard-good : (put : Put) (a b : Exchange) (s : ReceiverHears put a b) → IsTrueForth put s.heard → list_any is_bad s.after.told ≡ false
 heard-good put a b s t =
     subst (λ (d : ReceiverAfter). list_any is_file_fault d.told ≡ false → list_any is_bad d.told ≡ false)
-    (sym (after-is Done s.heard s.octets s.files s.receiver s.after s.is_after)) (hears-well s.octets s.files s.receiver put s.heard t) (s.good t)
+    (sym (after-is Done s.large s.heard s.octets s.files s.receiver s.after s.is_after)) (hears-well s.octets s.files s.receiver s.large put s.heard t) (s.good t)
 
 -- nor of one that opens a record
 abbrev pub opened-by : (put : Put) (a b : Exchange) → ReceiverOpens put a b → ReceiverAfter
-opened-by put a b s = opens_hearing Done Done s.heard s.files s.addressing
+opened-by put a b s = opens_hearing Done Done s.large s.heard s.files s.addressing
 
 pub record OpensWell (put : Put) (a b : Exchange) (s : ReceiverOpens put a b) : Type 0 where
   pub receiver : s.receiver ≡ (opened-by put a b s).receiver
-  pub told : (opens Done Done s.times s.files s.heard s.addressing).told ≡ (opened-by put a b s).told
+  pub told : (opens Done Done s.times s.files s.large s.heard s.addressing).told ≡ (opened-by put a b s).told
   pub good : list_any is_bad (opened-by put a b s).told ≡ false
 
 pub opened-well : (put : Put) (a b : Exchange) (s : ReceiverOpens put a b) → IsTrueForth put s.heard → OpensWell put a b s
 opened-well put a b s t =
     let o : ReceiverAfter = opened-by put a b s in
-    let first : OpensAs (opens Done Done s.times s.files s.heard s.addressing) o = opened-as put s.heard t s.opening s.times s.files s.addressing in
+    let first : OpensAs (opens Done Done s.times s.files s.large s.heard s.addressing) o = opened-as put s.large s.heard t s.opening s.times s.files s.addressing in
     record {
       receiver = one-receiver _ s.receiver o.receiver s.octets first.octets s.is_receiver first.seen;
       told = first.told;
-      good = hears-well map.empty s.files (opened_receiver s.addressing) put s.heard t
+      good = hears-well map.empty s.files (opened_receiver s.addressing) s.large put s.heard t
           (subst (λ (l : List Indication). list_any is_file_fault l ≡ false) first.told (s.good t));
     }
 
@@ -93,16 +93,16 @@ no-pass (Metadata kind size source destination options) x t e = t
 no-pass (Eof condition checksum size tlvs) x t e = t
 no-pass (Prompt keep_alive) x t e = t
 
-no-pass-forth : (put : Put) (v : Content) (m : OctetMap) (files : FileMap) (r : ReceiverState) → IsTrueForth put v → receiver_after Done v m files r ≡ None → ⊥
-no-pass-forth put (Metadata kind size source destination options) m files r t e = absurd cc
-no-pass-forth put (FileData offset bytes) m files r t e = absurd cc
-no-pass-forth put (Eof condition checksum size tlvs) m files r t e = absurd cc
-no-pass-forth put (Ack acknowledged.Finished condition status) m files r t e = absurd cc
-no-pass-forth put (Prompt keep_alive) m files r t e = absurd cc
-no-pass-forth put (Ack acknowledged.Eof condition status) m files r t e = t
-no-pass-forth put (Finished condition delivery status tlvs) m files r t e = t
-no-pass-forth put (Nak start end pairs) m files r t e = t
-no-pass-forth put (KeepAlive progress) m files r t e = t
+no-pass-forth : (put : Put) (large : Bool) (v : Content) (m : OctetMap) (files : FileMap) (r : ReceiverState) → IsTrueForth put v → receiver_after Done large v m files r ≡ None → ⊥
+no-pass-forth put large (Metadata kind size source destination options) m files r t e = absurd cc
+no-pass-forth put large (FileData offset bytes) m files r t e = absurd cc
+no-pass-forth put large (Eof condition checksum size tlvs) m files r t e = absurd cc
+no-pass-forth put large (Ack acknowledged.Finished condition status) m files r t e = absurd cc
+no-pass-forth put large (Prompt keep_alive) m files r t e = absurd cc
+no-pass-forth put large (Ack acknowledged.Eof condition status) m files r t e = t
+no-pass-forth put large (Finished condition delivery status tlvs) m files r t e = t
+no-pass-forth put large (Nak start end pairs) m files r t e = t
+no-pass-forth put large (KeepAlive progress) m files r t e = t
 
 -- ---- the course of a transaction
 abbrev pub CourseIn : Put → (awake acks files ends : Bool) → Exchange → Type 0
@@ -163,17 +163,17 @@ module _ (put : Put) (awake acks files ends : Bool) where
     receives s =
         let c = with-both (Some s.receiver) (s.heard ∷ s.rest) s.is_receiver s.front in
         subst Course (sym s.is)
-        (laws.receiver_hears put awake acks files ends a.sender s.receiver [] s.rest a.back s.heard a.told a.told_there Done s.octets s.files s.after s.own size s.is_after c
+        (laws.receiver_hears put awake acks files ends a.sender s.receiver [] s.rest a.back s.large s.heard a.told a.told_there Done s.octets s.files s.after s.own size s.is_after c
         (tells-well put awake s.after.told (heard-good put a b s c.truth.true_forth.0)))
 
     ignores : ReceiverPasses a b → Course b
-    ignores s = absurd (no-pass-forth put s.heard s.octets s.files s.receiver (with-forth (s.heard ∷ s.rest) s.front).truth.true_forth.0 s.none)
+    ignores s = absurd (no-pass-forth put s.large s.heard s.octets s.files s.receiver (with-forth (s.heard ∷ s.rest) s.front).truth.true_forth.0 s.none)
 
     opens-one : ReceiverOpens put a b → Course b
     opens-one s =
         let c = with-both None (s.heard ∷ s.rest) s.none s.front in
         let o : OpensWell put a b s = opened-well put a b s c.truth.true_forth.0 in
-        let d = laws.receiver_opens put awake acks files ends a.sender [] s.rest a.back s.heard a.told a.told_there Done Done s.files s.addressing s.own size s.opening c
+        let d = laws.receiver_opens put awake acks files ends a.sender [] s.rest a.back s.large s.heard a.told a.told_there Done Done s.files s.addressing s.own size s.opening c
         (tells-well put awake (opened-by put a b s).told o.good) in
         subst Course (sym s.is)
         (subst (λ (l : List Indication). IsCourse put awake acks files ends a.sender (Some s.receiver) s.rest a.back a.told (told_with put a.told_there l)) (sym o.told)

@@ -205,12 +205,12 @@ module _ (put : Put) (a b : Exchange) (c : CourseIn put false false false false 
   hears-unknown : (s : ReceiverHears put a b) → knows_ending s.after.receiver ≡ false
   hears-unknown s =
       let t : IsTrueForth put s.heard = is-true-of s.rest s.heard s.front in
-      let h : ReceiverAfter = receiver_hears Done s.heard s.octets s.files s.receiver in
-      let is : s.after ≡ h = after-is Done s.heard s.octets s.files s.receiver s.after s.is_after in
+      let h : ReceiverAfter = receiver_hears Done s.large s.heard s.octets s.files s.receiver in
+      let is : s.after ≡ h = after-is Done s.large s.heard s.octets s.files s.receiver s.after s.is_after in
       let good : one_tells (spoils put.id) h.told ≡ false = ap (λ (d : ReceiverAfter). one_tells (spoils put.id) d.told) (sym is) ∙ (tells-well put false s.after.told (heard-good put a b s t)).good in
       let true_ : IsReceiverTrue put s.receiver = subst (IsMaybeTrue put) s.is_receiver c.truth.receiver in
       ap (λ (d : ReceiverAfter). knows_ending d.receiver) is
-      ∙ advances-unknown put s.heard s.receiver h.receiver h.told (hears-advances put Done s.octets s.files s.receiver true_ s.own s.heard t good) (parts s.rest s.heard s.front).0
+      ∙ advances-unknown put s.heard s.receiver h.receiver h.told (hears-advances put Done s.large s.octets s.files s.receiver true_ s.own s.heard t good) (parts s.rest s.heard s.front).0
       (unknown-at s.receiver s.is_receiver)
 
   opens-unknown : (s : ReceiverOpens put a b) → knows_ending s.receiver ≡ false
@@ -222,7 +222,7 @@ module _ (put : Put) (a b : Exchange) (c : CourseIn put false false false false 
       let truth : IsTrueBetween put a.sender (Some r) a.forth a.back a.told a.told_there = as-opened put s.addressing a.sender a.forth a.back a.told a.told_there
       (subst (λ o. IsTrueBetween put a.sender o a.forth a.back a.told a.told_there) s.none c.truth) in
       ap knows_ending w.receiver
-      ∙ advances-unknown put s.heard r h.receiver h.told (hears-advances put Done map.empty s.files r truth.receiver s.own s.heard t (tells-well put false h.told w.good).good)
+      ∙ advances-unknown put s.heard r h.receiver h.told (hears-advances put Done s.large map.empty s.files r truth.receiver s.own s.heard t (tells-well put false h.told w.good).good)
       (parts s.rest s.heard s.front).0 refl
 
   settles-unheard : Settles put a b → Unheard b

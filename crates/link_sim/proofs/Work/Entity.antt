@@ -1,5 +1,5 @@
 -- Each PDU that an entity sends, loses or hears lowers what it may still do.
-use Rattle.std.proofs.Common.{◌≡◌, inl, inr, ℕ, zero, suc, ◌+◌, ◌*◌, ◌<◌, ◌≤◌, true, List, [], ◌∷◌, ◌++◌, length, sum_by, take, slice_get, get_or, Option, Some, None, is_some, refl, sym, ap, subst, ◌∙◌, arith, false}
+use Rattle.std.proofs.Common.{◌≡◌, inl, inr, ℕ, zero, suc, ◌+◌, ◌*◌, ◌<◌, ◌≤◌, Bool, true, List, [], ◌∷◌, ◌++◌, length, sum_by, take, slice_get, get_or, Option, Some, None, is_some, refl, sym, ap, subst, ◌∙◌, arith}
 use Rattle.std.specs.FinMap as map
 use Rattle.std.proofs.lemmas.List.{length-append}
 use Rattle.std.proofs.lemmas.List.Sums.{sum_by_push, sum_by-cons, sum_by-append}
@@ -10,8 +10,9 @@ use Rattle.cfdp_directives.specs.declared.pdu.addressing.Addressing.{Addressing}
 use Rattle.cfdp_directives.specs.declared.pdu.error.PduError.{PduError}
 use Rattle.cfdp_directives.specs.declared.user.limits.Times.{Times}
 use Rattle.cfdp_directives.specs.Pdu.Addressing.{header_of}
+use Rattle.cfdp_directives.specs.Pdu.Codes.{size_limit}
 use Rattle.cfdp_directives.specs.Pdu.Content.{Content, FileData, Metadata, Eof, Finished, Ack, Nak, Prompt, KeepAlive}
-use Rattle.cfdp_directives.specs.Pdu.Small.{small_pdu_fault}
+use Rattle.cfdp_directives.specs.Pdu.Faults.{pdu_fault}
 use Rattle.cfdp_directives.specs.User.Put.{Put}
 use Rattle.cfdp_store.specs.declared.stored.Stored.{Stored}
 use Rattle.cfdp_store.specs.declared.stored.Stored.TheVariants.{Done, Refused}
@@ -23,7 +24,7 @@ use Rattle.cfdp_sender.specs.InFile.{IsInFile}
 use Rattle.cfdp_sender.specs.Due.{sender_due, sender_says}
 use Rattle.cfdp_sender.specs.Steps.{SenderAfter, sender_sends, asks_in}
 use Rattle.cfdp_receiver.specs.declared.due.Due.{Due}
-use Rattle.cfdp_receiver.specs.State.{ReceiverState, opened_receiver, size_limit}
+use Rattle.cfdp_receiver.specs.State.{ReceiverState, opened_receiver}
 use Rattle.cfdp_receiver.specs.Due.{receiver_due, receiver_says, receiver_taken}
 use Rattle.cfdp_receiver.specs.Steps.{ReceiverAfter}
 use Rattle.cfdp_entity.specs.declared.error.EntityDrop.{EntityDrop}
@@ -31,7 +32,7 @@ use Rattle.cfdp_entity.specs.Entity.{EntityState, Counted, own_id, dropped}
 use Rattle.cfdp_entity.specs.Hearing.{FindsNoMemory, HearsOctets, DropsOctets}
 use Rattle.cfdp_entity.specs.Opening.{opens, opens_by, begins, closing}
 use Rattle.cfdp_entity.specs.Polling.{Turn, Stray, Place, Rests, turn_by, turn, turn_octets, served}
-use Rattle.cfdp_entity.specs.Seen.{Seen, Sends, Receives, is_due, due_content, sender_content, receiver_content}
+use Rattle.cfdp_entity.specs.Seen.{Seen, Sends, Receives, large_of, is_due, due_content, sender_content, receiver_content}
 use Rattle.cfdp_entity.specs.Sending.{SendsTruth, SendsItsPut}
 use Rattle.cfdp_entity.specs.Sound.{SpellsDue, SpellsEntry, SpellsTurn}
 use Rattle.cfdp_entity.specs.Steps.{After, Spoils, hears, takes, sender_takes, receiver_takes, if_sender, if_receiver, sender_after, receiver_after}
@@ -180,19 +181,19 @@ module _ (most : ℕ) (e : EntityState) where
     work-served v says = turn-done e.strays (next_due e.cursor e.table.records) v refl says
 
     -- its octets
-    due-spelled : (o : Option Content) (a : Addressing) (octets : List ℕ) → SpellsDue o a octets → (v : Content) × ((o ≡ Some v) × (text_work most octets ≡ content_work most v))
-    due-spelled None a octets h = absurd h
-    due-spelled (Some v) a octets h = (v, (refl, text-work most (header_of a false v) v octets h))
+    due-spelled : (large : Bool) (o : Option Content) (a : Addressing) (octets : List ℕ) → SpellsDue large o a octets → (v : Content) × ((o ≡ Some v) × (text_work most octets ≡ content_work most v))
+    due-spelled large None a octets h = absurd h
+    due-spelled large (Some v) a octets h = (v, (refl, text-work most (header_of a large v) v octets h))
 
     entry-spelled : (place : ℕ) (o : Option Entry) → slice_get e.table.records place ≡ o → SpellsEntry e.table.sources o → (v : Content)
         × ((turn_says (Place place) e ≡ Some v) × (text_work most (turn_octets (Place place) e) ≡ content_work most v))
     entry-spelled place None at h = absurd h
     entry-spelled place (Some d) at h =
-        let s = due-spelled (due_content e.table.sources d.1) _ _ h in
+        let s = due-spelled (large_of d.1) (due_content e.table.sources d.1) _ _ h in
         (s.0, (ap (entry_says e.table.sources) at ∙ s.1.0, ap (λ o. text_work most (octets_due e.table.sources o)) at ∙ s.1.1))
 
     turn-spelled : (t : Turn) → SpellsTurn t e → (v : Content) × ((turn_says t e ≡ Some v) × (text_work most (turn_octets t e) ≡ content_work most v))
-    turn-spelled (Stray s strays) h = due-spelled (Some (stray_says s)) s.addressing _ h
+    turn-spelled (Stray s strays) h = due-spelled s.large (Some (stray_says s)) s.addressing _ h
     turn-spelled (Place place) h = entry-spelled place (slice_get e.table.records place) refl h
     turn-spelled Rests h = absurd h
 
@@ -245,17 +246,17 @@ if-sender-works most times files v x (Some a) within is =
     let h : sender_work most a.sender + 1 ≤ sender_work most x + content_work most v = sender-hears-works most v x a within is in omega (arith, h)
 if-sender-works most times files v x None within is = omega arith
 
-if-receiver-works : (most : ℕ) (times : Times) (files : FileMap) (stored : Stored) (v : Content) (r : ReceiverState) (m : OctetMap) (o : Option ReceiverAfter) → receiver_after stored v m files r ≡ o
-    → seen_work most (if_receiver times files r m o).seen ≤ receiver_work most r + heard_work most v
-if-receiver-works most times files stored v r m (Some a) is =
-    let h : receiver_work most a.receiver + 1 ≤ receiver_work most r + heard_work most v = receiver-after-works most stored v m files r a is in omega (arith, h)
-if-receiver-works most times files stored v r m None is = omega arith
+if-receiver-works : (most : ℕ) (times : Times) (files : FileMap) (stored : Stored) (large : Bool) (v : Content) (r : ReceiverState) (m : OctetMap) (o : Option ReceiverAfter) →
+    receiver_after stored large v m files r ≡ o → seen_work most (if_receiver times files r m o).seen ≤ receiver_work most r + heard_work most v
+if-receiver-works most times files stored large v r m (Some a) is =
+    let h : receiver_work most a.receiver + 1 ≤ receiver_work most r + heard_work most v = receiver-after-works most stored large v m files r a is in omega (arith, h)
+if-receiver-works most times files stored large v r m None is = omega arith
 
-hears-works : (most : ℕ) (stored : Stored) (times : Times) (files : FileMap) (v : Content) (s : Seen) → IsSeenWithin most s → Leaves most v s (hears stored times files v s).seen
-hears-works most stored times files v (Sends x) within = if-sender-works most times files v x (sender_after v x) within.size refl
-hears-works most stored times files v (Receives r m) within =
-    let h : seen_work most (hears stored times files v (Receives r m)).seen ≤ receiver_work most r + heard_work most v =
-    if-receiver-works most times files stored v r m (receiver_after stored v m files r) refl in omega (arith, h)
+hears-works : (most : ℕ) (stored : Stored) (times : Times) (files : FileMap) (large : Bool) (v : Content) (s : Seen) → IsSeenWithin most s → Leaves most v s (hears stored times files large v s).seen
+hears-works most stored times files large v (Sends x) within = if-sender-works most times files v x (sender_after v x) within.size refl
+hears-works most stored times files large v (Receives r m) within =
+    let h : seen_work most (hears stored times files large v (Receives r m)).seen ≤ receiver_work most r + heard_work most v =
+    if-receiver-works most times files stored large v r m (receiver_after stored large v m files r) refl in omega (arith, h)
 
 same-works : (most : ℕ) (v : Content) (s t : Seen) → t ≡ s → Leaves most v s t
 same-works most v s t is = let e : seen_work most t ≡ seen_work most s = ap (seen_work most) is in omega (arith, e)
@@ -276,18 +277,18 @@ spoils-works most (Eof condition checksum size tlvs) (Sends x) t within h = same
 spoils-works most (Prompt keep_alive) (Sends x) t within h = same-works most (Prompt keep_alive) (Sends x) t h
 
 -- a PDU opens a record
-begins-works : (most : ℕ) (begun stored : Stored) (times : Times) (files : FileMap) (v : Content) (a : Addressing) → opening_work v ≡ 5 → seen_work most (begins begun stored times files v a).seen
-    ≤ content_work most v
-begins-works most Done stored times files v a may =
-    let h : seen_work most (begins Done stored times files v a).seen ≤ receiver_work most (opened_receiver a) + heard_work most v =
-    if-receiver-works most times files stored v (opened_receiver a) map.empty (receiver_after stored v map.empty files (opened_receiver a)) refl in
+begins-works : (most : ℕ) (begun stored : Stored) (times : Times) (files : FileMap) (large : Bool) (v : Content) (a : Addressing) → opening_work v ≡ 5 →
+    seen_work most (begins begun stored times files large v a).seen ≤ content_work most v
+begins-works most Done stored times files large v a may =
+    let h : seen_work most (begins Done stored times files large v a).seen ≤ receiver_work most (opened_receiver a) + heard_work most v =
+    if-receiver-works most times files stored large v (opened_receiver a) map.empty (receiver_after stored large v map.empty files (opened_receiver a)) refl in
     omega (arith, h, may)
-begins-works most Refused stored times files v a may = let h = opens-hearing-works most Refused stored v files a may in omega (arith, h)
+begins-works most Refused stored times files large v a may = let h = opens-hearing-works most Refused stored large v files a may in omega (arith, h)
 
-opens-works : (most : ℕ) (o : Option ℕ) (begun stored : Stored) (times : Times) (files : FileMap) (v : Content) (a : Addressing) → opening_work v ≡ 5 →
-    seen_work most (opens_by o begun stored times files v a).seen ≤ content_work most v
-opens-works most (Some condition) begun stored times files v a may = let h = opened-closed-works most condition v a may in omega (arith, h)
-opens-works most None begun stored times files v a may = begins-works most begun stored times files v a may
+opens-works : (most : ℕ) (o : Option ℕ) (begun stored : Stored) (times : Times) (files : FileMap) (large : Bool) (v : Content) (a : Addressing) → opening_work v ≡ 5 →
+    seen_work most (opens_by o begun stored times files large v a).seen ≤ content_work most v
+opens-works most (Some condition) begun stored times files large v a may = let h = opened-closed-works most large condition v a may in omega (arith, h)
+opens-works most None begun stored times files large v a may = begins-works most begun stored times files large v a may
 
 -- ---- an entity hears a PDU
 module _ (most : ℕ) (v : Content) where
@@ -295,33 +296,35 @@ module _ (most : ℕ) (v : Content) where
   EntityLeaves old new = entity_work most new ≤ entity_work most old + content_work most v
 
   -- a record at a place that hears it
-  place-heard : (e new : EntityState) (place : ℕ) (stored : Stored) (o : Option Entry) → AreWithin most e.table.records → slice_get e.table.records place ≡ o
-      → new ≡ record e { table = heard_at stored place v e.table } → EntityLeaves e new
+  place-heard : (e new : EntityState) (large : Bool) (place : ℕ) (stored : Stored) (o : Option Entry) → AreWithin most e.table.records → slice_get e.table.records place ≡ o
+      → new ≡ record e { table = heard_at stored place large v e.table } → EntityLeaves e new
   unfolding entity_work
-  place-heard e new place stored o within at is = subst (EntityLeaves e) (sym is) (by o at)
+  place-heard e new large place stored o within at is = subst (EntityLeaves e) (sym is) (by o at)
     where
-      by : (o : Option Entry) → slice_get e.table.records place ≡ o → EntityLeaves e (record e { table = heard_at stored place v e.table })
+      by : (o : Option Entry) → slice_get e.table.records place ≡ o → EntityLeaves e (record e { table = heard_at stored place large v e.table })
       by None at =
-          let f : Entry → After = λ d. hears stored e.table.policy.times e.table.files v d.1 in
-          let same : sum_by (entry_work most) (heard_at stored place v e.table).records ≡ sum_by (entry_work most) e.table.records =
+          let f : Entry → After = λ d. hears stored e.table.policy.times e.table.files large v d.1 in
+          let same : sum_by (entry_work most) (heard_at stored place large v e.table).records ≡ sum_by (entry_work most) e.table.records =
           ap (λ o. sum_by (entry_work most) (step_of f place o e.table).records) at in
           omega (arith, same)
       by (Some d) at =
-          let f : Entry → After = λ d. hears stored e.table.policy.times e.table.files v d.1 in
-          let s : Seen = (hears stored e.table.policy.times e.table.files v d.1).seen in
-          let same : sum_by (entry_work most) (heard_at stored place v e.table).records ≡ sum_by (entry_work most) (written e.table d.0 e.table.records place s) =
+          let f : Entry → After = λ d. hears stored e.table.policy.times e.table.files large v d.1 in
+          let s : Seen = (hears stored e.table.policy.times e.table.files large v d.1).seen in
+          let same : sum_by (entry_work most) (heard_at stored place large v e.table).records ≡ sum_by (entry_work most) (written e.table d.0 e.table.records place s) =
           ap (λ o. sum_by (entry_work most) (step_of f place o e.table).records) at in
           let sum : sum_by (entry_work most) (written e.table d.0 e.table.records place s) + seen_work most d.1 ≡ sum_by (entry_work most) e.table.records + seen_work most s =
           sum-set most e.table d.0 e.table.records place d s at in
-          let h : seen_work most s ≤ seen_work most d.1 + content_work most v = hears-works most stored e.table.policy.times e.table.files v d.1 (within-at most e.table.records place d within at) in
+          let h : seen_work most s ≤ seen_work most d.1 + content_work most v = hears-works most stored e.table.policy.times e.table.files large v d.1
+          (within-at most e.table.records place d within at) in
           omega (arith, same, sum, h)
 
-  record-opened : (e new : EntityState) (begun stored : Stored) (a : Addressing) → opening_work v ≡ 5 → new ≡ record e { table = opened_by begun stored a v e.table } → EntityLeaves e new
+  record-opened : (e new : EntityState) (begun stored : Stored) (a : Addressing) (large : Bool) → opening_work v ≡ 5 → new ≡ record e { table = opened_by begun stored a large v e.table } →
+      EntityLeaves e new
   unfolding entity_work
-  record-opened e new begun stored a may is =
-      let s : Seen = (opens begun stored e.table.policy.times e.table.files v a).seen in
+  record-opened e new begun stored a large may is =
+      let s : Seen = (opens begun stored e.table.policy.times e.table.files large v a).seen in
       let sum : sum_by (entry_work most) (e.table.records ++ (a.id, s) ∷ []) ≡ sum_by (entry_work most) e.table.records + seen_work most s = sum_by_push (entry_work most) e.table.records (a.id, s) in
-      let h : seen_work most s ≤ content_work most v = opens-works most (closing v) begun stored e.table.policy.times e.table.files v a may in
+      let h : seen_work most s ≤ content_work most v = opens-works most (closing v) begun stored e.table.policy.times e.table.files large v a may in
       subst (EntityLeaves e) (sym is) (omega (arith, sum, h))
 
   finished-work : (w : Content) → IsFinished w → 3 ≤ content_work most w
@@ -369,8 +372,8 @@ module _ (most : ℕ) (v : Content) where
       omega (arith, strays, h)
 
   taken-works : (h : Header) (old new : Counted) → AreWithin most old.state.table.records → Taken h v old new → EntityLeaves old.state new.state
-  taken-works h old new within (Steps place t) = place-heard old.state new.state place t.stored (slice_get old.state.table.records place) within refl t.steps
-  taken-works h old new within (Opens a may t) = record-opened old.state new.state t.begun t.stored a may t.opens
+  taken-works h old new within (Steps place t) = place-heard old.state new.state h.large place t.stored (slice_get old.state.table.records place) within refl t.steps
+  taken-works h old new within (Opens a may t) = record-opened old.state new.state t.begun t.stored a h.large may t.opens
   taken-works h old new within (Queues s of_end is) = stray-queued old.state new.state s of_end is
 
   dropped-works : (old new : Counted) → AreWithin most old.state.table.records → Dropped v old new → EntityLeaves old.state new.state
@@ -409,18 +412,18 @@ module _ (most : ℕ) where
   unfolding texts_work
   work-append texts more = sum_by-append (text_work most) texts more
 
-  module _ (limit : size_limit ≤ most) where
+  module _ (limit : size_limit true ≤ most) where
     pub within-hears-all : (given : List (List ℕ)) (old new : Counted) → AreWithin most old.state.table.records → HearsAll given old new → AreWithin most new.state.table.records
     within-hears-all [] old new within h = subst (λ (c : Counted). AreWithin most c.state.table.records) (sym h) within
     within-hears-all (pdu ∷ pdus) old new within h = within-hears-all pdus h.0 new (one h.1) h.2
       where
         one : HearsPdu pdu old h.0 → AreWithin most h.0.state.table.records
         one (inl t) = within-heard most limit pdu old h.0 t within
-        one (inr d) = within-dropped most limit (small_pdu_fault pdu) pdu d.0 old h.0 d.1 within
+        one (inr d) = within-dropped most limit (pdu_fault pdu) pdu d.0 old h.0 d.1 within
 
     one-pdu : (pdu : List ℕ) (old new : Counted) → AreWithin most old.state.table.records → HearsPdu pdu old new → entity_work most new.state ≤ entity_work most old.state + text_work most pdu
     one-pdu pdu old new within (inl t) = work-heard pdu old new within t
-    one-pdu pdu old new within (inr d) = work-dropped (small_pdu_fault pdu) pdu d.0 old new within d.1
+    one-pdu pdu old new within (inr d) = work-dropped (pdu_fault pdu) pdu d.0 old new within d.1
 
     pub work-hears-all : (given : List (List ℕ)) (old new : Counted) → AreWithin most old.state.table.records → HearsAll given old new → entity_work most new.state ≤ entity_work most old.state
         + texts_work most given

@@ -23,12 +23,12 @@ use Rattle.cfdp_receiver.specs.declared.state.ReceiverPhase.{ReceiverPhase}
 use Rattle.cfdp_receiver.specs.declared.state.ReceiverPhase.TheVariants.{Receiving, Finishing, Closed}
 use Rattle.cfdp_receiver.specs.declared.state.FileInfo.{FileInfo}
 use Rattle.cfdp_receiver.specs.declared.state.Ending.{Ending}
-use Rattle.cfdp_receiver.specs.State.{ReceiverState, opened_receiver, is_receiving, is_finishing}
+use Rattle.cfdp_receiver.specs.State.{ReceiverState, opened_receiver, flagged, is_receiving, is_finishing}
 use Rattle.cfdp_receiver.specs.Missing.{limit_by, scope_limit, missing_pairs, is_empty, asked, has_more, last_end, next_cursor, cursor_by, tidied}
 use Rattle.cfdp_receiver.specs.Due.{keep_alive_first, pairs_first, nak_first, finished_by, phase_due, ack_first, receiver_due, receiver_says, receiver_taken}
 use Rattle.cfdp_receiver.specs.Pieces.{new_pieces, staged_with}
 use Rattle.cfdp_receiver.specs.Steps.{ReceiverAfter, leaving, telling, heard, closed, faulted, agrees, published_by, completed_by, completed, is_supported, receives_metadata, exceeds, with_data, receives_new, receives_data, contradicts, first_eof, cancelled_by, receives_eof, acknowledged_by, prompted_for, opened_closed}
-use Rattle.cfdp_receiver.specs.Sound.{receiver_hears, opens_hearing}
+use Rattle.cfdp_receiver.specs.Sound.{hears_content, receiver_hears, opens_hearing}
 use Rattle.cfdp_entity.specs.Steps.{receiver_after}
 use Rattle.link_sim.specs.Work.{nak_work, nak_due_work, heard_work, opening_work, content_work, ack_work, cursor_work, receiving_work, receiver_work, IsReceiverWithin}
 
@@ -242,33 +242,33 @@ module _ (most : ℕ) (files : FileMap) where
   new-works Done offset bytes m r is = completed_by-works Done r.metadata r.ending (staged_with m (new_pieces r.held offset bytes)) (with_data offset bytes r) is
   new-works Refused offset bytes m r is = omega arith
 
-  data-works : (stored : Stored) (offset : ℕ) (bytes : List ℕ) (m : OctetMap) (r : ReceiverState) → r.phase ≡ Receiving →
-      LeavesWithin most (open_work most r) (receives_data stored offset bytes m files r)
-  data-works stored offset bytes m r is =
-      cond_both (exceeds r.ending (offset + length bytes)) (faulted file_size_error m files r)
+  data-works : (stored : Stored) (large : Bool) (offset : ℕ) (bytes : List ℕ) (m : OctetMap) (r : ReceiverState) → r.phase ≡ Receiving →
+      LeavesWithin most (open_work most r) (receives_data stored large offset bytes m files r)
+  data-works stored large offset bytes m r is =
+      cond_both (exceeds large r.ending (offset + length bytes)) (faulted file_size_error m files r)
       (if set.is_subset (range offset (offset + length bytes)) r.held then completed stored m files r else receives_new stored offset bytes m files r) (LeavesWithin most (open_work most r))
       (λ _. omega arith)
       (λ _. cond_both (set.is_subset (range offset (offset + length bytes)) r.held) (completed stored m files r) (receives_new stored offset bytes m files r) (LeavesWithin most (open_work most r))
       (λ _. completed_by-works stored r.metadata r.ending m r is)
       (λ _. new-works stored offset bytes m r is))
 
-  first_eof-works : (stored : Stored) (checksum size : ℕ) (m : OctetMap) (r : ReceiverState) → r.phase ≡ Receiving →
-      LeavesWithin most (open_work most r + nak_due_work most 0 + 2) (first_eof stored checksum size m files r)
-  first_eof-works stored checksum size m r is =
+  first_eof-works : (stored : Stored) (large : Bool) (checksum size : ℕ) (m : OctetMap) (r : ReceiverState) → r.phase ≡ Receiving →
+      LeavesWithin most (open_work most r + nak_due_work most 0 + 2) (first_eof stored large checksum size m files r)
+  first_eof-works stored large checksum size m r is =
       let r1 : ReceiverState = record r { ending = Some (record { checksum = checksum; size = size }); ack_due = Some no_error; nak_cursor = Some 0 } in
-      cond_both (contradicts size r) (faulted file_size_error m files r1) (completed stored m files r1) (LeavesWithin most (open_work most r + nak_due_work most 0 + 2))
+      cond_both (contradicts large size r) (faulted file_size_error m files r1) (completed stored m files r1) (LeavesWithin most (open_work most r + nak_due_work most 0 + 2))
       (λ _. omega arith) (λ _. let h : LeavesWithin most (open_work most r1) (completed stored m files r1) = completed_by-works stored r1.metadata r1.ending m r1 is in omega (arith, h))
 
-  eof-works : (stored : Stored) (condition checksum size : ℕ) (m : OctetMap) (r : ReceiverState) → r.phase ≡ Receiving →
-      LeavesWithin most (open_work most r + nak_due_work most 0 + 2) (receives_eof stored condition checksum size m files r)
-  eof-works stored condition checksum size m r is =
+  eof-works : (stored : Stored) (large : Bool) (condition checksum size : ℕ) (m : OctetMap) (r : ReceiverState) → r.phase ≡ Receiving →
+      LeavesWithin most (open_work most r + nak_due_work most 0 + 2) (receives_eof stored large condition checksum size m files r)
+  eof-works stored large condition checksum size m r is =
       cond_both (not (condition == no_error)) (cancelled_by condition m files r)
-      (if is_none r.ending then first_eof stored checksum size m files r else leaving m files (record r { ack_due = Some no_error; nak_cursor = Some 0 }))
+      (if is_none r.ending then first_eof stored large checksum size m files r else leaving m files (record r { ack_due = Some no_error; nak_cursor = Some 0 }))
       (LeavesWithin most (open_work most r + nak_due_work most 0 + 2))
       (λ _. omega arith)
-      (λ _. cond_both (is_none r.ending) (first_eof stored checksum size m files r) (leaving m files (record r { ack_due = Some no_error; nak_cursor = Some 0 }))
+      (λ _. cond_both (is_none r.ending) (first_eof stored large checksum size m files r) (leaving m files (record r { ack_due = Some no_error; nak_cursor = Some 0 }))
       (LeavesWithin most (open_work most r + nak_due_work most 0 + 2))
-      (λ _. first_eof-works stored checksum size m r is)
+      (λ _. first_eof-works stored large checksum size m r is)
       (λ _. rw is (omega arith)))
 
   prompt-works : (keep_alive : Bool) (m : OctetMap) (r : ReceiverState) → r.phase ≡ Receiving →
@@ -280,56 +280,60 @@ module _ (most : ℕ) (files : FileMap) where
 abbrev pub Lowers : ℕ → Content → ReceiverState → ReceiverAfter → Type 0
 Lowers most v r a = receiver_work most a.receiver + 1 ≤ receiver_work most r + heard_work most v
 
-pub receiver-hears-works : (most : ℕ) (stored : Stored) (v : Content) (m : OctetMap) (files : FileMap) (r : ReceiverState) → Lowers most v r (receiver_hears stored v m files r)
-receiver-hears-works most stored (Metadata kind size source destination options) m files r =
-    let h : LeavesWithin most (receiver_work most r) (receiver_hears stored (Metadata kind size source destination options) m files r) =
+content-works : (most : ℕ) (stored : Stored) (large : Bool) (v : Content) (m : OctetMap) (files : FileMap) (r : ReceiverState) → Lowers most v r (hears_content stored large v m files r)
+content-works most stored large (Metadata kind size source destination options) m files r =
+    let h : LeavesWithin most (receiver_work most r) (hears_content stored large (Metadata kind size source destination options) m files r) =
     by-phase most (receiver_work most r) r (receives_metadata stored kind size source destination m files r) (leaving m files r)
     (λ is. omega (arith, metadata-works most files stored kind size source destination m r is, receiving-works most r is)) (omega arith) in
     omega (arith, h)
-receiver-hears-works most stored (FileData offset bytes) m files r =
-    let h : LeavesWithin most (receiver_work most r) (receiver_hears stored (FileData offset bytes) m files r) =
-    by-phase most (receiver_work most r) r (receives_data stored offset bytes m files r) (leaving m files r)
-    (λ is. omega (arith, data-works most files stored offset bytes m r is, receiving-works most r is)) (omega arith) in
+content-works most stored large (FileData offset bytes) m files r =
+    let h : LeavesWithin most (receiver_work most r) (hears_content stored large (FileData offset bytes) m files r) =
+    by-phase most (receiver_work most r) r (receives_data stored large offset bytes m files r) (leaving m files r)
+    (λ is. omega (arith, data-works most files stored large offset bytes m r is, receiving-works most r is)) (omega arith) in
     omega (arith, h)
-receiver-hears-works most stored (Eof condition checksum size tlvs) m files r =
-    let h : LeavesWithin most (receiver_work most r + nak_due_work most 0 + 2) (receiver_hears stored (Eof condition checksum size tlvs) m files r) =
-    by-phase most (receiver_work most r + nak_due_work most 0 + 2) r (receives_eof stored condition checksum size m files r) (leaving m files (record r { ack_due = Some condition }))
-    (λ is. omega (arith, eof-works most files stored condition checksum size m r is, receiving-works most r is)) (omega arith) in
+content-works most stored large (Eof condition checksum size tlvs) m files r =
+    let h : LeavesWithin most (receiver_work most r + nak_due_work most 0 + 2) (hears_content stored large (Eof condition checksum size tlvs) m files r) =
+    by-phase most (receiver_work most r + nak_due_work most 0 + 2) r (receives_eof stored large condition checksum size m files r) (leaving m files (record r { ack_due = Some condition }))
+    (λ is. omega (arith, eof-works most files stored large condition checksum size m r is, receiving-works most r is)) (omega arith) in
     omega (arith, h)
-receiver-hears-works most stored (Ack acknowledged.Finished condition status) m files r =
+content-works most stored large (Ack acknowledged.Finished condition status) m files r =
     let g : LeavesWithin most (receiver_work most r) (leaving m files (acknowledged_by r)) =
     cond_both (is_finishing r.phase && r.finished_taken) (closed r) r (λ (r1 : ReceiverState). receiver_work most r1 ≤ receiver_work most r) (λ _. omega arith) (λ _. omega arith) in
-    let h : LeavesWithin most (receiver_work most r) (receiver_hears stored (Ack acknowledged.Finished condition status) m files r) =
+    let h : LeavesWithin most (receiver_work most r) (hears_content stored large (Ack acknowledged.Finished condition status) m files r) =
     heard-works most (receiver_work most r) (leaving m files (acknowledged_by r)) g in
     omega (arith, h)
-receiver-hears-works most stored (Prompt keep_alive) m files r =
+content-works most stored large (Prompt keep_alive) m files r =
     let g : LeavesWithin most (receiver_work most r + nak_due_work most 0 + 2) (leaving m files (if is_receiving r.phase then prompted_for keep_alive r else r)) =
     cond_both (is_receiving r.phase) (prompted_for keep_alive r) r (λ (r1 : ReceiverState). receiver_work most r1 ≤ receiver_work most r + nak_due_work most 0 + 2)
     (λ is. omega (arith, prompt-works most files keep_alive m r (receives r.phase is), receiving-works most r (receives r.phase is))) (λ _. omega arith) in
-    let h : LeavesWithin most (receiver_work most r + nak_due_work most 0 + 2) (receiver_hears stored (Prompt keep_alive) m files r) =
+    let h : LeavesWithin most (receiver_work most r + nak_due_work most 0 + 2) (hears_content stored large (Prompt keep_alive) m files r) =
     heard-works most (receiver_work most r + nak_due_work most 0 + 2) (leaving m files (if is_receiving r.phase then prompted_for keep_alive r else r)) g in
     omega (arith, h)
-receiver-hears-works most stored (Ack acknowledged.Eof condition status) m files r = omega arith
-receiver-hears-works most stored (Finished condition delivery status tlvs) m files r = omega arith
-receiver-hears-works most stored (Nak start end pairs) m files r = omega arith
-receiver-hears-works most stored (KeepAlive progress) m files r = omega arith
+content-works most stored large (Ack acknowledged.Eof condition status) m files r = omega arith
+content-works most stored large (Finished condition delivery status tlvs) m files r = omega arith
+content-works most stored large (Nak start end pairs) m files r = omega arith
+content-works most stored large (KeepAlive progress) m files r = omega arith
+
+pub receiver-hears-works : (most : ℕ) (stored : Stored) (large : Bool) (v : Content) (m : OctetMap) (files : FileMap) (r : ReceiverState) → Lowers most v r (receiver_hears stored large v m files r)
+receiver-hears-works most stored large v m files r = content-works most stored large v m files (flagged large r)
 
 -- the step of an entity's record is that of the machine
-pub after-is : (stored : Stored) (v : Content) (m : OctetMap) (files : FileMap) (r : ReceiverState) (a : ReceiverAfter) → receiver_after stored v m files r ≡ Some a → a
-    ≡ receiver_hears stored v m files r
-after-is stored (Metadata kind size source destination options) m files r a e = cc
-after-is stored (FileData offset bytes) m files r a e = cc
-after-is stored (Eof condition checksum size tlvs) m files r a e = cc
-after-is stored (Ack acknowledged.Finished condition status) m files r a e = cc
-after-is stored (Prompt keep_alive) m files r a e = cc
-after-is stored (Ack acknowledged.Eof condition status) m files r a e = absurd cc
-after-is stored (Finished condition delivery status tlvs) m files r a e = absurd cc
-after-is stored (Nak start end pairs) m files r a e = absurd cc
-after-is stored (KeepAlive progress) m files r a e = absurd cc
+pub after-is : (stored : Stored) (large : Bool) (v : Content) (m : OctetMap) (files : FileMap) (r : ReceiverState) (a : ReceiverAfter) → receiver_after stored large v m files r ≡ Some a → a
+    ≡ receiver_hears stored large v m files r
+after-is stored large (Metadata kind size source destination options) m files r a e = cc
+after-is stored large (FileData offset bytes) m files r a e = cc
+after-is stored large (Eof condition checksum size tlvs) m files r a e = cc
+after-is stored large (Ack acknowledged.Finished condition status) m files r a e = cc
+after-is stored large (Prompt keep_alive) m files r a e = cc
+after-is stored large (Ack acknowledged.Eof condition status) m files r a e = absurd cc
+after-is stored large (Finished condition delivery status tlvs) m files r a e = absurd cc
+after-is stored large (Nak start end pairs) m files r a e = absurd cc
+after-is stored large (KeepAlive progress) m files r a e = absurd cc
 
-pub receiver-after-works : (most : ℕ) (stored : Stored) (v : Content) (m : OctetMap) (files : FileMap) (r : ReceiverState) (a : ReceiverAfter) → receiver_after stored v m files r ≡ Some a →
+pub receiver-after-works : (most : ℕ) (stored : Stored) (large : Bool) (v : Content) (m : OctetMap) (files : FileMap) (r : ReceiverState) (a : ReceiverAfter) →
+    receiver_after stored large v m files r ≡ Some a →
     Lowers most v r a
-receiver-after-works most stored v m files r a e = subst (Lowers most v r) (sym (after-is stored v m files r a e)) (receiver-hears-works most stored v m files r)
+receiver-after-works most stored large v m files r a e = subst (Lowers most v r) (sym (after-is stored large v m files r a e)) (receiver-hears-works most stored large v m files r)
 
 -- ---- opening
 pub heard-some : (most : ℕ) (v : Content) → 1 ≤ heard_work most v
@@ -343,13 +347,14 @@ heard-some most (Prompt keep_alive) = omega arith
 heard-some most (KeepAlive progress) = omega arith
 
 -- a PDU that opens a receiver counted it
-pub opens-hearing-works : (most : ℕ) (begun stored : Stored) (v : Content) (files : FileMap) (addressing : Addressing) → opening_work v ≡ 5 →
-    receiver_work most (opens_hearing begun stored v files addressing).receiver + 1 ≤ content_work most v
-opens-hearing-works most Done stored v files addressing may =
-    let h : Lowers most v (opened_receiver addressing) (receiver_hears stored v map.empty files (opened_receiver addressing)) =
-    receiver-hears-works most stored v map.empty files (opened_receiver addressing) in
+pub opens-hearing-works : (most : ℕ) (begun stored : Stored) (large : Bool) (v : Content) (files : FileMap) (addressing : Addressing) → opening_work v ≡ 5 →
+    receiver_work most (opens_hearing begun stored large v files addressing).receiver + 1 ≤ content_work most v
+opens-hearing-works most Done stored large v files addressing may =
+    let h : Lowers most v (opened_receiver addressing) (receiver_hears stored large v map.empty files (opened_receiver addressing)) =
+    receiver-hears-works most stored large v map.empty files (opened_receiver addressing) in
     omega (arith, h, may)
-opens-hearing-works most Refused stored v files addressing may = omega (arith, heard-some most v, may)
+opens-hearing-works most Refused stored large v files addressing may = omega (arith, heard-some most v, may)
 
-pub opened-closed-works : (most condition : ℕ) (v : Content) (addressing : Addressing) → opening_work v ≡ 5 → receiver_work most (opened_closed condition addressing) + 1 ≤ content_work most v
-opened-closed-works most condition v addressing may = omega (arith, heard-some most v, may)
+pub opened-closed-works : (most : ℕ) (large : Bool) (condition : ℕ) (v : Content) (addressing : Addressing) → opening_work v ≡ 5 →
+    receiver_work most (opened_closed large condition addressing) + 1 ≤ content_work most v
+opened-closed-works most large condition v addressing may = omega (arith, heard-some most v, may)

@@ -23,8 +23,8 @@ IsFinished _ = ⊥
 
 -- A PDU that was taken.
 pub data Taken (h : Header) (v : Content) (old new : Counted) : Type 0 where
-  Steps : (place : ℕ) (steps : StepsAt place v old new) → Taken h v old new
-  Opens : (a : Addressing) (may : opening_work v ≡ 5) (opens : OpensOne a v old new) → Taken h v old new
+  Steps : (place : ℕ) (steps : StepsAt place h.large v old new) → Taken h v old new
+  Opens : (a : Addressing) (may : opening_work v ≡ 5) (opens : OpensOne a h.large v old new) → Taken h v old new
   Queues : (s : StrayAck) (of_end : IsFinished v) (is : new.state ≡ queued s old.state) → Taken h v old new
 
 -- A PDU that was dropped.
@@ -36,7 +36,7 @@ module _ (h : Header) (old new : Counted) where
   module _ (v : Content) where
     opens-taken : (b : Bool) → opening_work v ≡ 5 → nat_lt (length old.state.table.records) most_records ≡ b → Takes (opens_record old.state) h v old new → Taken h v old new
     opens-taken true may is t =
-        let f : Takes (opens_record old.state) h v old new → OpensOne (addressing_of h) v old new = rw is (λ o. o) in
+        let f : Takes (opens_record old.state) h v old new → OpensOne (addressing_of h) h.large v old new = rw is (λ o. o) in
         Opens (addressing_of h) may (f t)
     opens-taken false may is t =
         let f : Takes (opens_record old.state) h v old new → ⊥ = rw is (λ o. o) in
@@ -74,7 +74,7 @@ module _ (h : Header) (old new : Counted) where
   new-taken (Metadata kind size source destination options) t = opens-taken (Metadata kind size source destination options) (nat_lt (length old.state.table.records) most_records) refl refl t
   new-taken (Eof condition checksum size tlvs) t = opens-taken (Eof condition checksum size tlvs) (nat_lt (length old.state.table.records) most_records) refl refl t
   new-taken (Finished condition delivery status tlvs) t =
-      queues-taken (Finished condition delivery status tlvs) (nat_lt (length old.state.strays) most_strays) (record { addressing = addressing_of h; condition = condition }) tt refl t
+      queues-taken (Finished condition delivery status tlvs) (nat_lt (length old.state.strays) most_strays) (record { addressing = addressing_of h; large = h.large; condition = condition }) tt refl t
   new-taken (Ack acknowledged.Eof condition status) t = absurd t
   new-taken (Ack acknowledged.Finished condition status) t = absurd t
   new-taken (Nak start end pairs) t = absurd t
@@ -86,7 +86,8 @@ module _ (h : Header) (old new : Counted) where
   new-dropped (Metadata kind size source destination options) by t = opens-dropped (Metadata kind size source destination options) (nat_lt (length old.state.table.records) most_records) by refl t
   new-dropped (Eof condition checksum size tlvs) by t = opens-dropped (Eof condition checksum size tlvs) (nat_lt (length old.state.table.records) most_records) by refl t
   new-dropped (Finished condition delivery status tlvs) by t =
-      queues-dropped (Finished condition delivery status tlvs) (nat_lt (length old.state.strays) most_strays) by (record { addressing = addressing_of h; condition = condition }) refl t
+      queues-dropped (Finished condition delivery status tlvs) (nat_lt (length old.state.strays) most_strays) by
+      (record { addressing = addressing_of h; large = h.large; condition = condition }) refl t
   new-dropped (Ack acknowledged.Eof condition status) by t = unknown (Ack acknowledged.Eof condition status) by t
   new-dropped (Ack acknowledged.Finished condition status) by t = unknown (Ack acknowledged.Finished condition status) by t
   new-dropped (Nak start end pairs) by t = unknown (Nak start end pairs) by t

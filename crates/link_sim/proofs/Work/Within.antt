@@ -1,12 +1,12 @@
 -- Every step of an entity keeps the bounds that its work needs.
-use Rattle.std.proofs.Common.{◌≡◌, ℕ, zero, suc, ◌+◌, ◌^◌, ◌<◌, ◌≤◌, min, Bool, true, false, not, List, [], ◌∷◌, ◌++◌, length, take, slice_get, Option, Some, None, is_none, is_some, refl, sym, ap, subst, ◌∙◌, arith, inl, inr, ◌==◌, ◌&&◌, nat_lt, nat_le, if◌then◌else◌}
+use Rattle.std.proofs.Common.{◌≡◌, ℕ, zero, suc, ◌+◌, ◌<◌, ◌≤◌, min, Bool, true, false, not, List, [], ◌∷◌, ◌++◌, length, take, slice_get, Option, Some, None, is_none, is_some, refl, sym, ap, subst, ◌∙◌, arith, inl, inr, ◌==◌, ◌&&◌, nat_lt, nat_le, if◌then◌else◌}
 use Rattle.std.specs.FinMap as map
 use Rattle.std.specs.FinSet as set
 use Rattle.std.specs.Option.{option_or}
 use Rattle.std.specs.Ordering.{nat_cmp}
 use Rattle.std.specs.Cmp.{nat_cmp_total}
 use Rattle.std.specs.Prelude.{unwrap_or}
-use Rattle.std.proofs.lemmas.Bool.{both_ways, ltb-true, ltb-false, and_parts, cond_both, or_cases, or_parts}
+use Rattle.std.proofs.lemmas.Bool.{both_ways, leb-true, ltb-true, ltb-false, and_parts, cond_both, or_cases, or_parts}
 use Rattle.cfdp_header.specs.declared.value.Header.{Header}
 use Rattle.cfdp_header.specs.declared.value.TransactionId.{TransactionId}
 use Rattle.cfdp_header.specs.Files.{FileMap}
@@ -21,9 +21,10 @@ use Rattle.cfdp_directives.specs.declared.user.handler.Handler.TheVariants.{Canc
 use Rattle.cfdp_directives.specs.declared.user.indication.Indication.TheVariants as indication
 use Rattle.cfdp_directives.specs.declared.user.policy.Policy.{Policy}
 use Rattle.cfdp_directives.specs.declared.user.telling.Outcome.{Outcome}
-use Rattle.cfdp_directives.specs.Pdu.Codes.{no_error, positive_ack_limit, nak_limit, inactivity, filestore_rejection, file_checksum_failure, file_size_error, unsupported_checksum_type, suspend_request, cancel_request}
+use Rattle.cfdp_directives.specs.Pdu.Codes.{size_limit, no_error, positive_ack_limit, nak_limit, inactivity, filestore_rejection, file_checksum_failure, file_size_error, unsupported_checksum_type, suspend_request, cancel_request}
 use Rattle.cfdp_directives.specs.Pdu.Content.{Content, FileData, Metadata, Eof, Finished, Ack, Nak, Prompt, KeepAlive}
 use Rattle.cfdp_directives.specs.User.Policy.{another_try}
+use Rattle.cfdp_directives.proofs.FileSizes.{limit_most}
 use Rattle.cfdp_store.specs.declared.stored.Stored.{Stored}
 use Rattle.cfdp_store.specs.declared.stored.Stored.TheVariants.{Done, Refused}
 use Rattle.cfdp_store.specs.Files.{octets_in}
@@ -45,12 +46,12 @@ use Rattle.cfdp_receiver.specs.declared.due.Due.{Due}
 use Rattle.cfdp_receiver.specs.declared.due.Due.TheVariants as due
 use Rattle.cfdp_receiver.specs.declared.state.FileInfo.{FileInfo}
 use Rattle.cfdp_receiver.specs.declared.state.Ending.{Ending}
-use Rattle.cfdp_receiver.specs.State.{ReceiverState, opened_receiver, is_receiving, is_finishing, size_limit}
+use Rattle.cfdp_receiver.specs.State.{ReceiverState, opened_receiver, flagged, is_receiving, is_finishing}
 use Rattle.cfdp_receiver.specs.Due.{receiver_due, receiver_taken}
 use Rattle.cfdp_receiver.specs.Pieces.{new_pieces, staged_with}
 use Rattle.cfdp_receiver.specs.Steps.{ReceiverAfter, leaving, telling, heard, tidying, ended, finishing, closed, ends, failed, complete, faulted, agrees, published_by, completed_by, completed, is_supported, receives_metadata, exceeds, with_data, receives_new, receives_data, contradicts, first_eof, cancelled_by, receives_eof, acknowledged_by, prompted_for, opened_closed, waits, handled, asking_again, nak_expires, finished_expires, expires_by, cancels, suspends, resumes}
 use Rattle.cfdp_receiver.specs.Steps as receiver
-use Rattle.cfdp_receiver.specs.Sound.{ReceiverInput, receiver_hears, receiver_step, opens_hearing}
+use Rattle.cfdp_receiver.specs.Sound.{ReceiverInput, hears_content, receiver_hears, receiver_step, opens_hearing}
 use Rattle.cfdp_receiver.specs.Sound as machine
 use Rattle.cfdp_entity.specs.declared.call.Call.{Call}
 use Rattle.cfdp_entity.specs.declared.call.Call.TheVariants as call
@@ -104,8 +105,8 @@ module _ (most : ℕ) where
   pub opened-within : (addressing : Addressing) → IsReceiverWithin most (opened_receiver addressing)
   opened-within addressing = record { held = λ n h. none-held n most h; ending = λ _. tt }
 
-  pub opened_closed-within : (condition : ℕ) (addressing : Addressing) → IsReceiverWithin most (opened_closed condition addressing)
-  opened_closed-within condition addressing = record { held = λ n h. none-held n most h; ending = λ e. cc }
+  pub opened_closed-within : (large : Bool) (condition : ℕ) (addressing : Addressing) → IsReceiverWithin most (opened_closed large condition addressing)
+  opened_closed-within large condition addressing = record { held = λ n h. none-held n most h; ending = λ e. cc }
 
   heard-within : (a : ReceiverAfter) → Within most a → Within most (heard a)
   heard-within a w = record { held = w.held; ending = w.ending }
@@ -145,11 +146,14 @@ module _ (most : ℕ) where
   prompt-within false r w = record { held = w.held; ending = w.ending }
 
   -- no PDU brings an offset or a size above the greatest one
-  module _ (limit : size_limit ≤ most) where
-    exceeds-limit : (ending : Option Ending) (end : ℕ) → exceeds ending end ≡ false → end ≤ most
-    exceeds-limit (Some ending) end h =
-        let l : end ≤ size_limit = ltb-false size_limit end (or_parts (nat_lt ending.size end) (nat_lt size_limit end) h).1 in omega arith
-    exceeds-limit None end h = let l : end ≤ size_limit = ltb-false size_limit end h in omega arith
+  module _ (limit : size_limit true ≤ most) where
+    allowed-within : (large : Bool) (n : ℕ) → n ≤ size_limit large → n ≤ most
+    allowed-within large n l = omega (arith, l, limit_most large, limit)
+
+    exceeds-limit : (large : Bool) (ending : Option Ending) (end : ℕ) → exceeds large ending end ≡ false → end ≤ most
+    exceeds-limit large (Some ending) end h =
+        allowed-within large end (ltb-false (size_limit large) end (or_parts (nat_lt ending.size end) (nat_lt (size_limit large) end) h).1)
+    exceeds-limit large None end h = allowed-within large end (ltb-false (size_limit large) end h)
 
     more-held : (r : ReceiverState) (offset end : ℕ) → IsReceiverWithin most r → end ≤ most → (n : ℕ) → set.contains (set.union r.held (range offset end)) n ≡ true → n < most
     more-held r offset end w within n h = elim (or_cases (set.contains r.held n) (set.contains (range offset end) n) (sym (set.contains-union nat_cmp_total r.held (range offset end) n) ∙ h)) [
@@ -164,52 +168,58 @@ module _ (most : ℕ) where
         (record { held = more-held r offset (offset + length bytes) w small; ending = w.ending })
     new-within Refused offset bytes m files r w small = ends-within (failed filestore_rejection) r
 
-    data-within : (stored : Stored) (offset : ℕ) (bytes : List ℕ) (m : OctetMap) (files : FileMap) (r : ReceiverState) → IsReceiverWithin most r →
-        Within most (receives_data stored offset bytes m files r)
-    data-within stored offset bytes m files r w =
-        cond_both (exceeds r.ending (offset + length bytes)) (faulted file_size_error m files r)
+    data-within : (stored : Stored) (large : Bool) (offset : ℕ) (bytes : List ℕ) (m : OctetMap) (files : FileMap) (r : ReceiverState) → IsReceiverWithin most r →
+        Within most (receives_data stored large offset bytes m files r)
+    data-within stored large offset bytes m files r w =
+        cond_both (exceeds large r.ending (offset + length bytes)) (faulted file_size_error m files r)
         (if set.is_subset (range offset (offset + length bytes)) r.held then completed stored m files r else receives_new stored offset bytes m files r) (Within most)
         (λ _. ends-within (failed file_size_error) r)
         (λ small. cond_both (set.is_subset (range offset (offset + length bytes)) r.held) (completed stored m files r) (receives_new stored offset bytes m files r) (Within most)
         (λ _. completed_by-within stored r.metadata r.ending m files r w)
-        (λ _. new-within stored offset bytes m files r w (exceeds-limit r.ending (offset + length bytes) small)))
+        (λ _. new-within stored offset bytes m files r w (exceeds-limit large r.ending (offset + length bytes) small)))
 
-    eof-within : (stored : Stored) (condition checksum size : ℕ) (m : OctetMap) (files : FileMap) (r : ReceiverState) → IsReceiverWithin most r →
-        Within most (receives_eof stored condition checksum size m files r)
-    eof-within stored condition checksum size m files r w =
+    eof-within : (stored : Stored) (large : Bool) (condition checksum size : ℕ) (m : OctetMap) (files : FileMap) (r : ReceiverState) → IsReceiverWithin most r →
+        Within most (receives_eof stored large condition checksum size m files r)
+    eof-within stored large condition checksum size m files r w =
         let r1 : ReceiverState = record r { ending = Some (record { checksum = checksum; size = size }); ack_due = Some no_error; nak_cursor = Some 0 } in
         let r2 : ReceiverState = record r { ack_due = Some no_error; nak_cursor = Some 0 } in
-        cond_both (not (condition == no_error)) (cancelled_by condition m files r) (if is_none r.ending then first_eof stored checksum size m files r else leaving m files r2) (Within most)
+        cond_both (not (condition == no_error)) (cancelled_by condition m files r) (if is_none r.ending then first_eof stored large checksum size m files r else leaving m files r2) (Within most)
         (λ _. record { held = λ n h. none-held n most h; ending = λ e. cc })
-        (λ _. cond_both (is_none r.ending) (first_eof stored checksum size m files r) (leaving m files r2) (Within most)
-        (λ _. cond_both (contradicts size r) (faulted file_size_error m files r1) (completed stored m files r1) (Within most)
+        (λ _. cond_both (is_none r.ending) (first_eof stored large checksum size m files r) (leaving m files r2) (Within most)
+        (λ _. cond_both (contradicts large size r) (faulted file_size_error m files r1) (completed stored m files r1) (Within most)
         (λ _. ends-within (failed file_size_error) r1)
         (λ small. completed_by-within stored r1.metadata r1.ending m files r1 (record { held = w.held; ending = λ _. fits small })))
         (λ _. record { held = w.held; ending = w.ending }))
       where
-        fits : contradicts size r ≡ false → size ≤ most
-        fits small = let l : size ≤ size_limit = ltb-false size_limit size (or_parts (nat_lt size (end_of r.held)) (nat_lt size_limit size) small).1 in omega arith
+        fits : contradicts large size r ≡ false → size ≤ most
+        fits small = allowed-within large size (ltb-false (size_limit large) size (or_parts (nat_lt size (end_of r.held)) (nat_lt (size_limit large) size) small).1)
 
-    pub receiver-hears-within : (stored : Stored) (v : Content) (m : OctetMap) (files : FileMap) (r : ReceiverState) → IsReceiverWithin most r → Within most (receiver_hears stored v m files r)
-    receiver-hears-within stored (Metadata kind size source destination options) m files r w =
+    content-within : (stored : Stored) (large : Bool) (v : Content) (m : OctetMap) (files : FileMap) (r : ReceiverState) → IsReceiverWithin most r →
+        Within most (hears_content stored large v m files r)
+    content-within stored large (Metadata kind size source destination options) m files r w =
         by-phase r (receives_metadata stored kind size source destination m files r) (leaving m files r) (metadata-within stored kind size source destination m files r w) w
-    receiver-hears-within stored (FileData offset bytes) m files r w = by-phase r (receives_data stored offset bytes m files r) (leaving m files r) (data-within stored offset bytes m files r w) w
-    receiver-hears-within stored (Eof condition checksum size tlvs) m files r w =
-        by-phase r (receives_eof stored condition checksum size m files r) (leaving m files (record r { ack_due = Some condition })) (eof-within stored condition checksum size m files r w)
+    content-within stored large (FileData offset bytes) m files r w =
+        by-phase r (receives_data stored large offset bytes m files r) (leaving m files r) (data-within stored large offset bytes m files r w) w
+    content-within stored large (Eof condition checksum size tlvs) m files r w =
+        by-phase r (receives_eof stored large condition checksum size m files r) (leaving m files (record r { ack_due = Some condition })) (eof-within stored large condition checksum size m files r w)
         (record { held = w.held; ending = w.ending })
-    receiver-hears-within stored (Ack acknowledged.Finished condition status) m files r w =
+    content-within stored large (Ack acknowledged.Finished condition status) m files r w =
         heard-within (leaving m files (acknowledged_by r)) (cond_both (is_finishing r.phase && r.finished_taken) (closed r) r (IsReceiverWithin most) (λ _. closed-within r) (λ _. w))
-    receiver-hears-within stored (Prompt keep_alive) m files r w =
+    content-within stored large (Prompt keep_alive) m files r w =
         heard-within (leaving m files (if is_receiving r.phase then prompted_for keep_alive r else r))
         (cond_both (is_receiving r.phase) (prompted_for keep_alive r) r (IsReceiverWithin most) (λ _. prompt-within keep_alive r w) (λ _. w))
-    receiver-hears-within stored (Ack acknowledged.Eof condition status) m files r w = w
-    receiver-hears-within stored (Finished condition delivery status tlvs) m files r w = w
-    receiver-hears-within stored (Nak start end pairs) m files r w = w
-    receiver-hears-within stored (KeepAlive progress) m files r w = w
+    content-within stored large (Ack acknowledged.Eof condition status) m files r w = w
+    content-within stored large (Finished condition delivery status tlvs) m files r w = w
+    content-within stored large (Nak start end pairs) m files r w = w
+    content-within stored large (KeepAlive progress) m files r w = w
 
-    pub opens-hearing-within : (begun stored : Stored) (v : Content) (files : FileMap) (addressing : Addressing) → Within most (opens_hearing begun stored v files addressing)
-    opens-hearing-within Done stored v files addressing = receiver-hears-within stored v map.empty files (opened_receiver addressing) (opened-within addressing)
-    opens-hearing-within Refused stored v files addressing = ends-within (failed filestore_rejection) (opened_receiver addressing)
+    pub receiver-hears-within : (stored : Stored) (large : Bool) (v : Content) (m : OctetMap) (files : FileMap) (r : ReceiverState) → IsReceiverWithin most r →
+        Within most (receiver_hears stored large v m files r)
+    receiver-hears-within stored large v m files r w = content-within stored large v m files (flagged large r) (record { held = w.held; ending = w.ending })
+
+    pub opens-hearing-within : (begun stored : Stored) (large : Bool) (v : Content) (files : FileMap) (addressing : Addressing) → Within most (opens_hearing begun stored large v files addressing)
+    opens-hearing-within Done stored large v files addressing = receiver-hears-within stored large v map.empty files (opened_receiver addressing) (opened-within addressing)
+    opens-hearing-within Refused stored large v files addressing = ends-within (failed filestore_rejection) (flagged large (opened_receiver addressing))
 
   -- ---- timers and calls
   handled-within : (handler : Handler) (condition : ℕ) (m : OctetMap) (files : FileMap) (r : ReceiverState) → IsReceiverWithin most r → Within most (handled handler condition m files r)
@@ -264,9 +274,9 @@ module _ (most : ℕ) where
   taken-within due.KeepAlive r w = record { held = w.held; ending = w.ending }
   taken-within (due.Finished o) r w = record { held = w.held; ending = w.ending }
 
-  pub receiver-step-within : size_limit ≤ most → (stored : Stored) (input : ReceiverInput) (m : OctetMap) (files : FileMap) (r : ReceiverState) → IsReceiverWithin most r →
+  pub receiver-step-within : size_limit true ≤ most → (stored : Stored) (input : ReceiverInput) (m : OctetMap) (files : FileMap) (r : ReceiverState) → IsReceiverWithin most r →
       Within most (receiver_step stored input m files r)
-  receiver-step-within limit stored (machine.Hears v) m files r w = receiver-hears-within limit stored v m files r w
+  receiver-step-within limit stored (machine.Hears large v) m files r w = receiver-hears-within limit stored large v m files r w
   receiver-step-within limit stored (machine.Takes d) m files r w = taken-within d r w
   receiver-step-within limit stored (machine.Expires k policy) m files r w = receiver-expires-within k policy m files r w
   receiver-step-within limit stored machine.Cancels m files r w = cancels-within m files r w
@@ -277,32 +287,32 @@ module _ (most : ℕ) where
 abbrev Kept : ℕ → Seen → After → Type 0
 Kept most s a = IsSeenWithin most s → IsSeenWithin most a.seen
 
-module _ (most : ℕ) (limit : size_limit ≤ most) (policy : Policy) (files : FileMap) where
+module _ (most : ℕ) (limit : size_limit true ≤ most) (policy : Policy) (files : FileMap) where
   by-sender : (file : List ℕ) (input : SenderInput) (x : SenderState) → IsSenderWithin most x → IsSenderWithin most (sender_step policy file input x).sender
   by-sender file input x w = sender-step-within most policy file input x w
 
   by-receiver : (stored : Stored) (input : ReceiverInput) (m : OctetMap) (r : ReceiverState) → IsReceiverWithin most r → IsReceiverWithin most (receiver_step stored input m files r).receiver
   by-receiver stored input m r w = receiver-step-within most limit stored input m files r w
 
-  hears-within : (stored : Stored) (v : Content) (s : Seen) → Kept most s (hears stored policy.times files v s)
-  hears-within stored (Ack acknowledged.Eof condition status) (Sends x) w = by-sender [] (inputs.HearsAck condition) x w
-  hears-within stored (Nak start end pairs) (Sends x) w = by-sender [] (inputs.HearsNak pairs) x w
-  hears-within stored (Finished condition delivery status tlvs) (Sends x) w = by-sender [] (inputs.HearsFinished (record { condition = condition; delivery = delivery; status = status })) x w
-  hears-within stored (KeepAlive progress) (Sends x) w = by-sender [] (inputs.HearsKeepAlive progress) x w
-  hears-within stored (Ack acknowledged.Finished condition status) (Sends x) w = w
-  hears-within stored (Metadata kind size source destination options) (Sends x) w = w
-  hears-within stored (FileData offset bytes) (Sends x) w = w
-  hears-within stored (Eof condition checksum size tlvs) (Sends x) w = w
-  hears-within stored (Prompt keep_alive) (Sends x) w = w
-  hears-within stored (Metadata kind size source destination options) (Receives r m) w = by-receiver stored (machine.Hears (Metadata kind size source destination options)) m r w
-  hears-within stored (FileData offset bytes) (Receives r m) w = by-receiver stored (machine.Hears (FileData offset bytes)) m r w
-  hears-within stored (Eof condition checksum size tlvs) (Receives r m) w = by-receiver stored (machine.Hears (Eof condition checksum size tlvs)) m r w
-  hears-within stored (Ack acknowledged.Finished condition status) (Receives r m) w = by-receiver stored (machine.Hears (Ack acknowledged.Finished condition status)) m r w
-  hears-within stored (Prompt keep_alive) (Receives r m) w = by-receiver stored (machine.Hears (Prompt keep_alive)) m r w
-  hears-within stored (Ack acknowledged.Eof condition status) (Receives r m) w = w
-  hears-within stored (Finished condition delivery status tlvs) (Receives r m) w = w
-  hears-within stored (Nak start end pairs) (Receives r m) w = w
-  hears-within stored (KeepAlive progress) (Receives r m) w = w
+  hears-within : (stored : Stored) (large : Bool) (v : Content) (s : Seen) → Kept most s (hears stored policy.times files large v s)
+  hears-within stored large (Ack acknowledged.Eof condition status) (Sends x) w = by-sender [] (inputs.HearsAck condition) x w
+  hears-within stored large (Nak start end pairs) (Sends x) w = by-sender [] (inputs.HearsNak pairs) x w
+  hears-within stored large (Finished condition delivery status tlvs) (Sends x) w = by-sender [] (inputs.HearsFinished (record { condition = condition; delivery = delivery; status = status })) x w
+  hears-within stored large (KeepAlive progress) (Sends x) w = by-sender [] (inputs.HearsKeepAlive progress) x w
+  hears-within stored large (Ack acknowledged.Finished condition status) (Sends x) w = w
+  hears-within stored large (Metadata kind size source destination options) (Sends x) w = w
+  hears-within stored large (FileData offset bytes) (Sends x) w = w
+  hears-within stored large (Eof condition checksum size tlvs) (Sends x) w = w
+  hears-within stored large (Prompt keep_alive) (Sends x) w = w
+  hears-within stored large (Metadata kind size source destination options) (Receives r m) w = by-receiver stored (machine.Hears large (Metadata kind size source destination options)) m r w
+  hears-within stored large (FileData offset bytes) (Receives r m) w = by-receiver stored (machine.Hears large (FileData offset bytes)) m r w
+  hears-within stored large (Eof condition checksum size tlvs) (Receives r m) w = by-receiver stored (machine.Hears large (Eof condition checksum size tlvs)) m r w
+  hears-within stored large (Ack acknowledged.Finished condition status) (Receives r m) w = by-receiver stored (machine.Hears large (Ack acknowledged.Finished condition status)) m r w
+  hears-within stored large (Prompt keep_alive) (Receives r m) w = by-receiver stored (machine.Hears large (Prompt keep_alive)) m r w
+  hears-within stored large (Ack acknowledged.Eof condition status) (Receives r m) w = w
+  hears-within stored large (Finished condition delivery status tlvs) (Receives r m) w = w
+  hears-within stored large (Nak start end pairs) (Receives r m) w = w
+  hears-within stored large (KeepAlive progress) (Receives r m) w = w
 
   expires-within : (k : Kind) (s : Seen) → Kept most s (expires policy files k s)
   expires-within k (Sends x) w = by-sender [] (inputs.Expires k) x w
@@ -331,13 +341,13 @@ module _ (most : ℕ) (limit : size_limit ≤ most) (policy : Policy) (files : F
   takes-within stored sources (Receives r m) w = receiver-takes-within r m (receiver_due r) w
 
   -- a PDU opens a receiver
-  begins-within : (begun stored : Stored) (v : Content) (a : Addressing) → IsSeenWithin most (begins begun stored policy.times files v a).seen
-  begins-within Done stored v a = hears-within stored v (Receives (opened_receiver a) map.empty) (opened-within most a)
-  begins-within Refused stored v a = opens-hearing-within most limit Refused stored v files a
+  begins-within : (begun stored : Stored) (large : Bool) (v : Content) (a : Addressing) → IsSeenWithin most (begins begun stored policy.times files large v a).seen
+  begins-within Done stored large v a = hears-within stored large v (Receives (opened_receiver a) map.empty) (opened-within most a)
+  begins-within Refused stored large v a = opens-hearing-within most limit Refused stored large v files a
 
-  opens-by-within : (o : Option ℕ) (begun stored : Stored) (v : Content) (a : Addressing) → IsSeenWithin most (opens_by o begun stored policy.times files v a).seen
-  opens-by-within (Some condition) begun stored v a = opened_closed-within most condition a
-  opens-by-within None begun stored v a = begins-within begun stored v a
+  opens-by-within : (o : Option ℕ) (begun stored : Stored) (large : Bool) (v : Content) (a : Addressing) → IsSeenWithin most (opens_by o begun stored policy.times files large v a).seen
+  opens-by-within (Some condition) begun stored large v a = opened_closed-within most large condition a
+  opens-by-within None begun stored large v a = begins-within begun stored large v a
 
 same-within : (most : ℕ) (s t : Seen) → t ≡ s → IsSeenWithin most s → IsSeenWithin most t
 same-within most s t is w = subst (IsSeenWithin most) (sym is) w
@@ -406,14 +416,14 @@ unfolding AreWithin
 within-none most = tt
 
 -- ---- a table
-module _ (most : ℕ) (limit : size_limit ≤ most) where
+module _ (most : ℕ) (limit : size_limit true ≤ most) where
   stepped-within : (f : Entry → After) → ((e : Entry) → Kept most e.1 (f e)) → (st : TableState) (place : ℕ) (o : Option Entry) → slice_get st.records place ≡ o → AreWithin most st.records →
       AreWithin most (step_of f place o st).records
   stepped-within f k st place None at h = h
   stepped-within f k st place (Some e) at h = within-set most st e.0 st.records place (f e).seen h (k e (within-at most st.records place e h at))
 
-  table-heard : (stored : Stored) (place : ℕ) (v : Content) (st : TableState) → AreWithin most st.records → AreWithin most (heard_at stored place v st).records
-  table-heard stored place v st h = stepped-within (λ e. hears stored st.policy.times st.files v e.1) (λ e. hears-within most limit st.policy st.files stored v e.1) st place
+  table-heard : (stored : Stored) (place : ℕ) (large : Bool) (v : Content) (st : TableState) → AreWithin most st.records → AreWithin most (heard_at stored place large v st).records
+  table-heard stored place large v st h = stepped-within (λ e. hears stored st.policy.times st.files large v e.1) (λ e. hears-within most limit st.policy st.files stored large v e.1) st place
       (slice_get st.records place) refl h
 
   table-taken : (stored : Stored) (place : ℕ) (st : TableState) → AreWithin most st.records → AreWithin most (taken_at stored place st).records
@@ -424,8 +434,8 @@ module _ (most : ℕ) (limit : size_limit ≤ most) where
   table-called c (Some place) st h = stepped-within (λ e. calls st.policy.times st.files c e.1) (λ e. calls-within most limit st.policy st.files c e.1) st place (slice_get st.records place) refl h
   table-called c None st h = h
 
-  table-opened : (begun stored : Stored) (a : Addressing) (v : Content) (st : TableState) → AreWithin most st.records → AreWithin most (opened_by begun stored a v st).records
-  table-opened begun stored a v st h = within-push most st.records _ h (opens-by-within most limit st.policy st.files (closing v) begun stored v a)
+  table-opened : (begun stored : Stored) (a : Addressing) (large : Bool) (v : Content) (st : TableState) → AreWithin most st.records → AreWithin most (opened_by begun stored a large v st).records
+  table-opened begun stored a large v st h = within-push most st.records _ h (opens-by-within most limit st.policy st.files (closing v) begun stored large v a)
 
   expired-in-within : (o : Option ℕ) (k : Kind) (st : TableState) → AreWithin most st.records → AreWithin most (expired_in o k st).records
   expired-in-within (Some place) k st h = stepped-within (λ e. expires st.policy st.files k e.1) (λ e. expires-within most limit st.policy st.files k e.1) st place (slice_get st.records place) refl h
@@ -456,8 +466,8 @@ module _ (most : ℕ) (limit : size_limit ≤ most) where
   within-served stored Rests e h = h
 
   taken-route-within : (h : Header) (v : Content) (old new : Counted) → Taken h v old new → AreWithin most old.state.table.records → AreWithin most new.state.table.records
-  taken-route-within h v old new (Steps place t) w = subst (λ (e : EntityState). AreWithin most e.table.records) (sym t.steps) (table-heard t.stored place v old.state.table w)
-  taken-route-within h v old new (Opens a may t) w = subst (λ (e : EntityState). AreWithin most e.table.records) (sym t.opens) (table-opened t.begun t.stored a v old.state.table w)
+  taken-route-within h v old new (Steps place t) w = subst (λ (e : EntityState). AreWithin most e.table.records) (sym t.steps) (table-heard t.stored place h.large v old.state.table w)
+  taken-route-within h v old new (Opens a may t) w = subst (λ (e : EntityState). AreWithin most e.table.records) (sym t.opens) (table-opened t.begun t.stored a h.large v old.state.table w)
   taken-route-within h v old new (Queues s of_end t) w = subst (λ (e : EntityState). AreWithin most e.table.records) (sym t) w
 
   pub within-heard : (octets : List ℕ) (old new : Counted) → HearsOctets octets old new → AreWithin most old.state.table.records → AreWithin most new.state.table.records
@@ -472,17 +482,18 @@ module _ (most : ℕ) (limit : size_limit ≤ most) where
   within-dropped (Some e) octets by old new d w = subst (λ (c : Counted). AreWithin most c.state.table.records) (sym d.1) w
   within-dropped None octets by old new d w = dropped-route-within d.content old new (is-dropped d.header old new d.content by d.drops) w
 
-  -- a put: of a file of less than 2^32 octets
+  -- a put: of a file that isn't larger than a large one may be
   second-none : {X : Type 0} (x y : Option X) → option_or x y ≡ None → y ≡ None
   second-none None y h = h
   second-none (Some a) y h = absurd (cc)
 
   file-fits : (o : Option (List ℕ)) → file_refusal o ≡ None → length (unwrap_or o []) ≤ most
   file-fits None h = absurd cc
-  file-fits (Some octets) h = elim (nat_lt (length octets) (2 ^ 32)) as (λ b. nat_lt (length octets) (2 ^ 32) ≡ b → (if b then None else Some puts.TooLarge) ≡ None → length octets ≤ most) [
-    | true ↦ λ t g. let l : length octets < 4294967296 = ltb-true (length octets) (2 ^ 32) t in omega (arith, l, limit)
-    | false ↦ λ f g. absurd cc
-  ] refl h
+  file-fits (Some octets) h = elim (nat_le (length octets) (size_limit true)) as (λ b. nat_le (length octets) (size_limit true) ≡ b → (if b then None else Some puts.TooLarge) ≡ None →
+      length octets ≤ most) [
+        | true ↦ λ t g. let l : length octets ≤ size_limit true = leb-true (length octets) (size_limit true) t in omega (arith, l, limit)
+        | false ↦ λ f g. absurd cc
+      ] refl h
 
   pub within-put : (source destination : List ℕ) (id : TransactionId) (old new : EntityState) → IsConfig old.config → Accepts source destination id old new → AreWithin most old.table.records →
       AreWithin most new.table.records

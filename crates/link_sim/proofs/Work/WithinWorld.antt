@@ -1,10 +1,10 @@
 -- No event takes what is held and sent at either station out of its bounds.
-use Rattle.std.proofs.Common.{◌≡◌, ℕ, ◌≤◌, List, sym, ap, subst, inl, inr, arith}
+use Rattle.std.proofs.Common.{◌≡◌, ℕ, ◌≤◌, true, List, sym, ap, subst, inl, inr, arith}
 use Rattle.cfdp_header.specs.declared.value.TransactionId.{TransactionId}
 use Rattle.cfdp_header.specs.Files.{FileMap}
+use Rattle.cfdp_directives.specs.Pdu.Codes.{size_limit}
 use Rattle.cfdp_store.specs.declared.stored.Stored.{Stored}
 use Rattle.cfdp_store.specs.declared.stored.Stored.TheVariants.{Done, Refused}
-use Rattle.cfdp_receiver.specs.State.{size_limit}
 use Rattle.cfdp_entity.specs.declared.call.Call.{Call}
 use Rattle.cfdp_entity.specs.declared.call.Call.TheVariants as calls
 use Rattle.cfdp_entity.specs.Config.{IsConfig}
@@ -29,7 +29,7 @@ use Rattle.link_sim.proofs.Work.Entity.{within-hears-all}
 abbrev Within : Side → WorldState → Type 0
 Within s w = AreWithin most_offset (entity_at s w).table.records
 
-limit : size_limit ≤ most_offset
+limit : size_limit true ≤ most_offset
 limit = omega arith
 
 pub first-within : (c : WorldConfig) (outboxes inboxes : FileMap × FileMap) (w : WorldState) → IsFirst c outboxes inboxes w → (t : Side) → Within t w

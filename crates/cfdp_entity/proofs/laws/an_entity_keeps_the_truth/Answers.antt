@@ -1,4 +1,4 @@
-use Rattle.cfdp_directives.specs.Pdu.Small.{small_pdu_fault}
+use Rattle.cfdp_directives.specs.Pdu.Faults.{pdu_fault}
 use Rattle.cfdp_entity.specs.Polling.{turn}
 use Rattle.cfdp_entity.proofs.Sounds.{TableLaws, sound-put, sound-called, sound-ticked, sound-heard, sound-dropped, sound-served}
 use Rattle.cfdp_entity.proofs.Timing.{first-timed}
@@ -90,7 +90,7 @@ returns-clause-dropped c put_of heard first pdu by old new d k =
       tells =
           c.a_table_tells_no_more.ensures.step;
     } in
-    sound-dropped put_of heard first laws (small_pdu_fault pdu) pdu by old new d k
+    sound-dropped put_of heard first laws (pdu_fault pdu) pdu by old new d k
 
 pub returns-clause-served : goal.returns-clause-served
 returns-clause-served c put_of heard first stored e k =

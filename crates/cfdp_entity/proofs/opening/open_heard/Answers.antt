@@ -9,4 +9,4 @@ returns-in_ok-receiver-in-Some-clause-roomier g c =
 
 pub returns-in_ok-receiver-in-Some-clause-ready : goal.returns-in_ok-receiver-in-Some-clause-ready
 returns-in_ok-receiver-in-Some-clause-ready g c =
-    closed-ready (g.I.Inbox.staged c.args.inbox.now) c.args.addressing c.in-Some.condition c.in_ok-receiver-in-Some.receiver c.in_ok-receiver-in-Some.ensures.receiver
+    closed-ready (g.I.Inbox.staged c.args.inbox.now) c.args.addressing c.args.large c.in-Some.condition c.in_ok-receiver-in-Some.receiver c.in_ok-receiver-in-Some.ensures.receiver

@@ -12,7 +12,7 @@ use Rattle.cfdp_entity.proofs.steps.hear_at.Goals as goal
 pub returns-in_default-clause-heard : goal.returns-in_default-clause-heard
 returns-in_default-clause-heard g c =
     nothing (g.I.Inbox.staged c.args.inbox.now) c.args.records.now.entries c.args.place
-    (λ e. hears Done c.args.policy.now.times (g.I.Inbox.published c.args.inbox.now) (view c.args.pdu.now) e.1) _ c.in_default.ensures
+    (λ e. hears Done c.args.policy.now.times (g.I.Inbox.published c.args.inbox.now) c.args.large (view c.args.pdu.now) e.1) _ c.in_default.ensures
 
 pub hear-answer-requires-clause-ready : goal.hear-answer-requires-clause-ready
 hear-answer-requires-clause-ready g c = (ready_at (g.I.Inbox.staged c.args.inbox.now)
@@ -37,7 +37,7 @@ returns-in-Some-get_index_mut-clause-heard g c =
     c.args.records.now.entries _ c.args.ready.now c.args.timers.now c.hear-answer.new.timers c.args.told.now.items c.hear-answer.new.told.items c.args.place c.in-Some.id
     c.in-Some-get_index_mut.record.now c.hear-answer.new.self
     c.requires.whole (sym c.in-Some.ensures) (sym c.in-Some-get_index_mut.ensures.value) refl c.hear-answer.ensures.others
-    c.hear-answer.result (view c.args.pdu.now) (λ s e. hears s c.args.policy.now.times (g.I.Inbox.published c.args.inbox.now) (view c.args.pdu.now) e.1) c.hear-answer.ensures.does
+    c.hear-answer.result (view c.args.pdu.now) (λ s e. hears s c.args.policy.now.times (g.I.Inbox.published c.args.inbox.now) c.args.large (view c.args.pdu.now) e.1) c.hear-answer.ensures.does
     c.hear-answer.ensures.keeps
 
 pub returns-in-Some-get_index_mut-clause-err : goal.returns-in-Some-get_index_mut-clause-err
@@ -47,7 +47,7 @@ returns-in-Some-get_index_mut-clause-err g c =
     c.args.records.now.entries _ c.args.ready.now c.args.timers.now c.hear-answer.new.timers c.args.told.now.items c.hear-answer.new.told.items c.args.place c.in-Some.id
     c.in-Some-get_index_mut.record.now c.hear-answer.new.self
     c.requires.whole (sym c.in-Some.ensures) (sym c.in-Some-get_index_mut.ensures.value) refl c.hear-answer.ensures.others
-    c.hear-answer.result (view c.args.pdu.now) (λ s e. hears s c.args.policy.now.times (g.I.Inbox.published c.args.inbox.now) (view c.args.pdu.now) e.1) c.hear-answer.ensures.does
+    c.hear-answer.result (view c.args.pdu.now) (λ s e. hears s c.args.policy.now.times (g.I.Inbox.published c.args.inbox.now) c.args.large (view c.args.pdu.now) e.1) c.hear-answer.ensures.does
     c.hear-answer.ensures.keeps
 
 pub returns-in-Some-get_index_mut-clause-whole : goal.returns-in-Some-get_index_mut-clause-whole
@@ -57,13 +57,13 @@ returns-in-Some-get_index_mut-clause-whole g c =
     c.args.records.now.entries _ c.args.ready.now c.args.timers.now c.hear-answer.new.timers c.args.told.now.items c.hear-answer.new.told.items c.args.place c.in-Some.id
     c.in-Some-get_index_mut.record.now c.hear-answer.new.self
     c.requires.whole (sym c.in-Some.ensures) (sym c.in-Some-get_index_mut.ensures.value) refl c.hear-answer.ensures.others
-    c.hear-answer.result (view c.args.pdu.now) (λ s e. hears s c.args.policy.now.times (g.I.Inbox.published c.args.inbox.now) (view c.args.pdu.now) e.1) c.hear-answer.ensures.does
+    c.hear-answer.result (view c.args.pdu.now) (λ s e. hears s c.args.policy.now.times (g.I.Inbox.published c.args.inbox.now) c.args.large (view c.args.pdu.now) e.1) c.hear-answer.ensures.does
     c.hear-answer.ensures.keeps
     c.hear-answer.ensures.ready c.is_due.result (c.is_due.ensures (g.I.Inbox.staged c.hear-answer.new.inbox c.in-Some.id)) c.set.new.self c.set.ensures
 
 pub returns-in_default-clause-raises : goal.returns-in_default-clause-raises
 returns-in_default-clause-raises g c =
-    asks-nowhere (AsksHeard Raises (view c.args.pdu.now) Done) (λ e. hears Done c.args.policy.now.times (g.I.Inbox.published c.args.inbox.now) (view c.args.pdu.now) e.1)
+    asks-nowhere (AsksHeard Raises c.args.large (view c.args.pdu.now) Done) (λ e. hears Done c.args.policy.now.times (g.I.Inbox.published c.args.inbox.now) c.args.large (view c.args.pdu.now) e.1)
     (g.I.Inbox.staged c.args.inbox.now) c.args.records.now.entries c.args.place (g.I.Inbox.failures c.args.inbox.now) c.in_default.ensures
 
 pub returns-in-None-clause-raises : goal.returns-in-None-clause-raises
@@ -71,7 +71,7 @@ returns-in-None-clause-raises g c = absurd (no_hole c.args.records.now.entries c
 
 pub returns-in-Some-get_index_mut-clause-raises : goal.returns-in-Some-get_index_mut-clause-raises
 returns-in-Some-get_index_mut-clause-raises g c =
-    answered-there (λ s. AsksHeard Raises (view c.args.pdu.now) s) (λ s e. hears s c.args.policy.now.times (g.I.Inbox.published c.args.inbox.now) (view c.args.pdu.now) e.1)
+    answered-there (λ s. AsksHeard Raises c.args.large (view c.args.pdu.now) s) (λ s e. hears s c.args.policy.now.times (g.I.Inbox.published c.args.inbox.now) c.args.large (view c.args.pdu.now) e.1)
     (g.I.Inbox.staged c.args.inbox.now) c.args.records.now.entries c.args.place c.in-Some.id c.in-Some-get_index_mut.record.now
     (seen (g.I.Inbox.staged c.hear-answer.new.inbox c.in-Some.id) c.hear-answer.new.self) (g.I.Inbox.failures c.args.inbox.now) (g.I.Inbox.failures c.hear-answer.new.inbox) (sym c.in-Some.ensures)
     (sym c.in-Some-get_index_mut.ensures.value)

@@ -50,7 +50,8 @@ returns-clause-opened g c =
     c.requires.whole c.requires.absent c.room_in.ensures.records c.open_heard.ensures.roomier refl c.open_heard.ensures.others
     c.in_ok-record.record c.push_record.new.records.entries c.push_record.ensures.added (g.I.Inbox.published c.args.inbox.now)
     (g.I.Inbox.published c.open_heard.new.inbox) c.args.told.now.items c.room_in.new.told.items c.open_heard.new.told.items
-    (opens c.in_ok-record.opened.begun c.in_ok-record.opened.stored c.args.policy.now.times (g.I.Inbox.published c.args.inbox.now) (view c.args.pdu.now) c.args.addressing) refl c.room_in.ensures.told
+    (opens c.in_ok-record.opened.begun c.in_ok-record.opened.stored c.args.policy.now.times (g.I.Inbox.published c.args.inbox.now) c.args.large (view c.args.pdu.now) c.args.addressing)
+    refl c.room_in.ensures.told
     c.in_ok-record.ensures.does
 
 pub returns-clause-whole : goal.returns-clause-whole
@@ -66,7 +67,7 @@ returns-clause-whole g c =
 
 pub returns-clause-raises : goal.returns-clause-raises
 returns-clause-raises g c =
-    subst (λ (s : Seen). AsksFirst Raises (closing (view c.args.pdu.now)) c.in_ok-record.opened.begun c.in_ok-record.opened.stored (view c.args.pdu.now) c.args.addressing s
+    subst (λ (s : Seen). AsksFirst Raises (closing (view c.args.pdu.now)) c.in_ok-record.opened.begun c.in_ok-record.opened.stored c.args.large (view c.args.pdu.now) c.args.addressing s
     (g.I.Inbox.failures c.args.inbox.now) (g.I.Inbox.failures c.open_heard.new.inbox)) c.in_ok-record.ensures.does.state
-    (opened g.I.Inbox.steps g.I.Inbox.failures (closing (view c.args.pdu.now)) c.in_ok-record.opened.begun c.in_ok-record.opened.stored (view c.args.pdu.now) c.args.addressing
+    (opened g.I.Inbox.steps g.I.Inbox.failures (closing (view c.args.pdu.now)) c.in_ok-record.opened.begun c.in_ok-record.opened.stored c.args.large (view c.args.pdu.now) c.args.addressing
     (seen (g.I.Inbox.staged c.open_heard.new.inbox c.args.addressing.id) c.in_ok-record.record) c.args.inbox.now c.open_heard.new.inbox c.in_ok-record.ensures.calls)

@@ -23,5 +23,5 @@ invariant_of-self-2 g c = (
   c.self.invariant.0,
   c.self.invariant.1,
   free-heard c.self.inside.config.entity (next_of c.self.inside.next) c.self.inside.table.state c.reserve.new.self.state c.hear.new.self.state c.reserve.ensures.state c.self.invariant.2
-      c.in_ok-hear.field-0 c.args.place (view c.args.pdu.now) c.in_ok-hear.ensures.heard,
+      c.in_ok-hear.field-0 c.args.place c.args.large (view c.args.pdu.now) c.in_ok-hear.ensures.heard,
 )

@@ -24,17 +24,17 @@ receiver_hears-requires-clause-ready g c = (ready-receiver (g.I.Inbox.staged c.a
 pub returns-in-Sends-clause-does : goal.returns-in-Sends-clause-does
 returns-in-Sends-clause-does g c = sender-answered c.args.policy.now.times c.args.id c.args.self.now c.in-Sends.sender c.sender_hears.new.sender c.in-Sends.is (g.I.Inbox.staged c.args.inbox.now)
     (g.O.Outbox.files c.args.outbox.now) (g.I.Inbox.published c.args.inbox.now) c.args.told.now.items c.sender_hears.new.told.items c.args.timers.now c.sender_hears.new.timers c.requires.ready
-    c.sender_hears.result (view c.args.pdu.now) c.sender_hears.ensures.does c.sender_hears.ensures.keeps
+    c.sender_hears.result c.args.large (view c.args.pdu.now) c.sender_hears.ensures.does c.sender_hears.ensures.keeps
 
 pub returns-in-Sends-clause-keeps : goal.returns-in-Sends-clause-keeps
 returns-in-Sends-clause-keeps g c = sender-failed c.args.policy.now.times c.args.id c.args.self.now c.in-Sends.sender c.sender_hears.new.sender c.in-Sends.is (g.I.Inbox.staged c.args.inbox.now)
     (g.O.Outbox.files c.args.outbox.now) (g.I.Inbox.published c.args.inbox.now) c.args.told.now.items c.sender_hears.new.told.items c.args.timers.now c.sender_hears.new.timers c.requires.ready
-    c.sender_hears.result (view c.args.pdu.now) c.sender_hears.ensures.does c.sender_hears.ensures.keeps
+    c.sender_hears.result c.args.large (view c.args.pdu.now) c.sender_hears.ensures.does c.sender_hears.ensures.keeps
 
 pub returns-in-Sends-clause-ready : goal.returns-in-Sends-clause-ready
 returns-in-Sends-clause-ready g c = sender-still c.args.policy.now.times c.args.id c.args.self.now c.in-Sends.sender c.sender_hears.new.sender c.in-Sends.is (g.I.Inbox.staged c.args.inbox.now)
     (g.O.Outbox.files c.args.outbox.now) (g.I.Inbox.published c.args.inbox.now) c.args.told.now.items c.sender_hears.new.told.items c.args.timers.now c.sender_hears.new.timers c.requires.ready
-    c.sender_hears.result (view c.args.pdu.now) c.sender_hears.ensures.does c.sender_hears.ensures.keeps
+    c.sender_hears.result c.args.large (view c.args.pdu.now) c.sender_hears.ensures.does c.sender_hears.ensures.keeps
 
 pub returns-in-Sends-clause-counts : goal.returns-in-Sends-clause-counts
 returns-in-Sends-clause-counts g c = done-counts c.sender_hears.result (g.I.Inbox.failures c.args.inbox.now) c.sender_hears.ensures.done
@@ -43,13 +43,13 @@ pub returns-in-Receives-clause-does : goal.returns-in-Receives-clause-does
 returns-in-Receives-clause-does g c = heard-answered c.args.policy.now.times c.args.id c.args.self.now c.in-Receives.receiver c.receiver_hears.new.receiver c.in-Receives.is
     (g.O.Outbox.files c.args.outbox.now) (g.I.Inbox.published c.args.inbox.now) (g.I.Inbox.published c.receiver_hears.new.inbox) (g.I.Inbox.staged c.args.inbox.now)
     (g.I.Inbox.staged c.receiver_hears.new.inbox) c.args.told.now.items c.receiver_hears.new.told.items c.args.timers.now c.receiver_hears.new.timers c.requires.ready
-    c.receiver_hears.ensures.addressing c.receiver_hears.result (view c.args.pdu.now) c.receiver_hears.ensures.does c.receiver_hears.ensures.keeps
+    c.receiver_hears.ensures.addressing c.receiver_hears.result c.args.large (view c.args.pdu.now) c.receiver_hears.ensures.does c.receiver_hears.ensures.keeps
 
 pub returns-in-Receives-clause-keeps : goal.returns-in-Receives-clause-keeps
 returns-in-Receives-clause-keeps g c = heard-failed c.args.policy.now.times c.args.id c.args.self.now c.in-Receives.receiver c.receiver_hears.new.receiver c.in-Receives.is
     (g.O.Outbox.files c.args.outbox.now) (g.I.Inbox.published c.args.inbox.now) (g.I.Inbox.published c.receiver_hears.new.inbox) (g.I.Inbox.staged c.args.inbox.now)
     (g.I.Inbox.staged c.receiver_hears.new.inbox) c.args.told.now.items c.receiver_hears.new.told.items c.args.timers.now c.receiver_hears.new.timers c.requires.ready
-    c.receiver_hears.ensures.addressing c.receiver_hears.result (view c.args.pdu.now) c.receiver_hears.ensures.does c.receiver_hears.ensures.keeps
+    c.receiver_hears.ensures.addressing c.receiver_hears.result c.args.large (view c.args.pdu.now) c.receiver_hears.ensures.does c.receiver_hears.ensures.keeps
 
 pub returns-in-Receives-clause-ready : goal.returns-in-Receives-clause-ready
 returns-in-Receives-clause-ready g c = receiver-still c.args.policy.now.times c.args.id c.args.self.now c.in-Receives.receiver c.receiver_hears.new.receiver c.in-Receives.is
@@ -65,10 +65,11 @@ returns-in-Receives-clause-others g c = others-there c.args.policy.now.times c.a
 
 pub returns-in-Sends-clause-raises : goal.returns-in-Sends-clause-raises
 returns-in-Sends-clause-raises g c =
-    sender-heard c.sender_hears.result (view c.args.pdu.now) c.args.self.now c.in-Sends.sender c.in-Sends.is (g.I.Inbox.staged c.args.inbox.now c.args.id) _ (g.I.Inbox.failures c.args.inbox.now)
+    sender-heard c.sender_hears.result c.args.large (view c.args.pdu.now) c.args.self.now c.in-Sends.sender c.in-Sends.is (g.I.Inbox.staged c.args.inbox.now c.args.id)
+    _ (g.I.Inbox.failures c.args.inbox.now)
 
 pub returns-in-Receives-clause-raises : goal.returns-in-Receives-clause-raises
 returns-in-Receives-clause-raises g c =
     heard-here g.I.Inbox.steps g.I.Inbox.failures c.args.self.now c.in-Receives.receiver c.receiver_hears.new.receiver c.in-Receives.is (g.I.Inbox.staged c.args.inbox.now c.args.id)
     (g.I.Inbox.staged c.receiver_hears.new.inbox c.args.id) c.args.inbox.now c.receiver_hears.new.inbox
-    c.receiver_hears.result (view c.args.pdu.now) c.receiver_hears.ensures.calls
+    c.receiver_hears.result c.args.large (view c.args.pdu.now) c.receiver_hears.ensures.calls

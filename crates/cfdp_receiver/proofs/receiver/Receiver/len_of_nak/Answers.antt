@@ -1,15 +1,17 @@
-use Rattle.std.proofs.Common.{◌≡◌, ℕ, ◌+◌, ◌*◌, ◌<◌, ◌≤◌, ◌^◌, false, List, length, ap, subst, ◌∙◌, arith}
+use Rattle.std.proofs.Common.{◌≡◌, ℕ, ◌+◌, ◌*◌, ◌<◌, ◌≤◌, ◌^◌, List, length, sym, ap, subst, ◌∙◌, arith}
 use Rattle.cfdp_header.specs.Header.{header_len}
 use Rattle.cfdp_directives.specs.declared.pdu.addressing.Addressing.{Addressing}
 use Rattle.cfdp_directives.specs.Pdu.Addressing.{FitsAddressing}
-use Rattle.cfdp_directives.specs.Pdu.Content.{Content}
+use Rattle.cfdp_directives.specs.Pdu.Codes.{file_size_octets}
+use Rattle.cfdp_directives.specs.Pdu.Content.{Content, Nak}
+use Rattle.cfdp_directives.specs.Pdu.Written.{content_len}
 use Rattle.cfdp_directives.proofs.Addressed.{can_write}
 use Rattle.cfdp_extents.specs.Terms.{gaps_of}
 use Rattle.cfdp_receiver.specs.declared.due.Due.TheVariants as due_is
 use Rattle.cfdp_receiver.specs.Due.{receiver_says}
 use Rattle.cfdp_receiver.specs.Missing.{asked, missing_pairs}
 use Rattle.cfdp_receiver.specs.State.{ReceiverState}
-use Rattle.cfdp_receiver.proofs.AskedLemmas.{nak_fits, pairs_counted}
+use Rattle.cfdp_receiver.proofs.AskedLemmas.{nak_fits, nak_short, pairs_counted}
 use Rattle.cfdp_receiver.proofs.receiver.Receiver.len_of_nak.Goals as goal
 
 gaps : (c : goal.After-nak_len) → c.missing_in-gaps.result ≡ gaps_of c.args.self.now.held c.args.cursor c.scope_limit.result
@@ -20,9 +22,17 @@ counted c =
     pairs_counted c.args.self.now c.args.cursor c.scope_limit.result c.missing_in-gaps.result c.scope_limit.ensures.value
     (gaps c) c.asks_for_metadata.result c.count_asked-pairs.result c.asks_for_metadata.ensures c.count_asked-pairs.ensures.count
 
--- nine octets, and eight for each pair
-says : (c : goal.After-nak_len) → 9 + 8 * length (asked (missing_pairs c.args.cursor c.args.self.now)) ≡ c.nak_len.result
-says c = c.nak_len.ensures 0 0 (asked (missing_pairs c.args.cursor c.args.self.now)) (counted c)
+says : (c : goal.After-nak_len) → content_len (file_size_octets c.args.self.now.large) (receiver_says c.args.self.now (due_is.Nak c.args.cursor)) ≡ c.nak_len.result
+says c =
+    let all : List (ℕ × ℕ) = asked (missing_pairs c.args.cursor c.args.self.now) in
+    ap (λ (r : ReceiverState). content_len (file_size_octets r.large) (Nak 0 0 all)) (sym c.self.view_is) ∙ c.nak_len.ensures 0 0 all (counted c)
+
+few : (c : goal.After-nak_len) → c.nak_len.result ≤ 529
+few c =
+    let some : c.count_asked-pairs.result ≤ 32 = c.count_asked-pairs.ensures.few in
+    let short : content_len (file_size_octets c.args.self.now.large) (receiver_says c.args.self.now (due_is.Nak c.args.cursor)) ≤ 529 =
+    nak_short c.args.self.now.large c.args.cursor 0 (asked (missing_pairs c.args.cursor c.args.self.now)) (omega (arith, counted c, some)) in
+    omega (arith, short, says c)
 
 short : (c : goal.After-nak_len) → c.len_in_widths.result + c.nak_len.result ≤ 4128
 short c =
@@ -30,8 +40,7 @@ short c =
     let id : a.id_width ≤ 8 = c.self.invariant.addressing_fits.id.id_width.1 in
     let number : a.number_width ≤ 8 = c.self.invariant.addressing_fits.id.number_width.1 in
     let header : c.len_in_widths.result ≡ header_len a.id_width a.number_width = c.len_in_widths.ensures in
-    let few : c.count_asked-pairs.result ≤ 32 = c.count_asked-pairs.ensures.few in
-    omega (arith, id, number, header, few, counted c, says c)
+    omega (arith, id, number, header, few c)
 
 pub overflow_add-result : goal.overflow_add-result
 overflow_add-result c = let low = short c in omega (arith, low)
@@ -48,9 +57,8 @@ returns-clause-short c = short c
 pub returns-clause-can_write : goal.returns-clause-can_write
 returns-clause-can_write c =
     let it : Content = receiver_says c.args.self.now (due_is.Nak c.args.cursor) in
-    let few : c.count_asked-pairs.result ≤ 32 = c.count_asked-pairs.ensures.few in
     let addressing = subst (λ (r : ReceiverState). FitsAddressing r.addressing) c.self.view_is c.self.invariant.addressing_fits in
-    can_write c.args.self.now.addressing false it addressing
+    can_write c.args.self.now.addressing c.args.self.now.large it addressing
     (nak_fits c.args.self.now c.args.cursor c.scope_limit.result c.missing_in-gaps.result c.scope_limit.ensures.value (gaps c) c.missing_in-gaps.ensures.inside c.requires.cursor
     (c.scope_limit.ensures.fits c.requires.receiving))
-    (omega (arith, few, counted c))
+    (omega (arith, few c, says c))

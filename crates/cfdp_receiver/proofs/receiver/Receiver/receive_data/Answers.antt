@@ -1,16 +1,20 @@
-use Rattle.std.proofs.Common.{◌∙◌, sym}
+use Rattle.std.proofs.Common.{◌∙◌, sym, arith}
+use Rattle.cfdp_directives.proofs.FileSizes.{limit_low}
 use Rattle.cfdp_receiver.proofs.Chains.{covered-stages, new-stages}
 use Rattle.cfdp_receiver.proofs.receiver.Receiver.receive_data.Goals as goal
 
 pub returns-then-covers-clause-calls : goal.returns-then-covers-clause-calls
 returns-then-covers-clause-calls g c =
     covered-stages g.I.Inbox.steps g.I.Inbox.failures c.args.self.now _ c.self.view_is c.args.offset
-    c.args.bytes.now c.complete.result c.complete.new.self c.args.inbox.now c.complete.new.inbox
+    c.args.bytes.now c.args.large c.complete.result c.complete.new.self c.args.inbox.now c.complete.new.inbox
     (sym c.covers.ensures ∙ c.if-covers.true) c.complete.ensures.calls
 
 pub returns-clause-calls : goal.returns-clause-calls
 returns-clause-calls g c =
     new-stages g.I.Inbox.steps g.I.Inbox.failures c.args.self.now _ c.self.view_is c.args.offset
-    c.args.bytes.now c.receive_new.result c.receive_new.new.self c.args.inbox.now
+    c.args.bytes.now c.args.large c.receive_new.result c.receive_new.new.self c.args.inbox.now
     c.receive_new.new.inbox c.requires.receiving (sym c.exceeds.ensures.value ∙ c.if-exceeds.false)
     c.receive_new.ensures.calls
+
+pub overflow_add-end : goal.overflow_add-end
+overflow_add-end g c = omega (arith, c.exceeds.ensures.fits c.if-exceeds.false, limit_low c.args.large)

@@ -4,7 +4,7 @@ use Rattle.cfdp_receiver.proofs.receiver.Receiver.receive_first_eof.Goals as goa
 
 pub returns-clause-stores : goal.returns-clause-stores
 returns-clause-stores g c =
-    first_eof_stores c.complete.result c.args.ending.checksum c.args.ending.size
+    first_eof_stores c.complete.result c.args.large c.args.ending.checksum c.args.ending.size
     (g.I.Inbox.published c.args.inbox.now) _
     (g.I.Inbox.staged c.args.inbox.now) _ c.args.self.now _ c.self.view_is
     (sym c.contradicts.ensures.value ∙ c.if-contradicts.false) c.complete.ensures.stores

@@ -1,4 +1,7 @@
-use Rattle.std.proofs.Common.{◌∙◌, sym, ap, rules, inl, refl}
+use Rattle.std.proofs.Common.{◌∙◌, ◌+◌, ◌≤◌, length, sym, ap, subst, arith, rules, inl, refl}
+use Rattle.cfdp_directives.specs.Pdu.Codes.{size_limit}
+use Rattle.cfdp_directives.proofs.FileSizes.{limit_low}
+use Rattle.cfdp_receiver.specs.State.{ReceiverState}
 use Rattle.std.specs.FinSet.{contains}
 use Rattle.cfdp_extents.specs.Offsets.{Offsets}
 use Rattle.cfdp_receiver.proofs.Held.{held_with, held_below_with}
@@ -29,8 +32,10 @@ pub invariant_of-self-in-Done : goal.invariant_of-self-in-Done
 invariant_of-self-in-Done g c = record {
   addressing_fits = c.self.invariant.addressing_fits;
   suspended_receives = c.self.invariant.suspended_receives;
-  held_below = λ n h. held_below_with c.self.inside.held c.insert.new.self c.args.offset _ n
-      c.in_ok-insert-in-Done.ensures.ok c.self.invariant.held_below c.requires.fits h;
+  held_below = λ n h. held_below_with _ c.self.inside.held c.insert.new.self c.args.offset _ n
+      c.in_ok-insert-in-Done.ensures.ok c.self.invariant.held_below
+      (subst (λ (r : ReceiverState). c.args.offset + length c.args.bytes.now ≤ size_limit r.large)
+      (sym c.self.view_is) c.requires.fits) h;
   size_below = c.self.invariant.size_below;
   cursor_below = c.self.invariant.cursor_below;
 }
@@ -57,3 +62,9 @@ returns-in_err-insert-in-Done-clause-keeps_failures g c =
     made-level g.I.Inbox.steps g.I.Inbox.failures c.from_residual.result
     c.self.inside.addressing.id _ c.args.inbox.now c.stage.new.inbox
     (c.stage.ensures.writes (search rules))
+
+pub overflow_add-end : goal.overflow_add-end
+overflow_add-end g c = omega (arith, c.requires.fits, limit_low c.args.self.now.large)
+
+pub stage-requires-clause-fits : goal.stage-requires-clause-fits
+stage-requires-clause-fits g c = omega (arith, c.requires.fits, limit_low c.args.self.now.large)

@@ -1,6 +1,6 @@
 use Rattle.std.proofs.Common.{◌≡◌, [], Option, Some, IfSome, sym, ap, subst, ◌∙◌, arith, false}
 use Rattle.cfdp_directives.specs.Pdu.Content.{view}
-use Rattle.cfdp_directives.specs.Pdu.Codes.{file_size_octets}
+use Rattle.cfdp_directives.specs.Pdu.Codes.{is_large, file_size_octets}
 use Rattle.cfdp_directives.specs.Pdu.Written.{content_len, CanWrite}
 use Rattle.cfdp_directives.specs.Pdu.Addressing.{header_of, written_len}
 use Rattle.cfdp_sender.specs.declared.due.SenderDue.{SenderDue}
@@ -13,14 +13,14 @@ pub written_len-requires : goal.written_len-requires
 written_len-requires c =
     let s : IsSender c.args.self.now = subst IsSender c.self.view_is c.self.invariant in
     let is : sender_due c.args.self.now ≡ Some c.in_ok-due.due = sym c.in_ok-due.ensures in
-    rw c.says.ensures (fits-short c.args.self.now c.in_ok-due.due [] s is (omega arith)).1
+    rw (c.says.ensures, c.is_large-large.ensures) (fits-short c.args.self.now c.in_ok-due.due [] s is (omega arith)).1
 
 pub overflow_add-result : goal.overflow_add-result
 overflow_add-result c =
     let s : IsSender c.args.self.now = subst IsSender c.self.view_is c.self.invariant in
     let is : sender_due c.args.self.now ≡ Some c.in_ok-due.due = sym c.in_ok-due.ensures in
     let fits = (fits-short c.args.self.now c.in_ok-due.due [] s is (omega arith)).1 in
-    let content = ap (content_len (file_size_octets false)) c.says.ensures in
+    let content = ap (λ b. content_len (file_size_octets b) (view c.says.result)) c.is_large-large.ensures ∙ ap (content_len (file_size_octets (is_large c.args.self.now.size))) c.says.ensures in
     let widths = c.self.invariant.transfer.addressing.id in
     omega (arith, c.written_len.ensures, content, fits, widths.id_width.1, widths.number_width.1, c.extent-carried.ensures.short)
 
@@ -28,7 +28,7 @@ pub returns-clause-short : goal.returns-clause-short
 returns-clause-short c =
     let s : IsSender c.args.self.now = subst IsSender c.self.view_is c.self.invariant in
     let short = content-short c.args.self.now c.in_ok-due.due _ s c.extent-carried.ensures.short c.extent-carried.ensures.some in
-    let content = ap (content_len (file_size_octets false)) c.says.ensures in
+    let content = ap (λ b. content_len (file_size_octets b) (view c.says.result)) c.is_large-large.ensures ∙ ap (content_len (file_size_octets (is_large c.args.self.now.size))) c.says.ensures in
     let widths = c.self.invariant.transfer.addressing.id in
     omega (arith, c.written_len.ensures, content, short, widths.id_width.1, widths.number_width.1)
 
@@ -36,11 +36,13 @@ pub returns-clause-can_write : goal.returns-clause-can_write
 returns-clause-can_write c = λ file.
     let s : IsSender c.args.self.now = subst IsSender c.self.view_is c.self.invariant in
     let is : sender_due c.args.self.now ≡ Some c.in_ok-due.due = sym c.in_ok-due.ensures in
-    let Can : SenderDue → Type 0 = λ d. CanWrite (header_of c.args.self.now.addressing false (sender_says file c.args.self.now d)) (sender_says file c.args.self.now d) in
+    let Can : SenderDue → Type 0 = λ d. CanWrite (header_of c.args.self.now.addressing (is_large c.args.self.now.size) (sender_says file c.args.self.now d)) (sender_says file c.args.self.now d) in
     subst (λ (o : Option SenderDue). IfSome o Can) (sym is) (due-can_write c.args.self.now c.in_ok-due.due file s is)
 
 pub returns-clause-len : goal.returns-clause-len
 returns-clause-len c = λ file whole.
     let is : sender_due c.args.self.now ≡ Some c.in_ok-due.due = sym c.in_ok-due.ensures in
-    let written = c.written_len.ensures ∙ ap (λ (x : SenderState). written_len x.addressing false (view c.says.result)) c.self.view_is in
+    let written = c.written_len.ensures
+    ∙ ap (λ b. written_len c.self.inside.addressing b (view c.says.result)) c.is_large-large.ensures
+    ∙ ap (λ (x : SenderState). written_len x.addressing (is_large c.args.self.now.size) (view c.says.result)) c.self.view_is in
     due-len c.args.self.now c.in_ok-due.due file _ _ _ (view c.says.result) is c.says.ensures written (c.extent-carried.ensures.part file) whole c.extent-carried.ensures.within

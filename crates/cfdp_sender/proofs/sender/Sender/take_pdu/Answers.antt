@@ -1,4 +1,5 @@
 use Rattle.std.proofs.Common.{◌≡◌, ◌≤◌, length, Some, IfSome, arith, sym, subst, false}
+use Rattle.cfdp_directives.specs.Pdu.Codes.{is_large}
 use Rattle.cfdp_directives.specs.Pdu.Addressing.{written_len}
 use Rattle.cfdp_store.specs.Files.{octets_in}
 use Rattle.cfdp_sender.specs.Due.{sender_due, sender_says, carried}
@@ -18,7 +19,7 @@ returns-clause-takes g c =
     let file = octets_in (g.O.Outbox.files c.args.outbox.now) c.args.self.now.source in
     let is : sender_due c.args.self.now ≡ Some c.in-Some.due = sym c.in-Some.ensures in
     let some = extent-len file (carried file c.in-Some.due) _ _ _ (c.extent-carried.ensures.part file) c.requires.file.whole c.extent-carried.ensures.within in
-    let fits = subst (λ o. IfSome o (λ d. written_len c.args.self.now.addressing false (sender_says file c.args.self.now d) ≤ length c.args.out.now)) is c.requires.fits in
+    let fits = subst (λ o. IfSome o (λ d. written_len c.args.self.now.addressing (is_large c.args.self.now.size) (sender_says file c.args.self.now d) ≤ length c.args.out.now)) is c.requires.fits in
     let room : c.in-Ok.len ≤ length c.write_due.new.out = omega (arith, fits, c.in-Ok.ensures.written.end, c.write_due.auto.out) in
     let last = carried-last c.args.self.now c.in-Some.due file c.args.out.now c.write_due.new.out c.in-Ok.len c.extent-carried.result.1 c.in-Ok.ensures.written room some in
     takes-moved c.args.policy.now.times file _ c.args.self.now c.note_sent-anew.new.self c.in-Some.due c.in-Ok.len c.note_sent-anew.result c.args.told.now.items c.note_sent-anew.new.told.items
