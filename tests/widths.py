@@ -27,9 +27,10 @@ def checksum_of(octets):
 def pdus(chance, octets):
     """Metadata, EOF and file data, in any order, some of them twice; with the flag of each."""
     names = b"\5a.txt\5b.txt"
+    checksum = checksum_of(octets).to_bytes(4, "big")
     kinds = [
         (0x20, lambda it: b"\7\0" + number(it, len(octets)) + names),
-        (0x20, lambda it: b"\4\0" + checksum_of(octets).to_bytes(4, "big") + number(it, len(octets))),
+        (0x20, lambda it: b"\4\0" + checksum + number(it, len(octets))),
     ]
     at = 0
     while at < len(octets):

@@ -1,6 +1,6 @@
 -- Exported: what is said by one of the PDUs heard is said by one of any PDUs that these are among, in
 -- whatever order.
-use Rattle.std.proofs.Common.{◌≡◌, ℕ, List, Option, Some, None}
+use Rattle.std.proofs.Common.{ℕ, List, Option, Some, None}
 use Rattle.std.specs.Prelude.{Any, Contains, IfSome}
 use Rattle.cfdp_header.specs.declared.value.Header.{Header}
 use Rattle.cfdp_directives.specs.Pdu.Content.{Content}

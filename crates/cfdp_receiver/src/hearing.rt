@@ -275,9 +275,9 @@ impl Receiver {
     }
 
     /// Hears file data, with their large file flag. In Receiving the octets that aren't held yet
-    /// are staged, and those that are keep their value; the file is published if all of it is there.
-    /// Data that end behind the EOF's size, or behind the greatest size that their flag allows, are
-    /// a fault. Otherwise nothing changes but the flag that answers have.
+    /// are staged, and those that are keep their value; the file is published if all of it is
+    /// there. Data that end behind the EOF's size, or behind the greatest size that their flag
+    /// allows, are a fault. Otherwise nothing changes but the flag that answers have.
     ///
     /// # Errors
     ///

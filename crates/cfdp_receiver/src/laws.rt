@@ -259,7 +259,8 @@ pub fn what_is_heard_true_is_kept_true()
         (receiver_step stored input m files r).octets }
     ensures opened { (put : Put) (heard : List (List ℕ)) (stored : Stored) (large : Bool)
         (files : FileMap) (addressing : Addressing) → Sound put heard
-        (opens stored large files addressing).receiver (opens stored large files addressing).octets }
+        (opens stored large files addressing).receiver
+        (opens stored large files addressing).octets }
     ensures closed { (put : Put) (heard : List (List ℕ)) (large : Bool) (condition : ℕ)
         (addressing : Addressing) (m : OctetMap) →
         Sound put heard (opened_closed large condition addressing) m }

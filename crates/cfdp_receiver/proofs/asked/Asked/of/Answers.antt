@@ -1,5 +1,4 @@
-use Rattle.std.proofs.Common.{◌≡◌, ◌<◌, ◌≤◌, true, refl, length-set, ◌∷◌, ◌++◌, ◌∙◌, ℕ, suc, List, length, ap, subst, arith}
-use Rattle.std.specs.List.{All}
+use Rattle.std.proofs.Common.{◌≡◌, ◌<◌, ◌≤◌, true, refl, length-set, ◌++◌, ◌∙◌, ℕ, List, length, ap, arith}
 use Rattle.cfdp_extents.specs.Offsets.{LiesIn}
 use Rattle.cfdp_receiver.specs.declared.asked.Asked.{Asked}
 use Rattle.cfdp_receiver.specs.Asked.{pairs_of}

@@ -1,4 +1,4 @@
-use Rattle.std.proofs.Common.{◌≡◌, [], Option, Some, IfSome, sym, ap, subst, ◌∙◌, arith, false}
+use Rattle.std.proofs.Common.{◌≡◌, [], Option, Some, IfSome, sym, ap, subst, ◌∙◌, arith}
 use Rattle.cfdp_directives.specs.Pdu.Content.{view}
 use Rattle.cfdp_directives.specs.Pdu.Codes.{is_large, file_size_octets}
 use Rattle.cfdp_directives.specs.Pdu.Written.{content_len, CanWrite}

@@ -1,4 +1,4 @@
-use Rattle.std.proofs.Common.{◌≡◌, ◌≤◌, length, Some, IfSome, arith, sym, subst, false}
+use Rattle.std.proofs.Common.{◌≡◌, ◌≤◌, length, Some, IfSome, arith, sym, subst}
 use Rattle.cfdp_directives.specs.Pdu.Codes.{is_large}
 use Rattle.cfdp_directives.specs.Pdu.Addressing.{written_len}
 use Rattle.cfdp_store.specs.Files.{octets_in}
