@@ -34,13 +34,12 @@ use Rattle.cfdp_receiver.specs.Due.{receiver_due, receiver_says}
 use Rattle.cfdp_receiver.specs.State.{ReceiverState, opened_receiver}
 use Rattle.cfdp_entity.specs.declared.call.Call.{Call}
 use Rattle.cfdp_entity.specs.declared.config.EntityConfig.{EntityConfig}
-use Rattle.cfdp_entity.specs.declared.error.EntityDrop.{EntityDrop}
 use Rattle.cfdp_entity.specs.declared.error.PutError.{PutError}
 use Rattle.cfdp_entity.specs.declared.error.PutError.TheVariants as put_errors
 use Rattle.cfdp_entity.specs.Calling.{called_in}
 use Rattle.cfdp_entity.specs.Calls.{IsCalled, after_call}
 use Rattle.cfdp_entity.specs.Entity.{EntityState, Counted, with_table}
-use Rattle.cfdp_entity.specs.Hearing.{names_no_file, route, DropsBy}
+use Rattle.cfdp_entity.specs.Hearing.{names_no_file}
 use Rattle.cfdp_entity.specs.History.{GoesOn, KeepsRecords, Leads, TableStep, Hears, Calls, Takes, MayHappen, table_step}
 use Rattle.cfdp_entity.specs.Opening.{opens, opens_by, closing}
 use Rattle.cfdp_entity.specs.Polling.{Place, turn, record_turn, turn_octets, served}

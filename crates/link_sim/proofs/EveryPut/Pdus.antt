@@ -1,6 +1,5 @@
 -- What the octets on their way say: each text is one PDU, and what is heard of it is that PDU.
 use Rattle.std.proofs.Common.{◌≡◌, ℕ, ◌+◌, eqb, true, false, Bool, List, [], ◌∷◌, ◌++◌, Option, Some, None, Err, ◌⊎◌, inl, inr, refl, sym, ap, subst, ◌∙◌, arith}
-use Rattle.std.specs.Prelude.{sum_by}
 use Rattle.std.specs.List.{fold}
 use Rattle.std.proofs.lemmas.List.{append_assoc}
 use Rattle.cfd_bits.specs.Field.{flag}
@@ -19,7 +18,7 @@ use Rattle.mpdu.specs.Parts.{IsPartOf}
 use Rattle.cfdp_station.specs.Taking.{HearsPdu, HearsAll}
 use Rattle.link_sim.specs.Between.{Pdu}
 use Rattle.link_sim.specs.OnWayPdus.{AreSpelled}
-use Rattle.link_sim.specs.Work.{text_work, texts_work, content_work}
+use Rattle.link_sim.specs.Work.{text_work, content_work}
 
 -- ---- lists of texts
 pub spelled-append : (texts more : List (List ℕ)) (pdus others : List Pdu) → AreSpelled texts pdus → AreSpelled more others → AreSpelled (texts ++ more) (pdus ++ others)

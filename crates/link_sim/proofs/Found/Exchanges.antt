@@ -37,7 +37,7 @@ use Rattle.link_sim.proofs.EveryPut.Views.{head-own, head-other}
 use Rattle.link_sim.proofs.EveryPut.Known.{front-known}
 use Rattle.link_sim.proofs.EveryPut.Pdus.{one-pdu}
 use Rattle.link_sim.proofs.Events.Moving.{apart}
-use Rattle.link_sim.proofs.Runs.Places.{made, view}
+use Rattle.link_sim.proofs.Runs.Places.{view}
 
 -- ---- texts spell PDUs
 pub spelled-same : (texts : List (List ℕ)) (xs ys : List Pdu) → AreSpelled texts xs → AreSpelled texts ys → xs ≡ ys

@@ -16,14 +16,14 @@ use Rattle.cfdp_sender.specs.Steps.{sender_waits, waits_for_eof_ack, waits_for_a
 use Rattle.cfdp_receiver.specs.declared.state.ReceiverPhase.TheVariants as receiving
 use Rattle.cfdp_receiver.specs.State.{ReceiverState}
 use Rattle.cfdp_receiver.specs.Steps.{waits, waits_in}
-use Rattle.link_sim.specs.Exchange.{AllTrue, is_closed, maybe}
+use Rattle.link_sim.specs.Exchange.{AllTrue}
 use Rattle.link_sim.specs.Runs.{Exchange, TellsMore, Settles, Runs}
-use Rattle.link_sim.specs.Stages.{NothingDue, IsAtRest, IsCompleteExchange, IsOverAt, IsOver, is_answered_in, is_answered}
+use Rattle.link_sim.specs.Stages.{NothingDue, IsAtRest, IsOverAt, IsOver, is_answered_in, is_answered}
 use Rattle.link_sim.specs.Work.{opening_work}
 use Rattle.link_sim.proofs.Course.Lists.{true-sent}
 use Rattle.link_sim.specs.Swapped.{IsSwapped}
 use Rattle.link_sim.proofs.Lanes.Swapping.{swapped-all, swapped-nil}
-use Rattle.link_sim.proofs.Stages.Keep.{ExchangeKeeps, StaysReceiver, settles-keep, closed-is}
+use Rattle.link_sim.proofs.Stages.Keep.{ExchangeKeeps, StaysReceiver, settles-keep}
 
 not-both : {X : Type 0} (o : Option X) (x : X) → o ≡ None → o ≡ Some x → ⊥
 not-both o x e f = (let both : None ≡ Some x = sym e ∙ f in cc)

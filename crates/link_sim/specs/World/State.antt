@@ -1,5 +1,5 @@
 -- Two stations and the frames between them: what is seen of them.
-use Rattle.std.specs.Prelude.{◌≡◌, ℕ, Bool, true, List, []}
+use Rattle.std.specs.Prelude.{◌≡◌, ℕ, Bool, List, []}
 use Rattle.cfdp_header.specs.Files.{FileMap}
 use Rattle.link_stack.specs.Downward.{LinkSenderState}
 use Rattle.link_stack.specs.Upward.{LinkReceiverState}
