@@ -127,6 +127,7 @@ pub nak_short : (large : Bool) (start end : ℕ) (pairs : List (ℕ × ℕ)) →
 nak_short true start end pairs few = omega (arith, few)
 nak_short false start end pairs few = omega (arith, few)
 
+-- under a name of this crate, which a function's tactic can give
 pub fits_field : (large : Bool) (n : ℕ) → n ≤ size_limit large → n < 256 ^ file_size_octets large
 fits_field large n low = number_fits large n low
 

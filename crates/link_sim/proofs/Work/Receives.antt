@@ -31,6 +31,7 @@ use Rattle.cfdp_receiver.specs.Steps.{ReceiverAfter, leaving, telling, heard, cl
 use Rattle.cfdp_receiver.specs.Sound.{hears_content, receiver_hears, opens_hearing}
 use Rattle.cfdp_entity.specs.Steps.{receiver_after}
 use Rattle.link_sim.specs.Work.{nak_work, nak_due_work, heard_work, opening_work, content_work, ack_work, cursor_work, receiving_work, receiver_work, IsReceiverWithin}
+use Rattle.link_sim.proofs.Course.Receives.{after-is}
 
 some_is : {X : Type 0} (x y : X) → Some x ≡ Some y → y ≡ x
 some_is x y e = cc
@@ -316,19 +317,6 @@ content-works most stored large (KeepAlive progress) m files r = omega arith
 
 pub receiver-hears-works : (most : ℕ) (stored : Stored) (large : Bool) (v : Content) (m : OctetMap) (files : FileMap) (r : ReceiverState) → Lowers most v r (receiver_hears stored large v m files r)
 receiver-hears-works most stored large v m files r = content-works most stored large v m files (flagged large r)
-
--- the step of an entity's record is that of the machine
-pub after-is : (stored : Stored) (large : Bool) (v : Content) (m : OctetMap) (files : FileMap) (r : ReceiverState) (a : ReceiverAfter) → receiver_after stored large v m files r ≡ Some a → a
-    ≡ receiver_hears stored large v m files r
-after-is stored large (Metadata kind size source destination options) m files r a e = cc
-after-is stored large (FileData offset bytes) m files r a e = cc
-after-is stored large (Eof condition checksum size tlvs) m files r a e = cc
-after-is stored large (Ack acknowledged.Finished condition status) m files r a e = cc
-after-is stored large (Prompt keep_alive) m files r a e = cc
-after-is stored large (Ack acknowledged.Eof condition status) m files r a e = absurd cc
-after-is stored large (Finished condition delivery status tlvs) m files r a e = absurd cc
-after-is stored large (Nak start end pairs) m files r a e = absurd cc
-after-is stored large (KeepAlive progress) m files r a e = absurd cc
 
 pub receiver-after-works : (most : ℕ) (stored : Stored) (large : Bool) (v : Content) (m : OctetMap) (files : FileMap) (r : ReceiverState) (a : ReceiverAfter) →
     receiver_after stored large v m files r ≡ Some a →
