@@ -21,7 +21,7 @@ use Rattle.link_sim.specs.Observed.{seen}
 use Rattle.link_sim.specs.Recovering.{IsRecovered, Recovers}
 use Rattle.link_sim.specs.Running.{AreApart, KeepsPromises}
 use Rattle.link_sim.specs.Settling.{GoesWell, IsSettled}
-use Rattle.link_sim.specs.Sides.{other}
+use Rattle.link_sim.specs.Stations.{other}
 use Rattle.link_sim.specs.Spreading.{Many, Times}
 use Rattle.link_sim.specs.Theorem.{WorldSeen, accepted_as, at, put_by, side_of}
 use Rattle.link_sim.specs.World.State.{WorldState, entity_at}

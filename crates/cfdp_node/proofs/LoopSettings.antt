@@ -3,7 +3,7 @@ use Rattle.std.proofs.Common.{inl, refl, lit<, lit≤}
 use Rattle.aos_frame.specs.Frame.{IsLink}
 use Rattle.cfdp_entity.specs.Config.{IsConfig}
 use Rattle.cfdp_station.specs.Config.{IsStationConfig}
-use Rattle.link_sim.specs.WorldConfig.{IsWorldConfig}
+use Rattle.link_sim.specs.Stations.{IsWorldConfig}
 use Rattle.link_sim.specs.declared.side.Side.{Side}
 use Rattle.link_sim.specs.declared.side.Side.TheVariants.{One, Two}
 use Rattle.cfdp_node.specs.Looping.Turns.{loop_settings}

@@ -16,7 +16,7 @@ use Rattle.link_sim.specs.FrameLink.{FrameLinkState}
 use Rattle.link_sim.specs.OneWay.{IsCarried}
 use Rattle.link_sim.specs.Running.{KeepsPromises, Led}
 use Rattle.link_sim.specs.World.State.{WorldState, IsFirst, IsFirstAt}
-use Rattle.link_sim.specs.WorldConfig.{IsWorldConfig}
+use Rattle.link_sim.specs.Stations.{IsWorldConfig}
 use Rattle.link_sim.proofs.Events.Aside.{AreJoined, Arrives, GoesAside, IsAside, Reaches, arrives, aside_all, aside_none, first_joined, flush_on, frame_on, goes_both, no_link, poll_goes, put_reaches, reaches_both, reaches_led, reaches_none, tick_goes, with_down, world_at}
 use Rattle.cfdp_node.specs.Wire.InOrder.{AreOfWorld, ComeInOrder, PassInOrder, Passage, PassesInOrder, frames_came, frames_left, nothing_passed, what_came}
 use Rattle.cfdp_node.specs.Looping.Turns.{LoopState, Puts, TakesTurn, Turns}

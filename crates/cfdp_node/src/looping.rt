@@ -8,7 +8,7 @@ ghost use Rattle.cfdp_node.specs.Script.Settings.{world_of};
 ghost use Rattle.cfdp_node.specs.Report.Lines.{count_line};
 ghost use Rattle.cfdp_node.specs.Wire.Turn.{FitsFrames};
 ghost use Rattle.cfdp_station.specs.Config.{IsStationConfig};
-ghost use Rattle.link_sim.specs.WorldConfig.{IsWorldConfig};
+ghost use Rattle.link_sim.specs.Stations.{IsWorldConfig};
 
 pub mod folders;
 pub mod request;

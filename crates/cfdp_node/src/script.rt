@@ -1,6 +1,6 @@
 //! Scripts, from their text to their run.
 ghost use Rattle.std.specs.Prelude.{◌≡◌, ◌≤◌, None, Some, length, option_map, IfOk, IfErr, OnOk};
-ghost use Rattle.link_sim.specs.WorldConfig.{IsWorldConfig};
+ghost use Rattle.link_sim.specs.Stations.{IsWorldConfig};
 ghost use Rattle.cfdp_node.specs.Script.Settings.{world_of};
 ghost use Rattle.cfdp_node.specs.Script.Words.{parts};
 ghost use Rattle.cfdp_node.specs.Script.Lines as scripts;

@@ -1,7 +1,7 @@
 //! One station over folders and a UDP socket.
 ghost use Rattle.std.specs.Prelude.{IfOk};
 ghost use Rattle.cfdp_station.specs.Config.{IsStationConfig};
-ghost use Rattle.link_sim.specs.WorldConfig.{IsWorldConfig};
+ghost use Rattle.link_sim.specs.Stations.{IsWorldConfig};
 
 pub mod request;
 pub mod serving;

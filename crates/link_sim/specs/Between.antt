@@ -1,6 +1,6 @@
 -- Proof-only: what becomes of a put while both entities go on: its two records, its PDUs on their
 -- way, and what was told of it. `mine` is the entity that made the put, `theirs` the other one.
-use Rattle.std.specs.Prelude.{◌≡◌, Bool, true, false, List, [], ◌∷◌, Option, Some, None, if◌then◌else◌}
+use Rattle.std.specs.Prelude.{◌≡◌, Bool, true, false, List, [], ◌∷◌, Option, Some, None, if◌then◌else◌, ℕ}
 use Rattle.cfdp_header.specs.declared.value.Header.{Header}
 use Rattle.cfdp_header.specs.declared.value.TransactionId.{TransactionId}
 use Rattle.cfdp_header.specs.Ids.{same_id}
@@ -15,9 +15,16 @@ use Rattle.link_sim.specs.Clean.{HasHeardAll}
 use Rattle.link_sim.specs.Course.{IsCourse}
 use Rattle.link_sim.specs.Exchange.{tells_complete, pauses}
 use Rattle.link_sim.specs.Waiting.{IsUncancelled, one_tells, spoils}
+use Rattle.cfdp_directives.specs.Pdu.Grammar.{SpellsPdu}
 
 abbrev pub Pdu : Type 0
 Pdu = Header × Content
+
+-- Each text is spelled by its header and content, in order.
+abbrev pub AreSpelled : List (List ℕ) → List Pdu → Type 0
+AreSpelled [] [] = Unit {0}
+AreSpelled (text ∷ texts) (p ∷ pdus) = SpellsPdu p.0 p.1 text × AreSpelled texts pdus
+AreSpelled _ _ = ⊥
 
 -- what those PDUs say that are of this transaction
 abbrev pub of_id : TransactionId → List Pdu → List Content

@@ -13,7 +13,7 @@ use Rattle.cfdp_entity.specs.Seen.{Sends, Receives}
 use Rattle.cfdp_entity.specs.Table.{Entry}
 use Rattle.link_stack.specs.Drops.{count_of}
 use Rattle.link_sim.specs.Observed.{seen}
-use Rattle.link_sim.specs.Sides.{other}
+use Rattle.link_sim.specs.Stations.{other}
 use Rattle.link_sim.specs.Theorem.{completions_at, side_of}
 use Rattle.link_sim.specs.World.State.{WorldState, entity_at, link_from, station_at}
 use Rattle.link_sim.specs.declared.event.AcceptedPut.{AcceptedPut}

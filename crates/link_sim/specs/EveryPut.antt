@@ -4,12 +4,11 @@ use Rattle.std.specs.Prelude.{◌≡◌, not, Bool, true, false, List, length, S
 use Rattle.std.specs.List.{list_any}
 use Rattle.cfdp_directives.specs.User.Put.{Put}
 use Rattle.link_stack.specs.Drops.{count_of}
-use Rattle.link_sim.specs.Between.{Pdu, StaysOnCourse}
+use Rattle.link_sim.specs.Between.{Pdu, StaysOnCourse, AreSpelled}
 use Rattle.link_sim.specs.Known.{AreKnown}
 use Rattle.link_sim.specs.Observed.{seen}
-use Rattle.link_sim.specs.OnWayPdus.{AreSpelled}
 use Rattle.link_sim.specs.OneWay.{on_way}
-use Rattle.link_sim.specs.Sides.{other}
+use Rattle.link_sim.specs.Stations.{other}
 use Rattle.link_sim.specs.Theorem.{put_of}
 use Rattle.link_sim.specs.World.State.{WorldState, entity_at, link_from, station_at, way_from}
 use Rattle.link_sim.specs.declared.event.AcceptedPut.{AcceptedPut}

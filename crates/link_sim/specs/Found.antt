@@ -6,14 +6,13 @@ use Rattle.cfdp_timers.specs.declared.kind.Kind.{Kind}
 use Rattle.cfdp_entity.specs.Entity.{EntityState}
 use Rattle.cfdp_entity.specs.Seen.{Sends}
 use Rattle.cfdp_entity.specs.Table.{record_of}
-use Rattle.link_sim.specs.Between.{Pdu, of_id, IsReceiverIn}
+use Rattle.link_sim.specs.Between.{Pdu, of_id, IsReceiverIn, AreSpelled}
 use Rattle.link_sim.specs.Exchange.{tells_complete}
 use Rattle.link_sim.specs.Known.{AreKnown}
 use Rattle.link_sim.specs.Observed.{seen}
 use Rattle.link_sim.specs.OneWay.{arriving}
-use Rattle.link_sim.specs.OnWayPdus.{AreSpelled}
 use Rattle.link_sim.specs.Runs.{Exchange, Runs, TellsMore, expire_sender, ReceiverExpires}
-use Rattle.link_sim.specs.Sides.{other}
+use Rattle.link_sim.specs.Stations.{other}
 use Rattle.link_sim.specs.Stages.{AreWaitedBySender, AreWaitedByReceiver}
 use Rattle.link_sim.specs.Theorem.{put_of}
 use Rattle.link_sim.specs.Waiting.{one_tells}

@@ -1,5 +1,5 @@
 -- The frames of one direction of a link, and what became of them.
-use Rattle.std.specs.Prelude.{ℕ, ◌-◌, Bool, true, false, List, [], length, slice_get, slice_index_or, Option, Some, None}
+use Rattle.std.specs.Prelude.{ℕ, ◌-◌, Bool, true, false, List, [], length, slice_get, slice_index_or, Option, Some, None, zero, suc, ◌∷◌, take, drop}
 use Rattle.aos_frame.specs.Counts.{frame_counts}
 use Rattle.link_sim.specs.declared.mark.Mark.{Mark}
 use Rattle.link_sim.specs.declared.mark.Mark.TheVariants.{Waiting, Delivered, Struck}
@@ -32,3 +32,8 @@ mark_at link place = mark_told (slice_get link.marks place)
 -- the oldest frame that waits
 abbrev pub oldest : FrameLinkState → List ℕ
 oldest link = slice_index_or link.frames (length link.marks) []
+
+-- so many pieces of the octets, each of this length, one behind the other
+unfoldable pub pieces : (len count : ℕ) → List ℕ → List (List ℕ)
+pieces len zero octets = []
+pieces len (suc count) octets = take len octets ∷ pieces len count (drop len octets)

@@ -27,9 +27,19 @@ use Rattle.cfdp_entity.specs.Opening.{opens}
 use Rattle.cfdp_entity.specs.Seen.{Receives}
 use Rattle.cfdp_entity.specs.Steps.{sender_after, receiver_after}
 use Rattle.link_sim.specs.Exchange.{IsTrueForth, tells_complete}
-use Rattle.link_sim.specs.Swapped.{IsSwapped}
 use Rattle.link_sim.specs.Waiting.{one_tells}
 use Rattle.link_sim.specs.Work.{opening_work}
+
+-- Two parts of a list that stood one behind the other, `first` and `second`, changed places, as PDUs
+-- on their way do where those of one lane overtook those of the other. What stands before and
+-- behind stayed.
+pub record IsSwapped {X : Type 0} (xs ys : List X) : Type 0 where
+  pub before : List X
+  pub first : List X
+  pub second : List X
+  pub behind : List X
+  pub was : xs ≡ before ++ (first ++ (second ++ behind))
+  pub is : ys ≡ before ++ (second ++ (first ++ behind))
 
 -- One transaction: its sender, its receiver or none yet, the PDUs on their way to the receiver and
 -- to the sender, and whether the sender's user, and the receiver's, was told that it is complete.

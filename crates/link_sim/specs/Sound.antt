@@ -10,11 +10,10 @@ use Rattle.link_sim.specs.declared.side.Side.{Side}
 use Rattle.link_sim.specs.declared.event.AcceptedPut.{AcceptedPut}
 use Rattle.link_sim.specs.Observed.{seen}
 use Rattle.link_sim.specs.OneWay.{IsOneWay, pdus_sent, pdus_delivered}
-use Rattle.link_sim.specs.Sides.{other}
+use Rattle.link_sim.specs.Stations.{other}
 use Rattle.link_sim.specs.Theorem.{put_of}
-use Rattle.link_sim.specs.Work.{AreWithin}
+use Rattle.link_sim.specs.Work.{AreWithin, most_offset}
 use Rattle.link_sim.specs.World.State.{WorldState, entity_at, way_from}
-use Rattle.link_sim.specs.WorldWork.{most_offset}
 
 -- A PDU that a station sent tells the truth of its puts, and that a file was delivered only where
 -- the station completed it.

@@ -15,7 +15,7 @@ use Rattle.cfdp_entity.specs.Sound.{FindsMore}
 use Rattle.link_sim.specs.declared.side.Side.{Side}
 use Rattle.link_sim.specs.declared.side.Side.TheVariants.{One, Two}
 use Rattle.link_sim.specs.declared.event.AcceptedPut.{AcceptedPut}
-use Rattle.link_sim.specs.Sides.{other}
+use Rattle.link_sim.specs.Stations.{other}
 
 -- ---- what is seen
 -- Of a station: its entity's id and the checksum type of its puts, the files that it can send, the

@@ -7,7 +7,7 @@ use Rattle.cfdp_entity.specs.Table.{record_of}
 use Rattle.link_sim.specs.Exchange.{is_closed}
 use Rattle.link_sim.specs.Found.{HasExchange, IsPutOf, RunsOn}
 use Rattle.link_sim.specs.Runs.{Exchange}
-use Rattle.link_sim.specs.Sides.{other}
+use Rattle.link_sim.specs.Stations.{other}
 use Rattle.link_sim.specs.Stages.{Stands, IsOver, is_answered}
 use Rattle.link_sim.specs.Waiting.{policy_at, IsUnfinished}
 use Rattle.link_sim.specs.World.State.{WorldState, entity_at}

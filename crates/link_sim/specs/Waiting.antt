@@ -21,7 +21,7 @@ use Rattle.cfdp_entity.specs.Table.{record_of}
 use Rattle.link_sim.specs.Clean.{IsCompleteAt}
 use Rattle.link_sim.specs.Observed.{seen}
 use Rattle.link_sim.specs.OneWay.{on_way}
-use Rattle.link_sim.specs.Sides.{other}
+use Rattle.link_sim.specs.Stations.{other}
 use Rattle.link_sim.specs.Theorem.{side_of}
 use Rattle.link_sim.specs.World.State.{WorldState, entity_at, way_from}
 use Rattle.link_sim.specs.declared.event.AcceptedPut.{AcceptedPut}

@@ -66,8 +66,7 @@ pub struct FrameLink {
 
 impl Model for FrameLink {
     ghost use Rattle.std.specs.Prelude.{◌≡◌, ◌+◌, ◌*◌, ◌≤◌, vec_capacity, length};
-    ghost use Rattle.link_sim.specs.FrameLink.{FrameLinkState};
-    ghost use Rattle.link_sim.specs.Pieces.{pieces};
+    ghost use Rattle.link_sim.specs.FrameLink.{FrameLinkState, pieces};
 
     ghost Value = { FrameLinkState };
 

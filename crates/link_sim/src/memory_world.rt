@@ -2,7 +2,7 @@
 ghost use Rattle.std.specs.FinMap as map;
 ghost use Rattle.std.specs.Prelude.{IfOk};
 ghost use Rattle.link_sim.specs.World.State.{IsFirst};
-ghost use Rattle.link_sim.specs.WorldConfig.{IsWorldConfig};
+ghost use Rattle.link_sim.specs.Stations.{IsWorldConfig};
 
 use crate::event::{Applied, Event};
 use crate::recover_error::RecoverError;

@@ -1,5 +1,5 @@
 ghost use Rattle.std.specs.Prelude.{◌≡◌};
-ghost use Rattle.link_sim.specs.Sides as sides;
+ghost use Rattle.link_sim.specs.Stations as sides;
 
 /// One of the two stations of a world.
 #[derive(Clone, Copy, Debug, PartialEq, Eq)]

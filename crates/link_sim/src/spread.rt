@@ -7,7 +7,7 @@ ghost use Rattle.link_sim.specs.Spreading.{BurstFindsNoMemory, Bursts, PollFinds
 ghost use Rattle.link_sim.specs.Theorem.{HoldsAt, Follows};
 ghost use Rattle.link_sim.specs.World.State.{entity_at};
 ghost use Rattle.link_sim.specs.World.Steps.{FindsNoMemory, Steps, side_in};
-ghost use Rattle.link_sim.specs.WorldWork.{world_work};
+ghost use Rattle.link_sim.specs.Work.{world_work};
 ghost use Rattle.link_sim.specs.declared.event.Applied.TheVariants as did;
 ghost use Rattle.link_sim.specs.declared.side.Side.{Side};
 

@@ -14,7 +14,7 @@ ghost use Rattle.link_sim.specs.World.State as state;
 ghost use Rattle.link_sim.specs.World.Steps as steps;
 ghost use Rattle.link_sim.specs.World.State.{station_at, link_from, IsFirst};
 ghost use Rattle.link_sim.specs.World.Steps.{Steps};
-ghost use Rattle.link_sim.specs.WorldConfig.{IsWorldConfig};
+ghost use Rattle.link_sim.specs.Stations.{IsWorldConfig};
 ghost use Rattle.link_sim.specs.declared.side.Side.{Side};
 ghost use Rattle.link_sim.specs.declared.side.Side.TheVariants as sides;
 

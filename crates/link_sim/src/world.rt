@@ -12,8 +12,8 @@ ghost use Rattle.link_sim.specs.Theorem.{HoldsAt, FoldsAt, at, put_of, completio
 ghost use Rattle.link_sim.specs.Tracks.{KeepsPutsOf, RunsAlong};
 ghost use Rattle.link_sim.specs.World.State.{IsFirst, published_at, station_at, entity_at, link_from, seen_link, files_at};
 ghost use Rattle.link_sim.specs.World.Steps.{PublishesAt, Steps, WantsMemory};
-ghost use Rattle.link_sim.specs.WorldConfig.{IsWorldConfig};
-ghost use Rattle.link_sim.specs.WorldWork.{world_work};
+ghost use Rattle.link_sim.specs.Stations.{IsWorldConfig};
+ghost use Rattle.link_sim.specs.Work.{world_work};
 ghost use Rattle.link_sim.specs.declared.event.Applied.TheVariants as dids;
 ghost use Rattle.link_sim.specs.declared.event.Event.TheVariants as events;
 ghost use Rattle.link_sim.specs.declared.side.Side.{Side};

@@ -20,7 +20,7 @@ use Rattle.cfdp_node.specs.declared.script.Step.{Step}
 use Rattle.cfdp_node.specs.declared.script.settings.Settings.{Settings}
 use Rattle.cfdp_node.specs.declared.script.settings.Setting.{Setting}
 use Rattle.cfdp_node.specs.declared.script.settings.Setting.TheVariants as key
-use Rattle.link_sim.specs.WorldConfig.{IsWorldConfig}
+use Rattle.link_sim.specs.Stations.{IsWorldConfig}
 use Rattle.cfdp_node.specs.Script.Settings.{FitFields, set_value, world_of}
 use Rattle.cfdp_node.specs.Script.Numbers.{number_of, octet_of}
 use Rattle.cfdp_node.specs.Script.Words.{words_of, parts, next_word, nothing_of, text_of, one_of, two_of, three_of, four_of}

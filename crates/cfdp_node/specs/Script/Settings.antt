@@ -9,7 +9,7 @@ use Rattle.cfdp_directives.specs.declared.user.policy.Policy.{Policy}
 use Rattle.cfdp_entity.specs.declared.config.EntityConfig.{EntityConfig}
 use Rattle.cfdp_station.specs.declared.config.StationConfig.{StationConfig}
 use Rattle.aos_frame.specs.declared.config.LinkConfig.{LinkConfig}
-use Rattle.link_sim.specs.Sides as sides
+use Rattle.link_sim.specs.Stations as sides
 use Rattle.link_sim.specs.declared.side.Side.{Side}
 use Rattle.link_sim.specs.declared.side.Side.TheVariants.{One, Two}
 use Rattle.link_sim.specs.declared.world_config.WorldConfig.{WorldConfig}

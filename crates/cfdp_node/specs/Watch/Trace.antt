@@ -1,6 +1,6 @@
 -- What a trace says of what was seen at two stations.
 use Rattle.std.specs.Prelude.{◌≡◌, ℕ, false, List, ◌++◌, codes, decimal}
-use Rattle.link_sim.specs.Sides.{entity_of}
+use Rattle.link_sim.specs.Stations.{entity_of}
 use Rattle.cfdp_node.specs.Dump.Lines.{TellsAsFrame, TellsAsPdu}
 use Rattle.cfdp_node.specs.declared.watch.sighting.Deed.{Deed}
 use Rattle.cfdp_node.specs.declared.watch.sighting.Deed.TheVariants.{SendsFrame, SendsPdu, TakesFrame, HearsPdu, LosesFrame, Ticks, Drops, Tells}

@@ -1,5 +1,5 @@
 ghost use Rattle.std.specs.Prelude.{◌≡◌, ◌<◌, ◌^◌, ◌↔◌, IsSome, IfSome};
-ghost use Rattle.link_sim.specs.WorldConfig.{IsWorldConfig};
+ghost use Rattle.link_sim.specs.Stations.{IsWorldConfig};
 ghost use Rattle.cfdp_node.specs.Script.Settings.{pair_of, world_of, station_of, entity_of, policy_of, limits_of, times_of, handlers_of, handler_of, link_of, FitFields, FitSending, FitPolicy, FitLimits, FitTimes, FitHandlers};
 
 use cfdp_directives::{ChecksumKind, Handler, Handlers, Limits, Policy, Times};

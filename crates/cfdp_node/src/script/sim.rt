@@ -7,7 +7,7 @@ ghost use Rattle.link_sim.specs.declared.side.Side.TheVariants as sides;
 ghost use Rattle.cfdp_node.specs.Script.Outboxes.{outbox_of};
 ghost use Rattle.cfdp_node.specs.Script.Ending.{EndsRun};
 ghost use Rattle.cfdp_node.specs.Exit.{IsFlushedAt};
-ghost use Rattle.link_sim.specs.WorldConfig.{IsWorldConfig};
+ghost use Rattle.link_sim.specs.Stations.{IsWorldConfig};
 ghost use Rattle.cfdp_node.specs.Script.Simulated.{EndsFrom, EndsScript, EndsText, IsSilentAt};
 
 use crate::exit::{Exit, Fault};

@@ -1,6 +1,6 @@
 //! What the words behind `--set` set.
 ghost use Rattle.std.specs.Prelude.{IfSome};
-ghost use Rattle.link_sim.specs.WorldConfig.{IsWorldConfig};
+ghost use Rattle.link_sim.specs.Stations.{IsWorldConfig};
 
 use crate::script::command::parse_setting;
 use crate::script::settings::{Setting, Settings};

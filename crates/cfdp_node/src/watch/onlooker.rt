@@ -1,5 +1,5 @@
 //! One who looks on at a run: at a script's, or at turns over two wires.
-ghost use Rattle.link_sim.specs.WorldConfig.{IsWorldConfig};
+ghost use Rattle.link_sim.specs.Stations.{IsWorldConfig};
 
 use crate::report::condition::Conditions;
 use crate::watch::dropped::Dropped;

@@ -6,7 +6,7 @@ ghost use Rattle.cfdp_header.specs.Files.{FileMap};
 ghost use Rattle.cfdp_header.specs.declared.value.TransactionId.{TransactionId};
 ghost use Rattle.cfdp_station.specs.Station.{StationState};
 ghost use Rattle.link_sim.specs.World.State.{IsFirstAt};
-ghost use Rattle.link_sim.specs.WorldConfig.{IsWorldConfig};
+ghost use Rattle.link_sim.specs.Stations.{IsWorldConfig};
 ghost use Rattle.link_sim.specs.declared.event.AcceptedPut.{AcceptedPut};
 ghost use Rattle.link_sim.specs.declared.world_config.WorldConfig.{WorldConfig};
 ghost use Rattle.cfdp_node.specs.Wire.InOrder.{AreOfWorld, PassInOrder, Passage};

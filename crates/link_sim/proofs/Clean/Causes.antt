@@ -15,7 +15,7 @@ use Rattle.link_sim.specs.Settling.{IsOfSettling, AreOfSettling, AreInOrder, Set
 use Rattle.link_sim.specs.Onward.{GoesOnFrom}
 use Rattle.link_sim.specs.World.State.{WorldState, entity_at}
 use Rattle.link_sim.specs.World.Steps.{NoneWaits, NoneWhole, Flushes, Steps}
-use Rattle.link_sim.specs.WorldWork.{world_work}
+use Rattle.link_sim.specs.Work.{world_work}
 use Rattle.link_sim.specs.declared.side.Side.{Side}
 use Rattle.link_sim.specs.declared.side.Side.TheVariants.{One, Two}
 use Rattle.link_sim.proofs.Events.Keeping.{each}

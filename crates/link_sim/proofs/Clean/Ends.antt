@@ -38,15 +38,14 @@ use Rattle.cfdp_entity.proofs.Histories.{no-record}
 use Rattle.link_sim.specs.declared.event.AcceptedPut.{AcceptedPut}
 use Rattle.link_sim.specs.declared.side.Side.{Side}
 use Rattle.link_sim.specs.declared.side.Side.TheVariants.{One, Two}
-use Rattle.link_sim.specs.Between.{Pdu, IsReceiverIn, IsOnCourse}
+use Rattle.link_sim.specs.Between.{Pdu, IsReceiverIn, IsOnCourse, AreSpelled}
 use Rattle.link_sim.specs.Clean.{IsClean, IsCompleteAt, AllComplete}
 use Rattle.link_sim.specs.EveryPut.{IsFound, KeepCourse}
 use Rattle.link_sim.specs.Exchange.{is_closed, is_closed_in, maybe, tells_complete}
 use Rattle.link_sim.specs.Observed.{seen}
 use Rattle.link_sim.specs.OneWay.{IsRested, on_way}
-use Rattle.link_sim.specs.OnWayPdus.{AreSpelled}
 use Rattle.link_sim.specs.Settling.{IsSettled}
-use Rattle.link_sim.specs.Sides.{other}
+use Rattle.link_sim.specs.Stations.{other}
 use Rattle.link_sim.specs.Sound.{IsSound}
 use Rattle.link_sim.specs.Theorem.{side_of, put_of, completions_at}
 use Rattle.link_sim.specs.Waiting.{one_tells}

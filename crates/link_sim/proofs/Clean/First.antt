@@ -12,7 +12,7 @@ use Rattle.link_sim.specs.declared.side.Side.{Side}
 use Rattle.link_sim.specs.declared.side.Side.TheVariants.{One, Two}
 use Rattle.link_sim.specs.declared.world_config.WorldConfig.{WorldConfig}
 use Rattle.link_sim.specs.Clean.{IsClean, IsCleanAt, IsCleanEntity, is_cancelling, is_bad}
-use Rattle.link_sim.specs.Sides.{other}
+use Rattle.link_sim.specs.Stations.{other}
 use Rattle.link_sim.specs.World.State.{WorldState, LinkState, IsFirst, IsFirstAt, entity_at, link_from, no_frames, station_at}
 use Rattle.link_sim.specs.World.Steps.{TakesPut}
 use Rattle.link_sim.proofs.Clean.Hears.{any-append}

@@ -22,10 +22,9 @@ use Rattle.cfdp_entity.specs.Sound.{IsSound as IsSoundEntity, FindsById, ComesTr
 use Rattle.cfdp_entity.specs.Steps.{takes, sender_takes, receiver_takes}
 use Rattle.cfdp_entity.specs.Table.{Entry, TableState}
 use Rattle.cfdp_station.specs.Taking.{HearsPdu, HearsAll}
-use Rattle.link_sim.specs.Between.{Pdu}
+use Rattle.link_sim.specs.Between.{Pdu, AreSpelled}
 use Rattle.link_sim.specs.Exchange.{AllTrue}
 use Rattle.link_sim.specs.Known.{AreKnown}
-use Rattle.link_sim.specs.OnWayPdus.{AreSpelled}
 use Rattle.link_sim.proofs.Clean.Hears.{IsKept, StaysClean, IsCleanTable, HearingLaws, IsFine, HearsClean, not-cancelling, uncancelling, kept-at, step-clean, heard-clean, heard-grows}
 use Rattle.link_sim.proofs.EveryPut.Known.{hears-known}
 use Rattle.link_sim.proofs.EveryPut.Pdus.{hears-one}

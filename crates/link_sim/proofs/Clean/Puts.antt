@@ -26,21 +26,19 @@ use Rattle.cfdp_entity.proofs.CallerLemmas.{same_id-true}
 use Rattle.link_sim.specs.declared.event.AcceptedPut.{AcceptedPut}
 use Rattle.link_sim.specs.declared.side.Side.{Side}
 use Rattle.link_sim.specs.declared.side.Side.TheVariants.{One, Two}
-use Rattle.link_sim.specs.Between.{Pdu, of_id, IsUnspoiled, IsOnCourse}
+use Rattle.link_sim.specs.Between.{Pdu, of_id, IsUnspoiled, IsOnCourse, AreSpelled}
 use Rattle.link_sim.specs.Clean.{IsClean, IsCleanEntity, is_cancelling, is_bad}
 use Rattle.link_sim.specs.EveryPut.{LosesNone, KeepCourse, StayOnCourse}
 use Rattle.link_sim.specs.Exchange.{AllTrue, IsTrueForth, IsTrueBack, pauses}
 use Rattle.link_sim.specs.Known.{IsDirected, IsSending, AreKnown}
 use Rattle.link_sim.specs.Observed.{seen}
 use Rattle.link_sim.specs.OneWay.{on_way}
-use Rattle.link_sim.specs.OnWayPdus.{AreSpelled}
-use Rattle.link_sim.specs.Sides.{other}
+use Rattle.link_sim.specs.Stations.{other}
 use Rattle.link_sim.specs.Sound.{IsSound}
 use Rattle.link_sim.specs.Theorem.{WorldSeen, at, side_of, accepted_as, with_octets, put_by, put_of}
 use Rattle.link_sim.specs.Waiting.{IsUncancelled, spoils}
-use Rattle.link_sim.specs.Work.{AreWithin, IsSeenWithin}
+use Rattle.link_sim.specs.Work.{AreWithin, IsSeenWithin, most_offset}
 use Rattle.link_sim.specs.World.State.{WorldState, entity_at, way_from}
-use Rattle.link_sim.specs.WorldWork.{most_offset}
 use Rattle.link_sim.proofs.Clean.Hears.{IsFine, IsFineForth, flag-allows, not-cancelling}
 use Rattle.link_sim.proofs.Events.Keeping.{other-other}
 use Rattle.link_sim.proofs.EveryPut.Routes.{directed-own, directed-peer}

@@ -24,22 +24,20 @@ use Rattle.link_sim.specs.declared.event.Event.TheVariants as event
 use Rattle.link_sim.specs.declared.event.Applied.TheVariants as did
 use Rattle.link_sim.specs.declared.side.Side.{Side}
 use Rattle.link_sim.specs.declared.side.Side.TheVariants.{One, Two}
-use Rattle.link_sim.specs.Between.{Pdu}
+use Rattle.link_sim.specs.Between.{Pdu, AreSpelled}
 use Rattle.link_sim.specs.Clean.{IsClean, IsCleanAt, IsCleanEntity}
 use Rattle.link_sim.specs.EveryPut.{KeepCourse}
 use Rattle.link_sim.specs.Exchange.{AllTrue}
 use Rattle.link_sim.specs.Known.{AreKnown}
 use Rattle.link_sim.specs.Observed.{seen}
 use Rattle.link_sim.specs.OneWay.{OneWayState, on_way, packets_sent, pdus_sent, pdus_delivered}
-use Rattle.link_sim.specs.OnWayPdus.{AreSpelled}
-use Rattle.link_sim.specs.Sides.{other}
+use Rattle.link_sim.specs.Stations.{other}
 use Rattle.link_sim.specs.Sound.{IsSound}
 use Rattle.link_sim.specs.Theorem.{put_of}
-use Rattle.link_sim.specs.Work.{AreWithin}
+use Rattle.link_sim.specs.Work.{AreWithin, most_offset}
 use Rattle.link_sim.specs.Settling.{IsOfSettling, KeepsAll, all_shortages}
 use Rattle.link_sim.specs.World.State.{WorldState, LinkState, entity_at, link_from, station_at, way_from}
 use Rattle.link_sim.specs.World.Steps.{SendsOne, FailsSource, Fills, DeliversFrame, Steps}
-use Rattle.link_sim.specs.WorldWork.{most_offset}
 use Rattle.link_sim.proofs.Clean.Hears.{IsCleanTable, HearingLaws, IsFine, HearsClean, any-append}
 use Rattle.link_sim.proofs.Clean.Given.{served-clean, served-drops, all-clean}
 use Rattle.link_sim.proofs.Clean.Puts.{IsCourseFrom, course-from, IsText, text-at, in-front, all-from, fine-at}

@@ -44,7 +44,7 @@ use Rattle.link_sim.specs.Running.{AreSteps, Called, Happens, Led}
 use Rattle.link_sim.specs.World.Steps as steps
 use Rattle.link_sim.specs.World.State.{WorldState, IsFirst, IsFirstAt}
 use Rattle.link_sim.specs.World.Steps.{DeliversFrame, FailsSource, SendsOne, Steps, StrikesFrame, TellsTime}
-use Rattle.link_sim.specs.WorldConfig.{IsWorldConfig}
+use Rattle.link_sim.specs.Stations.{IsWorldConfig}
 use Rattle.link_sim.proofs.Events.AtStations.{delivered_at, first_carried, struck_at, world_of}
 use Rattle.link_sim.proofs.Events.Behind.{GoesDown, IsBehind, caught_up, flush_goes, frame_leaves, none_behind, pdu_goes}
 use Rattle.link_sim.proofs.Events.Behind as behind

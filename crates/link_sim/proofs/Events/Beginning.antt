@@ -24,8 +24,7 @@ use Rattle.link_sim.specs.declared.event.Applied.TheVariants as did
 use Rattle.link_sim.specs.declared.event.Refusal.TheVariants as refusal
 use Rattle.link_sim.specs.declared.event.AcceptedPut.{AcceptedPut}
 use Rattle.link_sim.specs.declared.world_config.WorldConfig.{WorldConfig}
-use Rattle.link_sim.specs.WorldConfig.{IsWorldConfig}
-use Rattle.link_sim.specs.Sides.{other}
+use Rattle.link_sim.specs.Stations.{IsWorldConfig, other}
 use Rattle.link_sim.specs.OneWay.{IsOneWay, pdus_sent, pdus_delivered}
 use Rattle.link_sim.specs.World.State.{WorldState, LinkState, entity_at, way, way_from, files_at, no_frames, IsFirst}
 use Rattle.link_sim.specs.World.Steps.{Puts, Calls, Polls, Flushes, Delivers, Strikes, Steps}

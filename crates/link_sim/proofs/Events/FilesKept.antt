@@ -40,7 +40,7 @@ use Rattle.link_sim.specs.declared.event.Event.TheVariants as event
 use Rattle.link_sim.specs.declared.event.Refusal.TheVariants as refusal
 use Rattle.link_sim.specs.declared.side.Side.{Side}
 use Rattle.link_sim.specs.declared.side.Side.TheVariants.{One, Two}
-use Rattle.link_sim.specs.Sides.{other}
+use Rattle.link_sim.specs.Stations.{other}
 use Rattle.link_sim.specs.World.State.{WorldState, entity_at, published_at, station_at}
 use Rattle.link_sim.specs.World.Steps.{Calls, Delivers, Flushes, Polls, PublishesAt, Puts, Stays, Steps, Strikes}
 

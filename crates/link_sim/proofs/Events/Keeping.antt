@@ -23,14 +23,13 @@ use Rattle.cfdp_entity.specs.Sound.{IsSound as IsSoundEntity, FindsMore, ComesTr
 use Rattle.link_sim.specs.declared.side.Side.{Side}
 use Rattle.link_sim.specs.declared.side.Side.TheVariants.{One, Two}
 use Rattle.link_sim.specs.declared.event.AcceptedPut.{AcceptedPut}
-use Rattle.link_sim.specs.Sides.{other}
+use Rattle.link_sim.specs.Stations.{other}
 use Rattle.link_sim.specs.OneWay.{OneWayState, IsOneWay, packets_sent, pdus_sent, pdus_delivered}
 use Rattle.link_sim.specs.World.State.{WorldState, entity_at, way_from}
 use Rattle.link_sim.specs.Theorem.{at, put_of, completions_at, FoldsAt, CausedAt, ToldAt, TruthAt, HoldsAt}
 use Rattle.link_sim.specs.Observed.{seen}
 use Rattle.link_sim.specs.Sound.{SentTruly, IsSound}
-use Rattle.link_sim.specs.Work.{AreWithin}
-use Rattle.link_sim.specs.WorldWork.{most_offset}
+use Rattle.link_sim.specs.Work.{AreWithin, most_offset}
 
 -- ---- two sides
 pub both : (P : Side → Type 0) (s : Side) → P s → P (other s) → (t : Side) → P t

@@ -33,7 +33,7 @@ use Rattle.link_stack.specs.Upward.{LinkReceiverState}
 use Rattle.link_sim.specs.declared.side.Side.{Side}
 use Rattle.link_sim.specs.declared.side.Side.TheVariants.{One, Two}
 use Rattle.link_sim.specs.declared.event.AcceptedPut.{AcceptedPut}
-use Rattle.link_sim.specs.Sides.{other}
+use Rattle.link_sim.specs.Stations.{other}
 use Rattle.link_sim.specs.OneWay.{IsOneWay, pdus_sent, pdus_delivered}
 use Rattle.link_sim.specs.World.State.{WorldState, LinkState, station_at, link_from, entity_at, way, way_from}
 use Rattle.link_sim.specs.World.Steps.{KeepsLinks, Stays, TakesPut, StepsAt, TellsTime, KeepsMarks, SendsOne, FailsSource, Fills, DeliversFrame, StrikesFrame}

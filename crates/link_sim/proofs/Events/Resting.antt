@@ -16,7 +16,7 @@ use Rattle.link_sim.specs.declared.side.Side.{Side}
 use Rattle.link_sim.specs.declared.side.Side.TheVariants.{One, Two}
 use Rattle.link_sim.specs.OneWay.{OneWayState, IsOneWay, IsRested, SendsMore}
 use Rattle.link_sim.specs.Running.{AreApart}
-use Rattle.link_sim.specs.Sides.{other}
+use Rattle.link_sim.specs.Stations.{other}
 use Rattle.link_sim.specs.Sound.{IsSound}
 use Rattle.link_sim.specs.World.State.{WorldState, LinkState, station_at, link_from, way, way_from}
 use Rattle.link_sim.specs.World.Steps.{Fills, KeepsLinks, KeepsMarks, SendsOne, Steps, TakesPut}

@@ -24,13 +24,12 @@ use Rattle.link_sim.specs.declared.event.Applied.TheVariants as did
 use Rattle.link_sim.specs.declared.event.Refusal.TheVariants as refusal
 use Rattle.link_sim.specs.declared.event.AcceptedPut.{AcceptedPut}
 use Rattle.link_sim.specs.declared.world_config.WorldConfig.{WorldConfig}
-use Rattle.link_sim.specs.Between.{Pdu}
+use Rattle.link_sim.specs.Between.{Pdu, AreSpelled}
 use Rattle.link_sim.specs.EveryPut.{KeepCourse, LosesNone}
 use Rattle.link_sim.specs.Known.{AreKnown, ArePeers}
 use Rattle.link_sim.specs.Observed.{seen}
 use Rattle.link_sim.specs.OneWay.{on_way, pdus_delivered}
-use Rattle.link_sim.specs.OnWayPdus.{AreSpelled}
-use Rattle.link_sim.specs.Sides.{other}
+use Rattle.link_sim.specs.Stations.{other}
 use Rattle.link_sim.specs.Sound.{IsSound}
 use Rattle.link_sim.specs.Theorem.{put_of, put_by, accepted_as}
 use Rattle.link_sim.specs.World.State.{WorldState, LinkState, station_at, link_from, entity_at, way, way_from, no_frames, IsFirst}

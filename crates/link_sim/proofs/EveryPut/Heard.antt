@@ -19,9 +19,8 @@ use Rattle.cfdp_entity.specs.History.{KeepsRecords, Leads}
 use Rattle.cfdp_entity.specs.Sound.{IsSound as IsSoundEntity, FindsById, ComesTrue, GoesOn}
 use Rattle.cfdp_entity.specs.Table.{TableState}
 use Rattle.cfdp_station.specs.Taking.{HearsPdu, HearsAll}
-use Rattle.link_sim.specs.Between.{Pdu, StaysOnCourse}
+use Rattle.link_sim.specs.Between.{Pdu, StaysOnCourse, AreSpelled}
 use Rattle.link_sim.specs.Known.{AreKnown}
-use Rattle.link_sim.specs.OnWayPdus.{AreSpelled}
 use Rattle.link_sim.proofs.Course.Laws.{CourseLaws}
 use Rattle.link_sim.proofs.EveryPut.Steady.{mine-hears, theirs-hears, forth-lost, back-lost}
 use Rattle.link_sim.proofs.EveryPut.Steps.{IsInOrder, in-order}

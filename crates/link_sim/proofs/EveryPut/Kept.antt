@@ -23,10 +23,9 @@ use Rattle.cfdp_entity.specs.Table.{Entry, TableState, Ticks, place_of, record_o
 use Rattle.cfdp_entity.proofs.CallerLemmas.{same_id-true}
 use Rattle.cfdp_entity.proofs.Entries.{same_id-itself}
 use Rattle.cfdp_entity.proofs.Histories.{no-record}
-use Rattle.link_sim.specs.Between.{Pdu, of_id, StaysOnCourse}
+use Rattle.link_sim.specs.Between.{Pdu, of_id, StaysOnCourse, AreSpelled}
 use Rattle.link_sim.specs.Exchange.{AllTrue}
 use Rattle.link_sim.specs.Known.{IsDirected, AreKnown, ArePeers, AddsPut}
-use Rattle.link_sim.specs.OnWayPdus.{AreSpelled}
 use Rattle.link_sim.proofs.Course.All.{course-laws}
 use Rattle.link_sim.proofs.EveryPut.Heard.{Runs, theirs-run, mine-run}
 use Rattle.link_sim.proofs.EveryPut.Steady.{mine-puts, mine-puts-own, theirs-puts, mine-called, theirs-called, mine-ticks, theirs-ticks, mine-sends, theirs-sends, mine-fails, theirs-fails}

@@ -5,7 +5,7 @@ use Rattle.link_stack.specs.Drops.{count_of}
 use Rattle.link_stack.specs.Upward.{LinkReceiverState}
 use Rattle.link_sim.specs.declared.side.Side.{Side}
 use Rattle.link_sim.specs.EveryPut.{LosesNoneAt, LosesNone}
-use Rattle.link_sim.specs.Sides.{other}
+use Rattle.link_sim.specs.Stations.{other}
 use Rattle.link_sim.specs.World.State.{WorldState, LinkState, station_at, link_from}
 use Rattle.link_sim.specs.World.Steps.{KeepsLinks, KeepsMarks, DeliversFrame, StrikesFrame}
 use Rattle.link_sim.proofs.Events.Keeping.{both}

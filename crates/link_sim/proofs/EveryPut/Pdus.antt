@@ -16,8 +16,7 @@ use Rattle.cfdp_entity.specs.Entity.{Counted}
 use Rattle.cfdp_entity.specs.Hearing.{Takes, DropsBy, route, HearsOctets, DropsOctets, DropsPdu}
 use Rattle.mpdu.specs.Parts.{IsPartOf}
 use Rattle.cfdp_station.specs.Taking.{HearsPdu, HearsAll}
-use Rattle.link_sim.specs.Between.{Pdu}
-use Rattle.link_sim.specs.OnWayPdus.{AreSpelled}
+use Rattle.link_sim.specs.Between.{Pdu, AreSpelled}
 use Rattle.link_sim.specs.Work.{text_work, content_work}
 
 -- ---- lists of texts

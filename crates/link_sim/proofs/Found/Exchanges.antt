@@ -15,16 +15,15 @@ use Rattle.cfdp_entity.specs.Table.{record_of}
 use Rattle.cfdp_entity.specs.Truth.{KnowsTruth}
 use Rattle.cfdp_entity.proofs.CallerLemmas.{same_id-true}
 use Rattle.link_sim.specs.declared.side.Side.{Side}
-use Rattle.link_sim.specs.Between.{Pdu, of_id, IsReceiverIn, IsOnCourse, IsUnspoiled}
+use Rattle.link_sim.specs.Between.{Pdu, of_id, IsReceiverIn, IsOnCourse, IsUnspoiled, AreSpelled}
 use Rattle.link_sim.specs.Course.{IsCourse}
 use Rattle.link_sim.specs.EveryPut.{KeepCourse}
 use Rattle.link_sim.specs.Found.{IsPutOf, HasExchange}
 use Rattle.link_sim.specs.Known.{IsSending, AreKnown}
 use Rattle.link_sim.specs.Observed.{seen}
 use Rattle.link_sim.specs.OneWay.{OneWayState, on_way, arriving, pdus_delivered, IsOneWay}
-use Rattle.link_sim.specs.OnWayPdus.{AreSpelled}
 use Rattle.link_sim.specs.Runs.{Exchange}
-use Rattle.link_sim.specs.Sides.{other}
+use Rattle.link_sim.specs.Stations.{other}
 use Rattle.link_sim.specs.Sound.{IsSound}
 use Rattle.link_sim.specs.Theorem.{put_of}
 use Rattle.link_sim.specs.World.State.{WorldState, entity_at, way_from}

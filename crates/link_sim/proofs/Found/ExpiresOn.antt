@@ -13,15 +13,14 @@ use Rattle.cfdp_entity.specs.Seen.{Seen, Sends, Receives}
 use Rattle.cfdp_entity.specs.Sound.{FindsMore}
 use Rattle.cfdp_entity.specs.Table.{TableState, all_expired, at_time, record_of}
 use Rattle.cfdp_entity.specs.Timed.{waits_for}
-use Rattle.link_sim.specs.Between.{Pdu, IsReceiverIn}
+use Rattle.link_sim.specs.Between.{Pdu, IsReceiverIn, AreSpelled}
 use Rattle.link_sim.specs.Exchange.{tells_complete}
 use Rattle.link_sim.specs.Found.{HasExchange, ExpiresHere, ExpiresThere, ExpiresOn}
 use Rattle.link_sim.specs.Known.{AreKnown}
 use Rattle.link_sim.specs.Observed.{seen}
 use Rattle.link_sim.specs.OneWay.{arriving}
-use Rattle.link_sim.specs.OnWayPdus.{AreSpelled}
 use Rattle.link_sim.specs.Runs.{Exchange, expire_sender, ReceiverExpires}
-use Rattle.link_sim.specs.Sides.{other}
+use Rattle.link_sim.specs.Stations.{other}
 use Rattle.link_sim.specs.Sound.{IsSound}
 use Rattle.link_sim.specs.Stages.{AreWaitedBySender, AreWaitedByReceiver}
 use Rattle.link_sim.specs.Theorem.{put_of}

@@ -9,12 +9,11 @@ use Rattle.cfdp_directives.specs.User.Put.{Put}
 use Rattle.cfdp_sender.specs.State.{SenderState}
 use Rattle.cfdp_receiver.specs.State.{ReceiverState}
 use Rattle.cfdp_entity.specs.Entity.{EntityState}
-use Rattle.link_sim.specs.Between.{Pdu, of_id, IsOnCourse, StaysOnCourse}
+use Rattle.link_sim.specs.Between.{Pdu, of_id, IsOnCourse, StaysOnCourse, AreSpelled}
 use Rattle.link_sim.specs.Course.{IsTrueBetween, EofComes, Comes, AsksFirst, AsksFrom, owes_metadata, owes_octet, FileComes, AckComes, EndComes, IsCourse}
 use Rattle.link_sim.specs.Exchange.{is_metadata, is_eof, is_finished, is_ack_of_finished, is_ack_of_eof, brings, names, names_metadata, one_says, AllTrue, IsTrueForth, IsTrueBack, knows_metadata, holds}
 use Rattle.link_sim.specs.Known.{AreKnown, IsDirected}
-use Rattle.link_sim.specs.OnWayPdus.{AreSpelled}
-use Rattle.link_sim.specs.Swapped.{IsSwapped}
+use Rattle.link_sim.specs.Runs.{IsSwapped}
 use Rattle.link_sim.proofs.EveryPut.Views.{of_id-append}
 use Rattle.link_sim.proofs.EveryPut.Known.{all-append, all-front, all-behind, known-with}
 use Rattle.link_sim.proofs.EveryPut.Pdus.{InTwo, spelled-append, spelled-split}

@@ -8,7 +8,7 @@ use Rattle.mpdu.proofs.Packed.{idle_len-low}
 use Rattle.mpdu.proofs.Carried.{packet_short}
 use Rattle.link_stack.specs.Downward.{packing}
 use Rattle.link_sim.specs.OneWay.{OneWayState, packets_sent, IsOneWay, IsRested, SendsMore}
-use Rattle.link_sim.specs.WorldWork.{octets_left}
+use Rattle.link_sim.specs.Work.{octets_left}
 use Rattle.link_sim.proofs.Ways.Sending.{last_whole}
 use Rattle.link_sim.proofs.OnWay.Rests.{zones-more, zones-most, whole_zone, same-link, sent-now, length-idle, flush-is}
 

@@ -10,12 +10,12 @@ use Rattle.link_stack.specs.Upward.{LinkReceiverState}
 use Rattle.cfdp_station.specs.Polling.{next_pdu}
 use Rattle.link_sim.specs.declared.side.Side.{Side}
 use Rattle.link_sim.specs.declared.side.Side.TheVariants.{One, Two}
-use Rattle.link_sim.specs.Sides.{other}
+use Rattle.link_sim.specs.Stations.{other}
 use Rattle.link_sim.specs.OneWay.{IsOneWay, IsRested, on_way}
 use Rattle.link_sim.specs.Settling.{IsSettledAt}
 use Rattle.link_sim.specs.World.State.{WorldState, LinkState, station_at, link_from, entity_at, way, way_from}
 use Rattle.link_sim.specs.World.Steps.{KeepsLinks, SendsOne, Fills, DeliversFrame, StrikesFrame}
-use Rattle.link_sim.specs.WorldWork.{octets_left}
+use Rattle.link_sim.specs.Work.{octets_left}
 use Rattle.link_sim.proofs.OnWay.Pdus.{pdus_ended, on-way-sends, on-way-flushes, on-way-takes, on-way-hears, on-way-all, on-way-settled}
 use Rattle.link_sim.proofs.OnWay.Left.{left-polls, left-fills, left-takes}
 

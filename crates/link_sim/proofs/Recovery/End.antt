@@ -20,7 +20,7 @@ use Rattle.link_sim.specs.Clean.{IsCompleteAt}
 use Rattle.link_sim.specs.Found.{IsPutOf}
 use Rattle.link_sim.specs.Observed.{seen}
 use Rattle.link_sim.specs.Runs.{Exchange}
-use Rattle.link_sim.specs.Sides.{other}
+use Rattle.link_sim.specs.Stations.{other}
 use Rattle.link_sim.specs.Sound.{IsSound}
 use Rattle.link_sim.specs.Stages.{Stands, IsCompleteExchange}
 use Rattle.link_sim.specs.Theorem.{accepted_as}

@@ -24,7 +24,7 @@ use Rattle.link_sim.specs.Exchange.{maybe}
 use Rattle.link_sim.specs.Found.{IsPutOf, HasExchange, RunsTo}
 use Rattle.link_sim.specs.OneWay.{arriving, on_way}
 use Rattle.link_sim.specs.Runs.{Exchange, IsItsSender, Runs}
-use Rattle.link_sim.specs.Sides.{other}
+use Rattle.link_sim.specs.Stations.{other}
 use Rattle.link_sim.specs.Sound.{IsSound}
 use Rattle.link_sim.specs.Stages.{Stands, IsAtRest, IsActiveCourse, IsBelow, IsReceiverBelow, IsOver, IsOverAt}
 use Rattle.link_sim.specs.Tracks.{StandsIn, StandsOf, OverIn, AllStand, AllTracked, RunsAlong}

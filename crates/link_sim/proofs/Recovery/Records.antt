@@ -18,7 +18,7 @@ use Rattle.link_sim.specs.Found.{IsPutOf, HasExchange}
 use Rattle.link_sim.specs.Known.{IsWithPeer}
 use Rattle.link_sim.specs.Observed.{seen}
 use Rattle.link_sim.specs.Runs.{Exchange, IsItsSender}
-use Rattle.link_sim.specs.Sides.{other}
+use Rattle.link_sim.specs.Stations.{other}
 use Rattle.link_sim.specs.Sound.{IsSound}
 use Rattle.link_sim.specs.Stages.{is_answered}
 use Rattle.link_sim.specs.Theorem.{put_of}

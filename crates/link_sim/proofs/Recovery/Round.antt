@@ -28,7 +28,7 @@ use Rattle.link_sim.specs.EveryPut.{KeepsPuts}
 use Rattle.link_sim.specs.Exchange.{is_closed, is_closed_in, maybe}
 use Rattle.link_sim.specs.Found.{IsPutOf, HasExchange, RunsTo, ExpiresHere, ExpiresThere, ExpiresOn}
 use Rattle.link_sim.specs.Runs.{Exchange, IsItsSender, Runs, Settles, TellsMore, expire_sender, ReceiverExpires}
-use Rattle.link_sim.specs.Sides.{other}
+use Rattle.link_sim.specs.Stations.{other}
 use Rattle.link_sim.specs.Sound.{IsSound}
 use Rattle.link_sim.specs.Stages.{Stands, IsAtRest, IsOver, AreWaitedBySender, AreWaitedByReceiver, is_answered, is_answered_in}
 use Rattle.link_sim.specs.Tracks.{StandsIn, OverIn, AllTracked, KeepsPutsOf, RunsAlong, GetsDone, Advances, done_at}

@@ -16,9 +16,8 @@ use Rattle.cfdp_entity.specs.Steps.{takes}
 use Rattle.cfdp_entity.specs.Table.{Entry, TableState, step_of, stepped}
 use Rattle.cfdp_entity.specs.Truth.{IsTrueOf}
 use Rattle.cfdp_station.specs.Taking.{HearsAll}
-use Rattle.link_sim.specs.Between.{Pdu, of_id}
+use Rattle.link_sim.specs.Between.{Pdu, of_id, AreSpelled}
 use Rattle.link_sim.specs.Known.{AreKnown}
-use Rattle.link_sim.specs.OnWayPdus.{AreSpelled}
 use Rattle.link_sim.proofs.Clean.Given.{one-sound, one-goes, so, known-next}
 use Rattle.link_sim.proofs.Clean.Hears.{HearingLaws, flag-allows, forth-away}
 use Rattle.link_sim.proofs.Clean.Puts.{true-of}

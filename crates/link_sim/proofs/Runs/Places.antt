@@ -21,10 +21,9 @@ use Rattle.cfdp_entity.proofs.Histories.{key-at}
 use Rattle.link_sim.specs.Between.{Pdu, of_id, IsReceiverIn}
 use Rattle.link_sim.specs.Exchange.{tells_complete}
 use Rattle.link_sim.specs.Found.{IsExchange}
-use Rattle.link_sim.specs.Runs.{Exchange, Runs, Settles, TellsMore, told_then}
+use Rattle.link_sim.specs.Runs.{Exchange, Runs, Settles, TellsMore, told_then, IsSwapped}
 use Rattle.link_sim.proofs.EveryPut.Goes.{at-own}
 use Rattle.link_sim.proofs.EveryPut.Views.{some-same, told-more}
-use Rattle.link_sim.specs.Swapped.{IsSwapped}
 use Rattle.link_sim.specs.Waiting.{one_tells}
 use Rattle.link_sim.proofs.Lanes.Swapping.{swapped-of}
 

@@ -17,11 +17,10 @@ use Rattle.cfdp_receiver.specs.declared.state.ReceiverPhase.TheVariants as recei
 use Rattle.cfdp_receiver.specs.State.{ReceiverState}
 use Rattle.cfdp_receiver.specs.Steps.{waits, waits_in}
 use Rattle.link_sim.specs.Exchange.{AllTrue}
-use Rattle.link_sim.specs.Runs.{Exchange, TellsMore, Settles, Runs}
+use Rattle.link_sim.specs.Runs.{Exchange, TellsMore, Settles, Runs, IsSwapped}
 use Rattle.link_sim.specs.Stages.{NothingDue, IsAtRest, IsOverAt, IsOver, is_answered_in, is_answered}
 use Rattle.link_sim.specs.Work.{opening_work}
 use Rattle.link_sim.proofs.Course.Lists.{true-sent}
-use Rattle.link_sim.specs.Swapped.{IsSwapped}
 use Rattle.link_sim.proofs.Lanes.Swapping.{swapped-all, swapped-nil}
 use Rattle.link_sim.proofs.Stages.Keep.{ExchangeKeeps, StaysReceiver, settles-keep}
 

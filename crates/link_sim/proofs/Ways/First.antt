@@ -12,7 +12,7 @@ use Rattle.link_sim.specs.declared.side.Side.TheVariants.{One, Two}
 use Rattle.link_sim.specs.declared.world_config.WorldConfig.{WorldConfig}
 use Rattle.link_sim.specs.OneWay.{IsOneWay, IsRested}
 use Rattle.link_sim.specs.World.State.{WorldState, LinkState, IsFirst, no_frames, way, way_from}
-use Rattle.link_sim.specs.WorldConfig.{IsWorldConfig}
+use Rattle.link_sim.specs.Stations.{IsWorldConfig}
 use Rattle.link_sim.proofs.OnWay.Rests.{rests-unflushed}
 use Rattle.link_sim.proofs.Ways.Sending.{new_way, way_is}
 

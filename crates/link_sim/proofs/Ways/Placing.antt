@@ -3,7 +3,7 @@ use Rattle.std.proofs.Common.{◌≡◌, ℕ, zero, suc, add-one, ◌+◌, ◌*�
 use Rattle.std.proofs.lemmas.List.{drop-drop, drop-take, take-take, length-take, take-append-le}
 use Rattle.std.proofs.Math.Seq.{take-append_seam}
 use Rattle.std.proofs.Math.Nat.{mul-le-mul_right}
-use Rattle.link_sim.specs.Pieces.{pieces}
+use Rattle.link_sim.specs.FrameLink.{pieces}
 
 pub pieces_len : (len n : ℕ) (o : List ℕ) → length (pieces len n o) ≡ n
 unfolding pieces

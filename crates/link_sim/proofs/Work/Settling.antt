@@ -9,16 +9,15 @@ use Rattle.link_sim.specs.declared.side.Side.TheVariants.{One, Two}
 use Rattle.link_sim.specs.declared.event.Event.{Event}
 use Rattle.link_sim.specs.declared.event.Event.TheVariants as event
 use Rattle.link_sim.specs.declared.event.Applied.TheVariants as did
-use Rattle.link_sim.specs.Sides.{other}
+use Rattle.link_sim.specs.Stations.{other}
 use Rattle.link_sim.specs.Observed.{seen}
 use Rattle.link_sim.specs.OneWay.{IsRested, on_way}
 use Rattle.link_sim.specs.Settling.{IsOfSettling}
 use Rattle.link_sim.specs.Sound.{IsSound}
 use Rattle.link_sim.specs.Theorem.{put_of}
-use Rattle.link_sim.specs.Work.{entity_work, text_work, texts_work}
+use Rattle.link_sim.specs.Work.{entity_work, text_work, texts_work, most_offset, octets_left, world_work}
 use Rattle.link_sim.specs.World.State.{WorldState, station_at, entity_at, way_from}
 use Rattle.link_sim.specs.World.Steps.{SendsOne, FailsSource, DeliversFrame, Flushes, Steps}
-use Rattle.link_sim.specs.WorldWork.{most_offset, octets_left, world_work}
 use Rattle.link_sim.proofs.OnWay.World.{SendsOnWay, FlushesOnWay, HearsOnWay, forth-kept, back-kept, polls-on-way, fills-on-way, delivers-on-way}
 use Rattle.link_sim.proofs.Work.Entity.{work-moved, work-failed, work-hears-all, work-none, work-cons, work-append, work-part}
 

@@ -17,11 +17,10 @@ use Rattle.link_sim.specs.declared.event.Applied.{Applied}
 use Rattle.link_sim.specs.declared.event.Applied.TheVariants as did
 use Rattle.link_sim.specs.declared.event.Refusal.TheVariants as refusal
 use Rattle.link_sim.specs.declared.world_config.WorldConfig.{WorldConfig}
-use Rattle.link_sim.specs.Sides.{other}
-use Rattle.link_sim.specs.Work.{AreWithin}
+use Rattle.link_sim.specs.Stations.{other}
+use Rattle.link_sim.specs.Work.{AreWithin, most_offset}
 use Rattle.link_sim.specs.World.State.{WorldState, station_at, entity_at, IsFirst}
 use Rattle.link_sim.specs.World.Steps.{Spares, Stays, TakesPut, StepsAt, TellsTime, DeliversFrame, Puts, Calls, Polls, Flushes, Delivers, Strikes, Steps}
-use Rattle.link_sim.specs.WorldWork.{most_offset}
 use Rattle.link_sim.proofs.Events.Keeping.{both, each}
 use Rattle.link_sim.proofs.Work.Within.{within-first, within-put, within-called, within-ticked, within-served}
 use Rattle.link_sim.proofs.Work.Entity.{within-hears-all}

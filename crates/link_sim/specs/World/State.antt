@@ -12,7 +12,7 @@ use Rattle.link_sim.specs.declared.event.AcceptedPut.{AcceptedPut}
 use Rattle.link_sim.specs.declared.world_config.WorldConfig.{WorldConfig}
 use Rattle.link_sim.specs.FrameLink.{FrameLinkState}
 use Rattle.link_sim.specs.OneWay.{OneWayState}
-use Rattle.link_sim.specs.Sides.{other}
+use Rattle.link_sim.specs.Stations.{other}
 
 -- All frames that a station sent, in order; the marks of those that no longer wait, in the same
 -- order: true where delivered; and how many of the last of these were struck in a row.

@@ -31,7 +31,7 @@ use Rattle.link_sim.specs.declared.event.Refusal.TheVariants as refusal
 use Rattle.link_sim.specs.FrameLink.{most_struck}
 use Rattle.link_sim.specs.AtStation.{KeepsFailures, KeepsOutbox, CountsPut}
 use Rattle.link_sim.specs.OneWay.{SendsMore, SendsNone, HearsMore}
-use Rattle.link_sim.specs.Sides.{other}
+use Rattle.link_sim.specs.Stations.{other}
 use Rattle.link_sim.specs.World.State.{LinkState, WorldState, entity_at, link_from, station_at, way_from}
 
 -- ---- what stays

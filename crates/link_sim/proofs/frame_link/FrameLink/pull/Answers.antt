@@ -1,8 +1,7 @@
 use Rattle.std.proofs.Common.{◌≡◌, ℕ, ◌+◌, ◌-◌, ◌*◌, List, [], ◌∷◌, ◌++◌, length, take, drop, refl, sym, ap, subst, ◌∙◌, arith}
 use Rattle.link_stack.specs.Upward.{LinkReceiverState}
-use Rattle.link_sim.specs.FrameLink.{FrameLinkState}
+use Rattle.link_sim.specs.FrameLink.{FrameLinkState, pieces}
 use Rattle.link_sim.specs.OneWay.{OneWayState, IsOneWay, SendsNone, one_way, packets_sent}
-use Rattle.link_sim.specs.Pieces.{pieces}
 use Rattle.link_sim.proofs.Ways.Placing.{pieces_len, pieces_pulled}
 use Rattle.link_sim.proofs.Ways.Pulling.{pulls}
 use Rattle.link_sim.proofs.frame_link.FrameLink.pull.Goals as goal

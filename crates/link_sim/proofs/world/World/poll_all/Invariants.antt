@@ -1,6 +1,6 @@
 use Rattle.link_sim.specs.Observed.{seen}
 use Rattle.link_sim.specs.Settling.{LeadsTo}
-use Rattle.link_sim.specs.WorldWork.{world_work}
+use Rattle.link_sim.specs.Work.{world_work}
 use Rattle.link_sim.proofs.Ways.Sendings.{PolledSoFar}
 use Rattle.link_sim.proofs.world.World.poll_all.Given as goal
 

@@ -4,7 +4,7 @@ use Rattle.link_sim.specs.Observed.{seen}
 use Rattle.link_sim.specs.Settling.{HasCauseFrom, next_of}
 use Rattle.link_sim.specs.World.State.{WorldState}
 use Rattle.link_sim.specs.World.Steps.{Steps}
-use Rattle.link_sim.specs.WorldWork.{world_work}
+use Rattle.link_sim.specs.Work.{world_work}
 use Rattle.link_sim.specs.declared.event.Applied.TheVariants as did
 use Rattle.link_sim.specs.declared.settle_error.SettleError.{SettleError}
 use Rattle.link_sim.proofs.Events.Folding.{leads-none, leads-both}

@@ -1,7 +1,7 @@
 use Rattle.std.proofs.Common.{◌≡◌, ◌≤◌, ◌<◌, true, false}
 use Rattle.link_sim.specs.Observed.{seen}
 use Rattle.link_sim.specs.Settling.{LeadsTo}
-use Rattle.link_sim.specs.WorldWork.{world_work}
+use Rattle.link_sim.specs.Work.{world_work}
 use Rattle.link_sim.proofs.Clean.Causes.{OnSoFar}
 use Rattle.link_sim.proofs.world.World.repeat.Given as goal
 

@@ -3,7 +3,7 @@ use Rattle.std.proofs.lemmas.Result.{err_from_is_err_and}
 use Rattle.link_sim.specs.Observed.{seen}
 use Rattle.link_sim.specs.Settling.{HasCauseFrom, next_of}
 use Rattle.link_sim.specs.declared.event.Event.TheVariants as event
-use Rattle.link_sim.specs.WorldWork.{world_work}
+use Rattle.link_sim.specs.Work.{world_work}
 use Rattle.link_sim.specs.declared.settle_error.SettleError.{SettleError}
 use Rattle.link_sim.proofs.Events.Folding.{leads-both}
 use Rattle.link_sim.proofs.Clean.Causes.{lowers-most, on-both, cause-then, err-then}

@@ -1,6 +1,6 @@
 use Rattle.link_sim.specs.Observed.{seen}
 use Rattle.link_sim.specs.Settling.{LeadsTo, first_event}
-use Rattle.link_sim.specs.WorldWork.{world_work}
+use Rattle.link_sim.specs.Work.{world_work}
 use Rattle.link_sim.proofs.Clean.Causes.{OnSoFar}
 use Rattle.link_sim.proofs.world.World.settle_on.Given as goal
 

@@ -5,7 +5,7 @@ use Rattle.link_sim.specs.Onward.{GoesOnFrom}
 use Rattle.link_sim.specs.Settling.{HasCause, first_event}
 use Rattle.link_sim.specs.declared.event.Event.TheVariants as event
 use Rattle.link_sim.specs.declared.side.Side.TheVariants.{One, Two}
-use Rattle.link_sim.specs.WorldWork.{world_work}
+use Rattle.link_sim.specs.Work.{world_work}
 use Rattle.link_sim.specs.declared.settle_error.SettleError.{SettleError}
 use Rattle.link_sim.proofs.Events.Folding.{leads-both}
 use Rattle.link_sim.proofs.Clean.Causes.{Lowers, lowers-most, lowers-both, any-true, on-both, cause-then, err-then, round-settled}

@@ -1,6 +1,6 @@
 use Rattle.link_sim.specs.Observed.{seen}
 use Rattle.link_sim.specs.Settling.{LeadsTo}
-use Rattle.link_sim.specs.WorldWork.{world_work}
+use Rattle.link_sim.specs.Work.{world_work}
 use Rattle.link_sim.proofs.Ways.Sendings.{SentSoFar}
 use Rattle.link_sim.proofs.world.World.spread.Given as goal
 

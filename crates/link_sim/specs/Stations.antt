@@ -1,7 +1,18 @@
--- How two stations of one world may be set up.
-use Rattle.std.specs.Prelude.{◌≡◌}
+-- The two stations of a world, and how they may be set up.
+use Rattle.std.specs.Prelude.{ℕ, ◌≡◌}
+use Rattle.link_sim.specs.declared.side.Side.{Side}
+use Rattle.link_sim.specs.declared.side.Side.TheVariants.{One, Two}
 use Rattle.cfdp_station.specs.Config.{IsStationConfig}
 use Rattle.link_sim.specs.declared.world_config.WorldConfig.{WorldConfig}
+
+abbrev pub other : Side → Side
+other One = Two
+other Two = One
+
+-- the number of a station, which scripts take for its entity id
+abbrev pub entity_of : Side → ℕ
+entity_of One = 1
+entity_of Two = 2
 
 -- Each station can be set up so. They mirror each other: each is the other's peer, and takes the
 -- frames that the other sends.
