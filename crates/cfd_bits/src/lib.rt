@@ -10,8 +10,10 @@ ghost use Rattle.std.specs.Prelude.{◌≡◌, ℕ, ◌+◌, ◌-◌, ◌*◌, �
 ghost use Rattle.cfd_bits.specs.Field.{field, octets, SameOutside};
 
 mod laws;
+mod words;
 
 pub use laws::{a_field_is_its_bits, octets_read_are_written, what_is_written_is_read};
+pub use words::{put_eight, put_four, read_eight, read_four};
 
 /// The number that `width` bits (0 to 64) from bit `at_bit` on spell, the first of them the most
 /// significant.

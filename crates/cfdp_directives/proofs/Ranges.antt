@@ -1,13 +1,11 @@
 -- Pairs of offsets, one behind the other: in fields of w octets, and of a large file or of one that isn't.
-use Rattle.std.proofs.Common.{◌≡◌, ℕ, Bool, true, false, zero, suc, add-one, ◌+◌, ◌*◌, ◌/◌, ◌%◌, ◌<◌, ◌≤◌, List, [], ◌∷◌, ◌++◌, length, take, drop, slice_index_or, get_or, refl, sym, ap, ◌∙◌, arith, length-drop, length-append, append_assoc}
+use Rattle.std.proofs.Common.{◌≡◌, ℕ, Bool, true, false, zero, suc, add-one, ◌+◌, ◌*◌, ◌/◌, ◌%◌, ◌<◌, ◌≤◌, List, [], ◌∷◌, ◌++◌, length, take, drop, slice_index_or, refl, sym, ap, ◌∙◌, arith, length-drop, length-append, append_assoc}
 use Rattle.std.proofs.lemmas.List.{take-append-drop, drop-drop, nil_from_length, drop_more}
 use Rattle.std.proofs.lemmas.List.Concat.{flat_map-cons}
-use Rattle.std.specs.Int.{w32, from_le_bytes, from_be_bytes, to_le_bytes, swap_bytes}
-use Rattle.std.proofs.lemmas.Nat.{le_bytes_4}
 use Rattle.std.specs.List.{flat_map, AllByRecursion}
 use Rattle.cfd_bits.specs.Field.{field, octets}
 use Rattle.cfd_bits.proofs.BitFields.{field-below_octets}
-use Rattle.cfd_bits.proofs.Fields.{IsBytes, IsBytes-drop, octets-field, length-octets, field_octet}
+use Rattle.cfd_bits.proofs.Fields.{IsBytes, IsBytes-drop, octets-field, length-octets}
 use Rattle.cfdp_directives.specs.Pdu.Codes.{file_size_octets}
 use Rattle.cfdp_directives.specs.Pdu.Pair.{pair, pair_octets, pairs_of, pairs_read, ArePairs, IsPair}
 use Rattle.cfdp_directives.proofs.Options.{field_behind}
@@ -104,35 +102,6 @@ pub pair_at : (large : Bool) (o : List ℕ) (i : ℕ) → i < length o / pair_oc
       field (drop (file_size_octets large) (drop (pair_octets large * i) o)) 0 (8 * file_size_octets large),
     ) ∷ drop (i + 1) (pairs_read large o)
 pair_at large o i h = rw add-one (pair_at_in (file_size_octets large) (length o / pair_octets large) i o h)
-
--- four octets that were read as a number the other way round, and turned back
-four_below : (a b c d : ℕ) → a < 256 → b < 256 → c < 256 → d < 256 → (i : ℕ) → get_or (a ∷ b ∷ c ∷ d ∷ []) i 0 < 256
-four_below a b c d h0 h1 h2 h3 zero = h0
-four_below a b c d h0 h1 h2 h3 (suc zero) = h1
-four_below a b c d h0 h1 h2 h3 (suc (suc zero)) = h2
-four_below a b c d h0 h1 h2 h3 (suc (suc (suc zero))) = h3
-four_below a b c d h0 h1 h2 h3 (suc (suc (suc (suc i)))) = omega arith
-
-four_spelled : (o : List ℕ) (a b c d : ℕ) → get_or o 0 0 ≡ a → get_or o 1 0 ≡ b → get_or o 2 0 ≡ c → get_or o 3 0 ≡ d → a < 256 → b < 256 → c < 256 → d < 256 → field o 0 32 ≡ a * 16777216 + b * 65536
-    + c * 256 + d
-four_spelled o a b c d ea eb ec ed ha hb hc hd =
-    let f0 : field o 0 0 < 1 = field-below_octets o 0 0 in
-    let f1 : field o 0 8 ≡ 256 * field o 0 0 + a = field_octet o 0 0 0 a 8 refl ea ha refl in
-    let f2 : field o 0 16 ≡ 256 * field o 0 8 + b = field_octet o 0 0 1 b 16 refl eb hb refl in
-    let f3 : field o 0 24 ≡ 256 * field o 0 16 + c = field_octet o 0 0 2 c 24 refl ec hc refl in
-    let f4 : field o 0 32 ≡ 256 * field o 0 24 + d = field_octet o 0 0 3 d 32 refl ed hd refl in
-    omega (arith, f0, f1, f2, f3, f4)
-
-four_turned : (a b c d n : ℕ) → a < 256 → b < 256 → c < 256 → d < 256 → n ≡ from_le_bytes w32 (a ∷ b ∷ c ∷ d ∷ []) → swap_bytes w32 n ≡ a * 16777216 + b * 65536 + c * 256 + d
-four_turned a b c d n ha hb hc hd is =
-    let back : to_le_bytes w32 n ≡ a ∷ b ∷ c ∷ d ∷ [] = le_bytes_4 (a ∷ b ∷ c ∷ d ∷ []) n refl (four_below a b c d ha hb hc hd) is in
-    let whole : swap_bytes w32 n ≡ from_be_bytes w32 (a ∷ b ∷ c ∷ d ∷ []) = ap (from_be_bytes w32) back in
-    whole ∙ omega arith
-
-pub number_turned : (o : List ℕ) (n : ℕ) → IsBytes o → n ≡ from_le_bytes w32 (get_or o 0 0 ∷ get_or o 1 0 ∷ get_or o 2 0 ∷ get_or o 3 0 ∷ []) → swap_bytes w32 n ≡ field o 0 32
-number_turned o n b is =
-    four_turned (get_or o 0 0) (get_or o 1 0) (get_or o 2 0) (get_or o 3 0) n (b 0) (b 1) (b 2) (b 3) is
-    ∙ sym (four_spelled o (get_or o 0 0) (get_or o 1 0) (get_or o 2 0) (get_or o 3 0) refl refl refl refl (b 0) (b 1) (b 2) (b 3))
 
 pub pair_given : (ps : List (ℕ × ℕ)) (i : ℕ) → i < length ps → drop i ps ≡ slice_index_or ps i (0, 0) ∷ drop (i + 1) ps
 pair_given ps i h = drop_more ps i (0, 0) h

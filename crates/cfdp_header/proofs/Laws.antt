@@ -1,12 +1,12 @@
 -- Exported: what a header's octets determine, for the codec of whole PDUs.
-use Rattle.std.proofs.Common.{◌≡◌, ℕ, ◌+◌, ◌-◌, ◌*◌, ◌%◌, ◌<◌, ◌≤◌, Bool, true, false, eqb, ltb, List, [], ◌∷◌, ◌++◌, length, take, drop, None, Result, Ok, Err, refl, sym, ap, subst, ◌∙◌, eq-eqb, arith, append_assoc, length-append}
+use Rattle.std.proofs.Common.{◌≡◌, ℕ, ◌+◌, ◌-◌, ◌*◌, ◌/◌, ◌^◌, ◌%◌, ◌<◌, ◌≤◌, Bool, true, false, eqb, ltb, List, [], ◌∷◌, ◌++◌, length, take, drop, None, Result, Ok, Err, refl, sym, ap, subst, ◌∙◌, eq-eqb, arith, append_assoc, length-append}
 use Rattle.std.specs.Prelude.{IsOkAnd, IfOk}
 use Rattle.std.specs.Result.{result_err}
 use Rattle.std.proofs.lemmas.Bool.{le-ltb}
 use Rattle.std.proofs.lemmas.List.{take_at}
 use Rattle.cfd_bits.specs.Field.{field, octets, flag}
 use Rattle.cfd_bits.proofs.Fields.{length-octets, field_between, field_in_octet, field-append_left, field-drop}
-use Rattle.cfd_bits.proofs.BitFields.{field-below, field-below_octets}
+use Rattle.cfd_bits.proofs.BitFields.{field-below, field-below_octets, field-front}
 use Rattle.cfdp_header.specs.declared.value.Header.{Header}
 use Rattle.cfdp_header.specs.Header.{SpellsHeader, header_fault, header_len_told, header_len, FitsHeader, fixed_octets, header_octets}
 
@@ -118,6 +118,10 @@ spelled h rest fits len =
 -- a field of whole octets behind others
 pub field_behind : (n w : ℕ) (o : List ℕ) → field (drop n o) 0 w ≡ field o (8 * n) w
 field_behind n w o = let place : 8 * n + 0 ≡ 8 * n = omega arith in field-drop n o 0 w ∙ ap (λ (at : ℕ). field o at w) place
+
+-- those of the first of eight octets, which the number of all eight has in front
+pub field_in_eight : (n count : ℕ) (o : List ℕ) → count ≤ 8 → field (drop n o) 0 64 / 2 ^ (64 - 8 * count) ≡ field o (8 * n) (8 * count)
+field_in_eight n count o narrow = field-front (drop n o) 0 (8 * count) 64 (omega (arith, narrow)) ∙ field_behind n (8 * count) o
 
 -- fields of a front
 fronts : (a b x y : List ℕ) (at w : ℕ) → a ++ x ≡ b ++ y → at + w ≤ 8 * length a → at + w ≤ 8 * length b → field a at w ≡ field b at w

@@ -17,20 +17,25 @@ ghost use Rattle.cfdp_header.specs.Header.{SpellsHeader, header_fault, FitsHeade
 mod error;
 mod value;
 
-use cfd_bits::{get, put_uint, read_uint};
+use cfd_bits::{get, put_uint, read_eight, read_uint};
 pub use error::HeaderError;
 pub use value::{Header, TransactionId, fits_width};
 
-/// The number of `count` octets from octet `at` on.
+/// The number of `count` octets from octet `at` on. Where eight are there they are read at once, and
+/// those behind it are cut off.
 #[inline]
-#[tactic(auto, using(crate::proofs::Laws::field_behind))]
+#[tactic(auto, using(crate::proofs::Laws::field_behind, crate::proofs::Laws::field_in_eight))]
 fn number_at(bytes: &[u8], at: usize, count: usize) -> u64
     requires room { at + count ≤ length bytes.now }
+    requires some { 1 ≤ count }
     requires narrow { count ≤ 8 }
     ensures { result ≡ field bytes.now (8 * at) (8 * count) }
 {
     let (_, rest) = bytes.split_at(at);
-    read_uint(rest, count)
+    if rest.len() < 8 {
+        return read_uint(rest, count);
+    }
+    read_eight(rest) >> (64 - 8 * count)
 }
 
 /// The header at the front of `bytes`, and the data field behind it, to the end.

@@ -5,8 +5,10 @@
 //!     put AT WIDTH VALUE OCTETS   to put the last bits of a value into a field
 //!     three OCTETS                to put in three fields, and to tell the first
 //!     read COUNT OCTETS           to tell the number that so many octets in front are
+//!     load COUNT OCTETS           the same of four or eight octets, at once
 //!     write VALUE OCTETS          to put a value in front, and to read it again
 //!     uint AT VALUE OCTETS        to put it there, and to tell where it ends
+//!     store AT VALUE OCTETS       the same of four or eight octets, at once
 //!     bytes AT VALUE OCTETS       the same, of octets that are no number
 ghost use Rattle.std.specs.Prelude.{◌≡◌, ◌*◌, ◌^◌, ◌<◌, ◌≤◌, length, IfSome};
 ghost use Rattle.cfd_bits.specs.Field.{field};
@@ -14,7 +16,8 @@ ghost use Rattle.cfd_bits.specs.Field.{field};
 use crate::bench::{Bench, played, unknown};
 use crate::words::{count, octets, tell_octets, word};
 use cfd_bits::{
-    get, put_bits, put_bytes, put_uint, read_uint, what_is_written_is_read, write_uint,
+    get, put_bits, put_bytes, put_eight, put_four, put_uint, read_eight, read_four, read_uint,
+    what_is_written_is_read, write_uint,
 };
 use std::alloc::{AllocError, Global};
 
@@ -36,7 +39,7 @@ struct BitsBench {
 impl Bench for BitsBench {
     fn does(&mut self, verb: &str, words: &str, out: &mut String) -> Result<(), AllocError> {
         match verb {
-            "get" | "read" => {
+            "get" | "read" | "load" => {
                 let found = read(self.alloc, verb, words)?;
                 tell_number(found, out)
             }
@@ -59,7 +62,7 @@ fn read(alloc: Global, verb: &str, words: &str) -> Result<Option<u64>, AllocErro
         Ok(field_at(&octets, first, count(word(words, 1))))
     } else {
         let octets = octets(alloc, word(words, 1))?;
-        Ok(number_of(&octets, first))
+        Ok(number_of(&octets, first, verb == "load"))
     }
 }
 
@@ -73,11 +76,15 @@ fn field_at(octets: &[u8], at: usize, width: usize) -> Option<u64> {
     Some(get(octets, at, width))
 }
 
-fn number_of(octets: &[u8], count: usize) -> Option<u64> {
+fn number_of(octets: &[u8], count: usize, at_once: bool) -> Option<u64> {
     if count > 8 || count > octets.len() {
         return None;
     }
-    Some(read_uint(octets, count))
+    match count {
+        4 if at_once => Some(u64::from(read_four(octets))),
+        8 if at_once => Some(read_eight(octets)),
+        _ => Some(read_uint(octets, count)),
+    }
 }
 
 /// Writes into the octets of the last word, and tells them.
@@ -101,10 +108,10 @@ fn writes(alloc: Global, verb: &str, words: &str, out: &mut String) -> Result<()
             tell_number(put_number(&mut octets, &value), out)?;
             tell_octets(alloc, &octets, out)
         }
-        "uint" | "bytes" => {
+        "uint" | "store" | "bytes" => {
             let value = octets(alloc, word(words, 1))?;
             let mut octets = octets(alloc, word(words, 2))?;
-            let end = put_at(&mut octets, first, &value, verb == "uint");
+            let end = put_at(&mut octets, first, &value, verb);
             write!(out, " {end}\n")?;
             tell_octets(alloc, &octets, out)
         }
@@ -153,14 +160,16 @@ fn put_number(octets: &mut [u8], value: &[u8]) -> Option<u64> {
     Some(written_and_read(octets, count, value))
 }
 
-fn put_at(octets: &mut [u8], at: usize, value: &[u8], is_number: bool) -> usize {
+fn put_at(octets: &mut [u8], at: usize, value: &[u8], verb: &str) -> usize {
     if at > octets.len() || value.len() > octets.len() - at {
         return 0;
     }
-    if is_number && value.len() <= 8 {
-        return put_uint(octets, at, value.len(), read_uint(value, value.len()));
+    match (verb, value.len()) {
+        ("store", 4) => put_four(octets, at, read_four(value)),
+        ("store", 8) => put_eight(octets, at, read_eight(value)),
+        ("uint", 0..=8) => put_uint(octets, at, value.len(), read_uint(value, value.len())),
+        _ => put_bytes(octets, at, value),
     }
-    put_bytes(octets, at, value)
 }
 
 /// A caller that needs no lemma: what it writes it reads.

@@ -4,7 +4,7 @@ ghost use Rattle.std.specs.Prelude.{◌≡◌, ◌+◌, ◌*◌, ◌^◌, ◌<�
 ghost use Rattle.cfd_bits.specs.Field.{field, octets};
 ghost use Rattle.cfdp_directives.specs.Pdu.Codes as codes;
 
-use cfd_bits::{put_uint, read_uint};
+use cfd_bits::{put_eight, put_four, read_eight, read_four};
 
 /// Where the file isn't large.
 const SMALL: usize = 4;
@@ -63,22 +63,10 @@ pub(crate) fn read_file_size(large: bool, bytes: &[u8]) -> u64
     ensures { result ≡ field bytes.now 0 (8 * codes.file_size_octets large) }
 {
     if large {
-        read_uint(bytes, LARGE)
+        read_eight(bytes)
     } else {
-        number_at_front(bytes)
+        u64::from(read_four(bytes))
     }
-}
-
-/// The number that the first octets spell, those of a file-size field of a file that isn't large.
-/// They are loaded as one number, which turns them round, and then turned back: so that many are
-/// read at once.
-#[inline(always)]
-fn number_at_front(octets: &[u8]) -> u64
-    requires { codes.file_size_octets false ≤ length octets.now }
-    ensures { result ≡ field octets.now 0 (8 * codes.file_size_octets false) }
-{
-    let turned = u32::from_le_bytes([octets[0], octets[1], octets[2], octets[3]]);
-    u64::from(turned.swap_bytes())
 }
 
 /// Writes the number as a file-size field from octet `at` on, and says where it ends. The octets
@@ -93,8 +81,8 @@ pub(crate) fn put_file_size(out: &mut [u8], at: usize, large: bool, value: u64) 
     ensures behind { drop result out.new ≡ drop result out.old }
 {
     if large {
-        put_uint(out, at, LARGE, value)
+        put_eight(out, at, value)
     } else {
-        put_uint(out, at, SMALL, value)
+        put_four(out, at, value as u32)
     }
 }

@@ -1,0 +1,6 @@
+use Rattle.std.proofs.Common.{◌∙◌, arith}
+use Rattle.cfd_bits.proofs.Turned.{four_are_spelled}
+use Rattle.cfd_bits.proofs.words.read_four.Goals as goal
+
+pub returns : goal.returns
+returns c = c.swap_bytes.ensures ∙ four_are_spelled c.args.bytes.now c.from_le_bytes-turned.result (λ i. omega (arith, c.type_inv.bytes i)) c.from_le_bytes-turned.ensures
