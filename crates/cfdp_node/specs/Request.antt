@@ -46,13 +46,13 @@ zone_rule = record (new_rule (codes "zone")) {
 abbrev pub sim_app : App
 sim_app = with_rule (with_shown (new_app (codes "sim"))) input_rule
 
--- how lines are told, and the file with them
-abbrev pub told_dump_app : App
-told_dump_app = with_rule (with_rule (with_rule (new_app (codes "dump")) kind_rule) zone_rule)
-    (flag_rule (codes "long"))
+-- what the lines are
+abbrev pub lines_app : App
+lines_app = with_rule (with_rule (new_app (codes "dump")) kind_rule) zone_rule
 
+-- and how they are told, and the file with them
 abbrev pub dump_app : App
-dump_app = with_rule told_dump_app input_rule
+dump_app = with_rule (with_rule lines_app (flag_rule (codes "long"))) input_rule
 
 -- the program alone, which shows its help where it gets no word
 abbrev pub top_app : App

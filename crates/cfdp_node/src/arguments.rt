@@ -1,13 +1,15 @@
 ghost use Rattle.std.specs.Prelude.{◌≡◌, ◌⊎◌, ◌≤◌, false, map, IfErr, IfOk, IfSome, Some, option_map};
 ghost use Rattle.clap.specs.Kinds.{FailsBy};
 ghost use Rattle.clap.specs.Faults.{fault_of};
-ghost use Rattle.clap.specs.Simple.{with_subcommand};
+ghost use Rattle.clap.specs.Simple.{app_of, with_rule, with_subcommand};
 ghost use Rattle.clap.specs.Matches.{found_of};
 ghost use Rattle.clap.specs.Values.{kind_of};
 ghost use Rattle.clap.specs.Walk.{first_of, rows_of, rule_of};
 ghost use Rattle.clap.specs.Simple.{subcommand_rows_of};
-ghost use Rattle.cfdp_node.specs.Request.{HasZone, IsCommand, IsStatusOf, RefusedBy, asked, asked_by, asked_of, dump_app, dump_of, kind_of_word, kind_rule, input_rule, asked_lines, lines_of, program_app, refusals, sim_app, sim_of, told_dump_app, top_app, zone_of_word, zone_rule};
-ghost use Rattle.cfdp_node.specs.Looping.Request.{loop_app};
+ghost use Rattle.cfdp_node.specs.Request.{HasNoGlobals, HasZone, IsCommand, IsStatusOf, RefusedBy, asked, asked_by, asked_of, dump_app, dump_of, kind_of_word, kind_rule, input_rule, asked_lines, lines_of, program_app, refusals, sim_app, sim_of, lines_app, top_app, zone_of_word, zone_rule};
+ghost use Rattle.cfdp_node.specs.Request as asks;
+ghost use Rattle.cfdp_node.specs.Looping.Request.{loop_app, loop_of};
+ghost use Rattle.cfdp_node.specs.Station.Request.{station_of};
 ghost use Rattle.cfdp_node.specs.Watch.Shown.{file_rule, flag_rule};
 ghost use Rattle.cfdp_node.specs.Watch.Shown as showing;
 
@@ -231,7 +233,26 @@ pub fn parse<'a>(alloc: Global, words: &'a [String]) -> Result<Request, Error>
     ensures zone { IfOk result HasZone }
 {
     let mut command = grammar(alloc)?;
-    match matched(alloc, &mut command, words)? {
+    parse_by(alloc, &mut command, words)
+}
+
+/// What these words ask for by the program's grammar.
+///
+/// # Errors
+///
+/// The same as those of `parse`.
+fn parse_by<'a>(
+    alloc: Global,
+    command: &mut Command<'a>,
+    words: &'a [String],
+) -> Result<Request, Error>
+    requires { IsCommand program_app command.old }
+    ensures asked { IfOk result (λ request. asked_of (map (λ word. word.bytes.items) words.now)
+        ≡ Some (asked request)) }
+    ensures refused { FailsBy (refusals (map (λ word. word.bytes.items) words.now)) result }
+    ensures zone { IfOk result HasZone }
+{
+    match matched(alloc, command, words)? {
         Some(request) => Ok(request),
         None => Err(command.error(ErrorKind::InvalidValue, "KIND is pdus or frames")?),
     }
@@ -265,26 +286,47 @@ fn requested(alloc: Global, matches: &ArgMatches<'_>) -> Result<Option<Request>,
     ensures zone { IfOk result (λ found. IfSome found HasZone) }
 {
     match matches.subcommand() {
-        Some(("sim", arguments)) => Ok(Some(Request::Sim(sim_request(alloc, arguments)?))),
+        Some(("sim", arguments)) => sim_request(alloc, arguments),
         Some(("dump", arguments)) => dump_request(alloc, arguments),
-        Some(("loop", arguments)) => Ok(loop_request(alloc, arguments)?.map(Request::Loop)),
-        Some(("station", arguments)) => {
-            Ok(station_request(alloc, arguments)?.map(Request::Station))
-        }
+        Some(("loop", arguments)) => transfer_request(alloc, arguments),
+        Some(("station", arguments)) => serving_request(alloc, arguments),
         Some(_) => Ok(None),
         None => Ok(Some(Request::Version)),
     }
 }
 
 /// What the words behind `sim` ask for.
-fn sim_request(alloc: Global, arguments: &ArgMatches<'_>) -> Result<SimRequest, AllocError>
-    ensures { IfOk result (λ request. asked (Request.Sim request)
-        ≡ sim_of (rows_of (found_of arguments.now))) }
+fn sim_request(alloc: Global, arguments: &ArgMatches<'_>) -> Result<Option<Request>, AllocError>
+    ensures asked { IfOk result (λ found. option_map asked found
+        ≡ Some (sim_of (rows_of (found_of arguments.now)))) }
+    ensures zone { IfOk result (λ found. IfSome found HasZone) }
 {
-    Ok(SimRequest {
+    let request = SimRequest {
         shown: shown_by(alloc, arguments)?,
         file: owned_word(alloc, arguments, "file")?,
-    })
+    };
+    Ok(Some(Request::Sim(request)))
+}
+
+/// What the words behind `loop` ask for, `None` where a number is out of its range.
+fn transfer_request(
+    alloc: Global,
+    arguments: &ArgMatches<'_>,
+) -> Result<Option<Request>, AllocError>
+    ensures asked { IfOk result (λ found. option_map asked found
+        ≡ option_map asks.loop (loop_of (rows_of (found_of arguments.now)))) }
+    ensures zone { IfOk result (λ found. IfSome found HasZone) }
+{
+    Ok(loop_request(alloc, arguments)?.map(Request::Loop))
+}
+
+/// What the words behind `station` ask for, `None` where a number is out of its range.
+fn serving_request(alloc: Global, arguments: &ArgMatches<'_>) -> Result<Option<Request>, AllocError>
+    ensures asked { IfOk result (λ found. option_map asked found
+        ≡ option_map asks.station (station_of (rows_of (found_of arguments.now)))) }
+    ensures zone { IfOk result (λ found. IfSome found HasZone) }
+{
+    Ok(station_request(alloc, arguments)?.map(Request::Station))
 }
 
 /// A copy of the word that was found for this argument, if there is one.
@@ -452,24 +494,33 @@ fn sim_command<'a>(alloc: Global) -> Result<Command<'a>, AllocError>
 fn dump_command<'a>(alloc: Global) -> Result<Command<'a>, AllocError>
     ensures { IfOk result (IsCommand dump_app) }
 {
-    let told = told_dump_command(alloc)?;
-    told.arg(input_argument(alloc))
+    lines_command(alloc)?
+        .arg(flag(
+            alloc,
+            "long",
+            "Tells also direction, destination, fault location and options of a PDU",
+        ))?
+        .arg(input_argument(alloc))
 }
 
-/// `dump` with how lines are told.
-fn told_dump_command<'a>(alloc: Global) -> Result<Command<'a>, AllocError>
-    ensures { IfOk result (IsCommand told_dump_app) }
+/// `dump` with what the lines are.
+fn lines_command<'a>(alloc: Global) -> Result<Command<'a>, AllocError>
+    ensures { IfOk result (IsCommand lines_app) }
 {
     Command::new(alloc, "dump")
         .about("Tells on standard output what lines spell")
         .after_help(DUMP_HELP)
         .arg(kind_argument(alloc))?
-        .arg(zone_argument(alloc))?
-        .arg(flag(
-            alloc,
-            "long",
-            "Tells also direction, destination, fault location and options of a PDU",
-        ))
+        .arg(zone_argument(alloc))
+}
+
+/// A command with one argument more.
+pub fn with_argument<'a>(command: Command<'a>, argument: Arg<'a>) -> Result<Command<'a>, AllocError>
+    requires command { HasNoGlobals command }
+    requires argument { argument.global ≡ false }
+    ensures { IfOk result (IsCommand (with_rule (app_of command.entry) (rule_of argument.entry))) }
+{
+    command.arg(argument)
 }
 
 /// An argument that is there or not.

@@ -16,6 +16,7 @@ use crate::script::sim::Ran;
 use crate::station::request::{StationNumbers, StationRequest};
 use crate::station::serving::{PutNames, StationOptions, run_station};
 use crate::station::setup::StationSetup;
+use crate::watch::lookout::Lookout;
 use crate::watch::onlooker::Onlooker;
 use crate::watch::progress::Progress;
 use crate::watch::show::shown_status;
@@ -244,16 +245,18 @@ fn ran_status(
     requires { IsWorldConfig config.now }
 {
     let (told, progress) = (Cell::new(false), Progress::new(rt));
-    let ran = match ran(rt, request, config, prepared, &told, &progress) {
-        Ok(ran) => ran,
-        Err(AllocError) => Ran::unseen(Exit::Device(Fault::NoMemoryAtStart)),
-    };
-    if let Exit::Device(fault) = ran.exit
+    let ran = ran(rt, request, config, prepared, &told, &progress);
+    tell_untold(rt, request.inbox.is_some(), ran.exit, &told);
+    shown_status(rt, &request.shown, &ran)
+}
+
+/// Says what failed, unless that was said.
+fn tell_untold(rt: &HostRuntime, has_inbox: bool, exit: Exit, told: &Cell<bool>) {
+    if let Exit::Device(fault) = exit
         && !told.get()
     {
-        tell_fault(rt, request.inbox.is_some(), fault);
+        tell_fault(rt, has_inbox, fault);
     }
-    shown_status(rt, &request.shown, &ran)
 }
 
 /// Says what failed. Without an inbox each file that comes is one that could not be kept.
@@ -276,14 +279,14 @@ fn ran(
     prepared: StationParts<'_>,
     told: &Cell<bool>,
     progress: &Progress<'_>,
-) -> Result<Ran, AllocError>
+) -> Ran
     requires { IsWorldConfig config.now }
 {
     match &request.inbox {
-        Some(path) => {
-            let inbox = TellingInbox::new(rt, path.as_str(), told, progress)?;
-            ran_over(rt, request, config, prepared, inbox, progress)
-        }
+        Some(path) => match TellingInbox::new(rt, path.as_str(), told, progress) {
+            Ok(inbox) => ran_over(rt, request, config, prepared, inbox, progress),
+            Err(AllocError) => Ran::unseen(Exit::Device(Fault::NoMemoryAtStart)),
+        },
         None => {
             let inbox = FuseInbox::new(MemoryInbox::new(rt.alloc()), 1);
             ran_over(rt, request, config, prepared, inbox, progress)
@@ -291,7 +294,7 @@ fn ran(
     }
 }
 
-/// Runs the station over this inbox. The report's buffer is there before the first turn.
+/// Runs the station over this inbox. One looks on if that is asked for.
 fn ran_over<I: Inbox>(
     rt: &HostRuntime,
     request: &StationRequest,
@@ -299,37 +302,49 @@ fn ran_over<I: Inbox>(
     prepared: StationParts<'_>,
     inbox: I,
     progress: &Progress<'_>,
-) -> Result<Ran, AllocError>
+) -> Ran
+    requires { IsWorldConfig config.now }
+{
+    match Onlooker::new(rt.alloc(), *config, request.shown.is_watched()) {
+        Ok(onlooker) => {
+            let mut lookout = LoopLookout { onlooker, progress };
+            let exit = reported(rt, request, config, prepared, inbox, &mut lookout);
+            Ran {
+                exit,
+                seen: lookout.onlooker.into_seen(),
+            }
+        }
+        Err(AllocError) => Ran::unseen(Exit::Device(Fault::NoMemoryAtStart)),
+    }
+}
+
+/// Runs the station, and writes the report to standard output. Its buffer is there before the first
+/// turn.
+fn reported<I: Inbox, L: Lookout>(
+    rt: &HostRuntime,
+    request: &StationRequest,
+    config: &WorldConfig,
+    prepared: StationParts<'_>,
+    inbox: I,
+    lookout: &mut L,
+) -> Exit
     requires { IsWorldConfig config.now }
 {
     let alloc = rt.alloc();
-    let onlooker = Onlooker::new(alloc, *config, request.shown.is_watched())?;
-    let mut lookout = LoopLookout {
-        onlooker,
-        progress: &*progress,
+    let Ok(options) = options(alloc, request, config) else {
+        return Exit::Device(Fault::NoMemoryAtStart);
     };
-    let options = options(alloc, request, config)?;
     let Ok(mut out) = BufWriter::new(alloc, io::writer(rt)) else {
-        return Ok(Ran::unseen(Exit::Device(Fault::NoMemoryAtStart)));
+        return Exit::Device(Fault::NoMemoryAtStart);
     };
     let StationParts { outbox, socket } = prepared;
     let clock = socket.clock();
     let exit = run_station(
-        alloc,
-        options,
-        outbox,
-        inbox,
-        socket,
-        clock,
-        &mut out,
-        &mut lookout,
+        alloc, options, outbox, inbox, socket, clock, &mut out, lookout,
     );
     // What a failed write left in the buffer is let go: a `BufWriter` would write it once more.
     let _ = out.into_parts();
-    Ok(Ran {
-        exit,
-        seen: lookout.onlooker.into_seen(),
-    })
+    exit
 }
 
 /// How the station is set up, and what it is to send.

@@ -28,9 +28,13 @@ number_rule name low high default = record (new_rule name) {
 abbrev pub turns_rule : Rule
 turns_rule = number_rule (codes "turns") 1 1000000 (codes "10000")
 
+-- a number up to 1,000,000, and what stands for it where none is said
+abbrev pub tuned_rule : Text → Text → Rule
+tuned_rule name default = number_rule name 0 1000000 default
+
 -- each Kth frame is lost: 0 to 1,000,000, and none where K is 0 or isn't given
 abbrev pub drop_rule : Rule
-drop_rule = number_rule (codes "drop") 0 1000000 (codes "0")
+drop_rule = tuned_rule (codes "drop") (codes "0")
 
 abbrev pub folders_app : App
 folders_app =

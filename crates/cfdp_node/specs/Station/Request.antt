@@ -7,7 +7,7 @@ use Rattle.clap.specs.declared.builder.value_parser.ValueParser.TheVariants.{Uns
 use Rattle.cfdp_node.specs.declared.station.request.StationNumbers.{StationNumbers}
 use Rattle.cfdp_node.specs.declared.station.request.StationRequest.{StationRequest}
 use Rattle.cfdp_node.specs.declared.station.request.StationWords.{StationWords}
-use Rattle.cfdp_node.specs.Looping.Request.{drop_rule, number_in, number_rule}
+use Rattle.cfdp_node.specs.Looping.Request.{drop_rule, number_in, number_rule, tuned_rule}
 use Rattle.cfdp_node.specs.Watch.Shown.{ShownAsked, asked_shown, file_rule, shown_of, with_shown}
 
 -- ---- the grammar
@@ -23,10 +23,6 @@ most = 18446744073709551615
 -- a number that has to be said
 abbrev pub said_number_rule : Text → Rule
 said_number_rule name = record (said_rule name) { parser = Some (Unsigned 0 most) }
-
--- a number up to 1,000,000, and what stands for it where none is said
-abbrev pub tuned_rule : Text → Text → Rule
-tuned_rule name default = number_rule name 0 1000000 default
 
 -- the number of the first transaction, and 0 where none is said
 abbrev pub first_number_rule : Rule
@@ -49,10 +45,13 @@ abbrev pub addresses_app : App
 addresses_app = with_rule (with_rule names_app (said_rule (codes "listen")))
     (said_rule (codes "to"))
 
+abbrev pub numbered_app : App
+numbered_app = with_rule (with_rule addresses_app (tuned_rule (codes "idle") (codes "0")))
+    first_number_rule
+
 abbrev pub own_numbers_app : App
-own_numbers_app = with_rule (with_rule (with_rule (with_rule addresses_app
-    (tuned_rule (codes "idle") (codes "0"))) first_number_rule)
-    (tuned_rule (codes "rate") (codes "1000"))) drop_rule
+own_numbers_app = with_rule (with_rule numbered_app (tuned_rule (codes "rate") (codes "1000")))
+    drop_rule
 
 abbrev pub stores_app : App
 stores_app = with_rule (with_rule own_numbers_app (file_rule (codes "inbox")))

@@ -9,6 +9,7 @@ use crate::watch::lookout::{Lookout, Passed};
 use crate::watch::onlooker::Onlooker;
 use crate::watch::progress::{Progress, Reception};
 use crate::watch::show::shown_status;
+use crate::wire::Wire;
 use crate::wire::udp::UdpWire;
 use cfdp_header::TransactionId;
 use cfdp_station::{Polled, Station};
@@ -113,49 +114,85 @@ fn loaded(rt: &HostRuntime, request: &LoopRequest) -> Result<FolderOutbox, u8> {
 }
 
 /// Sends the file, shows what was seen of that, and answers the exit status.
-fn sent_status(
+fn sent_status<O: Outbox, W: Wire>(
     rt: &HostRuntime,
     request: &LoopRequest,
-    outbox: FolderOutbox,
-    wires: (UdpWire, UdpWire),
+    outbox: O,
+    wires: (W, W),
 ) -> u8 {
     let (told, progress) = (Cell::new(false), Progress::new(rt));
-    let ran = match sent(rt, request, outbox, wires, &told, &progress) {
-        Ok(ran) => ran,
-        Err(AllocError) => Ran::unseen(Exit::Device(Fault::NoMemoryAtStart)),
-    };
-    if let Exit::Device(fault) = ran.exit
+    let ran = sent(rt, request, outbox, wires, &told, &progress);
+    tell_untold(rt, ran.exit, &told);
+    shown_status(rt, &request.shown, &ran)
+}
+
+/// Says on standard error what failed, unless that was said.
+fn tell_untold(rt: &HostRuntime, exit: Exit, told: &Cell<bool>) {
+    if let Exit::Device(fault) = exit
         && !told.get()
     {
         fault.tell(rt, Input::Standard);
     }
-    shown_status(rt, &request.shown, &ran)
 }
 
-/// Sends the file. The report's buffer is there before the first turn.
-fn sent(
+/// Sends the file into the folder that is asked for.
+fn sent<O: Outbox, W: Wire>(
     rt: &HostRuntime,
     request: &LoopRequest,
-    outbox: FolderOutbox,
-    wires: (UdpWire, UdpWire),
+    outbox: O,
+    wires: (W, W),
     told: &Cell<bool>,
     progress: &Progress<'_>,
-) -> Result<Ran, AllocError> {
+) -> Ran {
+    match TellingInbox::new(rt, request.to.as_str(), told, progress) {
+        Ok(inbox) => sent_over(rt, request, outbox, inbox, wires, progress),
+        Err(AllocError) => Ran::unseen(Exit::Device(Fault::NoMemoryAtStart)),
+    }
+}
+
+/// Sends the file from an outbox into an inbox, over these wires. One looks on if that is asked for.
+fn sent_over<O: Outbox, I: Inbox, W: Wire>(
+    rt: &HostRuntime,
+    request: &LoopRequest,
+    outbox: O,
+    inbox: I,
+    wires: (W, W),
+    progress: &Progress<'_>,
+) -> Ran {
+    match Onlooker::new(rt.alloc(), loop_config(), request.shown.is_watched()) {
+        Ok(onlooker) => {
+            let mut lookout = LoopLookout { onlooker, progress };
+            let exit = reported(rt, request, outbox, inbox, wires, &mut lookout);
+            Ran {
+                exit,
+                seen: lookout.onlooker.into_seen(),
+            }
+        }
+        Err(AllocError) => Ran::unseen(Exit::Device(Fault::NoMemoryAtStart)),
+    }
+}
+
+/// Sends the file, and writes the report to standard output. Its buffer is there before the first
+/// turn.
+fn reported<O: Outbox, I: Inbox, W: Wire, L: Lookout>(
+    rt: &HostRuntime,
+    request: &LoopRequest,
+    outbox: O,
+    inbox: I,
+    wires: (W, W),
+    lookout: &mut L,
+) -> Exit {
     let alloc = rt.alloc();
-    let inbox = TellingInbox::new(rt, request.to.as_str(), told, progress)?;
-    let onlooker = Onlooker::new(alloc, loop_config(), request.shown.is_watched())?;
-    let Ok(mut out) = BufWriter::new(alloc, io::writer(rt)) else {
-        return Ok(Ran::unseen(Exit::Device(Fault::NoMemoryAtStart)));
+    let Ok(options) = options(alloc, request) else {
+        return Exit::Device(Fault::NoMemoryAtStart);
     };
-    let mut lookout = LoopLookout { onlooker, progress };
-    let options = options(alloc, request)?;
-    let exit = run_loop(alloc, options, outbox, inbox, wires, &mut out, &mut lookout);
+    let Ok(mut out) = BufWriter::new(alloc, io::writer(rt)) else {
+        return Exit::Device(Fault::NoMemoryAtStart);
+    };
+    let exit = run_loop(alloc, options, outbox, inbox, wires, &mut out, lookout);
     // What a failed write left in the buffer is let go: a `BufWriter` would write it once more.
     let _ = out.into_parts();
-    Ok(Ran {
-        exit,
-        seen: lookout.onlooker.into_seen(),
-    })
+    exit
 }
 
 /// What is to be sent, and how.

@@ -2,7 +2,8 @@
 ghost use Rattle.std.specs.Prelude.{◌≡◌, false, IfOk, option_map};
 ghost use Rattle.clap.specs.Matches.{found_of};
 ghost use Rattle.clap.specs.Walk.{rows_of, rule_of};
-ghost use Rattle.cfdp_node.specs.Looping.Request.{drop_rule, files_app, folders_app, loop_app, loop_asked, loop_of, number_of_word, numbers_app, place_rule, turns_rule, words_asked};
+ghost use Rattle.cfdp_node.specs.Looping.Request.{drop_rule, files_app, folders_app, loop_app, loop_asked, loop_of, number_of_word, numbers_app, place_rule, tuned_rule, turns_rule, words_asked};
+ghost use Rattle.cfdp_node.specs.Looping.Request as requests;
 ghost use Rattle.cfdp_node.specs.Request.{IsCommand};
 ghost use Rattle.cfdp_node.specs.Watch.Shown.{asked_shown, shown_of};
 
@@ -125,12 +126,31 @@ fn turns_argument<'a>(alloc: Global) -> Arg<'a>
 pub fn drop_argument<'a>(alloc: Global) -> Arg<'a>
     ensures { (rule_of result ≡ drop_rule) × (result.global ≡ false) }
 {
-    Arg::new(alloc, "drop")
-        .long("drop")
-        .value_name("K")
-        .help("Loses each Kth frame, up to 1000000; 0 loses none")
+    tuned(
+        alloc,
+        "drop",
+        "K",
+        "0",
+        "Loses each Kth frame, up to 1000000; 0 loses none",
+    )
+}
+
+/// A number up to 1,000,000, and the one that stands for it where none is said.
+pub fn tuned<'a>(
+    alloc: Global,
+    name: &'a str,
+    shown: &'a str,
+    default: &'a str,
+    help: &'a str,
+) -> Arg<'a>
+    ensures { (rule_of result ≡ tuned_rule name.now default.now) × (result.global ≡ false) }
+{
+    Arg::new(alloc, name)
+        .long(name)
+        .value_name(shown)
+        .help(help)
         .value_parser(value_parser!(u64).range(0..=1000000))
-        .default_value("0")
+        .default_value(default)
 }
 
 /// What the words behind `loop` ask for.
@@ -160,8 +180,8 @@ fn loop_words<'a>(arguments: &ArgMatches<'a>) -> Option<LoopWords<'a>>
         to: word_of(arguments, "to")?,
         source: word_of(arguments, "source")?,
         destination: word_of(arguments, "destination")?,
-        turns: number_of(word_of(arguments, "turns")?, 1, 1_000_000)?,
-        drop_every: number_of(word_of(arguments, "drop")?, 0, 1_000_000)?,
+        turns: number_in(arguments, "turns", 1, 1_000_000)?,
+        drop_every: number_in(arguments, "drop", 0, 1_000_000)?,
     })
 }
 
@@ -183,8 +203,15 @@ impl LoopWords<'_> {
     }
 }
 
+/// The number that was found for this argument, if it lies between these two or is one of them.
+pub fn number_in(arguments: &ArgMatches<'_>, name: &str, low: u64, high: u64) -> Option<u64>
+    ensures { result ≡ requests.number_in name.now low high (rows_of (found_of arguments.now)) }
+{
+    number_of(word_of(arguments, name)?, low, high)
+}
+
 /// The number that this word says, if it lies between these two or is one of them.
-pub fn number_of(word: &str, low: u64, high: u64) -> Option<u64>
+fn number_of(word: &str, low: u64, high: u64) -> Option<u64>
     ensures { result ≡ number_of_word low high word.now }
 {
     match word.parse::<u64>() {

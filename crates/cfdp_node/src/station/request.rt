@@ -3,10 +3,10 @@ ghost use Rattle.std.specs.Prelude.{◌≡◌, [], false, map, unwrap_or, IfOk, 
 ghost use Rattle.clap.specs.Matches.{found_of};
 ghost use Rattle.clap.specs.Walk.{all_of, rows_of, rule_of};
 ghost use Rattle.cfdp_node.specs.Request.{IsCommand};
-ghost use Rattle.cfdp_node.specs.Station.Request.{addresses_app, first_number_rule, lists_app, names_app, numbers_of, own_numbers_app, pairs_rule, said_number_rule, said_rule, station_app, station_asked, station_of, stores_app, tuned_rule, words_asked};
+ghost use Rattle.cfdp_node.specs.Station.Request.{addresses_app, first_number_rule, lists_app, names_app, numbered_app, numbers_of, own_numbers_app, pairs_rule, said_number_rule, said_rule, station_app, station_asked, station_of, stores_app, words_asked};
 
 use crate::arguments::{file_for, owned_word, word_of};
-use crate::looping::request::{drop_argument, number_of};
+use crate::looping::request::{drop_argument, number_in, tuned};
 use crate::watch::shown::{Shown, shown_by, shown_command};
 use clap::{Arg, ArgAction, ArgMatches, Command, value_parser};
 use std::alloc::{AllocError, Global};
@@ -130,21 +130,30 @@ fn stores_command<'a>(alloc: Global) -> Result<Command<'a>, AllocError>
 fn own_numbers_command<'a>(alloc: Global) -> Result<Command<'a>, AllocError>
     ensures { IfOk result (IsCommand own_numbers_app) }
 {
-    addresses_command(alloc)?
-        .arg(tuned(
-            alloc,
-            "idle",
-            "0",
-            "Ends after N seconds without a frame; 0 never",
-        ))?
-        .arg(first_number_argument(alloc))?
+    numbered_command(alloc)?
         .arg(tuned(
             alloc,
             "rate",
+            "N",
             "1000",
             "Sends N frames a second at most; 0 any number",
         ))?
         .arg(drop_argument(alloc))
+}
+
+/// The same without what says which frames leave.
+fn numbered_command<'a>(alloc: Global) -> Result<Command<'a>, AllocError>
+    ensures { IfOk result (IsCommand numbered_app) }
+{
+    addresses_command(alloc)?
+        .arg(tuned(
+            alloc,
+            "idle",
+            "N",
+            "0",
+            "Ends after N seconds without a frame; 0 never",
+        ))?
+        .arg(first_number_argument(alloc))
 }
 
 /// The same with ids and addresses alone.
@@ -183,18 +192,6 @@ fn said<'a>(alloc: Global, name: &'a str, shown: &'a str, help: &'a str) -> Arg<
         .value_name(shown)
         .help(help)
         .required(true)
-}
-
-/// A number up to 1,000,000, and the one that stands for it where none is said.
-fn tuned<'a>(alloc: Global, name: &'a str, default: &'a str, help: &'a str) -> Arg<'a>
-    ensures { (rule_of result ≡ tuned_rule name.now default.now) × (result.global ≡ false) }
-{
-    Arg::new(alloc, name)
-        .long(name)
-        .value_name("N")
-        .help(help)
-        .value_parser(value_parser!(u64).range(0..=1000000))
-        .default_value(default)
 }
 
 fn first_number_argument<'a>(alloc: Global) -> Arg<'a>
@@ -253,12 +250,12 @@ fn station_numbers(arguments: &ArgMatches<'_>) -> Option<StationNumbers>
     ensures { result ≡ numbers_of (rows_of (found_of arguments.now)) }
 {
     Some(StationNumbers {
-        id: number_of(word_of(arguments, "id")?, 0, u64::MAX)?,
-        peer: number_of(word_of(arguments, "peer")?, 0, u64::MAX)?,
-        idle: number_of(word_of(arguments, "idle")?, 0, 1_000_000)?,
-        first_number: number_of(word_of(arguments, "first-number")?, 0, u64::MAX)?,
-        rate: number_of(word_of(arguments, "rate")?, 0, 1_000_000)?,
-        drop_every: number_of(word_of(arguments, "drop")?, 0, 1_000_000)?,
+        id: number_in(arguments, "id", 0, u64::MAX)?,
+        peer: number_in(arguments, "peer", 0, u64::MAX)?,
+        idle: number_in(arguments, "idle", 0, 1_000_000)?,
+        first_number: number_in(arguments, "first-number", 0, u64::MAX)?,
+        rate: number_in(arguments, "rate", 0, 1_000_000)?,
+        drop_every: number_in(arguments, "drop", 0, 1_000_000)?,
     })
 }
 

@@ -6,7 +6,7 @@ ghost use Rattle.clap.specs.Walk.{rows_of};
 ghost use Rattle.cfdp_node.specs.Request.{HasNoGlobals, IsCommand};
 ghost use Rattle.cfdp_node.specs.Watch.Shown.{asked_shown, shown_of, with_shown, with_told};
 
-use crate::arguments::{file_for, flag, is_given, owned_word};
+use crate::arguments::{file_for, flag, is_given, owned_word, with_argument};
 use clap::{ArgMatches, Command};
 use std::alloc::{AllocError, Global};
 
@@ -35,17 +35,23 @@ pub fn shown_command<'a>(alloc: Global, command: Command<'a>) -> Result<Command<
     requires { HasNoGlobals command }
     ensures { IfOk result (IsCommand (with_shown (app_of command.entry))) }
 {
-    told_command(alloc, command)?
-        .arg(file_for(
+    let told = told_command(alloc, command)?;
+    let captured = with_argument(
+        told,
+        file_for(
             alloc,
             "pcap",
             "Writes the PDUs of both directions to FILE, as a capture",
-        ))?
-        .arg(file_for(
+        ),
+    )?;
+    with_argument(
+        captured,
+        file_for(
             alloc,
             "chart",
             "Writes what passes to FILE, as a sequence diagram in Mermaid's text",
-        ))
+        ),
+    )
 }
 
 /// The same with those alone that say what is told on standard error.

@@ -1,5 +1,6 @@
-use Rattle.std.proofs.Common.{subst}
+use Rattle.std.proofs.Common.{inl, refl, subst}
 use Rattle.cfdp_node.specs.Wire.Turn.{Sends}
+use Rattle.cfdp_node.proofs.TurnLemmas.{on_err}
 use Rattle.cfdp_node.proofs.looping.take_turn.Goals as goal
 
 pub returns-clause-ok : goal.returns-clause-ok
@@ -17,3 +18,9 @@ returns-clause-ok g c = record {
   one_hears = c.receive_turn.ensures.hears;
   two_hears = c.receive_turn-2.ensures.hears;
 }
+
+pub returns-in_err-send_turn-clause-err : goal.returns-in_err-send_turn-clause-err
+returns-in_err-send_turn-clause-err g c = on_err c.from_residual.result _ (record {
+  ends = inl (c.in_err-send_turn.ensures.err.0, refl, c.in_err-send_turn.ensures.err.1);
+  wire_two = refl;
+})

@@ -1,5 +1,7 @@
-use Rattle.std.proofs.Common.{refl}
+use Rattle.std.proofs.Common.{ap, refl}
+use Rattle.cfdp_node.specs.declared.wire.turn.Losses.{Losses}
 use Rattle.cfdp_node.proofs.ServingLemmas.{GoesOnLaws, hears-longer, longer-both, part-longer, sends-longer}
+use Rattle.cfdp_node.proofs.TurnLemmas.{on_err}
 use Rattle.cfdp_node.proofs.station.serving.take_turn.Goals as goal
 
 pub returns-clause-ok : goal.returns-clause-ok
@@ -21,3 +23,8 @@ returns-in_err-send_turn-clause-tells g c =
     let on = c.an_entity_goes_on.ensures in
     let laws : GoesOnLaws = record { ticked = on.ticked; heard = on.heard; dropped = on.dropped; served = on.served } in
     part-longer laws _ _ _ c.in_err-send_turn.ensures.err.0
+
+pub returns-in_err-send_turn-clause-err : goal.returns-in_err-send_turn-clause-err
+returns-in_err-send_turn-clause-err g c =
+    let part = c.in_err-send_turn.ensures.err in
+    on_err c.from_residual.result _ (part.0, part.1, ap (λ (losses : Losses). losses.left) part.2)
