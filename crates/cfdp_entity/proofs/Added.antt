@@ -9,11 +9,11 @@ use Rattle.std.specs.FinSet as set
 use Rattle.cfdp_header.specs.declared.value.TransactionId.{TransactionId}
 use Rattle.cfdp_header.specs.Ids.{id_cmp}
 use Rattle.cfdp_header.specs.Files.{FileMap}
-use Rattle.cfdp_timers.specs.Armed.{TimersState}
 use Rattle.cfdp_sender.specs.Does.{HasFile}
 use Rattle.cfdp_entity.specs.declared.record.Record.{Record}
 use Rattle.cfdp_entity.specs.declared.record.Record.TheVariants as held
-use Rattle.cfdp_entity.specs.Whole.{Staged, AllReady, IsReadyRecord, IsWhole}
+use Rattle.cfdp_entity.specs.Desk.{Staged, DeskState}
+use Rattle.cfdp_entity.specs.Whole.{AllReady, IsReadyRecord, IsWhole}
 
 module _ (sources : FileMap) (name octets : List ℕ) (free : map.get sources name ≡ None) where
   abbrev more : FileMap
@@ -44,13 +44,17 @@ module _ (sources : FileMap) (name octets : List ℕ) (free : map.get sources na
   ready-kept staged roomy [] all = tt
   ready-kept staged roomy (e ∷ es) all = (record-kept staged e.0 e.1 all.0, all.1, ready-kept staged roomy es all.2)
 
-  pub whole-more : (staged : Staged) (es : List (TransactionId × Record)) (flags : List Bool) (clock : TimersState) → IsWhole staged sources es flags clock → IsWhole staged more es flags clock
-  whole-more staged es flags clock whole = record { distinct = whole.distinct; ready = ready-kept staged clock.roomy es whole.ready; flagged = whole.flagged; few = whole.few }
-
 -- Nor does it where it may not have been added.
-pub whole-added : {T E : Type 0} (r : Result T E) (staged : Staged) (sources new : FileMap) (name octets : List ℕ) (es : List (TransactionId × Record)) (flags : List Bool) (clock : TimersState) →
-    map.get sources name ≡ None → OnOk r (new ≡ map.insert sources name octets) → OnErr r (new ≡ sources) → IsWhole staged sources es flags clock → IsWhole staged new es flags clock
-whole-added (Ok value) staged sources new name octets es flags clock free ok err whole =
-    subst (λ m. IsWhole staged m es flags clock) (sym ok) (whole-more sources name octets free staged es flags clock whole)
-whole-added (Err by) staged sources new name octets es flags clock free ok err whole =
-    subst (λ m. IsWhole staged m es flags clock) (sym err) whole
+pub whole-added : {T E : Type 0} (r : Result T E) (desk : DeskState) (new : FileMap) (failures : ℕ) (name octets : List ℕ) (es : List (TransactionId × Record)) (flags : List Bool) →
+    map.get desk.sources name ≡ None → OnOk r (new ≡ map.insert desk.sources name octets) → OnErr r (new ≡ desk.sources) → IsWhole desk es flags
+    → IsWhole (record desk { sources = new; outbox_failures = failures }) es flags
+whole-added r desk new failures name octets es flags free ok err whole = record {
+  distinct = whole.distinct;
+  ready = by r ok err;
+  flagged = whole.flagged;
+  few = whole.few;
+}
+  where
+    by : {T E : Type 0} (r : Result T E) → OnOk r (new ≡ map.insert desk.sources name octets) → OnErr r (new ≡ desk.sources) → AllReady desk.staged new desk.effects.timers.roomy es
+    by (Ok value) ok err = subst (λ m. AllReady desk.staged m desk.effects.timers.roomy es) (sym ok) (ready-kept desk.sources name octets free desk.staged desk.effects.timers.roomy es whole.ready)
+    by (Err e) ok err = subst (λ m. AllReady desk.staged m desk.effects.timers.roomy es) (sym err) whole.ready

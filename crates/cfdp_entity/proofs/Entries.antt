@@ -1,9 +1,9 @@
 -- Exported: what a step of the record at a place does to the entries.
 use Rattle.std.proofs.Common.{◌<◌, arith, length-append, ◌≡◌, ◌≢◌, ℕ, zero, suc, ◌≤◌, Bool, true, false, ◌&&◌, ◌==◌, List, [], ◌∷◌, ◌++◌, map, length, cond, slice_get, Some, None, Result, Ok, Err, IfOk, OnErr, refl, sym, ap, subst, ◌∙◌}
-use Rattle.std.specs.Prelude.{IsSome, unwrap_or}
+use Rattle.std.specs.Prelude.{IsSome, Vec, unwrap_or, slice_set}
+use Rattle.std.specs.declared.alloc.Global.{Global}
 use Rattle.std.specs.FinMap.{empty, get}
 use Rattle.std.specs.List.{IsDistinct, AllByRecursion}
-use Rattle.std.specs.Prelude.{slice_set}
 use Rattle.std.specs.Map.{keys_of, values_of, lookup}
 use Rattle.std.proofs.lemmas.List.{map-append}
 use Rattle.std.specs.FinSet as set
@@ -15,21 +15,25 @@ use Rattle.cfdp_header.specs.Ids.{id_cmp, same_id}
 use Rattle.cfdp_header.specs.Files.{FileMap}
 use Rattle.cfdp_timers.specs.Armed.{TimersState}
 use Rattle.cfdp_store.specs.Staged.{OthersKeep}
+use Rattle.cfdp_store.specs.Stores.{Counts}
+use Rattle.cfdp_store.specs.Chains.{Raises}
 use Rattle.cfdp_store.specs.declared.stored.Stored.{Stored}
+use Rattle.cfdp_store.specs.declared.stored.Stored.TheVariants.{Done}
 use Rattle.cfdp_directives.specs.declared.user.indication.Indication.{Indication}
-use Rattle.cfdp_directives.specs.declared.user.policy.Policy.{Policy}
 use Rattle.cfdp_directives.specs.Pdu.Content.{Content}
 use Rattle.cfdp_receiver.specs.State.{ReceiverState, IsReady}
 use Rattle.cfdp_sender.specs.Does.{HasFile}
-use Rattle.cfdp_sender.specs.State.{SenderState, opened_sender}
-use Rattle.cfdp_sender.specs.declared.transfer.Transfer.{Transfer}
+use Rattle.cfdp_sender.specs.State.{SenderState}
 use Rattle.cfdp_entity.specs.declared.record.Record.{Record}
 use Rattle.cfdp_entity.specs.declared.record.Record.TheVariants as held
-use Rattle.cfdp_entity.specs.Seen.{Seen, seen, is_due, due_octets, due_len, carries_data}
-use Rattle.cfdp_entity.specs.Steps.{After, with_waits, Spoils}
-use Rattle.cfdp_entity.specs.Does.{Does, Keeps}
-use Rattle.cfdp_entity.specs.Table.{Entry, TableState, has_due, step_of, with_record, octets_due, len_due, data_due, SpoiledAt}
-use Rattle.cfdp_entity.specs.Whole.{Staged, entry_seen, entries_seen, state_of, AllReady, IsReadyRecord, IsWhole}
+use Rattle.cfdp_entity.specs.Desk.{Staged, DeskState, spare}
+use Rattle.cfdp_entity.specs.Does.{Made, Keeps, Stays, Asked, Opens, OpensNone, Widens, seen_as}
+use Rattle.cfdp_entity.specs.Roomy.{Roomy, Becomes, Steps, LacksMemory}
+use Rattle.cfdp_entity.specs.Seen.{Seen, seen, is_due}
+use Rattle.cfdp_entity.specs.Steps.{After, Spoils}
+use Rattle.cfdp_entity.specs.Storing.{AsksAs, AsksOf}
+use Rattle.cfdp_entity.specs.Table.{Entry, TableState, has_due, step_of, with_record}
+use Rattle.cfdp_entity.specs.Whole.{entry_seen, entries_seen, state_of, roomy_of, id_of, AllReady, IsReadyRecord, IsWhole, MayStep}
 
 pub same_id-itself : (a b : TransactionId) → a ≡ b → same_id a b ≡ true
 same_id-itself a b e =
@@ -67,12 +71,6 @@ ready-moved old new sources id (held.Receives r) same is_ready =
         backed = λ receiving n is_held. subst (λ o. IsSome (get (unwrap_or o empty) n)) (sym here) (is_ready.1.backed receiving n is_held);
       },
     )
-
--- and so is a sender that was just opened, whose file is in the outbox
-pub ready-sends : (staged : Staged) (sources : FileMap) (r : Record) (t : Transfer) → r ≡ held.Sends (opened_sender t) → HasFile sources t.source t.size →
-    IsReadyRecord staged sources t.addressing.id r
-unfolding IsReadyRecord
-ready-sends staged sources r t is file = subst (IsReadyRecord staged sources t.addressing.id) (sym is) (refl, file)
 
 module _ (old new : Staged) (sources : FileMap) (id : TransactionId) (keep : OthersKeep id old new) where
   -- entries of other transactions look as before
@@ -129,140 +127,183 @@ seen_at staged (e ∷ es) zero id r at is =
     λ i. Some (key i, seen (staged (key i)) (value i))
 seen_at staged (e ∷ es) (suc n) id r at is = seen_at staged es n id r at is
 
-pub ready_at : (staged : Staged) (sources : FileMap) (roomy : set.FinSet id_cmp) (es : List (TransactionId × Record)) (i : ℕ) (id : TransactionId) (r : Record) → slice_get (keys_of es) i ≡ Some id →
-    slice_get (values_of es) i ≡ Some r
-    → AllReady staged sources roomy es → IsReadyRecord staged sources id r × (set.contains roomy id ≡ true)
+-- a record that is ready stands under its own transaction
+pub own-id : (staged : Staged) (sources : FileMap) (id : TransactionId) (r : Record) → IsReadyRecord staged sources id r → id_of r ≡ id
+unfolding IsReadyRecord
+own-id staged sources id (held.Sends x) is_ready = is_ready.0
+own-id staged sources id (held.Receives r) is_ready = is_ready.0
+
+-- the record at a place: its key, that it is ready, and the room of its timers
+pub ready_at : (staged : Staged) (sources : FileMap) (roomy : set.FinSet id_cmp) (es : List (TransactionId × Record)) (i : ℕ) (r : Record) → slice_get (values_of es) i ≡ Some r
+    → AllReady staged sources roomy es → ((slice_get (keys_of es) i ≡ Some (id_of r)) × IsReadyRecord staged sources (id_of r) r) × (set.contains roomy (id_of r) ≡ true)
 unfolding AllReady
-ready_at staged sources roomy [] i id r at is all = absurd (cc)
-ready_at staged sources roomy (e ∷ es) zero id r at is all =
-    let key : e.0 ≡ id = cc in
+ready_at staged sources roomy [] i r is all = absurd (cc)
+ready_at staged sources roomy (e ∷ es) zero r is all =
     let value : e.1 ≡ r = cc in
-    (subst (λ k. IsReadyRecord staged sources k r) key (subst (λ x. IsReadyRecord staged sources e.0 x) value all.0), subst (λ k. set.contains roomy k ≡ true) key all.1)
-ready_at staged sources roomy (e ∷ es) (suc n) id r at is all = ready_at staged sources roomy es n id r at is all.2
+    let key : e.0 ≡ id_of r = sym (own-id staged sources e.0 e.1 all.0) ∙ ap id_of value in (
+      (ap Some key, subst (λ k. IsReadyRecord staged sources k r) key (subst (IsReadyRecord staged sources e.0) value all.0)),
+      subst (λ k. set.contains roomy k ≡ true) key all.1,
+    )
+ready_at staged sources roomy (e ∷ es) (suc n) r is all = ready_at staged sources roomy es n r is all.2
 
 due-set : (xs : List Entry) (i : ℕ) (s : Seen) → map has_due (set_value_at xs i s) ≡ slice_set (map has_due xs) i (is_due s)
 due-set [] i s = refl
 due-set (x ∷ xs) zero s = refl
 due-set (x ∷ xs) (suc n) s = ap (λ bs. has_due x ∷ bs) (due-set xs n s)
 
--- ---- a step of the record at a place
-module _ (old new : Staged) (files files_now sources sources_now : FileMap) (same_sources : sources_now ≡ sources) (policy : Policy) (es fs : List (TransactionId × Record)) (flags : List Bool)
-    (clock clock_now : TimersState) (told told_now : List Indication)
-    (place : ℕ) (id : TransactionId) (r r_now : Record) (whole : IsWhole old sources es flags clock) (at : slice_get (keys_of es) place ≡ Some id) (is : slice_get (values_of es) place ≡ Some r)
-    (becomes : fs ≡ set_value_at es place r_now) (keep : OthersKeep id old new) where
-  entries-become : entries_seen new fs ≡ set_value_at (entries_seen old es) place (seen (new id) r_now)
-  entries-become = ap (entries_seen new) becomes ∙ seen-set old new sources id keep es place r_now whole.distinct at
-
-  -- the table is the table before, stepped there
-  pub state-step : (f : Entry → After) → Does id (f (id, seen (old id) r)) (seen (new id) r_now) told told_now clock clock_now files_now
-      → state_of new files_now sources_now policy fs clock_now told_now ≡ step_of f place (slice_get (entries_seen old es) place) (state_of old files sources policy es clock told)
-  state-step f does =
-      let st : TableState = state_of old files sources policy es clock told in
-      let after : After = f (id, seen (old id) r) in
-      let entries : entries_seen new fs ≡ set_value_at (entries_seen old es) place after.seen = entries-become ∙ ap (set_value_at (entries_seen old es) place) does.state in
-      (λ i. record { records = entries i; now = (does.timers i).time; armed = (does.timers i).armed; told = does.tells i; files = does.files i; sources = same_sources i; policy = policy })
-      ∙ ap (λ o. step_of f place o st) (sym (seen_at old es place id r at is))
-
-  -- and still kept as a table is
-  pub whole-step : clock_now.roomy ≡ clock.roomy → IsReadyRecord new sources_now id r_now → (due : Bool) → due ≡ is_due (seen (new id) r_now) → (flags_now : List Bool) → flags_now
-      ≡ slice_set flags place due → IsWhole new sources_now fs flags_now clock_now
-  whole-step roomy is_ready due is_due_now flags_now set_so = subst (λ f. IsWhole new f fs flags_now clock_now) (sym same_sources) (record {
-    distinct = subst (IsDistinct same_id) (sym (ap keys_of becomes ∙ keys_set es place r_now)) whole.distinct;
-    ready = subst (λ s. AllReady new sources s fs) (sym roomy) (subst (AllReady new sources clock.roomy) (sym becomes)
-        (ready-set old new sources id keep clock.roomy es place r_now whole.distinct at (subst (λ f. IsReadyRecord new f id r_now) same_sources is_ready) whole.ready));
-    flagged = set_so ∙ (λ i. slice_set (whole.flagged i) place (is_due_now i)) ∙ sym (due-set (entries_seen old es) place (seen (new id) r_now)) ∙ ap (map has_due) (sym entries-become);
-    few = subst (λ n. n ≤ 4096) (sym (ap length becomes ∙ length_set es place r_now)) whole.few;
-  })
-
-  -- where a PDU found no memory, only its record may have changed
-  pub state-spoiled : (v : Content) → Keeps v (seen (old id) r) (seen (new id) r_now) told told_now clock clock_now files files_now
-      → SpoiledAt place v (state_of old files sources policy es clock told) (state_of new files_now sources_now policy fs clock_now told_now)
-  state-spoiled v keeps = record {
-    seen = seen (new id) r_now;
-    spoils = λ e here. (let same : (id, seen (old id) r) ≡ e = some_is (sym (seen_at old es place id r at is) ∙ here) in subst (λ (x : Entry). Spoils v x.1 (seen (new id) r_now)) same keeps.state);
-    table = λ i. record {
-      records = entries-become i;
-      now = (keeps.timers i).time;
-      armed = (keeps.timers i).armed;
-      told = keeps.tells i;
-      files = keeps.files i;
-      sources = same_sources i;
-      policy =
-          policy;
-    };
-  }
-    where
-      some_is : {X : Type 0} {a b : X} → Some a ≡ Some b → a ≡ b
-      some_is e = cc
-
-  -- the same by what a call answered
-  module _ {E : Type 0} (answer : Result Stored E) (v : Content) (step : Stored → Entry → After)
-      (does : IfOk answer (λ s. Does id (step s (id, seen (old id) r)) (seen (new id) r_now) told told_now clock clock_now files_now))
-      (keeps : OnErr answer (Keeps v (seen (old id) r) (seen (new id) r_now) told told_now clock clock_now files files_now)) where
-    pub answered : IfOk answer (λ s. state_of new files_now sources_now policy fs clock_now told_now
-        ≡ step_of (step s) place (slice_get (entries_seen old es) place) (state_of old files sources policy es clock told))
-    answered = by answer does
-      where
-        by : (a : Result Stored E) → IfOk a (λ s. Does id (step s (id, seen (old id) r)) (seen (new id) r_now) told told_now clock clock_now files_now)
-            → IfOk a (λ s. state_of new files_now sources_now policy fs clock_now told_now
-            ≡ step_of (step s) place (slice_get (entries_seen old es) place) (state_of old files sources policy es clock told))
-        by (Ok s) h = state-step (step s) h
-        by (Err e) h = tt
-
-    pub failed : OnErr answer (SpoiledAt place v (state_of old files sources policy es clock told) (state_of new files_now sources_now policy fs clock_now told_now))
-    failed = by answer keeps
-      where
-        by : (a : Result Stored E) → OnErr a (Keeps v (seen (old id) r) (seen (new id) r_now) told told_now clock clock_now files files_now) →
-            OnErr a (SpoiledAt place v (state_of old files sources policy es clock told) (state_of new files_now sources_now policy fs clock_now told_now))
-        by (Ok s) h = tt
-        by (Err e) h = state-spoiled v h
-
-    pub whole-after : IsReadyRecord new sources_now id r_now → (due : Bool) → due ≡ is_due (seen (new id) r_now) → (flags_now : List Bool) → flags_now ≡ slice_set flags place due →
-        IsWhole new sources_now fs flags_now clock_now
-    whole-after = whole-step (by answer does keeps)
-      where
-        by : (a : Result Stored E) → IfOk a (λ s. Does id (step s (id, seen (old id) r)) (seen (new id) r_now) told told_now clock clock_now files_now)
-            → OnErr a (Keeps v (seen (old id) r) (seen (new id) r_now) told told_now clock clock_now files files_now) → clock_now.roomy ≡ clock.roomy
-        by (Ok s) h k = ap (λ (c : TimersState). c.roomy) h.timers
-        by (Err e) h k = ap (λ (c : TimersState). c.roomy) k.timers
-
--- where a key is, a value is
-pub no_hole : {K X : Type 0} (es : List (K × X)) (i : ℕ) (k : K) → slice_get (keys_of es) i ≡ Some k → slice_get (values_of es) i ≡ None → ⊥
-no_hole [] i k at none = cc
-no_hole (e ∷ es) zero k at none = cc
-no_hole (e ∷ es) (suc n) k at none = no_hole es n k at none
-
-pub below_length : {K X : Type 0} (es : List (K × X)) (i : ℕ) (k : K) → slice_get (keys_of es) i ≡ Some k → i < length es
-below_length [] i k at = absurd (cc)
-below_length (e ∷ es) zero k at = omega arith
-below_length (e ∷ es) (suc n) k at = let l = below_length es n k at in omega arith
-
 pub length_seen : (staged : Staged) (es : List (TransactionId × Record)) → length (map has_due (entries_seen staged es)) ≡ length es
 unfolding entries_seen
 length_seen staged [] = refl
 length_seen staged (e ∷ es) = ap suc (length_seen staged es)
 
-pub length_flags : (staged : Staged) (es : List (TransactionId × Record)) (sources : FileMap) (flags : List Bool) (clock : TimersState) → IsWhole staged sources es flags clock → length flags
-    ≡ length es
-length_flags staged es sources flags clock whole = ap length whole.flagged ∙ length_seen staged es
+pub length_flags : (desk : DeskState) (es : List (TransactionId × Record)) (flags : List Bool) → IsWhole desk es flags → length flags ≡ length es
+length_flags desk es flags whole = ap length whole.flagged ∙ length_seen desk.staged es
 
-pub below_flags : (staged : Staged) (es : List (TransactionId × Record)) (sources : FileMap) (flags : List Bool) (clock : TimersState) (i : ℕ) (k : TransactionId) →
-    IsWhole staged sources es flags clock → slice_get (keys_of es) i ≡ Some k → i < length flags
-below_flags staged es sources flags clock i k whole at =
-    let l = below_length es i k at in
-    let m = length_flags staged es sources flags clock whole in
-    omega (arith, l, m)
+below_length : {K X : Type 0} (es : List (K × X)) (i : ℕ) (x : X) → slice_get (values_of es) i ≡ Some x → i < length es
+below_length [] i x at = absurd (cc)
+below_length (e ∷ es) zero x at = omega arith
+below_length (e ∷ es) (suc n) x at = let l = below_length es n x at in omega arith
 
--- where no key is, no step is made
-pub no_entry : (staged : Staged) (es : List (TransactionId × Record)) (place : ℕ) → None ≡ slice_get (keys_of es) place → slice_get (entries_seen staged es) place ≡ None
+-- where no record is, no step is made
+pub no_entry : (staged : Staged) (es : List (TransactionId × Record)) (i : ℕ) → None ≡ slice_get (values_of es) i → slice_get (entries_seen staged es) i ≡ None
 unfolding entries_seen
-no_entry staged [] place none = refl
+no_entry staged [] i none = refl
 no_entry staged (e ∷ es) zero none = absurd (cc)
 no_entry staged (e ∷ es) (suc n) none = no_entry staged es n none
 
-pub nothing : (staged : Staged) (es : List (TransactionId × Record)) (place : ℕ) (f : Entry → After) (st : TableState) → None ≡ slice_get (keys_of es) place
-    → st ≡ step_of f place (slice_get (entries_seen staged es) place) st
-nothing staged es place f st none = ap (λ o. step_of f place o st) (sym (no_entry staged es place none))
+-- ---- a step of the record at a place
+module _ (old : DeskState) (es : List (TransactionId × Record)) (flags : List Bool) (place : ℕ) where
+  -- none is there
+  pub state-nowhere : (step : DeskState → Seen → After) → None ≡ slice_get (values_of es) place
+      → state_of old es ≡ step_of (λ e. step old e.1) place (slice_get (entries_seen old.staged es) place) (state_of old es)
+  state-nowhere step none = ap (λ o. step_of (λ e. step old e.1) place o (state_of old es)) (sym (no_entry old.staged es place none))
+
+  pub steps-nowhere : (step : DeskState → Seen → After) (Asks : (r s : ReceiverState) → (old new : ℕ) → Type 0) → None ≡ slice_get (values_of es) place
+      → Steps (step_of (λ e. step old e.1) place (slice_get (entries_seen old.staged es) place) (state_of old es)) (Counts Done)
+      (AsksOf Raises Asks (λ e. step old e.1) (slice_get (entries_seen old.staged es) place)) (roomy_of old es) (roomy_of old es)
+  steps-nowhere step Asks none =
+      let at : slice_get (entries_seen old.staged es) place ≡ None = no_entry old.staged es place none in
+      record {
+        state = state-nowhere step none;
+        counts = omega arith;
+        raises = subst (λ o. AsksOf Raises Asks (λ e. step old e.1) o old.inbox_failures old.inbox_failures) (sym at) refl;
+        outbox = refl;
+      }
+
+  module _ (whole : IsWhole old es flags) (r : Record) (is : slice_get (values_of es) place ≡ Some r) where
+    at : slice_get (keys_of es) place ≡ Some (id_of r)
+    at = (ready_at old.staged old.sources old.effects.timers.roomy es place r is whole.ready).0.0
+
+    pub here : slice_get (entries_seen old.staged es) place ≡ Some (id_of r, seen (old.staged (id_of r)) r)
+    here = seen_at old.staged es place (id_of r) r at is
+
+    pub within : place < length flags
+    within =
+        let l = below_length es place r is in
+        let m = length_flags old es flags whole in
+        omega (arith, l, m)
+
+    pub may-step : 3 ≤ spare old → MayStep r old
+    may-step room =
+        let ready = ready_at old.staged old.sources old.effects.timers.roomy es place r is whole.ready in
+        record { ready = ready.0.1; room = record { told = omega (arith, room); timers = ready.1 } }
+
+    -- a record becomes another there, which stays ready
+    module _ (new : DeskState) (fs : List (TransactionId × Record)) (r_now : Record) (becomes : fs ≡ set_value_at es place r_now) (stays : Stays r r_now old new) where
+      entries-become : entries_seen new.staged fs ≡ set_value_at (entries_seen old.staged es) place (seen_as r r_now new)
+      entries-become = ap (entries_seen new.staged) becomes ∙ seen-set old.staged new.staged old.sources (id_of r) stays.others es place r_now whole.distinct at
+
+      -- the table is still kept as a table is
+      pub whole-step : new.effects.timers.roomy ≡ old.effects.timers.roomy → (due : Bool) → due ≡ is_due (seen_as r r_now new) → (flags_now : List Bool) → flags_now ≡ slice_set flags place due →
+          IsWhole new fs flags_now
+      whole-step roomy due is_due_now flags_now set_so = record {
+        distinct = subst (IsDistinct same_id) (sym (ap keys_of becomes ∙ keys_set es place r_now)) whole.distinct;
+        ready = subst (λ s. AllReady new.staged new.sources s fs) (sym roomy)
+            (subst (λ f. AllReady new.staged f old.effects.timers.roomy fs) (sym stays.sources)
+            (subst (AllReady new.staged old.sources old.effects.timers.roomy) (sym becomes)
+            (ready-set old.staged new.staged old.sources (id_of r) stays.others old.effects.timers.roomy es place r_now whole.distinct at
+            (subst (λ f. IsReadyRecord new.staged f (id_of r) r_now) stays.sources stays.ready) whole.ready)));
+        flagged = set_so ∙ (λ i. slice_set (whole.flagged i) place (is_due_now i)) ∙ sym (due-set (entries_seen old.staged es) place (seen_as r r_now new)) ∙ ap (map has_due) (sym entries-become);
+        few = subst (λ n. n ≤ 4096) (sym (ap length becomes ∙ length_set es place r_now)) whole.few;
+      }
+
+      -- it is the table before, stepped there
+      pub state-step : (step : DeskState → Seen → After) → Made step r r_now old new →
+          state_of new fs ≡ step_of (λ e. step old e.1) place (slice_get (entries_seen old.staged es) place) (state_of old es)
+      state-step step does =
+          let entries : entries_seen new.staged fs ≡ set_value_at (entries_seen old.staged es) place (step old (seen_as r r old)).seen =
+          entries-become ∙ ap (set_value_at (entries_seen old.staged es) place) does.state in
+          (λ i. record {
+            records = entries i;
+            now = (does.timers i).time;
+            armed = (does.timers i).armed;
+            told = does.tells i;
+            files = does.files i;
+            sources = stays.sources i;
+            policy = stays.policy i;
+          })
+          ∙ ap (λ o. step_of (λ e. step old e.1) place o (state_of old es)) (sym here)
+
+      pub steps-there : (stored : Stored) (step : DeskState → Seen → After) (Asks : (r s : ReceiverState) → (old new : ℕ) → Type 0) → Made step r r_now old new → Asked stored Asks r r_now old new
+          → Steps (step_of (λ e. step old e.1) place (slice_get (entries_seen old.staged es) place) (state_of old es)) (Counts stored)
+          (AsksOf Raises Asks (λ e. step old e.1) (slice_get (entries_seen old.staged es) place)) (roomy_of old es) (roomy_of new fs)
+      steps-there stored step Asks does asked = record {
+        state = state-step step does;
+        counts = asked.counts;
+        raises = subst (λ o. AsksOf Raises Asks (λ e. step old e.1) o old.inbox_failures new.inbox_failures) (sym here)
+            (subst (λ s. AsksAs Raises Asks (seen_as r r old) s old.inbox_failures new.inbox_failures) does.state asked.raises);
+        outbox = asked.outbox;
+      }
+
+      -- where a PDU found no memory, only its record may have changed
+      pub lacks-there : (v : Content) → Keeps v r r_now old new → LacksMemory place v (roomy_of old es) (roomy_of new fs)
+      lacks-there v keeps = record {
+        spoiled = record {
+          seen = seen_as r r_now new;
+          spoils = λ e there. (let same : (id_of r, seen_as r r old) ≡ e = some_is (sym here ∙ there) in subst (λ (x : Entry). Spoils v x.1 (seen_as r r_now new)) same keeps.state);
+          table = λ i. record {
+            records = entries-become i;
+            now = (keeps.timers i).time;
+            armed = (keeps.timers i).armed;
+            told = keeps.tells i;
+            files = keeps.files i;
+            sources = stays.sources i;
+            policy = stays.policy i;
+          };
+        };
+        inbox = keeps.inbox;
+        outbox = keeps.outbox;
+      }
+        where
+          some_is : {X : Type 0} {a b : X} → Some a ≡ Some b → a ≡ b
+          some_is e = cc
+
+      -- the same by what a call answered
+      module _ {E : Type 0} (answer : Result Stored E) (v : Content) (step : Stored → DeskState → Seen → After) (Asks : Stored → (r s : ReceiverState) → (old new : ℕ) → Type 0)
+          (does : IfOk answer (λ s. Made (step s) r r_now old new)) (asked : IfOk answer (λ s. Asked s (Asks s) r r_now old new)) (keeps : OnErr answer (Keeps v r r_now old new)) where
+        pub answered : IfOk answer (λ s. Steps (step_of (λ e. step s old e.1) place (slice_get (entries_seen old.staged es) place) (state_of old es)) (Counts s)
+            (AsksOf Raises (Asks s) (λ e. step s old e.1) (slice_get (entries_seen old.staged es) place)) (roomy_of old es) (roomy_of new fs))
+        answered = by answer does asked
+          where
+            by : (a : Result Stored E) → IfOk a (λ s. Made (step s) r r_now old new) → IfOk a (λ s. Asked s (Asks s) r r_now old new) →
+                IfOk a (λ s. Steps (step_of (λ e. step s old e.1) place (slice_get (entries_seen old.staged es) place) (state_of old es)) (Counts s)
+                (AsksOf Raises (Asks s) (λ e. step s old e.1) (slice_get (entries_seen old.staged es) place)) (roomy_of old es) (roomy_of new fs))
+            by (Ok s) h k = steps-there s (step s) (Asks s) h k
+            by (Err e) h k = tt
+
+        pub failed : OnErr answer (LacksMemory place v (roomy_of old es) (roomy_of new fs))
+        failed = by answer keeps
+          where
+            by : (a : Result Stored E) → OnErr a (Keeps v r r_now old new) → OnErr a (LacksMemory place v (roomy_of old es) (roomy_of new fs))
+            by (Ok s) h = tt
+            by (Err e) h = lacks-there v h
+
+        pub same-roomy : new.effects.timers.roomy ≡ old.effects.timers.roomy
+        same-roomy = by answer does keeps
+          where
+            by : (a : Result Stored E) → IfOk a (λ s. Made (step s) r r_now old new) → OnErr a (Keeps v r r_now old new) → new.effects.timers.roomy ≡ old.effects.timers.roomy
+            by (Ok s) h k = ap (λ (c : TimersState). c.roomy) h.timers
+            by (Err e) h k = ap (λ (c : TimersState). c.roomy) k.timers
 
 -- ---- a record more
 ready-roomier : (staged : Staged) (sources : FileMap) (roomy wider : set.FinSet id_cmp) → ((k : TransactionId) → set.contains roomy k ≡ true → set.contains wider k ≡ true) →
@@ -270,12 +311,6 @@ ready-roomier : (staged : Staged) (sources : FileMap) (roomy wider : set.FinSet 
 unfolding AllReady
 ready-roomier staged sources roomy wider more [] all = tt
 ready-roomier staged sources roomy wider more (e ∷ es) all = (all.0, more e.0 all.1, ready-roomier staged sources roomy wider more es all.2)
-
-pub whole-roomier : (staged : Staged) (sources : FileMap) (es fs : List (TransactionId × Record)) (flags : List Bool) (clock clock_now : TimersState) → IsWhole staged sources es flags clock → fs ≡ es
-    → ((k : TransactionId) → set.contains clock.roomy k ≡ true → set.contains clock_now.roomy k ≡ true) → IsWhole staged sources fs flags clock_now
-whole-roomier staged sources es fs flags clock clock_now whole same more =
-    subst (λ l. IsWhole staged sources l flags clock_now) (sym same)
-    (record { distinct = whole.distinct; ready = ready-roomier staged sources clock.roomy clock_now.roomy more es whole.ready; flagged = whole.flagged; few = whole.few })
 
 ready-push : (staged : Staged) (sources : FileMap) (roomy : set.FinSet id_cmp) (es : List (TransactionId × Record)) (id : TransactionId) (r : Record) → AllReady staged sources roomy es →
     IsReadyRecord staged sources id r → set.contains roomy id ≡ true
@@ -293,90 +328,90 @@ absent-apart (e ∷ es) id none =
       | false ↦ λ t n. (t, absent-apart es id n)
     ] refl none
 
-module _ (old new : Staged) (sources : FileMap) (policy : Policy) (es fs : List (TransactionId × Record)) (flags flags_now : List Bool) (clock roomier clock_now : TimersState) (id : TransactionId)
-    (whole : IsWhole old sources es flags clock) (absent : lookup (same_id id) es ≡ None) (same : fs ≡ es)
-    (more : (k : TransactionId) → set.contains clock.roomy k ≡ true → set.contains roomier.roomy k ≡ true) (still : clock_now.roomy ≡ roomier.roomy) (keep : OthersKeep id old new) where
-  pub seen-kept : entries_seen new fs ≡ entries_seen old es
-  seen-kept = ap (entries_seen new) same ∙ seen-others old new sources id keep es (absent-apart es id absent)
+module _ (old new : DeskState) (es fs : List (TransactionId × Record)) (flags : List Bool) (id : TransactionId) (whole : IsWhole old es flags) (absent : lookup (same_id id) es ≡ None) (same : fs ≡ es)
+    (widens : Widens id old new) where
+  seen-kept : entries_seen new.staged fs ≡ entries_seen old.staged es
+  seen-kept = ap (entries_seen new.staged) same ∙ seen-others old.staged new.staged old.sources id widens.others es (absent-apart es id absent)
 
-  ready-kept : AllReady new sources clock_now.roomy es
-  ready-kept = subst (λ s. AllReady new sources s es) (sym still) (ready-others old new sources id keep roomier.roomy es (absent-apart es id absent)
-      (ready-roomier old sources clock.roomy roomier.roomy more es whole.ready))
+  ready-kept : AllReady new.staged new.sources new.effects.timers.roomy es
+  ready-kept = subst (λ f. AllReady new.staged f new.effects.timers.roomy es) (sym widens.sources)
+      (ready-others old.staged new.staged old.sources id widens.others new.effects.timers.roomy es (absent-apart es id absent)
+      (ready-roomier old.staged old.sources old.effects.timers.roomy new.effects.timers.roomy widens.roomier es whole.ready))
 
   -- where the record found no memory
-  pub whole-kept : IsWhole new sources fs flags clock_now
-  whole-kept = subst (λ l. IsWhole new sources l flags clock_now) (sym same)
-      (record { distinct = whole.distinct; ready = ready-kept; flagged = whole.flagged ∙ ap (map has_due) (sym (seen-others old new sources id keep es (absent-apart es id absent))); few = whole.few })
+  pub whole-kept : IsWhole new fs flags
+  whole-kept = subst (λ l. IsWhole new l flags) (sym same) (record {
+    distinct = whole.distinct;
+    ready = ready-kept;
+    flagged = whole.flagged ∙ ap (map has_due) (sym (seen-others old.staged new.staged old.sources id widens.others es (absent-apart es id absent)));
+    few = whole.few;
+  })
+
+  pub becomes-kept : OpensNone old new → Becomes (state_of old es) (roomy_of old es) (roomy_of new fs)
+  becomes-kept none = record {
+    state = λ i. record {
+      records = seen-kept i;
+      now = (none.timers i).time;
+      armed = (none.timers i).armed;
+      told = none.tells i;
+      files = none.files i;
+      sources = widens.sources i;
+      policy = widens.policy i;
+    };
+    inbox = none.inbox;
+    outbox = widens.outbox;
+  }
 
   -- where it was added
-  module _ (r : Record) (gs : List (TransactionId × Record)) (added : gs ≡ fs ++ (id, r) ∷ []) where
-    pub seen-added : entries_seen new gs ≡ entries_seen old es ++ (id, seen (new id) r) ∷ []
+  module _ (r : Record) (gs : List (TransactionId × Record)) (added : gs ≡ fs ++ (id, r) ∷ []) (after : After) (opens : Opens id after r old new) where
+    seen-added : entries_seen new.staged gs ≡ entries_seen old.staged es ++ (id, seen (new.staged id) r) ∷ []
     unfolding entries_seen
-    seen-added = ap (entries_seen new) added ∙ map-append (entry_seen new) fs ((id, r) ∷ []) ∙ ap (λ l. l ++ (id, seen (new id) r) ∷ []) seen-kept
+    seen-added = ap (entries_seen new.staged) added ∙ map-append (entry_seen new.staged) fs ((id, r) ∷ []) ∙ ap (λ l. l ++ (id, seen (new.staged id) r) ∷ []) seen-kept
 
-    pub whole-added : length es < 4096 → IsReadyRecord new sources id r → set.contains roomier.roomy id ≡ true → (due : Bool) → due ≡ is_due (seen (new id) r) → flags_now ≡ flags ++ due ∷ []
-        → IsDistinct same_id (keys_of gs) → IsWhole new sources gs flags_now clock_now
-    whole-added few is_ready has_room due is_due_now pushed apart = record {
+    pub whole-added : length es < 4096 → (due : Bool) → due ≡ is_due (seen (new.staged id) r) → (flags_now : List Bool) → flags_now ≡ flags ++ due ∷ [] → IsDistinct same_id (keys_of gs) →
+        IsWhole new gs flags_now
+    whole-added few due is_due_now flags_now pushed apart = record {
       distinct = apart;
-      ready = subst (AllReady new sources clock_now.roomy) (sym (added ∙ ap (λ l. l ++ (id, r) ∷ []) same))
-          (ready-push new sources clock_now.roomy es id r ready-kept is_ready (subst (λ s. set.contains s id ≡ true) (sym still) has_room));
-      flagged = pushed ∙ (λ i. whole.flagged i ++ is_due_now i ∷ []) ∙ sym (map-append has_due (entries_seen old es) ((id, seen (new id) r) ∷ [])) ∙ ap (map has_due) (sym seen-added);
+      ready = subst (AllReady new.staged new.sources new.effects.timers.roomy) (sym (added ∙ ap (λ l. l ++ (id, r) ∷ []) same))
+          (ready-push new.staged new.sources new.effects.timers.roomy es id r ready-kept opens.ready opens.has_room);
+      flagged = pushed ∙ (λ i. whole.flagged i ++ is_due_now i ∷ []) ∙ sym (map-append has_due (entries_seen old.staged es) ((id, seen (new.staged id) r) ∷ [])) ∙ ap (map has_due) (sym seen-added);
       few = (let l = ap length added ∙ length-append fs ((id, r) ∷ []) in let m = ap length same in omega (arith, l, m));
     }
 
-    pub state-added : (files files_now : FileMap) (told told_mid told_now : List Indication) (f : After) → roomier ≡ record clock { roomy = roomier.roomy } → told_mid ≡ told
-        → Does id f (seen (new id) r) told_mid told_now roomier clock_now files_now
-        → state_of new files_now sources policy gs clock_now told_now ≡ with_record id f (state_of old files sources policy es clock told)
-    state-added files files_now told told_mid told_now f same_clock same_told does =
-        let time : roomier.time ≡ clock.time = ap (λ (k : TimersState). k.time) same_clock in
-        let armed : roomier.armed ≡ clock.armed = ap (λ (k : TimersState). k.armed) same_clock in
-        let entries : entries_seen new gs ≡ entries_seen old es ++ (id, f.seen) ∷ [] = seen-added ∙ ap (λ s. entries_seen old es ++ (id, s) ∷ []) does.state in
-        (λ i. record {
+    pub state-added : state_of new gs ≡ with_record id after (state_of old es)
+    state-added =
+        let entries : entries_seen new.staged gs ≡ entries_seen old.staged es ++ (id, after.seen) ∷ [] = seen-added ∙ ap (λ s. entries_seen old.staged es ++ (id, s) ∷ []) opens.does.state in
+        λ i. record {
           records = entries i;
-          now = (does.timers i).time;
-          armed = (does.timers i).armed;
-          told = (does.tells ∙ ap (λ l. l ++ f.told) same_told) i;
-          files = does.files i;
-          sources = sources;
-          policy = policy;
-        })
-        ∙ (λ i. record {
-          records = entries_seen old es ++ (id, f.seen) ∷ [];
-          now = time i;
-          armed = with_waits (time i) id f.waits (armed i);
-          told = told ++ f.told;
-          files = f.files;
-          sources = sources;
-          policy = policy;
-        })
+          now = (opens.does.timers i).time;
+          armed = (opens.does.timers i).armed;
+          told = opens.does.tells i;
+          files = opens.does.files i;
+          sources = widens.sources i;
+          policy = widens.policy i;
+        }
 
-pub state-same : (old new : Staged) (files files_now sources : FileMap) (policy : Policy) (es fs : List (TransactionId × Record)) (clock clock_now : TimersState) (told told_now : List Indication) →
-    entries_seen new fs ≡ entries_seen old es
-    → clock_now.time ≡ clock.time → clock_now.armed ≡ clock.armed → told_now ≡ told → files_now ≡ files → state_of new files_now sources policy fs clock_now told_now
-    ≡ state_of old files sources policy es clock told
-state-same old new files files_now sources policy es fs clock clock_now told told_now entries time armed tells same =
-    λ i. record { records = entries i; now = time i; armed = armed i; told = tells i; files = same i; sources = sources; policy = policy }
+-- ---- room was made for what a step tells
+module _ (desk : DeskState) (told : Vec Indication Global) (same : told.items ≡ desk.effects.told.items) (es : List (TransactionId × Record)) where
+  abbrev pub roomed : DeskState
+  roomed = record desk { effects = record desk.effects { told = told } }
 
--- ---- what is due at a place
-pub due-here : (staged : Staged) (sources : FileMap) (es : List (TransactionId × Record)) (i : ℕ) (id : TransactionId) (r : Record) → slice_get (keys_of es) i ≡ Some id → slice_get (values_of es) i
-    ≡ Some r
-    → octets_due sources (slice_get (entries_seen staged es) i) ≡ due_octets sources (seen (staged id) r)
-due-here staged sources es i id r at is = ap (octets_due sources) (seen_at staged es i id r at is)
+  pub whole-roomed : (flags : List Bool) → IsWhole desk es flags → IsWhole roomed es flags
+  whole-roomed flags whole = record { distinct = whole.distinct; ready = whole.ready; flagged = whole.flagged; few = whole.few }
 
-pub due-nothing : (staged : Staged) (sources : FileMap) (es : List (TransactionId × Record)) (i : ℕ) → None ≡ slice_get (keys_of es) i → octets_due sources (slice_get (entries_seen staged es) i) ≡ []
-due-nothing staged sources es i none = ap (octets_due sources) (no_entry staged es i none)
+  pub becomes-roomed : (after : TableState → TableState) (v w : Roomy) → roomy_of desk es ≡ v → Becomes (after (state_of roomed es)) (roomy_of roomed es) w → Becomes (after v.state) v w
+  becomes-roomed after v w is becomes = subst (λ (v : Roomy). Becomes (after v.state) v w) is
+      (record { state = becomes.state ∙ ap (λ l. after (record (state_of desk es) { told = l })) same; inbox = becomes.inbox; outbox = becomes.outbox })
 
-pub len-here : (staged : Staged) (sources : FileMap) (es : List (TransactionId × Record)) (i : ℕ) (id : TransactionId) (r : Record) → slice_get (keys_of es) i ≡ Some id → slice_get (values_of es) i
-    ≡ Some r
-    → len_due sources (slice_get (entries_seen staged es) i) ≡ due_len sources (seen (staged id) r)
-len-here staged sources es i id r at is = ap (len_due sources) (seen_at staged es i id r at is)
-
-pub data-here : (staged : Staged) (es : List (TransactionId × Record)) (i : ℕ) (id : TransactionId) (r : Record) → slice_get (keys_of es) i ≡ Some id → slice_get (values_of es) i ≡ Some r
-    → data_due (slice_get (entries_seen staged es) i) ≡ carries_data (seen (staged id) r)
-data-here staged es i id r at is = ap data_due (seen_at staged es i id r at is)
-
-pub len-nothing : (staged : Staged) (sources : FileMap) (es : List (TransactionId × Record)) (i : ℕ) → None ≡ slice_get (keys_of es) i → len_due sources (slice_get (entries_seen staged es) i) ≡ 0
-len-nothing staged sources es i none = ap (len_due sources) (no_entry staged es i none)
+  pub steps-roomed : (after : TableState → TableState) (Counted : (before after : ℕ) → Type 0) (Asks : TableState → (before after : ℕ) → Type 0) (v w : Roomy) → roomy_of desk es ≡ v →
+      Steps (after (state_of roomed es)) Counted (Asks (state_of roomed es)) (roomy_of roomed es) w → Steps (after v.state) Counted (Asks v.state) v w
+  steps-roomed after Counted Asks v w is steps = subst (λ (v : Roomy). Steps (after v.state) Counted (Asks v.state) v w) is
+      (record {
+        state = steps.state ∙ ap (λ l. after (record (state_of desk es) { told = l })) same;
+        counts = steps.counts;
+        raises = subst (λ l. Asks (record (state_of desk es) { told = l }) desk.inbox_failures w.inbox_failures) same steps.raises;
+        outbox = steps.outbox;
+      })
 
 -- by the entry itself
 pub ready_by_entry : (staged : Staged) (sources : FileMap) (roomy : set.FinSet id_cmp) (es : List (TransactionId × Record)) (i : ℕ) (k : TransactionId) (r : Record) → Some (k, r) ≡ slice_get es i

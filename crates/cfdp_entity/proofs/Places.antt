@@ -9,12 +9,11 @@ use Rattle.std.proofs.lemmas.Bool.{ltb-false}
 use Rattle.std.proofs.lemmas.List.Sums.{prefix_len-le-length}
 use Rattle.cfdp_header.specs.declared.value.TransactionId.{TransactionId}
 use Rattle.cfdp_header.specs.Ids.{same_id}
-use Rattle.cfdp_header.specs.Files.{FileMap}
-use Rattle.cfdp_timers.specs.Armed.{TimersState}
 use Rattle.cfdp_entity.specs.declared.record.Record.{Record}
 use Rattle.cfdp_entity.specs.Ready.{next_true}
 use Rattle.cfdp_entity.specs.Table.{Entry, place_of, next_due, has_due}
-use Rattle.cfdp_entity.specs.Whole.{Staged, entry_seen, entries_seen, AllReady, IsWhole}
+use Rattle.cfdp_entity.specs.Desk.{Staged, DeskState}
+use Rattle.cfdp_entity.specs.Whole.{entry_seen, entries_seen, AllReady, IsWhole}
 
 module _ {A B : Type 0} (f : A → B) where
   length_map : (xs : List A) → length (map f xs) ≡ length xs
@@ -65,11 +64,11 @@ pub length_entries : (staged : Staged) (es : List (TransactionId × Record)) →
 unfolding entries_seen
 length_entries staged es = length_map (entry_seen staged) es
 
-pub first-whole : (staged : Staged) (es : List (TransactionId × Record)) (sources : FileMap) (flags : List Bool) (clock : TimersState) → es ≡ [] → flags ≡ [] → IsWhole staged sources es flags clock
+pub first-whole : (desk : DeskState) (es : List (TransactionId × Record)) (flags : List Bool) → es ≡ [] → flags ≡ [] → IsWhole desk es flags
 unfolding IsDistinct AllReady entries_seen
-first-whole staged es sources flags clock none no_flags =
-    let empty : IsWhole staged sources [] [] clock = record { distinct = tt; ready = tt; flagged = refl; few = omega arith } in
-    subst (λ l. IsWhole staged sources l flags clock) (sym none) (subst (λ f. IsWhole staged sources [] f clock) (sym no_flags) empty)
+first-whole desk es flags none no_flags =
+    let empty : IsWhole desk [] [] = record { distinct = tt; ready = tt; flagged = refl; few = omega arith } in
+    subst (λ l. IsWhole desk l flags) (sym none) (subst (IsWhole desk []) (sym no_flags) empty)
 
 pub seen-nil : (staged : Staged) (es : List (TransactionId × Record)) → es ≡ [] → entries_seen staged es ≡ []
 unfolding entries_seen

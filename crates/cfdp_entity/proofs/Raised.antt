@@ -1,9 +1,5 @@
 -- What a step asks of the inbox, said of the inbox and said of the count of its failures.
-use Rattle.std.proofs.Common.{◌≡◌, ℕ, Bool, List, slice_get, Option, Some, None, Result, Ok, Err, IfOk, refl, sym, subst}
-use Rattle.std.specs.Map.{keys_of, values_of}
-use Rattle.cfdp_header.specs.declared.value.TransactionId.{TransactionId}
-use Rattle.cfdp_header.specs.Files.{FileMap}
-use Rattle.cfdp_directives.specs.declared.user.indication.Indication.{Indication}
+use Rattle.std.proofs.Common.{◌≡◌, ℕ, Bool, List, Option, Some, None, Result, Ok, Err, IfOk, refl, sym, subst}
 use Rattle.cfdp_directives.specs.declared.pdu.addressing.Addressing.{Addressing}
 use Rattle.cfdp_directives.specs.Pdu.Content.{Content, FileData, Metadata, Eof, Finished, Ack, Nak, Prompt, KeepAlive}
 use Rattle.cfdp_store.specs.declared.stored.Stored.{Stored}
@@ -11,7 +7,6 @@ use Rattle.cfdp_store.specs.declared.stored.Stored.TheVariants.{Done, Refused}
 use Rattle.cfdp_store.specs.Calls.{InboxCall}
 use Rattle.cfdp_store.specs.Chains.{Makes, Raises}
 use Rattle.cfdp_store.specs.Staged.{OctetMap}
-use Rattle.cfdp_timers.specs.Armed.{TimersState}
 use Rattle.cfdp_sender.specs.State.{SenderState}
 use Rattle.cfdp_receiver.specs.State.{ReceiverState, opened_receiver}
 use Rattle.cfdp_receiver.specs.Storing.{Settles, Stages, staged_pieces}
@@ -20,13 +15,8 @@ use Rattle.cfdp_entity.specs.declared.call.Call.{Call}
 use Rattle.cfdp_entity.specs.declared.call.Call.TheVariants as call
 use Rattle.cfdp_entity.specs.declared.record.Record.{Record}
 use Rattle.cfdp_entity.specs.declared.record.Record.TheVariants as held
-use Rattle.cfdp_entity.specs.Does.{Does}
 use Rattle.cfdp_entity.specs.Seen.{Seen, Sends, Receives, seen}
-use Rattle.cfdp_entity.specs.Steps.{After}
-use Rattle.cfdp_entity.specs.Storing.{AsksHeard, AsksCalled, AsksAs, AsksOf, AsksFirst}
-use Rattle.cfdp_entity.specs.Table.{Entry}
-use Rattle.cfdp_entity.specs.Whole.{Staged, entries_seen}
-use Rattle.cfdp_entity.proofs.Entries.{seen_at, no_entry}
+use Rattle.cfdp_entity.specs.Storing.{AsksHeard, AsksCalled, AsksAs, AsksFirst}
 
 module _ {S : Type 0} (steps : S → InboxCall → S → Type 0) (failures : S → ℕ) where
   raised : (calls : List InboxCall) (old new : S) → Makes steps failures calls old new → Raises calls (failures old) (failures new)
@@ -96,24 +86,3 @@ pub sender-heard : {E : Type 0} (answer : Result Stored E) (large : Bool) (v : C
     IfOk answer (λ stored. AsksAs Raises (AsksHeard Raises large v stored) (seen staged k) after n n)
 sender-heard (Ok stored) large v k x is staged after n = sender-asks (AsksHeard Raises large v stored) k x is staged after n
 sender-heard (Err e) large v k x is staged after n = tt
-
--- ---- the record at a place
-pub asks-there : (Asks : (r s : ReceiverState) → (old new : ℕ) → Type 0) (f : Entry → After) (staged : Staged) (es : List (TransactionId × Record)) (place : ℕ) (id : TransactionId) (k : Record)
-    (now : Seen) (n m : ℕ)
-    → slice_get (keys_of es) place ≡ Some id → slice_get (values_of es) place ≡ Some k → now ≡ (f (id, seen (staged id) k)).seen → AsksAs Raises Asks (seen (staged id) k) now n m →
-    AsksOf Raises Asks f (slice_get (entries_seen staged es) place) n m
-asks-there Asks f staged es place id k now n m at is becomes asks =
-    subst (λ o. AsksOf Raises Asks f o n m) (sym (seen_at staged es place id k at is)) (subst (λ s. AsksAs Raises Asks (seen (staged id) k) s n m) becomes asks)
-
-pub answered-there : {E : Type 0} (Asks : Stored → (r s : ReceiverState) → (old new : ℕ) → Type 0) (f : Stored → Entry → After) (staged : Staged) (es : List (TransactionId × Record)) (place : ℕ)
-    (id : TransactionId) (k : Record) (now : Seen) (n m : ℕ)
-    → slice_get (keys_of es) place ≡ Some id → slice_get (values_of es) place ≡ Some k → (told told_now : List Indication) (clock clock_now : TimersState) (files : FileMap) (answer : Result Stored E)
-    → IfOk answer (λ stored. Does id (f stored (id, seen (staged id) k)) now told told_now clock clock_now files) → IfOk answer (λ stored. AsksAs Raises (Asks stored) (seen (staged id) k) now n m)
-    → IfOk answer (λ stored. AsksOf Raises (Asks stored) (f stored) (slice_get (entries_seen staged es) place) n m)
-answered-there Asks f staged es place id k now n m at is told told_now clock clock_now files (Ok stored) does asks =
-    asks-there (Asks stored) (f stored) staged es place id k now n m at is does.state asks
-answered-there Asks f staged es place id k now n m at is told told_now clock clock_now files (Err e) does asks = tt
-
-pub asks-nowhere : (Asks : (r s : ReceiverState) → (old new : ℕ) → Type 0) (f : Entry → After) (staged : Staged) (es : List (TransactionId × Record)) (place : ℕ) (n : ℕ) → None
-    ≡ slice_get (keys_of es) place → AsksOf Raises Asks f (slice_get (entries_seen staged es) place) n n
-asks-nowhere Asks f staged es place n none = subst (λ o. AsksOf Raises Asks f o n n) (sym (no_entry staged es place none)) refl

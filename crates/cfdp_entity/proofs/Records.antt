@@ -1,6 +1,6 @@
 -- What a step of a machine does to its record.
-use Rattle.std.proofs.Common.{◌≡◌, ℕ, ◌++◌, ◌∷◌, [], Bool, true, false, ◌&&◌, ◌==◌, List, Option, Some, None, Result, Ok, Err, OnOk, OnErr, IfOk, take, arith, length, ◌≤◌, IfSome, refl, sym, ap, subst, ◌∙◌, if◌then◌else◌}
-use Rattle.std.specs.Prelude.{unwrap_or, nat_lt, min}
+use Rattle.std.proofs.Common.{◌≡◌, ℕ, ◌∷◌, [], Bool, true, false, ◌&&◌, ◌==◌, List, Option, Some, None, Result, Ok, Err, OnOk, OnErr, IfOk, take, arith, length, ◌≤◌, IfSome, refl, sym, ap, subst, ◌∙◌, if◌then◌else◌}
+use Rattle.std.specs.Prelude.{unwrap_or, nat_lt, min, IsSome}
 use Rattle.std.specs.FinMap as map
 use Rattle.std.specs.FinMap.{empty}
 use Rattle.std.specs.FinSet as set
@@ -8,7 +8,6 @@ use Rattle.std.proofs.lemmas.List.{append-nil}
 use Rattle.cfdp_header.specs.declared.value.TransactionId.{TransactionId}
 use Rattle.cfdp_header.specs.Files.{FileMap}
 use Rattle.cfdp_directives.specs.declared.pdu.addressing.Addressing.{Addressing}
-use Rattle.cfdp_directives.specs.declared.user.indication.Indication.{Indication}
 use Rattle.cfdp_directives.specs.declared.user.limits.Times.{Times}
 use Rattle.cfdp_directives.specs.declared.user.policy.Policy.{Policy}
 use Rattle.cfdp_directives.specs.declared.pdu.codes.Acknowledged.{Acknowledged}
@@ -17,7 +16,9 @@ use Rattle.cfdp_directives.specs.declared.pdu.codes.Acknowledged.TheVariants as 
 use Rattle.cfdp_directives.specs.Pdu.Content.{Content, FileData, Metadata, Eof, Finished, Ack, Nak, Prompt, KeepAlive}
 use Rattle.cfdp_store.specs.declared.stored.Stored.{Stored}
 use Rattle.cfdp_store.specs.Staged.{OctetMap, OthersKeep, staged_for}
+use Rattle.cfdp_timers.specs.declared.effects.Effects.{Effects}
 use Rattle.cfdp_timers.specs.Armed.{TimersState}
+use Rattle.cfdp_receiver.specs.Does.{Scene, Kept, KeptAlone}
 use Rattle.cfdp_timers.specs.Waits.{waited}
 use Rattle.cfdp_receiver.specs.declared.state.ReceiverPhase.{ReceiverPhase}
 use Rattle.cfdp_receiver.specs.declared.state.ReceiverPhase.TheVariants as phase
@@ -45,10 +46,11 @@ use Rattle.cfdp_entity.specs.declared.record.Record.{Record}
 use Rattle.cfdp_entity.specs.declared.record.Record.TheVariants as held
 use Rattle.cfdp_entity.specs.Seen.{Seen, Sends, seen, octets_seen, due_octets, due_len, due_content, addressing_of, large_of, octets_of, len_of, carries_by, carries_data}
 use Rattle.cfdp_entity.specs.Seen as seens
-use Rattle.cfdp_entity.specs.Steps.{After, by_sender, by_receiver, no_step, sender_after, receiver_after, hears, calls, called_sender, called_receiver, expires, takes, sender_takes, receiver_takes}
-use Rattle.cfdp_entity.specs.Does.{Does, Keeps}
-use Rattle.cfdp_entity.specs.Sides.{Rests, SenderDoes, SenderKeeps, Receives, ReceiverDoes, ReceiverKeeps, ReceiverTook, ReceiverAcks}
-use Rattle.cfdp_entity.specs.Whole.{Staged, IsReadyRecord}
+use Rattle.cfdp_entity.specs.Steps.{After, by_sender, by_receiver, no_step, sender_after, receiver_after, called_sender, called_receiver, sender_takes, receiver_takes}
+use Rattle.cfdp_entity.specs.Desk.{Staged, DeskState, scene}
+use Rattle.cfdp_entity.specs.Does.{Does, Made, Keeps, Stays, SenderDoes, SenderKeeps, ReceiverDoes, ReceiverKeeps, ReceiverTook, ReceiverAcks, Asked, hearing, expiring, calling, taking, seen_as, found}
+use Rattle.cfdp_entity.specs.Storing.{AsksAs, AsksHeard}
+use Rattle.cfdp_entity.specs.Whole.{MayStep}
 use Rattle.cfdp_entity.proofs.Masked.{Masks, masks-metadata, masks-data, masks-eof, masks-ack, masks-prompt, masks-cancels, masks-suspends, masks-resumes, masks-expires, masks-takes}
 use Rattle.cfdp_entity.proofs.Entries.{ready-sender, sender-ready, ready-receiver, receiver-ready}
 use Rattle.cfdp_entity.specs.declared.record.Gave.TheVariants.{Octets}
@@ -63,6 +65,7 @@ use Rattle.cfdp_receiver.specs.declared.due.Due.{Due}
 use Rattle.cfdp_receiver.specs.Due.{receiver_due}
 use Rattle.cfdp_sender.specs.Does.{HasFile}
 use Rattle.cfdp_store.specs.Files.{octets_in}
+use Rattle.cfdp_store.specs.Chains.{Raises}
 use Rattle.cfdp_store.specs.Stores.{Counts}
 
 -- ---- a receiver
@@ -71,118 +74,133 @@ is_it phase.Receiving h = refl
 is_it phase.Finishing h = absurd (cc)
 is_it phase.Closed h = absurd (cc)
 
-module _ (times : Times) (id : TransactionId) (r r_now : ReceiverState) (files files_now : FileMap) (old new : Staged) (told told_now : List Indication) (timers timers_now : TimersState)
-    (rid : r.addressing.id ≡ id) (addr : r_now.addressing ≡ r.addressing) where
-  pub receiver-does : (f : OctetMap → receiver.ReceiverAfter) → (is_receiving r.phase ≡ false → Masks f)
-      → Receives times (f (staged_for old r.addressing.id)) r_now told told_now timers timers_now files_now old new
-      → Does id (by_receiver times (f (octets_seen r (unwrap_or (old id) empty)))) (seen (new id) (held.Receives r_now)) told told_now timers timers_now files_now
-  receiver-does f masks does_before =
-      let m : OctetMap = unwrap_or (old id) empty in
-      let m_is : staged_for old r.addressing.id ≡ m = ap (staged_for old) rid in
-      let does : Receives times (f m) r_now told told_now timers timers_now files_now old new =
-      subst (λ k. Receives times (f k) r_now told told_now timers timers_now files_now old new) m_is does_before in
+-- how a receiver is seen that a step left so
+pub seen-after : (a : receiver.ReceiverAfter) (r : ReceiverState) (id : TransactionId) (staged : Staged) → r ≡ a.receiver → r.addressing.id ≡ id
+    → (a.receiver.phase ≡ phase.Receiving → staged a.receiver.addressing.id ≡ Some a.octets) → seen (staged id) (held.Receives r) ≡ seens.Receives a.receiver (octets_seen a.receiver a.octets)
+seen-after a r id staged is same octets_are =
+    let id_now : a.receiver.addressing.id ≡ id = ap (λ (x : ReceiverState). x.addressing.id) (sym is) ∙ same in
+    let octets : octets_seen a.receiver (staged_for staged id) ≡ octets_seen a.receiver a.octets =
+    elim (is_receiving a.receiver.phase) as (λ b. is_receiving a.receiver.phase ≡ b → (if b then staged_for staged id else empty) ≡ (if b then a.octets else empty)) [
+      | true ↦ λ h. ap (staged_for staged) (sym id_now) ∙ ap (λ o. unwrap_or o empty) (octets_are (is_it a.receiver.phase h))
+      | false ↦ λ h. refl
+    ] refl in
+    ap (λ x. seens.Receives x (octets_seen x (staged_for staged id))) is ∙ ap (seens.Receives a.receiver) octets
+
+module _ (r r_now : ReceiverState) (old new : DeskState) (addr : r_now.addressing ≡ r.addressing) where
+  abbrev pub there : (DeskState → Seen → After) → Type 0
+  there step = Made step (held.Receives r) (held.Receives r_now) old new
+
+  receiver-does : (f : OctetMap → receiver.ReceiverAfter) → (is_receiving r.phase ≡ false → Masks f) → (stored : Stored)
+      → ReceiverDoes old.policy.times stored (Some (f (staged_for old.staged r.addressing.id))) (scene r old) (scene r_now new)
+      → Does r.addressing.id (by_receiver old.policy.times (f (octets_seen r (staged_for old.staged r.addressing.id)))) (seen (new.staged r.addressing.id) (held.Receives r_now)) old new
+  receiver-does f masks stored does =
+      let times : Times = old.policy.times in
+      let m : OctetMap = staged_for old.staged r.addressing.id in
       let a : receiver.ReceiverAfter = f m in
       let same : by_receiver times (f m) ≡ by_receiver times (f (octets_seen r m)) =
       elim (is_receiving r.phase) as (λ b. is_receiving r.phase ≡ b → by_receiver times (f m) ≡ by_receiver times (f (if b then m else empty))) [
         | true ↦ λ h. refl
         | false ↦ λ h. masks h times m
       ] refl in
-      let id_now : a.receiver.addressing.id ≡ id = ap (λ (x : ReceiverState). x.addressing.id) (sym does.receiver) ∙ ap (λ (x : Addressing). x.id) addr ∙ rid in
-      let octets : octets_seen a.receiver (unwrap_or (new id) empty) ≡ octets_seen a.receiver a.octets =
-      elim (is_receiving a.receiver.phase) as (λ b. is_receiving a.receiver.phase ≡ b → (if b then unwrap_or (new id) empty else empty) ≡ (if b then a.octets else empty)) [
-        | true ↦ λ h. ap (λ k. unwrap_or (new k) empty) (sym id_now) ∙ does.octets (is_it a.receiver.phase h)
-        | false ↦ λ h. refl
-      ] refl in
-      subst (λ (x : After). Does id x (seen (new id) (held.Receives r_now)) told told_now timers timers_now files_now) same
+      let id_now : a.receiver.addressing.id ≡ r.addressing.id = ap (λ (x : ReceiverState). x.addressing.id) (sym does.receiver) ∙ ap (λ (x : Addressing). x.id) addr in
+      subst (λ (x : After). Does r.addressing.id x (seen (new.staged r.addressing.id) (held.Receives r_now)) old new) same
       (record {
-        state = ap (λ x. seens.Receives x (octets_seen x (unwrap_or (new id) empty))) does.receiver ∙ ap (seens.Receives a.receiver) octets;
+        state = seen-after a r_now r.addressing.id new.staged does.receiver (ap (λ (x : Addressing). x.id) addr) does.octets;
         tells = does.tells;
-        timers = does.timers ∙ (λ i. record timers {
-          armed = waited timers.time ((ap (λ (x : ReceiverState). x.addressing.id) does.receiver ∙ id_now) i) (receiver_does.waits_of times a.anew (does.receiver i)) timers.armed;
+        timers = does.timers ∙ (λ i. record old.effects.timers {
+          armed = waited old.effects.timers.time ((ap (λ (x : ReceiverState). x.addressing.id) does.receiver ∙ id_now) i) (receiver_does.waits_of times a.anew (does.receiver i)) old.effects.timers.armed;
         });
         files = does.files;
       })
 
-  pub receiver-rests : Rests r r_now told told_now timers timers_now × ((files_now ≡ files) × (new ≡ old))
-      → Does id (no_step files (seens.Receives r (octets_seen r (unwrap_or (old id) empty)))) (seen (new id) (held.Receives r_now)) told told_now timers timers_now files_now
-  receiver-rests does = record {
-    state = λ i. seens.Receives (does.0.state i) (octets_seen (does.0.state i) (unwrap_or (does.1.1 i id) empty));
-    tells = does.0.tells ∙ sym (append-nil told);
-    timers = does.0.timers;
-    files = does.1.0;
+  receiver-rests : scene r_now new ≡ scene r old
+      → Does r.addressing.id (no_step old.files (seens.Receives r (octets_seen r (staged_for old.staged r.addressing.id)))) (seen (new.staged r.addressing.id) (held.Receives r_now)) old new
+  receiver-rests same = record {
+    state = ap (λ (s : Scene). seens.Receives s.receiver (octets_seen s.receiver (staged_for s.staged r.addressing.id))) same;
+    tells = ap (λ (s : Scene). s.told) same ∙ sym (append-nil old.effects.told.items);
+    timers = ap (λ (s : Scene). s.timers) same;
+    files = ap (λ (s : Scene). s.files) same;
   }
 
-  pub receiver-hears : (stored : Stored) (large : Bool) (v : Content) → ReceiverDoes times
-      (receiver_after stored large v (staged_for old r.addressing.id) files r) r r_now told told_now timers timers_now files files_now old new
-      → Does id (hears stored times files large v (seen (old id) (held.Receives r))) (seen (new id) (held.Receives r_now)) told told_now timers timers_now files_now
+  pub receiver-hears : (stored : Stored) (large : Bool) (v : Content) → ReceiverDoes old.policy.times stored
+      (found (receiver_after stored large v) (scene r old)) (scene r old) (scene r_now new)
+      → there (hearing stored large v)
   receiver-hears stored large (Metadata kind size source destination options) does =
-      receiver-does (λ m. receiver.hears_metadata stored kind size source destination m files (flagged large r))
-      (λ over. masks-metadata files (flagged large r) over stored kind size source destination) does
-  receiver-hears stored large (FileData offset bytes) does = receiver-does (λ m. receiver.hears_data stored large offset bytes m files (flagged large r))
-      (λ over. masks-data files (flagged large r) over stored large offset bytes) does
-  receiver-hears stored large (Eof condition checksum size tlvs) does = receiver-does (λ m. receiver.hears_eof stored large condition checksum size m files (flagged large r))
-      (λ over. masks-eof files (flagged large r) over stored large condition checksum size) does
-  receiver-hears stored large (Ack acknowledged.Finished condition status) does = receiver-does (λ m. receiver.hears_ack m files (flagged large r))
-      (λ over. masks-ack files (flagged large r) over) does
-  receiver-hears stored large (Ack acknowledged.Eof condition status) does = receiver-rests does
-  receiver-hears stored large (Prompt keep_alive) does = receiver-does (λ m. receiver.hears_prompt keep_alive m files (flagged large r))
-      (λ over. masks-prompt files (flagged large r) over keep_alive) does
-  receiver-hears stored large (Finished condition delivery status tlvs) does = receiver-rests does
-  receiver-hears stored large (Nak start end pairs) does = receiver-rests does
-  receiver-hears stored large (KeepAlive progress) does = receiver-rests does
+      receiver-does (λ m. receiver.hears_metadata stored kind size source destination m old.files (flagged large r))
+      (λ over. masks-metadata old.files (flagged large r) over stored kind size source destination) stored does
+  receiver-hears stored large (FileData offset bytes) does = receiver-does (λ m. receiver.hears_data stored large offset bytes m old.files (flagged large r))
+      (λ over. masks-data old.files (flagged large r) over stored large offset bytes) stored does
+  receiver-hears stored large (Eof condition checksum size tlvs) does = receiver-does (λ m. receiver.hears_eof stored large condition checksum size m old.files (flagged large r))
+      (λ over. masks-eof old.files (flagged large r) over stored large condition checksum size) stored does
+  receiver-hears stored large (Ack acknowledged.Finished condition status) does = receiver-does (λ m. receiver.hears_ack m old.files (flagged large r))
+      (λ over. masks-ack old.files (flagged large r) over) stored does
+  receiver-hears stored large (Ack acknowledged.Eof condition status) does = receiver-rests does.1
+  receiver-hears stored large (Prompt keep_alive) does = receiver-does (λ m. receiver.hears_prompt keep_alive m old.files (flagged large r))
+      (λ over. masks-prompt old.files (flagged large r) over keep_alive) stored does
+  receiver-hears stored large (Finished condition delivery status tlvs) does = receiver-rests does.1
+  receiver-hears stored large (Nak start end pairs) does = receiver-rests does.1
+  receiver-hears stored large (KeepAlive progress) does = receiver-rests does.1
 
-  pub receiver-called : (c : Call) → ReceiverDoes times (called_receiver c (staged_for old r.addressing.id) files r) r r_now told told_now timers timers_now files files_now old new
-      → Does id (calls times files c (seen (old id) (held.Receives r))) (seen (new id) (held.Receives r_now)) told told_now timers timers_now files_now
-  receiver-called call.Cancel does = receiver-does (λ m. receiver.cancels m files r) (λ over. masks-cancels files r over) does
-  receiver-called call.Suspend does = receiver-does (λ m. receiver.suspends m files r) (λ over. masks-suspends files r over) does
-  receiver-called call.Resume does = receiver-does (λ m. receiver.resumes m files r) (λ over. masks-resumes files r over) does
-  receiver-called (call.Prompt keep_alive) does = receiver-rests does
+  receiver-called : (c : Call) → ReceiverDoes old.policy.times Done (found (called_receiver c) (scene r old)) (scene r old) (scene r_now new) → there (calling c)
+  receiver-called call.Cancel does = receiver-does (λ m. receiver.cancels m old.files r) (λ over. masks-cancels old.files r over) Done does
+  receiver-called call.Suspend does = receiver-does (λ m. receiver.suspends m old.files r) (λ over. masks-suspends old.files r over) Done does
+  receiver-called call.Resume does = receiver-does (λ m. receiver.resumes m old.files r) (λ over. masks-resumes old.files r over) Done does
+  receiver-called (call.Prompt keep_alive) does = receiver-rests does.1
 
-  pub receiver-keeps : (v : Content) → ReceiverKeeps v r r_now told told_now timers timers_now files files_now old new
-      → Keeps v (seen (old id) (held.Receives r)) (seen (new id) (held.Receives r_now)) told told_now timers timers_now files files_now
-  receiver-keeps (Metadata kind size source destination options) keeps = record {
-    state = λ i. seens.Receives (keeps.0.state i) (octets_seen (keeps.0.state i) (unwrap_or (keeps.1.1 i id) empty));
-    tells = keeps.0.tells;
-    timers = keeps.0.timers;
-    files = keeps.1.0;
+  receiver-keeps : (v : Content) → ReceiverKeeps v (scene r old) (scene r_now new) → new.outbox_failures ≡ old.outbox_failures → Keeps v (held.Receives r) (held.Receives r_now) old new
+  receiver-keeps (Metadata kind size source destination options) same outbox = record {
+    state = ap (λ (s : Scene). seens.Receives s.receiver (octets_seen s.receiver (staged_for s.staged r.addressing.id))) same;
+    tells = ap (λ (s : Scene). s.told) same;
+    timers = ap (λ (s : Scene). s.timers) same;
+    files = ap (λ (s : Scene). s.files) same;
+    inbox = ap (λ (s : Scene). s.failures) same;
+    outbox = outbox;
   }
-  receiver-keeps (Eof condition checksum size tlvs) keeps = absurd keeps
-  receiver-keeps (Finished condition delivery status tlvs) keeps = absurd keeps
-  receiver-keeps (Ack of condition status) keeps = absurd keeps
-  receiver-keeps (Nak start end pairs) keeps = absurd keeps
-  receiver-keeps (Prompt keep_alive) keeps = absurd keeps
-  receiver-keeps (KeepAlive progress) keeps = absurd keeps
-  receiver-keeps (FileData offset bytes) keeps = record {
+  receiver-keeps (Eof condition checksum size tlvs) keeps outbox = absurd keeps
+  receiver-keeps (Finished condition delivery status tlvs) keeps outbox = absurd keeps
+  receiver-keeps (Ack of condition status) keeps outbox = absurd keeps
+  receiver-keeps (Nak start end pairs) keeps outbox = absurd keeps
+  receiver-keeps (Prompt keep_alive) keeps outbox = absurd keeps
+  receiver-keeps (KeepAlive progress) keeps outbox = absurd keeps
+  receiver-keeps (FileData offset bytes) keeps outbox = record {
     state = (
-      octets_seen r (unwrap_or (new id) empty),
-      ((λ i. seens.Receives (keeps.keeps.receiver i) (octets_seen (keeps.keeps.receiver i) (unwrap_or (new id) empty))), agree),
+      octets_seen r (staged_for new.staged r.addressing.id),
+      ((λ i. seens.Receives (keeps.receiver i) (octets_seen (keeps.receiver i) (staged_for new.staged r.addressing.id))), agree),
     );
-    tells = keeps.keeps.tells;
+    tells = keeps.tells;
     timers = keeps.timers;
-    files = keeps.keeps.files;
+    files = keeps.files;
+    inbox = keeps.failures;
+    outbox = outbox;
   }
     where
-      agree : (n : ℕ) → set.contains r.held n ≡ true → map.get (octets_seen r (unwrap_or (new id) empty)) n ≡ map.get (octets_seen r (unwrap_or (old id) empty)) n
-      agree n is_held = elim (is_receiving r.phase) as (λ b. map.get (if b then unwrap_or (new id) empty else empty) n ≡ map.get (if b then unwrap_or (old id) empty else empty) n) [
-        | true ↦ ap (λ k. map.get (unwrap_or (new k) empty) n) (sym rid) ∙ keeps.keeps.octets n is_held ∙ ap (λ k. map.get (unwrap_or (old k) empty) n) rid
+      agree : (n : ℕ) → set.contains r.held n ≡ true → map.get (octets_seen r (staged_for new.staged r.addressing.id)) n ≡ map.get (octets_seen r (staged_for old.staged r.addressing.id)) n
+      agree n is_held = elim (is_receiving r.phase) as (λ b. map.get (if b then staged_for new.staged r.addressing.id else empty) n ≡ map.get (if b then staged_for old.staged r.addressing.id else empty) n) [
+        | true ↦ keeps.octets n is_held
         | false ↦ refl
       ]
 
 -- ---- a sender
-module _ (times : Times) (id : TransactionId) (x x_now : SenderState) (files : FileMap) (told told_now : List Indication) (timers timers_now : TimersState) (xid : x.addressing.id ≡ id) where
-  pub sender-does : (a : sender.SenderAfter) → a.sender.addressing ≡ x.addressing → sender_does.Does times a x_now told told_now timers timers_now
-      → Does id (by_sender times files a) (Sends x_now) told told_now timers timers_now files
+module _ (x x_now : SenderState) (old new : DeskState) (files : new.files ≡ old.files) where
+  sender-does : (a : sender.SenderAfter) → a.sender.addressing ≡ x.addressing →
+      sender_does.Does old.policy.times a x_now old.effects new.effects
+      → Does x.addressing.id (by_sender old.policy.times old.files a) (Sends x_now) old new
   sender-does a kept does = record {
     state = ap Sends does.sender;
     tells = does.tells;
-    timers = does.timers ∙ (λ i. record timers {
-      armed = waited timers.time ((ap (λ (y : Addressing). y.id) kept ∙ xid) i) (sender_does.waits_of times a.anew a.sender) timers.armed;
+    timers = does.timers ∙ (λ i. record old.effects.timers {
+      armed = waited old.effects.timers.time ((ap (λ (y : Addressing). y.id) kept) i) (sender_does.waits_of old.policy.times a.anew a.sender) old.effects.timers.armed;
     });
-    files = refl;
+    files = files;
   }
 
-  pub sender-rests : Rests x x_now told told_now timers timers_now → Does id (no_step files (Sends x)) (Sends x_now) told told_now timers timers_now files
-  sender-rests does = record { state = ap Sends does.state; tells = does.tells ∙ sym (append-nil told); timers = does.timers; files = refl }
+  sender-rests : (x_now ≡ x) × (new.effects ≡ old.effects) → Does x.addressing.id (no_step old.files (Sends x)) (Sends x_now) old new
+  sender-rests rests = record {
+    state = ap Sends rests.0;
+    tells = ap (λ (e : Effects). e.told.items) rests.1 ∙ sym (append-nil old.effects.told.items);
+    timers = ap (λ (e : Effects). e.timers) rests.1;
+    files = files;
+  }
 
 -- ---- no step of a sender changes what it is to send
 kept-ack : (condition : ℕ) (x : SenderState) → transfer_of (sender.sender_hears_ack condition x).sender ≡ transfer_of x
@@ -277,144 +295,167 @@ kept-sends Done file x (due.NewData start end) = refl
 kept-sends Refused file x (due.NewData start end) = refl
 kept-sends stored file x due.Eof = refl
 
--- a step of a receiver that calls no store and indicates nothing
-pub quiet-receives : (times : Times) (a : receiver.ReceiverAfter) (r r_now : ReceiverState) (told : List Indication) (timers timers_now : TimersState) (files : FileMap) (staged : Staged)
-    → r_now ≡ a.receiver → a.told ≡ [] → a.files ≡ files → a.octets ≡ staged_for staged r.addressing.id → r_now.addressing ≡ r.addressing → timers_now
-    ≡ receiver_does.timers_set times a.anew r_now timers
-    → Receives times a r_now told told timers timers_now files staged staged
-quiet-receives times a r r_now told timers timers_now files staged now quiet same octets addr set_so = record {
-  receiver = now;
-  tells = sym (append-nil told) ∙ ap (λ l. told ++ l) (sym quiet);
-  timers = set_so;
-  files = sym same;
-  octets = λ receiving. ap (λ (k : TransactionId). staged_for staged k) (ap (λ (x : ReceiverState). x.addressing.id) (sym now) ∙ ap (λ (k : Addressing). k.id) addr) ∙ sym octets;
-  others = λ other apart. refl;
-}
+-- a step of a receiver that doesn't concern the inbox
+module _ (times : Times) (r r_now : ReceiverState) (old new : Effects) (files : FileMap) (staged : Staged) (failures : ℕ) (kept : KeptAlone r r_now) (ready : IsReady staged r) where
+  abbrev pub seen-before : Scene
+  seen-before = record { receiver = r; told = old.told.items; timers = old.timers; files = files; staged = staged; failures = failures }
 
-pub acked-receives : (times : Times) (large : Bool) (of : Acknowledged) (condition : ℕ) (status : TransactionStatus) (stored : Stored) (r r_now : ReceiverState) (told : List Indication)
-    (timers timers_now : TimersState) (files : FileMap) (staged : Staged)
-    → ReceiverAcks times large of r r_now timers timers_now → r_now.addressing ≡ r.addressing
-    → ReceiverDoes times (receiver_after stored large (Ack of condition status) (staged_for staged r.addressing.id) files r) r r_now told told timers timers_now files files staged staged
-acked-receives times large acknowledged.Finished condition status stored r r_now told timers timers_now files staged acks addr =
-    quiet-receives times (receiver.hears_ack (staged_for staged r.addressing.id) files (flagged large r)) r r_now told timers timers_now files staged
-    (acks.0 (staged_for staged r.addressing.id) files) refl refl refl addr acks.1
-acked-receives times large acknowledged.Eof condition status stored r r_now told timers timers_now files staged acks addr =
-    (record { state = acks.0; tells = refl; timers = acks.1 }, (refl, refl))
+  abbrev pub seen-now : Scene
+  seen-now = record { receiver = r_now; told = new.told.items; timers = new.timers; files = files; staged = staged; failures = failures }
+
+  pub alone-receives : (step : receiver_does.Step) → receiver_does.DoesAlone times step r r_now old new → ((m : OctetMap) → (step m files r).files ≡ files) → ((m : OctetMap) → (step m files r).octets ≡ m)
+      → ReceiverDoes times Done (Some (step (staged_for staged r.addressing.id) files r)) seen-before seen-now
+  alone-receives step does same octets =
+      let m : OctetMap = staged_for staged r.addressing.id in
+      record {
+        receiver = does.receiver m files;
+        tells = does.tells m files;
+        timers = does.timers m files;
+        files = sym (same m);
+        octets = λ receiving. (
+            let now : r_now.phase ≡ phase.Receiving = ap (λ (x : ReceiverState). x.phase) (does.receiver m files) ∙ receiving in
+            let id_now : (step m files r).receiver.addressing.id ≡ r.addressing.id = ap (λ (x : ReceiverState). x.addressing.id) (sym (does.receiver m files)) ∙ ap (λ (k : Addressing). k.id) kept.addressing in
+            let begun : IsSome (staged r.addressing.id) = subst (λ (k : Addressing). IsSome (staged k.id)) kept.addressing ((kept.ready staged ready).begun now) in
+            ap staged id_now ∙ some-staged (staged r.addressing.id) begun ∙ ap Some (sym (octets m))
+            );
+        counts = omega arith;
+      }
+    where
+      some-staged : (o : Option OctetMap) → IsSome o → o ≡ Some (unwrap_or o empty)
+      some-staged (Some k) h = refl
+      some-staged None h = absurd (cc)
+
+  rests-alone : r_now ≡ r → new ≡ old → seen-now ≡ seen-before
+  rests-alone same still = λ i. record { receiver = same i; told = (still i).told.items; timers = (still i).timers; files = files; staged = staged; failures = failures }
+
+  pub acked-receives : (large : Bool) (of : Acknowledged) (condition : ℕ) (status : TransactionStatus) → ReceiverAcks times large of r r_now old new
+      → ReceiverDoes times Done (found (receiver_after Done large (Ack of condition status)) seen-before) seen-before seen-now
+  acked-receives large acknowledged.Finished condition status acks = alone-receives (receiver_does.flagging large receiver.hears_ack) acks (λ m. refl) (λ m. refl)
+  acked-receives large acknowledged.Eof condition status acks = (refl, rests-alone acks.0 acks.1)
 
 -- ---- what a call of a sender leaves of its record
-module _ (times : Times) (id : TransactionId) (s : Record) (x x_now : SenderState) (is : s ≡ held.Sends x) (staged : Staged) (sources files : FileMap) (told told_now : List Indication)
-    (timers timers_now : TimersState)
-    (is_ready : IsReadyRecord staged sources id s) where
-  has : (x.addressing.id ≡ id) × HasFile sources x.source x.size
-  has = ready-sender staged sources id x (subst (IsReadyRecord staged sources id) is is_ready)
+-- The stores are as before, but for failures.
+pub record Alike (old new : DeskState) : Type 0 where
+  pub files : new.files ≡ old.files
+  pub staged : new.staged ≡ old.staged
+  pub sources : new.sources ≡ old.sources
+  pub policy : new.policy ≡ old.policy
+
+module _ (s : Record) (x x_now : SenderState) (is : s ≡ held.Sends x) (old new : DeskState) (alike : Alike old new) (may : MayStep s old) where
+  pub has-file : HasFile old.sources x.source x.size
+  has-file = (ready-sender old.staged old.sources x.addressing.id x (subst (λ (k : Record). MayStep k old) is may).ready).1
 
   -- what is done, and that the record stays ready
-  abbrev pub Steps : (Seen → After) → Type 0
-  Steps f = Does id (f (seen (staged id) s)) (Sends x_now) told told_now timers timers_now files × IsReadyRecord staged sources id (held.Sends x_now)
+  abbrev pub Steps : (DeskState → Seen → After) → Type 0
+  Steps step = Made step s (held.Sends x_now) old new × Stays s (held.Sends x_now) old new
 
-  kept-ready : (t : Transfer) → transfer_of x_now ≡ t → t ≡ transfer_of x → IsReadyRecord staged sources id (held.Sends x_now)
-  kept-ready t now kept =
+  kept-stays : (t : Transfer) → transfer_of x_now ≡ t → t ≡ transfer_of x → Stays (held.Sends x) (held.Sends x_now) old new
+  kept-stays t now kept =
       let same : transfer_of x_now ≡ transfer_of x = now ∙ kept in
-      sender-ready staged sources id x_now (ap (λ (t : Transfer). t.addressing.id) same ∙ has.0)
-      (subst (λ (t : Transfer). HasFile sources t.source t.size) (sym same) has.1)
+      record {
+        ready = sender-ready new.staged new.sources x.addressing.id x_now (ap (λ (t : Transfer). t.addressing.id) same)
+            (subst (λ f. HasFile f x_now.source x_now.size) (sym alike.sources) (subst (λ (t : Transfer). HasFile old.sources t.source t.size) (sym same) has-file));
+        others = λ other apart. ap (λ st. st other) alike.staged;
+        sources = alike.sources;
+        policy = alike.policy;
+      }
 
-  of-seen : (f : Seen → After) → Does id (f (Sends x)) (Sends x_now) told told_now timers timers_now files → Does id (f (seen (staged id) s)) (Sends x_now) told told_now timers timers_now files
-  of-seen f does = subst (λ (k : Record). Does id (f (seen (staged id) k)) (Sends x_now) told told_now timers timers_now files) (sym is) does
+  of-record : (step : DeskState → Seen → After) → Made step (held.Sends x) (held.Sends x_now) old new → Stays (held.Sends x) (held.Sends x_now) old new → Steps step
+  of-record step does stays = subst (λ (k : Record). Made step k (held.Sends x_now) old new × Stays k (held.Sends x_now) old new) (sym is) (does, stays)
 
-  stepped-so : (f : Seen → After) (a : sender.SenderAfter) → f (Sends x) ≡ by_sender times files a → transfer_of a.sender ≡ transfer_of x →
-      sender_does.Does times a x_now told told_now timers timers_now → Steps f
-  stepped-so f a step kept does = (
-    of-seen f (subst (λ (k : After). Does id k (Sends x_now) told told_now timers timers_now files) (sym step)
-        (sender-does times id x x_now files told told_now timers timers_now has.0 a (ap (λ (t : Transfer). t.addressing) kept) does)),
-    kept-ready (transfer_of a.sender) (ap transfer_of does.sender) kept,
-  )
+  stepped-so : (step : DeskState → Seen → After) (a : sender.SenderAfter) → step old (Sends x) ≡ by_sender old.policy.times old.files a → transfer_of a.sender ≡ transfer_of x →
+      sender_does.Does old.policy.times a x_now old.effects new.effects → Steps step
+  stepped-so step a is_so kept does = of-record step
+      (subst (λ (k : After). Does x.addressing.id k (Sends x_now) old new) (sym is_so)
+      (sender-does x x_now old new alike.files a (ap (λ (t : Transfer). t.addressing) kept) does))
+      (kept-stays (transfer_of a.sender) (ap transfer_of does.sender) kept)
 
-  rests-so : (f : Seen → After) → f (Sends x) ≡ no_step files (Sends x) → Rests x x_now told told_now timers timers_now → Steps f
-  rests-so f step does = (
-    of-seen f (subst (λ (k : After). Does id k (Sends x_now) told told_now timers timers_now files) (sym step) (sender-rests times id x x_now files told told_now timers timers_now has.0 does)),
-    kept-ready (transfer_of x) (ap transfer_of does.state) refl,
-  )
+  rests-so : (step : DeskState → Seen → After) → step old (Sends x) ≡ no_step old.files (Sends x) → (x_now ≡ x) × (new.effects ≡ old.effects) → Steps step
+  rests-so step is_so does = of-record step
+      (subst (λ (k : After). Does x.addressing.id k (Sends x_now) old new) (sym is_so) (sender-rests x x_now old new alike.files does))
+      (kept-stays (transfer_of x) (ap transfer_of does.0) refl)
 
-  pub sender-hears : (stored : Stored) (large : Bool) (v : Content) → SenderDoes times (sender_after v x) x x_now told told_now timers timers_now → Steps (hears stored times files large v)
-  sender-hears stored large (Ack acknowledged.Eof condition status) does = stepped-so (hears stored times files large (Ack acknowledged.Eof condition status)) _ refl (kept-ack condition x) does
-  sender-hears stored large (Ack acknowledged.Finished condition status) does = rests-so (hears stored times files large (Ack acknowledged.Finished condition status)) refl does
-  sender-hears stored large (Nak start end pairs) does = stepped-so (hears stored times files large (Nak start end pairs)) _ refl (kept-asks_in x.phase pairs x) does
-  sender-hears stored large (Finished condition delivery status tlvs) does = stepped-so (hears stored times files large (Finished condition delivery status tlvs)) _ refl refl does
-  sender-hears stored large (KeepAlive progress) does = stepped-so (hears stored times files large (KeepAlive progress)) _ refl refl does
-  sender-hears stored large (FileData offset bytes) does = rests-so (hears stored times files large (FileData offset bytes)) refl does
-  sender-hears stored large (Metadata kind size source destination options) does = rests-so (hears stored times files large (Metadata kind size source destination options)) refl does
-  sender-hears stored large (Eof condition checksum size tlvs) does = rests-so (hears stored times files large (Eof condition checksum size tlvs)) refl does
-  sender-hears stored large (Prompt keep_alive) does = rests-so (hears stored times files large (Prompt keep_alive)) refl does
+  pub sender-hears : (stored : Stored) (large : Bool) (v : Content) → SenderDoes old.policy.times (sender_after v x) x x_now old.effects new.effects → Steps (hearing stored large v)
+  sender-hears stored large (Ack acknowledged.Eof condition status) does = stepped-so (hearing stored large (Ack acknowledged.Eof condition status)) _ refl (kept-ack condition x) does
+  sender-hears stored large (Ack acknowledged.Finished condition status) does = rests-so (hearing stored large (Ack acknowledged.Finished condition status)) refl does
+  sender-hears stored large (Nak start end pairs) does = stepped-so (hearing stored large (Nak start end pairs)) _ refl (kept-asks_in x.phase pairs x) does
+  sender-hears stored large (Finished condition delivery status tlvs) does = stepped-so (hearing stored large (Finished condition delivery status tlvs)) _ refl refl does
+  sender-hears stored large (KeepAlive progress) does = stepped-so (hearing stored large (KeepAlive progress)) _ refl refl does
+  sender-hears stored large (FileData offset bytes) does = rests-so (hearing stored large (FileData offset bytes)) refl does
+  sender-hears stored large (Metadata kind size source destination options) does = rests-so (hearing stored large (Metadata kind size source destination options)) refl does
+  sender-hears stored large (Eof condition checksum size tlvs) does = rests-so (hearing stored large (Eof condition checksum size tlvs)) refl does
+  sender-hears stored large (Prompt keep_alive) does = rests-so (hearing stored large (Prompt keep_alive)) refl does
 
-  pub sender-called : (c : Call) → SenderDoes times (Some (called_sender c x)) x x_now told told_now timers timers_now → Steps (calls times files c)
-  sender-called c does = stepped-so (calls times files c) _ refl (kept-called c x) does
+  pub sender-called : (c : Call) → sender_does.Does old.policy.times (called_sender c x) x_now old.effects new.effects → Steps (calling c)
+  sender-called c does = stepped-so (calling c) _ refl (kept-called c x) does
 
-  pub sender-expired : (policy : Policy) (k : Kind) → policy.times ≡ times → sender_does.Does times (sender.sender_expires k policy x) x_now told told_now timers timers_now →
-      Steps (expires policy files k)
-  sender-expired policy k same does = stepped-so (expires policy files k) _ (ap (λ t. by_sender t files (sender.sender_expires k policy x)) same) (kept-expires policy k x) does
+  pub sender-expired : (k : Kind) → sender_does.Does old.policy.times (sender.sender_expires k old.policy x) x_now old.effects new.effects →
+      Steps (expiring k)
+  sender-expired k does = stepped-so (expiring k) _ refl (kept-expires old.policy k x) does
 
-  sender-sent : (stored : Stored) (o : Option SenderDue) (d : SenderDue) → sender_due x ≡ o → o ≡ Some d →
-      sender_does.Does times (sender.sender_sends stored (octets_in sources x.source) x d) x_now told told_now timers timers_now
-      → Steps (takes stored times sources files)
-  sender-sent stored o d due_is some does =
-      stepped-so (takes stored times sources files) _ (ap (sender_takes stored times files (octets_in sources x.source) x) (due_is ∙ some)) (kept-sends stored (octets_in sources x.source) x d) does
+  sender-sent : (stored : Stored) (d : SenderDue) → sender_due x ≡ Some d →
+      sender_does.Does old.policy.times (sender.sender_sends stored (octets_in old.sources x.source) x d) x_now old.effects new.effects
+      → Steps (taking stored)
+  sender-sent stored d due_is does =
+      stepped-so (taking stored) _ (ap (sender_takes stored old.policy.times old.files (octets_in old.sources x.source) x) due_is) (kept-sends stored (octets_in old.sources x.source) x d) does
 
-  content-is : (o : Option SenderDue) → sender_due x ≡ o → due_content sources (seen (staged id) s) ≡ seens.sender_content (octets_in sources x.source) x o
-  content-is o due_is = ap (λ (k : Record). due_content sources (seen (staged id) k)) is ∙ ap (seens.sender_content (octets_in sources x.source) x) due_is
+  abbrev before : Seen
+  before = seen_as s s old
 
-  addressed : addressing_of (seen (staged id) s) ≡ x.addressing
-  addressed = ap (λ (k : Record). addressing_of (seen (staged id) k)) is
-
-  flag-is : large_of (seen (staged id) s) ≡ is_large x.size
-  flag-is = ap (λ (k : Record). large_of (seen (staged id) k)) is
+  seen-is : before ≡ Sends x
+  seen-is = ap (λ (k : Record). seen_as k k old) is
 
   -- what taking its PDU does, by what it answered
   abbrev pub Took : List ℕ → List ℕ → Taken → Type 0
-  Took out out_now Nothing = Steps (takes Done times sources files) × Gives (due_octets sources (seen (staged id) s)) (due_len sources (seen (staged id) s)) (Octets 0) out out_now
-  Took out out_now (Moved n) = Steps (takes Done times sources files) × Gives (due_octets sources (seen (staged id) s)) (due_len sources (seen (staged id) s)) (Octets n) out out_now
-  Took out out_now SourceFailed = Steps (takes Refused times sources files) × (carries_data (seen (staged id) s) ≡ true)
+  Took out out_now Nothing = Steps (taking Done) × Gives (due_octets old.sources before) (due_len old.sources before) (Octets 0) out out_now
+  Took out out_now (Moved n) = Steps (taking Done) × Gives (due_octets old.sources before) (due_len old.sources before) (Octets n) out out_now
+  Took out out_now SourceFailed = Steps (taking Refused) × (carries_data before ≡ true)
 
-  pub sender-took : (out out_now : List ℕ) (t : Taken) → sender_does.Takes times (octets_in sources x.source) (sender_due x) t x x_now told told_now timers timers_now out out_now → Took out out_now t
+  pub sender-took : (out out_now : List ℕ) (t : Taken) →
+      sender_does.Takes old.policy.times (octets_in old.sources x.source) (sender_due x) t x x_now old.effects new.effects out out_now
+      → Took out out_now t
   sender-took out out_now t takes_so = by (sender_due x) refl t takes_so
     where
-      octets_are : (o : Option SenderDue) → sender_due x ≡ o → due_octets sources (seen (staged id) s) ≡
-          octets_of (is_large x.size) x.addressing (seens.sender_content (octets_in sources x.source) x o)
-      octets_are o due_is = λ i. octets_of (flag-is i) (addressed i) (content-is o due_is i)
+      octets_are : (o : Option SenderDue) → sender_due x ≡ o → due_octets old.sources before ≡
+          octets_of (is_large x.size) x.addressing (seens.sender_content (octets_in old.sources x.source) x o)
+      octets_are o due_is = ap (due_octets old.sources) seen-is ∙ ap (λ d. octets_of (is_large x.size) x.addressing (seens.sender_content (octets_in old.sources x.source) x d)) due_is
 
-      len_is : (o : Option SenderDue) → sender_due x ≡ o → due_len sources (seen (staged id) s) ≡ len_of (is_large x.size) x.addressing (seens.sender_content (octets_in sources x.source) x o)
-      len_is o due_is = λ i. len_of (flag-is i) (addressed i) (content-is o due_is i)
+      len_is : (o : Option SenderDue) → sender_due x ≡ o → due_len old.sources before ≡ len_of (is_large x.size) x.addressing (seens.sender_content (octets_in old.sources x.source) x o)
+      len_is o due_is = ap (due_len old.sources) seen-is ∙ ap (λ d. len_of (is_large x.size) x.addressing (seens.sender_content (octets_in old.sources x.source) x d)) due_is
 
-      by : (o : Option SenderDue) → sender_due x ≡ o → (t : Taken) → sender_does.Takes times (octets_in sources x.source) o t x x_now told told_now timers timers_now out out_now → Took out out_now t
+      by : (o : Option SenderDue) → sender_due x ≡ o → (t : Taken) →
+          sender_does.Takes old.policy.times (octets_in old.sources x.source) o t x x_now old.effects new.effects out out_now → Took out out_now t
       by None due_is Nothing h = (
-        rests-so (takes Done times sources files) (ap (sender_takes Done times files (octets_in sources x.source) x) due_is) (record { state = h.sender; tells = h.tells; timers = h.timers }),
+        rests-so (taking Done) (ap (sender_takes Done old.policy.times old.files (octets_in old.sources x.source) x) due_is) (h.sender, h.effects),
         (sym (len_is None due_is), record { front = sym (octets_are None due_is); behind = h.out }),
       )
       by (Some d) due_is (Moved n) h = (
-        sender-sent Done (Some d) d due_is refl h.1,
+        sender-sent Done d due_is h.1,
         (h.0.end ∙ sym (len_is (Some d) due_is), record { front = h.0.front ∙ sym (octets_are (Some d) due_is); behind = h.0.behind }),
       )
       by (Some d) due_is SourceFailed h = (
-        sender-sent Refused (Some d) d due_is refl h.1,
-        ap (λ (k : Record). carries_data (seen (staged id) k)) is ∙ ap carries_by due_is ∙ h.0,
+        sender-sent Refused d due_is h.1,
+        ap carries_data seen-is ∙ ap carries_by due_is ∙ h.0,
       )
       by None due_is (Moved n) h = absurd h
       by None due_is SourceFailed h = absurd h
       by (Some d) due_is Nothing h = absurd h
 
-  pub sender-keeps : (v : Content) → SenderKeeps v x x_now told told_now timers timers_now → Keeps v (seen (staged id) s) (Sends x_now) told told_now timers timers_now files files
-      × IsReadyRecord staged sources id (held.Sends x_now)
-  sender-keeps v keeps = (subst (λ (k : Record). Keeps v (seen (staged id) k) (Sends x_now) told told_now timers timers_now files files) (sym is) (by v keeps).0, (by v keeps).1)
+  pub sender-keeps : (v : Content) → SenderKeeps v x x_now old.effects new.effects → new.inbox_failures ≡ old.inbox_failures → new.outbox_failures ≡ old.outbox_failures →
+      Keeps v s (held.Sends x_now) old new × Stays s (held.Sends x_now) old new
+  sender-keeps v keeps inbox outbox = subst (λ (k : Record). Keeps v k (held.Sends x_now) old new × Stays k (held.Sends x_now) old new) (sym is) (by v keeps)
     where
-      by : (v : Content) → SenderKeeps v x x_now told told_now timers timers_now → Keeps v (Sends x) (Sends x_now) told told_now timers timers_now files files
-          × IsReadyRecord staged sources id (held.Sends x_now)
+      by : (v : Content) → SenderKeeps v x x_now old.effects new.effects → Keeps v (held.Sends x) (held.Sends x_now) old new × Stays (held.Sends x) (held.Sends x_now) old new
       by (Nak start end pairs) keeps = (
         record {
           state = (keeps.0.count, ap Sends (keeps.0.asked ∙ sym (ap (λ p. sender.asks_in p (take keeps.0.count pairs) x) keeps.0.sending)));
-          tells = keeps.1.0;
-          timers = keeps.1.1;
-          files = refl;
+          tells = ap (λ (e : Effects). e.told.items) keeps.1;
+          timers = ap (λ (e : Effects). e.timers) keeps.1;
+          files = alike.files;
+          inbox = inbox;
+          outbox = outbox;
         },
-        kept-ready (transfer_of (sender.asks_all (take keeps.0.count pairs) x)) (ap transfer_of keeps.0.asked) (kept-asks_all (take keeps.0.count pairs) x),
+        kept-stays (transfer_of (sender.asks_all (take keeps.0.count pairs) x)) (ap transfer_of keeps.0.asked) (kept-asks_all (take keeps.0.count pairs) x),
       )
       by (Ack of condition status) keeps = absurd keeps
       by (Finished condition delivery status tlvs) keeps = absurd keeps
@@ -425,148 +466,142 @@ module _ (times : Times) (id : TransactionId) (s : Record) (x x_now : SenderStat
       by (Prompt keep_alive) keeps = absurd keeps
 
   -- by what hearing a PDU answered
-  module _ {E : Type 0} (answer : Result Stored E) (large : Bool) (v : Content) (does : OnOk answer (SenderDoes times (sender_after v x) x x_now told told_now timers timers_now))
-      (keeps : OnErr answer (SenderKeeps v x x_now told told_now timers timers_now)) where
-    pub sender-answered : IfOk answer (λ stored. Does id (hears stored times files large v (seen (staged id) s)) (Sends x_now) told told_now timers timers_now files)
+  module _ {E : Type 0} (answer : Result Stored E) (large : Bool) (v : Content) (does : OnOk answer (SenderDoes old.policy.times (sender_after v x) x x_now old.effects new.effects))
+      (keeps : OnErr answer (SenderKeeps v x x_now old.effects new.effects)) (inbox : new.inbox_failures ≡ old.inbox_failures) (outbox : new.outbox_failures ≡ old.outbox_failures) where
+    pub sender-answered : IfOk answer (λ stored. Made (hearing stored large v) s (held.Sends x_now) old new)
     sender-answered = by answer does
       where
-        by : (a : Result Stored E) → OnOk a (SenderDoes times (sender_after v x) x x_now told told_now timers timers_now) →
-            IfOk a (λ stored. Does id (hears stored times files large v (seen (staged id) s)) (Sends x_now) told told_now timers timers_now files)
+        by : (a : Result Stored E) → OnOk a (SenderDoes old.policy.times (sender_after v x) x x_now old.effects new.effects) →
+            IfOk a (λ stored. Made (hearing stored large v) s (held.Sends x_now) old new)
         by (Ok stored) h = (sender-hears stored large v h).0
         by (Err e) h = tt
 
-    pub sender-failed : OnErr answer (Keeps v (seen (staged id) s) (Sends x_now) told told_now timers timers_now files files)
+    pub sender-failed : OnErr answer (Keeps v s (held.Sends x_now) old new)
     sender-failed = by answer keeps
       where
-        by : (a : Result Stored E) → OnErr a (SenderKeeps v x x_now told told_now timers timers_now) → OnErr a (Keeps v (seen (staged id) s) (Sends x_now) told told_now timers timers_now files files)
+        by : (a : Result Stored E) → OnErr a (SenderKeeps v x x_now old.effects new.effects) → OnErr a (Keeps v s (held.Sends x_now) old new)
         by (Ok stored) h = tt
-        by (Err e) h = (sender-keeps v h).0
+        by (Err e) h = (sender-keeps v h inbox outbox).0
 
-    pub sender-still : IsReadyRecord staged sources id (held.Sends x_now)
-    sender-still = by answer does keeps
+    pub sender-stays : Stays s (held.Sends x_now) old new
+    sender-stays = by answer does keeps
       where
-        by : (a : Result Stored E) → OnOk a (SenderDoes times (sender_after v x) x x_now told told_now timers timers_now) → OnErr a (SenderKeeps v x x_now told told_now timers timers_now) →
-            IsReadyRecord staged sources id (held.Sends x_now)
+        by : (a : Result Stored E) → OnOk a (SenderDoes old.policy.times (sender_after v x) x x_now old.effects new.effects) → OnErr a (SenderKeeps v x x_now old.effects new.effects) →
+            Stays s (held.Sends x_now) old new
         by (Ok stored) h k = (sender-hears stored large v h).1
-        by (Err e) h k = (sender-keeps v k).1
+        by (Err e) h k = (sender-keeps v k inbox outbox).1
 
 -- ---- and of a receiver
-module _ (times : Times) (id : TransactionId) (s : Record) (r r_now : ReceiverState) (is : s ≡ held.Receives r) (sources files files_now : FileMap) (old new : Staged) (told told_now : List Indication)
-    (timers timers_now : TimersState)
-    (is_ready : IsReadyRecord old sources id s) (addr : r_now.addressing ≡ r.addressing) where
-  pub rid : r.addressing.id ≡ id
-  rid = (ready-receiver old sources id r (subst (IsReadyRecord old sources id) is is_ready)).0
+-- the timers of others have the room that they had
+pub kept-roomy : (times : Times) (stored : Stored) (o : Option receiver.ReceiverAfter) (old new : Scene) → ReceiverDoes times stored o old new → new.timers.roomy ≡ old.timers.roomy
+kept-roomy times stored (Some a) old new does = ap (λ (t : TimersState). t.roomy) does.timers
+kept-roomy times stored None old new does = ap (λ (s : Scene). s.timers.roomy) does.1
 
-  pub receiver-still : IsReady new r_now → IsReadyRecord new sources id (held.Receives r_now)
-  receiver-still h = receiver-ready new sources id r_now (ap (λ (a : Addressing). a.id) addr ∙ rid) h
+pub still-roomy : (v : Content) (old new : Scene) → ReceiverKeeps v old new → new.timers.roomy ≡ old.timers.roomy
+still-roomy (FileData offset bytes) old new keeps = ap (λ (t : TimersState). t.roomy) keeps.timers
+still-roomy (Metadata kind size source destination options) old new keeps = ap (λ (s : Scene). s.timers.roomy) keeps
+still-roomy (Eof condition checksum size tlvs) old new keeps = absurd keeps
+still-roomy (Finished condition delivery status tlvs) old new keeps = absurd keeps
+still-roomy (Ack of condition status) old new keeps = absurd keeps
+still-roomy (Nak start end pairs) old new keeps = absurd keeps
+still-roomy (Prompt keep_alive) old new keeps = absurd keeps
+still-roomy (KeepAlive progress) old new keeps = absurd keeps
 
-  of-seen-there : (f : Seen → After) → Does id (f (seen (old id) (held.Receives r))) (seen (new id) (held.Receives r_now)) told told_now timers timers_now files_now
-      → Does id (f (seen (old id) s)) (seen (new id) (held.Receives r_now)) told told_now timers timers_now files_now
-  of-seen-there f does = subst (λ (k : Record). Does id (f (seen (old id) k)) (seen (new id) (held.Receives r_now)) told told_now timers timers_now files_now) (sym is) does
+pub counted : (times : Times) (stored : Stored) (o : Option receiver.ReceiverAfter) (old new : Scene) → ReceiverDoes times stored o old new → Counts stored old.failures new.failures
+counted times stored (Some a) old new does = does.counts
+counted times stored None old new does = subst (λ k. Counts k old.failures new.failures) (sym does.0) (ap-le (ap (λ (s : Scene). s.failures) does.1))
+  where
+    ap-le : {n m : ℕ} → m ≡ n → n ≤ m
+    ap-le e = omega (arith, e)
 
-  pub heard-there : (stored : Stored) (large : Bool) (v : Content) → ReceiverDoes times
-      (receiver_after stored large v (staged_for old r.addressing.id) files r) r r_now told told_now timers timers_now files files_now old new
-      → Does id (hears stored times files large v (seen (old id) s)) (seen (new id) (held.Receives r_now)) told told_now timers timers_now files_now
-  heard-there stored large v does = of-seen-there (hears stored times files large v)
-      (receiver-hears times id r r_now files files_now old new told told_now timers timers_now rid addr stored large v does)
+module _ (s : Record) (r : ReceiverState) (is : s ≡ held.Receives r) (old : DeskState) where
+  pub is-ready : MayStep s old → IsReady old.staged r
+  is-ready may = (ready-receiver old.staged old.sources r.addressing.id r (subst (λ (k : Record). MayStep k old) is may).ready).1
 
-  pub called-there : (c : Call) → ReceiverDoes times (called_receiver c (staged_for old r.addressing.id) files r) r r_now told told_now timers timers_now files files_now old new
-      → Does id (calls times files c (seen (old id) s)) (seen (new id) (held.Receives r_now)) told told_now timers timers_now files_now
-  called-there c does = of-seen-there (calls times files c) (receiver-called times id r r_now files files_now old new told told_now timers timers_now rid addr c does)
+  module _ (r_now : ReceiverState) (new : DeskState) (addr : r_now.addressing ≡ r.addressing) where
+    pub receiver-stays : IsReady new.staged r_now → OthersKeep r.addressing.id old.staged new.staged → new.sources ≡ old.sources → new.policy ≡ old.policy → Stays s (held.Receives r_now) old new
+    receiver-stays ready others sources policy = subst (λ (k : Record). Stays k (held.Receives r_now) old new) (sym is) (record {
+      ready = receiver-ready new.staged new.sources r.addressing.id r_now (ap (λ (a : Addressing). a.id) addr) ready;
+      others = others;
+      sources = sources;
+      policy = policy;
+    })
 
-  pub expired-there : (policy : Policy) (k : Kind) → policy.times ≡ times →
-      Receives times (receiver.expires k policy (staged_for old r.addressing.id) files r) r_now told told_now timers timers_now files_now old new
-      → Does id (expires policy files k (seen (old id) s)) (seen (new id) (held.Receives r_now)) told told_now timers timers_now files_now
-  expired-there policy k same does = subst (λ t. Does id (by_receiver t (receiver.expires k policy (octets_seen r (unwrap_or (old id) empty)) files r))
-      (seen (new id) (held.Receives r_now)) told told_now timers timers_now files_now →
-      Does id (expires policy files k (seen (old id) s)) (seen (new id) (held.Receives r_now)) told told_now timers timers_now files_now) same
-      (of-seen-there (expires policy files k))
-      (receiver-does times id r r_now files files_now old new told told_now timers timers_now rid addr (λ m. receiver.expires k policy m files r) (λ over. masks-expires files r over policy k) does)
+    of-receiver : (step : DeskState → Seen → After) → Made step (held.Receives r) (held.Receives r_now) old new → Made step s (held.Receives r_now) old new
+    of-receiver step does = subst (λ (k : Record). Made step k (held.Receives r_now) old new) (sym is) does
 
-  pub kept-there : (v : Content) → ReceiverKeeps v r r_now told told_now timers timers_now files files_now old new
-      → Keeps v (seen (old id) s) (seen (new id) (held.Receives r_now)) told told_now timers timers_now files files_now
-  kept-there v keeps = subst (λ (k : Record). Keeps v (seen (old id) k) (seen (new id) (held.Receives r_now)) told told_now timers timers_now files files_now) (sym is)
-      (receiver-keeps times id r r_now files files_now old new told told_now timers timers_now rid addr v keeps)
+    pub called-there : (c : Call) → ReceiverDoes old.policy.times Done (found (called_receiver c) (scene r old)) (scene r old) (scene r_now new) → Made (calling c) s (held.Receives r_now) old new
+    called-there c does = of-receiver (calling c) (receiver-called r r_now old new addr c does)
 
-  -- other transactions keep what is staged for them
-  pub others-there : (q : TransactionId) → q ≡ r.addressing.id → OthersKeep q old new → OthersKeep id old new
-  others-there q same keep = subst (λ k. OthersKeep k old new) (same ∙ rid) keep
+    pub expired-there : (k : Kind) → receiver_does.Does (receiver_does.timers_set old.policy.times) Done (receiver.expires k old.policy) (scene r old) (scene r_now new)
+        → Made (expiring k) s (held.Receives r_now) old new
+    expired-there k does = of-receiver (expiring k) (receiver-does r r_now old new addr (λ m. receiver.expires k old.policy m old.files r) (λ over. masks-expires old.files r over old.policy k) Done
+        (record { receiver = does.receiver; tells = does.tells; timers = does.timers; files = does.files; octets = does.octets; counts = does.counts }))
 
-  content-there : (o : Option Due) → receiver_due r ≡ o → due_content sources (seen (old id) s) ≡ seens.receiver_content r o
-  content-there o due_is = ap (λ (k : Record). due_content sources (seen (old id) k)) is ∙ ap (seens.receiver_content r) due_is
+    abbrev earlier : Seen
+    earlier = seen_as s s old
 
-  addressed-there : addressing_of (seen (old id) s) ≡ r.addressing
-  addressed-there = ap (λ (k : Record). addressing_of (seen (old id) k)) is
+    earlier-is : earlier ≡ seens.Receives r (octets_seen r (staged_for old.staged r.addressing.id))
+    earlier-is = ap (λ (k : Record). seen_as k k old) is
 
-  flag-there : large_of (seen (old id) s) ≡ r.large
-  flag-there = ap (λ (k : Record). large_of (seen (old id) k)) is
-
-  pub took-there : new ≡ old → files_now ≡ files → told_now ≡ told → (n : ℕ) (out out_now : List ℕ) → ReceiverTook times (receiver_due r) r r_now timers timers_now n out out_now
-      → Does id (takes Done times sources files (seen (old id) s)) (seen (new id) (held.Receives r_now)) told told_now timers timers_now files_now
-      × Gives (due_octets sources (seen (old id) s)) (due_len sources (seen (old id) s)) (Octets n) out out_now
-  took-there same_staged same_files same_told n out out_now took = by (receiver_due r) refl took
-    where
-      gives : (o : Option Due) → receiver_due r ≡ o → Gives (octets_of r.large r.addressing (seens.receiver_content r o))
-          (len_of r.large r.addressing (seens.receiver_content r o)) (Octets n) out out_now
-          → Gives (due_octets sources (seen (old id) s)) (due_len sources (seen (old id) s)) (Octets n) out out_now
-      gives o due_is h =
-          let octets : due_octets sources (seen (old id) s) ≡ octets_of r.large r.addressing (seens.receiver_content r o) =
-          (λ i. octets_of (flag-there i) (addressed-there i) (content-there o due_is i)) in
-          let len : due_len sources (seen (old id) s) ≡ len_of r.large r.addressing (seens.receiver_content r o) =
-          (λ i. len_of (flag-there i) (addressed-there i) (content-there o due_is i)) in
-          (h.0 ∙ sym len, record { front = h.1.front ∙ sym octets; behind = h.1.behind })
-
-      by : (o : Option Due) → receiver_due r ≡ o → ReceiverTook times o r r_now timers timers_now n out out_now →
-          Does id (takes Done times sources files (seen (old id) s)) (seen (new id) (held.Receives r_now)) told told_now timers timers_now files_now
-          × Gives (due_octets sources (seen (old id) s)) (due_len sources (seen (old id) s)) (Octets n) out out_now
-      by (Some d) due_is h =
-          let m : OctetMap = staged_for old r.addressing.id in
-          let quiet : Receives times (receiver.takes d m files r) r_now told told timers timers_now files old old =
-          quiet-receives times (receiver.takes d m files r) r r_now told timers timers_now files old h.0.0 refl refl refl addr h.0.1 in
-          let does : Receives times (receiver.takes d m files r) r_now told told_now timers timers_now files_now old new =
-          subst (λ t. Receives times (receiver.takes d m files r) r_now told t timers timers_now files_now old new) (sym same_told)
-          (subst (λ f. Receives times (receiver.takes d m files r) r_now told told timers timers_now f old new) (sym same_files)
-          (subst (λ st. Receives times (receiver.takes d m files r) r_now told told timers timers_now files old st) (sym same_staged) quiet)) in (
-            of-seen-there (takes Done times sources files)
-                (subst (λ (o : Option Due). Does id (receiver_takes times files r (octets_seen r (unwrap_or (old id) empty)) o)
-                (seen (new id) (held.Receives r_now)) told told_now timers timers_now files_now) (sym due_is)
-                (receiver-does times id r r_now files files_now old new told told_now timers timers_now rid addr (λ k. receiver.takes d k files r) (λ over. masks-takes files r over d) does)),
-            gives (Some d) due_is h.1,
-          )
-      by None due_is h = (
-        of-seen-there (takes Done times sources files)
-            (subst (λ (o : Option Due). Does id (receiver_takes times files r (octets_seen r (unwrap_or (old id) empty)) o)
-            (seen (new id) (held.Receives r_now)) told told_now timers timers_now files_now) (sym due_is)
-            (receiver-rests times id r r_now files files_now old new told told_now timers timers_now rid addr
-            (record { state = h.0.0; tells = same_told; timers = h.0.1 }, (same_files, same_staged)))),
-        gives None due_is h.1,
-      )
-
-  -- by what hearing a PDU answered
-  module _ {E : Type 0} (answer : Result Stored E) (large : Bool) (v : Content)
-      (does : IfOk answer (λ stored. ReceiverDoes times (receiver_after stored large v (staged_for old r.addressing.id) files r) r r_now told told_now timers timers_now files files_now old new))
-      (keeps : OnErr answer (ReceiverKeeps v r r_now told told_now timers timers_now files files_now old new)) where
-    pub heard-answered : IfOk answer (λ stored. Does id (hears stored times files large v (seen (old id) s)) (seen (new id) (held.Receives r_now)) told told_now timers timers_now files_now)
-    heard-answered = by answer does
+    -- what taking its PDU does: the inbox stays as it is
+    pub took-there : scene r_now new ≡ record (scene r_now new) { files = old.files; staged = old.staged; failures = old.inbox_failures } → KeptAlone r r_now → IsReady old.staged r → (n : ℕ) (out out_now : List ℕ) →
+        ReceiverTook old.policy.times (receiver_due r) r r_now old.effects new.effects n out out_now
+        → Made (taking Done) s (held.Receives r_now) old new × Gives (due_octets old.sources earlier) (due_len old.sources earlier) (Octets n) out out_now
+    took-there inbox_kept kept ready n out out_now took = by (receiver_due r) refl took
       where
-        by : (a : Result Stored E) → IfOk a (λ stored. ReceiverDoes times
-            (receiver_after stored large v (staged_for old r.addressing.id) files r) r r_now told told_now timers timers_now files files_now old new)
-            → IfOk a (λ stored. Does id (hears stored times files large v (seen (old id) s)) (seen (new id) (held.Receives r_now)) told told_now timers timers_now files_now)
-        by (Ok stored) h = heard-there stored large v h
-        by (Err e) h = tt
+        m : OctetMap
+        m = staged_for old.staged r.addressing.id
 
-    pub heard-failed : OnErr answer (Keeps v (seen (old id) s) (seen (new id) (held.Receives r_now)) told told_now timers timers_now files files_now)
-    heard-failed = by answer keeps
-      where
-        by : (a : Result Stored E) → OnErr a (ReceiverKeeps v r r_now told told_now timers timers_now files files_now old new) →
-            OnErr a (Keeps v (seen (old id) s) (seen (new id) (held.Receives r_now)) told told_now timers timers_now files files_now)
-        by (Ok stored) h = tt
-        by (Err e) h = kept-there v h
+        gives : (o : Option Due) → receiver_due r ≡ o → Gives (octets_of r.large r.addressing (seens.receiver_content r o))
+            (len_of r.large r.addressing (seens.receiver_content r o)) (Octets n) out out_now
+            → Gives (due_octets old.sources earlier) (due_len old.sources earlier) (Octets n) out out_now
+        gives o due_is h =
+            let octets : due_octets old.sources earlier ≡ octets_of r.large r.addressing (seens.receiver_content r o) =
+            ap (due_octets old.sources) earlier-is ∙ ap (λ d. octets_of r.large r.addressing (seens.receiver_content r d)) due_is in
+            let len : due_len old.sources earlier ≡ len_of r.large r.addressing (seens.receiver_content r o) =
+            ap (due_len old.sources) earlier-is ∙ ap (λ d. len_of r.large r.addressing (seens.receiver_content r d)) due_is in
+            (h.0 ∙ sym len, record { front = h.1.front ∙ sym octets; behind = h.1.behind })
 
--- a count that stays agrees with any call that did what was asked
-pub done-counts : {E : Type 0} (answer : Result Stored E) (n : ℕ) → IfOk answer (λ stored. stored ≡ Done) → IfOk answer (λ stored. Counts stored n n)
-done-counts (Ok stored) n h = subst (λ k. Counts k n n) (sym h) (omega arith)
-done-counts (Err e) n h = tt
+        took-so : (o : Option Due) → receiver_due r ≡ o → Does r.addressing.id (receiver_takes old.policy.times old.files r (octets_seen r m) o) (seen (new.staged r.addressing.id) (held.Receives r_now)) old
+            new → Made (taking Done) s (held.Receives r_now) old new
+        took-so o due_is does = of-receiver (taking Done)
+            (subst (λ (o : Option Due). Does r.addressing.id (receiver_takes old.policy.times old.files r (octets_seen r m) o)
+            (seen (new.staged r.addressing.id) (held.Receives r_now)) old new) (sym due_is) does)
+
+        by : (o : Option Due) → receiver_due r ≡ o → ReceiverTook old.policy.times o r r_now old.effects new.effects n out out_now →
+            Made (taking Done) s (held.Receives r_now) old new × Gives (due_octets old.sources earlier) (due_len old.sources earlier) (Octets n) out out_now
+        by (Some d) due_is h = (
+          took-so (Some d) due_is (receiver-does r r_now old new addr (λ k. receiver.takes d k old.files r) (λ over. masks-takes old.files r over d) Done
+              (subst (ReceiverDoes old.policy.times Done (Some (receiver.takes d m old.files r)) (scene r old)) (sym inbox_kept)
+              (alone-receives old.policy.times r r_now old.effects new.effects old.files old.staged old.inbox_failures kept ready (receiver.takes d) h.0 (λ m. refl) (λ m. refl)))),
+          gives (Some d) due_is h.1,
+        )
+        by None due_is h = (
+          took-so None due_is (receiver-rests r r_now old new addr
+              (inbox_kept ∙ rests-alone old.policy.times r r_now old.effects new.effects old.files old.staged old.inbox_failures kept ready h.0.0 h.0.1)),
+          gives None due_is h.1,
+        )
+
+    -- what hearing a PDU asked of the inbox
+    pub heard-asked : {E : Type 0} (answer : Result Stored E) (large : Bool) (v : Content)
+        → IfOk answer (λ stored. ReceiverDoes old.policy.times stored (found (receiver_after stored large v) (scene r old)) (scene r old) (scene r_now new))
+        → IfOk answer (λ stored. AsksAs Raises (AsksHeard Raises large v stored) (seen_as s s old) (seen_as s (held.Receives r_now) new) old.inbox_failures new.inbox_failures)
+        → new.outbox_failures ≡ old.outbox_failures → IfOk answer (λ stored. Asked stored (AsksHeard Raises large v stored) s (held.Receives r_now) old new)
+    heard-asked (Ok stored) large v does raises outbox = record { counts = counted old.policy.times stored _ (scene r old) (scene r_now new) does; raises = raises; outbox = outbox }
+    heard-asked (Err e) large v does raises outbox = tt
+
+    -- by what hearing a PDU answered
+    pub heard-answered : {E : Type 0} (answer : Result Stored E) (large : Bool) (v : Content)
+        → IfOk answer (λ stored. ReceiverDoes old.policy.times stored (found (receiver_after stored large v) (scene r old)) (scene r old) (scene r_now new))
+        → IfOk answer (λ stored. Made (hearing stored large v) s (held.Receives r_now) old new)
+    heard-answered (Ok stored) large v h = of-receiver (hearing stored large v) (receiver-hears r r_now old new addr stored large v h)
+    heard-answered (Err e) large v h = tt
+
+    pub heard-failed : {E : Type 0} (answer : Result Stored E) (v : Content) → OnErr answer (ReceiverKeeps v (scene r old) (scene r_now new)) → new.outbox_failures ≡ old.outbox_failures →
+        OnErr answer (Keeps v s (held.Receives r_now) old new)
+    heard-failed (Ok stored) v h outbox = tt
+    heard-failed (Err e) v h outbox = subst (λ (k : Record). Keeps v k (held.Receives r_now) old new) (sym is) (receiver-keeps r r_now old new addr v h outbox)
 
 -- ---- how long the PDU of a sender is
 pub len-of-sender : (sources : FileMap) (x : SenderState) (n : Option ℕ) → HasFile sources x.source x.size

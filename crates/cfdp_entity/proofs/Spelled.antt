@@ -23,7 +23,8 @@ use Rattle.cfdp_entity.specs.Sound.{SpellsDue, SpellsEntry}
 use Rattle.cfdp_entity.specs.Spelled.{IsSpelled, SeenIsSpelled, EntryIsSpelled, StrayIsSpelled}
 use Rattle.cfdp_entity.specs.Strays.{StrayAck, stray_says}
 use Rattle.cfdp_entity.specs.Table.{Entry, len_due}
-use Rattle.cfdp_entity.specs.Whole.{Staged, entries_seen}
+use Rattle.cfdp_entity.specs.Desk.{Staged}
+use Rattle.cfdp_entity.specs.Whole.{entries_seen}
 use Rattle.cfdp_entity.proofs.Entries.{seen_by_entry}
 
 abbrev pub CanWriteOf : (large : Bool) → Addressing → Content → Type 0

@@ -6,7 +6,8 @@ use Rattle.cfdp_entity.specs.declared.record.Record.{Record}
 use Rattle.cfdp_entity.specs.declared.record.Record.TheVariants as held
 use Rattle.cfdp_entity.specs.Seen.{seen, phase_of}
 use Rattle.cfdp_entity.specs.Walking.{phase_told, record_told}
-use Rattle.cfdp_entity.specs.Whole.{Staged, entries_seen}
+use Rattle.cfdp_entity.specs.Desk.{Staged}
+use Rattle.cfdp_entity.specs.Whole.{entries_seen}
 
 -- what is staged for a record doesn't count
 phase_staged : (staged : Option OctetMap) (r : Record) → phase_of (seen None r) ≡ phase_of (seen staged r)

@@ -87,6 +87,14 @@ Takes Opens h v old new = OpensOne (addressing_of h) h.large v old new
 Takes (Queues s) h v old new = new ≡ record old { state = queued s old.state }
 
 -- ---- what is dropped
+-- The record at a place found no memory for a PDU: it is as `SpoiledAt` says, and nothing else
+-- changed. No call of a store failed.
+pub record LacksAt (place : ℕ) (v : Content) (old new : Counted) : Type 0 where
+  pub spoiled : SpoiledAt place v old.state.table new.state.table
+  pub table : new.state ≡ with_table old.state new.state.table
+  pub inbox : new.inbox_failures ≡ old.inbox_failures
+  pub outbox : new.outbox_failures ≡ old.outbox_failures
+
 -- A PDU was dropped for want of memory: its record, if there is one, is as `SpoiledAt` says, and
 -- nothing else changed but the count. No call of a store failed.
 pub record FindsNoMemory (place : ℕ) (v : Content) (old new : Counted) : Type 0 where

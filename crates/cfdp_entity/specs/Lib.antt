@@ -11,11 +11,11 @@ pub mod Table
 pub mod Walking
 pub mod Storing
 pub mod Timed
-pub mod Whole
-pub mod Does
-pub mod Gives
-pub mod Sides
+pub mod Desk
 pub mod Roomy
+pub mod Whole
+pub mod Gives
+pub mod Does
 pub mod Strays
 pub mod Entity
 pub mod Calls

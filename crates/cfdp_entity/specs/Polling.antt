@@ -4,8 +4,10 @@ use Rattle.cfdp_store.specs.declared.stored.Stored.{Stored}
 use Rattle.cfdp_store.specs.declared.stored.Stored.TheVariants.{Done, Refused}
 use Rattle.cfdp_entity.specs.declared.polled.EntityPolled.{EntityPolled}
 use Rattle.cfdp_entity.specs.declared.polled.EntityPolled.TheVariants.{Moved, Nothing, Full, SourceFailed}
+use Rattle.cfdp_entity.specs.declared.record.Gave.{Gave}
+use Rattle.cfdp_entity.specs.declared.record.Gave.TheVariants.{Failed}
 use Rattle.cfdp_entity.specs.Entity.{EntityState, Counted}
-use Rattle.cfdp_entity.specs.Gives.{Writes}
+use Rattle.cfdp_entity.specs.Gives.{Gives, CountsOutbox, Writes, stored_by_gave}
 use Rattle.cfdp_entity.specs.Strays.{StrayAck, stray_octets, stray_len}
 use Rattle.cfdp_entity.specs.Table.{next_due, due_at, len_at, data_at, taken_at}
 
@@ -69,6 +71,16 @@ pub record TakesTurn (room : ℕ) (e : EntityState) : Type 0 where
   pub place : ℕ
   pub is_next : turn e ≡ Place place
   pub fits : turn_len (turn e) e ≤ room
+
+-- The record at a place sent what it had due, or the outbox failed, and that was counted.
+pub record SendsAt (place : ℕ) (gave : Gave) (old new : Counted) (out_before out_now : List ℕ)
+    : Type 0 where
+  pub taken : new.state ≡ served (stored_by_gave gave) (Place place) old.state
+  pub gives : Gives (due_at place old.state.table) (len_at place old.state.table) gave out_before
+      out_now
+  pub carries : gave ≡ Failed → data_at place old.state.table ≡ true
+  pub counts : CountsOutbox (stored_by_gave gave) old.outbox_failures new.outbox_failures
+  pub inbox : new.inbox_failures ≡ old.inbox_failures
 
 -- A poll answered this.
 abbrev pub Polls : ℕ → EntityPolled → (old new : Counted) → (out_before out_now : List ℕ) → Type 0

@@ -3,10 +3,10 @@ ghost use Rattle.std.specs.Prelude.{◌≡◌, ◌≤◌, max, false, IfErr, OnO
 ghost use Rattle.cfdp_store.specs.Chains.{Raises};
 ghost use Rattle.cfdp_timers.specs.Due.{due_count};
 ghost use Rattle.cfdp_entity.specs.Calling.{IsRefusal};
-ghost use Rattle.cfdp_entity.specs.Calls.{asks_inbox, call_refusal, IsCalled};
+ghost use Rattle.cfdp_entity.specs.Calls.{asks_inbox, call_refusal, CallsAt, IsCalled};
 ghost use Rattle.cfdp_entity.specs.Entity.{with_table};
-ghost use Rattle.cfdp_entity.specs.Storing.{AsksByCall, AsksToCall, AsksToTick};
-ghost use Rattle.cfdp_entity.specs.Table.{called_at, Ticks};
+ghost use Rattle.cfdp_entity.specs.Storing.{AsksByCall, AsksToTick};
+ghost use Rattle.cfdp_entity.specs.Table.{Ticks};
 ghost use Rattle.cfdp_entity.specs.declared.call.Call.TheVariants as calls;
 
 use crate::call::Call;
@@ -137,13 +137,8 @@ impl<O: Outbox, I: Inbox> Entity<O, I> {
 
     // A call on the record at a place.
     fn call_at(&mut self, place: usize, call: Call) -> Result<(), AllocError>
-        ensures called { OnOk result (self.new.state
-            ≡ with_table self.old.state (called_at place call self.old.state.table)) }
+        ensures called { OnOk result (CallsAt place call self.old self.new) }
         ensures err { OnErr result (self.new ≡ self.old) }
-        ensures grows { self.old.inbox_failures ≤ self.new.inbox_failures }
-        ensures raises { OnOk result (AsksToCall Raises call place self.old.state.table
-            self.old.inbox_failures self.new.inbox_failures) }
-        ensures outbox { self.new.outbox_failures ≡ self.old.outbox_failures }
     {
         self.table.reserve(3)?;
         self.table.call(place, call);

@@ -5,10 +5,8 @@ ghost use Rattle.cfdp_directives.specs.Pdu.Content.{view};
 ghost use Rattle.cfdp_directives.specs.Pdu.Faults.{pdu_fault};
 ghost use Rattle.cfdp_entity.specs.declared.error.EntityDrop.TheVariants as drops;
 ghost use Rattle.cfdp_entity.specs.declared.route.Route.TheVariants as routes;
-ghost use Rattle.cfdp_entity.specs.Entity.{with_table};
 ghost use Rattle.cfdp_entity.specs.Hearing as hearings;
-ghost use Rattle.cfdp_entity.specs.Hearing.{StepsAt, OpensOne, Takes, DropsBy, FindsNoMemory, HearsOctets, DropsOctets, queued};
-ghost use Rattle.cfdp_entity.specs.Table.{SpoiledAt};
+ghost use Rattle.cfdp_entity.specs.Hearing.{StepsAt, LacksAt, OpensOne, Takes, DropsBy, FindsNoMemory, HearsOctets, DropsOctets, queued};
 ghost use Rattle.cfdp_entity.specs.Table as tables;
 
 use crate::entity::{Entity, MOST_STRAYS};
@@ -159,12 +157,7 @@ impl<O: Outbox, I: Inbox> Entity<O, I> {
 
     fn step_at(&mut self, place: usize, large: bool, pdu: &Pdu<'_>) -> Result<(), AllocError>
         ensures steps { OnOk result (StepsAt place large (view pdu.now) self.old self.new) }
-        ensures spoils { OnErr result (SpoiledAt place (view pdu.now) self.old.state.table
-            self.new.state.table) }
-        ensures table { self.new.state ≡ with_table self.old.state self.new.state.table }
-        ensures none { OnErr result
-            (self.new.inbox_failures ≡ self.old.inbox_failures) }
-        ensures outbox { self.new.outbox_failures ≡ self.old.outbox_failures }
+        ensures lacks { OnErr result (LacksAt place (view pdu.now) self.old self.new) }
     {
         self.table.reserve(3)?;
         self.table.hear(place, large, pdu)?;
@@ -201,10 +194,7 @@ impl<O: Outbox, I: Inbox> Entity<O, I> {
         requires absent { tables.place_of addressing.id self.old.state.table.records ≡ None }
         requires not_full { length self.old.state.table.records < 4096 }
         ensures opens { OnOk result (OpensOne addressing large (view pdu.now) self.old self.new) }
-        ensures err { OnErr result (self.new.state ≡ self.old.state) }
-        ensures none { OnErr result
-            (self.new.inbox_failures ≡ self.old.inbox_failures) }
-        ensures outbox { self.new.outbox_failures ≡ self.old.outbox_failures }
+        ensures err { OnErr result (self.new ≡ self.old) }
     {
         self.table.open(addressing, large, pdu)?;
         Ok(())

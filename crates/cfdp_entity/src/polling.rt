@@ -1,14 +1,13 @@
 // What an entity sends.
 ghost use Rattle.std.specs.Prelude.{◌≡◌, ◌≤◌, ◌<◌, [], true, length, IfOk, OnErr};
 ghost use Rattle.cfdp_store.specs.declared.stored.Stored.TheVariants as storeds;
-ghost use Rattle.cfdp_entity.specs.declared.record.Gave.TheVariants as gaves;
 ghost use Rattle.cfdp_entity.specs.declared.polled.EntityPolled.TheVariants as answers;
-ghost use Rattle.cfdp_entity.specs.Gives.{Gives, CountsOutbox, stored_by_gave};
-ghost use Rattle.cfdp_entity.specs.Polling.{Polls, Place, TakesTurn, served, stored_by_poll};
+ghost use Rattle.cfdp_entity.specs.Gives.{CountsOutbox};
+ghost use Rattle.cfdp_entity.specs.Polling.{Polls, SendsAt, TakesTurn, stored_by_poll};
 ghost use Rattle.cfdp_entity.specs.Sound.{longest_pdu};
 ghost use Rattle.cfdp_entity.specs.Spelled.{FirstIsSpelled, SpellsMoved};
 ghost use Rattle.cfdp_entity.specs.Strays.{first_stray_len};
-ghost use Rattle.cfdp_entity.specs.Table.{due_at, len_at, data_at};
+ghost use Rattle.cfdp_entity.specs.Table.{len_at};
 
 use crate::entity::Entity;
 use crate::polled::EntityPolled;
@@ -107,16 +106,8 @@ impl<O: Outbox, I: Inbox> Entity<O, I> {
     fn send_at(&mut self, place: usize, out: &mut [u8]) -> Result<Gave, AllocError>
         requires fits { len_at place self.old.state.table ≤ length out.old }
         requires within { place < 4096 }
-        ensures taken { IfOk result (λ gave. self.new.state
-            ≡ served (stored_by_gave gave) (Place place) self.old.state) }
-        ensures gives { IfOk result (λ gave. Gives (due_at place self.old.state.table)
-            (len_at place self.old.state.table) gave out.old out.new) }
-        ensures data { IfOk result (λ gave. gave ≡ gaves.Failed → data_at place self.old.state.table
-            ≡ true) }
-        ensures counts { IfOk result (λ gave. CountsOutbox (stored_by_gave gave)
-            self.old.outbox_failures self.new.outbox_failures) }
+        ensures sends { IfOk result (λ gave. SendsAt place gave self.old self.new out.old out.new) }
         ensures err { OnErr result ((self.new ≡ self.old) × (out.new ≡ out.old)) }
-        ensures inbox { self.new.inbox_failures ≡ self.old.inbox_failures }
     {
         self.table.reserve(3)?;
         let gave = self.table.send(place, out);

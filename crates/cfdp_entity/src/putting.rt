@@ -100,10 +100,10 @@ impl<O: Outbox, I: Inbox> Entity<O, I> {
             source.now) ≡ None) }
         ensures refused { IfErr result (λ by. asked (stored_by_error by) (map.get
             self.old.state.table.sources source.now) ≡ Some by) }
-        ensures state { self.new.state ≡ self.old.state }
-        ensures outbox { self.new.outbox_failures ≡ failures_after self.old.outbox_failures
-            (was_answered result) }
-        ensures inbox { self.new.inbox_failures ≡ self.old.inbox_failures }
+        ensures counted { self.new ≡ record self.old {
+          outbox_failures
+              = failures_after self.old.outbox_failures (was_answered result);
+        } }
     {
         match self.table.source_len(source) {
             Ok(Some(size)) => {
@@ -130,15 +130,15 @@ impl<O: Outbox, I: Inbox> Entity<O, I> {
         requires may { MayPut source.now destination.now self.old.state }
         requires file { HasFile self.old.state.table.sources source.now size }
         requires limit { size ≤ codes.size_limit true }
-        ensures put { OnOk result (self.new.state
-            ≡ with_put (next_transfer source.now destination.now size self.old.state)
-            self.old.state) }
+        ensures put { OnOk result (self.new ≡ record self.old {
+          state
+              = with_put (next_transfer source.now destination.now size self.old.state)
+              self.old.state;
+        }) }
         ensures id { IfOk result (λ id. id ≡ next_id self.old.state) }
         ensures fresh { OnOk result (place_of (next_id self.old.state)
             self.old.state.table.records ≡ None) }
-        ensures err { OnErr result (self.new.state ≡ self.old.state) }
-        ensures outbox { self.new.outbox_failures ≡ self.old.outbox_failures }
-        ensures inbox { self.new.inbox_failures ≡ self.old.inbox_failures }
+        ensures err { OnErr result (self.new ≡ self.old) }
     {
         let transfer = self.transfer(number, source, destination, size)?;
         let id = transfer.addressing.id;

@@ -1,43 +1,33 @@
 // One record of the table: the machine of its side.
-ghost use Rattle.std.specs.Prelude.{◌≡◌, ◌+◌, ◌≤◌, ◌++◌, ◌∷◌, [], true, false, None, Some, Option, drop, length, vec_len, vec_capacity, IfOk, OnOk, OnErr};
-ghost use Rattle.std.specs.FinSet as set;
+ghost use Rattle.std.specs.Prelude.{◌≡◌, ◌≤◌, Option, length, IfOk, OnOk, OnErr};
 ghost use Rattle.cfdp_header.specs.Files.{FileMap};
 ghost use Rattle.cfdp_header.specs.declared.value.TransactionId.{TransactionId};
-ghost use Rattle.cfdp_directives.specs.declared.user.indication.Indication.TheVariants as indication;
 ghost use Rattle.cfdp_directives.specs.Pdu.Content.{view};
-ghost use Rattle.cfdp_store.specs.Staged.{OctetMap, OthersKeep, staged_for};
-ghost use Rattle.cfdp_store.specs.Chains.{Makes, Raises};
-ghost use Rattle.cfdp_store.specs.Stores.{Counts};
-ghost use Rattle.cfdp_sender.specs.State.{IsSendable, opened_sender};
-ghost use Rattle.cfdp_sender.specs.Due.{sender_due};
+ghost use Rattle.cfdp_store.specs.Staged.{OctetMap};
+ghost use Rattle.cfdp_timers.specs.Effects.{HasRoom};
+ghost use Rattle.cfdp_sender.specs.Does as sender_does;
 ghost use Rattle.cfdp_receiver.specs.State.{IsReady};
-ghost use Rattle.cfdp_receiver.specs.Steps as machine;
+ghost use Rattle.cfdp_receiver.specs.Does.{KeptAlone, MakesIn, at};
 ghost use Rattle.cfdp_receiver.specs.Due.{receiver_due};
-ghost use Rattle.cfdp_receiver.specs.Storing.{Settles};
-ghost use Rattle.cfdp_entity.specs.declared.record.Gave.TheVariants as gaves;
-ghost use Rattle.cfdp_entity.specs.declared.record.Record.TheVariants as variants;
 ghost use Rattle.cfdp_entity.specs.Calling as calling;
+ghost use Rattle.cfdp_entity.specs.Desk.{Staged};
 ghost use Rattle.cfdp_entity.specs.Seen as seens;
-ghost use Rattle.cfdp_entity.specs.Seen.{seen, is_due, due_octets, carries_data};
-ghost use Rattle.cfdp_entity.specs.Steps as steps;
-ghost use Rattle.cfdp_entity.specs.Steps.{hears, expires, takes, sender_after, receiver_after, called_sender, called_receiver};
-ghost use Rattle.cfdp_entity.specs.Does.{Does, Keeps, spare};
-ghost use Rattle.cfdp_entity.specs.Sides.{Receives, ReceiverTook, ReceiverAcks, SenderDoes, SenderKeeps, ReceiverDoes, ReceiverKeeps};
-ghost use Rattle.cfdp_entity.specs.Gives.{Gives, CountsOutbox, stored_by_gave};
+ghost use Rattle.cfdp_entity.specs.Seen.{seen, is_due};
+ghost use Rattle.cfdp_entity.specs.Steps.{sender_after, receiver_after, called_sender, called_receiver};
+ghost use Rattle.cfdp_entity.specs.Does.{ReceiverTook, ReceiverAcks, SenderDoes, SenderKeeps, ReceiverDoes, ReceiverKeeps, StaysReady, found};
 ghost use Rattle.cfdp_entity.specs.Sound.{longest_pdu};
 ghost use Rattle.cfdp_entity.specs.Spelled.{SeenIsSpelled};
-ghost use Rattle.cfdp_entity.specs.Storing.{AsksAs, AsksCalled, AsksHeard};
-ghost use Rattle.cfdp_entity.specs.Whole.{IsReadyRecord, Staged};
+ghost use Rattle.cfdp_entity.specs.Storing.{AsksCalled, AsksHeard};
+ghost use Rattle.cfdp_entity.specs.Whole.{IsReadyRecord};
 
 use crate::call::Call;
 use crate::error::CallError;
-use cfdp_directives::{Acknowledged, Indication, Outcome, Pdu, Phase, Policy};
-use cfdp_header::TransactionId;
+use cfdp_directives::{Acknowledged, Outcome, Pdu, Phase, Policy};
 use cfdp_receiver::{Ending, Metadata, Receiver};
-use cfdp_sender::{Sender, Taken, Transfer};
-use cfdp_store::{Inbox, Outbox, Stored};
-use cfdp_timers::{Kind, Timers};
-use std::alloc::{AllocError, Global};
+use cfdp_sender::Sender;
+use cfdp_store::{Inbox, Stored};
+use cfdp_timers::Effects;
+use std::alloc::AllocError;
 
 /// A record of the table.
 #[derive(Debug, Drop)]
@@ -103,162 +93,6 @@ impl Record {
             Record::Receives(receiver) => refusal_at_receiver(receiver, call),
         }
     }
-
-    /// Hears a PDU of its transaction, with its large file flag.
-    pub(crate) fn hear<O: Outbox, I: Inbox>(
-        &mut self,
-        outbox: &O,
-        inbox: &mut I,
-        timers: &mut Timers,
-        told: &mut Vec<Indication>,
-        policy: &Policy,
-        id: TransactionId,
-        large: bool,
-        pdu: &Pdu<'_>,
-    ) -> Result<Stored, AllocError>
-        requires room { 3 ≤ spare told.old }
-        requires has_room { set.contains timers.old.roomy id ≡ true }
-        requires ready { IsReadyRecord (I.staged inbox.old) (O.files outbox.now) id self.old }
-        ensures does { IfOk result (λ stored. Does id (hears stored policy.now.times
-            (I.published inbox.old) large (view pdu.now) (seen (I.staged inbox.old id) self.old))
-            (seen (I.staged inbox.new id) self.new) told.old.items told.new.items timers.old
-            timers.new (I.published inbox.new)) }
-        ensures keeps { OnErr result (Keeps (view pdu.now) (seen (I.staged inbox.old id) self.old)
-            (seen (I.staged inbox.new id) self.new)
-            told.old.items told.new.items timers.old timers.new (I.published inbox.old)
-            (I.published inbox.new)) }
-        ensures counts { IfOk result (λ stored. Counts stored (I.failures inbox.old)
-            (I.failures inbox.new)) }
-        ensures raises { IfOk result (λ stored. AsksAs Raises (AsksHeard Raises large
-            (view pdu.now) stored) (seen (I.staged inbox.old id) self.old)
-            (seen (I.staged inbox.new id) self.new)
-            (I.failures inbox.old) (I.failures inbox.new)) }
-        ensures none { OnErr result (I.failures inbox.new ≡ I.failures inbox.old) }
-        ensures ready { IsReadyRecord (I.staged inbox.new) (O.files outbox.now) id self.new }
-        ensures others { OthersKeep id (I.staged inbox.old) (I.staged inbox.new) }
-    {
-        let _ = outbox;
-        match self {
-            Record::Sends(sender) => sender_hears(sender, timers, told, policy, pdu),
-            Record::Receives(receiver) => receiver_hears(
-                receiver, inbox, timers, told, policy, large, pdu,
-            ),
-        }
-    }
-
-    /// A timer of its transaction expired.
-    pub(crate) fn expire<O: Outbox, I: Inbox>(
-        &mut self,
-        outbox: &O,
-        inbox: &mut I,
-        timers: &mut Timers,
-        told: &mut Vec<Indication>,
-        policy: &Policy,
-        id: TransactionId,
-        kind: Kind,
-    )
-        requires room { 3 ≤ spare told.old }
-        requires has_room { set.contains timers.old.roomy id ≡ true }
-        requires ready { IsReadyRecord (I.staged inbox.old) (O.files outbox.now) id self.old }
-        ensures does { Does id (expires policy.now (I.published inbox.old) kind (seen
-            (I.staged inbox.old id) self.old))
-            (seen (I.staged inbox.new id) self.new) told.old.items told.new.items timers.old
-            timers.new (I.published inbox.new) }
-        ensures told_room { spare told.old ≤ spare told.new + 3 }
-        ensures ready { IsReadyRecord (I.staged inbox.new) (O.files outbox.now) id self.new }
-        ensures grows { I.failures inbox.old ≤ I.failures inbox.new }
-        ensures raises { AsksAs Raises (Settles Raises Stored.Done)
-            (seen (I.staged inbox.old id) self.old) (seen (I.staged inbox.new id) self.new)
-            (I.failures inbox.old) (I.failures inbox.new) }
-        ensures others { OthersKeep id (I.staged inbox.old) (I.staged inbox.new) }
-    {
-        let _ = outbox;
-        match self {
-            Record::Sends(sender) => sender.expire(kind, timers, policy, told),
-            Record::Receives(receiver) => {
-                expire_receiver(receiver, inbox, timers, told, policy, kind);
-            }
-        }
-    }
-
-    /// A call of the user.
-    pub(crate) fn call<O: Outbox, I: Inbox>(
-        &mut self,
-        outbox: &O,
-        inbox: &mut I,
-        timers: &mut Timers,
-        told: &mut Vec<Indication>,
-        policy: &Policy,
-        id: TransactionId,
-        call: Call,
-    )
-        requires room { 3 ≤ spare told.old }
-        requires has_room { set.contains timers.old.roomy id ≡ true }
-        requires ready { IsReadyRecord (I.staged inbox.old) (O.files outbox.now) id self.old }
-        ensures does { Does id (steps.calls policy.now.times (I.published inbox.old) call (seen
-            (I.staged inbox.old id) self.old))
-            (seen (I.staged inbox.new id) self.new) told.old.items told.new.items timers.old
-            timers.new (I.published inbox.new) }
-        ensures ready { IsReadyRecord (I.staged inbox.new) (O.files outbox.now) id self.new }
-        ensures grows { I.failures inbox.old ≤ I.failures inbox.new }
-        ensures raises { AsksAs Raises (AsksCalled Raises call)
-            (seen (I.staged inbox.old id) self.old) (seen (I.staged inbox.new id) self.new)
-            (I.failures inbox.old) (I.failures inbox.new) }
-        ensures others { OthersKeep id (I.staged inbox.old) (I.staged inbox.new) }
-    {
-        let _ = outbox;
-        match self {
-            Record::Sends(sender) => call_sender(sender, timers, told, policy, call),
-            Record::Receives(receiver) => {
-                call_receiver(receiver, inbox, timers, told, policy, call);
-            }
-        }
-    }
-
-    /// Takes the PDU that is due.
-    pub(crate) fn send<O: Outbox, I: Inbox>(
-        &mut self,
-        outbox: &mut O,
-        inbox: &mut I,
-        timers: &mut Timers,
-        told: &mut Vec<Indication>,
-        policy: &Policy,
-        id: TransactionId,
-        out: &mut [u8],
-    ) -> Gave
-        requires room { 3 ≤ spare told.old }
-        requires has_room { set.contains timers.old.roomy id ≡ true }
-        requires ready { IsReadyRecord (I.staged inbox.old) (O.files outbox.old) id self.old }
-        requires fits { seens.due_len (O.files outbox.old) (seen (I.staged inbox.old id) self.old)
-            ≤ length out.old }
-        ensures does { Does id (takes (stored_by_gave result) policy.now.times (O.files outbox.old)
-            (I.published inbox.old) (seen (I.staged inbox.old id) self.old))
-            (seen (I.staged inbox.new id) self.new) told.old.items told.new.items timers.old
-            timers.new (I.published inbox.new) }
-        ensures gives { Gives (due_octets (O.files outbox.old) (seen
-            (I.staged inbox.old id) self.old)) (seens.due_len (O.files outbox.old) (seen
-            (I.staged inbox.old id) self.old)) result out.old out.new }
-        ensures data { result ≡ gaves.Failed → carries_data (seen (I.staged inbox.old id) self.old)
-            ≡ true }
-        ensures counts { CountsOutbox (stored_by_gave result) (O.failures outbox.old)
-            (O.failures outbox.new) }
-        ensures sources { O.files outbox.new ≡ O.files outbox.old }
-        ensures ready { IsReadyRecord (I.staged inbox.new) (O.files outbox.new) id self.new }
-        ensures inbox { I.failures inbox.new ≡ I.failures inbox.old }
-        ensures others { OthersKeep id (I.staged inbox.old) (I.staged inbox.new) }
-    {
-        let _ = inbox;
-        match self {
-            Record::Sends(sender) => match sender.take_pdu(outbox, timers, policy, told, out) {
-                Taken::Nothing => Gave::Octets(0),
-                Taken::Moved(octets) => Gave::Octets(octets),
-                Taken::SourceFailed => Gave::Failed,
-            },
-            Record::Receives(receiver) => {
-                Gave::Octets(send_of_receiver(receiver, timers, policy, out))
-            }
-        }
-    }
 }
 
 // Why a call on a sender is refused, if it is.
@@ -303,21 +137,18 @@ fn refusal_at_receiver(receiver: &Receiver, call: Call) -> Option<CallError>
     }
 }
 
-// A sender hears what is for it.
-fn sender_hears(
+/// A sender hears what is for it.
+pub(crate) fn sender_hears(
     sender: &mut Sender,
-    timers: &mut Timers,
-    told: &mut Vec<Indication>,
+    effects: &mut Effects,
     policy: &Policy,
     pdu: &Pdu<'_>,
 ) -> Result<Stored, AllocError>
-    requires room { 3 ≤ spare told.old }
-    requires has_room { set.contains timers.old.roomy sender.old.addressing.id ≡ true }
-    ensures does { OnOk result (SenderDoes policy.now.times (sender_after
-        (view pdu.now) sender.old) sender.old sender.new told.old.items told.new.items timers.old
-        timers.new) }
-    ensures keeps { OnErr result (SenderKeeps (view pdu.now) sender.old sender.new told.old.items
-        told.new.items timers.old timers.new) }
+    requires { HasRoom sender.old.addressing.id effects.old }
+    ensures does { OnOk result (SenderDoes policy.now.times (sender_after (view pdu.now) sender.old)
+        sender.old sender.new effects.old effects.new) }
+    ensures keeps { OnErr result (SenderKeeps (view pdu.now) sender.old sender.new effects.old
+        effects.new) }
     ensures done { IfOk result (λ stored. stored ≡ Stored.Done) }
 {
     match pdu {
@@ -325,8 +156,8 @@ fn sender_hears(
             of: Acknowledged::Eof,
             condition,
             ..
-        } => sender.on_ack(*condition, timers, policy, told),
-        Pdu::Nak { pairs, .. } => sender.on_nak(pairs, timers, policy)?,
+        } => sender.on_ack(effects, policy, *condition),
+        Pdu::Nak { pairs, .. } => sender.on_nak(effects, policy, pairs)?,
         Pdu::Finished {
             condition,
             delivery,
@@ -338,9 +169,9 @@ fn sender_hears(
                 delivery: *delivery,
                 status: *status,
             };
-            sender.on_finished(outcome, timers, policy, told);
+            sender.on_finished(effects, policy, outcome);
         }
-        Pdu::KeepAlive { progress } => sender.on_keep_alive(*progress, timers, policy, told),
+        Pdu::KeepAlive { progress } => sender.on_keep_alive(effects, policy, *progress),
         _ => {}
     }
     Ok(Stored::Done)
@@ -349,36 +180,24 @@ fn sender_hears(
 /// A receiver hears what is for it, with the PDU's large file flag.
 pub(crate) fn receiver_hears<I: Inbox>(
     receiver: &mut Receiver,
+    effects: &mut Effects,
     inbox: &mut I,
-    timers: &mut Timers,
-    told: &mut Vec<Indication>,
     policy: &Policy,
     large: bool,
     pdu: &Pdu<'_>,
 ) -> Result<Stored, AllocError>
-    requires room { 3 ≤ spare told.old }
-    requires has_room { set.contains timers.old.roomy receiver.old.addressing.id ≡ true }
+    requires room { HasRoom receiver.old.addressing.id effects.old }
     requires ready { IsReady (I.staged inbox.old) receiver.old }
-    ensures does { IfOk result (λ stored. ReceiverDoes policy.now.times (receiver_after stored
-        large (view pdu.now) (staged_for (I.staged inbox.old) receiver.old.addressing.id)
-        (I.published inbox.old) receiver.old)
-        receiver.old receiver.new told.old.items told.new.items timers.old timers.new
-        (I.published inbox.old) (I.published inbox.new) (I.staged inbox.old)
-        (I.staged inbox.new)) }
-    ensures keeps { OnErr result (ReceiverKeeps (view pdu.now) receiver.old receiver.new
-        told.old.items told.new.items timers.old timers.new
-        (I.published inbox.old) (I.published inbox.new)
-        (I.staged inbox.old) (I.staged inbox.new)) }
-    ensures counts { IfOk result (λ stored. Counts stored (I.failures inbox.old)
-        (I.failures inbox.new)) }
-    ensures calls { IfOk result (λ stored. AsksHeard (Makes I.steps I.failures) large
-        (view pdu.now) stored receiver.old receiver.new inbox.old inbox.new) }
-    ensures roomy { timers.new.roomy ≡ timers.old.roomy }
-    ensures none { OnErr result (I.failures inbox.new ≡ I.failures inbox.old) }
-    ensures ready { IsReady (I.staged inbox.new) receiver.new }
-    ensures addressing { receiver.new.addressing ≡ receiver.old.addressing }
-    ensures others { OthersKeep receiver.old.addressing.id (I.staged inbox.old)
-        (I.staged inbox.new) }
+    ensures does { let old = at I.Inbox receiver.old effects.old inbox.old in
+        IfOk result (λ stored. ReceiverDoes policy.now.times stored
+        (found (receiver_after stored large (view pdu.now)) old) old
+        (at I.Inbox receiver.new effects.new inbox.new)) }
+    ensures keeps { OnErr result (ReceiverKeeps (view pdu.now)
+        (at I.Inbox receiver.old effects.old inbox.old)
+        (at I.Inbox receiver.new effects.new inbox.new)) }
+    ensures stays { StaysReady I.Inbox receiver.old receiver.new inbox.old inbox.new }
+    ensures calls { IfOk result (λ stored. AsksHeard (MakesIn I.Inbox) large (view pdu.now) stored
+        receiver.old receiver.new inbox.old inbox.new) }
 {
     match pdu {
         Pdu::Metadata {
@@ -394,10 +213,10 @@ pub(crate) fn receiver_hears<I: Inbox>(
                 source,
                 destination,
             };
-            receiver.on_metadata(timers, policy, told, inbox, large, &metadata)
+            receiver.on_metadata(effects, inbox, policy, large, &metadata)
         }
         Pdu::FileData { offset, bytes } => {
-            receiver.on_data(timers, policy, told, inbox, large, *offset, bytes)
+            receiver.on_data(effects, inbox, policy, large, *offset, bytes)
         }
         Pdu::Eof {
             condition,
@@ -409,14 +228,14 @@ pub(crate) fn receiver_hears<I: Inbox>(
                 checksum: *checksum,
                 size: *size,
             };
-            Ok(receiver.on_eof(timers, policy, told, inbox, large, *condition, ending))
+            Ok(receiver.on_eof(effects, inbox, policy, large, *condition, ending))
         }
         Pdu::Ack { of, .. } => {
-            receiver_hears_ack(receiver, timers, policy, large, *of);
+            receiver_hears_ack(receiver, effects, policy, large, *of);
             Ok(Stored::Done)
         }
         Pdu::Prompt { keep_alive } => {
-            receiver.on_prompt(timers, policy, large, *keep_alive);
+            receiver.on_prompt(effects, policy, large, *keep_alive);
             Ok(Stored::Done)
         }
         _ => Ok(Stored::Done),
@@ -426,144 +245,77 @@ pub(crate) fn receiver_hears<I: Inbox>(
 // A receiver hears an ACK: that of Finished is for it.
 fn receiver_hears_ack(
     receiver: &mut Receiver,
-    timers: &mut Timers,
+    effects: &mut Effects,
     policy: &Policy,
     large: bool,
     of: Acknowledged,
 )
-    requires { set.contains timers.old.roomy receiver.old.addressing.id ≡ true }
-    ensures acks { ReceiverAcks policy.now.times large of receiver.old receiver.new timers.old
-        timers.new }
-    ensures ready { (staged : Staged) → IsReady staged receiver.old → IsReady staged receiver.new }
-    ensures addressing { receiver.new.addressing ≡ receiver.old.addressing }
+    requires { HasRoom receiver.old.addressing.id effects.old }
+    ensures acks { ReceiverAcks policy.now.times large of receiver.old receiver.new effects.old
+        effects.new }
+    ensures kept { KeptAlone receiver.old receiver.new }
 {
     match of {
-        Acknowledged::Finished => receiver.on_ack(timers, policy, large),
+        Acknowledged::Finished => receiver.on_ack(effects, policy, large),
         Acknowledged::Eof => {}
     }
 }
 
-// A timer of a receiver expired.
-fn expire_receiver<I: Inbox>(
+/// A receiver writes the PDU that is due.
+pub(crate) fn send_of_receiver(
     receiver: &mut Receiver,
-    inbox: &mut I,
-    timers: &mut Timers,
-    told: &mut Vec<Indication>,
-    policy: &Policy,
-    kind: Kind,
-)
-    requires room { 3 ≤ spare told.old }
-    requires has_room { set.contains timers.old.roomy receiver.old.addressing.id ≡ true }
-    requires ready { IsReady (I.staged inbox.old) receiver.old }
-    ensures does { Receives policy.now.times (machine.expires kind policy.now (staged_for
-        (I.staged inbox.old) receiver.old.addressing.id) (I.published inbox.old) receiver.old)
-        receiver.new told.old.items told.new.items timers.old timers.new (I.published inbox.new)
-        (I.staged inbox.old) (I.staged inbox.new) }
-    ensures told_room { spare told.old ≤ spare told.new + 3 }
-    ensures grows { I.failures inbox.old ≤ I.failures inbox.new }
-    ensures calls { Settles (Makes I.steps I.failures) Stored.Done receiver.old receiver.new
-        inbox.old inbox.new }
-    ensures ready { IsReady (I.staged inbox.new) receiver.new }
-    ensures addressing { receiver.new.addressing ≡ receiver.old.addressing }
-    ensures others { OthersKeep receiver.old.addressing.id (I.staged inbox.old)
-        (I.staged inbox.new) }
-{
-    receiver.expire(timers, policy, told, inbox, kind);
-}
-
-// A receiver writes the PDU that is due.
-fn send_of_receiver(
-    receiver: &mut Receiver,
-    timers: &mut Timers,
+    effects: &mut Effects,
     policy: &Policy,
     out: &mut [u8],
 ) -> usize
-    requires has_room { set.contains timers.old.roomy receiver.old.addressing.id ≡ true }
+    requires room { HasRoom receiver.old.addressing.id effects.old }
     requires fits { seens.len_of receiver.old.large receiver.old.addressing
         (seens.receiver_content receiver.old (receiver_due receiver.old)) ≤ length out.old }
     ensures took { ReceiverTook policy.now.times (receiver_due receiver.old) receiver.old
-        receiver.new timers.old timers.new result out.old out.new }
-    ensures ready { (staged : Staged) → IsReady staged receiver.old → IsReady staged receiver.new }
-    ensures addressing { receiver.new.addressing ≡ receiver.old.addressing }
+        receiver.new effects.old effects.new result out.old out.new }
+    ensures kept { KeptAlone receiver.old receiver.new }
 {
     if !receiver.is_due() {
         return 0;
     }
-    receiver.take_pdu(timers, policy, out)
+    receiver.take_pdu(effects, policy, out)
 }
 
-// A call on a sender.
-fn call_sender(
-    sender: &mut Sender,
-    timers: &mut Timers,
-    told: &mut Vec<Indication>,
-    policy: &Policy,
-    call: Call,
-)
-    requires room { 3 ≤ spare told.old }
-    requires has_room { set.contains timers.old.roomy sender.old.addressing.id ≡ true }
-    ensures { SenderDoes policy.now.times (Some (called_sender call sender.old)) sender.old
-        sender.new told.old.items told.new.items timers.old timers.new }
+/// A call on a sender.
+pub(crate) fn call_sender(sender: &mut Sender, effects: &mut Effects, policy: &Policy, call: Call)
+    requires { HasRoom sender.old.addressing.id effects.old }
+    ensures { sender_does.Does policy.now.times (called_sender call sender.old) sender.new
+        effects.old effects.new }
 {
     match call {
-        Call::Cancel => sender.cancel(timers, policy),
-        Call::Suspend => sender.suspend(timers, policy, told),
-        Call::Resume => sender.resume(timers, policy, told),
-        Call::Prompt(keep_alive) => sender.prompt(keep_alive, timers, policy),
+        Call::Cancel => sender.cancel(effects, policy),
+        Call::Suspend => sender.suspend(effects, policy),
+        Call::Resume => sender.resume(effects, policy),
+        Call::Prompt(keep_alive) => sender.prompt(effects, policy, keep_alive),
     }
 }
 
-// A call on a receiver.
-fn call_receiver<I: Inbox>(
+/// A call on a receiver.
+pub(crate) fn call_receiver<I: Inbox>(
     receiver: &mut Receiver,
+    effects: &mut Effects,
     inbox: &mut I,
-    timers: &mut Timers,
-    told: &mut Vec<Indication>,
     policy: &Policy,
     call: Call,
 )
-    requires room { 3 ≤ spare told.old }
-    requires has_room { set.contains timers.old.roomy receiver.old.addressing.id ≡ true }
+    requires room { HasRoom receiver.old.addressing.id effects.old }
     requires ready { IsReady (I.staged inbox.old) receiver.old }
-    ensures does { ReceiverDoes policy.now.times (called_receiver call (staged_for
-        (I.staged inbox.old) receiver.old.addressing.id) (I.published inbox.old) receiver.old)
-        receiver.old receiver.new told.old.items told.new.items timers.old timers.new
-        (I.published inbox.old) (I.published inbox.new) (I.staged inbox.old)
-        (I.staged inbox.new) }
-    ensures grows { I.failures inbox.old ≤ I.failures inbox.new }
-    ensures calls { AsksCalled (Makes I.steps I.failures) call receiver.old receiver.new
-        inbox.old inbox.new }
-    ensures ready { IsReady (I.staged inbox.new) receiver.new }
-    ensures addressing { receiver.new.addressing ≡ receiver.old.addressing }
-    ensures others { OthersKeep receiver.old.addressing.id (I.staged inbox.old)
-        (I.staged inbox.new) }
+    ensures does { let old = at I.Inbox receiver.old effects.old inbox.old in
+        ReceiverDoes policy.now.times Stored.Done (found (called_receiver call) old) old
+        (at I.Inbox receiver.new effects.new inbox.new) }
+    ensures stays { StaysReady I.Inbox receiver.old receiver.new inbox.old inbox.new }
+    ensures calls { AsksCalled (MakesIn I.Inbox) call receiver.old receiver.new inbox.old
+        inbox.new }
 {
     match call {
-        Call::Cancel => receiver.cancel(timers, policy, told, inbox),
-        Call::Suspend => receiver.suspend(timers, policy, told),
-        Call::Resume => receiver.resume(timers, policy, told),
+        Call::Cancel => receiver.cancel(effects, inbox, policy),
+        Call::Suspend => receiver.suspend(effects, policy),
+        Call::Resume => receiver.resume(effects, policy),
         Call::Prompt(_) => {}
     }
-}
-
-/// Opens the record of a put. Room for what it indicates was made before.
-pub(crate) fn open_put(
-    alloc: Global,
-    transfer: Transfer,
-    timers: &mut Timers,
-    told: &mut Vec<Indication>,
-) -> Result<Record, AllocError>
-    requires sendable { IsSendable transfer }
-    requires room { 3 ≤ spare told.old }
-    ensures opens { IfOk result (λ opened. opened ≡ variants.Sends (opened_sender transfer)) }
-    ensures tells { OnOk result (told.new.items ≡ told.old.items ++ indication.Transaction
-        transfer.addressing.id ∷ []) }
-    ensures timers { OnOk result (timers.new ≡ record timers.old { roomy = timers.new.roomy }) }
-    ensures has_room { OnOk result (set.contains timers.new.roomy transfer.addressing.id ≡ true) }
-    ensures keeps { (other : TransactionId) → set.contains timers.old.roomy other ≡ true →
-        set.contains timers.new.roomy other ≡ true }
-    ensures err { OnErr result ((told.new.items ≡ told.old.items) × (timers.new ≡ timers.old)) }
-{
-    let sender = Sender::open(alloc, transfer, timers, told)?;
-    Ok(Record::Sends(sender))
 }

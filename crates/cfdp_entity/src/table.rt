@@ -1,9 +1,10 @@
-// Records with their timers and both stores.
-ghost use Rattle.std.specs.Prelude.{◌≡◌, ◌+◌, ◌≤◌, ◌<◌, ◌++◌, ◌*◌, max, true, None, Option, drop, length, slice_get, IfErr, IfOk, IfSome, MatchOption, OnOk, OnErr, is_ok};
+// Records, and the desk that their steps work on.
+ghost use Rattle.std.specs.Prelude.{◌≡◌, ◌+◌, ◌≤◌, ◌<◌, ◌++◌, ◌∷◌, ◌*◌, max, true, None, Option, [], length, slice_get, IfErr, IfOk, IfSome, MatchOption, OnOk, OnErr, is_ok};
 ghost use Rattle.std.specs.FinMap as map;
 ghost use Rattle.std.specs.Option.{option_map};
 ghost use Rattle.std.specs.List.{IsDistinct};
 ghost use Rattle.std.specs.Map.{keys_of};
+ghost use Rattle.indexmap.specs.IndexMap.{keys, get, spare as spare_entries};
 ghost use Rattle.cfdp_header.specs.Ids.{same_id};
 ghost use Rattle.cfdp_directives.specs.Pdu.Addressing.{FitsAddressing};
 ghost use Rattle.cfdp_directives.specs.Pdu.Content.{view};
@@ -14,30 +15,28 @@ ghost use Rattle.cfdp_store.specs.Stores.{Counts, failures_after};
 ghost use Rattle.cfdp_sender.specs.State.{IsSendable};
 ghost use Rattle.cfdp_sender.specs.Does.{HasFile};
 ghost use Rattle.cfdp_entity.specs.Adding.{AddsSource, RefusesToAdd, with_source};
-ghost use Rattle.cfdp_entity.specs.declared.record.Gave.TheVariants as gaves;
-ghost use Rattle.cfdp_entity.specs.Seen as seens;
 ghost use Rattle.cfdp_entity.specs.Calling as calling;
-ghost use Rattle.cfdp_entity.specs.Gives.{Gives, CountsOutbox, stored_by_gave};
 ghost use Rattle.cfdp_entity.specs.Opening.{closing, AsksInOrder, CountsBoth};
+ghost use Rattle.cfdp_entity.specs.Roomy.{Becomes, LacksMemory, SendsFrom, Steps};
 ghost use Rattle.cfdp_entity.specs.Sound.{longest_pdu};
 ghost use Rattle.cfdp_entity.specs.Spelled.{EntryIsSpelled};
 ghost use Rattle.cfdp_entity.specs.Storing.{AsksToHear, AsksToCall, AsksToExpire, AsksByTimer, AsksToFire, AsksToTick, AsksToOpen};
 ghost use Rattle.cfdp_entity.specs.Walking.{phases_of};
 ghost use Rattle.cfdp_entity.specs.Table as tables;
-ghost use Rattle.cfdp_entity.specs.Table.{heard_at, expired_at, called_at, taken_at, due_at, len_at, data_at, put_in, opened_by, next_due, first_table, all_expired, at_time, Ticks, SpoiledAt, phase_in};
+ghost use Rattle.cfdp_entity.specs.Table.{heard_at, expired_at, called_at, len_at, put_in, opened_by, next_due, first_table, all_expired, at_time, Ticks, phase_in};
 
 use crate::call::Call;
+use crate::desk::Desk;
 use crate::error::{AddError, CallError};
-use crate::opening::Opened;
+use crate::opening::{MOST_TOLD, Opened};
 use crate::ready::Ready;
 use crate::record::{Gave, Record};
-use crate::steps;
 use crate::transactions::Transactions;
 use cfdp_directives::{Addressing, Indication, Pdu, Phase, Policy};
 use cfdp_header::TransactionId;
 use cfdp_sender::Transfer;
 use cfdp_store::{Inbox, MemoryOutbox, Outbox, StoreError, Stored};
-use cfdp_timers::{Kind, Timers};
+use cfdp_timers::{Effects, Kind};
 use indexmap::IndexMap;
 use std::alloc::{AllocError, Global};
 use std::marker::Model;
@@ -45,39 +44,28 @@ use std::marker::Model;
 /// The most records of a table, closed ones included.
 pub const MOST_RECORDS: usize = 4096;
 
-/// Records in order of opening, with their timers, both stores, and what was indicated.
+/// Records in order of opening, and the desk that their steps work on.
 #[derive(Drop)]
 pub struct Table<O: Outbox, I: Inbox> {
     alloc: Global,
     records: IndexMap<TransactionId, Record>,
     ready: Ready,
-    timers: Timers,
-    outbox: O,
-    inbox: I,
-    told: Vec<Indication>,
-    policy: Policy,
+    desk: Desk<O, I>,
 }
 
 impl<O: Outbox, I: Inbox> Model for Table<O, I> {
     ghost use Rattle.cfdp_entity.specs.Coded.{state_codes};
-    ghost use Rattle.cfdp_entity.specs.Does.{spare};
+    ghost use Rattle.cfdp_entity.specs.Desk.{on_desk};
     ghost use Rattle.cfdp_entity.specs.Roomy.{Roomy};
-    ghost use Rattle.cfdp_entity.specs.Whole.{IsWhole, state_of};
+    ghost use Rattle.cfdp_entity.specs.Whole.{IsWhole, roomy_of};
 
     ghost Value = { Roomy };
 
     ghost coded = { Prim.hlevel (state_codes) };
 
-    ghost view = { λ t. record {
-      state = state_of (I.staged t.inbox) (I.published t.inbox)
-          (O.files t.outbox) t.policy t.records.entries t.timers t.told.items;
-      spare = spare t.told;
-      inbox_failures = I.failures t.inbox;
-      outbox_failures = O.failures t.outbox;
-    } };
+    ghost view = { λ t. roomy_of (on_desk O.Outbox I.Inbox t.desk) t.records.entries };
 
-    ghost invariant = { λ t. IsWhole (I.staged t.inbox)
-        (O.files t.outbox) t.records.entries t.ready t.timers };
+    ghost invariant = { λ t. IsWhole (on_desk O.Outbox I.Inbox t.desk) t.records.entries t.ready };
 }
 
 impl<O: Outbox, I: Inbox> Table<O, I> {
@@ -89,15 +77,17 @@ impl<O: Outbox, I: Inbox> Table<O, I> {
         ensures outbox { IfOk result (λ t. t.outbox_failures ≡ O.failures outbox) }
     {
         let ready = Ready::new(alloc)?;
+        let desk = Desk {
+            outbox,
+            inbox,
+            effects: Effects::new(alloc),
+            policy,
+        };
         Ok(Table {
             alloc,
             records: IndexMap::new(alloc),
             ready,
-            timers: Timers::new(alloc),
-            outbox,
-            inbox,
-            told: Vec::new(alloc),
-            policy,
+            desk,
         })
     }
 
@@ -114,7 +104,7 @@ impl<O: Outbox, I: Inbox> Table<O, I> {
     pub fn told(&self) -> &[Indication]
         ensures { result.now ≡ self.now.state.told }
     {
-        self.told.as_slice()
+        self.desk.effects.told.as_slice()
     }
 
     /// Where the record of a transaction is.
@@ -139,14 +129,20 @@ impl<O: Outbox, I: Inbox> Table<O, I> {
         ensures spelled { EntryIsSpelled self.now.state.sources
             (slice_get self.now.state.records place) }
     {
-        steps::due_len_at(&self.records, place)
+        match self.records.get_index(place) {
+            Some((_, held)) => held.due_len(),
+            None => 0,
+        }
     }
 
     /// How far the transaction has come whose record is at a place.
     pub fn phase_at(&self, place: usize) -> Option<Phase>
         ensures { result ≡ phase_in (slice_get self.now.state.records place) }
     {
-        steps::phase_at(&self.records, place)
+        match self.records.get_index(place) {
+            Some((_, held)) => Some(held.phase()),
+            None => None,
+        }
     }
 
     /// The transactions in order of opening, each with how far it has come.
@@ -160,131 +156,100 @@ impl<O: Outbox, I: Inbox> Table<O, I> {
     pub fn refusal_at(&self, place: usize, call: Call) -> Option<CallError>
         ensures { result ≡ calling.refusal_of call (slice_get self.now.state.records place) }
     {
-        steps::refusal_at(&self.records, place, call)
+        match self.records.get_index(place) {
+            Some((_, held)) => held.refusal(call),
+            None => Some(CallError::Unknown),
+        }
     }
 
     /// Octets of a file of the outbox.
     pub fn source_len(&mut self, name: &[u8]) -> Result<Option<u64>, StoreError>
-        ensures state { self.new.state ≡ self.old.state }
         ensures answer { IfOk result (λ len. len ≡ option_map length
             (map.get self.old.state.sources name.now)) }
-        ensures failures { self.new.outbox_failures ≡ failures_after self.old.outbox_failures
-            (is_ok result) }
-        ensures inbox { self.new.inbox_failures ≡ self.old.inbox_failures }
+        ensures counted { self.new ≡ record self.old {
+          outbox_failures
+              = failures_after self.old.outbox_failures (is_ok result);
+        } }
     {
-        self.outbox.len(name)
+        self.desk.outbox.len(name)
     }
 
     /// Makes room for so many indications.
     pub fn reserve(&mut self, more: usize) -> Result<(), AllocError>
-        ensures state { self.new.state ≡ self.old.state }
+        ensures stays { Becomes self.old.state self.old self.new }
         ensures room { OnOk result (more ≤ self.new.spare) }
         ensures some { OnErr result (1 ≤ more) }
-        ensures inbox { self.new.inbox_failures ≡ self.old.inbox_failures }
-        ensures outbox { self.new.outbox_failures ≡ self.old.outbox_failures }
     {
         if more == 0 {
             return Ok(());
         }
-        self.told.reserve(more)
+        self.desk.effects.told.reserve(more)
     }
 
     /// The record at a place hears a PDU, with its large file flag.
     pub fn hear(&mut self, place: usize, large: bool, pdu: &Pdu<'_>) -> Result<Stored, AllocError>
         requires room { 3 ≤ self.old.spare }
-        ensures heard { IfOk result (λ stored. self.new.state ≡ heard_at stored place large
-            (view pdu.now) self.old.state) }
-        ensures err { OnErr result (SpoiledAt place (view pdu.now) self.old.state self.new.state) }
-        ensures counts { IfOk result (λ stored. Counts stored self.old.inbox_failures
-            self.new.inbox_failures) }
-        ensures raises { IfOk result (λ stored. AsksToHear Raises stored place large
-            (view pdu.now) self.old.state self.old.inbox_failures self.new.inbox_failures) }
-        ensures none { OnErr result
-            (self.new.inbox_failures ≡ self.old.inbox_failures) }
-        ensures outbox { self.new.outbox_failures ≡ self.old.outbox_failures }
+        ensures heard { IfOk result (λ stored. Steps
+            (heard_at stored place large (view pdu.now) self.old.state) (Counts stored)
+            (AsksToHear Raises stored place large (view pdu.now) self.old.state)
+            self.old self.new) }
+        ensures err { OnErr result (LacksMemory place (view pdu.now) self.old self.new) }
     {
-        steps::hear_at(
-            &mut self.records,
-            &mut self.ready,
-            &self.outbox,
-            &mut self.inbox,
-            &mut self.timers,
-            &mut self.told,
-            &self.policy,
-            place,
-            large,
-            pdu,
-        )
+        match self.records.get_index_mut(place) {
+            Some(held) => {
+                let answer = self.desk.hear(held, large, pdu);
+                self.ready.set(place, held.is_due());
+                answer
+            }
+            None => Ok(Stored::Done),
+        }
     }
 
     /// A timer of the record at a place expired.
     pub fn expire(&mut self, place: usize, kind: Kind)
         requires room { 3 ≤ self.old.spare }
-        ensures expired { self.new.state ≡ expired_at place kind self.old.state }
+        ensures expired { Steps (expired_at place kind self.old.state) (Counts Stored.Done)
+            (AsksToExpire Raises kind place self.old.state) self.old self.new }
         ensures room { self.old.spare ≤ self.new.spare + 3 }
-        ensures grows { self.old.inbox_failures ≤ self.new.inbox_failures }
-        ensures raises { AsksToExpire Raises kind place self.old.state self.old.inbox_failures
-            self.new.inbox_failures }
-        ensures outbox { self.new.outbox_failures ≡ self.old.outbox_failures }
     {
-        steps::expire_at(
-            &mut self.records,
-            &mut self.ready,
-            &self.outbox,
-            &mut self.inbox,
-            &mut self.timers,
-            &mut self.told,
-            &self.policy,
-            place,
-            kind,
-        );
+        match self.records.get_index_mut(place) {
+            Some(held) => {
+                self.desk.expire(held, kind);
+                self.ready.set(place, held.is_due());
+            }
+            None => {}
+        }
     }
 
     /// A call of the user on the record at a place.
     pub fn call(&mut self, place: usize, call: Call)
         requires room { 3 ≤ self.old.spare }
-        ensures called { self.new.state ≡ called_at place call self.old.state }
-        ensures grows { self.old.inbox_failures ≤ self.new.inbox_failures }
-        ensures raises { AsksToCall Raises call place self.old.state self.old.inbox_failures
-            self.new.inbox_failures }
-        ensures outbox { self.new.outbox_failures ≡ self.old.outbox_failures }
+        ensures { Steps (called_at place call self.old.state) (Counts Stored.Done)
+            (AsksToCall Raises call place self.old.state) self.old self.new }
     {
-        steps::call_at(
-            &mut self.records,
-            &mut self.ready,
-            &self.outbox,
-            &mut self.inbox,
-            &mut self.timers,
-            &mut self.told,
-            &self.policy,
-            place,
-            call,
-        );
+        match self.records.get_index_mut(place) {
+            Some(held) => {
+                self.desk.call(held, call);
+                self.ready.set(place, held.is_due());
+            }
+            None => {}
+        }
     }
 
     /// Takes the PDU of the record at a place.
     pub fn send(&mut self, place: usize, out: &mut [u8]) -> Gave
         requires room { 3 ≤ self.old.spare }
         requires fits { len_at place self.old.state ≤ length out.old }
-        ensures taken { self.new.state ≡ taken_at (stored_by_gave result) place self.old.state }
-        ensures gives { Gives (due_at place self.old.state) (len_at place self.old.state) result
-            out.old out.new }
-        ensures data { result ≡ gaves.Failed → data_at place self.old.state ≡ true }
-        ensures counts { CountsOutbox (stored_by_gave result) self.old.outbox_failures
-            self.new.outbox_failures }
-        ensures inbox { self.new.inbox_failures ≡ self.old.inbox_failures }
+        ensures { SendsFrom place result self.old self.new out.old out.new }
     {
-        steps::send_at(
-            &mut self.records,
-            &mut self.ready,
-            &mut self.outbox,
-            &mut self.inbox,
-            &mut self.timers,
-            &mut self.told,
-            &self.policy,
-            place,
-            out,
-        )
+        match self.records.get_index_mut(place) {
+            Some(held) => {
+                let gave = self.desk.send(held, out);
+                self.ready.set(place, held.is_due());
+                gave
+            }
+            None => Gave::Octets(0),
+        }
     }
 
     /// A put opens a record.
@@ -293,22 +258,16 @@ impl<O: Outbox, I: Inbox> Table<O, I> {
         requires not_full { length self.old.state.records < 4096 }
         requires sendable { IsSendable transfer }
         requires file { HasFile self.old.state.sources transfer.source transfer.size }
-        ensures put { OnOk result (self.new.state ≡ put_in transfer self.old.state) }
-        ensures err { OnErr result (self.new.state ≡ self.old.state) }
-        ensures inbox { self.new.inbox_failures ≡ self.old.inbox_failures }
-        ensures outbox { self.new.outbox_failures ≡ self.old.outbox_failures }
+        ensures put { OnOk result (Becomes (put_in transfer self.old.state) self.old self.new) }
+        ensures err { OnErr result (Becomes self.old.state self.old self.new) }
     {
-        steps::put_record(
-            self.alloc,
-            &mut self.records,
-            &mut self.ready,
-            &self.outbox,
-            &self.inbox,
-            &mut self.timers,
-            &mut self.told,
-            &self.policy,
-            transfer,
-        )
+        let id = transfer.addressing.id;
+        self.desk.effects.told.reserve(MOST_TOLD)?;
+        self.records.reserve(1)?;
+        let held = self.desk.put(self.alloc, transfer)?;
+        self.ready.push(held.is_due());
+        push_record(&mut self.records, id, held);
+        Ok(())
     }
 
     /// A PDU of no record opens one, which hears it, with its large file flag, if the inbox begins
@@ -322,31 +281,18 @@ impl<O: Outbox, I: Inbox> Table<O, I> {
         requires absent { tables.place_of addressing.id self.old.state.records ≡ None }
         requires not_full { length self.old.state.records < 4096 }
         requires addressing { FitsAddressing addressing }
-        ensures opened { IfOk result (λ o. self.new.state ≡ opened_by o.begun o.stored addressing
-            large (view pdu.now) self.old.state) }
-        ensures err { OnErr result (self.new.state ≡ self.old.state) }
-        ensures counts { IfOk result (λ o. CountsBoth o.begun o.stored self.old.inbox_failures
-            self.new.inbox_failures) }
+        ensures opened { IfOk result (λ o. Steps (opened_by o.begun o.stored addressing large
+            (view pdu.now) self.old.state) (CountsBoth o.begun o.stored) (AsksToOpen Raises o.begun
+            o.stored addressing large (view pdu.now) self.old.state) self.old self.new) }
         ensures asks { IfOk result (λ o. AsksInOrder (closing (view pdu.now)) o.begun o.stored) }
-        ensures raises { IfOk result (λ o. AsksToOpen Raises o.begun o.stored addressing large
-            (view pdu.now) self.old.state self.old.inbox_failures self.new.inbox_failures) }
-        ensures none { OnErr result
-            (self.new.inbox_failures ≡ self.old.inbox_failures) }
-        ensures outbox { self.new.outbox_failures ≡ self.old.outbox_failures }
+        ensures err { OnErr result (Becomes self.old.state self.old self.new) }
     {
-        steps::open_record(
-            self.alloc,
-            &mut self.records,
-            &mut self.ready,
-            &self.outbox,
-            &mut self.inbox,
-            &mut self.timers,
-            &mut self.told,
-            &self.policy,
-            addressing,
-            large,
-            pdu,
-        )
+        self.desk.effects.told.reserve(MOST_TOLD)?;
+        self.records.reserve(1)?;
+        let (held, opened) = self.desk.open(self.alloc, addressing, large, pdu)?;
+        self.ready.push(held.is_due());
+        push_record(&mut self.records, addressing.id, held);
+        Ok(opened)
     }
 
     /// The earliest deadline of the armed timers but those of kind Inactivity.
@@ -354,7 +300,7 @@ impl<O: Outbox, I: Inbox> Table<O, I> {
         ensures { MatchOption result (OnlyInactivity self.now.state.armed)
             (λ deadline. IsLeastOther self.now.state.armed deadline) }
     {
-        self.timers.next_but_inactivity()
+        self.desk.effects.timers.next_but_inactivity()
     }
 
     /// The earliest deadline of the armed timers.
@@ -362,7 +308,7 @@ impl<O: Outbox, I: Inbox> Table<O, I> {
         ensures { MatchOption result (self.now.state.armed ≡ map.empty)
             (λ deadline. IsLeast self.now.state.armed deadline) }
     {
-        self.timers.next()
+        self.desk.effects.timers.next()
     }
 
     /// Tells the time: the timers that are due fire, one after another.
@@ -370,11 +316,10 @@ impl<O: Outbox, I: Inbox> Table<O, I> {
         ensures ticked { OnOk result (Ticks now self.old.state self.new.state) }
         ensures raises { OnOk result (AsksToTick Raises now self.old.state
             self.old.inbox_failures self.new.inbox_failures) }
-        ensures err { OnErr result (self.new.state ≡ self.old.state) }
-        ensures grows { self.old.inbox_failures ≤ self.new.inbox_failures }
-        ensures none { OnErr result (self.new.inbox_failures ≡ self.old.inbox_failures) }
+        ensures err { OnErr result (Becomes self.old.state self.old self.new) }
         ensures lacks { OnErr result
             (1 ≤ due_count self.old.state.armed (max self.old.state.now now)) }
+        ensures grows { self.old.inbox_failures ≤ self.new.inbox_failures }
         ensures outbox { self.new.outbox_failures ≡ self.old.outbox_failures }
     {
         let due = self.due_count(now);
@@ -388,32 +333,27 @@ impl<O: Outbox, I: Inbox> Table<O, I> {
         ensures count { result ≡ due_count self.now.state.armed (max self.now.state.now now) }
         ensures few { result < 4611686018427387904 }
     {
-        self.timers.due_count(now)
+        self.desk.effects.timers.due_count(now)
     }
 
     fn fire(&mut self, now: u64) -> Result<Vec<(TransactionId, Kind)>, AllocError>
-        ensures state { OnOk result (self.new.state ≡ at_time now self.old.state) }
-        ensures spare { self.new.spare ≡ self.old.spare }
         ensures fired { IfOk result (λ fired. AreDue self.old.state.armed
             (max self.old.state.now now) fired.items) }
         ensures count { IfOk result (λ fired. length fired.items ≡ due_count self.old.state.armed
             (max self.old.state.now now)) }
-        ensures err { OnErr result (self.new.state ≡ self.old.state) }
+        ensures state { OnOk result (Becomes (at_time now self.old.state) self.old self.new) }
+        ensures spare { self.new.spare ≡ self.old.spare }
+        ensures err { OnErr result (Becomes self.old.state self.old self.new) }
         ensures lacks { OnErr result
             (1 ≤ due_count self.old.state.armed (max self.old.state.now now)) }
-        ensures inbox { self.new.inbox_failures ≡ self.old.inbox_failures }
-        ensures outbox { self.new.outbox_failures ≡ self.old.outbox_failures }
     {
-        self.timers.fire(now)
+        self.desk.effects.timers.fire(now)
     }
 
     fn expire_all(&mut self, fired: &[(TransactionId, Kind)])
         requires room { 3 * length fired.now ≤ self.old.spare }
-        ensures fires { self.new.state ≡ all_expired fired.now self.old.state }
-        ensures grows { self.old.inbox_failures ≤ self.new.inbox_failures }
-        ensures raises { AsksToFire Raises fired.now self.old.state self.old.inbox_failures
-            self.new.inbox_failures }
-        ensures outbox { self.new.outbox_failures ≡ self.old.outbox_failures }
+        ensures { Steps (all_expired fired.now self.old.state) (Counts Stored.Done)
+            (AsksToFire Raises fired.now self.old.state) self.old self.new }
     {
         for (id, kind) in fired {
             self.expire_one(*id, *kind);
@@ -422,17 +362,24 @@ impl<O: Outbox, I: Inbox> Table<O, I> {
 
     fn expire_one(&mut self, id: TransactionId, kind: Kind)
         requires room { 3 ≤ self.old.spare }
-        ensures expired { self.new.state ≡ tables.expired (id, kind) self.old.state }
+        ensures expired { Steps (tables.expired (id, kind) self.old.state) (Counts Stored.Done)
+            (AsksByTimer Raises (id, kind) self.old.state) self.old self.new }
         ensures room { self.old.spare ≤ self.new.spare + 3 }
-        ensures grows { self.old.inbox_failures ≤ self.new.inbox_failures }
-        ensures raises { AsksByTimer Raises (id, kind) self.old.state self.old.inbox_failures
-            self.new.inbox_failures }
-        ensures outbox { self.new.outbox_failures ≡ self.old.outbox_failures }
     {
         if let Some(place) = self.place_of(id) {
             self.expire(place, kind);
         }
     }
+}
+
+// A record is added behind all others.
+fn push_record(records: &mut IndexMap<TransactionId, Record>, id: TransactionId, opened: Record)
+    requires absent { get same_id records.old id ≡ None }
+    requires room { 1 ≤ spare_entries records.old }
+    ensures added { records.new.entries ≡ records.old.entries ++ (id, opened) ∷ [] }
+    ensures unique { IsDistinct same_id (keys records.new) }
+{
+    let _ = records.insert(id, opened);
 }
 
 impl<O: Outbox, I: Inbox> Table<O, I> {
@@ -441,7 +388,7 @@ impl<O: Outbox, I: Inbox> Table<O, I> {
         ensures files { O.files result.now ≡ self.now.state.sources }
         ensures failures { O.failures result.now ≡ self.now.outbox_failures }
     {
-        &self.outbox
+        &self.desk.outbox
     }
 
     /// The inbox, lent.
@@ -449,7 +396,7 @@ impl<O: Outbox, I: Inbox> Table<O, I> {
         ensures published { I.published result.now ≡ self.now.state.files }
         ensures failures { I.failures result.now ≡ self.now.inbox_failures }
     {
-        &self.inbox
+        &self.desk.inbox
     }
 }
 
@@ -459,11 +406,10 @@ impl<I: Inbox> Table<MemoryOutbox, I> {
         ensures added { OnOk result (AddsSource name.now octets.now self.old.state
             self.new.state) }
         ensures refused { IfErr result (RefusesToAdd name.now self.old.state.sources) }
+        ensures stays { Becomes self.new.state self.old self.new }
         ensures err { OnErr result (self.new.state ≡ self.old.state) }
-        ensures inbox { self.new.inbox_failures ≡ self.old.inbox_failures }
-        ensures outbox { self.new.outbox_failures ≡ self.old.outbox_failures }
     {
-        match self.outbox.len(name) {
+        match self.desk.outbox.len(name) {
             Ok(None) => {}
             Ok(Some(_)) => return Err(AddError::Taken),
             Err(_) => return Err(AddError::NoMemory),
@@ -476,14 +422,12 @@ impl<I: Inbox> Table<MemoryOutbox, I> {
 
     fn keep_source(&mut self, name: &[u8], octets: &[u8]) -> Result<(), AllocError>
         requires free { map.get self.old.state.sources name.now ≡ None }
-        ensures added { OnOk result (self.new.state
-            ≡ with_source name.now octets.now self.old.state) }
-        ensures err { OnErr result (self.new.state ≡ self.old.state) }
-        ensures inbox { self.new.inbox_failures ≡ self.old.inbox_failures }
-        ensures outbox { self.new.outbox_failures ≡ self.old.outbox_failures }
+        ensures added { OnOk result (Becomes (with_source name.now octets.now self.old.state)
+            self.old self.new) }
+        ensures err { OnErr result (Becomes self.old.state self.old self.new) }
     {
         let name = Vec::from_slice(self.alloc, name)?;
         let octets = Vec::from_slice(self.alloc, octets)?;
-        self.outbox.add(name, octets)
+        self.desk.outbox.add(name, octets)
     }
 }

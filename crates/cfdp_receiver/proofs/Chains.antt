@@ -1,5 +1,5 @@
 -- Calls of an inbox, one after another.
-use Rattle.std.proofs.Common.{◌≡◌, ℕ, ◌≤◌, ◌<◌, ◌+◌, ◌++◌, ◌&&◌, ◌||◌, Bool, true, false, not, List, [], ◌∷◌, length, Ok, Err, Result, OnErr, IfOk, if◌then◌else◌, refl, sym, ap, subst, ◌∙◌, arith, inl, inr, append_assoc}
+use Rattle.std.proofs.Common.{◌≡◌, ℕ, ◌≤◌, ◌<◌, ◌+◌, ◌++◌, ◌&&◌, ◌||◌, Bool, true, false, not, List, [], ◌∷◌, length, Ok, Err, Result, IfOk, if◌then◌else◌, refl, sym, ap, subst, ◌∙◌, arith, inl, inr, append_assoc}
 use Rattle.std.specs.Prelude.{is_ok}
 use Rattle.std.specs.FinSet as set
 use Rattle.std.specs.List.{All}
@@ -72,16 +72,26 @@ module _ {S : Type 0} (Steps : S → InboxCall → S → Type 0) (failures : S �
       let same : all ≡ w.done = w.are ∙ ap (λ l. w.done ++ l) none ∙ append-nil w.done in
       subst (λ l. Makes Steps failures (writes id l) a b) (sym same) w.made
 
-  pub wrote-stops : (id : TransactionId) (all left behind : List Piece) (p : Piece) (a b c : S) (error : StoreError) → left ≡ p ∷ behind → Wrote id all left a b
-      → Makes Steps failures (Write id p.offset p.bytes (Err error) ∷ []) b c → StopsAt (Makes Steps failures) id all [] a c
-  wrote-stops id all left behind p a b c error is w one = record {
-    front = w.done;
-    piece = p;
-    behind = behind;
-    are = w.are ∙ ap (λ l. w.done ++ l) is;
-    error = error;
-    by = makes-then (writes id w.done) (Write id p.offset p.bytes (Err error) ∷ []) a b c w.made one;
-  }
+  pub stops-one : (id : TransactionId) (p : Piece) (a b : S) (error : StoreError) → Makes Steps failures (Write id p.offset p.bytes (Err error) ∷ []) a b
+      → StopsAt (Makes Steps failures) id (p ∷ []) [] a b
+  stops-one id p a b error one = record { front = []; piece = p; behind = []; are = refl; error = error; by = one }
+
+  pub wrote-stops : (id : TransactionId) (all left behind : List Piece) (p : Piece) (a b c : S) → left ≡ p ∷ behind → Wrote id all left a b
+      → StopsAt (Makes Steps failures) id (p ∷ []) [] b c → StopsAt (Makes Steps failures) id all [] a c
+  wrote-stops id all left behind p a b c is w s =
+      let fails : List InboxCall = Write id s.piece.offset s.piece.bytes (Err s.error) ∷ [] in
+      record {
+        front = w.done ++ s.front;
+        piece = s.piece;
+        behind = s.behind ++ behind;
+        are = w.are
+            ∙ ap (λ l. w.done ++ l) (is ∙ ap (λ l. l ++ behind) s.are ∙ append_assoc s.front (s.piece ∷ s.behind) behind)
+            ∙ sym (append_assoc w.done s.front (s.piece ∷ s.behind ++ behind));
+        error = s.error;
+        by = subst (λ l. Makes Steps failures l a c)
+            (sym (append_assoc (writes id w.done) (writes id s.front) fails) ∙ ap (λ l. l ++ fails) (sym (writes-append id w.done s.front)))
+            (makes-then (writes id w.done) (writes id s.front ++ fails) a b c w.made s.by);
+      }
 
   -- a write that failed, and then a discard
   pub stops-then : (id : TransactionId) (pieces : List Piece) (a b c : S) → StopsAt (Makes Steps failures) id pieces [] a b → Discards (Makes Steps failures) id b c
@@ -102,9 +112,8 @@ module _ {S : Type 0} (Steps : S → InboxCall → S → Type 0) (failures : S �
   )
 
   -- all writes done are no failures
-  pub made-level : {T E : Type 0} (answer : Result T E) (id : TransactionId) (pieces : List Piece) (a b : S) → Makes Steps failures (writes id pieces) a b → OnErr answer (failures b ≡ failures a)
-  made-level (Ok x) id pieces a b made = tt
-  made-level (Err e) id pieces a b made = made.1 ∙ writes_level id pieces (failures a)
+  pub made-level : (id : TransactionId) (pieces : List Piece) (a b : S) → Makes Steps failures (writes id pieces) a b → failures b ≡ failures a
+  made-level id pieces a b made = made.1 ∙ writes_level id pieces (failures a)
 
 -- ---- offsets that are held have no gaps
 no_gap : (held : Offsets) (s e : ℕ) (gaps : List (ℕ × ℕ)) → set.is_subset (range s e) held ≡ true →

@@ -12,13 +12,12 @@ use Rattle.cfdp_header.specs.declared.value.TransactionId.{TransactionId}
 use Rattle.std.specs.Ordering.{nat_cmp}
 use Rattle.cfdp_extents.specs.Offsets.{Offsets, range, is_within, union_of, missing_from, LiesIn, AreRangesOf}
 use Rattle.cfdp_header.specs.Files.{FileMap}
-use Rattle.cfdp_directives.specs.declared.user.indication.Indication.{Indication}
-use Rattle.cfdp_store.specs.Staged.{OctetMap, Covers, OthersKeep, written, staged_for}
+use Rattle.cfdp_store.specs.Staged.{OctetMap, Covers, written, staged_for}
 use Rattle.cfdp_receiver.specs.declared.state.ReceiverPhase.TheVariants.{Receiving}
 use Rattle.cfdp_receiver.specs.State.{ReceiverState, IsReady, opened_receiver}
 use Rattle.cfdp_directives.specs.declared.pdu.addressing.Addressing.{Addressing}
 use Rattle.cfdp_receiver.specs.Pieces.{piece_in, pieces_in, with_piece, staged_with}
-use Rattle.cfdp_receiver.specs.Does.{Keeps}
+use Rattle.cfdp_receiver.specs.Does.{Keeps, Scene}
 use Rattle.cfdp_receiver.proofs.Held.{within, within_parts, covered, contains-more, contains-missing}
 
 some_or : (o : Option OctetMap) → IsSome o → o ≡ Some (unwrap_or o map.empty)
@@ -257,48 +256,37 @@ held_octets_keep staged_old staged_new r gaps offset bytes now ranges all n h =
     ∙ kept_staged r.held gaps (staged_for staged_old r.addressing.id) offset bytes n ranges.union
     all h
 
-pub keeps_staged : (staged_old staged_new : TransactionId →
-    Option OctetMap) (old r new : ReceiverState) (told : List Indication)
-    (files_old files_new : FileMap) (gaps : List (ℕ × ℕ)) (offset : ℕ) (bytes : List ℕ) →
-    r ≡ old → new ≡ r → files_new ≡ files_old → OthersKeep r.addressing.id staged_old staged_new →
-    staged_new r.addressing.id
-    ≡ Some (staged_with (staged_for staged_old r.addressing.id) (pieces_in offset bytes gaps)) →
-    AreRangesOf (missing_from r.held offset (offset + length bytes)) gaps →
-    All (LiesIn offset (offset + length bytes)) gaps →
-    Keeps old new told told files_old files_new staged_old staged_new
-keeps_staged staged_old staged_new old r new told files_old files_new gaps offset bytes is same
-    files others now ranges all =
-    let P : ReceiverState →
-    Type 0 = λ s. Keeps s new told told files_old files_new staged_old staged_new in
-    subst P is (record {
-      receiver = same;
-      tells = refl;
+pub keeps_staged : (old new : Scene) (r : ReceiverState) (gaps : List (ℕ × ℕ)) (offset : ℕ) (bytes : List ℕ) →
+    r ≡ old.receiver → new.receiver ≡ r → new.told ≡ old.told → new.timers ≡ old.timers → new.files ≡ old.files → new.failures ≡ old.failures →
+    new.staged r.addressing.id ≡ Some (staged_with (staged_for old.staged r.addressing.id) (pieces_in offset bytes gaps)) →
+    AreRangesOf (missing_from r.held offset (offset + length bytes)) gaps → All (LiesIn offset (offset + length bytes)) gaps →
+    Keeps old new
+keeps_staged old new r gaps offset bytes is same told timers files failures now ranges all =
+    let kept : (n : ℕ) → set.contains r.held n ≡ true → map.get (staged_for new.staged r.addressing.id) n ≡ map.get (staged_for old.staged r.addressing.id) n =
+    held_octets_keep old.staged new.staged r gaps offset bytes now ranges all in
+    record {
+      receiver = same ∙ is;
+      tells = told;
+      timers = timers;
       files = files;
-      octets = held_octets_keep staged_old staged_new r gaps offset bytes now ranges all;
-      others = others;
-    })
+      octets = subst (λ (x : ReceiverState). (n : ℕ) → set.contains x.held n ≡ true → map.get (staged_for new.staged x.addressing.id) n ≡ map.get (staged_for old.staged x.addressing.id) n) is kept;
+      failures = failures;
+    }
 
 on_err : {T E P : Type 0} (r : Result T E) → P → OnErr r P
 on_err (Ok x) p = tt
 on_err (Err e) p = p
 
 -- where there was no room to hold them
-pub keeps_unheld : {T E : Type 0} (result : Result T E) (staged_old staged_new : TransactionId →
-    Option OctetMap) (old r : ReceiverState) (held : Offsets) (told : List Indication)
-    (files_old files_new : FileMap) (gaps : List (ℕ × ℕ)) (offset : ℕ) (bytes : List ℕ) →
-    r ≡ old → held ≡ r.held → files_new ≡ files_old →
-    OthersKeep r.addressing.id staged_old staged_new →
-    staged_new r.addressing.id
-    ≡ Some (staged_with (staged_for staged_old r.addressing.id) (pieces_in offset bytes gaps)) →
-    AreRangesOf (missing_from r.held offset (offset + length bytes)) gaps →
-    All (LiesIn offset (offset + length bytes)) gaps →
-    OnErr result (Keeps old (record r { held = held }) told told files_old files_new staged_old
-    staged_new)
-keeps_unheld result staged_old staged_new old r held told files_old files_new gaps offset bytes is
-    same files others now ranges all =
-    on_err result (keeps_staged staged_old staged_new old r (record r { held = held }) told
-    files_old files_new gaps offset bytes
-    is (ap (λ (h : Offsets). record r { held = h }) same) files others now ranges all)
+pub keeps_unheld : {T E : Type 0} (result : Result T E) (old : Scene) (r : ReceiverState) (held : Offsets) (files : FileMap) (staged : TransactionId → Option OctetMap) (failures : ℕ)
+    (gaps : List (ℕ × ℕ)) (offset : ℕ) (bytes : List ℕ) →
+    r ≡ old.receiver → held ≡ r.held → files ≡ old.files → failures ≡ old.failures →
+    staged r.addressing.id ≡ Some (staged_with (staged_for old.staged r.addressing.id) (pieces_in offset bytes gaps)) →
+    AreRangesOf (missing_from r.held offset (offset + length bytes)) gaps → All (LiesIn offset (offset + length bytes)) gaps →
+    OnErr result (Keeps old (record old { receiver = record r { held = held }; files = files; staged = staged; failures = failures }))
+keeps_unheld result old r held files staged failures gaps offset bytes is same are level now ranges all =
+    on_err result (keeps_staged old (record old { receiver = record r { held = held }; files = files; staged = staged; failures = failures }) r gaps offset bytes
+    is (ap (λ (h : Offsets). record r { held = h }) same) refl refl are level now ranges all)
 
 -- a receiver that has heard nothing yet is ready, once its transaction is begun
 pub ready_opened : (staged : TransactionId →

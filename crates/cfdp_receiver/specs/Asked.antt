@@ -4,7 +4,8 @@ use Rattle.std.specs.List.{AllByRecursion}
 use Rattle.cfdp_directives.specs.Pdu.Codes.{file_size_octets, size_limit}
 use Rattle.cfdp_directives.specs.Pdu.Pair.{IsPair}
 use Rattle.cfdp_receiver.specs.declared.asked.Asked.{Asked}
-use Rattle.cfdp_receiver.specs.Missing.{asked, has_more, last_end}
+use Rattle.cfdp_receiver.specs.State.{ReceiverState}
+use Rattle.cfdp_receiver.specs.Missing.{asked, has_more, last_end, missing_pairs}
 
 -- gaps, and Metadata ahead of them if it is asked for
 abbrev pub with_metadata : Bool → List (ℕ × ℕ) → List (ℕ × ℕ)
@@ -29,3 +30,9 @@ pub record AsksFor (all : List (ℕ × ℕ)) (a : Asked) : Type 0 where
   pub pairs : pairs_of a ≡ asked all
   pub end : a.end ≡ last_end 0 (asked all)
   pub more : a.more ≡ has_more all
+
+-- It is what a receiver asks for by a NAK from an offset on, and can be written.
+pub record IsAskedFrom (from : ℕ) (r : ReceiverState) (a : Asked) : Type 0 where
+  pub asks : AsksFor (missing_pairs from r) a
+  pub filled : IsFilled a
+  pub writable : IsWritable r.large a

@@ -1,6 +1,7 @@
 pub mod State
 pub mod Missing
 pub mod Due
+pub mod Said
 pub mod Pieces
 pub mod Steps
 pub mod Storing

@@ -1,15 +1,12 @@
 // How a transaction ends, and the completion test.
-ghost use Rattle.std.specs.Prelude.{◌≡◌, ◌+◌, ◌≤◌, ◌++◌, ◌∷◌, [], ◌-◌, ◌^◌, ◌<◌, None, true, false, vec_len, vec_capacity};
+ghost use Rattle.std.specs.Prelude.{◌≡◌, ◌+◌, ◌≤◌, ◌++◌, ◌∷◌, [], vec_len, vec_capacity, false};
 ghost use Rattle.cfdp_directives.specs.User.Policy.{finished_told, fault_told};
 ghost use Rattle.cfdp_directives.specs.Pdu.Codes.{filestore_rejection};
-ghost use Rattle.cfdp_store.specs.Staged.{OthersKeep, staged_for};
-ghost use Rattle.cfdp_store.specs.Chains.{Makes};
-ghost use Rattle.cfdp_store.specs.Stores.{Counts};
-ghost use Rattle.cfdp_receiver.specs.State.{is_receiving, IsReady};
+ghost use Rattle.cfdp_timers.specs.Effects.{UsesAtMost};
+ghost use Rattle.cfdp_receiver.specs.State.{is_receiving};
 ghost use Rattle.cfdp_receiver.specs.Steps as steps;
 ghost use Rattle.cfdp_receiver.specs.Steps.{ended, finishing, faulted, completed};
-ghost use Rattle.cfdp_receiver.specs.Does.{Does, Stores, LetsGo};
-ghost use Rattle.cfdp_receiver.specs.Storing.{Discards, Settles};
+ghost use Rattle.cfdp_receiver.specs.Does.{Advances, IsOpen, LetsGo, Performs, timers_kept};
 
 use crate::receiver::Receiver;
 use crate::state::{Ending, FileInfo, ReceiverPhase};
@@ -19,6 +16,7 @@ use cfdp_directives::{
 };
 use cfdp_header::TransactionId;
 use cfdp_store::{Inbox, Stored};
+use cfdp_timers::Effects;
 
 impl Receiver {
     /// Receives no more, and lets go of all that it kept for that.
@@ -52,8 +50,7 @@ impl Receiver {
             (record { condition = condition; delivery = delivery; status = status }) self.old }
         ensures tells { told.new.items ≡ told.old.items ++ finished_told self.old.addressing.id
             (record { condition = condition; delivery = delivery; status = status }) ∷ [] }
-        ensures told_room { vec_len told.new + vec_capacity told.old
-            ≤ vec_len told.old + 1 + vec_capacity told.new }
+        ensures told_room { UsesAtMost 1 told.old told.new }
     {
         tell_finished(told, self.addressing.id, condition, delivery, status);
         self.end(ReceiverPhase::Finishing);
@@ -67,15 +64,7 @@ impl Receiver {
 
     /// Lets what is staged for the transaction go. That the inbox fails has no other effect.
     pub(crate) fn discard<I: Inbox>(&self, inbox: &mut I)
-        ensures published { I.published inbox.new ≡ I.published inbox.old }
-        ensures others { OthersKeep self.now.addressing.id
-            (I.staged inbox.old) (I.staged inbox.new) }
-        ensures counts { I.failures inbox.old ≤ I.failures inbox.new }
-        ensures lets_go { I.failures inbox.old < 2 ^ 64 - 1
-            → I.failures inbox.new ≡ I.failures inbox.old
-            → I.staged inbox.new self.now.addressing.id ≡ None }
-        ensures calls { Discards (Makes I.steps I.failures) self.now.addressing.id
-            inbox.old inbox.new }
+        ensures { LetsGo I.Inbox self.now.addressing.id inbox.old inbox.new }
     {
         let _ = inbox.discard(self.addressing.id);
     }
@@ -92,17 +81,8 @@ impl Receiver {
         ensures tells { told.new.items ≡ told.old.items
             ++ (fault_told Handler.Cancel self.old.addressing.id condition
             ++ finished_told self.old.addressing.id (steps.failed condition) ∷ []) }
-        ensures published { I.published inbox.new ≡ I.published inbox.old }
-        ensures others { OthersKeep self.old.addressing.id
-            (I.staged inbox.old) (I.staged inbox.new) }
-        ensures counts { I.failures inbox.old ≤ I.failures inbox.new }
-        ensures lets_go { I.failures inbox.old < 2 ^ 64 - 1
-            → I.failures inbox.new ≡ I.failures inbox.old
-            → I.staged inbox.new self.old.addressing.id ≡ None }
-        ensures told_room { vec_len told.new + vec_capacity told.old
-            ≤ vec_len told.old + 2 + vec_capacity told.new }
-        ensures calls { Discards (Makes I.steps I.failures) self.old.addressing.id
-            inbox.old inbox.new }
+        ensures told_room { UsesAtMost 2 told.old told.new }
+        ensures lets_go { LetsGo I.Inbox self.old.addressing.id inbox.old inbox.new }
     {
         self.discard(inbox);
         tell_fault(told, Handler::Cancel, self.addressing.id, condition);
@@ -117,26 +97,13 @@ impl Receiver {
     /// The completion test, and what follows from it: where Metadata and EOF were heard and all of
     /// the file is held, it is published if the checksum agrees.
     #[tactic(auto, using(crate::proofs::StagedLemmas::staged_is))]
-    pub(crate) fn complete<I: Inbox>(&mut self, told: &mut Vec<Indication>, inbox: &mut I) -> Stored
-        requires room { vec_len told.old + 2 ≤ vec_capacity told.old }
-        requires ready { IsReady (I.staged inbox.old) self.old }
-        requires receiving { self.old.phase ≡ ReceiverPhase.Receiving }
-        ensures does { Does (completed result
-            (staged_for (I.staged inbox.old) self.old.addressing.id) (I.published inbox.old)
-            self.old) self.new told.old.items told.new.items }
-        ensures refused { result ≡ Stored.Refused → Does (faulted filestore_rejection
-            (staged_for (I.staged inbox.old) self.old.addressing.id) (I.published inbox.old)
-            self.old) self.new told.old.items told.new.items }
-        ensures stores { Stores (completed result
-            (staged_for (I.staged inbox.old) self.old.addressing.id) (I.published inbox.old)
-            self.old) (I.published inbox.new) (I.staged inbox.old) (I.staged inbox.new) }
-        ensures ready { IsReady (I.staged inbox.new) self.new }
-        ensures addressing { self.new.addressing ≡ self.old.addressing }
-        ensures counts { Counts result (I.failures inbox.old) (I.failures inbox.new) }
-        ensures lets_go { LetsGo self.old self.new (I.failures inbox.old) (I.failures inbox.new)
-            (I.staged inbox.new) }
-        ensures calls { Settles (Makes I.steps I.failures) result self.old self.new
-            inbox.old inbox.new }
+    pub(crate) fn complete<I: Inbox>(&mut self, effects: &mut Effects, inbox: &mut I) -> Stored
+        requires ready { IsOpen I.Inbox 2 self.old effects.old inbox.old }
+        ensures advances { Advances I.Inbox result (completed result)
+            self.old self.new effects.old effects.new inbox.old inbox.new }
+        ensures refused { result ≡ Stored.Refused
+            → Performs I.Inbox timers_kept result (faulted filestore_rejection)
+            self.old self.new effects.old effects.new inbox.old inbox.new }
     {
         let (Some(info), Some(ending)) = (&self.metadata, self.ending) else {
             return Stored::Done;
@@ -145,18 +112,19 @@ impl Receiver {
             return Stored::Done;
         }
         if !agrees(info, &ending, self.checksum.value()) {
-            self.fault(told, inbox, Condition::FILE_CHECKSUM_FAILURE);
+            self.fault(&mut effects.told, inbox, Condition::FILE_CHECKSUM_FAILURE);
             return Stored::Done;
         }
         let name = info.destination.as_slice();
         match inbox.publish(self.addressing.id, name, ending.size) {
             Ok(()) => {
                 let condition = Condition::NO_ERROR;
+                let told = &mut effects.told;
                 self.finish(told, condition, Delivery::Complete, FileStatus::Retained);
                 Stored::Done
             }
             Err(_) => {
-                self.fault(told, inbox, Condition::FILESTORE_REJECTION);
+                self.fault(&mut effects.told, inbox, Condition::FILESTORE_REJECTION);
                 Stored::Refused
             }
         }
@@ -192,8 +160,7 @@ pub(crate) fn tell_finished(
     requires { vec_len told.old + 1 ≤ vec_capacity told.old }
     ensures tells { told.new.items ≡ told.old.items ++ finished_told id
         (record { condition = condition; delivery = delivery; status = status }) ∷ [] }
-    ensures told_room { vec_len told.new + vec_capacity told.old
-        ≤ vec_len told.old + 1 + vec_capacity told.new }
+    ensures told_room { UsesAtMost 1 told.old told.new }
 {
     tell(
         told,

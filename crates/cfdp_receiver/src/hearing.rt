@@ -1,21 +1,17 @@
 // What a receiver hears.
-ghost use Rattle.std.specs.Prelude.{◌≡◌, Option, ◌++◌, ◌∷◌, [], None, ◌+◌, ◌≤◌, ◌<◌, ◌-◌, ◌^◌, ◌&&◌, true, false, Some, IfOk, OnErr, vec_len, vec_capacity, length};
+ghost use Rattle.std.specs.Prelude.{◌≡◌, ◌++◌, ◌∷◌, [], ◌+◌, ◌≤◌, true, false, IfOk, OnErr, vec_len, vec_capacity, length};
 ghost use Rattle.std.specs.FinSet as set;
 ghost use Rattle.cfdp_directives.specs.User.Policy.{finished_told};
-ghost use Rattle.cfdp_store.specs.Staged.{OctetMap, OthersKeep, staged_for};
-ghost use Rattle.cfdp_store.specs.Chains.{Makes};
-ghost use Rattle.cfdp_store.specs.Stores.{Counts};
-ghost use Rattle.cfdp_timers.specs.declared.kind.Kind.TheVariants as kinds;
-ghost use Rattle.cfdp_header.specs.Files.{FileMap};
-ghost use Rattle.cfdp_header.specs.declared.value.TransactionId.{TransactionId};
-ghost use Rattle.cfdp_receiver.specs.State.{IsReady, flagged};
 ghost use Rattle.cfdp_directives.specs.Pdu.Codes as codes;
+ghost use Rattle.cfdp_timers.specs.declared.kind.Kind.TheVariants as kinds;
+ghost use Rattle.cfdp_timers.specs.Effects.{HasRoom};
+ghost use Rattle.cfdp_receiver.specs.State.{IsReady, flagged};
 ghost use Rattle.cfdp_receiver.specs.Missing.{tidied};
 ghost use Rattle.cfdp_receiver.specs.Steps as steps;
 ghost use Rattle.cfdp_receiver.specs.Steps.{cancelled, given_up, contradicts, receives_metadata, receives_data, receives_new, receives_eof, first_eof, hears_metadata, hears_data, hears_eof, hears_ack, hears_prompt};
-ghost use Rattle.cfdp_receiver.specs.Does.{Does, Stores, LetsGo, Keeps, timers_set};
+ghost use Rattle.cfdp_receiver.specs.Does.{Advances, DoesAlone, IsOpen, Keeps, Kept, KeptAlone, LetsGo, MakesIn, Performs, Rests, at, flagging, timers_kept, timers_set};
 ghost use Rattle.cfdp_receiver.specs.Pieces.{new_pieces};
-ghost use Rattle.cfdp_receiver.specs.Storing.{Discards, Settles, Stages, staged_pieces, writes};
+ghost use Rattle.cfdp_receiver.specs.Storing.{Settles, Stages, staged_pieces, writes};
 
 use crate::ending::tell_finished;
 use crate::receiver::Receiver;
@@ -26,7 +22,7 @@ use cfdp_directives::{
     tell,
 };
 use cfdp_store::{Inbox, Stored};
-use cfdp_timers::{Kind, Timers};
+use cfdp_timers::{Effects, Kind, Timers};
 use std::alloc::AllocError;
 
 /// What Metadata says of its file.
@@ -46,35 +42,17 @@ impl Receiver {
     /// The first Metadata, or another. An error leaves all as it was.
     fn receive_metadata<I: Inbox>(
         &mut self,
-        told: &mut Vec<Indication>,
+        effects: &mut Effects,
         inbox: &mut I,
         metadata: &Metadata<'_>,
     ) -> Result<Stored, AllocError>
-        requires room { vec_len told.old + 3 ≤ vec_capacity told.old }
-        requires ready { IsReady (I.staged inbox.old) self.old }
-        requires receiving { self.old.phase ≡ ReceiverPhase.Receiving }
-        ensures does { IfOk result (λ stored. Does (receives_metadata stored
-            metadata.now.checksum_kind metadata.now.size metadata.now.source.now
-            metadata.now.destination.now
-            (staged_for (I.staged inbox.old) self.old.addressing.id) (I.published inbox.old)
-            self.old) self.new told.old.items told.new.items) }
-        ensures stores { IfOk result (λ stored. Stores (receives_metadata stored
-            metadata.now.checksum_kind metadata.now.size metadata.now.source.now
-            metadata.now.destination.now
-            (staged_for (I.staged inbox.old) self.old.addressing.id) (I.published inbox.old)
-            self.old) (I.published inbox.new) (I.staged inbox.old) (I.staged inbox.new)) }
-        ensures keeps { OnErr result (self.new ≡ self.old) }
-        ensures keeps_told { OnErr result (told.new.items ≡ told.old.items) }
-        ensures keeps_inbox { OnErr result (inbox.new ≡ inbox.old) }
-        ensures ready { IsReady (I.staged inbox.new) self.new }
-        ensures addressing { self.new.addressing ≡ self.old.addressing }
-        ensures counts { IfOk result (λ stored.
-            Counts stored (I.failures inbox.old) (I.failures inbox.new)) }
-        ensures grows { I.failures inbox.old ≤ I.failures inbox.new }
-        ensures lets_go { LetsGo self.old self.new (I.failures inbox.old) (I.failures inbox.new)
-            (I.staged inbox.new) }
-        ensures calls { IfOk result (λ stored. Settles (Makes I.steps I.failures) stored
-            self.old self.new inbox.old inbox.new) }
+        requires ready { IsOpen I.Inbox 3 self.old effects.old inbox.old }
+        ensures advances { IfOk result (λ stored. Advances I.Inbox stored
+            (receives_metadata stored metadata.now.checksum_kind metadata.now.size
+            metadata.now.source.now metadata.now.destination.now)
+            self.old self.new effects.old effects.new inbox.old inbox.new) }
+        ensures rests { OnErr result
+            (Rests self.old self.new effects.old effects.new inbox.old inbox.new) }
     {
         if self.metadata.is_some() {
             return Ok(Stored::Done);
@@ -83,7 +61,7 @@ impl Receiver {
         let destination = Octets::copied(self.alloc, metadata.destination)?;
         let name = Octets::copied(self.alloc, metadata.destination)?;
         tell(
-            told,
+            &mut effects.told,
             Indication::MetadataRecv {
                 id: self.addressing.id,
                 source,
@@ -97,8 +75,9 @@ impl Receiver {
         });
         self.nak_count = 0;
         if is_supported(metadata.checksum_kind) {
-            return Ok(self.complete(told, inbox));
+            return Ok(self.complete(effects, inbox));
         }
+        let told = &mut effects.told;
         self.fault(told, inbox, Condition::UNSUPPORTED_CHECKSUM_TYPE);
         Ok(Stored::Done)
     }
@@ -112,48 +91,28 @@ impl Receiver {
     /// `AllocError` where there is no memory for the names. All is then as it was.
     pub fn on_metadata<I: Inbox>(
         &mut self,
-        timers: &mut Timers,
-        policy: &Policy,
-        told: &mut Vec<Indication>,
+        effects: &mut Effects,
         inbox: &mut I,
+        policy: &Policy,
         large: bool,
         metadata: &Metadata<'_>,
     ) -> Result<Stored, AllocError>
-        requires has_room { set.contains timers.old.roomy self.old.addressing.id ≡ true }
-        requires room { vec_len told.old + 3 ≤ vec_capacity told.old }
+        requires room { HasRoom self.old.addressing.id effects.old }
         requires ready { IsReady (I.staged inbox.old) self.old }
-        ensures does { IfOk result (λ stored. Does (hears_metadata stored
-            metadata.now.checksum_kind metadata.now.size metadata.now.source.now
-            metadata.now.destination.now
-            (staged_for (I.staged inbox.old) self.old.addressing.id) (I.published inbox.old)
-            (flagged large self.old)) self.new told.old.items told.new.items) }
-        ensures stores { IfOk result (λ stored. Stores (hears_metadata stored
-            metadata.now.checksum_kind metadata.now.size metadata.now.source.now
-            metadata.now.destination.now
-            (staged_for (I.staged inbox.old) self.old.addressing.id) (I.published inbox.old)
-            (flagged large self.old)) (I.published inbox.new)
-            (I.staged inbox.old) (I.staged inbox.new)) }
-        ensures timers { IfOk result (λ stored. timers.new
-            ≡ timers_set policy.now.times (Some kinds.Inactivity) self.new timers.old) }
-        ensures keeps { OnErr result (Keeps self.old self.new told.old.items told.new.items
-            (I.published inbox.old) (I.published inbox.new)
-            (I.staged inbox.old) (I.staged inbox.new)) }
-        ensures keeps_inbox { OnErr result (inbox.new ≡ inbox.old) }
-        ensures keeps_timers { OnErr result (timers.new ≡ timers.old) }
-        ensures ready { IsReady (I.staged inbox.new) self.new }
-        ensures addressing { self.new.addressing ≡ self.old.addressing }
-        ensures counts { IfOk result (λ stored.
-            Counts stored (I.failures inbox.old) (I.failures inbox.new)) }
-        ensures grows { I.failures inbox.old ≤ I.failures inbox.new }
-        ensures lets_go { LetsGo self.old self.new (I.failures inbox.old) (I.failures inbox.new)
-            (I.staged inbox.new) }
-        ensures calls { IfOk result (λ stored. Settles (Makes I.steps I.failures) stored
-            self.old self.new inbox.old inbox.new) }
+        ensures does { IfOk result (λ stored. Performs I.Inbox (timers_set policy.now.times) stored
+            (flagging large (hears_metadata stored metadata.now.checksum_kind metadata.now.size
+            metadata.now.source.now metadata.now.destination.now))
+            self.old self.new effects.old effects.new inbox.old inbox.new) }
+        ensures rests { OnErr result
+            (Rests self.old self.new effects.old effects.new inbox.old inbox.new) }
+        ensures kept { Kept I.Inbox self.old self.new inbox.old inbox.new }
+        ensures calls { IfOk result (λ stored.
+            Settles (MakesIn I.Inbox) stored self.old self.new inbox.old inbox.new) }
     {
         let before = self.large;
         self.raise(large);
         let stored = if self.phase == ReceiverPhase::Receiving {
-            match self.receive_metadata(told, inbox, metadata) {
+            match self.receive_metadata(effects, inbox, metadata) {
                 Ok(stored) => stored,
                 Err(e) => {
                     self.large = before;
@@ -163,7 +122,7 @@ impl Receiver {
         } else {
             Stored::Done
         };
-        self.heard(timers, policy);
+        self.heard(&mut effects.timers, policy);
         Ok(stored)
     }
 
@@ -171,84 +130,56 @@ impl Receiver {
     /// offsets that aren't held.
     fn receive_data<I: Inbox>(
         &mut self,
-        told: &mut Vec<Indication>,
+        effects: &mut Effects,
         inbox: &mut I,
         large: bool,
         offset: u64,
         bytes: &[u8],
     ) -> Result<Stored, AllocError>
-        requires room { vec_len told.old + 3 ≤ vec_capacity told.old }
-        requires ready { IsReady (I.staged inbox.old) self.old }
-        requires receiving { self.old.phase ≡ ReceiverPhase.Receiving }
+        requires ready { IsOpen I.Inbox 3 self.old effects.old inbox.old }
         requires limit { codes.size_limit large ≤ codes.size_limit self.old.large }
-        ensures does { IfOk result (λ stored. Does (receives_data stored large offset bytes.now
-            (staged_for (I.staged inbox.old) self.old.addressing.id) (I.published inbox.old)
-            self.old) self.new told.old.items told.new.items) }
-        ensures stores { IfOk result (λ stored. Stores (receives_data stored large offset bytes.now
-            (staged_for (I.staged inbox.old) self.old.addressing.id) (I.published inbox.old)
-            self.old) (I.published inbox.new) (I.staged inbox.old) (I.staged inbox.new)) }
-        ensures keeps { OnErr result (Keeps self.old self.new told.old.items told.new.items
-            (I.published inbox.old) (I.published inbox.new)
-            (I.staged inbox.old) (I.staged inbox.new)) }
-        ensures ready { IsReady (I.staged inbox.new) self.new }
-        ensures addressing { self.new.addressing ≡ self.old.addressing }
-        ensures counts { IfOk result (λ stored.
-            Counts stored (I.failures inbox.old) (I.failures inbox.new)) }
-        ensures grows { I.failures inbox.old ≤ I.failures inbox.new }
-        ensures lets_go { LetsGo self.old self.new (I.failures inbox.old) (I.failures inbox.new)
-            (I.staged inbox.new) }
-        ensures calls { IfOk result (λ stored. Stages (Makes I.steps I.failures) stored
+        ensures does { IfOk result (λ stored. Performs I.Inbox timers_kept stored
+            (receives_data stored large offset bytes.now)
+            self.old self.new effects.old effects.new inbox.old inbox.new) }
+        ensures keeps { OnErr result (Keeps (at I.Inbox self.old effects.old inbox.old)
+            (at I.Inbox self.new effects.new inbox.new)) }
+        ensures kept { Kept I.Inbox self.old self.new inbox.old inbox.new }
+        ensures calls { IfOk result (λ stored. Stages (MakesIn I.Inbox) stored
             (staged_pieces large offset bytes.now self.old) self.old self.new inbox.old inbox.new) }
-        ensures keeps_calls { OnErr result (Makes I.steps I.failures (writes
-            self.old.addressing.id (staged_pieces large offset bytes.now self.old))
-            inbox.old inbox.new) }
-        ensures keeps_failures { OnErr result (I.failures inbox.new ≡ I.failures inbox.old) }
+        ensures keeps_calls { OnErr result (MakesIn I.Inbox (writes self.old.addressing.id
+            (staged_pieces large offset bytes.now self.old)) inbox.old inbox.new) }
     {
         if exceeds(large, self.ending, offset, bytes.len()) {
-            self.fault(told, inbox, Condition::FILE_SIZE_ERROR);
+            self.fault(&mut effects.told, inbox, Condition::FILE_SIZE_ERROR);
             return Ok(Stored::Done);
         }
         let end = offset + bytes.len() as u64;
         if self.held.covers(offset, end) {
-            return Ok(self.complete(told, inbox));
+            return Ok(self.complete(effects, inbox));
         }
-        self.receive_new(told, inbox, offset, bytes)
+        self.receive_new(effects, inbox, offset, bytes)
     }
 
     /// Octets of which some are new: those are staged, summed and held.
     fn receive_new<I: Inbox>(
         &mut self,
-        told: &mut Vec<Indication>,
+        effects: &mut Effects,
         inbox: &mut I,
         offset: u64,
         bytes: &[u8],
     ) -> Result<Stored, AllocError>
-        requires room { vec_len told.old + 3 ≤ vec_capacity told.old }
-        requires ready { IsReady (I.staged inbox.old) self.old }
-        requires receiving { self.old.phase ≡ ReceiverPhase.Receiving }
+        requires ready { IsOpen I.Inbox 3 self.old effects.old inbox.old }
         requires fits { offset + length bytes.now ≤ codes.size_limit self.old.large }
-        ensures does { IfOk result (λ stored. Does (receives_new stored offset bytes.now
-            (staged_for (I.staged inbox.old) self.old.addressing.id) (I.published inbox.old)
-            self.old) self.new told.old.items told.new.items) }
-        ensures stores { IfOk result (λ stored. Stores (receives_new stored offset bytes.now
-            (staged_for (I.staged inbox.old) self.old.addressing.id) (I.published inbox.old)
-            self.old) (I.published inbox.new) (I.staged inbox.old) (I.staged inbox.new)) }
-        ensures keeps { OnErr result (Keeps self.old self.new told.old.items told.new.items
-            (I.published inbox.old) (I.published inbox.new)
-            (I.staged inbox.old) (I.staged inbox.new)) }
-        ensures ready { IsReady (I.staged inbox.new) self.new }
-        ensures addressing { self.new.addressing ≡ self.old.addressing }
-        ensures counts { IfOk result (λ stored.
-            Counts stored (I.failures inbox.old) (I.failures inbox.new)) }
-        ensures grows { I.failures inbox.old ≤ I.failures inbox.new }
-        ensures lets_go { LetsGo self.old self.new (I.failures inbox.old) (I.failures inbox.new)
-            (I.staged inbox.new) }
-        ensures calls { IfOk result (λ stored. Stages (Makes I.steps I.failures) stored
+        ensures does { IfOk result (λ stored. Performs I.Inbox timers_kept stored
+            (receives_new stored offset bytes.now)
+            self.old self.new effects.old effects.new inbox.old inbox.new) }
+        ensures keeps { OnErr result (Keeps (at I.Inbox self.old effects.old inbox.old)
+            (at I.Inbox self.new effects.new inbox.new)) }
+        ensures kept { Kept I.Inbox self.old self.new inbox.old inbox.new }
+        ensures calls { IfOk result (λ stored. Stages (MakesIn I.Inbox) stored
             (new_pieces self.old.held offset bytes.now) self.old self.new inbox.old inbox.new) }
-        ensures keeps_calls { OnErr result (Makes I.steps I.failures (writes
-            self.old.addressing.id (new_pieces self.old.held offset bytes.now))
-            inbox.old inbox.new) }
-        ensures keeps_failures { OnErr result (I.failures inbox.new ≡ I.failures inbox.old) }
+        ensures keeps_calls { OnErr result (MakesIn I.Inbox (writes self.old.addressing.id
+            (new_pieces self.old.held offset bytes.now)) inbox.old inbox.new) }
     {
         let end = offset + bytes.len() as u64;
         let mut checksum = self.checksum;
@@ -265,10 +196,10 @@ impl Receiver {
                 self.held.insert(offset, end)?;
                 self.checksum = checksum;
                 self.nak_count = 0;
-                Ok(self.complete(told, inbox))
+                Ok(self.complete(effects, inbox))
             }
             Stored::Refused => {
-                self.fault(told, inbox, Condition::FILESTORE_REJECTION);
+                self.fault(&mut effects.told, inbox, Condition::FILESTORE_REJECTION);
                 Ok(Stored::Refused)
             }
         }
@@ -285,48 +216,30 @@ impl Receiver {
     /// octets may be staged at offsets that aren't held.
     pub fn on_data<I: Inbox>(
         &mut self,
-        timers: &mut Timers,
-        policy: &Policy,
-        told: &mut Vec<Indication>,
+        effects: &mut Effects,
         inbox: &mut I,
+        policy: &Policy,
         large: bool,
         offset: u64,
         bytes: &[u8],
     ) -> Result<Stored, AllocError>
-        requires has_room { set.contains timers.old.roomy self.old.addressing.id ≡ true }
-        requires room { vec_len told.old + 3 ≤ vec_capacity told.old }
+        requires room { HasRoom self.old.addressing.id effects.old }
         requires ready { IsReady (I.staged inbox.old) self.old }
-        ensures does { IfOk result (λ stored. Does (hears_data stored large offset bytes.now
-            (staged_for (I.staged inbox.old) self.old.addressing.id) (I.published inbox.old)
-            (flagged large self.old)) self.new told.old.items told.new.items) }
-        ensures stores { IfOk result (λ stored. Stores (hears_data stored large offset bytes.now
-            (staged_for (I.staged inbox.old) self.old.addressing.id) (I.published inbox.old)
-            (flagged large self.old)) (I.published inbox.new)
-            (I.staged inbox.old) (I.staged inbox.new)) }
-        ensures timers { IfOk result (λ stored. timers.new
-            ≡ timers_set policy.now.times (Some kinds.Inactivity) self.new timers.old) }
-        ensures keeps { OnErr result (Keeps self.old self.new told.old.items told.new.items
-            (I.published inbox.old) (I.published inbox.new)
-            (I.staged inbox.old) (I.staged inbox.new)) }
-        ensures keeps_timers { OnErr result (timers.new ≡ timers.old) }
-        ensures ready { IsReady (I.staged inbox.new) self.new }
-        ensures addressing { self.new.addressing ≡ self.old.addressing }
-        ensures counts { IfOk result (λ stored.
-            Counts stored (I.failures inbox.old) (I.failures inbox.new)) }
-        ensures grows { I.failures inbox.old ≤ I.failures inbox.new }
-        ensures lets_go { LetsGo self.old self.new (I.failures inbox.old) (I.failures inbox.new)
-            (I.staged inbox.new) }
-        ensures calls { IfOk result (λ stored. Stages (Makes I.steps I.failures) stored
+        ensures does { IfOk result (λ stored. Performs I.Inbox (timers_set policy.now.times) stored
+            (flagging large (hears_data stored large offset bytes.now))
+            self.old self.new effects.old effects.new inbox.old inbox.new) }
+        ensures keeps { OnErr result (Keeps (at I.Inbox self.old effects.old inbox.old)
+            (at I.Inbox self.new effects.new inbox.new)) }
+        ensures kept { Kept I.Inbox self.old self.new inbox.old inbox.new }
+        ensures calls { IfOk result (λ stored. Stages (MakesIn I.Inbox) stored
             (staged_pieces large offset bytes.now self.old) self.old self.new inbox.old inbox.new) }
-        ensures keeps_calls { OnErr result (Makes I.steps I.failures (writes
-            self.old.addressing.id (staged_pieces large offset bytes.now self.old))
-            inbox.old inbox.new) }
-        ensures keeps_failures { OnErr result (I.failures inbox.new ≡ I.failures inbox.old) }
+        ensures keeps_calls { OnErr result (MakesIn I.Inbox (writes self.old.addressing.id
+            (staged_pieces large offset bytes.now self.old)) inbox.old inbox.new) }
     {
         let before = self.large;
         self.raise(large);
         let stored = if self.phase == ReceiverPhase::Receiving {
-            match self.receive_data(told, inbox, large, offset, bytes) {
+            match self.receive_data(effects, inbox, large, offset, bytes) {
                 Ok(stored) => stored,
                 Err(e) => {
                     self.large = before;
@@ -336,43 +249,31 @@ impl Receiver {
         } else {
             Stored::Done
         };
-        self.heard(timers, policy);
+        self.heard(&mut effects.timers, policy);
         Ok(stored)
     }
 
     /// An EOF of an open transaction.
     fn receive_eof<I: Inbox>(
         &mut self,
-        told: &mut Vec<Indication>,
+        effects: &mut Effects,
         inbox: &mut I,
         large: bool,
         condition: Condition,
         ending: Ending,
     ) -> Stored
-        requires room { vec_len told.old + 3 ≤ vec_capacity told.old }
-        requires ready { IsReady (I.staged inbox.old) self.old }
-        requires receiving { self.old.phase ≡ ReceiverPhase.Receiving }
+        requires ready { IsOpen I.Inbox 3 self.old effects.old inbox.old }
         requires limit { codes.size_limit large ≤ codes.size_limit self.old.large }
-        ensures does { Does (receives_eof result large condition ending.checksum ending.size
-            (staged_for (I.staged inbox.old) self.old.addressing.id) (I.published inbox.old)
-            self.old) self.new told.old.items told.new.items }
-        ensures stores { Stores (receives_eof result large condition ending.checksum ending.size
-            (staged_for (I.staged inbox.old) self.old.addressing.id) (I.published inbox.old)
-            self.old) (I.published inbox.new) (I.staged inbox.old) (I.staged inbox.new) }
-        ensures ready { IsReady (I.staged inbox.new) self.new }
-        ensures addressing { self.new.addressing ≡ self.old.addressing }
-        ensures counts { Counts result (I.failures inbox.old) (I.failures inbox.new) }
-        ensures lets_go { LetsGo self.old self.new (I.failures inbox.old) (I.failures inbox.new)
-            (I.staged inbox.new) }
-        ensures calls { Settles (Makes I.steps I.failures) result self.old self.new
-            inbox.old inbox.new }
+        ensures advances { Advances I.Inbox result
+            (receives_eof result large condition ending.checksum ending.size)
+            self.old self.new effects.old effects.new inbox.old inbox.new }
     {
         if condition != Condition::NO_ERROR {
-            self.cancel_by_sender(told, inbox, condition);
+            self.cancel_by_sender(&mut effects.told, inbox, condition);
             return Stored::Done;
         }
         if self.ending.is_none() {
-            return self.receive_first_eof(told, inbox, large, ending);
+            return self.receive_first_eof(effects, inbox, large, ending);
         }
         self.ack_due = Some(Condition::NO_ERROR);
         self.nak_cursor = Some(0);
@@ -382,39 +283,27 @@ impl Receiver {
     /// The first EOF without an error: what is still missing is asked for.
     fn receive_first_eof<I: Inbox>(
         &mut self,
-        told: &mut Vec<Indication>,
+        effects: &mut Effects,
         inbox: &mut I,
         large: bool,
         ending: Ending,
     ) -> Stored
-        requires room { vec_len told.old + 3 ≤ vec_capacity told.old }
-        requires ready { IsReady (I.staged inbox.old) self.old }
-        requires receiving { self.old.phase ≡ ReceiverPhase.Receiving }
+        requires ready { IsOpen I.Inbox 3 self.old effects.old inbox.old }
         requires limit { codes.size_limit large ≤ codes.size_limit self.old.large }
-        ensures does { Does (first_eof result large ending.checksum ending.size
-            (staged_for (I.staged inbox.old) self.old.addressing.id) (I.published inbox.old)
-            self.old) self.new told.old.items told.new.items }
-        ensures stores { Stores (first_eof result large ending.checksum ending.size
-            (staged_for (I.staged inbox.old) self.old.addressing.id) (I.published inbox.old)
-            self.old) (I.published inbox.new) (I.staged inbox.old) (I.staged inbox.new) }
-        ensures ready { IsReady (I.staged inbox.new) self.new }
-        ensures addressing { self.new.addressing ≡ self.old.addressing }
-        ensures counts { Counts result (I.failures inbox.old) (I.failures inbox.new) }
-        ensures lets_go { LetsGo self.old self.new (I.failures inbox.old) (I.failures inbox.new)
-            (I.staged inbox.new) }
-        ensures calls { Settles (Makes I.steps I.failures) result self.old self.new
-            inbox.old inbox.new }
+        ensures advances { Advances I.Inbox result
+            (first_eof result large ending.checksum ending.size)
+            self.old self.new effects.old effects.new inbox.old inbox.new }
     {
-        tell(told, Indication::EofRecv(self.addressing.id));
+        tell(&mut effects.told, Indication::EofRecv(self.addressing.id));
         self.ack_due = Some(Condition::NO_ERROR);
         if self.contradicts(large, ending.size) {
-            self.fault(told, inbox, Condition::FILE_SIZE_ERROR);
+            self.fault(&mut effects.told, inbox, Condition::FILE_SIZE_ERROR);
             self.ending = Some(ending);
             return Stored::Done;
         }
         self.ending = Some(ending);
         self.nak_cursor = Some(0);
-        self.complete(told, inbox)
+        self.complete(effects, inbox)
     }
 
     /// Whether the size that an EOF tells is below what is held, or above the greatest size, by its
@@ -437,15 +326,7 @@ impl Receiver {
         ensures receiver { self.new ≡ cancelled condition self.old }
         ensures tells { told.new.items ≡ told.old.items
             ++ finished_told self.old.addressing.id (given_up condition) ∷ [] }
-        ensures published { I.published inbox.new ≡ I.published inbox.old }
-        ensures others { OthersKeep self.old.addressing.id
-            (I.staged inbox.old) (I.staged inbox.new) }
-        ensures counts { I.failures inbox.old ≤ I.failures inbox.new }
-        ensures lets_go { I.failures inbox.old < 2 ^ 64 - 1
-            → I.failures inbox.new ≡ I.failures inbox.old
-            → I.staged inbox.new self.old.addressing.id ≡ None }
-        ensures calls { Discards (Makes I.steps I.failures) self.old.addressing.id
-            inbox.old inbox.new }
+        ensures lets_go { LetsGo I.Inbox self.old.addressing.id inbox.old inbox.new }
     {
         self.discard(inbox);
         let (delivery, status) = (Delivery::Incomplete, FileStatus::Discarded);
@@ -465,75 +346,62 @@ impl Receiver {
     /// size below what is held, or above the greatest size, is a fault. Takes no memory.
     pub fn on_eof<I: Inbox>(
         &mut self,
-        timers: &mut Timers,
-        policy: &Policy,
-        told: &mut Vec<Indication>,
+        effects: &mut Effects,
         inbox: &mut I,
+        policy: &Policy,
         large: bool,
         condition: Condition,
         ending: Ending,
     ) -> Stored
-        requires has_room { set.contains timers.old.roomy self.old.addressing.id ≡ true }
-        requires room { vec_len told.old + 3 ≤ vec_capacity told.old }
+        requires room { HasRoom self.old.addressing.id effects.old }
         requires ready { IsReady (I.staged inbox.old) self.old }
-        ensures does { Does (hears_eof result large condition ending.checksum ending.size
-            (staged_for (I.staged inbox.old) self.old.addressing.id) (I.published inbox.old)
-            (flagged large self.old)) self.new told.old.items told.new.items }
-        ensures stores { Stores (hears_eof result large condition ending.checksum ending.size
-            (staged_for (I.staged inbox.old) self.old.addressing.id) (I.published inbox.old)
-            (flagged large self.old)) (I.published inbox.new)
-            (I.staged inbox.old) (I.staged inbox.new) }
-        ensures timers { timers.new
-            ≡ timers_set policy.now.times (Some kinds.Inactivity) self.new timers.old }
-        ensures ready { IsReady (I.staged inbox.new) self.new }
-        ensures addressing { self.new.addressing ≡ self.old.addressing }
-        ensures counts { Counts result (I.failures inbox.old) (I.failures inbox.new) }
-        ensures lets_go { LetsGo self.old self.new (I.failures inbox.old) (I.failures inbox.new)
-            (I.staged inbox.new) }
-        ensures calls { Settles (Makes I.steps I.failures) result self.old self.new
-            inbox.old inbox.new }
+        ensures does { Performs I.Inbox (timers_set policy.now.times) result
+            (flagging large (hears_eof result large condition ending.checksum ending.size))
+            self.old self.new effects.old effects.new inbox.old inbox.new }
+        ensures kept { Kept I.Inbox self.old self.new inbox.old inbox.new }
+        ensures calls { Settles (MakesIn I.Inbox) result self.old self.new inbox.old inbox.new }
     {
         self.raise(large);
         let stored = if self.phase == ReceiverPhase::Receiving {
-            self.receive_eof(told, inbox, large, condition, ending)
+            self.receive_eof(effects, inbox, large, condition, ending)
         } else {
             self.ack_due = Some(condition);
             Stored::Done
         };
-        self.heard(timers, policy);
+        self.heard(&mut effects.timers, policy);
         stored
     }
 
     /// Hears an ACK of Finished, with its large file flag, whatever it says. Where the Finished was
     /// sent the transaction is closed; otherwise nothing changes but that flag. Takes no memory.
-    pub fn on_ack(&mut self, timers: &mut Timers, policy: &Policy, large: bool)
-        requires has_room { set.contains timers.old.roomy self.old.addressing.id ≡ true }
-        ensures receiver { (m : OctetMap) (files : FileMap) → self.new
-            ≡ (hears_ack m files (flagged large self.old)).receiver }
-        ensures ready { (staged : TransactionId → Option OctetMap) →
-            IsReady staged self.old → IsReady staged self.new }
-        ensures addressing { self.new.addressing ≡ self.old.addressing }
-        ensures timers { timers.new
-            ≡ timers_set policy.now.times (Some kinds.Inactivity) self.new timers.old }
+    pub fn on_ack(&mut self, effects: &mut Effects, policy: &Policy, large: bool)
+        requires timers { set.contains effects.old.timers.roomy self.old.addressing.id ≡ true }
+        ensures does { DoesAlone policy.now.times (flagging large hears_ack) self.old self.new
+            effects.old effects.new }
+        ensures told { effects.new.told ≡ effects.old.told }
+        ensures kept { KeptAlone self.old self.new }
     {
         self.raise(large);
         if self.phase == ReceiverPhase::Finishing && self.finished_taken {
             self.end(ReceiverPhase::Closed);
         }
-        self.heard(timers, policy);
+        self.heard(&mut effects.timers, policy);
     }
 
     /// Hears a Prompt, with its large file flag. In Receiving a Keep Alive is due, or a NAK;
     /// otherwise nothing changes but that flag. Takes no memory.
-    pub fn on_prompt(&mut self, timers: &mut Timers, policy: &Policy, large: bool, keep_alive: bool)
-        requires has_room { set.contains timers.old.roomy self.old.addressing.id ≡ true }
-        ensures receiver { (m : OctetMap) (files : FileMap) → self.new
-            ≡ (hears_prompt keep_alive m files (flagged large self.old)).receiver }
-        ensures ready { (staged : TransactionId → Option OctetMap) →
-            IsReady staged self.old → IsReady staged self.new }
-        ensures addressing { self.new.addressing ≡ self.old.addressing }
-        ensures timers { timers.new
-            ≡ timers_set policy.now.times (Some kinds.Inactivity) self.new timers.old }
+    pub fn on_prompt(
+        &mut self,
+        effects: &mut Effects,
+        policy: &Policy,
+        large: bool,
+        keep_alive: bool,
+    )
+        requires timers { set.contains effects.old.timers.roomy self.old.addressing.id ≡ true }
+        ensures does { DoesAlone policy.now.times (flagging large (hears_prompt keep_alive))
+            self.old self.new effects.old effects.new }
+        ensures told { effects.new.told ≡ effects.old.told }
+        ensures kept { KeptAlone self.old self.new }
     {
         self.raise(large);
         if self.phase == ReceiverPhase::Receiving {
@@ -543,7 +411,7 @@ impl Receiver {
                 self.nak_cursor = Some(0);
             }
         }
-        self.heard(timers, policy);
+        self.heard(&mut effects.timers, policy);
     }
 
     /// A PDU with this large file flag is heard: what is sent has the flag once one was.

@@ -4,11 +4,10 @@
 //!
 //! ```rust
 //! let address = Addressing::of(&header);
-//! let (mut receiver, _) =
-//!     Receiver::open(alloc, address, false, &mut timers, &mut told, &mut inbox)?;
-//! receiver.on_data(&mut timers, &policy, &mut told, &mut inbox, false, 0, b"hello")?;
+//! let (mut receiver, _) = Receiver::open(alloc, &mut effects, &mut inbox, address, false)?;
+//! receiver.on_data(&mut effects, &mut inbox, &policy, false, 0, b"hello")?;
 //! if receiver.due().is_some() {
-//!     let len = receiver.take_pdu(&mut timers, &policy, &mut out);
+//!     let len = receiver.take_pdu(&mut effects, &policy, &mut out);
 //!     // The PDU is the first `len` octets of `out`.
 //! }
 //! ```

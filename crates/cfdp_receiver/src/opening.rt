@@ -2,18 +2,16 @@
 ghost use Rattle.std.specs.Prelude.{◌≡◌, ◌+◌, ◌≤◌, true, IfOk, OnOk, OnErr, vec_len, vec_capacity};
 ghost use Rattle.std.specs.FinSet as set;
 ghost use Rattle.cfdp_directives.specs.Pdu.Addressing.{FitsAddressing};
-ghost use Rattle.cfdp_store.specs.Chains.{Makes};
-ghost use Rattle.cfdp_store.specs.Stores.{Counts};
-ghost use Rattle.cfdp_receiver.specs.State.{IsReady};
+ghost use Rattle.cfdp_receiver.specs.State.{opened_receiver};
 ghost use Rattle.cfdp_receiver.specs.Steps.{opens, opened_closed};
-ghost use Rattle.cfdp_receiver.specs.Does.{Does, Stores};
+ghost use Rattle.cfdp_receiver.specs.Does.{Kept, MakesIn, Performs, timers_kept, with_room};
 ghost use Rattle.cfdp_receiver.specs.Storing.{Begins};
 
 use crate::receiver::Receiver;
 use crate::state::ReceiverPhase;
-use cfdp_directives::{Addressing, Condition, Indication};
+use cfdp_directives::{Addressing, Condition};
 use cfdp_store::{Inbox, Stored};
-use cfdp_timers::Timers;
+use cfdp_timers::Effects;
 use std::alloc::{AllocError, Global};
 
 impl Receiver {
@@ -28,44 +26,37 @@ impl Receiver {
     /// `AllocError` where there is no memory for its timers. All is then as it was.
     pub fn open<I: Inbox>(
         alloc: Global,
+        effects: &mut Effects,
+        inbox: &mut I,
         addressing: Addressing,
         large: bool,
-        timers: &mut Timers,
-        told: &mut Vec<Indication>,
-        inbox: &mut I,
     ) -> Result<(Receiver, Stored), AllocError>
         requires addressing { FitsAddressing addressing }
-        requires room { vec_len told.old + 3 ≤ vec_capacity told.old }
-        ensures does { IfOk result (λ opened. Does
-            (opens opened.1 large (I.published inbox.old) addressing)
-            opened.0 told.old.items told.new.items) }
-        ensures stores { IfOk result (λ opened. Stores
-            (opens opened.1 large (I.published inbox.old) addressing)
-            (I.published inbox.new) (I.staged inbox.old) (I.staged inbox.new)) }
+        requires room { vec_len effects.old.told + 3 ≤ vec_capacity effects.old.told }
+        ensures does { IfOk result (λ opened. Performs I.Inbox timers_kept opened.1
+            (λ m files r. opens opened.1 large files addressing)
+            (opened_receiver addressing) opened.0
+            (with_room addressing.id effects.old) effects.new inbox.old inbox.new) }
         ensures tells_nothing { IfOk result (λ opened.
-            opened.1 ≡ Stored.Done → told.new ≡ told.old) }
-        ensures timers { OnOk result (timers.new
-            ≡ record timers.old { roomy = set.insert timers.old.roomy addressing.id }) }
-        ensures addressing { IfOk result (λ opened. opened.0.addressing ≡ addressing) }
-        ensures keeps_told { OnErr result (told.new.items ≡ told.old.items) }
-        ensures keeps_inbox { OnErr result (inbox.new ≡ inbox.old) }
-        ensures keeps_timers { OnErr result (timers.new ≡ timers.old) }
-        ensures has_room { OnOk result (set.contains timers.new.roomy addressing.id ≡ true) }
-        ensures ready { IfOk result (λ opened. IsReady (I.staged inbox.new) opened.0) }
-        ensures counts { IfOk result (λ opened.
-            Counts opened.1 (I.failures inbox.old) (I.failures inbox.new)) }
-        ensures calls { IfOk result (λ opened. Begins (Makes I.steps I.failures) opened.1
-            addressing.id inbox.old inbox.new) }
+            opened.1 ≡ Stored.Done → effects.new.told ≡ effects.old.told) }
+        ensures has_room { OnOk result
+            (set.contains effects.new.timers.roomy addressing.id ≡ true) }
+        ensures kept { IfOk result (λ opened.
+            Kept I.Inbox (opened_receiver addressing) opened.0 inbox.old inbox.new) }
+        ensures calls { IfOk result (λ opened.
+            Begins (MakesIn I.Inbox) opened.1 addressing.id inbox.old inbox.new) }
         ensures begun { IfOk result (λ opened. opened.1 ≡ Stored.Done
             → I.failures inbox.new ≡ I.failures inbox.old) }
+        ensures keeps_effects { OnErr result (effects.new ≡ effects.old) }
+        ensures keeps_inbox { OnErr result (inbox.new ≡ inbox.old) }
     {
-        timers.room(addressing.id)?;
+        effects.timers.room(addressing.id)?;
         let mut receiver = Receiver::new(alloc, addressing);
         match inbox.begin(addressing.id) {
             Ok(()) => Ok((receiver, Stored::Done)),
             Err(_) => {
                 receiver.raise(large);
-                receiver.fault(told, inbox, Condition::FILESTORE_REJECTION);
+                receiver.fault(&mut effects.told, inbox, Condition::FILESTORE_REJECTION);
                 Ok((receiver, Stored::Refused))
             }
         }
@@ -80,20 +71,20 @@ impl Receiver {
     /// `AllocError` where there is no memory for its timers. All is then as it was.
     pub fn open_closed(
         alloc: Global,
+        effects: &mut Effects,
         addressing: Addressing,
         large: bool,
-        timers: &mut Timers,
         condition: Condition,
     ) -> Result<Receiver, AllocError>
         requires addressing { FitsAddressing addressing }
         ensures receiver { IfOk result (λ receiver.
             receiver ≡ opened_closed large condition addressing) }
-        ensures timers { OnOk result (timers.new
-            ≡ record timers.old { roomy = set.insert timers.old.roomy addressing.id }) }
-        ensures keeps_timers { OnErr result (timers.new ≡ timers.old) }
-        ensures has_room { OnOk result (set.contains timers.new.roomy addressing.id ≡ true) }
+        ensures effects { OnOk result (effects.new ≡ with_room addressing.id effects.old) }
+        ensures has_room { OnOk result
+            (set.contains effects.new.timers.roomy addressing.id ≡ true) }
+        ensures keeps { OnErr result (effects.new ≡ effects.old) }
     {
-        timers.room(addressing.id)?;
+        effects.timers.room(addressing.id)?;
         let mut receiver = Receiver::new(alloc, addressing);
         receiver.end(ReceiverPhase::Closed);
         receiver.raise(large);

@@ -19,7 +19,7 @@ use std::marker::Model;
 /// The receiving side of one transaction (CCSDS 727.0-B-5, 4.6.1.2 and 4.6.4).
 ///
 /// It keeps which octets of the file are held, and their checksum, but no octets: those are staged
-/// in the inbox that each call is lent. The caller lends the same inbox and the same timers each
+/// in the inbox that each call is lent. The caller lends the same inbox and the same effects each
 /// time, makes room for three more indications before a call, and sends what is due.
 #[derive(Debug, Drop)]
 pub struct Receiver {

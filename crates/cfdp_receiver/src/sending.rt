@@ -1,22 +1,17 @@
 // What a receiver sends.
-ghost use Rattle.std.specs.Prelude.{◌≡◌, ◌≤◌, Option, Some, is_some, IsSome, IfSome, take, drop, length, true, false};
-ghost use Rattle.std.specs.FinSet as set;
-ghost use Rattle.cfdp_header.specs.declared.value.TransactionId.{TransactionId};
-ghost use Rattle.cfdp_directives.specs.Pdu.Addressing as addressings;
-ghost use Rattle.cfdp_directives.specs.Pdu.Codes.{file_size_octets, size_limit};
-ghost use Rattle.cfdp_directives.specs.Pdu.Content.{view};
-ghost use Rattle.cfdp_directives.specs.Pdu.Written.{content_len, FitsContent, CanWrite, pdu_octets};
+ghost use Rattle.std.specs.Prelude.{◌≡◌, ◌≤◌, Some, is_some, IsSome, IfSome, length, true};
 ghost use Rattle.std.specs.List.{flat_map};
+ghost use Rattle.std.specs.FinSet as set;
+ghost use Rattle.cfdp_directives.specs.Pdu.Content.{view};
 ghost use Rattle.cfdp_directives.specs.Pdu.Tlv.{tlv};
-ghost use Rattle.cfdp_store.specs.Staged.{OctetMap};
 ghost use Rattle.cfdp_receiver.specs.declared.due.Due.TheVariants as due_is;
-ghost use Rattle.cfdp_receiver.specs.State.{IsReady};
-ghost use Rattle.cfdp_receiver.specs.Missing.{missing_pairs};
-ghost use Rattle.cfdp_receiver.specs.Asked.{IsFilled, IsWritable, AsksFor};
+ghost use Rattle.cfdp_receiver.specs.Asked.{IsAskedFrom};
 ghost use Rattle.cfdp_receiver.specs.Due as dues;
-ghost use Rattle.cfdp_receiver.specs.Due.{receiver_due, receiver_says, receiver_taken, nak_first, finished_by, due_len, location_told, IsWritableIn};
+ghost use Rattle.cfdp_receiver.specs.Due.{receiver_due, receiver_taken, nak_first, finished_by, due_len, location_told, IsWritableIn};
+ghost use Rattle.cfdp_receiver.specs.Said.{said_len, CanSay, IsLenOf, Says, Writes};
 ghost use Rattle.cfdp_receiver.specs.Steps as steps;
-ghost use Rattle.cfdp_receiver.specs.Does.{timers_set};
+ghost use Rattle.cfdp_receiver.specs.Steps.{takes};
+ghost use Rattle.cfdp_receiver.specs.Does.{DoesAlone, KeptAlone};
 
 use crate::asked::{Asked, count_asked};
 use crate::due::Due;
@@ -26,7 +21,7 @@ use cfdp_directives::{
     Acknowledged, Condition, Outcome, Pdu, Policy, Tlvs, TransactionStatus, nak_len,
 };
 use cfdp_header::Header;
-use cfdp_timers::{Kind, Timers};
+use cfdp_timers::{Effects, Kind};
 
 impl Receiver {
     /// Octets of the PDU that is due, its header too; `None` where none is, as while the
@@ -35,8 +30,7 @@ impl Receiver {
     pub fn due(&self) -> Option<usize>
         ensures len { result ≡ due_len self.now }
         ensures short { IfSome result (λ len. len ≤ 4128) }
-        ensures can_write { IfSome (receiver_due self.now) (λ d. let v = receiver_says self.now d in
-            CanWrite (addressings.header_of self.now.addressing self.now.large v) v) }
+        ensures can_write { IfSome (receiver_due self.now) (λ d. CanSay self.now d) }
     {
         let due = self.next_due()?;
         Some(self.len_of(&due))
@@ -52,28 +46,23 @@ impl Receiver {
 
     /// Writes the PDU that is due into the first octets of `out`, and says how many they are. The
     /// octets behind stay. Takes no memory.
-    pub fn take_pdu(&mut self, timers: &mut Timers, policy: &Policy, out: &mut [u8]) -> usize
-        requires has_room { set.contains timers.old.roomy self.old.addressing.id ≡ true }
+    pub fn take_pdu(&mut self, effects: &mut Effects, policy: &Policy, out: &mut [u8]) -> usize
+        requires timers { set.contains effects.old.timers.roomy self.old.addressing.id ≡ true }
         requires due { IsSome (due_len self.old) }
         requires fits { IfSome (due_len self.old) (λ len. len ≤ length out.old) }
         ensures len { due_len self.old ≡ Some result }
-        ensures front { IfSome (receiver_due self.old) (λ d. let v = receiver_says self.old d in
-            take result out.new
-            ≡ pdu_octets (addressings.header_of self.old.addressing self.old.large v) v) }
-        ensures behind { drop result out.new ≡ drop result out.old }
-        ensures receiver { IfSome (receiver_due self.old) (λ d.
-            self.new ≡ receiver_taken d self.old) }
-        ensures timers { IfSome (receiver_due self.old) (λ d. timers.new
-            ≡ timers_set policy.now.times (steps.anew_once_taken d) self.new timers.old) }
-        ensures ready { (staged : TransactionId → Option OctetMap) →
-            IsReady staged self.old → IsReady staged self.new }
-        ensures addressing { self.new.addressing ≡ self.old.addressing }
+        ensures writes { IfSome (receiver_due self.old) (λ d.
+            Writes self.old d result out.old out.new) }
+        ensures does { IfSome (receiver_due self.old) (λ d.
+            DoesAlone policy.now.times (takes d) self.old self.new effects.old effects.new) }
+        ensures told { effects.new.told ≡ effects.old.told }
+        ensures kept { KeptAlone self.old self.new }
     {
         let Some(due) = self.next_due() else {
             return 0;
         };
         let len = self.send(&due, out);
-        self.set_timers(timers, policy, anew_once_taken(&due));
+        self.set_timers(&mut effects.timers, policy, anew_once_taken(&due));
         len
     }
 
@@ -127,12 +116,7 @@ impl Receiver {
     /// Octets of the PDU, its header too.
     fn len_of(&self, due: &Due) -> usize
         requires { IsWritableIn self.now due.now }
-        ensures len { result
-            ≡ addressings.written_len self.now.addressing self.now.large
-            (receiver_says self.now due.now) }
-        ensures short { result ≤ 4128 }
-        ensures can_write { let v = receiver_says self.now due.now in
-            CanWrite (addressings.header_of self.now.addressing self.now.large v) v }
+        ensures { IsLenOf self.now due.now result }
     {
         match due {
             Due::AckOfEof(condition) => self
@@ -150,14 +134,8 @@ impl Receiver {
     /// gathered once it is written.
     #[tactic(auto, using(crate::proofs::AskedLemmas::nak_fits))]
     fn len_of_nak(&self, cursor: u64) -> usize
-        requires receiving { self.now.phase ≡ ReceiverPhase.Receiving }
-        requires cursor { cursor ≤ size_limit self.now.large }
-        ensures len { result
-            ≡ addressings.written_len self.now.addressing self.now.large
-            (receiver_says self.now (due_is.Nak cursor)) }
-        ensures short { result ≤ 4128 }
-        ensures can_write { let v = receiver_says self.now (due_is.Nak cursor) in
-            CanWrite (addressings.header_of self.now.addressing self.now.large v) v }
+        requires { IsWritableIn self.now (due_is.Nak cursor) }
+        ensures { IsLenOf self.now (due_is.Nak cursor) result }
     {
         let gaps = self.held.missing_in(cursor, self.scope_limit());
         let pairs = count_asked(self.asks_for_metadata(cursor), gaps);
@@ -168,19 +146,10 @@ impl Receiver {
     /// Writes the PDU, and goes on behind it.
     fn send(&mut self, due: &Due, out: &mut [u8]) -> usize
         requires writable { IsWritableIn self.old due.now }
-        requires room { addressings.written_len self.old.addressing self.old.large
-            (receiver_says self.old due.now) ≤ length out.old }
-        ensures len { result
-            ≡ addressings.written_len self.old.addressing self.old.large
-            (receiver_says self.old due.now) }
-        ensures front { let v = receiver_says self.old due.now in
-            take result out.new
-            ≡ pdu_octets (addressings.header_of self.old.addressing self.old.large v) v }
-        ensures behind { drop result out.new ≡ drop result out.old }
+        requires room { said_len self.old due.now ≤ length out.old }
+        ensures writes { Writes self.old due.now result out.old out.new }
         ensures receiver { self.new ≡ receiver_taken due.now self.old }
-        ensures ready { (staged : TransactionId → Option OctetMap) →
-            IsReady staged self.old → IsReady staged self.new }
-        ensures addressing { self.new.addressing ≡ self.old.addressing }
+        ensures kept { KeptAlone self.old self.new }
     {
         match due {
             Due::AckOfEof(condition) => {
@@ -217,9 +186,7 @@ impl Receiver {
     }
 
     fn ack<'a>(&self, condition: Condition) -> Pdu<'a>
-        ensures says { view result ≡ receiver_says self.now (due_is.AckOfEof condition) }
-        ensures fits { FitsContent (file_size_octets self.now.large) (view result) }
-        ensures short { content_len (file_size_octets self.now.large) (view result) ≤ 4100 }
+        ensures { Says self.now (due_is.AckOfEof condition) (view result) }
     {
         let _any_condition_fits = condition.code();
         Pdu::Ack {
@@ -231,9 +198,7 @@ impl Receiver {
 
     #[tactic(auto, using(crate::proofs::AskedLemmas::fits_field))]
     fn keep_alive<'a>(&self) -> Pdu<'a>
-        ensures says { view result ≡ receiver_says self.now due_is.KeepAlive }
-        ensures fits { FitsContent (file_size_octets self.now.large) (view result) }
-        ensures short { content_len (file_size_octets self.now.large) (view result) ≤ 4100 }
+        ensures { Says self.now due_is.KeepAlive (view result) }
     {
         Pdu::KeepAlive {
             progress: self.held_end(),
@@ -241,9 +206,7 @@ impl Receiver {
     }
 
     fn finished<'a>(&self, outcome: &Outcome) -> Pdu<'a>
-        ensures says { view result ≡ receiver_says self.now (due_is.Finished outcome.now) }
-        ensures fits { FitsContent (file_size_octets self.now.large) (view result) }
-        ensures short { content_len (file_size_octets self.now.large) (view result) ≤ 4100 }
+        ensures { Says self.now (due_is.Finished outcome.now) (view result) }
     {
         let condition = outcome.condition;
         let _any_condition_fits = condition.code();
@@ -269,14 +232,9 @@ impl Receiver {
 
     #[tactic(auto, using(crate::proofs::AskedLemmas::fits_field))]
     fn nak<'a>(&self, cursor: u64, asked: &'a Asked) -> Pdu<'a>
-        requires receiving { self.now.phase ≡ ReceiverPhase.Receiving }
-        requires cursor { cursor ≤ size_limit self.now.large }
-        requires asks { AsksFor (missing_pairs cursor self.now) asked.now }
-        requires filled { IsFilled asked.now }
-        requires writable { IsWritable self.now.large asked.now }
-        ensures says { view result ≡ receiver_says self.now (due_is.Nak cursor) }
-        ensures fits { FitsContent (file_size_octets self.now.large) (view result) }
-        ensures short { content_len (file_size_octets self.now.large) (view result) ≤ 4100 }
+        requires writable { IsWritableIn self.now (due_is.Nak cursor) }
+        requires asked { IsAskedFrom cursor self.now asked.now }
+        ensures { Says self.now (due_is.Nak cursor) (view result) }
     {
         Pdu::Nak {
             start: cursor,
@@ -288,9 +246,7 @@ impl Receiver {
     /// What a NAK from an offset on asks for.
     fn asked(&self, cursor: u64) -> Asked
         requires { self.now.phase ≡ ReceiverPhase.Receiving }
-        ensures asks { AsksFor (missing_pairs cursor self.now) result }
-        ensures filled { IsFilled result }
-        ensures writable { IsWritable self.now.large result }
+        ensures { IsAskedFrom cursor self.now result }
     {
         let limit = self.scope_limit();
         let gaps = self.held.missing_in(cursor, limit);

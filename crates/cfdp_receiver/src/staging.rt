@@ -1,15 +1,9 @@
 // File data on its way into the inbox.
-ghost use Rattle.std.specs.Prelude.{◌≡◌, [], ◌∷◌, ◌+◌, ◌-◌, ◌<◌, ◌^◌, Some, IsSome, length, take, drop};
+ghost use Rattle.std.specs.Prelude.{◌≡◌, [], ◌∷◌, ◌+◌, ◌-◌, ◌<◌, ◌^◌, IsSome, length, take, drop};
 ghost use Rattle.std.specs.List.{All};
-ghost use Rattle.cfdp_directives.specs.Pdu.Checksum.{added};
 ghost use Rattle.cfdp_extents.specs.Offsets.{LiesIn};
-ghost use Rattle.cfdp_store.specs.Staged.{OthersKeep, staged_for};
-ghost use Rattle.cfdp_store.specs.Calls.{Write};
-ghost use Rattle.cfdp_store.specs.Chains.{Makes};
-ghost use Rattle.cfdp_store.specs.Stores.{Counts};
-ghost use Rattle.cfdp_store.specs.declared.error.StoreError.{StoreError};
-ghost use Rattle.cfdp_receiver.specs.Pieces.{pieces_in, with_piece, staged_with, sum_with};
-ghost use Rattle.cfdp_receiver.specs.Storing.{StopsAt, writes};
+ghost use Rattle.cfdp_receiver.specs.Pieces.{pieces_in};
+ghost use Rattle.cfdp_receiver.specs.Does.{StagesAll};
 
 use cfdp_directives::Checksum;
 use cfdp_extents::Gaps;
@@ -36,17 +30,8 @@ fn stage_piece<I: Inbox>(
     piece: &[u8],
 ) -> Stored
     requires begun { IsSome (I.staged inbox.old id) }
-    ensures staged { result ≡ Stored.Done → I.staged inbox.new id ≡ Some (with_piece
-        (staged_for (I.staged inbox.old) id) (record { offset = start; bytes = piece.now })) }
-    ensures sums { result ≡ Stored.Done
-        → checksum.new ≡ added checksum.old (record { offset = start; bytes = piece.now }) }
-    ensures others { OthersKeep id (I.staged inbox.old) (I.staged inbox.new) }
-    ensures published { I.published inbox.new ≡ I.published inbox.old }
-    ensures counts { Counts result (I.failures inbox.old) (I.failures inbox.new) }
-    ensures writes { result ≡ Stored.Done → Makes I.steps I.failures
-        (Write id start piece.now (Ok tt) ∷ []) inbox.old inbox.new }
-    ensures fails { result ≡ Stored.Refused → (error : StoreError) × Makes I.steps I.failures
-        (Write id start piece.now (Err error) ∷ []) inbox.old inbox.new }
+    ensures { StagesAll I.Inbox result id (record { offset = start; bytes = piece.now } ∷ [])
+        checksum.old checksum.new inbox.old inbox.new }
 {
     match inbox.write(id, start, piece) {
         Ok(()) => {
@@ -70,17 +55,8 @@ pub(crate) fn stage<I: Inbox>(
     requires begun { IsSome (I.staged inbox.old id) }
     requires fits { offset + length bytes.now < 2 ^ 64 }
     requires inside { All (LiesIn offset (offset + length bytes.now)) gaps }
-    ensures staged { result ≡ Stored.Done → I.staged inbox.new id ≡ Some (staged_with
-        (staged_for (I.staged inbox.old) id) (pieces_in offset bytes.now gaps.entry)) }
-    ensures sums { result ≡ Stored.Done
-        → checksum.new ≡ sum_with checksum.old (pieces_in offset bytes.now gaps.entry) }
-    ensures others { OthersKeep id (I.staged inbox.old) (I.staged inbox.new) }
-    ensures published { I.published inbox.new ≡ I.published inbox.old }
-    ensures counts { Counts result (I.failures inbox.old) (I.failures inbox.new) }
-    ensures writes { result ≡ Stored.Done → Makes I.steps I.failures
-        (writes id (pieces_in offset bytes.now gaps.entry)) inbox.old inbox.new }
-    ensures fails { result ≡ Stored.Refused → StopsAt (Makes I.steps I.failures) id
-        (pieces_in offset bytes.now gaps.entry) [] inbox.old inbox.new }
+    ensures { StagesAll I.Inbox result id (pieces_in offset bytes.now gaps.entry)
+        checksum.old checksum.new inbox.old inbox.new }
 {
     for (start, end) in gaps {
         let piece = piece(offset, bytes, start, end);

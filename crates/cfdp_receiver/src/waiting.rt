@@ -1,16 +1,12 @@
 // What a receiver does once a timer expires, and the calls of its user.
-ghost use Rattle.std.specs.Prelude.{◌≡◌, Option, ◌+◌, ◌≤◌, ◌<◌, ◌-◌, true, false, None, Some, vec_len, vec_capacity};
-ghost use Rattle.std.specs.FinSet as set;
-ghost use Rattle.cfdp_store.specs.Staged.{OctetMap, staged_for};
-ghost use Rattle.cfdp_header.specs.Files.{FileMap};
-ghost use Rattle.cfdp_header.specs.declared.value.TransactionId.{TransactionId};
+ghost use Rattle.std.specs.Prelude.{◌≡◌, ◌+◌, ◌≤◌, vec_len, vec_capacity};
 ghost use Rattle.cfdp_timers.specs.declared.kind.Kind.TheVariants as kinds;
-ghost use Rattle.cfdp_receiver.specs.State.{is_receiving, IsReady};
+ghost use Rattle.cfdp_timers.specs.Effects.{HasRoom, UsesAtMost};
+ghost use Rattle.cfdp_receiver.specs.State.{IsReady};
 ghost use Rattle.cfdp_receiver.specs.Steps as steps;
 ghost use Rattle.cfdp_receiver.specs.Steps.{handled, expires_by, expires, cancels, suspends, resumes};
-ghost use Rattle.cfdp_receiver.specs.Does.{Does, Stores, LetsGo, timers_set};
+ghost use Rattle.cfdp_receiver.specs.Does.{Advances, DoesAlone, IsOpen, Kept, KeptAlone, LeavesAlone, MakesIn, Performs, timers_set};
 ghost use Rattle.cfdp_receiver.specs.Storing.{Settles};
-ghost use Rattle.cfdp_store.specs.Chains.{Makes};
 
 use crate::receiver::Receiver;
 use crate::state::ReceiverPhase;
@@ -18,36 +14,23 @@ use cfdp_directives::{
     Condition, Delivery, FileStatus, Handler, Indication, Policy, another_try, tell, tell_fault,
 };
 use cfdp_store::{Inbox, Stored};
-use cfdp_timers::{Kind, Timers};
+use cfdp_timers::{Effects, Kind};
 
 impl Receiver {
     /// A fault for which there is a choice, while it receives.
     fn handle<I: Inbox>(
         &mut self,
-        told: &mut Vec<Indication>,
+        effects: &mut Effects,
         inbox: &mut I,
         handler: Handler,
         condition: Condition,
     )
-        requires room { vec_len told.old + 2 ≤ vec_capacity told.old }
-        requires ready { IsReady (I.staged inbox.old) self.old }
-        requires receiving { self.old.phase ≡ ReceiverPhase.Receiving }
-        ensures does { Does (handled handler condition
-            (staged_for (I.staged inbox.old) self.old.addressing.id) (I.published inbox.old)
-            self.old) self.new told.old.items told.new.items }
-        ensures stores { Stores (handled handler condition
-            (staged_for (I.staged inbox.old) self.old.addressing.id) (I.published inbox.old)
-            self.old) (I.published inbox.new) (I.staged inbox.old) (I.staged inbox.new) }
-        ensures ready { IsReady (I.staged inbox.new) self.new }
-        ensures addressing { self.new.addressing ≡ self.old.addressing }
-        ensures grows { I.failures inbox.old ≤ I.failures inbox.new }
-        ensures lets_go { LetsGo self.old self.new (I.failures inbox.old) (I.failures inbox.new)
-            (I.staged inbox.new) }
-        ensures calls { Settles (Makes I.steps I.failures) Stored.Done self.old self.new
-            inbox.old inbox.new }
-        ensures told_room { vec_len told.new + vec_capacity told.old
-            ≤ vec_len told.old + 2 + vec_capacity told.new }
+        requires ready { IsOpen I.Inbox 2 self.old effects.old inbox.old }
+        ensures advances { Advances I.Inbox Stored.Done (handled handler condition)
+            self.old self.new effects.old effects.new inbox.old inbox.new }
+        ensures told_room { UsesAtMost 2 effects.old.told effects.new.told }
     {
+        let told = &mut effects.told;
         match handler {
             Handler::Cancel => self.fault(told, inbox, condition),
             Handler::Suspend => {
@@ -68,32 +51,18 @@ impl Receiver {
     }
 
     /// What is missing didn't come.
-    fn expire_nak<I: Inbox>(&mut self, told: &mut Vec<Indication>, inbox: &mut I, policy: &Policy)
-        requires room { vec_len told.old + 2 ≤ vec_capacity told.old }
-        requires ready { IsReady (I.staged inbox.old) self.old }
-        requires receiving { self.old.phase ≡ ReceiverPhase.Receiving }
-        ensures does { Does (expires_by kinds.Nak policy.now
-            (staged_for (I.staged inbox.old) self.old.addressing.id) (I.published inbox.old)
-            self.old) self.new told.old.items told.new.items }
-        ensures stores { Stores (expires_by kinds.Nak policy.now
-            (staged_for (I.staged inbox.old) self.old.addressing.id) (I.published inbox.old)
-            self.old) (I.published inbox.new) (I.staged inbox.old) (I.staged inbox.new) }
-        ensures ready { IsReady (I.staged inbox.new) self.new }
-        ensures addressing { self.new.addressing ≡ self.old.addressing }
-        ensures grows { I.failures inbox.old ≤ I.failures inbox.new }
-        ensures lets_go { LetsGo self.old self.new (I.failures inbox.old) (I.failures inbox.new)
-            (I.staged inbox.new) }
-        ensures calls { Settles (Makes I.steps I.failures) Stored.Done self.old self.new
-            inbox.old inbox.new }
-        ensures told_room { vec_len told.new + vec_capacity told.old
-            ≤ vec_len told.old + 2 + vec_capacity told.new }
+    fn expire_nak<I: Inbox>(&mut self, effects: &mut Effects, inbox: &mut I, policy: &Policy)
+        requires ready { IsOpen I.Inbox 2 self.old effects.old inbox.old }
+        ensures advances { Advances I.Inbox Stored.Done (expires_by kinds.Nak policy.now)
+            self.old self.new effects.old effects.new inbox.old inbox.new }
+        ensures told_room { UsesAtMost 2 effects.old.told effects.new.told }
     {
         if let Some(count) = another_try(self.nak_count, policy.limits.nak) {
             self.nak_count = count;
             self.nak_cursor = Some(0);
             return;
         }
-        self.handle(told, inbox, policy.handlers.nak, Condition::NAK_LIMIT);
+        self.handle(effects, inbox, policy.handlers.nak, Condition::NAK_LIMIT);
         if policy.handlers.nak == Handler::Ignore {
             self.nak_cursor = Some(0);
         }
@@ -103,13 +72,10 @@ impl Receiver {
     fn expire_finished(&mut self, told: &mut Vec<Indication>, policy: &Policy)
         requires room { vec_len told.old + 2 ≤ vec_capacity told.old }
         requires finishing { self.old.phase ≡ ReceiverPhase.Finishing }
-        ensures does { (m : OctetMap) (files : FileMap) →
-            Does (expires_by kinds.FinishedAck policy.now m files self.old)
-            self.new told.old.items told.new.items }
-        ensures phase { is_receiving self.new.phase ≡ false }
-        ensures addressing { self.new.addressing ≡ self.old.addressing }
-        ensures told_room { vec_len told.new + vec_capacity told.old
-            ≤ vec_len told.old + 2 + vec_capacity told.new }
+        ensures leaves { LeavesAlone (expires_by kinds.FinishedAck policy.now) self.old self.new
+            told.old told.new }
+        ensures kept { KeptAlone self.old self.new }
+        ensures told_room { UsesAtMost 2 told.old told.new }
     {
         match another_try(self.finished_count, policy.limits.finished) {
             Some(count) => {
@@ -130,131 +96,91 @@ impl Receiver {
     /// stays. Otherwise nothing changes. Takes no memory.
     pub fn expire<I: Inbox>(
         &mut self,
-        timers: &mut Timers,
-        policy: &Policy,
-        told: &mut Vec<Indication>,
+        effects: &mut Effects,
         inbox: &mut I,
+        policy: &Policy,
         kind: Kind,
     )
-        requires has_room { set.contains timers.old.roomy self.old.addressing.id ≡ true }
-        requires room { vec_len told.old + 3 ≤ vec_capacity told.old }
+        requires room { HasRoom self.old.addressing.id effects.old }
         requires ready { IsReady (I.staged inbox.old) self.old }
-        ensures does { Does (expires kind policy.now
-            (staged_for (I.staged inbox.old) self.old.addressing.id) (I.published inbox.old)
-            self.old) self.new told.old.items told.new.items }
-        ensures stores { Stores (expires kind policy.now
-            (staged_for (I.staged inbox.old) self.old.addressing.id) (I.published inbox.old)
-            self.old) (I.published inbox.new) (I.staged inbox.old) (I.staged inbox.new) }
-        ensures timers { timers.new ≡ timers_set policy.now.times (expires kind policy.now
-            (staged_for (I.staged inbox.old) self.old.addressing.id) (I.published inbox.old)
-            self.old).anew self.new timers.old }
-        ensures ready { IsReady (I.staged inbox.new) self.new }
-        ensures addressing { self.new.addressing ≡ self.old.addressing }
-        ensures grows { I.failures inbox.old ≤ I.failures inbox.new }
-        ensures lets_go { LetsGo self.old self.new (I.failures inbox.old) (I.failures inbox.new)
-            (I.staged inbox.new) }
-        ensures calls { Settles (Makes I.steps I.failures) Stored.Done self.old self.new
+        ensures does { Performs I.Inbox (timers_set policy.now.times) Stored.Done
+            (expires kind policy.now) self.old self.new effects.old effects.new
             inbox.old inbox.new }
-        ensures told_room { vec_len told.new + vec_capacity told.old
-            ≤ vec_len told.old + 2 + vec_capacity told.new }
+        ensures kept { Kept I.Inbox self.old self.new inbox.old inbox.new }
+        ensures calls { Settles (MakesIn I.Inbox) Stored.Done self.old self.new
+            inbox.old inbox.new }
+        ensures told_room { UsesAtMost 2 effects.old.told effects.new.told }
     {
         if !self.waits(kind) {
-            self.set_timers(timers, policy, None);
+            self.set_timers(&mut effects.timers, policy, None);
             return;
         }
         match kind {
-            Kind::Nak => self.expire_nak(told, inbox, policy),
-            Kind::FinishedAck => self.expire_finished(told, policy),
+            Kind::Nak => self.expire_nak(effects, inbox, policy),
+            Kind::FinishedAck => self.expire_finished(&mut effects.told, policy),
             Kind::Inactivity => {
-                self.handle(
-                    told,
-                    inbox,
-                    policy.handlers.inactivity,
-                    Condition::INACTIVITY,
-                );
+                let handler = policy.handlers.inactivity;
+                self.handle(effects, inbox, handler, Condition::INACTIVITY);
             }
             Kind::EofAck => {}
         }
         self.tidy();
-        self.set_timers(timers, policy, anew_once_expired(kind));
+        self.set_timers(&mut effects.timers, policy, anew_once_expired(kind));
     }
 
     /// Gives the transaction up, and tells its sender by Finished. Changes nothing but in
     /// Receiving. Takes no memory.
-    pub fn cancel<I: Inbox>(
-        &mut self,
-        timers: &mut Timers,
-        policy: &Policy,
-        told: &mut Vec<Indication>,
-        inbox: &mut I,
-    )
-        requires has_room { set.contains timers.old.roomy self.old.addressing.id ≡ true }
-        requires room { vec_len told.old + 3 ≤ vec_capacity told.old }
+    pub fn cancel<I: Inbox>(&mut self, effects: &mut Effects, inbox: &mut I, policy: &Policy)
+        requires room { HasRoom self.old.addressing.id effects.old }
         requires ready { IsReady (I.staged inbox.old) self.old }
-        ensures does { Does (cancels
-            (staged_for (I.staged inbox.old) self.old.addressing.id) (I.published inbox.old)
-            self.old) self.new told.old.items told.new.items }
-        ensures stores { Stores (cancels
-            (staged_for (I.staged inbox.old) self.old.addressing.id) (I.published inbox.old)
-            self.old) (I.published inbox.new) (I.staged inbox.old) (I.staged inbox.new) }
-        ensures timers { timers.new ≡ timers_set policy.now.times None self.new timers.old }
-        ensures ready { IsReady (I.staged inbox.new) self.new }
-        ensures addressing { self.new.addressing ≡ self.old.addressing }
-        ensures grows { I.failures inbox.old ≤ I.failures inbox.new }
-        ensures lets_go { LetsGo self.old self.new (I.failures inbox.old) (I.failures inbox.new)
-            (I.staged inbox.new) }
-        ensures calls { Settles (Makes I.steps I.failures) Stored.Done self.old self.new
+        ensures does { Performs I.Inbox (timers_set policy.now.times) Stored.Done cancels
+            self.old self.new effects.old effects.new inbox.old inbox.new }
+        ensures kept { Kept I.Inbox self.old self.new inbox.old inbox.new }
+        ensures calls { Settles (MakesIn I.Inbox) Stored.Done self.old self.new
             inbox.old inbox.new }
     {
         if self.phase == ReceiverPhase::Receiving {
             self.discard(inbox);
             let condition = Condition::CANCEL_REQUEST;
+            let told = &mut effects.told;
             self.finish(told, condition, Delivery::Incomplete, FileStatus::Discarded);
         }
-        self.set_timers(timers, policy, None);
+        self.set_timers(&mut effects.timers, policy, None);
     }
 
     /// Suspends the transaction: until it is resumed nothing is sent, and no timer runs. Changes
     /// nothing but in Receiving, and nothing where it is suspended. Takes no memory.
-    pub fn suspend(&mut self, timers: &mut Timers, policy: &Policy, told: &mut Vec<Indication>)
-        requires has_room { set.contains timers.old.roomy self.old.addressing.id ≡ true }
-        requires room { vec_len told.old + 3 ≤ vec_capacity told.old }
-        ensures does { (m : OctetMap) (files : FileMap) →
-            Does (suspends m files self.old) self.new told.old.items told.new.items }
-        ensures ready { (staged : TransactionId → Option OctetMap) →
-            IsReady staged self.old → IsReady staged self.new }
-        ensures addressing { self.new.addressing ≡ self.old.addressing }
-        ensures timers { timers.new ≡ timers_set policy.now.times None self.new timers.old }
+    pub fn suspend(&mut self, effects: &mut Effects, policy: &Policy)
+        requires room { HasRoom self.old.addressing.id effects.old }
+        ensures does { DoesAlone policy.now.times suspends
+            self.old self.new effects.old effects.new }
+        ensures kept { KeptAlone self.old self.new }
     {
         if self.phase == ReceiverPhase::Receiving && !self.suspended {
             self.suspended = true;
             tell(
-                told,
+                &mut effects.told,
                 Indication::Suspended(self.addressing.id, Condition::SUSPEND_REQUEST),
             );
         }
-        self.set_timers(timers, policy, None);
+        self.set_timers(&mut effects.timers, policy, None);
     }
 
     /// Resumes the transaction: what is waited for is armed, and what was repeated is counted from
     /// 0 again. Changes nothing where it isn't suspended. Takes no memory.
-    pub fn resume(&mut self, timers: &mut Timers, policy: &Policy, told: &mut Vec<Indication>)
-        requires has_room { set.contains timers.old.roomy self.old.addressing.id ≡ true }
-        requires room { vec_len told.old + 3 ≤ vec_capacity told.old }
-        ensures does { (m : OctetMap) (files : FileMap) →
-            Does (resumes m files self.old) self.new told.old.items told.new.items }
-        ensures ready { (staged : TransactionId → Option OctetMap) →
-            IsReady staged self.old → IsReady staged self.new }
-        ensures addressing { self.new.addressing ≡ self.old.addressing }
-        ensures timers { timers.new ≡ timers_set policy.now.times None self.new timers.old }
+    pub fn resume(&mut self, effects: &mut Effects, policy: &Policy)
+        requires room { HasRoom self.old.addressing.id effects.old }
+        ensures does { DoesAlone policy.now.times resumes
+            self.old self.new effects.old effects.new }
+        ensures kept { KeptAlone self.old self.new }
     {
         if self.suspended {
             self.suspended = false;
             self.nak_count = 0;
             self.finished_count = 0;
-            tell(told, Indication::Resumed(self.addressing.id));
+            tell(&mut effects.told, Indication::Resumed(self.addressing.id));
         }
-        self.set_timers(timers, policy, None);
+        self.set_timers(&mut effects.timers, policy, None);
     }
 }
 

@@ -12,11 +12,10 @@ use Rattle.cfdp_sender.specs.declared.due.SenderDue.{SenderDue}
 use Rattle.cfdp_sender.specs.declared.due.SenderDue.TheVariants as due
 use Rattle.cfdp_sender.specs.State.{SenderState}
 use Rattle.cfdp_sender.specs.Due.{sender_due, carried, sender_says}
-use Rattle.cfdp_directives.specs.declared.user.indication.Indication.{Indication}
 use Rattle.cfdp_directives.specs.declared.user.limits.Times.{Times}
 use Rattle.cfdp_store.specs.declared.stored.Stored.TheVariants.{Done}
 use Rattle.cfdp_timers.specs.declared.kind.Kind.{Kind}
-use Rattle.cfdp_timers.specs.Armed.{TimersState}
+use Rattle.cfdp_timers.specs.declared.effects.Effects.{Effects}
 use Rattle.cfdp_sender.specs.declared.taken.Taken.TheVariants.{Moved}
 use Rattle.cfdp_sender.specs.Steps.{pdu_sent, sender_sends}
 use Rattle.cfdp_sender.specs.Does.{Leaves, Takes, Writes, timers_set}
@@ -70,14 +69,13 @@ carried-last x due.Metadata file out new len count w room some = nothing_at_end 
 carried-last x due.Eof file out new len count w room some = nothing_at_end new len count some
 
 -- what is left where the PDU that was due was written
-pub takes-moved : (times : Times) (file octets : List ℕ) (x new : SenderState) (d : SenderDue) (len : ℕ) (anew : Option Kind) (told told_now : List Indication) (timers timers_now : TimersState)
-    (out out_now : List ℕ)
+pub takes-moved : (times : Times) (file octets : List ℕ) (x new : SenderState) (d : SenderDue) (len : ℕ) (anew : Option Kind) (before now : Effects) (out out_now : List ℕ)
     → sender_due x ≡ Some d → Writes (is_large x.size) x.addressing (sender_says file x d) len out out_now → octets ≡ carried file d
-    → Leaves (pdu_sent Done octets x d) new told told_now → anew ≡ (pdu_sent Done octets x d).anew → timers_now ≡ timers_set times anew new timers
-    → Takes times file (sender_due x) (Moved len) x new told told_now timers timers_now out out_now
-takes-moved times file octets x new d len anew told told_now timers timers_now out out_now is w same l armed t =
-    let left : Leaves (sender_sends Done file x d) new told told_now = subst (λ (o : List ℕ). Leaves (pdu_sent Done o x d) new told told_now) same l in
+    → Leaves (pdu_sent Done octets x d) new before.told now.told → anew ≡ (pdu_sent Done octets x d).anew → now.timers ≡ timers_set times anew new before.timers
+    → Takes times file (sender_due x) (Moved len) x new before now out out_now
+takes-moved times file octets x new d len anew before now out out_now is w same l armed t =
+    let left : Leaves (sender_sends Done file x d) new before.told now.told = subst (λ (o : List ℕ). Leaves (pdu_sent Done o x d) new before.told now.told) same l in
     let which : anew ≡ (sender_sends Done file x d).anew = armed ∙ ap (λ (o : List ℕ). (pdu_sent Done o x d).anew) same in
-    let set = t ∙ ap (λ (a : Option Kind). timers_set times a new timers) which ∙ ap (λ (y : SenderState). timers_set times (sender_sends Done file x d).anew y timers) left.sender in
-    subst (λ (o : Option SenderDue). Takes times file o (Moved len) x new told told_now timers timers_now out out_now) (sym is)
+    let set = t ∙ ap (λ (a : Option Kind). timers_set times a new before.timers) which ∙ ap (λ (y : SenderState). timers_set times (sender_sends Done file x d).anew y before.timers) left.sender in
+    subst (λ (o : Option SenderDue). Takes times file o (Moved len) x new before now out out_now) (sym is)
     (w, record { sender = left.sender; tells = left.tells; timers = set })

@@ -1,5 +1,6 @@
--- How a call is tied to its step: by the sender, what it indicated, and the timers.
-use Rattle.std.specs.Prelude.{◌≡◌, ◌++◌, ℕ, true, Bool, false, List, [], length, take, drop, Option, None, Some, IsSome}
+-- How a call is tied to its step: by the sender, and what it indicated and armed.
+use Rattle.std.specs.Prelude.{◌≡◌, ◌++◌, ℕ, true, Bool, false, List, length, take, drop, Option, None, Some, IsSome, Vec}
+use Rattle.std.specs.declared.alloc.Global.{Global}
 use Rattle.std.specs.FinMap as map
 use Rattle.std.specs.FinSet as set
 use Rattle.cfdp_header.specs.Files.{FileMap}
@@ -16,6 +17,7 @@ use Rattle.cfdp_timers.specs.declared.kind.Kind.{Kind}
 use Rattle.cfdp_timers.specs.declared.kind.Kind.TheVariants as kind
 use Rattle.cfdp_timers.specs.declared.wait.Waits.{Waits}
 use Rattle.cfdp_timers.specs.Armed.{TimersState}
+use Rattle.cfdp_timers.specs.declared.effects.Effects.{Effects}
 use Rattle.cfdp_timers.specs.Waits.{is_anew, wait_by, waited}
 use Rattle.cfdp_sender.specs.declared.taken.Taken.{Taken}
 use Rattle.cfdp_sender.specs.declared.taken.Taken.TheVariants.{Nothing, Moved, SourceFailed}
@@ -48,24 +50,16 @@ HasTimers x timers = set.contains timers.roomy x.addressing.id ≡ true
 
 -- A step left this sender, with what it indicated.
 pub record Leaves (a : SenderAfter) (new : SenderState)
-    (told_before told_now : List Indication) : Type 0 where
+    (before now : Vec Indication Global) : Type 0 where
   pub sender : new ≡ a.sender
-  pub tells : told_now ≡ told_before ++ a.told
+  pub tells : now.items ≡ before.items ++ a.told
 
 -- A call did this step, and set the timers by it.
 pub record Does (times : Times) (a : SenderAfter) (new : SenderState)
-    (told_before told_now : List Indication)
-    (timers_before timers_now : TimersState) : Type 0 where
+    (before now : Effects) : Type 0 where
   pub sender : new ≡ a.sender
-  pub tells : told_now ≡ told_before ++ a.told
-  pub timers : timers_now ≡ timers_set times a.anew a.sender timers_before
-
--- A call that indicates nothing did this step, and set the timers by it.
-pub record DoesQuietly (times : Times) (a : SenderAfter) (new : SenderState)
-    (timers_before timers_now : TimersState) : Type 0 where
-  pub sender : new ≡ a.sender
-  pub quiet : a.told ≡ []
-  pub timers : timers_now ≡ timers_set times a.anew a.sender timers_before
+  pub tells : now.told.items ≡ before.told.items ++ a.told
+  pub timers : now.timers ≡ timers_set times a.anew a.sender before.timers
 
 -- Some of the pairs of a NAK were asked for, from the first on, and nothing else has changed.
 pub record AsksSome (pairs : List (ℕ × ℕ)) (old new : SenderState) : Type 0 where
@@ -78,16 +72,11 @@ pub record HasFile (files : FileMap) (name : List ℕ) (size : ℕ) : Type 0 whe
   pub there : IsSome (map.get files name)
   pub whole : length (octets_in files name) ≡ size
 
--- Its file is in the outbox, and its timers can be armed.
-abbrev pub IsReady : FileMap → SenderState → TimersState → Type 0
-IsReady files x timers = HasFile files x.source x.size × HasTimers x timers
-
 -- Nothing was due, and all is as it was.
-pub record Rests (old new : SenderState) (told_before told_now : List Indication)
-    (timers_before timers_now : TimersState) (out_before out_now : List ℕ) : Type 0 where
+pub record Rests (old new : SenderState) (before now : Effects)
+    (out_before out_now : List ℕ) : Type 0 where
   pub sender : new ≡ old
-  pub tells : told_now ≡ told_before
-  pub timers : timers_now ≡ timers_before
+  pub effects : now ≡ before
   pub out : out_now ≡ out_before
 
 -- So many octets were written, those of this PDU with this large file flag, and the octets behind
@@ -101,15 +90,15 @@ pub record Writes (large : Bool) (a : Addressing) (v : Content) (octets : ℕ)
 -- What taking a PDU did, by what was due: where that is data which the outbox failed to give, no
 -- PDU is there, and what `out` then holds is left open.
 abbrev pub Takes : Times → List ℕ → Option SenderDue → Taken → (old new : SenderState)
-    → (told told' : List Indication) → (timers timers' : TimersState) → (out out' : List ℕ) → Type 0
-Takes times file None Nothing old new told told' timers timers' out out' =
-    Rests old new told told' timers timers' out out'
-Takes times file (Some d) (Moved octets) old new told told' timers timers' out out' =
-    Writes (is_large old.size) old.addressing (sender_says file old d) octets out out'
-    × Does times (sender_sends Done file old d) new told told' timers timers'
-Takes times file (Some d) SourceFailed old new told told' timers timers' out out' =
-    (carries d ≡ true) × Does times (sender_sends Refused file old d) new told told' timers timers'
-Takes times file _ _ old new told told' timers timers' out out' = ⊥
+    → (before now : Effects) → (out_before out_now : List ℕ) → Type 0
+Takes times file None Nothing old new before now out_before out_now =
+    Rests old new before now out_before out_now
+Takes times file (Some d) (Moved octets) old new before now out_before out_now =
+    Writes (is_large old.size) old.addressing (sender_says file old d) octets out_before out_now
+    × Does times (sender_sends Done file old d) new before now
+Takes times file (Some d) SourceFailed old new before now out_before out_now =
+    (carries d ≡ true) × Does times (sender_sends Refused file old d) new before now
+Takes times file _ _ old new before now out_before out_now = ⊥
 
 -- whether the outbox gave what was asked of it
 abbrev pub was_given : Taken → Bool

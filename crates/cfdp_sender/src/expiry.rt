@@ -1,13 +1,14 @@
 // What an expiry of a timer does.
-ghost use Rattle.std.specs.Prelude.{◌≡◌, ◌+◌, ◌≤◌, ◌++◌, vec_len, vec_capacity};
+ghost use Rattle.std.specs.Prelude.{◌+◌, ◌≤◌, vec_len, vec_capacity};
 ghost use Rattle.cfdp_timers.specs.declared.kind.Kind.TheVariants as kinds;
+ghost use Rattle.cfdp_timers.specs.Effects.{HasRoom, UsesAtMost};
 ghost use Rattle.cfdp_sender.specs.Steps as steps;
-ghost use Rattle.cfdp_sender.specs.Does.{HasTimers, Leaves, Does};
+ghost use Rattle.cfdp_sender.specs.Does.{Leaves, Does};
 
 use crate::phase::SenderPhase;
 use crate::sender::Sender;
 use cfdp_directives::{Condition, Handler, Indication, Policy, another_try, tell_fault};
-use cfdp_timers::{Kind, Timers};
+use cfdp_timers::{Effects, Kind};
 
 impl Sender {
     /// A timer of the transaction has fired. Without an ACK of EOF that is sent again, as often as
@@ -15,42 +16,33 @@ impl Sender {
     /// handler decides what follows, but a transaction that is cancelled is abandoned (CCSDS
     /// 727.0-B-5, 4.7 and 4.8). A timer that isn't waited for does nothing. Takes no memory.
     ///
-    /// The timers have room for the transaction, and `told` has room for three more indications.
-    pub fn expire(
-        &mut self,
-        kind: Kind,
-        timers: &mut Timers,
-        policy: &Policy,
-        told: &mut Vec<Indication>,
-    )
-        requires timers { HasTimers self.old timers.old }
-        requires room { vec_len told.old + 3 ≤ vec_capacity told.old }
+    /// The effects have room for a step of the transaction.
+    pub fn expire(&mut self, effects: &mut Effects, policy: &Policy, kind: Kind)
+        requires room { HasRoom self.old.addressing.id effects.old }
         ensures does { Does policy.now.times (steps.sender_expires kind policy.now self.old)
-            self.new told.old.items told.new.items timers.old timers.new }
-        ensures told_room { vec_len told.new + vec_capacity told.old
-            ≤ vec_len told.old + 2 + vec_capacity told.new }
+            self.new effects.old effects.new }
+        ensures told_room { UsesAtMost 2 effects.old.told effects.new.told }
     {
         let mut anew = None;
         if self.waits(kind) {
             match kind {
-                Kind::EofAck => self.miss_ack(policy, told),
+                Kind::EofAck => self.miss_ack(policy, &mut effects.told),
                 Kind::Inactivity => {
-                    self.miss_all(policy.handlers.inactivity, told);
+                    self.miss_all(policy.handlers.inactivity, &mut effects.told);
                     anew = Some(Kind::Inactivity);
                 }
                 Kind::Nak | Kind::FinishedAck => {}
             }
         }
-        self.set_timers(anew, timers, &policy.times);
+        self.set_timers(anew, &mut effects.timers, &policy.times);
     }
 
     // No ACK of EOF has come: EOF is sent again while it may be.
     fn miss_ack(&mut self, policy: &Policy, told: &mut Vec<Indication>)
         requires room { vec_len told.old + 2 ≤ vec_capacity told.old }
-        ensures leaves { Leaves (steps.expires kinds.EofAck policy.now self.old) self.new
-            told.old.items told.new.items }
-        ensures told_room { vec_len told.new + vec_capacity told.old
-            ≤ vec_len told.old + 2 + vec_capacity told.new }
+        ensures leaves { Leaves (steps.expires kinds.EofAck policy.now self.old) self.new told.old
+            told.new }
+        ensures told_room { UsesAtMost 2 told.old told.new }
     {
         match another_try(self.count, policy.limits.eof) {
             Some(count) => {
@@ -70,10 +62,8 @@ impl Sender {
     // EOF was sent as often as is allowed.
     fn give_up_on_ack(&mut self, handler: Handler, told: &mut Vec<Indication>)
         requires room { vec_len told.old + 2 ≤ vec_capacity told.old }
-        ensures leaves { Leaves (steps.unacknowledged handler self.old) self.new told.old.items
-            told.new.items }
-        ensures told_room { vec_len told.new + vec_capacity told.old
-            ≤ vec_len told.old + 2 + vec_capacity told.new }
+        ensures leaves { Leaves (steps.unacknowledged handler self.old) self.new told.old told.new }
+        ensures told_room { UsesAtMost 2 told.old told.new }
     {
         let condition = Condition::POSITIVE_ACK_LIMIT;
         tell_fault(told, handler, self.addressing.id, condition);
@@ -91,10 +81,8 @@ impl Sender {
     // Nothing has come for too long.
     fn miss_all(&mut self, handler: Handler, told: &mut Vec<Indication>)
         requires room { vec_len told.old + 2 ≤ vec_capacity told.old }
-        ensures leaves { Leaves (steps.unheard handler self.old) self.new told.old.items
-            told.new.items }
-        ensures told_room { vec_len told.new + vec_capacity told.old
-            ≤ vec_len told.old + 2 + vec_capacity told.new }
+        ensures leaves { Leaves (steps.unheard handler self.old) self.new told.old told.new }
+        ensures told_room { UsesAtMost 2 told.old told.new }
     {
         let condition = Condition::INACTIVITY;
         tell_fault(told, handler, self.addressing.id, condition);

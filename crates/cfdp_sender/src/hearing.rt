@@ -1,13 +1,14 @@
 // What a sender hears.
 ghost use Rattle.std.specs.Prelude.{◌≡◌, ◌+◌, ◌≤◌, ◌++◌, vec_len, vec_capacity, OnOk, OnErr};
+ghost use Rattle.cfdp_timers.specs.Effects.{HasRoom};
 ghost use Rattle.cfdp_sender.specs.declared.phase.SenderPhase.TheVariants as phases;
 ghost use Rattle.cfdp_sender.specs.Steps as steps;
-ghost use Rattle.cfdp_sender.specs.Does.{HasTimers, Leaves, Does, DoesQuietly, AsksSome};
+ghost use Rattle.cfdp_sender.specs.Does.{HasTimers, Leaves, Does, AsksSome};
 
 use crate::phase::SenderPhase;
 use crate::sender::Sender;
 use cfdp_directives::{Condition, Indication, Outcome, Pairs, Policy, tell};
-use cfdp_timers::{Kind, Timers};
+use cfdp_timers::{Effects, Kind};
 use std::alloc::AllocError;
 
 impl Sender {
@@ -15,28 +16,20 @@ impl Sender {
     /// acknowledges the EOF that was sent. Where the transaction is cancelled, the ACK that has the
     /// condition of the cancel closes it, and Finished is indicated. Takes no memory.
     ///
-    /// The timers have room for the transaction, and `told` has room for three more indications.
-    pub fn on_ack(
-        &mut self,
-        condition: Condition,
-        timers: &mut Timers,
-        policy: &Policy,
-        told: &mut Vec<Indication>,
-    )
-        requires timers { HasTimers self.old timers.old }
-        requires room { vec_len told.old + 3 ≤ vec_capacity told.old }
-        ensures { Does policy.now.times (steps.sender_hears_ack condition self.old) self.new
-            told.old.items told.new.items timers.old timers.new }
+    /// The effects have room for a step of the transaction.
+    pub fn on_ack(&mut self, effects: &mut Effects, policy: &Policy, condition: Condition)
+        requires room { HasRoom self.old.addressing.id effects.old }
+        ensures does { Does policy.now.times (steps.sender_hears_ack condition self.old) self.new
+            effects.old effects.new }
     {
-        self.hear_ack(condition, told);
-        self.set_timers(Some(Kind::Inactivity), timers, &policy.times);
+        self.hear_ack(condition, &mut effects.told);
+        self.set_timers(Some(Kind::Inactivity), &mut effects.timers, &policy.times);
     }
 
     // The row of an ACK of EOF.
     fn hear_ack(&mut self, condition: Condition, told: &mut Vec<Indication>)
         requires room { vec_len told.old + 1 ≤ vec_capacity told.old }
-        ensures { Leaves (steps.sender_hears_ack condition self.old) self.new told.old.items
-            told.new.items }
+        ensures { Leaves (steps.sender_hears_ack condition self.old) self.new told.old told.new }
     {
         match self.phase {
             SenderPhase::Sending => {
@@ -59,28 +52,20 @@ impl Sender {
     /// however often it comes. The first time it is indicated: as it says, or where the transaction
     /// was cancelled before, that it was. Takes no memory.
     ///
-    /// The timers have room for the transaction, and `told` has room for three more indications.
-    pub fn on_finished(
-        &mut self,
-        outcome: Outcome,
-        timers: &mut Timers,
-        policy: &Policy,
-        told: &mut Vec<Indication>,
-    )
-        requires timers { HasTimers self.old timers.old }
-        requires room { vec_len told.old + 3 ≤ vec_capacity told.old }
-        ensures { Does policy.now.times (steps.sender_hears_finished outcome self.old) self.new
-            told.old.items told.new.items timers.old timers.new }
+    /// The effects have room for a step of the transaction.
+    pub fn on_finished(&mut self, effects: &mut Effects, policy: &Policy, outcome: Outcome)
+        requires room { HasRoom self.old.addressing.id effects.old }
+        ensures does { Does policy.now.times (steps.sender_hears_finished outcome self.old) self.new
+            effects.old effects.new }
     {
-        self.hear_finished(outcome, told);
-        self.set_timers(Some(Kind::Inactivity), timers, &policy.times);
+        self.hear_finished(outcome, &mut effects.told);
+        self.set_timers(Some(Kind::Inactivity), &mut effects.timers, &policy.times);
     }
 
     // The row of a Finished.
     fn hear_finished(&mut self, outcome: Outcome, told: &mut Vec<Indication>)
         requires room { vec_len told.old + 1 ≤ vec_capacity told.old }
-        ensures { Leaves (steps.sender_hears_finished outcome self.old) self.new told.old.items
-            told.new.items }
+        ensures { Leaves (steps.sender_hears_finished outcome self.old) self.new told.old told.new }
     {
         self.tell_end(&outcome, told);
         self.close();
@@ -105,23 +90,19 @@ impl Sender {
     /// Hears a Keep Alive, with the offset up to which the receiver holds the file (CCSDS
     /// 727.0-B-5, 5.2.8). While the file is sent that is indicated. Takes no memory.
     ///
-    /// The timers have room for the transaction, and `told` has room for three more indications.
-    pub fn on_keep_alive(
-        &mut self,
-        progress: u64,
-        timers: &mut Timers,
-        policy: &Policy,
-        told: &mut Vec<Indication>,
-    )
-        requires timers { HasTimers self.old timers.old }
-        requires room { vec_len told.old + 3 ≤ vec_capacity told.old }
-        ensures { Does policy.now.times (steps.sender_hears_keep_alive progress self.old) self.new
-            told.old.items told.new.items timers.old timers.new }
+    /// The effects have room for a step of the transaction.
+    pub fn on_keep_alive(&mut self, effects: &mut Effects, policy: &Policy, progress: u64)
+        requires room { HasRoom self.old.addressing.id effects.old }
+        ensures does { Does policy.now.times (steps.sender_hears_keep_alive progress self.old)
+            self.new effects.old effects.new }
     {
         if self.phase == SenderPhase::Sending {
-            tell(told, Indication::Progress(self.addressing.id, progress));
+            tell(
+                &mut effects.told,
+                Indication::Progress(self.addressing.id, progress),
+            );
         }
-        self.set_timers(Some(Kind::Inactivity), timers, &policy.times);
+        self.set_timers(Some(Kind::Inactivity), &mut effects.timers, &policy.times);
     }
 
     /// Hears a NAK, with its requested ranges (CCSDS 727.0-B-5, 5.2.6). While the file is sent, the
@@ -136,18 +117,19 @@ impl Sender {
     /// been asked for, and nothing else has changed.
     pub fn on_nak(
         &mut self,
-        pairs: &Pairs<'_>,
-        timers: &mut Timers,
+        effects: &mut Effects,
         policy: &Policy,
+        pairs: &Pairs<'_>,
     ) -> Result<(), AllocError>
-        requires timers { HasTimers self.old timers.old }
-        ensures ok { OnOk result (DoesQuietly policy.now.times
-            (steps.sender_hears_nak pairs.now self.old) self.new timers.old timers.new) }
+        requires timers { HasTimers self.old effects.old.timers }
+        ensures does { OnOk result (Does policy.now.times
+            (steps.sender_hears_nak pairs.now self.old) self.new effects.old effects.new) }
         ensures err { OnErr result
-            (AsksSome pairs.now self.old self.new × (timers.new ≡ timers.old)) }
+            (AsksSome pairs.now self.old self.new × (effects.new ≡ effects.old)) }
+        ensures told { effects.new.told ≡ effects.old.told }
     {
         self.hear_nak(pairs)?;
-        self.set_timers(Some(Kind::Inactivity), timers, &policy.times);
+        self.set_timers(Some(Kind::Inactivity), &mut effects.timers, &policy.times);
         Ok(())
     }
 

@@ -2,13 +2,13 @@
 //! sent of a file, what is sent again, and how the transaction ends.
 //!
 //! ```text
-//! let mut sender = Sender::open(alloc, transfer, &mut timers, &mut told)?;
+//! let mut sender = Sender::open(alloc, &mut effects, transfer)?;
 //! while let Some(octets) = sender.due() {
 //!     // Writes that many octets into `out`: Metadata, then the file, then EOF.
-//!     sender.take_pdu(&mut outbox, &mut timers, &policy, &mut told, &mut out);
+//!     sender.take_pdu(&mut effects, &mut outbox, &policy, &mut out);
 //! }
 //! // An ACK of EOF was heard; Finished will follow.
-//! sender.on_ack(condition, &mut timers, &policy, &mut told);
+//! sender.on_ack(&mut effects, &policy, condition);
 //! ```
 #![tactic(auto)]
 

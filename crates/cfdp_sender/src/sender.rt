@@ -7,7 +7,6 @@ ghost use Rattle.cfdp_sender.specs.State.{IsSendable, IsSender, opened_sender};
 ghost use Rattle.cfdp_sender.specs.Due as dues;
 ghost use Rattle.cfdp_sender.specs.Steps as steps;
 ghost use Rattle.cfdp_sender.specs.Steps.{sender_waits};
-ghost use Rattle.cfdp_sender.specs.Does as does;
 ghost use Rattle.cfdp_sender.specs.Does.{HasTimers, timers_set};
 
 use crate::phase::SenderPhase;
@@ -18,7 +17,7 @@ use cfdp_directives::{
 };
 use cfdp_extents::Extents;
 use cfdp_header::TransactionId;
-use cfdp_timers::{Kind, Timers, Wait, Waits, is_anew};
+use cfdp_timers::{Effects, Kind, Timers, Wait, Waits, is_anew};
 use std::alloc::{AllocError, Global};
 use std::marker::Model;
 
@@ -71,35 +70,34 @@ impl Sender {
     /// Opens the sender of a put, indicates Transaction, and makes room for its timers. Metadata is
     /// due then, and no timer is waited for.
     ///
-    /// What it is to send has to be sendable, as `Transfer::is_sendable` tells, and `told` has room
+    /// What it is to send has to be sendable, as `Transfer::is_sendable` tells, and there is room
     /// for three more indications.
     ///
     /// # Errors
     ///
-    /// Where there is no memory for its timers. Nothing is then told, and the timers are unchanged.
+    /// Where there is no memory for its timers. All is then unchanged.
     pub fn open(
         alloc: Global,
+        effects: &mut Effects,
         transfer: Transfer,
-        timers: &mut Timers,
-        told: &mut Vec<Indication>,
     ) -> Result<Sender, AllocError>
         requires sendable { IsSendable transfer }
-        requires room { vec_len told.old + 3 ≤ vec_capacity told.old }
+        requires room { vec_len effects.old.told + 3 ≤ vec_capacity effects.old.told }
         ensures opens { IfOk result (λ sender. sender ≡ opened_sender transfer) }
-        ensures tells { OnOk result (told.new.items
-            ≡ told.old.items ++ indication.Transaction transfer.addressing.id ∷ []) }
-        ensures timers { OnOk result (timers.new
-            ≡ record timers.old { roomy = set.insert timers.old.roomy transfer.addressing.id }) }
+        ensures tells { OnOk result (effects.new.told.items
+            ≡ effects.old.told.items ++ indication.Transaction transfer.addressing.id ∷ []) }
+        ensures timers { OnOk result (effects.new.timers ≡ record effects.old.timers
+            { roomy = set.insert effects.old.timers.roomy transfer.addressing.id }) }
         // So its timers can be armed, and those of others as before.
-        ensures has_room { OnOk result (HasTimers (opened_sender transfer) timers.new) }
-        ensures keeps { (other : TransactionId) → set.contains timers.old.roomy other ≡ true
-            → set.contains timers.new.roomy other ≡ true }
-        ensures err { OnErr result
-            ((told.new.items ≡ told.old.items) × (timers.new ≡ timers.old)) }
+        ensures has_room { OnOk result (HasTimers (opened_sender transfer) effects.new.timers) }
+        ensures keeps { (other : TransactionId)
+            → set.contains effects.old.timers.roomy other ≡ true
+            → set.contains effects.new.timers.roomy other ≡ true }
+        ensures err { OnErr result (effects.new ≡ effects.old) }
     {
         let id = transfer.addressing.id;
-        timers.room(id)?;
-        tell(told, Indication::Transaction(id));
+        effects.timers.room(id)?;
+        tell(&mut effects.told, Indication::Transaction(id));
         Ok(Sender {
             addressing: transfer.addressing,
             checksum_kind: transfer.checksum_kind,

@@ -7,11 +7,12 @@ ghost use Rattle.cfdp_directives.specs.Pdu.Content.{FileData};
 ghost use Rattle.cfdp_store.specs.Files.{octets_in};
 ghost use Rattle.cfdp_store.specs.Stores.{failures_after};
 ghost use Rattle.cfdp_store.specs.declared.stored.Stored.TheVariants as answers;
+ghost use Rattle.cfdp_timers.specs.Effects.{HasRoom};
 ghost use Rattle.cfdp_sender.specs.Due.{sender_due, sender_says, carries};
 ghost use Rattle.cfdp_sender.specs.declared.due.SenderDue.TheVariants as dues;
 ghost use Rattle.cfdp_sender.specs.Reading.{Reads, ReadsOnce};
 ghost use Rattle.cfdp_sender.specs.Steps as steps;
-ghost use Rattle.cfdp_sender.specs.Does.{HasTimers, HasFile, Leaves, Writes, Takes, was_given};
+ghost use Rattle.cfdp_sender.specs.Does.{HasFile, Leaves, Writes, Takes, was_given};
 
 use crate::due::SenderDue;
 use crate::phase::SenderPhase;
@@ -19,7 +20,7 @@ use crate::sender::Sender;
 use crate::taken::Taken;
 use cfdp_directives::{Condition, Handler, Indication, Policy, tell, tell_fault};
 use cfdp_store::{Outbox, StoreError};
-use cfdp_timers::{Kind, Timers};
+use cfdp_timers::{Effects, Kind};
 
 impl Sender {
     /// Sends the PDU that is due: writes it into the first octets of `out`, whose others stay. It
@@ -28,27 +29,23 @@ impl Sender {
     /// cancelled, and what `out` then holds is left open. Sending EOF for the first time is
     /// indicated. Takes no memory, what the outbox takes for itself apart.
     ///
-    /// The outbox has the file under the source name, with all its octets. `out` has room for the
-    /// PDU, as `due` tells; the timers have room for the transaction, and `told` has room for three
-    /// more indications.
+    /// The effects have room for a step of the transaction. The outbox has the file under the
+    /// source name, with all its octets. `out` has room for the PDU, as `due` tells.
     pub fn take_pdu<O: Outbox>(
         &mut self,
+        effects: &mut Effects,
         outbox: &mut O,
-        timers: &mut Timers,
         policy: &Policy,
-        told: &mut Vec<Indication>,
         out: &mut [u8],
     ) -> Taken
+        requires room { HasRoom self.old.addressing.id effects.old }
         requires file { HasFile (O.files outbox.old) self.old.source self.old.size }
-        requires timers { HasTimers self.old timers.old }
-        requires room { vec_len told.old + 3 ≤ vec_capacity told.old }
         requires fits { let file = octets_in (O.files outbox.old) self.old.source in
             IfSome (sender_due self.old)
             (λ d. written_len self.old.addressing (codes.is_large self.old.size)
             (sender_says file self.old d) ≤ length out.old) }
         ensures takes { Takes policy.now.times (octets_in (O.files outbox.old) self.old.source)
-            (sender_due self.old) result self.old self.new told.old.items told.new.items timers.old
-            timers.new out.old out.new }
+            (sender_due self.old) result self.old self.new effects.old effects.new out.old out.new }
         ensures files { O.files outbox.new ≡ O.files outbox.old }
         ensures failures { O.failures outbox.new
             ≡ failures_after (O.failures outbox.old) (was_given result) }
@@ -62,14 +59,14 @@ impl Sender {
         let len = match self.write_due(outbox, &due, out) {
             Ok(len) => len,
             Err(_) => {
-                self.lose_source(told);
-                self.set_timers(None, timers, &policy.times);
+                self.lose_source(&mut effects.told);
+                self.set_timers(None, &mut effects.timers, &policy.times);
                 return Taken::SourceFailed;
             }
         };
         let (_, carried) = self.extent(&due);
-        let anew = self.note_sent(&due, &out[len - carried..len], told);
-        self.set_timers(anew, timers, &policy.times);
+        let anew = self.note_sent(&due, &out[len - carried..len], &mut effects.told);
+        self.set_timers(anew, &mut effects.timers, &policy.times);
         Taken::Moved(len)
     }
 
@@ -141,8 +138,8 @@ impl Sender {
     // The outbox failed to give the data that are due.
     fn lose_source(&mut self, told: &mut Vec<Indication>)
         requires room { vec_len told.old + 2 ≤ vec_capacity told.old }
-        ensures { Leaves (steps.sender_reads answers.Refused self.old self.old) self.new
-            told.old.items told.new.items }
+        ensures { Leaves (steps.sender_reads answers.Refused self.old self.old) self.new told.old
+            told.new }
     {
         let condition = Condition::FILESTORE_REJECTION;
         tell_fault(told, Handler::Cancel, self.addressing.id, condition);
@@ -159,7 +156,7 @@ impl Sender {
         requires due { sender_due self.old ≡ Some due.now }
         requires room { vec_len told.old + 1 ≤ vec_capacity told.old }
         ensures sent { Leaves (steps.pdu_sent answers.Done octets.now self.old due.now) self.new
-            told.old.items told.new.items }
+            told.old told.new }
         ensures anew { result ≡ (steps.pdu_sent answers.Done octets.now self.old due.now).anew }
     {
         match due {
@@ -184,8 +181,8 @@ impl Sender {
     // EOF was written.
     fn note_eof(&mut self, told: &mut Vec<Indication>)
         requires room { vec_len told.old + 1 ≤ vec_capacity told.old }
-        ensures { Leaves (steps.pdu_sent answers.Done [] self.old dues.Eof) self.new told.old.items
-            told.new.items }
+        ensures { Leaves (steps.pdu_sent answers.Done [] self.old dues.Eof) self.new told.old
+            told.new }
     {
         if self.phase == SenderPhase::Sending && !self.eof_taken {
             tell(told, Indication::EofSent(self.addressing.id));

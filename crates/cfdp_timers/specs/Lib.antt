@@ -4,3 +4,4 @@ pub mod Due
 pub mod ButInactivity
 pub mod Entries
 pub mod Waits
+pub mod Effects

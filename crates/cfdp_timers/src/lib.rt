@@ -15,6 +15,7 @@ mod alarm;
 mod blocks;
 mod bounds;
 mod deadlines;
+mod effects;
 mod entries;
 mod kind;
 mod laws;
@@ -22,6 +23,7 @@ mod timers;
 mod wait;
 mod walk;
 
+pub use effects::Effects;
 pub use kind::Kind;
 pub use laws::{what_fired_is_armed_no_more, what_is_waited_for_is_armed};
 pub use timers::Timers;

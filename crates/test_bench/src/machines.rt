@@ -13,7 +13,7 @@ use cfdp_header::TransactionId;
 use cfdp_receiver::Receiver;
 use cfdp_sender::Transfer;
 use cfdp_store::MemoryInbox;
-use cfdp_timers::Timers;
+use cfdp_timers::Effects;
 use std::alloc::{AllocError, Global};
 
 /// The transaction 1:1, from entity 1 to entity 2.
@@ -75,11 +75,11 @@ fn closed(
     alloc: Global,
     condition: Condition,
 ) -> Result<(TransactionId, Option<usize>), AllocError> {
-    let mut timers = Timers::new(alloc);
+    let mut effects = Effects::new(alloc);
     if !PUT.is_writable() {
         return Err(AllocError);
     }
-    let closed = Receiver::open_closed(alloc, PUT, false, &mut timers, condition)?;
+    let closed = Receiver::open_closed(alloc, &mut effects, PUT, false, condition)?;
     Ok((closed.id(), closed.due()))
 }
 

@@ -1,4 +1,4 @@
-use Rattle.std.proofs.Common.{rules, ◌≡◌, ◌+◌, ◌∷◌, [], Ok, Err, ◌∙◌, ℕ, sym, ap, subst, refl, arith, List, length, suc}
+use Rattle.std.proofs.Common.{rules, ◌≡◌, ◌+◌, ◌∷◌, [], Ok, ◌∙◌, ℕ, sym, ap, subst, refl, arith, List, length, suc}
 use Rattle.std.specs.Prelude.{unwrap_or, Option, IsSome}
 use Rattle.std.specs.FinMap.{empty}
 use Rattle.std.specs.List.{All}
@@ -8,6 +8,7 @@ use Rattle.cfdp_store.specs.Staged.{OctetMap, staged_for}
 use Rattle.cfdp_receiver.specs.Pieces.{piece_in, pieces_in, with_piece, staged_with, sum_with}
 use Rattle.cfdp_store.specs.Calls.{Write}
 use Rattle.cfdp_store.specs.Chains.{Makes}
+use Rattle.cfdp_receiver.specs.Storing.{StopsAt}
 use Rattle.cfdp_receiver.proofs.Chains.{wrote-none, wrote-more, wrote-stops, wrote-all}
 use Rattle.cfdp_receiver.proofs.staging.stage.Goals as goal
 
@@ -50,7 +51,7 @@ loop-start-preserved g c =
       inside = all_tail (LiesIn c.args.offset (c.args.offset + length c.args.bytes.now)) r rest _
           c.in-Some.ensures.steps inv.inside;
       others = λ other ne. c.stage_piece.ensures.others other ne ∙ inv.others other ne;
-      published = c.stage_piece.ensures.published ∙ inv.published;
+      published = c.stage_piece.ensures.files ∙ inv.published;
       wrote = wrote-more g.I.Inbox.steps g.I.Inbox.failures c.args.id _ _
           (pieces_in c.args.offset c.args.bytes.now rest)
           (piece_in c.args.offset c.args.bytes.now r) _ _ _
@@ -73,25 +74,39 @@ loop-start-init g c = record {
   counts = search rules;
 }
 
-pub returns-in-Refused-clause-fails : goal.returns-in-Refused-clause-fails
-returns-in-Refused-clause-fails g c is =
+pub returns-in-Refused : goal.returns-in-Refused
+returns-in-Refused g c =
     let r : ℕ × ℕ = (c.in-Some.start, c.in-Some.end) in
     let rest : List (ℕ × ℕ) = c.next.new.self in
     let is_piece : record { offset = c.in-Some.start; bytes = c.piece-piece.result.now }
     ≡ piece_in c.args.offset c.args.bytes.now r =
     ap (λ (b : List ℕ). record { offset = c.in-Some.start; bytes = b }) c.piece-piece.ensures in
-    let fails = c.stage_piece.ensures.fails c.in-Refused.is in
-    wrote-stops g.I.Inbox.steps g.I.Inbox.failures c.args.id _ _
-    (pieces_in c.args.offset c.args.bytes.now rest) (piece_in c.args.offset c.args.bytes.now r)
-    _ _ _ fails.0
-    (ap (pieces_in c.args.offset c.args.bytes.now) c.in-Some.ensures.steps)
-    c.loop-start.invariant.wrote
-    (subst (λ (p : Piece). Makes g.I.Inbox.steps g.I.Inbox.failures
-    (Write c.args.id p.offset p.bytes (Err fails.0) ∷ []) c.loop-start.inbox
-    c.stage_piece.new.inbox) is_piece fails.1)
+    record {
+      staged = search rules;
+      sums = search rules;
+      writes = search rules;
+      fails = λ is. wrote-stops g.I.Inbox.steps g.I.Inbox.failures c.args.id _ _
+          (pieces_in c.args.offset c.args.bytes.now rest) (piece_in c.args.offset c.args.bytes.now r)
+          _ _ _
+          (ap (pieces_in c.args.offset c.args.bytes.now) c.in-Some.ensures.steps)
+          c.loop-start.invariant.wrote
+          (subst (λ (p : Piece). StopsAt (Makes g.I.Inbox.steps g.I.Inbox.failures) c.args.id (p ∷ []) [] c.loop-start.inbox
+          c.stage_piece.new.inbox) is_piece (c.stage_piece.ensures.fails c.in-Refused.is));
+      files = search rules;
+      others = search rules;
+      counts = search rules;
+    }
 
-pub returns-clause-writes : goal.returns-clause-writes
-returns-clause-writes g c is =
+pub returns : goal.returns
+returns g c =
     let none : c.loop-start.start-iterator ≡ [] = search rules in
-    wrote-all g.I.Inbox.steps g.I.Inbox.failures c.args.id _ _ _ _
-    (ap (pieces_in c.args.offset c.args.bytes.now) none) c.loop-start.invariant.wrote
+    record {
+      staged = search rules;
+      sums = search rules;
+      writes = λ is. wrote-all g.I.Inbox.steps g.I.Inbox.failures c.args.id _ _ _ _
+          (ap (pieces_in c.args.offset c.args.bytes.now) none) c.loop-start.invariant.wrote;
+      fails = search rules;
+      files = search rules;
+      others = search rules;
+      counts = search rules;
+    }

@@ -6,6 +6,6 @@ pub invariant_of-self-2 : goal.invariant_of-self-2
 invariant_of-self-2 g c = (
   c.self.invariant.0,
   c.self.invariant.1,
-  free-called c.self.inside.config.entity (next_of c.self.inside.next) c.self.inside.table.state c.reserve.new.self.state c.call.new.self.state c.reserve.ensures.state c.self.invariant.2
-      c.args.place c.args.call c.call.ensures.called,
+  free-called c.self.inside.config.entity (next_of c.self.inside.next) c.self.inside.table.state c.reserve.new.self.state c.call.new.self.state c.reserve.ensures.stays.state c.self.invariant.2
+      c.args.place c.args.call c.call.ensures.state,
 )

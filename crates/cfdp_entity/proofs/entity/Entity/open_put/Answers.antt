@@ -22,7 +22,7 @@ invariant_of-self-2 g c =
       c.self.invariant.0,
       c.self.invariant.1,
       free-put c.self.inside.config.entity (next_of c.self.inside.next) c.self.inside.table.state c.self.inside.table.state c.put.new.self.state refl c.self.invariant.2
-          c.in_ok-transfer.transfer c.in_ok-put.ensures.put own c.checked_add-self-inside.result
+          c.in_ok-transfer.transfer c.in_ok-put.ensures.put.state own c.checked_add-self-inside.result
           (risen c.checked_add-self-inside.result c.args.number c.ranges.number.fits c.checked_add-self-inside.ensures ∙ ap (λ n. n + 1) number),
     )
 

@@ -12,7 +12,7 @@ returns-in-Octets-clause-polled g c =
     let next : next_due c.args.self.now.state.cursor c.args.self.now.state.table.records ≡ Some c.in-Some.place =
     sym (c.in-Some.ensures.next ∙ ap (λ (v : Counted). next_due v.state.cursor v.state.table.records) c.self.view_is) in
     moves-gave c.args.room c.in-Some.place c.args.self.now.state c.send_at.new.self.state c.requires.no_stray next
-    c.in_ok-octets.field-0 c.in-Octets.octets c.args.out.now c.send_at.new.out c.in-Octets.is fits c.in_ok-octets.ensures.taken c.in_ok-octets.ensures.gives
+    c.in_ok-octets.field-0 c.in-Octets.octets c.args.out.now c.send_at.new.out c.in-Octets.is fits c.in_ok-octets.ensures.sends.taken c.in_ok-octets.ensures.sends.gives
 
 pub returns-in-Octets-clause-spells : goal.returns-in-Octets-clause-spells
 returns-in-Octets-clause-spells g c =

@@ -8,6 +8,6 @@ pub invariant_of-self : goal.invariant_of-self
 invariant_of-self g c =
     let free = ap (λ (v : Roomy). map.get v.state.sources c.args.name.now) c.self.view_is ∙ c.requires.free in
     let named = c.in_ok-name.ensures.items in
-    whole-added c.add.result (g.I.Inbox.staged c.self.inside.inbox) c.self.inside.outbox c.add.new.self c.in_ok-name.name.items c.in_ok-octets.octets.items c.self.inside.records.entries
-    c.self.inside.ready c.self.inside.timers
-    (subst (λ n. map.get c.self.inside.outbox n ≡ None) (sym named) free) c.add.ensures.ok c.add.ensures.err c.self.invariant
+    whole-added c.add.result _ c.add.new.self _ c.in_ok-name.name.items c.in_ok-octets.octets.items c.self.inside.records.entries
+    c.self.inside.ready
+    (subst (λ n. map.get c.self.inside.desk.outbox n ≡ None) (sym named) free) c.add.ensures.ok c.add.ensures.err c.self.invariant

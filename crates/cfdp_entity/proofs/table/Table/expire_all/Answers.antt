@@ -11,18 +11,21 @@ loop-id-preserved g c =
     let before = length-drop c.loop-id.id-index c.args.fired.now in
     let after = length-drop (c.loop-id.id-index + 1) c.args.fired.now in
     record {
-      same_end = one_more c.args.fired.now c.loop-id.id-index first c.loop-id.self.state c.expire_one.new.self.state c.loop-id-test.true c.expire_one.ensures.expired ∙ c.loop-id.invariant.same_end;
+      same_end = one_more c.args.fired.now c.loop-id.id-index first c.loop-id.self.state c.expire_one.new.self.state c.loop-id-test.true c.expire_one.ensures.expired.state
+          ∙ c.loop-id.invariant.same_end;
       room = omega (arith, before, after, c.loop-id.invariant.room, c.expire_one.ensures.room);
-      grows = omega (arith, c.loop-id.invariant.grows, c.expire_one.ensures.grows);
+      grows = omega (arith, c.loop-id.invariant.grows, c.expire_one.ensures.expired.counts);
       raises = λ end more. c.loop-id.invariant.raises end (asks-one c.args.fired.now c.loop-id.id-index first c.loop-id.self.state c.expire_one.new.self.state c.loop-id.self.inbox_failures
           c.expire_one.new.self.inbox_failures end
-          c.loop-id-test.true c.expire_one.ensures.expired c.expire_one.ensures.raises more);
-      outbox = c.expire_one.ensures.outbox ∙ c.loop-id.invariant.outbox;
+          c.loop-id-test.true c.expire_one.ensures.expired.state c.expire_one.ensures.expired.raises more);
+      outbox = c.expire_one.ensures.expired.outbox ∙ c.loop-id.invariant.outbox;
     }
 
-pub returns-clause-fires : goal.returns-clause-fires
-returns-clause-fires g c = sym (none_left c.args.fired.now c.loop-id.id-index c.loop-id.self.state (drop_all c.loop-id.id-index c.args.fired.now (omega arith))) ∙ c.loop-id.invariant.same_end
-
-pub returns-clause-raises : goal.returns-clause-raises
-returns-clause-raises g c = c.loop-id.invariant.raises c.loop-id.self.inbox_failures
-    (asks-none-left c.args.fired.now c.loop-id.id-index c.loop-id.self.state c.loop-id.self.inbox_failures (drop_all c.loop-id.id-index c.args.fired.now (omega arith)))
+pub returns : goal.returns
+returns g c = record {
+  state = sym (none_left c.args.fired.now c.loop-id.id-index c.loop-id.self.state (drop_all c.loop-id.id-index c.args.fired.now (omega arith))) ∙ c.loop-id.invariant.same_end;
+  counts = c.loop-id.invariant.grows;
+  raises = c.loop-id.invariant.raises c.loop-id.self.inbox_failures
+      (asks-none-left c.args.fired.now c.loop-id.id-index c.loop-id.self.state c.loop-id.self.inbox_failures (drop_all c.loop-id.id-index c.args.fired.now (omega arith)));
+  outbox = c.loop-id.invariant.outbox;
+}

@@ -14,4 +14,4 @@ publish-requires-clause-whole g c =
     let all = ap (λ (r : ReceiverState). is_subset (range 0 size) r.held) (sym c.self.view_is)
     ∙ sym c.covers.ensures ∙ c.if-not-covers.false in
     subst P (sym c.self.view_is)
-    (whole staged c.args.self.now size c.requires.ready c.requires.receiving all)
+    (whole staged c.args.self.now size c.requires.ready.ready c.requires.ready.receiving all)

@@ -45,20 +45,17 @@ short c =
 pub overflow_add-result : goal.overflow_add-result
 overflow_add-result c = let low = short c in omega (arith, low)
 
-pub returns-clause-len : goal.returns-clause-len
-returns-clause-len c =
+pub returns : goal.returns
+returns c =
     let header : c.len_in_widths.result ≡ header_len c.args.self.now.addressing.id_width c.args.self.now.addressing.number_width = c.len_in_widths.ensures
     ∙ ap (λ (r : ReceiverState). header_len r.addressing.id_width r.addressing.number_width) c.self.view_is in
-    omega (arith, header, says c)
-
-pub returns-clause-short : goal.returns-clause-short
-returns-clause-short c = short c
-
-pub returns-clause-can_write : goal.returns-clause-can_write
-returns-clause-can_write c =
     let it : Content = receiver_says c.args.self.now (due_is.Nak c.args.cursor) in
     let addressing = subst (λ (r : ReceiverState). FitsAddressing r.addressing) c.self.view_is c.self.invariant.addressing_fits in
-    can_write c.args.self.now.addressing c.args.self.now.large it addressing
-    (nak_fits c.args.self.now c.args.cursor c.scope_limit.result c.missing_in-gaps.result c.scope_limit.ensures.value (gaps c) c.missing_in-gaps.ensures.inside c.requires.cursor
-    (c.scope_limit.ensures.fits c.requires.receiving))
-    (omega (arith, few c, says c))
+    record {
+      len = omega (arith, header, says c);
+      short = short c;
+      can_write = can_write c.args.self.now.addressing c.args.self.now.large it addressing
+          (nak_fits c.args.self.now c.args.cursor c.scope_limit.result c.missing_in-gaps.result c.scope_limit.ensures.value (gaps c) c.missing_in-gaps.ensures.inside c.requires.1
+          (c.scope_limit.ensures.fits c.requires.0))
+          (omega (arith, few c, says c));
+    }

@@ -7,13 +7,13 @@ pub returns-then-covers-clause-calls : goal.returns-then-covers-clause-calls
 returns-then-covers-clause-calls g c =
     covered-stages g.I.Inbox.steps g.I.Inbox.failures c.args.self.now _ c.self.view_is c.args.offset
     c.args.bytes.now c.args.large c.complete.result c.complete.new.self c.args.inbox.now c.complete.new.inbox
-    (sym c.covers.ensures ∙ c.if-covers.true) c.complete.ensures.calls
+    (sym c.covers.ensures ∙ c.if-covers.true) c.complete.ensures.advances.calls
 
 pub returns-clause-calls : goal.returns-clause-calls
 returns-clause-calls g c =
     new-stages g.I.Inbox.steps g.I.Inbox.failures c.args.self.now _ c.self.view_is c.args.offset
     c.args.bytes.now c.args.large c.receive_new.result c.receive_new.new.self c.args.inbox.now
-    c.receive_new.new.inbox c.requires.receiving (sym c.exceeds.ensures.value ∙ c.if-exceeds.false)
+    c.receive_new.new.inbox c.requires.ready.receiving (sym c.exceeds.ensures.value ∙ c.if-exceeds.false)
     c.receive_new.ensures.calls
 
 pub overflow_add-end : goal.overflow_add-end

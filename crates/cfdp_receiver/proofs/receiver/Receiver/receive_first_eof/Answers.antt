@@ -1,10 +1,15 @@
-use Rattle.std.proofs.Common.{◌∙◌, sym}
-use Rattle.cfdp_receiver.proofs.StepLemmas.{first_eof_stores}
+use Rattle.std.proofs.Common.{◌∙◌, sym, rules}
+use Rattle.cfdp_receiver.specs.Does.{at}
+use Rattle.cfdp_receiver.proofs.StepLemmas.{first_eof_does}
 use Rattle.cfdp_receiver.proofs.receiver.Receiver.receive_first_eof.Goals as goal
 
-pub returns-clause-stores : goal.returns-clause-stores
-returns-clause-stores g c =
-    first_eof_stores c.complete.result c.args.large c.args.ending.checksum c.args.ending.size
-    (g.I.Inbox.published c.args.inbox.now) _
-    (g.I.Inbox.staged c.args.inbox.now) _ c.args.self.now _ c.self.view_is
-    (sym c.contradicts.ensures.value ∙ c.if-contradicts.false) c.complete.ensures.stores
+pub returns : goal.returns
+returns g c = record {
+  advances = record {
+    does = first_eof_does c.complete.result c.args.large c.args.ending.checksum c.args.ending.size _ _
+        (at g.I.Inbox c.args.self.now c.args.effects.now c.args.inbox.now) (at g.I.Inbox c.complete.new.self c.complete.new.effects c.complete.new.inbox)
+        c.self.view_is (sym c.contradicts.ensures.value ∙ c.if-contradicts.false) c.tell.ensures.tells c.complete.ensures.advances.does;
+    kept = search rules;
+    calls = search rules;
+  };
+}

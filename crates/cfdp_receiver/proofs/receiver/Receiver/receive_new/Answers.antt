@@ -1,6 +1,7 @@
 use Rattle.std.proofs.Common.{◌∙◌, ◌+◌, ◌≤◌, length, sym, ap, subst, arith, rules, inl, refl}
 use Rattle.cfdp_directives.specs.Pdu.Codes.{size_limit}
 use Rattle.cfdp_directives.proofs.FileSizes.{limit_low}
+use Rattle.cfdp_receiver.specs.Does.{at}
 use Rattle.cfdp_receiver.specs.State.{ReceiverState}
 use Rattle.std.specs.FinSet.{contains}
 use Rattle.cfdp_extents.specs.Offsets.{Offsets}
@@ -11,22 +12,25 @@ use Rattle.cfdp_receiver.proofs.receiver.Receiver.receive_new.Goals as goal
 
 pub returns-in_err-insert-in-Done-clause-keeps : goal.returns-in_err-insert-in-Done-clause-keeps
 returns-in_err-insert-in-Done-clause-keeps g c =
-    keeps_unheld _ (g.I.Inbox.staged c.args.inbox.now) (g.I.Inbox.staged c.stage.new.inbox)
-    c.args.self.now _
-    c.insert.new.self c.args.told.now.items _ _ _ c.args.offset c.args.bytes.now
-    c.self.view_is c.in_err-insert-in-Done.ensures.err c.stage.ensures.published
-    c.stage.ensures.others
-    (c.stage.ensures.staged (search rules)) c.missing_in-gaps.ensures.gaps
-    c.missing_in-gaps.ensures.inside
+    keeps_unheld _ (at g.I.Inbox c.args.self.now c.args.effects.now c.args.inbox.now) _ c.insert.new.self
+    (g.I.Inbox.published c.stage.new.inbox) (g.I.Inbox.staged c.stage.new.inbox) (g.I.Inbox.failures c.stage.new.inbox) _ c.args.offset c.args.bytes.now
+    c.self.view_is c.in_err-insert-in-Done.ensures.err c.stage.ensures.files
+    (made-level g.I.Inbox.steps g.I.Inbox.failures c.self.inside.addressing.id _ c.args.inbox.now c.stage.new.inbox (c.stage.ensures.writes (search rules)))
+    (c.stage.ensures.staged (search rules)) c.missing_in-gaps.ensures.gaps c.missing_in-gaps.ensures.inside
 
-pub returns-in_err-insert-in-Done-clause-ready : goal.returns-in_err-insert-in-Done-clause-ready
-returns-in_err-insert-in-Done-clause-ready g c =
-    ready_staged (g.I.Inbox.staged c.args.inbox.now) (g.I.Inbox.staged c.stage.new.inbox)
-    c.args.self.now _ _ _
-    c.args.offset c.args.bytes.now c.self.view_is c.requires.ready c.requires.receiving refl
-    (c.stage.ensures.staged (search rules)) c.missing_in-gaps.ensures.gaps
-    c.missing_in-gaps.ensures.inside
-    (λ n h. inl (sym (ap (λ (s : Offsets). contains s n) c.in_err-insert-in-Done.ensures.err) ∙ h))
+pub returns-in_err-insert-in-Done-clause-kept : goal.returns-in_err-insert-in-Done-clause-kept
+returns-in_err-insert-in-Done-clause-kept g c = record {
+  addressing = search rules;
+  ready = ready_staged (g.I.Inbox.staged c.args.inbox.now) (g.I.Inbox.staged c.stage.new.inbox)
+      c.args.self.now _ _ _
+      c.args.offset c.args.bytes.now c.self.view_is c.requires.ready.ready c.requires.ready.receiving refl
+      (c.stage.ensures.staged (search rules)) c.missing_in-gaps.ensures.gaps
+      c.missing_in-gaps.ensures.inside
+      (λ n h. inl (sym (ap (λ (s : Offsets). contains s n) c.in_err-insert-in-Done.ensures.err) ∙ h));
+  others = search rules;
+  grows = search rules;
+  lets_go = search rules;
+}
 
 pub invariant_of-self-in-Done : goal.invariant_of-self-in-Done
 invariant_of-self-in-Done g c = record {
@@ -40,28 +44,26 @@ invariant_of-self-in-Done g c = record {
   cursor_below = c.self.invariant.cursor_below;
 }
 
-pub complete-requires-clause-ready : goal.complete-requires-clause-ready
-complete-requires-clause-ready g c =
-    ready_staged (g.I.Inbox.staged c.args.inbox.now) (g.I.Inbox.staged c.stage.new.inbox)
-    c.args.self.now _ _ _
-    c.args.offset c.args.bytes.now c.self.view_is c.requires.ready c.requires.receiving refl
-    (c.stage.ensures.staged (search rules)) c.missing_in-gaps.ensures.gaps
-    c.missing_in-gaps.ensures.inside
-    (λ n h. held_with c.self.inside.held c.args.offset _ n
-    (sym (ap (λ (s : Offsets). contains s n) c.in_ok-insert-in-Done.ensures.ok) ∙ h))
+pub complete-requires : goal.complete-requires
+complete-requires g c = record {
+  ready = record {
+    receiving = search rules;
+    ready = ready_staged (g.I.Inbox.staged c.args.inbox.now) (g.I.Inbox.staged c.stage.new.inbox)
+        c.args.self.now _ _ _
+        c.args.offset c.args.bytes.now c.self.view_is c.requires.ready.ready c.requires.ready.receiving refl
+        (c.stage.ensures.staged (search rules)) c.missing_in-gaps.ensures.gaps
+        c.missing_in-gaps.ensures.inside
+        (λ n h. held_with c.self.inside.held c.args.offset _ n
+        (sym (ap (λ (s : Offsets). contains s n) c.in_ok-insert-in-Done.ensures.ok) ∙ h));
+    room = search rules;
+  };
+}
 
 pub returns-in-Refused-clause-calls : goal.returns-in-Refused-clause-calls
 returns-in-Refused-clause-calls g c =
     stops-stage g.I.Inbox.steps g.I.Inbox.failures c.args.self.now _ c.self.view_is c.args.offset
     c.args.bytes.now c.fault.new.self _ c.args.inbox.now c.stage.new.inbox c.fault.new.inbox
-    c.missing_in-gaps.ensures.is (c.stage.ensures.fails (search rules)) c.fault.ensures.calls
-
-pub returns-in_err-insert-in-Done-clause-keeps_failures :
-    goal.returns-in_err-insert-in-Done-clause-keeps_failures
-returns-in_err-insert-in-Done-clause-keeps_failures g c =
-    made-level g.I.Inbox.steps g.I.Inbox.failures c.from_residual.result
-    c.self.inside.addressing.id _ c.args.inbox.now c.stage.new.inbox
-    (c.stage.ensures.writes (search rules))
+    c.missing_in-gaps.ensures.is (c.stage.ensures.fails (search rules)) c.fault.ensures.lets_go.calls
 
 pub overflow_add-end : goal.overflow_add-end
 overflow_add-end g c = omega (arith, c.requires.fits, limit_low c.args.self.now.large)

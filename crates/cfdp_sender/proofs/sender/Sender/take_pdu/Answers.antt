@@ -11,8 +11,8 @@ use Rattle.cfdp_sender.proofs.sender.Sender.take_pdu.Goals as goal
 pub returns-in-Err-clause-takes : goal.returns-in-Err-clause-takes
 returns-in-Err-clause-takes g c =
     let is : sender_due c.args.self.now ≡ Some c.in-Some.due = sym c.in-Some.ensures in
-    takes-failed c.args.policy.now.times (octets_in (g.O.Outbox.files c.args.outbox.now) c.args.self.now.source) c.args.self.now c.lose_source.new.self c.in-Some.due c.args.told.now.items
-    c.lose_source.new.told.items c.args.timers.now c.set_timers.new.timers c.args.out.now c.write_due.new.out is c.in-Err.ensures.refused c.lose_source.ensures c.set_timers.ensures
+    takes-failed c.args.policy.now.times (octets_in (g.O.Outbox.files c.args.outbox.now) c.args.self.now.source) c.args.self.now c.lose_source.new.self c.in-Some.due c.args.effects.now _
+    c.args.out.now c.write_due.new.out is c.in-Err.ensures.refused c.lose_source.ensures c.set_timers.ensures
 
 pub returns-clause-takes : goal.returns-clause-takes
 returns-clause-takes g c =
@@ -22,6 +22,5 @@ returns-clause-takes g c =
     let fits = subst (λ o. IfSome o (λ d. written_len c.args.self.now.addressing (is_large c.args.self.now.size) (sender_says file c.args.self.now d) ≤ length c.args.out.now)) is c.requires.fits in
     let room : c.in-Ok.len ≤ length c.write_due.new.out = omega (arith, fits, c.in-Ok.ensures.written.end, c.write_due.auto.out) in
     let last = carried-last c.args.self.now c.in-Some.due file c.args.out.now c.write_due.new.out c.in-Ok.len c.extent-carried.result.1 c.in-Ok.ensures.written room some in
-    takes-moved c.args.policy.now.times file _ c.args.self.now c.note_sent-anew.new.self c.in-Some.due c.in-Ok.len c.note_sent-anew.result c.args.told.now.items c.note_sent-anew.new.told.items
-    c.args.timers.now c.set_timers-2.new.timers c.args.out.now c.write_due.new.out is c.in-Ok.ensures.written last.1 c.note_sent-anew.ensures.sent c.note_sent-anew.ensures.anew
-    c.set_timers-2.ensures
+    takes-moved c.args.policy.now.times file _ c.args.self.now c.note_sent-anew.new.self c.in-Some.due c.in-Ok.len c.note_sent-anew.result c.args.effects.now _
+    c.args.out.now c.write_due.new.out is c.in-Ok.ensures.written last.1 c.note_sent-anew.ensures.sent c.note_sent-anew.ensures.anew c.set_timers-2.ensures

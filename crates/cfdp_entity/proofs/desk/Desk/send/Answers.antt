@@ -1,0 +1,31 @@
+use Rattle.std.proofs.Common.{refl}
+use Rattle.cfdp_sender.specs.declared.taken.Taken.TheVariants.{Moved, SourceFailed}
+use Rattle.cfdp_entity.specs.Desk.{on_desk}
+use Rattle.cfdp_entity.proofs.Records.{is-ready, has-file, sender-took, took-there, receiver-stays}
+use Rattle.cfdp_entity.proofs.desk.Desk.send.Goals as goal
+
+pub take_pdu-requires-clause-file : goal.take_pdu-requires-clause-file
+take_pdu-requires-clause-file g c = has-file c.args.held.now c.in-Sends.sender c.in-Sends.sender c.in-Sends.is _ (on_desk g.O.Outbox g.I.Inbox c.args.self.now)
+    (record { files = refl; staged = refl; sources = refl; policy = refl }) c.requires.ready
+
+pub returns-in-Moved-clause-stays : goal.returns-in-Moved-clause-stays
+returns-in-Moved-clause-stays g c = (sender-took c.args.held.now c.in-Sends.sender c.take_pdu.new.self c.in-Sends.is _ _
+    (record { files = refl; staged = refl; sources = c.take_pdu.ensures.files; policy = refl }) c.requires.ready c.args.out.now c.take_pdu.new.out
+    (Moved c.in-Moved.octets) c.in-Moved.ensures.takes).0.1
+
+pub returns-in-SourceFailed-clause-stays : goal.returns-in-SourceFailed-clause-stays
+returns-in-SourceFailed-clause-stays g c = (sender-took c.args.held.now c.in-Sends.sender c.take_pdu.new.self c.in-Sends.is _ _
+    (record { files = refl; staged = refl; sources = c.take_pdu.ensures.files; policy = refl }) c.requires.ready c.args.out.now c.take_pdu.new.out
+    SourceFailed c.in-SourceFailed.ensures.takes).0.1
+
+pub returns-in-Receives-clause-taken : goal.returns-in-Receives-clause-taken
+returns-in-Receives-clause-taken g c =
+    let ready = is-ready c.args.held.now c.in-Receives.receiver c.in-Receives.is (on_desk g.O.Outbox g.I.Inbox c.args.self.now) c.requires.ready in
+    (took-there c.args.held.now c.in-Receives.receiver c.in-Receives.is _ c.send_of_receiver.new.receiver _ c.send_of_receiver.ensures.kept.addressing refl
+    c.send_of_receiver.ensures.kept ready c.send_of_receiver.result c.args.out.now c.send_of_receiver.new.out c.send_of_receiver.ensures.took).0
+
+pub returns-in-Receives-clause-stays : goal.returns-in-Receives-clause-stays
+returns-in-Receives-clause-stays g c =
+    let ready = is-ready c.args.held.now c.in-Receives.receiver c.in-Receives.is (on_desk g.O.Outbox g.I.Inbox c.args.self.now) c.requires.ready in
+    receiver-stays c.args.held.now c.in-Receives.receiver c.in-Receives.is _ c.send_of_receiver.new.receiver _ c.send_of_receiver.ensures.kept.addressing
+    (c.send_of_receiver.ensures.kept.ready (g.I.Inbox.staged c.args.self.now.inbox) ready) (λ other apart. refl) refl refl

@@ -1,0 +1,242 @@
+// What the steps of records work on, and these steps.
+ghost use Rattle.std.specs.Prelude.{◌≡◌, ◌≤◌, true, None, length, IfOk, OnErr};
+ghost use Rattle.cfdp_directives.specs.Pdu.Addressing.{FitsAddressing};
+ghost use Rattle.cfdp_directives.specs.Pdu.Content.{view};
+ghost use Rattle.cfdp_timers.specs.Effects.{UsesAtMost};
+ghost use Rattle.cfdp_receiver.specs.Does.{MakesIn};
+ghost use Rattle.cfdp_receiver.specs.Storing.{Settles};
+ghost use Rattle.cfdp_sender.specs.Does.{HasFile};
+ghost use Rattle.cfdp_sender.specs.State.{IsSendable};
+ghost use Rattle.cfdp_store.specs.Chains.{Raises};
+ghost use Rattle.cfdp_entity.specs.declared.record.Gave.TheVariants as gaves;
+ghost use Rattle.cfdp_entity.specs.declared.record.Record.TheVariants as records;
+ghost use Rattle.cfdp_entity.specs.Desk.{on_desk, spare};
+ghost use Rattle.cfdp_entity.specs.Does.{Made, Keeps, Stays, Asked, Opens, OpensNone, Widens, hearing, expiring, calling, taking, seen_as};
+ghost use Rattle.cfdp_entity.specs.Gives.{Gives, CountsOutbox, stored_by_gave};
+ghost use Rattle.cfdp_entity.specs.Opening as openings;
+ghost use Rattle.cfdp_entity.specs.Opening.{begins, opens, puts, AsksInOrder, CountsBoth};
+ghost use Rattle.cfdp_entity.specs.Seen.{carries_data, due_len, due_octets, seen};
+ghost use Rattle.cfdp_entity.specs.Storing.{AsksCalled, AsksHeard, AsksFirst, AsksToBegin};
+ghost use Rattle.cfdp_entity.specs.Whole.{MayStep};
+
+use crate::call::Call;
+use crate::opening::{Opened, closing};
+use crate::record::{
+    Gave, Record, call_receiver, call_sender, receiver_hears, send_of_receiver, sender_hears,
+};
+use cfdp_directives::{Addressing, Pdu, Policy};
+use cfdp_receiver::Receiver;
+use cfdp_sender::{Sender, Taken, Transfer};
+use cfdp_store::{Inbox, Outbox, Stored};
+use cfdp_timers::{Effects, Kind};
+use std::alloc::{AllocError, Global};
+
+/// Both stores, the timers with what was indicated, and how long and how often answers are waited
+/// for.
+#[derive(Drop)]
+pub struct Desk<O: Outbox, I: Inbox> {
+    pub outbox: O,
+    pub inbox: I,
+    pub effects: Effects,
+    pub policy: Policy,
+}
+
+impl<O: Outbox, I: Inbox> Desk<O, I> {
+    /// A record hears a PDU of its transaction, with its large file flag. Room for what its steps
+    /// tell was made before.
+    pub(crate) fn hear(
+        &mut self,
+        held: &mut Record,
+        large: bool,
+        pdu: &Pdu<'_>,
+    ) -> Result<Stored, AllocError>
+        requires { MayStep held.old (on_desk O.Outbox I.Inbox self.old) }
+        ensures heard { IfOk result (λ stored. Made (hearing stored large (view pdu.now)) held.old
+            held.new (on_desk O.Outbox I.Inbox self.old) (on_desk O.Outbox I.Inbox self.new)) }
+        ensures asks { IfOk result (λ stored. Asked stored (AsksHeard Raises large (view pdu.now)
+            stored) held.old held.new (on_desk O.Outbox I.Inbox self.old)
+            (on_desk O.Outbox I.Inbox self.new)) }
+        ensures err { OnErr result (Keeps (view pdu.now) held.old held.new
+            (on_desk O.Outbox I.Inbox self.old) (on_desk O.Outbox I.Inbox self.new)) }
+        ensures stays { Stays held.old held.new (on_desk O.Outbox I.Inbox self.old)
+            (on_desk O.Outbox I.Inbox self.new) }
+    {
+        let effects = &mut self.effects;
+        match held {
+            Record::Sends(sender) => sender_hears(sender, effects, &self.policy, pdu),
+            Record::Receives(receiver) => {
+                receiver_hears(receiver, effects, &mut self.inbox, &self.policy, large, pdu)
+            }
+        }
+    }
+
+    /// A timer of its transaction expired.
+    pub(crate) fn expire(&mut self, held: &mut Record, kind: Kind)
+        requires { MayStep held.old (on_desk O.Outbox I.Inbox self.old) }
+        ensures expired { Made (expiring kind) held.old held.new
+            (on_desk O.Outbox I.Inbox self.old) (on_desk O.Outbox I.Inbox self.new) }
+        ensures asks { Asked Stored.Done (Settles Raises Stored.Done) held.old held.new
+            (on_desk O.Outbox I.Inbox self.old) (on_desk O.Outbox I.Inbox self.new) }
+        ensures stays { Stays held.old held.new (on_desk O.Outbox I.Inbox self.old)
+            (on_desk O.Outbox I.Inbox self.new) }
+        ensures room { UsesAtMost 2 self.old.effects.told self.new.effects.told }
+    {
+        let effects = &mut self.effects;
+        match held {
+            Record::Sends(sender) => sender.expire(effects, &self.policy, kind),
+            Record::Receives(receiver) => {
+                receiver.expire(effects, &mut self.inbox, &self.policy, kind);
+            }
+        }
+    }
+
+    /// A call of the user.
+    pub(crate) fn call(&mut self, held: &mut Record, call: Call)
+        requires { MayStep held.old (on_desk O.Outbox I.Inbox self.old) }
+        ensures called { Made (calling call) held.old held.new
+            (on_desk O.Outbox I.Inbox self.old) (on_desk O.Outbox I.Inbox self.new) }
+        ensures asks { Asked Stored.Done (AsksCalled Raises call) held.old held.new
+            (on_desk O.Outbox I.Inbox self.old) (on_desk O.Outbox I.Inbox self.new) }
+        ensures stays { Stays held.old held.new (on_desk O.Outbox I.Inbox self.old)
+            (on_desk O.Outbox I.Inbox self.new) }
+    {
+        let effects = &mut self.effects;
+        match held {
+            Record::Sends(sender) => call_sender(sender, effects, &self.policy, call),
+            Record::Receives(receiver) => {
+                call_receiver(receiver, effects, &mut self.inbox, &self.policy, call);
+            }
+        }
+    }
+
+    /// Takes the PDU that is due.
+    pub(crate) fn send(&mut self, held: &mut Record, out: &mut [u8]) -> Gave
+        requires ready { MayStep held.old (on_desk O.Outbox I.Inbox self.old) }
+        requires fits { due_len (O.files self.old.outbox)
+            (seen_as held.old held.old (on_desk O.Outbox I.Inbox self.old)) ≤ length out.old }
+        ensures taken { Made (taking (stored_by_gave result)) held.old held.new
+            (on_desk O.Outbox I.Inbox self.old) (on_desk O.Outbox I.Inbox self.new) }
+        ensures gives { let before = seen_as held.old held.old (on_desk O.Outbox I.Inbox self.old)
+            in Gives (due_octets (O.files self.old.outbox) before)
+            (due_len (O.files self.old.outbox) before) result out.old out.new }
+        ensures data { result ≡ gaves.Failed → carries_data (seen_as held.old held.old
+            (on_desk O.Outbox I.Inbox self.old)) ≡ true }
+        ensures counts { CountsOutbox (stored_by_gave result) (O.failures self.old.outbox)
+            (O.failures self.new.outbox) }
+        ensures inbox { self.new.inbox ≡ self.old.inbox }
+        ensures stays { Stays held.old held.new (on_desk O.Outbox I.Inbox self.old)
+            (on_desk O.Outbox I.Inbox self.new) }
+    {
+        let effects = &mut self.effects;
+        match held {
+            Record::Sends(sender) => {
+                match sender.take_pdu(effects, &mut self.outbox, &self.policy, out) {
+                    Taken::Nothing => Gave::Octets(0),
+                    Taken::Moved(octets) => Gave::Octets(octets),
+                    Taken::SourceFailed => Gave::Failed,
+                }
+            }
+            Record::Receives(receiver) => {
+                Gave::Octets(send_of_receiver(receiver, effects, &self.policy, out))
+            }
+        }
+    }
+
+    /// Opens the record of a put.
+    pub(crate) fn put(&mut self, alloc: Global, transfer: Transfer) -> Result<Record, AllocError>
+        requires sendable { IsSendable transfer }
+        requires file { HasFile (O.files self.old.outbox) transfer.source transfer.size }
+        requires room { 3 ≤ spare (on_desk O.Outbox I.Inbox self.old) }
+        ensures opens { IfOk result (λ held. Opens transfer.addressing.id
+            (puts (I.published self.old.inbox) transfer) held
+            (on_desk O.Outbox I.Inbox self.old) (on_desk O.Outbox I.Inbox self.new)) }
+        ensures err { OnErr result (OpensNone (on_desk O.Outbox I.Inbox self.old)
+            (on_desk O.Outbox I.Inbox self.new)) }
+        ensures inbox { self.new.inbox ≡ self.old.inbox }
+        ensures widens { Widens transfer.addressing.id (on_desk O.Outbox I.Inbox self.old)
+            (on_desk O.Outbox I.Inbox self.new) }
+    {
+        let sender = Sender::open(alloc, &mut self.effects, transfer)?;
+        Ok(Record::Sends(sender))
+    }
+
+    /// Opens the record of a PDU, and lets it hear the PDU, with its large file flag.
+    pub(crate) fn open(
+        &mut self,
+        alloc: Global,
+        addressing: Addressing,
+        large: bool,
+        pdu: &Pdu<'_>,
+    ) -> Result<(Record, Opened), AllocError>
+        requires fits { FitsAddressing addressing }
+        requires room { 3 ≤ spare (on_desk O.Outbox I.Inbox self.old) }
+        ensures opens { IfOk result (λ o. Opens addressing.id (opens o.1.begun o.1.stored
+            self.old.policy.times (I.published self.old.inbox) large (view pdu.now) addressing)
+            o.0 (on_desk O.Outbox I.Inbox self.old) (on_desk O.Outbox I.Inbox self.new)) }
+        ensures counts { IfOk result (λ o. CountsBoth o.1.begun o.1.stored
+            (I.failures self.old.inbox) (I.failures self.new.inbox)) }
+        ensures in_order { IfOk result (λ o. AsksInOrder (openings.closing (view pdu.now))
+            o.1.begun o.1.stored) }
+        ensures raises { IfOk result (λ o. AsksFirst Raises (openings.closing (view pdu.now))
+            o.1.begun o.1.stored large (view pdu.now) addressing
+            (seen (I.staged self.new.inbox addressing.id) o.0) (I.failures self.old.inbox)
+            (I.failures self.new.inbox)) }
+        ensures err { OnErr result (OpensNone (on_desk O.Outbox I.Inbox self.old)
+            (on_desk O.Outbox I.Inbox self.new)) }
+        ensures widens { Widens addressing.id (on_desk O.Outbox I.Inbox self.old)
+            (on_desk O.Outbox I.Inbox self.new) }
+    {
+        match closing(pdu) {
+            Some(condition) => {
+                let effects = &mut self.effects;
+                let receiver = Receiver::open_closed(alloc, effects, addressing, large, condition)?;
+                let opened = Opened {
+                    begun: Stored::Done,
+                    stored: Stored::Done,
+                };
+                Ok((Record::Receives(receiver), opened))
+            }
+            None => {
+                let (receiver, opened) = self.begin(alloc, addressing, large, pdu)?;
+                Ok((Record::Receives(receiver), opened))
+            }
+        }
+    }
+
+    // Opens a receiver. Where the inbox begins its transaction, it hears the PDU.
+    fn begin(
+        &mut self,
+        alloc: Global,
+        addressing: Addressing,
+        large: bool,
+        pdu: &Pdu<'_>,
+    ) -> Result<(Receiver, Opened), AllocError>
+        requires fits { FitsAddressing addressing }
+        requires room { 3 ≤ spare (on_desk O.Outbox I.Inbox self.old) }
+        ensures opens { IfOk result (λ o. Opens addressing.id (begins o.1.begun o.1.stored
+            self.old.policy.times (I.published self.old.inbox) large (view pdu.now) addressing)
+            (records.Receives o.0) (on_desk O.Outbox I.Inbox self.old)
+            (on_desk O.Outbox I.Inbox self.new)) }
+        ensures counts { IfOk result (λ o. CountsBoth o.1.begun o.1.stored
+            (I.failures self.old.inbox) (I.failures self.new.inbox)) }
+        ensures in_order { IfOk result (λ o. AsksInOrder None o.1.begun o.1.stored) }
+        ensures calls { IfOk result (λ o. AsksToBegin (MakesIn I.Inbox) o.1.begun o.1.stored large
+            (view pdu.now) addressing (seen (I.staged self.new.inbox addressing.id)
+            (records.Receives o.0)) self.old.inbox self.new.inbox) }
+        ensures err { OnErr result (OpensNone (on_desk O.Outbox I.Inbox self.old)
+            (on_desk O.Outbox I.Inbox self.new)) }
+        ensures widens { Widens addressing.id (on_desk O.Outbox I.Inbox self.old)
+            (on_desk O.Outbox I.Inbox self.new) }
+    {
+        let effects = &mut self.effects;
+        let inbox = &mut self.inbox;
+        let (mut receiver, begun) = Receiver::open(alloc, effects, inbox, addressing, large)?;
+        let stored = match begun {
+            Stored::Done => {
+                receiver_hears(&mut receiver, effects, inbox, &self.policy, large, pdu)?
+            }
+            Stored::Refused => Stored::Done,
+        };
+        Ok((receiver, Opened { begun, stored }))
+    }
+}
