@@ -41,8 +41,8 @@ eight_below a b c d e f g h h0 h1 h2 h3 h4 h5 h6 h7 (suc (suc zero)) = h2
 eight_below a b c d e f g h h0 h1 h2 h3 h4 h5 h6 h7 (suc (suc (suc zero))) = h3
 eight_below a b c d e f g h h0 h1 h2 h3 h4 h5 h6 h7 (suc (suc (suc (suc i)))) = four_below e f g h h4 h5 h6 h7 i
 
-eight_spelled : (o : List ℕ) (a b c d e f g h : ℕ) → get_or o 0 0 ≡ a → get_or o 1 0 ≡ b → get_or o 2 0 ≡ c → get_or o 3 0 ≡ d → get_or o 4 0 ≡ e → get_or o 5 0 ≡ f → get_or o 6 0 ≡ g → get_or o 7 0 ≡ h
-    → a < 256 → b < 256 → c < 256 → d < 256 → e < 256 → f < 256 → g < 256 → h < 256
+eight_spelled : (o : List ℕ) (a b c d e f g h : ℕ) → get_or o 0 0 ≡ a → get_or o 1 0 ≡ b → get_or o 2 0 ≡ c → get_or o 3 0 ≡ d → get_or o 4 0 ≡ e → get_or o 5 0 ≡ f → get_or o 6 0 ≡ g
+    → get_or o 7 0 ≡ h → a < 256 → b < 256 → c < 256 → d < 256 → e < 256 → f < 256 → g < 256 → h < 256
     → field o 0 64 ≡ (a * 16777216 + b * 65536 + c * 256 + d) * 4294967296 + (e * 16777216 + f * 65536 + g * 256 + h)
 eight_spelled o a b c d e f g h ea eb ec ed ee ef eg eh ha hb hc hd he hf hg hh =
     let f4 : field o 0 32 ≡ a * 16777216 + b * 65536 + c * 256 + d = four_spelled o a b c d ea eb ec ed ha hb hc hd in

@@ -1,6 +1,6 @@
-// Numbers of four and of eight octets, read and written at once. The octets are loaded as one number,
-// which turns them round, and then turned back: LLVM makes one load of it, and none of a loop that
-// multiplies.
+// Numbers of four and of eight octets, read and written at once. The octets are loaded as one
+// number, which turns them round, and then turned back: LLVM makes one load of it, and none of a
+// loop that multiplies.
 ghost use Rattle.std.specs.Prelude.{◌≡◌, ◌+◌, ◌≤◌, ◌++◌, length, take, drop};
 ghost use Rattle.cfd_bits.specs.Field.{field, octets};
 
@@ -28,8 +28,8 @@ pub fn read_eight(bytes: &[u8]) -> u64
     turned.swap_bytes()
 }
 
-/// Writes the number into four octets from octet `at` on, the most significant first, and says where
-/// they end. The octets before and behind stay.
+/// Writes the number into four octets from octet `at` on, the most significant first, and says
+/// where they end. The octets before and behind stay.
 #[inline(always)]
 #[tactic(auto, using(crate::proofs::Turned::four_written))]
 pub fn put_four(out: &mut [u8], at: usize, value: u32) -> usize

@@ -106,7 +106,8 @@ module _ (a : Addressing) (large : Bool) (v : Content) (r : ReceiverState) (old 
 
     pub opens-begun : (stored : Stored) (s : ReceiverState) (new : DeskState) → receiver_does.Does receiver_does.timers_kept Done (λ m files s. receiver.opens Done large files a) first (scene r mid)
         → ReceiverDoes old.policy.times stored (found (receiver_after stored large v) (scene r mid)) (scene r mid) (scene s new)
-        → s.addressing ≡ r.addressing → IsReady new.staged s → set.contains effects.timers.roomy a.id ≡ true → Opens a.id (begins Done stored old.policy.times old.files large v a) (held.Receives s) old new
+        → s.addressing ≡ r.addressing → IsReady new.staged s → set.contains effects.timers.roomy a.id ≡ true → Opens a.id (begins Done stored old.policy.times old.files large v a)
+        (held.Receives s) old new
     opens-begun stored s new begun heard addr ready room =
         let r0 : ReceiverState = opened_receiver a in
         let id_is : r.addressing.id ≡ a.id = ap (λ (x : ReceiverState). x.addressing.id) begun.receiver in

@@ -1,5 +1,5 @@
 -- What a step asks of the inbox, said of the inbox and said of the count of its failures.
-use Rattle.std.proofs.Common.{◌≡◌, ℕ, Bool, List, Option, Some, None, Result, Ok, Err, IfOk, refl, sym, subst}
+use Rattle.std.proofs.Common.{◌≡◌, ℕ, Bool, List, Option, Some, None, Result, Ok, Err, IfOk, sym, subst}
 use Rattle.cfdp_directives.specs.declared.pdu.addressing.Addressing.{Addressing}
 use Rattle.cfdp_directives.specs.Pdu.Content.{Content, FileData, Metadata, Eof, Finished, Ack, Nak, Prompt, KeepAlive}
 use Rattle.cfdp_store.specs.declared.stored.Stored.{Stored}
@@ -7,16 +7,13 @@ use Rattle.cfdp_store.specs.declared.stored.Stored.TheVariants.{Done, Refused}
 use Rattle.cfdp_store.specs.Calls.{InboxCall}
 use Rattle.cfdp_store.specs.Chains.{Makes, Raises}
 use Rattle.cfdp_store.specs.Staged.{OctetMap}
-use Rattle.cfdp_sender.specs.State.{SenderState}
 use Rattle.cfdp_receiver.specs.State.{ReceiverState, opened_receiver}
 use Rattle.cfdp_receiver.specs.Storing.{Settles, Stages, staged_pieces}
 use Rattle.cfdp_receiver.proofs.ReadOff.{settles, stages, begins}
-use Rattle.cfdp_entity.specs.declared.call.Call.{Call}
-use Rattle.cfdp_entity.specs.declared.call.Call.TheVariants as call
 use Rattle.cfdp_entity.specs.declared.record.Record.{Record}
 use Rattle.cfdp_entity.specs.declared.record.Record.TheVariants as held
 use Rattle.cfdp_entity.specs.Seen.{Seen, Sends, Receives, seen}
-use Rattle.cfdp_entity.specs.Storing.{AsksHeard, AsksCalled, AsksAs, AsksFirst}
+use Rattle.cfdp_entity.specs.Storing.{AsksHeard, AsksAs, AsksFirst}
 
 module _ {S : Type 0} (steps : S → InboxCall → S → Type 0) (failures : S → ℕ) where
   raised : (calls : List InboxCall) (old new : S) → Makes steps failures calls old new → Raises calls (failures old) (failures new)
@@ -36,12 +33,6 @@ module _ {S : Type 0} (steps : S → InboxCall → S → Type 0) (failures : S �
   heard large (Prompt keep_alive) stored r s old new h = h.1
   heard large (KeepAlive progress) stored r s old new h = h.1
 
-  called : (c : Call) (r s : ReceiverState) (old new : S) → AsksCalled (Makes steps failures) c r s old new → AsksCalled Raises c r s (failures old) (failures new)
-  called call.Cancel r s old new h = settled Done r s old new h
-  called call.Suspend r s old new h = h.1
-  called call.Resume r s old new h = h.1
-  called (call.Prompt keep_alive) r s old new h = h.1
-
   -- file data
   pub data-heard : {E : Type 0} (answer : Result Stored E) (large : Bool) (v : Content) (offset : ℕ) (bytes : List ℕ) → v ≡ FileData offset bytes → (r s : ReceiverState) (old new : S)
       → IfOk answer (λ stored. Stages (Makes steps failures) stored (staged_pieces large offset bytes r) r s old new)
@@ -60,13 +51,6 @@ module _ {S : Type 0} (steps : S → InboxCall → S → Type 0) (failures : S �
     heard-here (Ok stored) large v h = here (AsksHeard Raises large v stored) (heard large v stored r s old new h)
     heard-here (Err e) large v h = tt
 
-    pub expired-here : Settles (Makes steps failures) Done r s old new → AsksAs Raises (Settles Raises Done) (seen staged k) (seen staged_now (held.Receives s)) (failures old) (failures new)
-    expired-here h = here (Settles Raises Done) (settled Done r s old new h)
-
-    pub called-here : (c : Call) → AsksCalled (Makes steps failures) c r s old new →
-        AsksAs Raises (AsksCalled Raises c) (seen staged k) (seen staged_now (held.Receives s)) (failures old) (failures new)
-    called-here c h = here (AsksCalled Raises c) (called c r s old new h)
-
   -- a record more
   pub opened : (closes : Option ℕ) (begun stored : Stored) (large : Bool) (v : Content) (a : Addressing) (s : Seen) (old new : S) →
       AsksFirst (Makes steps failures) closes begun stored large v a s old new →
@@ -76,13 +60,3 @@ module _ {S : Type 0} (steps : S → InboxCall → S → Type 0) (failures : S �
       (failures h.0, begins (Makes steps failures) Raises failures raised Done a.id old h.0 h.1, heard large v stored (opened_receiver a) r h.0 new h.2)
   opened None Done stored large v a (Sends x) old new h = absurd h.2
   opened None Refused stored large v a s old new h = begins (Makes steps failures) Raises failures raised Refused a.id old new h
-
--- the record of a sender
-pub sender-asks : (Asks : (r s : ReceiverState) → (old new : ℕ) → Type 0) (k : Record) (x : SenderState) → k ≡ held.Sends x → (staged : Option OctetMap) (after : Seen) (n : ℕ) →
-    AsksAs Raises Asks (seen staged k) after n n
-sender-asks Asks k x is staged after n = subst (λ (q : Record). AsksAs Raises Asks (seen staged q) after n n) (sym is) refl
-
-pub sender-heard : {E : Type 0} (answer : Result Stored E) (large : Bool) (v : Content) (k : Record) (x : SenderState) → k ≡ held.Sends x → (staged : Option OctetMap) (after : Seen) (n : ℕ) →
-    IfOk answer (λ stored. AsksAs Raises (AsksHeard Raises large v stored) (seen staged k) after n n)
-sender-heard (Ok stored) large v k x is staged after n = sender-asks (AsksHeard Raises large v stored) k x is staged after n
-sender-heard (Err e) large v k x is staged after n = tt

@@ -1,6 +1,6 @@
 -- What a step of a machine does to its record.
-use Rattle.std.proofs.Common.{◌≡◌, ℕ, ◌∷◌, [], Bool, true, false, ◌&&◌, ◌==◌, List, Option, Some, None, Result, Ok, Err, OnOk, OnErr, IfOk, take, arith, length, ◌≤◌, IfSome, refl, sym, ap, subst, ◌∙◌, if◌then◌else◌}
-use Rattle.std.specs.Prelude.{unwrap_or, nat_lt, min, IsSome}
+use Rattle.std.proofs.Common.{◌≡◌, ℕ, ◌∷◌, [], Bool, true, false, ◌&&◌, ◌==◌, List, Option, Some, None, Result, Ok, Err, OnOk, OnErr, IfOk, take, arith, length, ◌≤◌, refl, sym, ap, subst, ◌∙◌, if◌then◌else◌}
+use Rattle.std.specs.Prelude.{◌+◌, ◌-◌, ◌^◌, max, unwrap_or, nat_lt, min, IsSome}
 use Rattle.std.specs.FinMap as map
 use Rattle.std.specs.FinMap.{empty}
 use Rattle.std.specs.FinSet as set
@@ -19,6 +19,7 @@ use Rattle.cfdp_store.specs.Staged.{OctetMap, OthersKeep, staged_for}
 use Rattle.cfdp_timers.specs.declared.effects.Effects.{Effects}
 use Rattle.cfdp_timers.specs.Armed.{TimersState}
 use Rattle.cfdp_receiver.specs.Does.{Scene, Kept, KeptAlone}
+use Rattle.cfdp_timers.specs.Effects.{HasRoom}
 use Rattle.cfdp_timers.specs.Waits.{waited}
 use Rattle.cfdp_receiver.specs.declared.state.ReceiverPhase.{ReceiverPhase}
 use Rattle.cfdp_receiver.specs.declared.state.ReceiverPhase.TheVariants as phase
@@ -46,14 +47,14 @@ use Rattle.cfdp_entity.specs.declared.record.Record.{Record}
 use Rattle.cfdp_entity.specs.declared.record.Record.TheVariants as held
 use Rattle.cfdp_entity.specs.Seen.{Seen, Sends, seen, octets_seen, due_octets, due_len, due_content, addressing_of, large_of, octets_of, len_of, carries_by, carries_data}
 use Rattle.cfdp_entity.specs.Seen as seens
-use Rattle.cfdp_entity.specs.Steps.{After, by_sender, by_receiver, no_step, sender_after, receiver_after, called_sender, called_receiver, sender_takes, receiver_takes}
+use Rattle.cfdp_entity.specs.Steps.{After, by_sender, by_receiver, no_step, sender_after, receiver_after, called_sender, sender_takes, receiver_takes}
 use Rattle.cfdp_entity.specs.Desk.{Staged, DeskState, scene}
 use Rattle.cfdp_entity.specs.Does.{Does, Made, Keeps, Stays, SenderDoes, SenderKeeps, ReceiverDoes, ReceiverKeeps, ReceiverTook, ReceiverAcks, Asked, hearing, expiring, calling, taking, seen_as, found}
 use Rattle.cfdp_entity.specs.Storing.{AsksAs, AsksHeard}
 use Rattle.cfdp_entity.specs.Whole.{MayStep}
-use Rattle.cfdp_entity.proofs.Masked.{Masks, masks-metadata, masks-data, masks-eof, masks-ack, masks-prompt, masks-cancels, masks-suspends, masks-resumes, masks-expires, masks-takes}
+use Rattle.cfdp_entity.proofs.Masked.{Masks, masks-metadata, masks-data, masks-eof, masks-ack, masks-prompt, masks-takes}
 use Rattle.cfdp_entity.proofs.Entries.{ready-sender, sender-ready, ready-receiver, receiver-ready}
-use Rattle.cfdp_entity.specs.declared.record.Gave.TheVariants.{Octets}
+use Rattle.cfdp_entity.specs.declared.record.Gave.TheVariants.{Octets, Failed}
 use Rattle.cfdp_entity.specs.Gives.{Gives}
 use Rattle.cfdp_sender.specs.declared.taken.Taken.{Taken}
 use Rattle.cfdp_sender.specs.declared.taken.Taken.TheVariants.{Nothing, Moved, SourceFailed}
@@ -108,7 +109,8 @@ module _ (r r_now : ReceiverState) (old new : DeskState) (addr : r_now.addressin
         state = seen-after a r_now r.addressing.id new.staged does.receiver (ap (λ (x : Addressing). x.id) addr) does.octets;
         tells = does.tells;
         timers = does.timers ∙ (λ i. record old.effects.timers {
-          armed = waited old.effects.timers.time ((ap (λ (x : ReceiverState). x.addressing.id) does.receiver ∙ id_now) i) (receiver_does.waits_of times a.anew (does.receiver i)) old.effects.timers.armed;
+          armed = waited old.effects.timers.time ((ap (λ (x : ReceiverState). x.addressing.id) does.receiver ∙ id_now) i) (receiver_does.waits_of times a.anew (does.receiver i))
+              old.effects.timers.armed;
         });
         files = does.files;
       })
@@ -141,12 +143,6 @@ module _ (r r_now : ReceiverState) (old new : DeskState) (addr : r_now.addressin
   receiver-hears stored large (Nak start end pairs) does = receiver-rests does.1
   receiver-hears stored large (KeepAlive progress) does = receiver-rests does.1
 
-  receiver-called : (c : Call) → ReceiverDoes old.policy.times Done (found (called_receiver c) (scene r old)) (scene r old) (scene r_now new) → there (calling c)
-  receiver-called call.Cancel does = receiver-does (λ m. receiver.cancels m old.files r) (λ over. masks-cancels old.files r over) Done does
-  receiver-called call.Suspend does = receiver-does (λ m. receiver.suspends m old.files r) (λ over. masks-suspends old.files r over) Done does
-  receiver-called call.Resume does = receiver-does (λ m. receiver.resumes m old.files r) (λ over. masks-resumes old.files r over) Done does
-  receiver-called (call.Prompt keep_alive) does = receiver-rests does.1
-
   receiver-keeps : (v : Content) → ReceiverKeeps v (scene r old) (scene r_now new) → new.outbox_failures ≡ old.outbox_failures → Keeps v (held.Receives r) (held.Receives r_now) old new
   receiver-keeps (Metadata kind size source destination options) same outbox = record {
     state = ap (λ (s : Scene). seens.Receives s.receiver (octets_seen s.receiver (staged_for s.staged r.addressing.id))) same;
@@ -175,10 +171,11 @@ module _ (r r_now : ReceiverState) (old new : DeskState) (addr : r_now.addressin
   }
     where
       agree : (n : ℕ) → set.contains r.held n ≡ true → map.get (octets_seen r (staged_for new.staged r.addressing.id)) n ≡ map.get (octets_seen r (staged_for old.staged r.addressing.id)) n
-      agree n is_held = elim (is_receiving r.phase) as (λ b. map.get (if b then staged_for new.staged r.addressing.id else empty) n ≡ map.get (if b then staged_for old.staged r.addressing.id else empty) n) [
-        | true ↦ keeps.octets n is_held
-        | false ↦ refl
-      ]
+      agree n is_held = elim (is_receiving r.phase) as (λ b. map.get (if b then staged_for new.staged r.addressing.id else empty) n ≡ map.get
+          (if b then staged_for old.staged r.addressing.id else empty) n) [
+            | true ↦ keeps.octets n is_held
+            | false ↦ refl
+          ]
 
 -- ---- a sender
 module _ (x x_now : SenderState) (old new : DeskState) (files : new.files ≡ old.files) where
@@ -303,7 +300,8 @@ module _ (times : Times) (r r_now : ReceiverState) (old new : Effects) (files : 
   abbrev pub seen-now : Scene
   seen-now = record { receiver = r_now; told = new.told.items; timers = new.timers; files = files; staged = staged; failures = failures }
 
-  pub alone-receives : (step : receiver_does.Step) → receiver_does.DoesAlone times step r r_now old new → ((m : OctetMap) → (step m files r).files ≡ files) → ((m : OctetMap) → (step m files r).octets ≡ m)
+  pub alone-receives : (step : receiver_does.Step) → receiver_does.DoesAlone times step r r_now old new → ((m : OctetMap) → (step m files r).files ≡ files) →
+      ((m : OctetMap) → (step m files r).octets ≡ m)
       → ReceiverDoes times Done (Some (step (staged_for staged r.addressing.id) files r)) seen-before seen-now
   alone-receives step does same octets =
       let m : OctetMap = staged_for staged r.addressing.id in
@@ -314,7 +312,8 @@ module _ (times : Times) (r r_now : ReceiverState) (old new : Effects) (files : 
         files = sym (same m);
         octets = λ receiving. (
             let now : r_now.phase ≡ phase.Receiving = ap (λ (x : ReceiverState). x.phase) (does.receiver m files) ∙ receiving in
-            let id_now : (step m files r).receiver.addressing.id ≡ r.addressing.id = ap (λ (x : ReceiverState). x.addressing.id) (sym (does.receiver m files)) ∙ ap (λ (k : Addressing). k.id) kept.addressing in
+            let id_now : (step m files r).receiver.addressing.id ≡ r.addressing.id = ap (λ (x : ReceiverState). x.addressing.id) (sym (does.receiver m files)) ∙ ap (λ (k : Addressing). k.id)
+            kept.addressing in
             let begun : IsSome (staged r.addressing.id) = subst (λ (k : Addressing). IsSome (staged k.id)) kept.addressing ((kept.ready staged ready).begun now) in
             ap staged id_now ∙ some-staged (staged r.addressing.id) begun ∙ ap Some (sym (octets m))
             );
@@ -476,13 +475,6 @@ module _ (s : Record) (x x_now : SenderState) (is : s ≡ held.Sends x) (old new
         by (Ok stored) h = (sender-hears stored large v h).0
         by (Err e) h = tt
 
-    pub sender-failed : OnErr answer (Keeps v s (held.Sends x_now) old new)
-    sender-failed = by answer keeps
-      where
-        by : (a : Result Stored E) → OnErr a (SenderKeeps v x x_now old.effects new.effects) → OnErr a (Keeps v s (held.Sends x_now) old new)
-        by (Ok stored) h = tt
-        by (Err e) h = (sender-keeps v h inbox outbox).0
-
     pub sender-stays : Stays s (held.Sends x_now) old new
     sender-stays = by answer does keeps
       where
@@ -490,6 +482,14 @@ module _ (s : Record) (x x_now : SenderState) (is : s ≡ held.Sends x) (old new
             Stays s (held.Sends x_now) old new
         by (Ok stored) h k = (sender-hears stored large v h).1
         by (Err e) h k = (sender-keeps v k inbox outbox).1
+
+-- a read that failed was counted
+pub refused-counts : (n m : ℕ) → m ≡ max n (min (n + 1) (2 ^ 64 - 1)) → Counts Refused n m
+refused-counts n m counted = (omega (arith, counted), λ below. omega (arith, counted, below))
+
+-- octets that were written are no failure
+pub never-failed : {P : Type 0} (n : ℕ) → Octets n ≡ Failed → P
+never-failed n failed = absurd (cc)
 
 -- ---- and of a receiver
 -- the timers of others have the room that they had
@@ -515,6 +515,9 @@ counted times stored None old new does = subst (λ k. Counts k old.failures new.
     ap-le e = omega (arith, e)
 
 module _ (s : Record) (r : ReceiverState) (is : s ≡ held.Receives r) (old : DeskState) where
+  pub has-room : MayStep s old → HasRoom r.addressing.id old.effects
+  has-room may = (subst (λ (k : Record). MayStep k old) is may).room
+
   pub is-ready : MayStep s old → IsReady old.staged r
   is-ready may = (ready-receiver old.staged old.sources r.addressing.id r (subst (λ (k : Record). MayStep k old) is may).ready).1
 
@@ -530,14 +533,6 @@ module _ (s : Record) (r : ReceiverState) (is : s ≡ held.Receives r) (old : De
     of-receiver : (step : DeskState → Seen → After) → Made step (held.Receives r) (held.Receives r_now) old new → Made step s (held.Receives r_now) old new
     of-receiver step does = subst (λ (k : Record). Made step k (held.Receives r_now) old new) (sym is) does
 
-    pub called-there : (c : Call) → ReceiverDoes old.policy.times Done (found (called_receiver c) (scene r old)) (scene r old) (scene r_now new) → Made (calling c) s (held.Receives r_now) old new
-    called-there c does = of-receiver (calling c) (receiver-called r r_now old new addr c does)
-
-    pub expired-there : (k : Kind) → receiver_does.Does (receiver_does.timers_set old.policy.times) Done (receiver.expires k old.policy) (scene r old) (scene r_now new)
-        → Made (expiring k) s (held.Receives r_now) old new
-    expired-there k does = of-receiver (expiring k) (receiver-does r r_now old new addr (λ m. receiver.expires k old.policy m old.files r) (λ over. masks-expires old.files r over old.policy k) Done
-        (record { receiver = does.receiver; tells = does.tells; timers = does.timers; files = does.files; octets = does.octets; counts = does.counts }))
-
     abbrev earlier : Seen
     earlier = seen_as s s old
 
@@ -545,7 +540,8 @@ module _ (s : Record) (r : ReceiverState) (is : s ≡ held.Receives r) (old : De
     earlier-is = ap (λ (k : Record). seen_as k k old) is
 
     -- what taking its PDU does: the inbox stays as it is
-    pub took-there : scene r_now new ≡ record (scene r_now new) { files = old.files; staged = old.staged; failures = old.inbox_failures } → KeptAlone r r_now → IsReady old.staged r → (n : ℕ) (out out_now : List ℕ) →
+    pub took-there : scene r_now new ≡ record (scene r_now new) { files = old.files; staged = old.staged; failures = old.inbox_failures } → KeptAlone r r_now → IsReady old.staged r → (n : ℕ)
+        (out out_now : List ℕ) →
         ReceiverTook old.policy.times (receiver_due r) r r_now old.effects new.effects n out out_now
         → Made (taking Done) s (held.Receives r_now) old new × Gives (due_octets old.sources earlier) (due_len old.sources earlier) (Octets n) out out_now
     took-there inbox_kept kept ready n out out_now took = by (receiver_due r) refl took
@@ -563,7 +559,8 @@ module _ (s : Record) (r : ReceiverState) (is : s ≡ held.Receives r) (old : De
             ap (due_len old.sources) earlier-is ∙ ap (λ d. len_of r.large r.addressing (seens.receiver_content r d)) due_is in
             (h.0 ∙ sym len, record { front = h.1.front ∙ sym octets; behind = h.1.behind })
 
-        took-so : (o : Option Due) → receiver_due r ≡ o → Does r.addressing.id (receiver_takes old.policy.times old.files r (octets_seen r m) o) (seen (new.staged r.addressing.id) (held.Receives r_now)) old
+        took-so : (o : Option Due) → receiver_due r ≡ o → Does r.addressing.id (receiver_takes old.policy.times old.files r (octets_seen r m) o)
+            (seen (new.staged r.addressing.id) (held.Receives r_now)) old
             new → Made (taking Done) s (held.Receives r_now) old new
         took-so o due_is does = of-receiver (taking Done)
             (subst (λ (o : Option Due). Does r.addressing.id (receiver_takes old.policy.times old.files r (octets_seen r m) o)
@@ -591,13 +588,6 @@ module _ (s : Record) (r : ReceiverState) (is : s ≡ held.Receives r) (old : De
     heard-asked (Ok stored) large v does raises outbox = record { counts = counted old.policy.times stored _ (scene r old) (scene r_now new) does; raises = raises; outbox = outbox }
     heard-asked (Err e) large v does raises outbox = tt
 
-    -- by what hearing a PDU answered
-    pub heard-answered : {E : Type 0} (answer : Result Stored E) (large : Bool) (v : Content)
-        → IfOk answer (λ stored. ReceiverDoes old.policy.times stored (found (receiver_after stored large v) (scene r old)) (scene r old) (scene r_now new))
-        → IfOk answer (λ stored. Made (hearing stored large v) s (held.Receives r_now) old new)
-    heard-answered (Ok stored) large v h = of-receiver (hearing stored large v) (receiver-hears r r_now old new addr stored large v h)
-    heard-answered (Err e) large v h = tt
-
     pub heard-failed : {E : Type 0} (answer : Result Stored E) (v : Content) → OnErr answer (ReceiverKeeps v (scene r old) (scene r_now new)) → new.outbox_failures ≡ old.outbox_failures →
         OnErr answer (Keeps v s (held.Receives r_now) old new)
     heard-failed (Ok stored) v h outbox = tt
@@ -613,9 +603,3 @@ len-of-sender sources x n file len = ap (λ o. unwrap_or o 0) (len (octets_in so
         ≡ len_of (is_large x.size) x.addressing (seens.sender_content (octets_in sources x.source) x o)
     by (Some d) = refl
     by None = refl
-
--- and that it fits
-pub fits-sender : (file : List ℕ) (x : SenderState) (o : Option SenderDue) (n : ℕ) → len_of (is_large x.size) x.addressing (seens.sender_content file x o) ≤ n →
-    IfSome o (λ d. written_len x.addressing (is_large x.size) (sender_says file x d) ≤ n)
-fits-sender file x (Some d) n h = h
-fits-sender file x None n h = tt

@@ -15,6 +15,7 @@ use Rattle.cfdp_store.specs.Staged.{OctetMap, OthersKeep, staged_for}
 use Rattle.cfdp_store.specs.Stores.{Counts}
 use Rattle.cfdp_timers.specs.declared.effects.Effects.{Effects}
 use Rattle.cfdp_timers.specs.declared.kind.Kind.{Kind}
+use Rattle.cfdp_timers.specs.Effects.{HasRoom}
 use Rattle.cfdp_sender.specs.State.{SenderState}
 use Rattle.cfdp_sender.specs.Steps as sender
 use Rattle.cfdp_sender.specs.Does as sender_does
@@ -25,11 +26,12 @@ use Rattle.cfdp_receiver.specs.Does.{Scene}
 use Rattle.cfdp_receiver.specs.declared.due.Due.{Due}
 use Rattle.cfdp_receiver.specs.Due.{receiver_says}
 use Rattle.cfdp_entity.specs.declared.call.Call.{Call}
-use Rattle.cfdp_entity.specs.declared.record.Gave.TheVariants.{Octets}
+use Rattle.cfdp_entity.specs.declared.record.Gave.{Gave}
+use Rattle.cfdp_entity.specs.declared.record.Gave.TheVariants.{Octets, Failed}
 use Rattle.cfdp_entity.specs.declared.record.Record.{Record}
 use Rattle.cfdp_entity.specs.Desk.{DeskState}
-use Rattle.cfdp_entity.specs.Gives.{Gives}
-use Rattle.cfdp_entity.specs.Seen.{Seen, seen, octets_of, len_of}
+use Rattle.cfdp_entity.specs.Gives.{Gives, CountsOutbox, stored_by_gave}
+use Rattle.cfdp_entity.specs.Seen.{Seen, seen, octets_of, len_of, due_octets, due_len, carries_data}
 use Rattle.cfdp_entity.specs.Steps.{After, with_waits, hears, expires, calls, takes, Spoils}
 use Rattle.cfdp_entity.specs.Storing.{AsksAs}
 use Rattle.cfdp_entity.specs.Whole.{id_of, IsReadyRecord}
@@ -58,10 +60,11 @@ pub record Does (id : TransactionId) (after : After) (now : Seen) (old new : Des
     }
     pub files : new.files ≡ after.files
 
--- what is seen of a record that stood before as this one
+-- how a record is seen, whose transaction is that of the one before
 abbrev pub seen_as : (before now : Record) → DeskState → Seen
 seen_as before now desk = seen (desk.staged (id_of before)) now
 
+-- A call made this step of the record before, which left the record now.
 abbrev pub Made : (DeskState → Seen → After) → (before now : Record) → (old new : DeskState) →
     Type 0
 Made step before now old new =
@@ -82,6 +85,16 @@ pub record Stays (before now : Record) (old new : DeskState) : Type 0 where
   pub others : OthersKeep (id_of before) old.staged new.staged
   pub sources : new.sources ≡ old.sources
   pub policy : new.policy ≡ old.policy
+
+-- The PDU that was due was taken, or the outbox failed to give its octets, and that was counted.
+pub record Sent (gave : Gave) (before now : Record) (old new : DeskState)
+    (out_before out_now : List ℕ) : Type 0 where
+  pub made : Made (taking (stored_by_gave gave)) before now old new
+  pub gives : Gives (due_octets old.sources (seen_as before before old))
+      (due_len old.sources (seen_as before before old)) gave out_before out_now
+  pub carries : gave ≡ Failed → carries_data (seen_as before before old) ≡ true
+  pub counts : CountsOutbox (stored_by_gave gave) old.outbox_failures new.outbox_failures
+  pub inbox : new.inbox_failures ≡ old.inbox_failures
 
 -- The step asked this of the inbox, which answered so, and nothing of the outbox.
 pub record Asked (stored : Stored) (Asks : (r s : ReceiverState) → (old new : ℕ) → Type 0)
@@ -136,8 +149,15 @@ SenderKeeps (Nak start end pairs) before now old new =
     sender_does.AsksSome pairs before now × (new ≡ old)
 SenderKeeps _ before now old new = ⊥
 
+-- A receiver can make a step: there is room for it, and what it holds is staged.
+pub record MayReceive {S : Type 0} (inbox : Inbox S) (r : ReceiverState) (effects : Effects) (s : S)
+    : Type 0 where
+  pub room : HasRoom r.addressing.id effects
+  pub ready : IsReady (inbox.staged s) r
+
 -- a call of a receiver left this, if it makes a step
-abbrev pub ReceiverDoes : Times → Stored → Option receiver.ReceiverAfter → (old new : Scene) → Type 0
+abbrev pub ReceiverDoes : Times → Stored → Option receiver.ReceiverAfter → (old new : Scene) →
+    Type 0
 ReceiverDoes times stored (Some a) old new =
     receiver_does.Does (receiver_does.timers_set times) stored (λ m files r. a) old new
 ReceiverDoes times stored None old new = (stored ≡ Done) × (new ≡ old)

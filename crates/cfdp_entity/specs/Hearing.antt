@@ -1,9 +1,9 @@
 -- What a PDU does that an entity hears.
-use Rattle.std.specs.Prelude.{◌≡◌, ◌==◌, ◌||◌, ℕ, nat_lt, not, Bool, false, List, [], ◌∷◌, ◌++◌, length, Option, Some, None, if◌then◌else◌}
+use Rattle.std.specs.Prelude.{◌≡◌, ◌<◌, ◌==◌, ◌||◌, ℕ, nat_lt, not, Bool, false, List, [], ◌∷◌, ◌++◌, length, Option, Some, None, if◌then◌else◌}
 use Rattle.cfdp_header.specs.declared.value.Header.{Header}
 use Rattle.cfdp_directives.specs.declared.pdu.error.PduError.{PduError}
 use Rattle.cfdp_directives.specs.declared.pdu.addressing.Addressing.{Addressing}
-use Rattle.cfdp_directives.specs.Pdu.Addressing.{addressing_of}
+use Rattle.cfdp_directives.specs.Pdu.Addressing.{addressing_of, FitsAddressing}
 use Rattle.cfdp_directives.specs.Pdu.Content.{Content, FileData, Metadata, Eof, Finished}
 use Rattle.cfdp_directives.specs.Pdu.Direction.{direction_fits, is_for}
 use Rattle.cfdp_directives.specs.Pdu.Grammar.{SpellsPdu}
@@ -65,6 +65,13 @@ pub record StepsAt (place : ℕ) (large : Bool) (v : Content) (old new : Counted
   pub raises : AsksToHear Raises stored place large v old.state.table old.inbox_failures
       new.inbox_failures
   pub outbox : new.outbox_failures ≡ old.outbox_failures
+
+-- A PDU with this addressing, of the peer, may open a record.
+pub record MayOpen (a : Addressing) (e : EntityState) : Type 0 where
+  pub fits : FitsAddressing a
+  pub from_peer : a.id.source ≡ e.config.peer
+  pub absent : place_of a.id e.table.records ≡ None
+  pub not_full : length e.table.records < most_records
 
 -- A record was opened and made its step, by what the inbox answered to each.
 pub record OpensOne (a : Addressing) (large : Bool) (v : Content) (old new : Counted) : Type 0 where

@@ -73,6 +73,11 @@ pub record MayPut (source destination : List ℕ) (e : EntityState) : Type 0 whe
   pub not_full : length e.table.records < most_records
   pub number : e.next < 256 ^ e.config.number_width
 
+-- A put with this number isn't refused before the outbox is asked.
+pub record MayPutAs (number : ℕ) (source destination : List ℕ) (e : EntityState) : Type 0 where
+  pub is_next : number ≡ e.next
+  pub may : MayPut source destination e
+
 -- how the outbox answered a put that was refused so: where it wasn't asked, it didn't fail
 abbrev pub stored_by_error : PutError → Stored
 stored_by_error SourceFault = Refused

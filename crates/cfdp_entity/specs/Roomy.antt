@@ -1,10 +1,11 @@
 -- A table with what its state leaves out, and what its calls come to.
-use Rattle.std.specs.Prelude.{◌≡◌, ℕ, true, List}
+use Rattle.std.specs.Prelude.{◌≡◌, ◌<◌, ℕ, true, List, length, None}
+use Rattle.cfdp_header.specs.declared.value.TransactionId.{TransactionId}
 use Rattle.cfdp_directives.specs.Pdu.Content.{Content}
 use Rattle.cfdp_entity.specs.declared.record.Gave.{Gave}
 use Rattle.cfdp_entity.specs.declared.record.Gave.TheVariants.{Failed}
 use Rattle.cfdp_entity.specs.Gives.{Gives, CountsOutbox, stored_by_gave}
-use Rattle.cfdp_entity.specs.Table.{TableState, SpoiledAt, taken_at, due_at, len_at, data_at}
+use Rattle.cfdp_entity.specs.Table.{TableState, place_of, most_records, SpoiledAt, taken_at, due_at, len_at, data_at}
 
 -- how many more indications fit without memory, and how many calls of each store failed
 pub record Roomy : Type 0 where
@@ -12,6 +13,11 @@ pub record Roomy : Type 0 where
   pub spare : ℕ
   pub inbox_failures : ℕ
   pub outbox_failures : ℕ
+
+-- A record of this transaction may be added.
+pub record MayAdd (id : TransactionId) (st : TableState) : Type 0 where
+  pub absent : place_of id st.records ≡ None
+  pub not_full : length st.records < most_records
 
 -- The table became this one, and no call of a store failed.
 pub record Becomes (after : TableState) (old new : Roomy) : Type 0 where

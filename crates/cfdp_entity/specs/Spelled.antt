@@ -1,14 +1,15 @@
 -- What is due is spelled by its octets.
-use Rattle.std.specs.Prelude.{Bool, List, [], ◌∷◌, Option, Some, None}
+use Rattle.std.specs.Prelude.{◌≡◌, ◌<◌, ℕ, Bool, List, [], ◌∷◌, Option, Some, None}
 use Rattle.cfdp_header.specs.Files.{FileMap}
 use Rattle.cfdp_directives.specs.declared.pdu.addressing.Addressing.{Addressing}
 use Rattle.cfdp_directives.specs.Pdu.Content.{Content}
 use Rattle.cfdp_entity.specs.declared.polled.EntityPolled.{EntityPolled}
-use Rattle.cfdp_entity.specs.declared.polled.EntityPolled.TheVariants.{Moved}
-use Rattle.cfdp_entity.specs.Entity.{EntityState}
-use Rattle.cfdp_entity.specs.Polling.{turn}
+use Rattle.cfdp_entity.specs.declared.polled.EntityPolled.TheVariants.{Moved, Full}
+use Rattle.cfdp_entity.specs.Entity.{EntityState, Counted}
+use Rattle.cfdp_entity.specs.Gives.{CountsOutbox}
+use Rattle.cfdp_entity.specs.Polling.{Polls, stored_by_poll, turn}
 use Rattle.cfdp_entity.specs.Seen.{Seen, addressing_of, large_of, due_content, octets_of}
-use Rattle.cfdp_entity.specs.Sound.{SpellsDue, SpellsTurn}
+use Rattle.cfdp_entity.specs.Sound.{SpellsDue, SpellsTurn, longest_pdu}
 use Rattle.cfdp_entity.specs.Strays.{StrayAck, stray_says, stray_octets}
 use Rattle.cfdp_entity.specs.Table.{Entry}
 
@@ -37,3 +38,13 @@ FirstIsSpelled (s ∷ strays) = StrayIsSpelled s
 abbrev pub SpellsMoved : EntityPolled → EntityState → Type 0
 SpellsMoved (Moved n) e = SpellsTurn (turn e) e
 SpellsMoved _ e = Unit {0}
+
+-- A poll answered this: what it moved says what was due, only a PDU longer than the room is
+-- refused, and a failure of the outbox was counted.
+pub record Answers (room : ℕ) (answer : EntityPolled) (old new : Counted)
+    (out_before out_now : List ℕ) : Type 0 where
+  pub polled : Polls room answer old new out_before out_now
+  pub spells : SpellsMoved answer old.state
+  pub roomy : answer ≡ Full → room < longest_pdu
+  pub counts : CountsOutbox (stored_by_poll answer) old.outbox_failures new.outbox_failures
+  pub inbox : new.inbox_failures ≡ old.inbox_failures

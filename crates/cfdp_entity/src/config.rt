@@ -60,7 +60,8 @@ impl EntityConfig {
     }
 
     /// Whether an entity can be set up so: the ids differ and fit their width, both widths are 1 to
-    /// 8 octets, the segment and the times are in their ranges, and the checksum is modular or null.
+    /// 8 octets, the segment and the times are in their ranges, and the checksum is modular or
+    /// null.
     pub fn is_valid(&self) -> bool
         ensures { IsTrue result ↔ IsConfig self.now }
     {

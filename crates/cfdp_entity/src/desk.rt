@@ -1,5 +1,5 @@
 // What the steps of records work on, and these steps.
-ghost use Rattle.std.specs.Prelude.{◌≡◌, ◌≤◌, true, None, length, IfOk, OnErr};
+ghost use Rattle.std.specs.Prelude.{◌≡◌, ◌≤◌, None, length, IfOk, OnErr};
 ghost use Rattle.cfdp_directives.specs.Pdu.Addressing.{FitsAddressing};
 ghost use Rattle.cfdp_directives.specs.Pdu.Content.{view};
 ghost use Rattle.cfdp_timers.specs.Effects.{UsesAtMost};
@@ -8,14 +8,12 @@ ghost use Rattle.cfdp_receiver.specs.Storing.{Settles};
 ghost use Rattle.cfdp_sender.specs.Does.{HasFile};
 ghost use Rattle.cfdp_sender.specs.State.{IsSendable};
 ghost use Rattle.cfdp_store.specs.Chains.{Raises};
-ghost use Rattle.cfdp_entity.specs.declared.record.Gave.TheVariants as gaves;
 ghost use Rattle.cfdp_entity.specs.declared.record.Record.TheVariants as records;
 ghost use Rattle.cfdp_entity.specs.Desk.{on_desk, spare};
-ghost use Rattle.cfdp_entity.specs.Does.{Made, Keeps, Stays, Asked, Opens, OpensNone, Widens, hearing, expiring, calling, taking, seen_as};
-ghost use Rattle.cfdp_entity.specs.Gives.{Gives, CountsOutbox, stored_by_gave};
+ghost use Rattle.cfdp_entity.specs.Does.{Made, Keeps, Stays, Asked, Sent, Opens, OpensNone, Widens, hearing, expiring, calling, seen_as};
 ghost use Rattle.cfdp_entity.specs.Opening as openings;
 ghost use Rattle.cfdp_entity.specs.Opening.{begins, opens, puts, AsksInOrder, CountsBoth};
-ghost use Rattle.cfdp_entity.specs.Seen.{carries_data, due_len, due_octets, seen};
+ghost use Rattle.cfdp_entity.specs.Seen.{due_len, seen};
 ghost use Rattle.cfdp_entity.specs.Storing.{AsksCalled, AsksHeard, AsksFirst, AsksToBegin};
 ghost use Rattle.cfdp_entity.specs.Whole.{MayStep};
 
@@ -114,16 +112,8 @@ impl<O: Outbox, I: Inbox> Desk<O, I> {
         requires ready { MayStep held.old (on_desk O.Outbox I.Inbox self.old) }
         requires fits { due_len (O.files self.old.outbox)
             (seen_as held.old held.old (on_desk O.Outbox I.Inbox self.old)) ≤ length out.old }
-        ensures taken { Made (taking (stored_by_gave result)) held.old held.new
-            (on_desk O.Outbox I.Inbox self.old) (on_desk O.Outbox I.Inbox self.new) }
-        ensures gives { let before = seen_as held.old held.old (on_desk O.Outbox I.Inbox self.old)
-            in Gives (due_octets (O.files self.old.outbox) before)
-            (due_len (O.files self.old.outbox) before) result out.old out.new }
-        ensures data { result ≡ gaves.Failed → carries_data (seen_as held.old held.old
-            (on_desk O.Outbox I.Inbox self.old)) ≡ true }
-        ensures counts { CountsOutbox (stored_by_gave result) (O.failures self.old.outbox)
-            (O.failures self.new.outbox) }
-        ensures inbox { self.new.inbox ≡ self.old.inbox }
+        ensures sent { Sent result held.old held.new (on_desk O.Outbox I.Inbox self.old)
+            (on_desk O.Outbox I.Inbox self.new) out.old out.new }
         ensures stays { Stays held.old held.new (on_desk O.Outbox I.Inbox self.old)
             (on_desk O.Outbox I.Inbox self.new) }
     {

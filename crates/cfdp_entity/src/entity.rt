@@ -114,8 +114,8 @@ impl<O: Outbox, I: Inbox> Entity<O, I> {
         }
     }
 
-    /// The earliest deadline of the armed timers but those of kind Inactivity, in units of the clock
-    /// that `tick` is told; `None` where no other is armed. `next_expiry` tells that of all.
+    /// The earliest deadline of the armed timers but those of kind Inactivity, in units of the
+    /// clock that `tick` is told; `None` where no other is armed. `next_expiry` tells that of all.
     pub fn next_deadline(&self) -> Option<u64>
         ensures { MatchOption result (OnlyInactivity self.now.state.table.armed)
             (λ deadline. IsLeastOther self.now.state.table.armed deadline) }

@@ -1,13 +1,12 @@
 // What an entity hears.
-ghost use Rattle.std.specs.Prelude.{◌≡◌, ◌<◌, length, None, IfErr, OnOk, OnErr};
+ghost use Rattle.std.specs.Prelude.{◌≡◌, ◌<◌, length, IfErr, OnOk, OnErr};
 ghost use Rattle.cfdp_directives.specs.Pdu.Addressing.{addressing_of, FitsAddressing};
 ghost use Rattle.cfdp_directives.specs.Pdu.Content.{view};
 ghost use Rattle.cfdp_directives.specs.Pdu.Faults.{pdu_fault};
 ghost use Rattle.cfdp_entity.specs.declared.error.EntityDrop.TheVariants as drops;
 ghost use Rattle.cfdp_entity.specs.declared.route.Route.TheVariants as routes;
 ghost use Rattle.cfdp_entity.specs.Hearing as hearings;
-ghost use Rattle.cfdp_entity.specs.Hearing.{StepsAt, LacksAt, OpensOne, Takes, DropsBy, FindsNoMemory, HearsOctets, DropsOctets, queued};
-ghost use Rattle.cfdp_entity.specs.Table as tables;
+ghost use Rattle.cfdp_entity.specs.Hearing.{MayOpen, StepsAt, LacksAt, OpensOne, Takes, DropsBy, FindsNoMemory, HearsOctets, DropsOctets, queued};
 
 use crate::entity::{Entity, MOST_STRAYS};
 use crate::error::EntityDrop;
@@ -171,10 +170,7 @@ impl<O: Outbox, I: Inbox> Entity<O, I> {
         large: bool,
         pdu: &Pdu<'_>,
     ) -> Result<(), EntityDrop>
-        requires fits { FitsAddressing addressing }
-        requires from_peer { addressing.id.source ≡ self.old.state.config.peer }
-        requires absent { tables.place_of addressing.id self.old.state.table.records ≡ None }
-        requires not_full { length self.old.state.table.records < 4096 }
+        requires { MayOpen addressing self.old.state }
         ensures heard { OnOk result (OpensOne addressing large (view pdu.now) self.old self.new) }
         ensures dropped { IfErr result (λ by. DropsBy routes.Opens by (view pdu.now) self.old
             self.new) }
@@ -189,10 +185,7 @@ impl<O: Outbox, I: Inbox> Entity<O, I> {
     }
 
     fn open(&mut self, addressing: Addressing, large: bool, pdu: &Pdu<'_>) -> Result<(), AllocError>
-        requires fits { FitsAddressing addressing }
-        requires from_peer { addressing.id.source ≡ self.old.state.config.peer }
-        requires absent { tables.place_of addressing.id self.old.state.table.records ≡ None }
-        requires not_full { length self.old.state.table.records < 4096 }
+        requires { MayOpen addressing self.old.state }
         ensures opens { OnOk result (OpensOne addressing large (view pdu.now) self.old self.new) }
         ensures err { OnErr result (self.new ≡ self.old) }
     {

@@ -1,11 +1,10 @@
 // What an entity sends.
 ghost use Rattle.std.specs.Prelude.{◌≡◌, ◌≤◌, ◌<◌, [], true, length, IfOk, OnErr};
-ghost use Rattle.cfdp_store.specs.declared.stored.Stored.TheVariants as storeds;
 ghost use Rattle.cfdp_entity.specs.declared.polled.EntityPolled.TheVariants as answers;
 ghost use Rattle.cfdp_entity.specs.Gives.{CountsOutbox};
 ghost use Rattle.cfdp_entity.specs.Polling.{Polls, SendsAt, TakesTurn, stored_by_poll};
 ghost use Rattle.cfdp_entity.specs.Sound.{longest_pdu};
-ghost use Rattle.cfdp_entity.specs.Spelled.{FirstIsSpelled, SpellsMoved};
+ghost use Rattle.cfdp_entity.specs.Spelled.{Answers, FirstIsSpelled, SpellsMoved};
 ghost use Rattle.cfdp_entity.specs.Strays.{first_stray_len};
 ghost use Rattle.cfdp_entity.specs.Table.{len_at};
 
@@ -48,12 +47,7 @@ impl<O: Outbox, I: Inbox> Entity<O, I> {
     fn poll_stray(&mut self, room: usize, out: &mut [u8]) -> EntityPolled
         requires fits { room ≤ length out.old }
         requires some { 1 ≤ length self.old.state.strays }
-        ensures polled { Polls room result self.old self.new out.old out.new }
-        ensures spells { SpellsMoved result self.old.state }
-        ensures roomy { result ≡ answers.Full → room < longest_pdu }
-        ensures done { stored_by_poll result ≡ storeds.Done }
-        ensures inbox { self.new.inbox_failures ≡ self.old.inbox_failures }
-        ensures outbox { self.new.outbox_failures ≡ self.old.outbox_failures }
+        ensures { Answers room result self.old self.new out.old out.new }
     {
         let len = self.stray_len();
         if len > room {
@@ -80,15 +74,10 @@ impl<O: Outbox, I: Inbox> Entity<O, I> {
     fn poll_record(&mut self, room: usize, out: &mut [u8]) -> Result<EntityPolled, AllocError>
         requires fits { room ≤ length out.old }
         requires no_stray { self.old.state.strays ≡ [] }
-        ensures polled { IfOk result (λ answer. Polls room answer self.old self.new out.old
+        ensures answers { IfOk result (λ answer. Answers room answer self.old self.new out.old
             out.new) }
-        ensures spells { IfOk result (λ answer. SpellsMoved answer self.old.state) }
-        ensures roomy { IfOk result (λ answer. answer ≡ answers.Full → room < longest_pdu) }
-        ensures counts { IfOk result (λ answer. CountsOutbox (stored_by_poll answer)
-            self.old.outbox_failures self.new.outbox_failures) }
         ensures err { OnErr result ((self.new ≡ self.old) × (out.new ≡ out.old)) }
         ensures lacks { OnErr result (TakesTurn room self.old.state) }
-        ensures inbox { self.new.inbox_failures ≡ self.old.inbox_failures }
     {
         let Some(place) = self.table.next_due(self.cursor) else {
             return Ok(EntityPolled::Nothing);

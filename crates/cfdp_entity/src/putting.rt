@@ -9,7 +9,7 @@ ghost use Rattle.cfdp_store.specs.Stores.{failures_after};
 ghost use Rattle.cfdp_sender.specs.Does.{HasFile};
 ghost use Rattle.cfdp_sender.specs.State.{IsSendable};
 ghost use Rattle.cfdp_entity.specs.Entity.{next_of};
-ghost use Rattle.cfdp_entity.specs.Putting.{Accepts, MayPut, IsPutRefusal, early_refusal, put_refusal, stored_by_error, was_answered, asked, next_id, next_transfer, with_put};
+ghost use Rattle.cfdp_entity.specs.Putting.{Accepts, MayPutAs, IsPutRefusal, early_refusal, put_refusal, stored_by_error, was_answered, asked, next_id, next_transfer, with_put};
 ghost use Rattle.cfdp_entity.specs.Table.{place_of};
 
 use crate::entity::Entity;
@@ -75,8 +75,8 @@ impl<O: Outbox, I: Inbox> Entity<O, I> {
 
     // The number of a put that isn't refused before the outbox is asked.
     fn next_number(&self, source: &[u8], destination: &[u8]) -> Result<u64, PutError>
-        ensures number { IfOk result (λ number. number ≡ self.now.state.next) }
-        ensures may { OnOk result (MayPut source.now destination.now self.now.state) }
+        ensures may { IfOk result (λ number. MayPutAs number source.now destination.now
+            self.now.state) }
         ensures refused { result_err result ≡ early_refusal source.now destination.now
             self.now.state }
     {
@@ -126,8 +126,7 @@ impl<O: Outbox, I: Inbox> Entity<O, I> {
         destination: &[u8],
         size: u64,
     ) -> Result<TransactionId, AllocError>
-        requires number { number ≡ self.old.state.next }
-        requires may { MayPut source.now destination.now self.old.state }
+        requires may { MayPutAs number source.now destination.now self.old.state }
         requires file { HasFile self.old.state.table.sources source.now size }
         requires limit { size ≤ codes.size_limit true }
         ensures put { OnOk result (self.new ≡ record self.old {
@@ -155,8 +154,7 @@ impl<O: Outbox, I: Inbox> Entity<O, I> {
         destination: &[u8],
         size: u64,
     ) -> Result<Transfer, AllocError>
-        requires number { number ≡ self.now.state.next }
-        requires may { MayPut source.now destination.now self.now.state }
+        requires may { MayPutAs number source.now destination.now self.now.state }
         requires limit { size ≤ codes.size_limit true }
         ensures transfer { IfOk result (λ t. t ≡ next_transfer source.now destination.now size
             self.now.state) }

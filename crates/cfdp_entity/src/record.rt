@@ -6,7 +6,6 @@ ghost use Rattle.cfdp_directives.specs.Pdu.Content.{view};
 ghost use Rattle.cfdp_store.specs.Staged.{OctetMap};
 ghost use Rattle.cfdp_timers.specs.Effects.{HasRoom};
 ghost use Rattle.cfdp_sender.specs.Does as sender_does;
-ghost use Rattle.cfdp_receiver.specs.State.{IsReady};
 ghost use Rattle.cfdp_receiver.specs.Does.{KeptAlone, MakesIn, at};
 ghost use Rattle.cfdp_receiver.specs.Due.{receiver_due};
 ghost use Rattle.cfdp_entity.specs.Calling as calling;
@@ -14,7 +13,7 @@ ghost use Rattle.cfdp_entity.specs.Desk.{Staged};
 ghost use Rattle.cfdp_entity.specs.Seen as seens;
 ghost use Rattle.cfdp_entity.specs.Seen.{seen, is_due};
 ghost use Rattle.cfdp_entity.specs.Steps.{sender_after, receiver_after, called_sender, called_receiver};
-ghost use Rattle.cfdp_entity.specs.Does.{ReceiverTook, ReceiverAcks, SenderDoes, SenderKeeps, ReceiverDoes, ReceiverKeeps, StaysReady, found};
+ghost use Rattle.cfdp_entity.specs.Does.{ReceiverTook, ReceiverAcks, SenderDoes, SenderKeeps, ReceiverDoes, ReceiverKeeps, MayReceive, StaysReady, found};
 ghost use Rattle.cfdp_entity.specs.Sound.{longest_pdu};
 ghost use Rattle.cfdp_entity.specs.Spelled.{SeenIsSpelled};
 ghost use Rattle.cfdp_entity.specs.Storing.{AsksCalled, AsksHeard};
@@ -186,8 +185,7 @@ pub(crate) fn receiver_hears<I: Inbox>(
     large: bool,
     pdu: &Pdu<'_>,
 ) -> Result<Stored, AllocError>
-    requires room { HasRoom receiver.old.addressing.id effects.old }
-    requires ready { IsReady (I.staged inbox.old) receiver.old }
+    requires { MayReceive I.Inbox receiver.old effects.old inbox.old }
     ensures does { let old = at I.Inbox receiver.old effects.old inbox.old in
         IfOk result (λ stored. ReceiverDoes policy.now.times stored
         (found (receiver_after stored large (view pdu.now)) old) old
@@ -303,8 +301,7 @@ pub(crate) fn call_receiver<I: Inbox>(
     policy: &Policy,
     call: Call,
 )
-    requires room { HasRoom receiver.old.addressing.id effects.old }
-    requires ready { IsReady (I.staged inbox.old) receiver.old }
+    requires { MayReceive I.Inbox receiver.old effects.old inbox.old }
     ensures does { let old = at I.Inbox receiver.old effects.old inbox.old in
         ReceiverDoes policy.now.times Stored.Done (found (called_receiver call) old) old
         (at I.Inbox receiver.new effects.new inbox.new) }

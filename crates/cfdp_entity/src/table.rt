@@ -17,7 +17,7 @@ ghost use Rattle.cfdp_sender.specs.Does.{HasFile};
 ghost use Rattle.cfdp_entity.specs.Adding.{AddsSource, RefusesToAdd, with_source};
 ghost use Rattle.cfdp_entity.specs.Calling as calling;
 ghost use Rattle.cfdp_entity.specs.Opening.{closing, AsksInOrder, CountsBoth};
-ghost use Rattle.cfdp_entity.specs.Roomy.{Becomes, LacksMemory, SendsFrom, Steps};
+ghost use Rattle.cfdp_entity.specs.Roomy.{Becomes, LacksMemory, MayAdd, SendsFrom, Steps};
 ghost use Rattle.cfdp_entity.specs.Sound.{longest_pdu};
 ghost use Rattle.cfdp_entity.specs.Spelled.{EntryIsSpelled};
 ghost use Rattle.cfdp_entity.specs.Storing.{AsksToHear, AsksToCall, AsksToExpire, AsksByTimer, AsksToFire, AsksToTick, AsksToOpen};
@@ -71,10 +71,11 @@ impl<O: Outbox, I: Inbox> Model for Table<O, I> {
 impl<O: Outbox, I: Inbox> Table<O, I> {
     /// No records.
     pub fn new(alloc: Global, outbox: O, inbox: I, policy: Policy) -> Result<Self, AllocError>
-        ensures state { IfOk result (λ t. t.state ≡ first_table (O.files outbox)
-            (I.published inbox) policy) }
-        ensures inbox { IfOk result (λ t. t.inbox_failures ≡ I.failures inbox) }
-        ensures outbox { IfOk result (λ t. t.outbox_failures ≡ O.failures outbox) }
+        ensures { IfOk result (λ t. t ≡ record t {
+          state = first_table (O.files outbox) (I.published inbox) policy;
+          inbox_failures = I.failures inbox;
+          outbox_failures = O.failures outbox;
+        }) }
     {
         let ready = Ready::new(alloc)?;
         let desk = Desk {
@@ -254,8 +255,7 @@ impl<O: Outbox, I: Inbox> Table<O, I> {
 
     /// A put opens a record.
     pub fn put(&mut self, transfer: Transfer) -> Result<(), AllocError>
-        requires absent { tables.place_of transfer.addressing.id self.old.state.records ≡ None }
-        requires not_full { length self.old.state.records < 4096 }
+        requires may_add { MayAdd transfer.addressing.id self.old.state }
         requires sendable { IsSendable transfer }
         requires file { HasFile self.old.state.sources transfer.source transfer.size }
         ensures put { OnOk result (Becomes (put_in transfer self.old.state) self.old self.new) }
@@ -278,8 +278,7 @@ impl<O: Outbox, I: Inbox> Table<O, I> {
         large: bool,
         pdu: &Pdu<'_>,
     ) -> Result<Opened, AllocError>
-        requires absent { tables.place_of addressing.id self.old.state.records ≡ None }
-        requires not_full { length self.old.state.records < 4096 }
+        requires may_add { MayAdd addressing.id self.old.state }
         requires addressing { FitsAddressing addressing }
         ensures opened { IfOk result (λ o. Steps (opened_by o.begun o.stored addressing large
             (view pdu.now) self.old.state) (CountsBoth o.begun o.stored) (AsksToOpen Raises o.begun

@@ -21,8 +21,8 @@ use cfd_bits::{get, put_uint, read_eight, read_uint};
 pub use error::HeaderError;
 pub use value::{Header, TransactionId, fits_width};
 
-/// The number of `count` octets from octet `at` on. Where eight are there they are read at once, and
-/// those behind it are cut off.
+/// The number of `count` octets from octet `at` on. Where eight are there they are read at once,
+/// and those behind it are cut off.
 #[inline]
 #[tactic(auto, using(crate::proofs::Laws::field_behind, crate::proofs::Laws::field_in_eight))]
 fn number_at(bytes: &[u8], at: usize, count: usize) -> u64

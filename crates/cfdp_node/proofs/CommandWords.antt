@@ -10,8 +10,8 @@ use Rattle.clap.specs.Built.{AddsSubcommand}
 use Rattle.clap.specs.Faults.{is_simple_and_free}
 use Rattle.clap.specs.Simple.{App, is_simple, with_subcommand}
 use Rattle.clap.specs.declared.builder.command.Command.{Command}
-use Rattle.cfdp_node.specs.Looping.Request.{loop_app, number_of_word}
-use Rattle.cfdp_node.specs.Request.{IsCommand, dump_app, program_app, sim_app, top_app, zone_of_word}
+use Rattle.cfdp_node.specs.Looping.Request.{number_of_word}
+use Rattle.cfdp_node.specs.Request.{IsCommand, program_app, zone_of_word}
 
 -- a number in the range is found
 pub zone-found : (word : List ℕ) (n : ℕ) → IsNumeral 10 (without_leading_plus word) → n ≡ digits_value 10 (without_leading_plus word)

@@ -1,9 +1,8 @@
 -- The front of a trace's line, and what stands behind a verb.
-use Rattle.std.proofs.Common.{◌≡◌, ◌⊎◌, ℕ, List, ◌++◌, Option, codes, decimal, append_assoc, subst, sym, ◌∙◌, ⊎_elim}
+use Rattle.std.proofs.Common.{◌≡◌, ℕ, List, ◌++◌, Option, codes, decimal, append_assoc, subst, sym, ◌∙◌}
 use Rattle.std.specs.Io.KnownBytes.{Appends}
 use Rattle.link_sim.specs.Stations.{entity_of}
 use Rattle.cfdp_node.specs.Watch.Trace.{sighting_front}
-use Rattle.cfdp_node.specs.declared.watch.sighting.Deed.{Deed}
 use Rattle.cfdp_node.specs.declared.watch.sighting.Sighting.{Sighting}
 
 -- six parts in a row, grouped from the front

@@ -1,9 +1,9 @@
 -- The bounds of blocks: what a transaction that is added, a deadline that is set and a bound that is set do to them.
-use Rattle.std.proofs.Common.{◌≡◌, ◌≢◌, ◌⊎◌, inl, inr, ℕ, zero, suc, ◌+◌, ◌*◌, ◌/◌, ◌<◌, ◌≤◌, List, [], ◌∷◌, ◌++◌, length, set, get_or, refl, sym, ap, subst, ◌∙◌, true, false, cond, Option, Some, None, unwrap_or, arith, min, nat_eq, nat_lt, length-append, length-set, true≢false}
+use Rattle.std.proofs.Common.{◌≡◌, ◌≢◌, ◌⊎◌, inl, inr, ℕ, zero, suc, ◌+◌, ◌*◌, ◌/◌, ◌<◌, ◌≤◌, List, [], ◌∷◌, ◌++◌, length, set, get_or, refl, sym, ap, subst, ◌∙◌, true, false, cond, Option, Some, None, arith, min, nat_eq, length-append, length-set}
 use Rattle.std.specs.Map.{values_of}
 use Rattle.std.specs.Ordering.{is_eq, nat_cmp}
-use Rattle.std.proofs.lemmas.Bool.{eqb-true, eqb-false, ltb-true, ltb-false}
-use Rattle.std.proofs.lemmas.List.{get_or-set_same, get_or-set_other, get_or_append_left}
+use Rattle.std.proofs.lemmas.Bool.{eqb-true, eqb-false}
+use Rattle.std.proofs.lemmas.List.{get_or-set_same, get_or-set_other}
 use Rattle.std.proofs.lemmas.Option.{same_Some, none-some}
 use Rattle.indexmap.specs.IndexMap.{set_value_at}
 use Rattle.cfdp_header.specs.declared.value.TransactionId.{TransactionId}
@@ -11,7 +11,7 @@ use Rattle.cfdp_timers.specs.declared.kind.Kind.{Kind}
 use Rattle.cfdp_timers.specs.declared.kind.Kind.TheVariants.{EofAck, Nak, FinishedAck, Inactivity}
 use Rattle.cfdp_timers.specs.declared.deadlines.Deadlines.{Deadlines}
 use Rattle.cfdp_timers.specs.Order.{kind_place}
-use Rattle.cfdp_timers.specs.Entries.{no_deadlines, deadline_at, deadlines_in, with_deadline, earlier, next_of, IsBound, AreBounds, lowered}
+use Rattle.cfdp_timers.specs.Entries.{no_deadlines, deadline_at, deadlines_in, with_deadline, earlier, next_of, AreBounds, lowered}
 use Rattle.cfdp_timers.proofs.Written.{written}
 
 -- ---- the deadlines at a place

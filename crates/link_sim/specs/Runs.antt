@@ -30,8 +30,8 @@ use Rattle.link_sim.specs.Exchange.{IsTrueForth, tells_complete}
 use Rattle.link_sim.specs.Waiting.{one_tells}
 use Rattle.link_sim.specs.Work.{opening_work}
 
--- Two parts of a list that stood one behind the other, `first` and `second`, changed places, as PDUs
--- on their way do where those of one lane overtook those of the other. What stands before and
+-- Two parts of a list that stood one behind the other, `first` and `second`, changed places, as
+-- PDUs on their way do where those of one lane overtook those of the other. What stands before and
 -- behind stayed.
 pub record IsSwapped {X : Type 0} (xs ys : List X) : Type 0 where
   pub before : List X

@@ -1,5 +1,5 @@
 -- The entry that is found is written, and the place beside it.
-use Rattle.std.proofs.Common.{◌≡◌, ◌/◌, ◌<◌, length, set, get_or, Option, None, Some, is_some, false, true≢false, slice_get, refl, sym, ap, subst, ◌∙◌, arith}
+use Rattle.std.proofs.Common.{◌≡◌, ◌<◌, length, set, get_or, Option, None, Some, is_some, false, true≢false, slice_get, refl, sym, ap, subst, ◌∙◌, arith}
 use Rattle.std.specs.List.{IsDistinct}
 use Rattle.std.specs.Map.{keys_of, lookup}
 use Rattle.std.specs.Ordering.{eq_by_cmp}

@@ -22,7 +22,8 @@ returns-clause-opens g c = elim c.match-begun.branch [
       as-left (λ b s (r : ReceiverState) (d : DeskState). Opens c.args.addressing.id (begins b s c.args.self.now.policy.times (g.I.Inbox.published c.args.self.now.inbox) c.args.large
       (view c.args.pdu.now) c.args.addressing) (records.Receives r) (on_desk g.O.Outbox g.I.Inbox c.args.self.now) d)
       w.in-Done.is w.stored-is w.receiver-is (ap (on_desk g.O.Outbox g.I.Inbox) w.self-is)
-      (opens-begun c.args.addressing c.args.large (view c.args.pdu.now) c.in_ok-receiver.receiver (on_desk g.O.Outbox g.I.Inbox c.args.self.now) (g.I.Inbox.staged c.open.new.inbox) (g.I.Inbox.published c.open.new.inbox) c.open.new.effects (g.I.Inbox.failures c.open.new.inbox)
+      (opens-begun c.args.addressing c.args.large (view c.args.pdu.now) c.in_ok-receiver.receiver (on_desk g.O.Outbox g.I.Inbox c.args.self.now) (g.I.Inbox.staged c.open.new.inbox)
+      (g.I.Inbox.published c.open.new.inbox) c.open.new.effects (g.I.Inbox.failures c.open.new.inbox)
       w.in_ok-stored-in-Done.stored w.receiver_hears.new.receiver _
       (subst (λ b. receiver_does.Does receiver_does.timers_kept b (λ m files s. receiver.opens b c.args.large files c.args.addressing)
       (receiver_does.at g.I.Inbox (opened_receiver c.args.addressing) (receiver_does.with_room c.args.addressing.id c.args.self.now.effects) c.args.self.now.inbox)

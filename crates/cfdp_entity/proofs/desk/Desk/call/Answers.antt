@@ -1,9 +1,13 @@
 use Rattle.std.proofs.Common.{refl}
-use Rattle.cfdp_entity.proofs.Records.{is-ready, sender-called, receiver-stays}
+use Rattle.cfdp_entity.specs.Desk.{on_desk}
+use Rattle.cfdp_entity.proofs.Records.{has-room, is-ready, sender-called, receiver-stays}
 use Rattle.cfdp_entity.proofs.desk.Desk.call.Goals as goal
 
-pub call_receiver-requires-clause-ready : goal.call_receiver-requires-clause-ready
-call_receiver-requires-clause-ready g c = is-ready c.args.held.now c.in-Receives.receiver c.in-Receives.is _ c.requires
+pub call_receiver-requires : goal.call_receiver-requires
+call_receiver-requires g c = record {
+  room = has-room c.args.held.now c.in-Receives.receiver c.in-Receives.is (on_desk g.O.Outbox g.I.Inbox c.args.self.now) c.requires;
+  ready = is-ready c.args.held.now c.in-Receives.receiver c.in-Receives.is (on_desk g.O.Outbox g.I.Inbox c.args.self.now) c.requires;
+}
 
 pub returns-in-Sends-clause-stays : goal.returns-in-Sends-clause-stays
 returns-in-Sends-clause-stays g c = (sender-called c.args.held.now c.in-Sends.sender c.call_sender.new.sender c.in-Sends.is _ _

@@ -1,5 +1,6 @@
 use Rattle.std.proofs.Common.{ap}
 use Rattle.circular_buffer.specs.Buffer.{Buffer}
+use Rattle.cfdp_entity.specs.Roomy.{Roomy}
 use Rattle.cfdp_entity.specs.Strays.{StrayAck}
 use Rattle.cfdp_entity.proofs.Numbers.{free-first}
 use Rattle.cfdp_entity.proofs.entity.Entity.new.Goals as goal
@@ -8,5 +9,5 @@ pub invariant_of-result : goal.invariant_of-result
 invariant_of-result g c = (
   c.requires,
   ap (λ (b : Buffer StrayAck). b.capacity) c.in_ok-strays.ensures,
-  free-first c.args.config.entity c.args.config.first_number c.in_ok-table.table.state _ _ _ c.in_ok-table.ensures.state,
+  free-first c.args.config.entity c.args.config.first_number c.in_ok-table.table.state _ _ _ (ap (λ (v : Roomy). v.state) c.in_ok-table.ensures),
 )

@@ -1,4 +1,4 @@
-use Rattle.std.proofs.Common.{refl, sym, ap, ◌∙◌, ◌≡◌, ◌+◌}
+use Rattle.std.proofs.Common.{refl, sym, ap, subst, length, ◌<◌, ◌∙◌, ◌≡◌, ◌+◌}
 use Rattle.cfdp_header.specs.declared.value.TransactionId.{TransactionId}
 use Rattle.cfdp_sender.specs.declared.transfer.Transfer.{Transfer}
 use Rattle.cfdp_entity.specs.Entity.{Counted, own_id, next_of}
@@ -7,18 +7,21 @@ use Rattle.cfdp_entity.specs.Table.{place_of}
 use Rattle.cfdp_entity.proofs.Numbers.{free-at, free-put, risen}
 use Rattle.cfdp_entity.proofs.entity.Entity.open_put.Goals as goal
 
-pub put-requires-clause-absent : goal.put-requires-clause-absent
-put-requires-clause-absent g c =
+pub put-requires-clause-may_add : goal.put-requires-clause-may_add
+put-requires-clause-may_add g c =
     let own : c.in_ok-transfer.transfer.addressing.id ≡ own_id c.self.inside.config.entity (next_of c.self.inside.next) =
     ap (λ (t : Transfer). t.addressing.id) c.in_ok-transfer.ensures.transfer ∙ sym (ap (λ (v : Counted). next_id v.state) c.self.view_is) in
-    ap (λ (id : TransactionId). place_of id c.self.inside.table.state.records) own
-    ∙ free-at c.self.inside.config.entity (next_of c.self.inside.next) c.self.inside.table.state.records c.self.invariant.2
+    record {
+      absent = ap (λ (id : TransactionId). place_of id c.self.inside.table.state.records) own
+          ∙ free-at c.self.inside.config.entity (next_of c.self.inside.next) c.self.inside.table.state.records c.self.invariant.2;
+      not_full = subst (λ (v : Counted). length v.state.table.records < 4096) (sym c.self.view_is) c.requires.may.may.not_full;
+    }
 
 pub invariant_of-self-2 : goal.invariant_of-self-2
 invariant_of-self-2 g c =
     let own : c.in_ok-transfer.transfer.addressing.id ≡ own_id c.self.inside.config.entity (next_of c.self.inside.next) =
     ap (λ (t : Transfer). t.addressing.id) c.in_ok-transfer.ensures.transfer ∙ sym (ap (λ (v : Counted). next_id v.state) c.self.view_is) in
-    let number : c.args.number ≡ next_of c.self.inside.next = c.requires.number ∙ sym (ap (λ (v : Counted). v.state.next) c.self.view_is) in (
+    let number : c.args.number ≡ next_of c.self.inside.next = c.requires.may.is_next ∙ sym (ap (λ (v : Counted). v.state.next) c.self.view_is) in (
       c.self.invariant.0,
       c.self.invariant.1,
       free-put c.self.inside.config.entity (next_of c.self.inside.next) c.self.inside.table.state c.self.inside.table.state c.put.new.self.state refl c.self.invariant.2

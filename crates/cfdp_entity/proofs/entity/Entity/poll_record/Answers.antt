@@ -1,22 +1,24 @@
 use Rattle.std.proofs.Common.{arith, ◌≡◌, ◌≤◌, Some, slice_get, sym, ap, subst, ◌∙◌}
 use Rattle.cfdp_entity.specs.Entity.{Counted}
+use Rattle.cfdp_entity.specs.declared.record.Gave.{Gave}
+use Rattle.cfdp_entity.specs.Gives.{CountsOutbox, stored_by_gave}
 use Rattle.cfdp_entity.specs.Spelled.{EntryIsSpelled}
 use Rattle.cfdp_entity.specs.Table.{next_due, len_at}
 use Rattle.cfdp_entity.proofs.Turns.{moves-gave, place-spells}
 use Rattle.cfdp_entity.proofs.entity.Entity.poll_record.Goals as goal
 
-pub returns-in-Octets-clause-polled : goal.returns-in-Octets-clause-polled
-returns-in-Octets-clause-polled g c =
+pub returns-in-Octets-clause-answers : goal.returns-in-Octets-clause-answers
+returns-in-Octets-clause-answers g c =
     let len : c.due_len.result ≡ len_at c.in-Some.place c.args.self.now.state.table = c.due_len.ensures.len ∙ ap (λ (v : Counted). len_at c.in-Some.place v.state.table) c.self.view_is in
     let fits : len_at c.in-Some.place c.args.self.now.state.table ≤ c.args.room = omega (arith, c.if-due_len-room.false, len) in
     let next : next_due c.args.self.now.state.cursor c.args.self.now.state.table.records ≡ Some c.in-Some.place =
     sym (c.in-Some.ensures.next ∙ ap (λ (v : Counted). next_due v.state.cursor v.state.table.records) c.self.view_is) in
-    moves-gave c.args.room c.in-Some.place c.args.self.now.state c.send_at.new.self.state c.requires.no_stray next
-    c.in_ok-octets.field-0 c.in-Octets.octets c.args.out.now c.send_at.new.out c.in-Octets.is fits c.in_ok-octets.ensures.sends.taken c.in_ok-octets.ensures.sends.gives
-
-pub returns-in-Octets-clause-spells : goal.returns-in-Octets-clause-spells
-returns-in-Octets-clause-spells g c =
-    let next : next_due c.args.self.now.state.cursor c.args.self.now.state.table.records ≡ Some c.in-Some.place =
-    sym (c.in-Some.ensures.next ∙ ap (λ (v : Counted). next_due v.state.cursor v.state.table.records) c.self.view_is) in
     let is = subst (λ (v : Counted). EntryIsSpelled v.state.table.sources (slice_get v.state.table.records c.in-Some.place)) c.self.view_is c.due_len.ensures.spelled in
-    place-spells c.args.room c.in-Some.place c.args.self.now.state c.send_at.new.self.state c.requires.no_stray next is
+    record {
+      polled = moves-gave c.args.room c.in-Some.place c.args.self.now.state c.send_at.new.self.state c.requires.no_stray next
+          c.in_ok-octets.field-0 c.in-Octets.octets c.args.out.now c.send_at.new.out c.in-Octets.is fits c.in_ok-octets.ensures.sends.taken c.in_ok-octets.ensures.sends.gives;
+      spells = place-spells c.args.room c.in-Some.place c.args.self.now.state c.send_at.new.self.state c.requires.no_stray next is;
+      roomy = λ full. absurd (cc);
+      counts = subst (λ (gave : Gave). CountsOutbox (stored_by_gave gave) c.args.self.now.outbox_failures c.send_at.new.self.outbox_failures) c.in-Octets.is c.in_ok-octets.ensures.sends.counts;
+      inbox = c.in_ok-octets.ensures.sends.inbox;
+    }

@@ -9,18 +9,23 @@ use Rattle.cfdp_entity.proofs.table.Table.due_len.Goals as goal
 pub returns-in-Some-clause-len : goal.returns-in-Some-clause-len
 returns-in-Some-clause-len g c =
     c.due_len.ensures.len (g.I.Inbox.staged c.self.inside.desk.inbox) (g.O.Outbox.files c.self.inside.desk.outbox) _
-    (ready_by_entry (g.I.Inbox.staged c.self.inside.desk.inbox) (g.O.Outbox.files c.self.inside.desk.outbox) _ c.self.inside.records.entries c.args.place _ c.in-Some.held.now c.in-Some.ensures.entry c.self.invariant.ready)
-    ∙ ap (len_due (g.O.Outbox.files c.self.inside.desk.outbox)) (sym (seen_by_entry (g.I.Inbox.staged c.self.inside.desk.inbox) c.self.inside.records.entries c.args.place _ c.in-Some.held.now c.in-Some.ensures.entry))
+    (ready_by_entry (g.I.Inbox.staged c.self.inside.desk.inbox) (g.O.Outbox.files c.self.inside.desk.outbox) _ c.self.inside.records.entries c.args.place _ c.in-Some.held.now
+    c.in-Some.ensures.entry c.self.invariant.ready)
+    ∙ ap (len_due (g.O.Outbox.files c.self.inside.desk.outbox)) (sym (seen_by_entry (g.I.Inbox.staged c.self.inside.desk.inbox) c.self.inside.records.entries c.args.place _ c.in-Some.held.now
+    c.in-Some.ensures.entry))
     ∙ ap (λ (v : Roomy). len_at c.args.place v.state) c.self.view_is
 
 pub returns-in-Some-clause-spelled : goal.returns-in-Some-clause-spelled
 returns-in-Some-clause-spelled g c = subst (λ (v : Roomy). EntryIsSpelled v.state.sources (slice_get v.state.records c.args.place)) c.self.view_is
-    (entry-spelled (g.I.Inbox.staged c.self.inside.desk.inbox) (g.O.Outbox.files c.self.inside.desk.outbox) c.self.inside.records.entries c.args.place _ c.in-Some.held.now c.in-Some.ensures.entry c.due_len.ensures.spelled)
+    (entry-spelled (g.I.Inbox.staged c.self.inside.desk.inbox) (g.O.Outbox.files c.self.inside.desk.outbox) c.self.inside.records.entries c.args.place _ c.in-Some.held.now c.in-Some.ensures.entry
+    c.due_len.ensures.spelled)
 
 pub returns-in-None-clause-spelled : goal.returns-in-None-clause-spelled
 returns-in-None-clause-spelled g c = subst (λ (v : Roomy). EntryIsSpelled v.state.sources (slice_get v.state.records c.args.place)) c.self.view_is
-    (subst (EntryIsSpelled (g.O.Outbox.files c.self.inside.desk.outbox)) (sym (seen_nowhere (g.I.Inbox.staged c.self.inside.desk.inbox) c.self.inside.records.entries c.args.place c.in-None.ensures.entry)) tt)
+    (subst (EntryIsSpelled (g.O.Outbox.files c.self.inside.desk.outbox)) (sym (seen_nowhere (g.I.Inbox.staged c.self.inside.desk.inbox) c.self.inside.records.entries c.args.place
+    c.in-None.ensures.entry)) tt)
 
 pub returns-in-None-clause-len : goal.returns-in-None-clause-len
-returns-in-None-clause-len g c = ap (len_due (g.O.Outbox.files c.self.inside.desk.outbox)) (sym (seen_nowhere (g.I.Inbox.staged c.self.inside.desk.inbox) c.self.inside.records.entries c.args.place c.in-None.ensures.entry))
+returns-in-None-clause-len g c = ap (len_due (g.O.Outbox.files c.self.inside.desk.outbox)) (sym (seen_nowhere (g.I.Inbox.staged c.self.inside.desk.inbox) c.self.inside.records.entries
+    c.args.place c.in-None.ensures.entry))
     ∙ ap (λ (v : Roomy). len_at c.args.place v.state) c.self.view_is

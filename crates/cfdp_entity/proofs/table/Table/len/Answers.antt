@@ -7,7 +7,8 @@ use Rattle.cfdp_entity.proofs.Places.{length_entries, keys-seen}
 use Rattle.cfdp_entity.proofs.table.Table.len.Goals as goal
 
 pub returns-clause-len : goal.returns-clause-len
-returns-clause-len g c = c.len.ensures.len ∙ sym (length_entries (g.I.Inbox.staged c.self.inside.desk.inbox) c.self.inside.records.entries) ∙ ap length (ap (λ (v : Roomy). v.state.records) c.self.view_is)
+returns-clause-len g c = c.len.ensures.len ∙ sym (length_entries (g.I.Inbox.staged c.self.inside.desk.inbox) c.self.inside.records.entries) ∙ ap length
+    (ap (λ (v : Roomy). v.state.records) c.self.view_is)
 
 pub returns-clause-distinct : goal.returns-clause-distinct
 returns-clause-distinct g c =

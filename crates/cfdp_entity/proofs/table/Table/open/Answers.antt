@@ -19,37 +19,57 @@ on_err (Ok x) h = tt
 on_err (Err e) h = h
 
 pub invariant_of-self-in_err-held : goal.invariant_of-self-in_err-held
-invariant_of-self-in_err-held g c = whole-kept (roomed (on_desk g.O.Outbox g.I.Inbox c.self.inside.desk) c.reserve.new.self c.reserve.ensures.items c.self.inside.records.entries) (on_desk g.O.Outbox g.I.Inbox c.open.new.self) c.self.inside.records.entries c.reserve-2.new.self.entries c.self.inside.ready c.args.addressing.id
-    (whole-roomed (on_desk g.O.Outbox g.I.Inbox c.self.inside.desk) c.reserve.new.self c.reserve.ensures.items c.self.inside.records.entries c.self.inside.ready c.self.invariant) (absent-seen (g.I.Inbox.staged c.self.inside.desk.inbox) c.self.inside.records.entries c.args.addressing.id (ap (λ (v : Roomy). place_of c.args.addressing.id v.state.records) c.self.view_is ∙ c.requires.absent)) c.reserve-2.ensures.entries c.open.ensures.widens
+invariant_of-self-in_err-held g c = whole-kept (roomed (on_desk g.O.Outbox g.I.Inbox c.self.inside.desk) c.reserve.new.self c.reserve.ensures.items c.self.inside.records.entries)
+    (on_desk g.O.Outbox g.I.Inbox c.open.new.self) c.self.inside.records.entries c.reserve-2.new.self.entries c.self.inside.ready c.args.addressing.id
+    (whole-roomed (on_desk g.O.Outbox g.I.Inbox c.self.inside.desk) c.reserve.new.self c.reserve.ensures.items c.self.inside.records.entries c.self.inside.ready c.self.invariant)
+    (absent-seen (g.I.Inbox.staged c.self.inside.desk.inbox) c.self.inside.records.entries c.args.addressing.id
+    (ap (λ (v : Roomy). place_of c.args.addressing.id v.state.records) c.self.view_is ∙ c.requires.may_add.absent)) c.reserve-2.ensures.entries c.open.ensures.widens
 
 pub push_record-requires-clause-absent : goal.push_record-requires-clause-absent
-push_record-requires-clause-absent g c = ap (lookup (same_id c.args.addressing.id)) c.reserve-2.ensures.entries ∙ (absent-seen (g.I.Inbox.staged c.self.inside.desk.inbox) c.self.inside.records.entries c.args.addressing.id (ap (λ (v : Roomy). place_of c.args.addressing.id v.state.records) c.self.view_is ∙ c.requires.absent))
+push_record-requires-clause-absent g c = ap (lookup (same_id c.args.addressing.id)) c.reserve-2.ensures.entries ∙
+    (absent-seen (g.I.Inbox.staged c.self.inside.desk.inbox) c.self.inside.records.entries c.args.addressing.id
+    (ap (λ (v : Roomy). place_of c.args.addressing.id v.state.records) c.self.view_is ∙ c.requires.may_add.absent))
 
 pub invariant_of-self-2 : goal.invariant_of-self-2
 invariant_of-self-2 g c =
     let l = length_entries (g.I.Inbox.staged c.self.inside.desk.inbox) c.self.inside.records.entries in
     let v = ap (λ (v : Roomy). length v.state.records) c.self.view_is in
-    whole-added (roomed (on_desk g.O.Outbox g.I.Inbox c.self.inside.desk) c.reserve.new.self c.reserve.ensures.items c.self.inside.records.entries) (on_desk g.O.Outbox g.I.Inbox c.open.new.self) c.self.inside.records.entries c.reserve-2.new.self.entries c.self.inside.ready c.args.addressing.id
-    (whole-roomed (on_desk g.O.Outbox g.I.Inbox c.self.inside.desk) c.reserve.new.self c.reserve.ensures.items c.self.inside.records.entries c.self.inside.ready c.self.invariant) (absent-seen (g.I.Inbox.staged c.self.inside.desk.inbox) c.self.inside.records.entries c.args.addressing.id (ap (λ (v : Roomy). place_of c.args.addressing.id v.state.records) c.self.view_is ∙ c.requires.absent)) c.reserve-2.ensures.entries c.open.ensures.widens
+    whole-added (roomed (on_desk g.O.Outbox g.I.Inbox c.self.inside.desk) c.reserve.new.self c.reserve.ensures.items c.self.inside.records.entries) (on_desk g.O.Outbox g.I.Inbox c.open.new.self)
+    c.self.inside.records.entries c.reserve-2.new.self.entries c.self.inside.ready c.args.addressing.id
+    (whole-roomed (on_desk g.O.Outbox g.I.Inbox c.self.inside.desk) c.reserve.new.self c.reserve.ensures.items c.self.inside.records.entries c.self.inside.ready c.self.invariant)
+    (absent-seen (g.I.Inbox.staged c.self.inside.desk.inbox) c.self.inside.records.entries c.args.addressing.id
+    (ap (λ (v : Roomy). place_of c.args.addressing.id v.state.records) c.self.view_is ∙ c.requires.may_add.absent)) c.reserve-2.ensures.entries c.open.ensures.widens
     c.in_ok-held.held c.push_record.new.records.entries c.push_record.ensures.added
-    (opens c.in_ok-held.opened.begun c.in_ok-held.opened.stored c.self.inside.desk.policy.times (g.I.Inbox.published c.self.inside.desk.inbox) c.args.large (view c.args.pdu.now) c.args.addressing) c.in_ok-held.ensures.opens
-    (omega (arith, l, v, c.requires.not_full)) c.is_due.result (c.is_due.ensures (g.I.Inbox.staged c.open.new.self.inbox c.args.addressing.id)) c.push.new.self c.push.ensures c.push_record.ensures.unique
+    (opens c.in_ok-held.opened.begun c.in_ok-held.opened.stored c.self.inside.desk.policy.times (g.I.Inbox.published c.self.inside.desk.inbox) c.args.large (view c.args.pdu.now)
+    c.args.addressing) c.in_ok-held.ensures.opens
+    (omega (arith, l, v, c.requires.may_add.not_full)) c.is_due.result (c.is_due.ensures (g.I.Inbox.staged c.open.new.self.inbox c.args.addressing.id)) c.push.new.self c.push.ensures
+    c.push_record.ensures.unique
 
 pub returns-in_err-held-clause-err : goal.returns-in_err-held-clause-err
 returns-in_err-held-clause-err g c = on_err c.from_residual-in_err-held.result
-    (becomes-roomed (on_desk g.O.Outbox g.I.Inbox c.self.inside.desk) c.reserve.new.self c.reserve.ensures.items c.self.inside.records.entries (λ st. st) c.args.self.now (roomy_of (on_desk g.O.Outbox g.I.Inbox c.open.new.self) c.reserve-2.new.self.entries) c.self.view_is
-    (becomes-kept (roomed (on_desk g.O.Outbox g.I.Inbox c.self.inside.desk) c.reserve.new.self c.reserve.ensures.items c.self.inside.records.entries) (on_desk g.O.Outbox g.I.Inbox c.open.new.self) c.self.inside.records.entries c.reserve-2.new.self.entries c.self.inside.ready c.args.addressing.id
-    (whole-roomed (on_desk g.O.Outbox g.I.Inbox c.self.inside.desk) c.reserve.new.self c.reserve.ensures.items c.self.inside.records.entries c.self.inside.ready c.self.invariant) (absent-seen (g.I.Inbox.staged c.self.inside.desk.inbox) c.self.inside.records.entries c.args.addressing.id (ap (λ (v : Roomy). place_of c.args.addressing.id v.state.records) c.self.view_is ∙ c.requires.absent)) c.reserve-2.ensures.entries c.open.ensures.widens
+    (becomes-roomed (on_desk g.O.Outbox g.I.Inbox c.self.inside.desk) c.reserve.new.self c.reserve.ensures.items c.self.inside.records.entries (λ st. st) c.args.self.now
+    (roomy_of (on_desk g.O.Outbox g.I.Inbox c.open.new.self) c.reserve-2.new.self.entries) c.self.view_is
+    (becomes-kept (roomed (on_desk g.O.Outbox g.I.Inbox c.self.inside.desk) c.reserve.new.self c.reserve.ensures.items c.self.inside.records.entries)
+    (on_desk g.O.Outbox g.I.Inbox c.open.new.self) c.self.inside.records.entries c.reserve-2.new.self.entries c.self.inside.ready c.args.addressing.id
+    (whole-roomed (on_desk g.O.Outbox g.I.Inbox c.self.inside.desk) c.reserve.new.self c.reserve.ensures.items c.self.inside.records.entries c.self.inside.ready c.self.invariant)
+    (absent-seen (g.I.Inbox.staged c.self.inside.desk.inbox) c.self.inside.records.entries c.args.addressing.id
+    (ap (λ (v : Roomy). place_of c.args.addressing.id v.state.records) c.self.view_is ∙ c.requires.may_add.absent)) c.reserve-2.ensures.entries c.open.ensures.widens
     c.in_err-held.ensures.err))
 
 pub returns-clause-opened : goal.returns-clause-opened
-returns-clause-opened g c = steps-roomed (on_desk g.O.Outbox g.I.Inbox c.self.inside.desk) c.reserve.new.self c.reserve.ensures.items c.self.inside.records.entries (opened_by c.in_ok-held.opened.begun c.in_ok-held.opened.stored c.args.addressing c.args.large (view c.args.pdu.now)) (CountsBoth c.in_ok-held.opened.begun c.in_ok-held.opened.stored)
-    (AsksToOpen Raises c.in_ok-held.opened.begun c.in_ok-held.opened.stored c.args.addressing c.args.large (view c.args.pdu.now)) c.args.self.now (roomy_of (on_desk g.O.Outbox g.I.Inbox c.open.new.self) c.push_record.new.records.entries) c.self.view_is
+returns-clause-opened g c = steps-roomed (on_desk g.O.Outbox g.I.Inbox c.self.inside.desk) c.reserve.new.self c.reserve.ensures.items c.self.inside.records.entries
+    (opened_by c.in_ok-held.opened.begun c.in_ok-held.opened.stored c.args.addressing c.args.large (view c.args.pdu.now)) (CountsBoth c.in_ok-held.opened.begun c.in_ok-held.opened.stored)
+    (AsksToOpen Raises c.in_ok-held.opened.begun c.in_ok-held.opened.stored c.args.addressing c.args.large (view c.args.pdu.now)) c.args.self.now
+    (roomy_of (on_desk g.O.Outbox g.I.Inbox c.open.new.self) c.push_record.new.records.entries) c.self.view_is
     (record {
-      state = state-added (roomed (on_desk g.O.Outbox g.I.Inbox c.self.inside.desk) c.reserve.new.self c.reserve.ensures.items c.self.inside.records.entries) (on_desk g.O.Outbox g.I.Inbox c.open.new.self) c.self.inside.records.entries c.reserve-2.new.self.entries c.self.inside.ready c.args.addressing.id
-          (whole-roomed (on_desk g.O.Outbox g.I.Inbox c.self.inside.desk) c.reserve.new.self c.reserve.ensures.items c.self.inside.records.entries c.self.inside.ready c.self.invariant) (absent-seen (g.I.Inbox.staged c.self.inside.desk.inbox) c.self.inside.records.entries c.args.addressing.id (ap (λ (v : Roomy). place_of c.args.addressing.id v.state.records) c.self.view_is ∙ c.requires.absent)) c.reserve-2.ensures.entries c.open.ensures.widens
+      state = state-added (roomed (on_desk g.O.Outbox g.I.Inbox c.self.inside.desk) c.reserve.new.self c.reserve.ensures.items c.self.inside.records.entries)
+          (on_desk g.O.Outbox g.I.Inbox c.open.new.self) c.self.inside.records.entries c.reserve-2.new.self.entries c.self.inside.ready c.args.addressing.id
+          (whole-roomed (on_desk g.O.Outbox g.I.Inbox c.self.inside.desk) c.reserve.new.self c.reserve.ensures.items c.self.inside.records.entries c.self.inside.ready c.self.invariant)
+          (absent-seen (g.I.Inbox.staged c.self.inside.desk.inbox) c.self.inside.records.entries c.args.addressing.id
+          (ap (λ (v : Roomy). place_of c.args.addressing.id v.state.records) c.self.view_is ∙ c.requires.may_add.absent)) c.reserve-2.ensures.entries c.open.ensures.widens
           c.in_ok-held.held c.push_record.new.records.entries c.push_record.ensures.added
-          (opens c.in_ok-held.opened.begun c.in_ok-held.opened.stored c.self.inside.desk.policy.times (g.I.Inbox.published c.self.inside.desk.inbox) c.args.large (view c.args.pdu.now) c.args.addressing) c.in_ok-held.ensures.opens;
+          (opens c.in_ok-held.opened.begun c.in_ok-held.opened.stored c.self.inside.desk.policy.times (g.I.Inbox.published c.self.inside.desk.inbox) c.args.large (view c.args.pdu.now)
+          c.args.addressing) c.in_ok-held.ensures.opens;
       counts = c.in_ok-held.ensures.counts;
       raises = subst (λ (s : Seen). AsksFirst Raises (closing (view c.args.pdu.now)) c.in_ok-held.opened.begun c.in_ok-held.opened.stored c.args.large (view c.args.pdu.now) c.args.addressing s
           (g.I.Inbox.failures c.self.inside.desk.inbox) (g.I.Inbox.failures c.open.new.self.inbox)) c.in_ok-held.ensures.opens.does.state c.in_ok-held.ensures.raises;

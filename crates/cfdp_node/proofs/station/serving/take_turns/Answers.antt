@@ -1,4 +1,4 @@
-use Rattle.std.proofs.Common.{◌∙◌, inl, inr, refl, rules, subst, true}
+use Rattle.std.proofs.Common.{◌∙◌, inl, inr, refl, rules, subst}
 use Rattle.cfdp_node.specs.Station.Serving.{GoesOnce, IsOver, TakesOne}
 use Rattle.cfdp_node.specs.Wire.Turn.{Sending}
 use Rattle.cfdp_node.proofs.ServingLemmas.{written-all, written-longer, written-none}

@@ -1,5 +1,5 @@
 -- Those that the walk counts are those that are due, and no more than four of each transaction.
-use Rattle.std.proofs.Common.{arith, ap, ◌∙◌, max}
+use Rattle.std.proofs.Common.{ap, ◌∙◌, max}
 use Rattle.cfdp_timers.specs.Due.{due_count}
 use Rattle.cfdp_timers.proofs.Distinct.{length-due-alarms}
 use Rattle.cfdp_timers.proofs.timers.Timers.due_count.Goals as goal
