@@ -10,7 +10,10 @@ use std::alloc::Global;
 /// user, in order.
 #[derive(Debug, Drop)]
 pub struct Effects {
+    /// The timers of all transactions.
     pub timers: Timers,
+    /// What was indicated, the latest last. A step takes no memory: room for three more is made
+    /// before it.
     pub told: Vec<Indication>,
 }
 

@@ -150,8 +150,8 @@ fn sent<O: Outbox, W: Wire>(
     }
 }
 
-/// Sends the file from an outbox into an inbox, over these wires. Somebody looks on if that is asked
-/// for.
+/// Sends the file from an outbox into an inbox, over these wires. Somebody looks on if that is
+/// asked for.
 fn sent_over<O: Outbox, I: Inbox, W: Wire>(
     rt: &HostRuntime,
     request: &LoopRequest,
