@@ -102,10 +102,12 @@ static void defaults(void)
     IS(c.down.apid, 100);
     IS(c.down.spacecraft, 42);
     IS(c.down.channel, 5);
+    IS(c.down.data_channel, 7);
     IS(c.up.zone, 256);
     IS(c.up.apid, 101);
     IS(c.up.spacecraft, 42);
     IS(c.up.channel, 6);
+    IS(c.up.data_channel, 8);
     IS(c.segment, 1024);
     IS(c.id_width, 2);
     IS(c.number_width, 4);
@@ -194,13 +196,17 @@ static void opened_so(void)
     REFUSES(c.down.zone = 15);
     REFUSES(c.down.apid = 2047);
     REFUSES(c.down.channel = 63);
+    REFUSES(c.down.data_channel = 63);
+    REFUSES(c.down.data_channel = c.down.channel);
     REFUSES(c.up.zone = 2041);
     REFUSES(c.up.apid = 65535);
     REFUSES(c.up.channel = 255);
+    REFUSES(c.up.data_channel = 255);
+    REFUSES(c.up.channel = c.up.data_channel);
     IS(cfdp_open(&s, &c), CFDP_OK);
     IS(cfdp_open(&s, &c), CFDP_ALREADY_OPEN);
     IS(cfdp_frame_len(&s), 264);
-    IS(cfdp_frames_ahead(&s), (16384 + 2047) / 256);
+    IS(cfdp_frames_ahead(&s), 2 * ((16384 + 2047) / 256));
     cfdp_close(&s);
     IS(cfdp_poll(&s), CFDP_CLOSED);
     IS(live, 0);
@@ -361,6 +367,43 @@ static void transferred(void)
     IS(live, 0);
 }
 
+/* Directives leave before file data, each in frames of their own channel. */
+static void overtaken(void)
+{
+    static const uint8_t channels[] = {5, 7};
+    cfdp_station one = CFDP_STATION_INIT, two = CFDP_STATION_INIT;
+    const cfdp_config first = config_of(1), second = config_of(2);
+    uint8_t frames[2][264];
+    cfdp_id id;
+    size_t at;
+
+    IS(cfdp_open(&one, &first), CFDP_OK);
+    IS(cfdp_open(&two, &second), CFDP_OK);
+    IS(cfdp_add(&one, NAME_A, 1, OCTETS, sizeof OCTETS), CFDP_OK);
+    IS(cfdp_put(&one, NAME_A, 1, NAME_B, 1, &id), CFDP_OK);
+    /* Metadata, file data, EOF */
+    for (at = 0; at < 3; at++)
+        IS(cfdp_poll(&one), CFDP_OK);
+    IS(cfdp_poll(&one), CFDP_NOTHING);
+    IS(cfdp_flush(&one), CFDP_OK);
+    for (at = 0; at < 2; at++) {
+        IS(cfdp_next_frame(&one, frames[at], sizeof frames[at]), CFDP_OK);
+        IS(frames[at][1] & 63, channels[at]);
+    }
+    IS(cfdp_next_frame(&one, frames[0], sizeof frames[0]), CFDP_NOTHING);
+    IS(cfdp_take(&two, frames[0], sizeof frames[0]), CFDP_OK);
+    IS(cfdp_file_count(&two), 0);
+    IS(cfdp_take(&two, frames[1], sizeof frames[1]), CFDP_OK);
+    IS(cfdp_file_count(&two), 1);
+    /* of a third channel */
+    frames[1][1] = (uint8_t)((frames[1][1] & 0xC0) | 9);
+    IS(cfdp_take(&two, frames[1], sizeof frames[1]), CFDP_OK);
+    IS(cfdp_link_drops(&two, 5), 1);
+    cfdp_close(&one);
+    cfdp_close(&two);
+    IS(live, 0);
+}
+
 /* The PDU that is due is longer than the room that is left. */
 static void filled(void)
 {
@@ -497,6 +540,7 @@ int main(void)
     on_a_closed_handle();
     opened_so();
     transferred();
+    overtaken();
     filled();
     decodes();
     asked = 0;

@@ -1,7 +1,8 @@
 """Scripts that chance makes, always the same ones, each of which has to complete all of its puts.
 
 Twenty lose nothing and settle. Twenty lose frames, from 10 to 70 of a hundred, and recover. Four
-settle, lose only what belongs to two last puts, and recover with limits of which some are zero.
+settle, lose only what belongs to two last puts, and recover with limits of which some are zero. Of
+the frames that arrive or are lost some are those sent first, and some the oldest of one lane.
 """
 
 MASK = 2**64 - 1
@@ -45,7 +46,12 @@ MOVES = [
     "deliver 1 3",
     "deliver 2",
     "deliver 2 2",
+    "deliver 1 dir",
+    "deliver 1 data 2",
+    "deliver 2 data",
 ]
+# What a frame is taken of: the one sent first, or the oldest of a lane.
+LANES = ["", "", " dir", " data"]
 SUSPENSIONS = ["suspend 1 1:1", "suspend 2 1:1", "suspend 1 2:1", "suspend 2 2:1"]
 RESUMES = ["resume 1 1:1", "resume 2 1:1", "resume 1 2:1", "resume 2 2:1"]
 ALL_RESUMED = "".join(f"{it}\n" for it in RESUMES)
@@ -84,7 +90,8 @@ def frames(number, count, lost):
     for _ in range(count):
         number = after(number)
         verb = "strike" if (number >> 33) % 100 < lost else "deliver"
-        lines.append(f"{verb} {station(number)}\n")
+        lane = LANES[(number >> 45) % len(LANES)]
+        lines.append(f"{verb} {station(number)}{lane}\n")
     return "".join(lines), number
 
 

@@ -147,11 +147,11 @@ class Refusals:
 
     def strikes_of(self):
         for number, line in enumerate(self.lines, 1):
-            verb, station, *most = [*line.split(" "), ""][:3]
-            for before in range(int(most[0] or 1)) if verb == "deliver" else ():
-                behind = int(most[0] or 1) - before - 1
-                parts = [("deliver", before), ("strike", 1), ("deliver", behind)]
-                others = [f"{it} {station} {count}" for it, count in parts if count]
+            found = re.fullmatch(r"deliver (\d+(?: dir| data)?)(?: (\d+))?", line)
+            count = int(found[2] or 1) if found else 0
+            for before in range(count):
+                parts = [("deliver", before), ("strike", 1), ("deliver", count - before - 1)]
+                others = [f"{it} {found[1]} {most}" for it, most in parts if most]
                 (answers, told), _ = self.with_others(number, others)
                 del answers[number]
                 yield answers, told

@@ -69,7 +69,8 @@ def mistakes(bench, octets, heard):
         if taken != " taken":
             yield f"PDU {place} was dropped: {taken}"
         for it in polled:
-            if it != " nothing" and int(it[1:3], 16) % 2 != flag:
+            first = it.removeprefix(" directive ")[:2]
+            if it != " nothing" and int(first, 16) % 2 != flag:
                 yield f"behind PDU {place} an answer has the other flag: {it}"
     if lines[-1] != f" b.txt: {octets.decode()}":
         yield f"the file didn't come out: {lines[-1]!r}"

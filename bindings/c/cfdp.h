@@ -64,19 +64,21 @@ enum {
 
 /* ---- How a station is set up. */
 
-/* One direction of a link. */
+/* One direction of a link. It has two lanes, a virtual channel each: file data go on one, and all
+ * other PDUs, the directives, on the other, so that they overtake file data. */
 typedef struct cfdp_link {
-    uint16_t zone;      /* octets of the packet zone, 16 to 2040; a frame has 8 more */
-    uint16_t apid;      /* application process of the packets, 0 to 2046 */
-    uint8_t spacecraft; /* spacecraft of the frames */
-    uint8_t channel;    /* virtual channel of the frames, 0 to 62 */
+    uint16_t zone;        /* octets of the packet zone, 16 to 2040; a frame has 8 more */
+    uint16_t apid;        /* application process of the packets, 0 to 2046 */
+    uint8_t spacecraft;   /* spacecraft of the frames */
+    uint8_t channel;      /* virtual channel of directives, 0 to 62 */
+    uint8_t data_channel; /* virtual channel of file data, 0 to 62, another than channel */
 } cfdp_link;
 
 typedef struct cfdp_config {
     uint64_t entity;          /* this entity */
     uint64_t peer;            /* the other one */
     uint64_t first_number;    /* sequence number of the first put */
-    size_t capacity;          /* octets of packets that may wait to be frames, 8192 to 65536 */
+    size_t capacity;          /* octets of packets that may wait in a lane, 8192 to 65536 */
     uint32_t eof_time;        /* how long an EOF's ACK is waited for, in your unit, 1 or more */
     uint32_t nak_time;        /* .. what a NAK asked for */
     uint32_t finished_time;   /* .. the ACK of a Finished */
@@ -96,8 +98,8 @@ typedef struct cfdp_config {
 } cfdp_config;
 
 /* Fills in the defaults: those of station 1 of a script, with ids 1 and 2, zones of 256 octets,
- * spacecraft 42, channel 5 and APID 100 down, 6 and 101 up, times of 10 and of 100 for inactivity,
- * limits of 3. Station 2 has the ids, and the links, the other way round. */
+ * spacecraft 42, channels 5 and 7 (file data) and APID 100 down, 6, 8 and 101 up, times of 10 and
+ * of 100 for inactivity, limits of 3. Station 2 has the ids, and the links, the other way round. */
 void cfdp_defaults(cfdp_config *config);
 
 /* ---- A station. */
@@ -111,8 +113,8 @@ typedef struct cfdp_station {
 #define CFDP_STATION_INIT {NULL, false}
 
 /* Opens a closed handle on a station that has no transactions and no files. CFDP_OK,
- * CFDP_ALREADY_OPEN, CFDP_BAD_ARGUMENT where a value of the configuration is out of its range or
- * both ids are the same, or CFDP_NO_MEMORY. */
+ * CFDP_ALREADY_OPEN, CFDP_BAD_ARGUMENT where a value of the configuration is out of its range, or
+ * both ids or both channels of a link are the same, or CFDP_NO_MEMORY. */
 cfdp_answer cfdp_open(cfdp_station *station, const cfdp_config *config);
 
 /* Gives back all memory of the station. The handle is closed then; a closed one stays so. */
@@ -153,32 +155,36 @@ cfdp_answer cfdp_prompt(cfdp_station *station, const cfdp_id *id, bool keep_aliv
 
 /* ---- Down. */
 
-/* Moves the PDU whose turn it is into the frames. CFDP_OK where one was moved: poll again;
- * CFDP_NOTHING where none is due: flush; CFDP_FULL: take frames off first. CFDP_SOURCE_FAULT,
- * CFDP_CLOSED, or CFDP_NO_MEMORY: nothing has changed then. */
+/* Moves the PDU whose turn it is into the frames of its lane. CFDP_OK where one was moved: poll
+ * again; CFDP_NOTHING where none is due: flush; CFDP_FULL, where its lane has no room for it: take
+ * frames off first. CFDP_SOURCE_FAULT, CFDP_CLOSED, or CFDP_NO_MEMORY: nothing has changed then. */
 cfdp_answer cfdp_poll(cfdp_station *station);
 
-/* Fills the begun frame, so that all that was polled can leave. CFDP_OK or CFDP_CLOSED. */
+/* Fills the begun frame of each lane, so that all that was polled can leave. CFDP_OK or
+ * CFDP_CLOSED. */
 cfdp_answer cfdp_flush(cfdp_station *station);
 
-/* Octets of each frame; 0 of a closed handle. */
+/* Octets of each frame, in either lane; 0 of a closed handle. */
 size_t cfdp_frame_len(cfdp_station *station);
 
-/* The most frames that can wait after a poll or a flush; 0 of a closed handle. */
+/* The most frames that can wait after a poll or a flush, both lanes together; 0 of a closed
+ * handle. */
 size_t cfdp_frames_ahead(cfdp_station *station);
 
-/* Writes the oldest whole frame, and takes it off. room is cfdp_frame_len octets, no more and no
- * less, else CFDP_NO_ROOM. CFDP_OK, CFDP_CLOSED, or CFDP_NOTHING where no whole frame waits. */
+/* Writes the next whole frame, and takes it off: the oldest one of directives, or where none of
+ * them waits that of file data. Who wants to know its lane reads its virtual channel,
+ * frame[1] & 63. room is cfdp_frame_len octets, no more and no less, else CFDP_NO_ROOM. CFDP_OK,
+ * CFDP_CLOSED, or CFDP_NOTHING where no whole frame waits. */
 cfdp_answer cfdp_next_frame(cfdp_station *station, uint8_t *frame, size_t room);
 
 /* ---- Up. */
 
-/* Takes a frame, of any length and with any octets. What can't be used of it is dropped and
- * counted. CFDP_OK or CFDP_CLOSED. */
+/* Takes a frame of either lane, of any length and with any octets. What can't be used of it is
+ * dropped and counted. CFDP_OK or CFDP_CLOSED. */
 cfdp_answer cfdp_take(cfdp_station *station, const uint8_t *frame, size_t len);
 
-/* How often a PDU was dropped under a number, 1 to 17, and something of a frame under a number, 1
- * to 11 (docs/FORMATS.md); 0 of any other number, and of a closed handle. */
+/* How often a PDU was dropped under a number, 1 to 17, and something of a frame of either lane
+ * under a number, 1 to 11 (docs/FORMATS.md); 0 of any other number, and of a closed handle. */
 uint64_t cfdp_drops(cfdp_station *station, uint8_t number);
 uint64_t cfdp_link_drops(cfdp_station *station, uint8_t number);
 

@@ -9,7 +9,7 @@ pub const OK: u32 = 0;
 pub const NOTHING: u32 = 6;
 pub const FULL: u32 = 41;
 
-/// One direction of a link.
+/// One direction of a link. Directives go on `channel`, file data on `data_channel`.
 #[repr(C)]
 #[derive(Clone, Copy, Debug, Default, PartialEq, Eq)]
 pub struct Link {
@@ -17,6 +17,7 @@ pub struct Link {
     pub apid: u16,
     pub spacecraft: u8,
     pub channel: u8,
+    pub data_channel: u8,
 }
 
 /// How a station is set up; `cfdp.h` has the ranges.

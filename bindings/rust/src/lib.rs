@@ -39,7 +39,7 @@ pub enum Polled {
     Moved,
     /// None is due.
     Nothing,
-    /// The one that is due doesn't fit until frames were taken off.
+    /// The lane of the one that is due has no room for it until frames were taken off.
     Full,
     /// The outbox failed, and the transaction was cancelled for it.
     SourceFailed,
@@ -99,7 +99,8 @@ impl Station {
         Error::check(self.handle.prompt(id, keep_alive))
     }
 
-    /// Moves the PDU whose turn it is into the frames.
+    /// Moves the PDU whose turn it is into the frames of its lane: file data into those of
+    /// [`Link::data_channel`], all other PDUs, the directives, into those of [`Link::channel`].
     pub fn poll(&mut self) -> Result<Polled, Error> {
         match self.handle.poll() {
             ffi::OK => Ok(Polled::Moved),
@@ -110,7 +111,7 @@ impl Station {
         }
     }
 
-    /// Fills the begun frame.
+    /// Fills the begun frame of each lane.
     pub fn flush(&mut self) {
         self.handle.flush();
     }
@@ -127,18 +128,19 @@ impl Station {
         self.frame_len
     }
 
-    /// The most frames that can wait after a poll or a flush.
+    /// The most frames that can wait after a poll or a flush, both lanes together.
     pub fn frames_ahead(&mut self) -> usize {
         self.handle.frames_ahead()
     }
 
-    /// Takes off the oldest whole frame.
+    /// Takes off the next whole frame: the oldest one of directives, or where none of them waits
+    /// that of file data.
     pub fn next_frame(&mut self) -> Option<Vec<u8>> {
         let mut frame = vec![0; self.frame_len];
         (self.handle.next_frame(&mut frame) == ffi::OK).then_some(frame)
     }
 
-    /// Takes a frame, whatever its octets are.
+    /// Takes a frame of either lane, whatever its octets are.
     pub fn take(&mut self, frame: &[u8]) {
         self.handle.take(frame);
     }
@@ -148,7 +150,7 @@ impl Station {
         self.handle.drops(number)
     }
 
-    /// How often something of a frame was dropped under a number, 1 to 11.
+    /// How often something of a frame of either lane was dropped under a number, 1 to 11.
     pub fn link_drops(&mut self, number: u8) -> u64 {
         self.handle.link_drops(number)
     }

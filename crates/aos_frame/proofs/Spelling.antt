@@ -1,5 +1,5 @@
 -- Exported: the written octets of a frame spell it; `written_frame_is_read` and `length-header_octets` for callers.
-use Rattle.std.proofs.Common.{◌≡◌, ℕ, Bool, true, false, ◌+◌, ◌-◌, ◌*◌, ◌/◌, ◌%◌, ◌^◌, ◌<◌, ◌≤◌, ◌==◌, List, [], ◌++◌, length, drop, refl, sym, ap, ◌∙◌, arith, append_assoc, length-append}
+use Rattle.std.proofs.Common.{◌≡◌, ◌⊎◌, ℕ, Bool, true, false, ◌+◌, ◌-◌, ◌*◌, ◌/◌, ◌%◌, ◌^◌, ◌<◌, ◌≤◌, ◌==◌, List, [], ◌++◌, length, drop, refl, sym, ap, ◌∙◌, arith, append_assoc, length-append}
 use Rattle.std.proofs.lemmas.List.{drop_at}
 use Rattle.cfd_bits.specs.Field.{field, octets}
 use Rattle.cfd_bits.proofs.Fields.{length-octets, field_between}
@@ -42,7 +42,7 @@ length-header_octets h =
     let c = length-octets 1 s in
     omega (arith, length-append (octets 2 n) (octets 3 k), length-append (octets 2 n ++ octets 3 k) (octets 1 s))
 
-pub written_frame_is_read : (link : LinkConfig) (h : FrameHeader) (rest : List ℕ) → FitsHeader h → h.spacecraft ≡ link.spacecraft → h.channel ≡ link.channel →
+pub written_frame_is_read : (link : LinkConfig) (h : FrameHeader) (rest : List ℕ) → FitsHeader h → h.spacecraft ≡ link.spacecraft → (h.channel ≡ link.channel) ⊎ (h.channel ≡ link.data_channel) →
     length rest ≡ 2 + link.zone → SpellsFrame link h (frame_octets h rest) × (drop 6 (frame_octets h rest) ≡ rest)
 written_frame_is_read link h rest fits ours here long =
     let n : ℕ = 16384 + 64 * h.spacecraft + h.channel in

@@ -1,11 +1,13 @@
 -- An AOS transfer frame with a packet zone: which octets are which frame of a link, and what is
 -- wrong with octets that are none (CCSDS 732.0-B-4, 4.1).
-use Rattle.std.specs.Prelude.{◌≡◌, ℕ, ◌+◌, ◌*◌, ◌/◌, ◌%◌, ◌<◌, ◌≤◌, Bool, true, false, List, ◌++◌, codes, length, Option, Some, None, ◌==◌, not, if◌then◌else◌}
+use Rattle.std.specs.Prelude.{◌≡◌, ◌≢◌, ◌⊎◌, ℕ, ◌+◌, ◌*◌, ◌/◌, ◌%◌, ◌<◌, ◌≤◌, Bool, true, false, List, ◌++◌, codes, length, Option, Some, None, ◌==◌, ◌||◌, not, if◌then◌else◌}
 use Rattle.cfd_bits.specs.Field.{field, octets}
 use Rattle.aos_frame.specs.Counts.{short_counts, counts_of}
 use Rattle.aos_frame.specs.declared.count.SeenCount.{SeenCount}
 use Rattle.aos_frame.specs.declared.header.FrameHeader.{FrameHeader}
 use Rattle.aos_frame.specs.declared.config.LinkConfig.{LinkConfig}
+use Rattle.aos_frame.specs.declared.config.Lane.{Lane}
+use Rattle.aos_frame.specs.declared.config.Lane.TheVariants.{Directives, Data}
 use Rattle.aos_frame.specs.declared.error.FrameError.{FrameError}
 use Rattle.aos_frame.specs.declared.error.FrameError.TheVariants.{Length, Version, OtherProfile, OtherSpacecraft, OtherChannel, OnlyIdle}
 
@@ -17,13 +19,31 @@ idle_channel = 63
 abbrev pub frame_len : LinkConfig → ℕ
 frame_len link = 6 + 2 + link.zone
 
--- A link that can be: its frames carry packets, and none of these packets is idle.
+-- A link that can be: its frames carry packets, on two channels, and none of these packets is idle.
 pub record IsLink (link : LinkConfig) : Type 0 where
   pub channel : link.channel < idle_channel
+  pub data_channel : link.data_channel < idle_channel
+  pub apart : link.data_channel ≢ link.channel
   pub least_zone : 16 ≤ link.zone
   pub most_zone : link.zone ≤ 2040
   pub apid : link.apid ≤ 2046
 
+-- ---- the two lanes of a direction
+abbrev pub other_lane : Lane → Lane
+other_lane Directives = Data
+other_lane Data = Directives
+
+-- the virtual channel of a lane
+abbrev pub channel_of : Lane → LinkConfig → ℕ
+channel_of Directives link = link.channel
+channel_of Data link = link.data_channel
+
+-- the link as one of its lanes has it: with its own channel in front
+abbrev pub lane_link : Lane → LinkConfig → LinkConfig
+lane_link Directives link = link
+lane_link Data link = record link { channel = link.data_channel; data_channel = link.channel }
+
+-- ---- the header
 -- whether the header of a frame has the usage flag of the count cycle (4.1.2.5)
 abbrev pub cycle_in : List ℕ → Bool
 cycle_in text = field text 41 1 == 1
@@ -52,9 +72,9 @@ pub record SpellsFrame (link : LinkConfig) (h : FrameHeader) (text : List ℕ) :
   pub not_replayed : field text 40 1 ≡ 0
   pub cycle : cycle_in text ≡ h.cycle
   pub two_bits : field text 42 2 ≡ 0
-  -- it is one of this link's
+  -- it is one of this link's, on either lane
   pub our_spacecraft : h.spacecraft ≡ link.spacecraft
-  pub our_channel : h.channel ≡ link.channel
+  pub our_channel : (h.channel ≡ link.channel) ⊎ (h.channel ≡ link.data_channel)
   pub carries_packets : h.channel < idle_channel
 
 -- what is wrong with octets that are no frame of the link: the first cause in this order, or none
@@ -66,7 +86,8 @@ frame_fault text link =
     else if not (field text 42 2 == 0) then Some OtherProfile
     else if not (field text 2 8 == link.spacecraft) then Some OtherSpacecraft
     else if field text 10 6 == idle_channel then Some OnlyIdle
-    else if not (field text 10 6 == link.channel) then Some OtherChannel
+    else if not (field text 10 6 == link.channel || field text 10 6 == link.data_channel)
+    then Some OtherChannel
     else None
 
 -- the link that the header of a frame names, its packet zones of so many octets
@@ -74,6 +95,7 @@ abbrev pub own_link : List ℕ → ℕ → LinkConfig
 own_link text zone = record {
   spacecraft = field text 2 8;
   channel = field text 10 6;
+  data_channel = field text 10 6;
   zone = zone;
   apid = 0;
 }

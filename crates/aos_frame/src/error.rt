@@ -24,7 +24,7 @@ pub enum FrameError {
     /// The frame is of virtual channel 63, and so holds only idle data (CCSDS 732.0-B-4, 4.1.2.3).
     #[error("the frame holds only idle data")]
     OnlyIdle,
-    /// The frame is of another virtual channel that carries data.
+    /// The frame is of a third virtual channel that carries packets.
     #[error("the frame is of another virtual channel")]
     OtherChannel,
 }

@@ -62,6 +62,7 @@ impl FrameHeader {
         let own = LinkConfig {
             spacecraft: get(frame, 2, 8) as u8,
             channel: get(frame, 10, 6) as u8,
+            data_channel: get(frame, 10, 6) as u8,
             zone,
             apid: 0,
         };

@@ -1,5 +1,5 @@
 //! Laws of frames and their spellings, each the contract of a function that does nothing.
-ghost use Rattle.std.specs.Prelude.{◌≡◌, ℕ, ◌+◌, ◌%◌, ◌<◌, Bool, List, length, drop};
+ghost use Rattle.std.specs.Prelude.{◌≡◌, ◌⊎◌, ℕ, ◌+◌, ◌%◌, ◌<◌, Bool, List, length, drop};
 ghost use Rattle.aos_frame.specs.declared.header.FrameHeader.{FrameHeader};
 ghost use Rattle.aos_frame.specs.declared.config.LinkConfig.{LinkConfig};
 ghost use Rattle.aos_frame.specs.Counts.{counts_of, compared, AreMissing};
@@ -9,7 +9,7 @@ ghost use Rattle.aos_frame.specs.Frame.{SpellsFrame, FitsHeader, frame_octets};
 /// spells that header, so `decode` answers it and what stands behind it.
 pub fn written_frame_is_read()
     ensures { (link : LinkConfig) (h : FrameHeader) (rest : List ℕ) → FitsHeader h → h.spacecraft
-        ≡ link.spacecraft → h.channel ≡ link.channel
+        ≡ link.spacecraft → (h.channel ≡ link.channel) ⊎ (h.channel ≡ link.data_channel)
         → length rest ≡ 2 + link.zone → SpellsFrame link h (frame_octets h rest)
         × (drop 6 (frame_octets h rest) ≡ rest) }
 {}

@@ -38,7 +38,7 @@ mod header;
 mod laws;
 
 use cfd_bits::{get, put_uint};
-pub use config::LinkConfig;
+pub use config::{Lane, LinkConfig};
 pub use count::{Continuity, FRAME_COUNTS, SHORT_COUNTS, SeenCount, VcCounter, VcMonitor};
 pub use error::FrameError;
 pub use header::{FrameHeader, HEADER_LEN, IDLE_CHANNEL};
@@ -61,8 +61,8 @@ fn count_in(bytes: &[u8], cycle: bool) -> u32
     }
 }
 
-/// The header of a whole frame of the link, and the octets behind it: the M_PDU header and the
-/// packet zone.
+/// The header of a whole frame of the link, on either of its two channels, and the octets behind
+/// it: the M_PDU header and the packet zone.
 ///
 /// Of the 2 octets of the M_PDU header the last 11 bits are the first header pointer. The count
 /// cycle is read as the upper 4 bits of the count where its usage flag is 1, else as anything.
@@ -102,7 +102,7 @@ pub fn decode<'a>(bytes: &'a [u8], link: &LinkConfig) -> Result<(FrameHeader, &'
     if channel == IDLE_CHANNEL {
         return Err(FrameError::OnlyIdle);
     }
-    if channel != link.channel {
+    if channel != link.channel && channel != link.data_channel {
         return Err(FrameError::OtherChannel);
     }
     let cycle = get(bytes, 41, 1) == 1;

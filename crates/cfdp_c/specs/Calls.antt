@@ -2,6 +2,8 @@
 use Rattle.std.specs.Prelude.{◌≡◌, ◌≤◌, ℕ, max, List, Option, MatchOption, Result, IfOk, IfErr, OnOk, OnErr}
 use Rattle.std.specs.FinMap as map
 use Rattle.std.specs.declared.alloc.AllocError.{AllocError}
+use Rattle.link_stack.specs.Downward.{first_down}
+use Rattle.link_stack.specs.Upward.{first_up}
 use Rattle.cfdp_header.specs.declared.value.TransactionId.{TransactionId}
 use Rattle.cfdp_timers.specs.ButInactivity.{OnlyInactivity, IsLeastOther}
 use Rattle.cfdp_timers.specs.Due.{due_count}
@@ -15,7 +17,7 @@ use Rattle.cfdp_entity.specs.declared.error.PutError.{PutError}
 use Rattle.cfdp_entity.specs.Entity.{first_entity, with_table}
 use Rattle.cfdp_entity.specs.Putting.{Accepts, put_refusal, IsPutRefusal, stored_by_error}
 use Rattle.cfdp_entity.specs.Table.{Ticks}
-use Rattle.cfdp_station.specs.Station.{StationState, first_down, first_up, KeepsLink}
+use Rattle.cfdp_station.specs.Station.{StationState, KeepsLink}
 use Rattle.cfdp_station.specs.declared.config.StationConfig.{StationConfig}
 use Rattle.cfdp_c.specs.Codes.{add_answer, put_answer, call_answer, memory_answer}
 use Rattle.cfdp_c.specs.declared.calls.CfdpId.{CfdpId}

@@ -47,7 +47,13 @@ entity_of c = record {
 }
 
 abbrev pub link_of : CfdpLink → LinkConfig
-link_of l = record { spacecraft = l.spacecraft; channel = l.channel; zone = l.zone; apid = l.apid }
+link_of l = record {
+  spacecraft = l.spacecraft;
+  channel = l.channel;
+  data_channel = l.data_channel;
+  zone = l.zone;
+  apid = l.apid;
+}
 
 -- the same as the station's own configuration
 abbrev pub config_of : CfdpConfig → StationConfig
@@ -81,8 +87,8 @@ default_config = record {
   nak_time = 10;
   finished_time = 10;
   inactivity_time = 100;
-  down = record { zone = 256; apid = 100; spacecraft = 42; channel = 5 };
-  up = record { zone = 256; apid = 101; spacecraft = 42; channel = 6 };
+  down = record { zone = 256; apid = 100; spacecraft = 42; channel = 5; data_channel = 7 };
+  up = record { zone = 256; apid = 101; spacecraft = 42; channel = 6; data_channel = 8 };
   segment = 1024;
   id_width = 2;
   number_width = 4;

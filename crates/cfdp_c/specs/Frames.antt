@@ -1,15 +1,23 @@
 -- What polls, flushes and frames answer and do, in the words of the station's own clauses.
-use Rattle.std.specs.Prelude.{◌≡◌, ◌≢◌, ◌↔◌, ◌+◌, ◌<◌, ℕ, List, length, Result, IfOk, OnErr}
+use Rattle.std.specs.Prelude.{◌≡◌, ◌≢◌, ◌↔◌, ◌+◌, ◌*◌, ◌-◌, ◌^◌, ◌<◌, ◌≤◌, ℕ, min, List, length, None, IsSomeAnd, Result, IfOk, OnErr}
 use Rattle.std.specs.declared.alloc.AllocError.{AllocError}
-use Rattle.link_stack.specs.Downward.{room}
+use Rattle.aos_frame.specs.Frame.{other_lane}
+use Rattle.aos_frame.specs.declared.config.Lane.{Lane}
+use Rattle.link_stack.specs.Downward.{DownState, LinkSenderState, MakesFrame, frame_lane, lane_down}
 use Rattle.cfdp_entity.specs.Polling.{TakesTurn, turn}
 use Rattle.cfdp_entity.specs.Sound.{SpellsTurn}
-use Rattle.cfdp_station.specs.Link.{Flushes, MakesFrame, WaitAtMost, HoldsAtMost}
-use Rattle.cfdp_station.specs.Polling.{Polls, next_len}
+use Rattle.cfdp_station.specs.Link.{FlushesBoth, WaitAtMost, HoldsAtMost}
+use Rattle.cfdp_station.specs.Polling.{Polls, next_len, next_room}
 use Rattle.cfdp_station.specs.Station.{StationState, KeepsRest}
 use Rattle.cfdp_station.specs.declared.polled.Polled.{Polled}
 use Rattle.cfdp_station.specs.declared.polled.Polled.TheVariants.{Moved, Full}
 use Rattle.cfdp_c.specs.Codes.{ok, no_room, nothing, poll_answer}
+
+-- No more whole frames wait in each lane than could ever wait there before.
+abbrev pub KeepsAhead : (old new : DownState) → Type 0
+KeepsAhead old new =
+    (lane : Lane) (frames : ℕ) → HoldsAtMost frames (lane_down lane old) →
+    WaitAtMost frames (lane_down lane new)
 
 -- A poll moved the PDU whose turn it was, or this is why not.
 pub record PollsOne (answer : ℕ) (old new : StationState) : Type 0 where
@@ -17,23 +25,45 @@ pub record PollsOne (answer : ℕ) (old new : StationState) : Type 0 where
   pub code : answer ≡ poll_answer told
   pub polled : IfOk told (λ p. Polls p old new)
   pub spells : IfOk told (λ p. p ≡ Moved → SpellsTurn (turn old.entity.state) old.entity.state)
-  pub full : IfOk told (λ p. (p ≡ Full) ↔ (room old.down < next_len old.entity.state))
-  pub lacks : OnErr told (TakesTurn (room old.down) old.entity.state)
+  pub full : IfOk told (λ p. (p ≡ Full)
+      ↔ (next_room old.entity.state old.down < next_len old.entity.state))
+  pub lacks : OnErr told (TakesTurn (next_room old.entity.state old.down) old.entity.state)
   pub err : OnErr told (new ≡ old)
-  pub ahead : (frames : ℕ) → HoldsAtMost frames old.down → WaitAtMost frames new.down
+  pub ahead : KeepsAhead old.down new.down
 
--- The begun frame was filled.
-pub record FillsFrame (old new : StationState) : Type 0 where
-  pub flushed : Flushes old.down new.down
+-- The begun frame of each lane was filled.
+pub record FillsFrames (old new : StationState) : Type 0 where
+  pub flushed : FlushesBoth old.down new.down
   pub rest : KeepsRest old new
-  pub ahead : (frames : ℕ) → HoldsAtMost frames old.down → WaitAtMost frames new.down
+  pub ahead : KeepsAhead old.down new.down
 
--- The oldest whole frame was written to room of its length, or no frame waits.
+-- At most so many whole frames of a lane can wait: as many as its capacity and a flush can fill.
+abbrev pub IsAhead : ℕ → LinkSenderState → Type 0
+IsAhead frames lane =
+    HoldsAtMost frames lane × (frames * lane.link.zone ≤ lane.capacity + 2047)
+
+-- At most so many whole frames can wait, whatever is sent and flushed: those of both lanes. No
+-- number says more than the greatest of 64 bits.
+pub record AreAhead (frames : ℕ) (down : DownState) : Type 0 where
+  pub directives : ℕ
+  pub file_data : ℕ
+  pub sum : frames ≡ min (directives + file_data) (2 ^ 64 - 1)
+  pub first : IsAhead directives down.directives
+  pub second : IsAhead file_data down.file_data
+
+-- The oldest whole frame of the lane that goes first was written, and the other lane is as it was.
+pub record MakesNext (frame : List ℕ) (lane : Lane) (old new : DownState) : Type 0 where
+  pub made : MakesFrame frame (lane_down lane old) (lane_down lane new)
+  pub other : lane_down (other_lane lane) new ≡ lane_down (other_lane lane) old
+  pub packet_count : new.packet_count ≡ old.packet_count
+
+-- The next whole frame was written to room of its length, directives first, or no frame waits.
 pub record GivesFrame (answer : ℕ) (room_before room_now : List ℕ) (old new : StationState)
     : Type 0 where
-  pub short : (answer ≡ no_room) ↔ (length room_before ≢ 8 + old.down.link.zone)
-  pub none : length room_before ≡ 8 + old.down.link.zone →
-      ((answer ≡ nothing) ↔ (length old.down.waiting < old.down.link.zone))
-  pub made : answer ≡ ok → MakesFrame room_now old.down new.down
+  pub short : (answer ≡ no_room) ↔ (length room_before ≢ 8 + old.down.directives.link.zone)
+  pub none : length room_before ≡ 8 + old.down.directives.link.zone →
+      ((answer ≡ nothing) ↔ (frame_lane old.down ≡ None))
+  pub made : answer ≡ ok →
+      IsSomeAnd (frame_lane old.down) (λ lane. MakesNext room_now lane old.down new.down)
   pub kept : answer ≢ ok → (new ≡ old) × (room_now ≡ room_before)
   pub rest : KeepsRest old new

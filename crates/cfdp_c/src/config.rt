@@ -15,8 +15,10 @@ pub struct CfdpLink {
     pub apid: u16,
     /// The spacecraft of the frames.
     pub spacecraft: u8,
-    /// The virtual channel of the frames: 0 to 62.
+    /// The virtual channel of the frames that carry directives: 0 to 62.
     pub channel: u8,
+    /// That of the frames that carry file data: 0 to 62, another than `channel`.
+    pub data_channel: u8,
 }
 
 /// A [`StationConfig`] as a plain struct.
@@ -29,7 +31,7 @@ pub struct CfdpConfig {
     pub peer: u64,
     /// The sequence number of the first transaction.
     pub first_number: u64,
-    /// The most octets of packets that may wait to be made frames: 8,192 to 65,536.
+    /// The most octets of packets that may wait in each lane to be made frames: 8,192 to 65,536.
     pub capacity: usize,
     /// How long the ACK of an EOF is waited for, in the caller's unit of time: 1 or more.
     pub eof_time: u32,
@@ -72,6 +74,7 @@ impl CfdpLink {
         LinkConfig {
             spacecraft: self.spacecraft,
             channel: self.channel,
+            data_channel: self.data_channel,
             zone: self.zone,
             apid: self.apid,
         }
@@ -167,12 +170,14 @@ pub extern "C" fn cfdp_defaults(config: &mut CfdpConfig)
             apid: 100,
             spacecraft: 42,
             channel: 5,
+            data_channel: 7,
         },
         up: CfdpLink {
             zone: 256,
             apid: 101,
             spacecraft: 42,
             channel: 6,
+            data_channel: 8,
         },
         segment: 1024,
         id_width: 2,

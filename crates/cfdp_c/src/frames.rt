@@ -1,15 +1,17 @@
 //! PDUs down to frames, and frames up; what was dropped.
-ghost use Rattle.std.specs.Prelude.{◌≡◌, ◌≢◌, ◌+◌, ◌*◌, ◌≤◌, false, get_or};
-ghost use Rattle.link_stack.specs.Drops.{count_of};
-ghost use Rattle.cfdp_station.specs.Link.{HoldsAtMost};
+ghost use Rattle.std.specs.Prelude.{◌≡◌, ◌≢◌, ◌+◌, false, get_or};
+ghost use Rattle.aos_frame.specs.declared.config.Lane.{Lane};
+ghost use Rattle.link_stack.specs.Downward.{lane_down};
+ghost use Rattle.link_stack.specs.Upward.{drop_count};
 ghost use Rattle.cfdp_station.specs.Taking.{TakesFrame};
 ghost use Rattle.cfdp_c.specs.Codes as codes;
-ghost use Rattle.cfdp_c.specs.Frames.{PollsOne, FillsFrame, GivesFrame};
+ghost use Rattle.cfdp_c.specs.Frames.{PollsOne, FillsFrames, GivesFrame, AreAhead};
 ghost use Rattle.cfdp_c.specs.Handles.{Becomes};
 
 use crate::codes::{CLOSED, NO_ROOM, NOTHING, OK, of_poll};
 use crate::handle::CfdpStation;
 use crate::held::Held;
+use cfdp_station::Lane;
 use std::alloc::Global;
 
 impl Held {
@@ -21,28 +23,41 @@ impl Held {
     }
 
     fn flush(&mut self)
-        ensures fills { FillsFrame self.old.station self.new.station }
+        ensures fills { FillsFrames self.old.station self.new.station }
         ensures told { self.new.told ≡ self.old.told }
     {
         self.station.flush();
+    }
+
+    fn frames_ahead(&self) -> usize
+        ensures { AreAhead result self.now.station.down }
+    {
+        let directives = self.station.frames_ahead(Lane::Directives);
+        let file_data = self.station.frames_ahead(Lane::Data);
+        directives.saturating_add(file_data)
+    }
+
+    fn frame_len(&self) -> usize
+        ensures { result ≡ 8 + self.now.station.down.directives.link.zone }
+    {
+        self.station.frame_len()
     }
 
     fn next_frame(&mut self, out: &mut [u8]) -> u32
         ensures gives { GivesFrame result out.old out.new self.old.station self.new.station }
         ensures told { self.new.told ≡ self.old.told }
     {
-        if out.len() != self.station.frame_len() {
+        if out.len() != self.frame_len() {
             return NO_ROOM;
         }
-        if self.station.next_frame(out) {
-            OK
-        } else {
-            NOTHING
+        match self.station.next_frame(out) {
+            Some(_) => OK,
+            None => NOTHING,
         }
     }
 }
 
-/// Moves the PDU whose turn it is down the link, if one is due. Answers 0, `CLOSED`, `NOTHING`
+/// Moves the PDU whose turn it is down its lane, if one is due. Answers 0, `CLOSED`, `NOTHING`
 /// where none is due, `FULL` where it doesn't fit until frames were taken off, `SOURCE_FAULT` where
 /// the outbox failed and the transaction was cancelled for it, or `NO_MEMORY`: nothing changed.
 #[unsafe(no_mangle)]
@@ -60,14 +75,14 @@ pub extern "C" fn cfdp_poll(alloc: Global, station: &mut CfdpStation) -> u32
     answer
 }
 
-/// Fills the begun frame by an idle packet, where one is begun, so that all can leave in whole
-/// frames. Answers 0 or `CLOSED`.
+/// Fills the begun frame of each lane by an idle packet, where one is begun, so that all can leave
+/// in whole frames. Answers 0 or `CLOSED`.
 #[unsafe(no_mangle)]
 pub extern "C" fn cfdp_flush(alloc: Global, station: &mut CfdpStation) -> u32
     ensures open { station.new.is_open ≡ station.old.is_open }
     ensures closed { station.old.is_open ≡ false → result ≡ codes.closed }
     ensures fills { Becomes station.old station.new (λ x y. (result ≡ codes.ok)
-        × FillsFrame x.station y.station × (y.told ≡ x.told)) }
+        × FillsFrames x.station y.station × (y.told ≡ x.told)) }
 {
     let Some(mut held) = station.lift(alloc) else {
         return CLOSED;
@@ -77,13 +92,13 @@ pub extern "C" fn cfdp_flush(alloc: Global, station: &mut CfdpStation) -> u32
     OK
 }
 
-/// The octets of each frame that it sends; 0 of a closed handle.
+/// The octets of each frame that it sends, in either lane; 0 of a closed handle.
 #[unsafe(no_mangle)]
 pub extern "C" fn cfdp_frame_len(alloc: Global, station: &mut CfdpStation) -> usize
     ensures open { station.new.is_open ≡ station.old.is_open }
     ensures closed { station.old.is_open ≡ false → result ≡ 0 }
     ensures len { Becomes station.old station.new (λ x y. (y ≡ x)
-        × (result ≡ 8 + x.station.down.link.zone)) }
+        × ((lane : Lane) → result ≡ 8 + (lane_down lane x.station.down).link.zone)) }
 {
     let Some(held) = station.lift(alloc) else {
         return 0;
@@ -93,24 +108,25 @@ pub extern "C" fn cfdp_frame_len(alloc: Global, station: &mut CfdpStation) -> us
     len
 }
 
-/// The most whole frames that can wait after a poll or a flush; 0 of a closed handle.
+/// The most whole frames that can wait after a poll or a flush, those of both lanes; 0 of a closed
+/// handle.
 #[unsafe(no_mangle)]
 pub extern "C" fn cfdp_frames_ahead(alloc: Global, station: &mut CfdpStation) -> usize
     ensures open { station.new.is_open ≡ station.old.is_open }
     ensures closed { station.old.is_open ≡ false → result ≡ 0 }
     ensures ahead { Becomes station.old station.new (λ x y. (y ≡ x)
-        × HoldsAtMost result x.station.down
-        × (result * x.station.down.link.zone ≤ x.station.down.capacity + 2047)) }
+        × AreAhead result x.station.down) }
 {
     let Some(held) = station.lift(alloc) else {
         return 0;
     };
-    let ahead = held.station.frames_ahead();
+    let ahead = held.frames_ahead();
     *station = CfdpStation::holding(held);
     ahead
 }
 
-/// Writes the oldest whole frame to room of exactly its octets, and takes it off. Answers 0,
+/// Writes the oldest whole frame to room of exactly its octets, and takes it off: that of
+/// directives, or where none of them waits that of file data. Its channel tells which. Answers 0,
 /// `CLOSED`, `NO_ROOM` where the room has another length, or `NOTHING` where no whole frame waits.
 #[unsafe(no_mangle)]
 pub extern "C" fn cfdp_next_frame(alloc: Global, station: &mut CfdpStation, frame: &mut [u8]) -> u32
@@ -161,14 +177,14 @@ pub extern "C" fn cfdp_drops(alloc: Global, station: &mut CfdpStation, number: u
     drops
 }
 
-/// How often something of a frame was dropped under a number, 1 to 11; 0 of any other, and of a
-/// closed handle.
+/// How often something of a frame was dropped under a number, 1 to 11, on either lane; 0 of any
+/// other, and of a closed handle.
 #[unsafe(no_mangle)]
 pub extern "C" fn cfdp_link_drops(alloc: Global, station: &mut CfdpStation, number: u8) -> u64
     ensures open { station.new.is_open ≡ station.old.is_open }
     ensures closed { station.old.is_open ≡ false → result ≡ 0 }
     ensures drops { Becomes station.old station.new (λ x y. (y ≡ x)
-        × (result ≡ count_of x.station.up.drops number)) }
+        × (result ≡ drop_count x.station.up number)) }
 {
     let Some(held) = station.lift(alloc) else {
         return 0;

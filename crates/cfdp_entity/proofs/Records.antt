@@ -45,7 +45,7 @@ use Rattle.cfdp_entity.specs.declared.call.Call.{Call}
 use Rattle.cfdp_entity.specs.declared.call.Call.TheVariants as call
 use Rattle.cfdp_entity.specs.declared.record.Record.{Record}
 use Rattle.cfdp_entity.specs.declared.record.Record.TheVariants as held
-use Rattle.cfdp_entity.specs.Seen.{Seen, Sends, seen, octets_seen, due_octets, due_len, due_content, addressing_of, large_of, octets_of, len_of, carries_by, carries_data}
+use Rattle.cfdp_entity.specs.Seen.{Seen, Sends, seen, octets_seen, due_octets, due_len, due_content, addressing_of, large_of, octets_of, len_of, carries_data}
 use Rattle.cfdp_entity.specs.Seen as seens
 use Rattle.cfdp_entity.specs.Steps.{After, by_sender, by_receiver, no_step, sender_after, receiver_after, called_sender, sender_takes, receiver_takes}
 use Rattle.cfdp_entity.specs.Desk.{Staged, DeskState, scene}
@@ -59,7 +59,7 @@ use Rattle.cfdp_entity.specs.Gives.{Gives}
 use Rattle.cfdp_sender.specs.declared.taken.Taken.{Taken}
 use Rattle.cfdp_sender.specs.declared.taken.Taken.TheVariants.{Nothing, Moved, SourceFailed}
 use Rattle.cfdp_sender.specs.declared.transfer.Transfer.{Transfer}
-use Rattle.cfdp_sender.specs.Due.{sender_due, sender_says}
+use Rattle.cfdp_sender.specs.Due.{carries_by, sender_due, sender_says}
 use Rattle.std.specs.Option.{option_map}
 use Rattle.cfdp_directives.specs.Pdu.Addressing.{written_len}
 use Rattle.cfdp_receiver.specs.declared.due.Due.{Due}

@@ -1,9 +1,10 @@
 -- What a poll does.
-use Rattle.std.specs.Prelude.{◌≡◌, ◌≤◌, ◌<◌, ℕ, ◌+◌, true, List, [], ◌∷◌, Option, Some, None}
+use Rattle.std.specs.Prelude.{◌≡◌, ◌≤◌, ◌<◌, ℕ, ◌+◌, Bool, true, false, List, [], ◌∷◌, Option, Some, None}
 use Rattle.cfdp_store.specs.declared.stored.Stored.{Stored}
 use Rattle.cfdp_store.specs.declared.stored.Stored.TheVariants.{Done, Refused}
 use Rattle.cfdp_entity.specs.declared.polled.EntityPolled.{EntityPolled}
 use Rattle.cfdp_entity.specs.declared.polled.EntityPolled.TheVariants.{Moved, Nothing, Full, SourceFailed}
+use Rattle.cfdp_entity.specs.declared.polled.Rooms.{Rooms}
 use Rattle.cfdp_entity.specs.declared.record.Gave.{Gave}
 use Rattle.cfdp_entity.specs.declared.record.Gave.TheVariants.{Failed}
 use Rattle.cfdp_entity.specs.Entity.{EntityState, Counted}
@@ -41,6 +42,20 @@ turn_len (Stray s strays) e = stray_len s
 turn_len (Place place) e = len_at place e.table
 turn_len Rests e = 0
 
+-- whether that PDU is file data; all others are directives
+abbrev pub turn_data : Turn → EntityState → Bool
+turn_data (Stray s strays) e = false
+turn_data (Place place) e = data_at place e.table
+turn_data Rests e = false
+
+-- the room for a PDU of this type, and for that whose turn it is
+abbrev pub room_in : Rooms → (is_data : Bool) → ℕ
+room_in rooms true = rooms.file_data
+room_in rooms false = rooms.directives
+
+abbrev pub turn_room : Rooms → EntityState → ℕ
+turn_room rooms e = room_in rooms (turn_data (turn e) e)
+
 -- the entity once it was served
 abbrev pub served : Stored → Turn → EntityState → EntityState
 served stored (Stray s strays) e = record e { strays = strays }
@@ -48,9 +63,11 @@ served stored (Place place) e =
     record e { table = taken_at stored place e.table; cursor = place + 1 }
 served stored Rests e = e
 
--- The PDU that is due has so many octets: they fit, and were written over the first of `out`.
-pub record MovesPdu (n room : ℕ) (old new : EntityState)
+-- The PDU that is due has so many octets and this type: they fit, and were written over the first
+-- of `out`.
+pub record MovesPdu (n room : ℕ) (is_data : Bool) (old new : EntityState)
     (out_before out_now : List ℕ) : Type 0 where
+  pub type : is_data ≡ turn_data (turn old) old
   pub some : 1 ≤ n
   pub fits : n ≤ room
   pub len : n ≡ turn_len (turn old) old
@@ -82,9 +99,9 @@ pub record SendsAt (place : ℕ) (gave : Gave) (old new : Counted) (out_before o
   pub counts : CountsOutbox (stored_by_gave gave) old.outbox_failures new.outbox_failures
   pub inbox : new.inbox_failures ≡ old.inbox_failures
 
--- A poll answered this.
+-- A poll answered this, where there is so much room for the PDU whose turn it is.
 abbrev pub Polls : ℕ → EntityPolled → (old new : Counted) → (out_before out_now : List ℕ) → Type 0
-Polls room (Moved n) old new out out' = MovesPdu n room old.state new.state out out'
+Polls room (Moved n is_data) old new out out' = MovesPdu n room is_data old.state new.state out out'
 Polls room Nothing old new out out' = (turn old.state ≡ Rests) × (new ≡ old) × (out' ≡ out)
 Polls room Full old new out out' =
     (room < turn_len (turn old.state) old.state) × (new ≡ old) × (out' ≡ out)

@@ -74,13 +74,9 @@ due_octets sources s = octets_of (large_of s) (addressing_of s) (due_content sou
 abbrev pub due_len : FileMap → Seen → ℕ
 due_len sources s = len_of (large_of s) (addressing_of s) (due_content sources s)
 
-abbrev pub carries_by : Option SenderDue → Bool
-carries_by (Some d) = sends.carries d
-carries_by None = false
-
 -- whether the PDU that is due carries octets of a file
 abbrev pub carries_data : Seen → Bool
-carries_data (Sends x) = carries_by (sends.sender_due x)
+carries_data (Sends x) = sends.carries_by (sends.sender_due x)
 carries_data (Receives r m) = false
 
 -- how far a transaction has come

@@ -36,7 +36,7 @@ FirstIsSpelled (s ∷ strays) = StrayIsSpelled s
 
 -- Of a PDU that was moved, its octets are those of what it says.
 abbrev pub SpellsMoved : EntityPolled → EntityState → Type 0
-SpellsMoved (Moved n) e = SpellsTurn (turn e) e
+SpellsMoved (Moved n is_data) e = SpellsTurn (turn e) e
 SpellsMoved _ e = Unit {0}
 
 -- A poll answered this: what it moved says what was due, only a PDU longer than the room is

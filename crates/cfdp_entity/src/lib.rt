@@ -41,5 +41,5 @@ pub use laws::{
     a_table_tells_no_more, an_entity_goes_on, an_entity_keeps_the_truth, an_entity_sends_the_truth,
     calls_are_steps, other_records_stay, records_stay_for_good,
 };
-pub use polled::EntityPolled;
+pub use polled::{EntityPolled, Rooms};
 pub use transactions::Transactions;

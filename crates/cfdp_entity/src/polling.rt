@@ -2,44 +2,63 @@
 ghost use Rattle.std.specs.Prelude.{◌≡◌, ◌≤◌, ◌<◌, [], true, length, IfOk, OnErr};
 ghost use Rattle.cfdp_entity.specs.declared.polled.EntityPolled.TheVariants as answers;
 ghost use Rattle.cfdp_entity.specs.Gives.{CountsOutbox};
-ghost use Rattle.cfdp_entity.specs.Polling.{Polls, SendsAt, TakesTurn, stored_by_poll};
+ghost use Rattle.cfdp_entity.specs.Polling.{Polls, SendsAt, TakesTurn, room_in, stored_by_poll, turn_room};
 ghost use Rattle.cfdp_entity.specs.Sound.{longest_pdu};
 ghost use Rattle.cfdp_entity.specs.Spelled.{Answers, FirstIsSpelled, SpellsMoved};
 ghost use Rattle.cfdp_entity.specs.Strays.{first_stray_len};
 ghost use Rattle.cfdp_entity.specs.Table.{len_at};
 
 use crate::entity::Entity;
-use crate::polled::EntityPolled;
+use crate::polled::{EntityPolled, Rooms};
 use crate::record::Gave;
 use cfdp_store::{Inbox, Outbox};
 use std::alloc::AllocError;
 
+impl Rooms {
+    // The room for file data where true, else for a directive.
+    fn of(self, file_data: bool) -> usize
+        ensures { result ≡ room_in self file_data }
+    {
+        if file_data {
+            self.file_data
+        } else {
+            self.directives
+        }
+    }
+}
+
 impl<O: Outbox, I: Inbox> Entity<O, I> {
     /// Takes the PDU that is due next: stray acknowledgements come first, then the records in order
     /// of opening, round robin from behind the one served last. It is written over the first octets
-    /// of `out`, where it has at most `room` octets. No PDU is longer than 4,132 octets.
+    /// of `out`, where it has at most as many octets as there is room for its type. No PDU is
+    /// longer than 4,132 octets.
+    ///
+    /// Whose turn it is doesn't depend on the rooms: `Full` is told of file data that don't fit,
+    /// also where another record has a directive due that would.
     ///
     /// # Errors
     ///
     /// `AllocError` where a record has the turn and its PDU fits, but there is no memory for what
     /// is indicated. All is then as it was.
-    pub fn poll(&mut self, room: usize, out: &mut [u8]) -> Result<EntityPolled, AllocError>
-        requires fits { room ≤ length out.old }
-        ensures polled { IfOk result (λ answer. Polls room answer self.old self.new out.old
-            out.new) }
+    pub fn poll(&mut self, rooms: Rooms, out: &mut [u8]) -> Result<EntityPolled, AllocError>
+        requires directives { rooms.directives ≤ length out.old }
+        requires file_data { rooms.file_data ≤ length out.old }
+        ensures polled { IfOk result (λ answer. Polls (turn_room rooms self.old.state) answer
+            self.old self.new out.old out.new) }
         // Its octets are those of what it says.
         ensures spells { IfOk result (λ answer. SpellsMoved answer self.old.state) }
-        ensures roomy { IfOk result (λ answer. answer ≡ answers.Full → room < longest_pdu) }
+        ensures roomy { IfOk result (λ answer. answer ≡ answers.Full
+            → turn_room rooms self.old.state < longest_pdu) }
         ensures counts { IfOk result (λ answer. CountsOutbox (stored_by_poll answer)
             self.old.outbox_failures self.new.outbox_failures) }
         ensures err { OnErr result ((self.new ≡ self.old) × (out.new ≡ out.old)) }
-        ensures lacks { OnErr result (TakesTurn room self.old.state) }
+        ensures lacks { OnErr result (TakesTurn (turn_room rooms self.old.state) self.old.state) }
         ensures inbox { self.new.inbox_failures ≡ self.old.inbox_failures }
     {
         if self.strays.is_empty() {
-            self.poll_record(room, out)
+            self.poll_record(rooms, out)
         } else {
-            Ok(self.poll_stray(room, out))
+            Ok(self.poll_stray(rooms.directives, out))
         }
     }
 
@@ -54,7 +73,10 @@ impl<O: Outbox, I: Inbox> Entity<O, I> {
             return EntityPolled::Full;
         }
         match self.strays.pop_front() {
-            Some(stray) => EntityPolled::Moved(stray.write(out)),
+            Some(stray) => EntityPolled::Moved {
+                len: stray.write(out),
+                file_data: false,
+            },
             None => EntityPolled::Nothing,
         }
     }
@@ -71,22 +93,24 @@ impl<O: Outbox, I: Inbox> Entity<O, I> {
     }
 
     // The record that is next, where no stray acknowledgement waits.
-    fn poll_record(&mut self, room: usize, out: &mut [u8]) -> Result<EntityPolled, AllocError>
-        requires fits { room ≤ length out.old }
+    fn poll_record(&mut self, rooms: Rooms, out: &mut [u8]) -> Result<EntityPolled, AllocError>
+        requires directives { rooms.directives ≤ length out.old }
+        requires file_data { rooms.file_data ≤ length out.old }
         requires no_stray { self.old.state.strays ≡ [] }
-        ensures answers { IfOk result (λ answer. Answers room answer self.old self.new out.old
-            out.new) }
+        ensures answers { IfOk result (λ answer. Answers (turn_room rooms self.old.state) answer
+            self.old self.new out.old out.new) }
         ensures err { OnErr result ((self.new ≡ self.old) × (out.new ≡ out.old)) }
-        ensures lacks { OnErr result (TakesTurn room self.old.state) }
+        ensures lacks { OnErr result (TakesTurn (turn_room rooms self.old.state) self.old.state) }
     {
         let Some(place) = self.table.next_due(self.cursor) else {
             return Ok(EntityPolled::Nothing);
         };
-        if self.table.due_len(place) > room {
+        let file_data = self.table.has_data_due(place);
+        if self.table.due_len(place) > rooms.of(file_data) {
             return Ok(EntityPolled::Full);
         }
         match self.send_at(place, out)? {
-            Gave::Octets(octets) => Ok(EntityPolled::Moved(octets)),
+            Gave::Octets(len) => Ok(EntityPolled::Moved { len, file_data }),
             Gave::Failed => Ok(EntityPolled::SourceFailed),
         }
     }

@@ -72,6 +72,17 @@ impl Record {
         }
     }
 
+    /// Whether the PDU that is due is file data.
+    pub(crate) fn has_data_due(&self) -> bool
+        ensures { (staged : Option OctetMap) →
+            result ≡ seens.carries_data (seen staged self.now) }
+    {
+        match self {
+            Record::Sends(sender) => sender.has_data_due(),
+            Record::Receives(_) => false,
+        }
+    }
+
     /// How far the transaction has come.
     pub(crate) fn phase(&self) -> Phase
         ensures { (staged : Option OctetMap) → result ≡ seens.phase_of (seen staged self.now) }

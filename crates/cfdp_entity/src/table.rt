@@ -23,7 +23,7 @@ ghost use Rattle.cfdp_entity.specs.Spelled.{EntryIsSpelled};
 ghost use Rattle.cfdp_entity.specs.Storing.{AsksToHear, AsksToCall, AsksToExpire, AsksByTimer, AsksToFire, AsksToTick, AsksToOpen};
 ghost use Rattle.cfdp_entity.specs.Walking.{phases_of};
 ghost use Rattle.cfdp_entity.specs.Table as tables;
-ghost use Rattle.cfdp_entity.specs.Table.{heard_at, expired_at, called_at, len_at, put_in, opened_by, next_due, first_table, all_expired, at_time, Ticks, phase_in};
+ghost use Rattle.cfdp_entity.specs.Table.{heard_at, expired_at, called_at, data_at, len_at, put_in, opened_by, next_due, first_table, all_expired, at_time, Ticks, phase_in};
 
 use crate::call::Call;
 use crate::desk::Desk;
@@ -133,6 +133,16 @@ impl<O: Outbox, I: Inbox> Table<O, I> {
         match self.records.get_index(place) {
             Some((_, held)) => held.due_len(),
             None => 0,
+        }
+    }
+
+    /// Whether the PDU that the record at a place has due is file data.
+    pub fn has_data_due(&self, place: usize) -> bool
+        ensures { result ≡ data_at place self.now.state }
+    {
+        match self.records.get_index(place) {
+            Some((_, held)) => held.has_data_due(),
+            None => false,
         }
     }
 

@@ -37,12 +37,16 @@ use Rattle.link_sim.specs.declared.side.Side.{Side}
 use Rattle.link_sim.specs.declared.side.Side.TheVariants.{One, Two}
 use Rattle.link_sim.proofs.Events.Leading.{GoesBy, IsNoPut, no-put-same, no-put-settles, row-burst-lacks, row-bursts, row-cause, row-ended, row-puts, row-recovers, row-spread-lacks, row-spreads, row-well}
 use Rattle.cfdp_node.specs.Report.Lines.{is_own_completion, puts_asked, puts_completed}
-use Rattle.cfdp_node.specs.Script.Run.{AreAccepted, ForMemory, HappensOften, HappensOnce, IsAccepted, IsDone, Performs, Runs, SettlingEnds, puts_by, puts_in, told}
+use Rattle.cfdp_node.specs.Script.Run.{AreAccepted, ForMemory, HappensOften, HappensOnce, HappensToFirst, HappensToFirsts, IsAccepted, IsDone, Performs, Runs, SettlingEnds, puts_by, puts_in, told}
 use Rattle.cfdp_node.specs.declared.report.answer.Answer.{Answer}
 use Rattle.cfdp_node.specs.declared.report.answer.Answer.TheVariants.{Nothing, Refused, Ended}
 use Rattle.cfdp_node.specs.declared.report.answer.Answered.{Answered}
 use Rattle.cfdp_node.specs.declared.script.command.Command.{Command}
-use Rattle.cfdp_node.specs.declared.script.command.Command.TheVariants.{Once, Repeat, Spread, Burst, Settle as SettleAll, Recover}
+use Rattle.cfdp_node.specs.declared.script.command.Command.TheVariants.{Once, Repeat, First, Spread, Burst, Settle as SettleAll, Recover}
+use Rattle.cfdp_node.specs.Script.Lines.{befalls}
+use Rattle.aos_frame.specs.declared.config.Lane.{Lane}
+use Rattle.cfdp_node.specs.declared.script.command.Fate.{Fate}
+use Rattle.cfdp_node.specs.declared.script.command.Fate.TheVariants.{Arrives, IsLost}
 use Rattle.cfdp_node.specs.declared.script.Step.{Step}
 use Rattle.cfdp_node.proofs.Leads.{for_memory}
 
@@ -395,6 +399,21 @@ often-puts : (e : Event) (count : ℕ) (answer : Option Answer) (a b : WorldStat
 often-puts e count None a b is all = times-puts e count a b is all
 often-puts e count (Some answer) a b is h = (let first = times-puts e h.0 a h.2 is h.3 in let last = once-puts e (Some answer) h.2 b is h.4 in omega (arith, first, last))
 
+fate-no-put : (fate : Fate) (s : Side) (lane : Lane) → IsNoPut (befalls fate s lane)
+fate-no-put Arrives s lane = tt
+fate-no-put IsLost s lane = tt
+
+first-puts : (fate : Fate) (s : Side) (answer : Option Answer) (a b : WorldState) → HappensToFirst fate s answer a b → length b.puts ≡ length a.puts + 0
+first-puts fate s answer a b h = once-puts (befalls fate s h.0) answer a b (fate-no-put fate s h.0) h.2
+
+firsts-puts : (fate : Fate) (s : Side) (count : ℕ) (a b : WorldState) → Times (HappensToFirst fate s None) count a b → length b.puts ≡ length a.puts + 0
+firsts-puts fate s zero a b same = same-puts a b (ap (λ (w : WorldState). w.puts) same)
+firsts-puts fate s (suc count) a b h = (let first = firsts-puts fate s count a h.0 h.1 in let last = first-puts fate s None h.0 b h.2 in omega (arith, first, last))
+
+often-first : (fate : Fate) (s : Side) (count : ℕ) (answer : Option Answer) (a b : WorldState) → HappensToFirsts fate s count answer a b → length b.puts ≡ length a.puts + 0
+often-first fate s count None a b all = firsts-puts fate s count a b all
+often-first fate s count (Some answer) a b h = (let first = firsts-puts fate s h.0 a h.2 h.3 in let last = first-puts fate s (Some answer) h.2 b h.4 in omega (arith, first, last))
+
 done-puts : (answer : Option Answer) (a b : WorldState) (Done : Type 0) (Ends : RecoverError → Type 0) → IsDone answer Done Ends → (Done → Many (GoesBy IsNoPut) a b) →
     ((error : RecoverError) → Ends error → Many (GoesBy IsNoPut) a b) → length b.puts ≡ length a.puts + 0
 done-puts None a b Done Ends h done ended = same-puts a b (row-puts a b (done h))
@@ -421,8 +440,8 @@ performs-puts (Once (event.Prompt s id keep_alive)) answer a b h is = once-puts 
 performs-puts (Once (event.Poll s)) answer a b h is = once-puts (event.Poll s) answer a b tt h
 performs-puts (Once (event.Flush s)) answer a b h is = once-puts (event.Flush s) answer a b tt h
 performs-puts (Once (event.Tick s now)) answer a b h is = once-puts (event.Tick s now) answer a b tt h
-performs-puts (Once (event.Deliver s)) answer a b h is = once-puts (event.Deliver s) answer a b tt h
-performs-puts (Once (event.Strike s)) answer a b h is = once-puts (event.Strike s) answer a b tt h
+performs-puts (Once (event.Deliver s l)) answer a b h is = once-puts (event.Deliver s l) answer a b tt h
+performs-puts (Once (event.Strike s l)) answer a b h is = once-puts (event.Strike s l) answer a b tt h
 performs-puts (Repeat (event.Put s source destination) count) answer a b h is = absurd is
 performs-puts (Repeat (event.Cancel s id) count) answer a b h is = often-puts (event.Cancel s id) count answer a b tt h
 performs-puts (Repeat (event.Suspend s id) count) answer a b h is = often-puts (event.Suspend s id) count answer a b tt h
@@ -431,8 +450,9 @@ performs-puts (Repeat (event.Prompt s id keep_alive) count) answer a b h is = of
 performs-puts (Repeat (event.Poll s) count) answer a b h is = often-puts (event.Poll s) count answer a b tt h
 performs-puts (Repeat (event.Flush s) count) answer a b h is = often-puts (event.Flush s) count answer a b tt h
 performs-puts (Repeat (event.Tick s now) count) answer a b h is = often-puts (event.Tick s now) count answer a b tt h
-performs-puts (Repeat (event.Deliver s) count) answer a b h is = often-puts (event.Deliver s) count answer a b tt h
-performs-puts (Repeat (event.Strike s) count) answer a b h is = often-puts (event.Strike s) count answer a b tt h
+performs-puts (Repeat (event.Deliver s l) count) answer a b h is = often-puts (event.Deliver s l) count answer a b tt h
+performs-puts (Repeat (event.Strike s l) count) answer a b h is = often-puts (event.Strike s l) count answer a b tt h
+performs-puts (First fate s count) answer a b h is = often-first fate s count answer a b h
 performs-puts (Spread s) answer a b h is =
     done-puts answer a b _ _ h (λ all. row-spreads IsNoPut no-put-settles no-tick s a b all) (λ error ends. row-spread-lacks IsNoPut no-put-settles no-tick s a b (for_memory error _ ends))
 performs-puts (Burst s) answer a b h is =

@@ -13,12 +13,15 @@ use Rattle.link_sim.specs.declared.recover_error.RecoverError.{RecoverError}
 use Rattle.link_sim.specs.declared.recover_error.RecoverError.TheVariants.{Settle, StillArmed}
 use Rattle.link_sim.specs.declared.settle_error.SettleError.TheVariants.{NoMemory, StoreFailed, TableFull}
 use Rattle.link_sim.proofs.Events.Leading.{many-both, many-none, many-one, many-times}
-use Rattle.cfdp_node.specs.Script.Run.{ForMemory, HappensOften, HappensOnce, IsDone, Performs, Runs, SettlingEnds}
+use Rattle.cfdp_node.specs.Script.Run.{ForMemory, HappensOften, HappensOnce, HappensToFirst, HappensToFirsts, IsDone, Performs, Runs, SettlingEnds}
 use Rattle.cfdp_node.specs.declared.report.answer.Answer.{Answer}
 use Rattle.cfdp_node.specs.declared.report.answer.Answer.TheVariants.{Nothing, Refused, Ended}
 use Rattle.cfdp_node.specs.declared.report.answer.Answered.{Answered}
 use Rattle.cfdp_node.specs.declared.script.command.Command.{Command}
-use Rattle.cfdp_node.specs.declared.script.command.Command.TheVariants.{Once, Repeat, Spread, Burst, Settle as SettleAll, Recover}
+use Rattle.cfdp_node.specs.declared.script.command.Command.TheVariants.{Once, Repeat, First, Spread, Burst, Settle as SettleAll, Recover}
+use Rattle.link_sim.specs.declared.side.Side.{Side}
+use Rattle.cfdp_node.specs.Script.Lines.{befalls}
+use Rattle.cfdp_node.specs.declared.script.command.Fate.{Fate}
 use Rattle.cfdp_node.specs.declared.script.Step.{Step}
 
 one_call : (a b : WorldState) → Called a b → Led a b
@@ -49,6 +52,17 @@ often_leads : (e : Event) (count : ℕ) (answer : Option Answer) (a b : WorldSta
 often_leads e count None a b all = so_often e count a b all
 often_leads e count (Some answer) a b h = many-both Called a h.2 b (so_often e h.0 a h.2 h.3) (once_leads e (Some answer) h.2 b h.4)
 
+-- what befalls the frame sent first
+first_leads : (fate : Fate) (s : Side) (answer : Option Answer) (a b : WorldState) → HappensToFirst fate s answer a b → Led a b
+first_leads fate s answer a b h = once_leads (befalls fate s h.0) answer a b h.2
+
+firsts_lead : (fate : Fate) (s : Side) (count : ℕ) (a b : WorldState) → Times (HappensToFirst fate s None) count a b → Led a b
+firsts_lead fate s count a b all = many-times Called (HappensToFirst fate s None) (λ x y step. first_leads fate s None x y step) count a b all
+
+often_first : (fate : Fate) (s : Side) (count : ℕ) (answer : Option Answer) (a b : WorldState) → HappensToFirsts fate s count answer a b → Led a b
+often_first fate s count None a b all = firsts_lead fate s count a b all
+often_first fate s count (Some answer) a b h = many-both Called a h.2 b (firsts_lead fate s h.0 a h.2 h.3) (first_leads fate s (Some answer) h.2 b h.4)
+
 -- all was done, or an error ended it before
 done_leads : (answer : Option Answer) (a b : WorldState) (Done : Type 0) (Ends : RecoverError → Type 0) → IsDone answer Done Ends → (Done → Called a b) →
     ((error : RecoverError) → Ends error → Called a b) → Led a b
@@ -64,6 +78,7 @@ settling_called a b StillArmed h = absurd h
 performs_leads : (command : Command) (answer : Option Answer) (a b : WorldState) → Performs command answer a b → Led a b
 performs_leads (Once e) answer a b h = once_leads e answer a b h
 performs_leads (Repeat e count) answer a b h = often_leads e count answer a b h
+performs_leads (First fate s count) answer a b h = often_first fate s count answer a b h
 performs_leads (Spread s) answer a b h =
     done_leads answer a b _ _ h (λ all. inr (inl (s, inl all))) (λ error ends. inr (inl (s, inr (for_memory error _ ends))))
 performs_leads (Burst s) answer a b h =

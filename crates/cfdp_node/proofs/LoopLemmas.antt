@@ -7,7 +7,9 @@ use Rattle.std.specs.declared.alloc.AllocError.{AllocError}
 use Rattle.cfdp_entity.specs.Entity.{first_entity}
 use Rattle.cfdp_entity.specs.Putting.{Accepts, IsPutRefusal, put_refusal, stored_by_error}
 use Rattle.cfdp_entity.specs.declared.error.PutError.{PutError}
-use Rattle.cfdp_station.specs.Station.{StationState, KeepsLink, first_down, first_up}
+use Rattle.link_stack.specs.Downward.{first_down}
+use Rattle.link_stack.specs.Upward.{first_up}
+use Rattle.cfdp_station.specs.Station.{StationState, KeepsLink}
 use Rattle.link_sim.specs.AtStation.{CountsPut, KeepsFailures}
 use Rattle.link_sim.specs.World.State.{IsFirstAt}
 use Rattle.link_sim.specs.declared.world_config.WorldConfig.{WorldConfig}

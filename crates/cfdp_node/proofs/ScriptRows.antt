@@ -1,11 +1,13 @@
 -- Worked rows: what some lines and scripts mean.
 use Rattle.std.proofs.Common.{◌≡◌, ℕ, List, [], ◌∷◌, ◌++◌, true, refl, Some, None}
 use Rattle.std.specs.Prelude.{codes}
+use Rattle.aos_frame.specs.declared.config.Lane.TheVariants.{Directives, Data}
 use Rattle.link_sim.specs.declared.side.Side.TheVariants.{One, Two}
 use Rattle.link_sim.specs.declared.event.Event.TheVariants as event
 use Rattle.cfdp_node.specs.declared.script.command.Line.TheVariants as line
 use Rattle.cfdp_node.specs.declared.script.command.Contents.TheVariants.{Text, Fill}
-use Rattle.cfdp_node.specs.declared.script.command.Command.TheVariants.{Once, Repeat, Settle}
+use Rattle.cfdp_node.specs.declared.script.command.Command.TheVariants.{Once, Repeat, First, Settle}
+use Rattle.cfdp_node.specs.declared.script.command.Fate.TheVariants.{Arrives, IsLost}
 use Rattle.cfdp_node.specs.declared.script.settings.Setting.TheVariants as key
 use Rattle.cfdp_node.specs.Script.Words.{onto_first, parts}
 use Rattle.cfdp_node.specs.Script.Lines.{line_of, steps_of, settings_of, last_set, first_misread}
@@ -26,13 +28,29 @@ tick : line_of (codes "tick 2 10") ≡ Some (line.Command (Once (event.Tick Two 
 unfolding parts onto_first
 tick = refl
 
-once : line_of (codes "deliver 1") ≡ Some (line.Command (Repeat (event.Deliver One) 1))
+once : line_of (codes "deliver 1") ≡ Some (line.Command (First Arrives One 1))
 unfolding parts onto_first
 once = refl
 
-ten : line_of (codes "strike 2 10") ≡ Some (line.Command (Repeat (event.Strike Two) 10))
+ten : line_of (codes "strike 2 10") ≡ Some (line.Command (First IsLost Two 10))
 unfolding parts onto_first
 ten = refl
+
+once_of_lane : line_of (codes "strike 1 dir") ≡ Some (line.Command (Repeat (event.Strike One Directives) 1))
+unfolding parts onto_first
+once_of_lane = refl
+
+ten_of_lane : line_of (codes "deliver 2 data 10") ≡ Some (line.Command (Repeat (event.Deliver Two Data) 10))
+unfolding parts onto_first
+ten_of_lane = refl
+
+lane_last : line_of (codes "deliver 2 10 data") ≡ None
+unfolding parts onto_first
+lane_last = refl
+
+other_lane : line_of (codes "deliver 1 dirs") ≡ None
+unfolding parts onto_first
+other_lane = refl
 
 settle : line_of (codes "settle") ≡ Some (line.Command Settle)
 unfolding parts onto_first

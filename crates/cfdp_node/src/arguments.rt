@@ -83,12 +83,15 @@ Then, what happens:
   prompt S ID nak       S asks the receiver of its file what it misses, or, with
                         keep for nak, how far it has come
   poll S                S sends its next PDU, and all frames that are full then
-  flush S               S fills up its begun frame and sends it
+  flush S               S fills up the begun frame of each lane and sends it
   spread S              S polls until nothing is due, with a flush after each PDU
   burst S               S polls until nothing is due, then flushes once
   tick S N              S is told that the time is N
   deliver S [N]         the N oldest frames that S sent arrive (default 1)
   strike S [N]          the N oldest frames that S sent are lost (default 1)
+  deliver S LANE [N], strike S LANE [N]
+                        the same of a lane: data, whose frames carry file data,
+                        or dir, whose frames carry all other PDUs
   settle                both poll and flush and all arrives, until nothing is due
   recover               settle, then tick the station whose timer is next, again
                         and again, until no timer but for inactivity is left
@@ -125,7 +128,8 @@ the conditions say that came up, and what stations dropped, how often.
 With --trace, a line for each thing that a station did, on standard error: the
 line of the script and the number of the event, as 3.10, the station, and what
 it did: ticks (it was told the time), sends, takes a frame or hears a PDU, which
-arrive, loses a frame that it sent, drops, tells its user.
+arrive, loses a frame that it sent, drops, tells its user. In front of a frame
+stands its lane.
 With --chart FILE, the same as a sequence diagram in Mermaid's text.
 With --pcap FILE, the PDUs that are sent go to FILE for Wireshark, with the
 number of the event as time. There, in Preferences, Protocols, DLT_USER, User 0

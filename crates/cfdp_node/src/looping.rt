@@ -1,12 +1,12 @@
 //! A file that goes from one station to another over two wires, in turns.
 ghost use Rattle.std.specs.Io.Buffered.{writer_buffer, writer_contents};
 ghost use Rattle.std.specs.Io.KnownBytes.{Appends};
-ghost use Rattle.std.specs.Prelude.{◌≡◌, ◌≤◌, ◌↔◌, Some, length, IfOk, IsTrue, OnErr, OnOk};
+ghost use Rattle.std.specs.Prelude.{◌≡◌, ◌↔◌, Some, length, IfOk, IsTrue, OnErr, OnOk};
 ghost use Rattle.cfdp_node.specs.Exit.{IsFlushedAt};
 ghost use Rattle.cfdp_node.specs.Looping.Turns.{EndsFromOne, EndsLoop, IsClosed, IsTold, LoopRuns, LoopsAll, RunsInPart, RunsTurns, TakesTurn, TurnsInPart, completed, is_no_memory, loop_exit, loop_settings, loop_text, more_failures, refusal_answer};
 ghost use Rattle.cfdp_node.specs.Script.Settings.{world_of};
 ghost use Rattle.cfdp_node.specs.Report.Lines.{count_line};
-ghost use Rattle.cfdp_node.specs.Wire.Turn.{FitsFrames};
+ghost use Rattle.cfdp_node.specs.Wire.Turn.{FitsFrames, HasZones};
 ghost use Rattle.cfdp_station.specs.Config.{IsStationConfig};
 ghost use Rattle.link_sim.specs.Stations.{IsWorldConfig};
 
@@ -132,8 +132,8 @@ fn run_second<O: Outbox, I: Inbox, J: Inbox, W: Wire, V: Write, L: Lookout>(
     lookout: &mut L,
 ) -> Exit
     requires config { IsStationConfig config }
-    requires zone { config.down.zone ≡ one.old.down.link.zone }
-    requires least { 1 ≤ one.old.down.link.zone }
+    requires zone { config.down.zone ≡ one.old.down.directives.link.zone }
+    requires least { HasZones one.old.down }
     ensures { IsTold result (EndsFromOne W.steps result one.old config (I.published inbox)
         wires.0 wires.1 options.now.source.items options.now.destination.items
         options.now.drop_every options.now.turns (V.contents out.old) (V.contents out.new)) }

@@ -99,7 +99,8 @@ fn tell_bad(rt: &HostRuntime, setup: &StationSetup) {
             eprintln!(rt; "error: {key} is out of its range, {range}")
         }
         None => eprintln!(rt;
-            "error: the ids are one or don't fit id_width, or a channel or an APID fits no frame"
+            "error: the ids are one or don't fit id_width, a channel or an APID fits no frame, \
+             or a direction has one channel for both lanes"
         ),
     };
 }

@@ -60,6 +60,11 @@ carries (due.AskedData start end) = true
 carries (due.NewData start end) = true
 carries _ = false
 
+-- whether the PDU that is due, if one is, does
+abbrev pub carries_by : Option SenderDue → Bool
+carries_by (Some d) = carries d
+carries_by None = false
+
 -- the octets of the file that it carries
 abbrev pub carried : List ℕ → SenderDue → List ℕ
 carried file (due.AskedData start end) = take (end - start) (drop start file)

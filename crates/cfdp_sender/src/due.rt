@@ -6,7 +6,7 @@ ghost use Rattle.cfdp_directives.specs.Pdu.Content.{FileData, view};
 ghost use Rattle.cfdp_directives.specs.Pdu.Addressing.{header_of, written_len};
 ghost use Rattle.cfdp_directives.specs.Pdu.Written.{CanWrite};
 ghost use Rattle.cfdp_sender.specs.Due as dues;
-ghost use Rattle.cfdp_sender.specs.Due.{sender_due, sender_says, pdu_says, carried, carries, extent_of};
+ghost use Rattle.cfdp_sender.specs.Due.{sender_due, sender_says, pdu_says, carried, carries, carries_by, extent_of};
 
 use crate::phase::SenderPhase;
 use crate::sender::Sender;
@@ -55,6 +55,22 @@ impl Sender {
         ensures { result ≡ is_some (sender_due self.now) }
     {
         self.next().is_some()
+    }
+
+    /// Whether the PDU that is due is file data; all others are directives.
+    pub fn has_data_due(&self) -> bool
+        ensures { result ≡ carries_by (sender_due self.now) }
+    {
+        match self.next() {
+            Some(SenderDue::AskedData(_, _) | SenderDue::NewData(_, _)) => true,
+            Some(
+                SenderDue::AckOfFinished(_)
+                | SenderDue::Prompt(_)
+                | SenderDue::Metadata
+                | SenderDue::Eof,
+            )
+            | None => false,
+        }
     }
 
     // Whether its file is large: all that it sends has the large file flag then.

@@ -1,5 +1,5 @@
 -- What each field of a configuration has to be, so that a station can be set up so.
-use Rattle.std.specs.Prelude.{◌<◌, ◌≤◌}
+use Rattle.std.specs.Prelude.{◌≢◌, ◌<◌, ◌≤◌}
 use Rattle.aos_frame.specs.Frame.{idle_channel}
 use Rattle.aos_frame.specs.declared.config.LinkConfig.{LinkConfig}
 use Rattle.cfdp_entity.specs.Fields as entity
@@ -11,6 +11,8 @@ use Rattle.cfdp_station.specs.declared.amiss.StationField.TheVariants as station
 
 abbrev pub FitsLink : LinkField → LinkConfig → Type 0
 FitsLink links.Channel link = link.channel < idle_channel
+FitsLink links.DataChannel link =
+    (link.data_channel < idle_channel) × (link.data_channel ≢ link.channel)
 FitsLink links.Zone link = (16 ≤ link.zone) × (link.zone ≤ 2040)
 FitsLink links.Apid link = link.apid ≤ 2046
 

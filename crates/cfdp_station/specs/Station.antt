@@ -1,32 +1,15 @@
 -- The state of a station.
-use Rattle.std.specs.Prelude.{◌≡◌, ℕ, false, [], replicate, None}
-use Rattle.aos_frame.specs.declared.config.LinkConfig.{LinkConfig}
-use Rattle.link_stack.specs.Downward.{LinkSenderState}
-use Rattle.link_stack.specs.Upward.{LinkReceiverState}
+use Rattle.std.specs.Prelude.{◌≡◌}
+use Rattle.link_stack.specs.Downward.{DownState}
+use Rattle.link_stack.specs.Upward.{UpState}
 use Rattle.cfdp_entity.specs.Entity.{Counted}
 
 -- its entity with the counts of its stores' failures, the end of the link that sends, and the end
--- that receives
+-- that receives, each with both lanes
 pub record StationState : Type 0 where
   pub entity : Counted
-  pub down : LinkSenderState
-  pub up : LinkReceiverState
-
--- the end of a link that sent nothing, where so many octets of packets may wait
-abbrev pub first_down : LinkConfig → ℕ → LinkSenderState
-first_down link capacity = record {
-  link = link;
-  capacity = capacity;
-  waiting = [];
-  first = 0;
-  flushed = false;
-  packet_count = 0;
-  frame_count = 0;
-}
-
--- the end of a link that took nothing
-abbrev pub first_up : LinkConfig → LinkReceiverState
-first_up link = record { link = link; last = None; begun = []; drops = replicate 11 0 }
+  pub down : DownState
+  pub up : UpState
 
 -- Both ends of the link are as they were.
 abbrev pub KeepsLink : (old new : StationState) → Type 0

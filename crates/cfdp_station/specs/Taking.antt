@@ -1,10 +1,9 @@
 -- What a frame does that a station takes.
-use Rattle.std.specs.Prelude.{◌≡◌, ℕ, ◌⊎◌, ◌++◌, Bool, true, List, [], ◌∷◌}
-use Rattle.mpdu.specs.Stream.{survivors}
-use Rattle.link_stack.specs.declared.drops.LinkDrop.TheVariants.{NoMemory}
-use Rattle.link_stack.specs.Drops.{counted}
-use Rattle.link_stack.specs.Frames.{pdus_in}
-use Rattle.link_stack.specs.Upward.{LinkReceiverState, Takes, TakesFront, TakesNext, TakesNextOf, TakesNextFront, TakesNextFrontOf, HasZone, IsUp, IsUpOf, IsNextFrame, IsNextFrameOf, frame_read}
+use Rattle.std.specs.Prelude.{◌≡◌, ◌≤◌, ℕ, ◌⊎◌, List, [], ◌∷◌, length}
+use Rattle.cfd_bits.specs.Field.{field}
+use Rattle.aos_frame.specs.Frame.{other_lane}
+use Rattle.aos_frame.specs.declared.config.Lane.{Lane}
+use Rattle.link_stack.specs.Upward.{LaneTakes, LinkReceiverState, lane_of, lane_up}
 use Rattle.cfdp_directives.specs.Pdu.Faults.{pdu_fault}
 use Rattle.cfdp_entity.specs.declared.error.EntityDrop.{EntityDrop}
 use Rattle.cfdp_entity.specs.Entity.{Counted}
@@ -21,31 +20,19 @@ abbrev pub HearsAll : List (List ℕ) → (old new : Counted) → Type 0
 HearsAll [] old new = new ≡ old
 HearsAll (pdu ∷ pdus) old new = (mid : Counted) × HearsPdu pdu old mid × HearsAll pdus mid new
 
--- The end that receives took a frame, and gave these PDUs: those of the packets that the frame
--- completes, or where it found no memory a front of them. Of a stream's next frame they are those
--- of the survivors that it completes, also where another implementation makes the frames, and not
--- all
--- of them have the usage flag of the count cycle.
-pub record GivesPdus (frame : List ℕ) (old new : LinkReceiverState) (pdus : List (List ℕ))
-    : Type 0 where
-  pub takes : Takes (frame_read old frame) old new [] pdus
-      ⊎ (HasZone old.link frame × TakesFront (frame_read old frame) old new [] pdus)
-  pub next : (ps : List (List ℕ)) (marks : List Bool) (missed : ℕ) → IsUp old ps marks missed →
-      IsNextFrame old.link ps marks frame →
-      TakesNext old new ps marks missed [] pdus ⊎ TakesNextFront old new ps marks [] pdus
-  pub others : (all : Bool) (ps : List (List ℕ)) (marks : List Bool) (missed : ℕ) →
-      IsUpOf all old ps marks missed → IsNextFrameOf all old.link ps marks frame →
-      TakesNextOf all old new ps marks missed [] pdus
-      ⊎ TakesNextFrontOf all old new ps marks [] pdus
-  pub delivered : (ps : List (List ℕ)) (marks : List Bool) (missed : ℕ) → IsUp old ps marks missed →
-      IsNextFrame old.link ps marks frame →
-      (pdus_in (survivors old.link.zone (marks ++ true ∷ []) 0 ps)
-      ≡ pdus_in (survivors old.link.zone marks 0 ps) ++ pdus)
-      ⊎ (new.drops ≡ counted old.drops NoMemory)
+-- The lane's end that receives took a frame, and gave these PDUs.
+abbrev pub GivesPdus : List ℕ → (old new : LinkReceiverState) → List (List ℕ) → Type 0
+GivesPdus frame old new pdus = LaneTakes frame old new [] pdus
 
--- A frame was taken: the entity heard exactly the PDUs that came up, in order.
+-- A frame was taken by the end of its lane: the entity heard exactly the PDUs that came up, in
+-- order. The other lane's end is as it was. Frames with a lane's channel come to that lane.
 pub record TakesFrame (frame : List ℕ) (old new : StationState) : Type 0 where
   pub pdus : List (List ℕ)
-  pub given : GivesPdus frame old.up new.up pdus
+  pub given : GivesPdus frame (lane_up (lane_of old.up frame) old.up)
+      (lane_up (lane_of old.up frame) new.up) pdus
   pub heard : HearsAll pdus old.entity new.entity
   pub down : new.down ≡ old.down
+  pub other : lane_up (other_lane (lane_of old.up frame)) new.up
+      ≡ lane_up (other_lane (lane_of old.up frame)) old.up
+  pub lane : (l : Lane) → 2 ≤ length frame → field frame 10 6 ≡ (lane_up l old.up).link.channel →
+      lane_of old.up frame ≡ l

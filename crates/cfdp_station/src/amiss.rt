@@ -13,9 +13,12 @@ use thiserror::Error;
 /// A field of a [`LinkConfig`] that isn't as it has to be.
 #[derive(Clone, Copy, Debug, PartialEq, Eq, Error)]
 pub enum LinkField {
-    /// The virtual channel.
+    /// The virtual channel of directives.
     #[error("the virtual channel is not 0 to 62")]
     Channel,
+    /// The virtual channel of file data.
+    #[error("the virtual channel of file data is not 0 to 62, or is that of directives")]
+    DataChannel,
     /// The octets of the packet zone.
     #[error("the packet zone does not have 16 to 2040 octets")]
     Zone,
@@ -36,7 +39,7 @@ pub enum StationField {
     /// One of the frames that it takes.
     #[error("of the frames taken, {0}")]
     Up(LinkField),
-    /// The most octets of packets that may wait.
+    /// The most octets of packets that may wait in each lane.
     #[error("the capacity is not 8192 to 65536 octets")]
     Capacity,
 }
@@ -68,6 +71,8 @@ fn link_amiss(link: &LinkConfig) -> Option<LinkField>
 {
     if IDLE_CHANNEL <= link.channel {
         Some(LinkField::Channel)
+    } else if IDLE_CHANNEL <= link.data_channel || link.data_channel == link.channel {
+        Some(LinkField::DataChannel)
     } else if !(16..=2040).contains(&link.zone) {
         Some(LinkField::Zone)
     } else if 2046 < link.apid {

@@ -15,13 +15,13 @@ pub struct StationConfig {
     pub down: LinkConfig,
     /// The frames that it takes: what its peer has as `down`.
     pub up: LinkConfig,
-    /// The most octets of packets that may wait to be made frames: 8,192 to 65,536.
+    /// The most octets of packets that may wait in each lane to be made frames: 8,192 to 65,536.
     pub capacity: usize,
 }
 
 impl StationConfig {
     /// A station with this entity, which sends and takes such frames, where 16,384 octets of
-    /// packets may wait.
+    /// packets may wait in each lane.
     pub fn new(entity: EntityConfig, down: LinkConfig, up: LinkConfig) -> StationConfig
         ensures valid { IsConfig entity → IsLink down → IsLink up → IsStationConfig result }
         ensures is { result

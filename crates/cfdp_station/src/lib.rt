@@ -1,17 +1,23 @@
 //! A station: an entity of CFDP, class 2 (CCSDS 727.0-B-5), over both directions of one link.
 //!
 //! What its entity has to send goes down as packets in AOS transfer frames (CCSDS 133.0-B-2,
-//! 732.0-B-4), one PDU at a time. Of each frame that it takes, its entity hears the PDUs that come
-//! up, in order.
+//! 732.0-B-4), one PDU at a time: file data on one virtual channel, and directives on another,
+//! whose frames leave first. Of each frame that it takes, its entity hears the PDUs that come up,
+//! in order.
 //!
 //! ```
 //! let down = LinkConfig {
 //!     spacecraft: 42,
 //!     channel: 1,
+//!     data_channel: 3,
 //!     zone: 1024,
 //!     apid: 100,
 //! };
-//! let up = LinkConfig { channel: 2, ..down };
+//! let up = LinkConfig {
+//!     channel: 2,
+//!     data_channel: 4,
+//!     ..down
+//! };
 //! let config = StationConfig::new(EntityConfig::new(1, 2), down, up);
 //! if let Some(field) = config.amiss() {
 //!     eprintln!(rt; "it can't be set up so: {field}")?;
@@ -22,7 +28,7 @@
 //! station.flush();
 //!
 //! let mut frame = vec![in alloc; 0u8; station.frame_len()]?;
-//! while station.next_frame(&mut frame) {
+//! while station.next_frame(&mut frame).is_some() {
 //!     peer.take(&frame);
 //! }
 //! ```
@@ -47,6 +53,6 @@ pub use cfdp_entity::{
 pub use cfdp_header::{HeaderError, TransactionId};
 pub use cfdp_store::{Inbox, Outbox, StoreError};
 pub use config::StationConfig;
-pub use link_stack::{LinkConfig, LinkDrop};
+pub use link_stack::{Lane, LinkConfig, LinkDrop};
 pub use polled::Polled;
 pub use station::Station;

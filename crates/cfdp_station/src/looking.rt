@@ -8,6 +8,7 @@ use crate::station::Station;
 use cfdp_directives::Indication;
 use cfdp_entity::Transactions;
 use cfdp_store::{Inbox, Outbox};
+use link_stack::Lane;
 use std::fmt;
 
 impl<O: Outbox, I: Inbox> Station<O, I> {
@@ -55,11 +56,12 @@ impl<O: Outbox, I: Inbox> Station<O, I> {
 }
 
 impl<O: Outbox, I: Inbox> fmt::Debug for Station<O, I> {
-    /// Its entity, and how many octets wait to be made frames.
+    /// Its entity, and how many octets of each lane wait to be made frames.
     fn fmt<W: fmt::Write>(&self, f: &mut fmt::Formatter<W>) -> fmt::Result {
         f.debug_struct("Station")
             .field("entity", &self.entity)
-            .field("waiting", &self.down.waiting_len())
+            .field("directives", &self.down.waiting_len(Lane::Directives))
+            .field("file_data", &self.down.waiting_len(Lane::Data))
             .finish()
     }
 }

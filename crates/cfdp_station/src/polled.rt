@@ -1,12 +1,12 @@
 /// What a poll did.
 #[derive(Clone, Copy, Debug, PartialEq, Eq)]
 pub enum Polled {
-    /// A PDU was put behind the others that go down.
+    /// A PDU was put behind the others that go down its lane.
     Moved,
     /// Nothing is due.
     Nothing,
-    /// The PDU that is due is longer than the room that is left. Nothing changed; once frames were
-    /// taken off there is more room.
+    /// The PDU that is due is longer than the room that is left in its lane. Nothing changed; once
+    /// frames of the lane were taken off there is more room.
     Full,
     /// The outbox failed to give the file data that are due: the transaction was cancelled for it,
     /// and no PDU moved.

@@ -1,11 +1,10 @@
 //! An entity over both directions of a link.
-ghost use Rattle.std.specs.Prelude.{◌≡◌, ℕ, ◌+◌, ◌*◌, ◌<◌, ◌≤◌, ◌↔◌, Bool, List, [], true, false, length, max, get_or, IfOk, IfErr, MatchOption, OnOk, OnErr};
+ghost use Rattle.std.specs.Prelude.{◌≡◌, ℕ, ◌+◌, ◌*◌, ◌<◌, ◌≤◌, ◌↔◌, Bool, List, [], true, false, length, max, get_or, IfOk, IfErr, MatchOption, None, IfSome, OnOk, OnErr};
 ghost use Rattle.mpdu.specs.Stream.{ArePackets};
-ghost use Rattle.link_stack.specs.Downward.{IsDown};
-ghost use Rattle.link_stack.specs.Drops.{count_of};
+ghost use Rattle.aos_frame.specs.Frame.{lane_link, other_lane};
+ghost use Rattle.link_stack.specs.Downward.{IsDown, KeepsLanes, MakesFrame, first_down, frame_lane, lane_down};
 ghost use Rattle.link_stack.specs.Frames.{AreOfLink};
-ghost use Rattle.link_stack.specs.Upward.{IsUpOf};
-ghost use Rattle.link_stack.specs.Downward as downward;
+ghost use Rattle.link_stack.specs.Upward.{IsUpOf, drop_count, first_up, lane_up};
 ghost use Rattle.cfdp_timers.specs.Due.{due_count};
 ghost use Rattle.cfdp_timers.specs.ButInactivity.{OnlyInactivity, IsLeastOther};
 ghost use Rattle.cfdp_store.specs.Chains.{Raises};
@@ -23,9 +22,9 @@ ghost use Rattle.cfdp_entity.specs.Table.{Ticks};
 ghost use Rattle.cfdp_entity.specs.declared.call.Call.TheVariants as calls;
 ghost use Rattle.cfdp_station.specs.declared.polled.Polled.TheVariants as answers;
 ghost use Rattle.cfdp_station.specs.Config.{IsStationConfig};
-ghost use Rattle.cfdp_station.specs.Link.{Flushes, MakesFrame, WaitAtMost, HoldsAtMost};
-ghost use Rattle.cfdp_station.specs.Polling.{Polls, next_len, stored_by_poll};
-ghost use Rattle.cfdp_station.specs.Station.{first_down, first_up, KeepsLink, KeepsRest};
+ghost use Rattle.cfdp_station.specs.Link.{FlushesBoth, WaitAtMost, HoldsAtMost};
+ghost use Rattle.cfdp_station.specs.Polling.{Polls, next_len, next_room, stored_by_poll};
+ghost use Rattle.cfdp_station.specs.Station.{KeepsLink, KeepsRest};
 ghost use Rattle.cfdp_station.specs.Taking.{TakesFrame};
 
 use crate::config::StationConfig;
@@ -35,16 +34,17 @@ use cfdp_directives::{Indication, Phase};
 use cfdp_entity::{AddError, CallError, Entity, PutError};
 use cfdp_header::TransactionId;
 use cfdp_store::{Inbox, MemoryOutbox, Outbox};
-use link_stack::{Down, Up};
+use link_stack::{Down, Lane, Up};
 use std::alloc::{AllocError, Global};
 use std::marker::Model;
 
 /// An entity of CFDP, class 2, with both its stores and both directions of its link.
 ///
 /// The calls of the user, and `tick`, are those of its [`Entity`]. A [`poll`](Self::poll) moves one
-/// PDU down, into a packet of its own; [`next_frame`](Self::next_frame) gives the frames that are
-/// whole, and a [`flush`](Self::flush) makes the begun one whole. [`take`](Self::take) takes a
-/// frame of the peer.
+/// PDU down, into a packet of its own, on the lane of its type; [`next_frame`](Self::next_frame)
+/// gives the frames that are whole, those of directives first, and a [`flush`](Self::flush) makes
+/// the begun one of each lane whole. [`take`](Self::take) takes a frame of the peer, of either
+/// lane.
 ///
 /// Each PDU is written once, into a buffer made with the station. So `flush`, `frames_ahead` and
 /// `next_frame` take no memory, and `poll` none but what the entity's indications need.
@@ -53,14 +53,14 @@ pub struct Station<O: Outbox, I: Inbox> {
     pub(crate) entity: Entity<O, I>,
     pub(crate) down: Down,
     up: Up,
-    // room for one PDU of the capacity
+    // room for one PDU of a lane's capacity
     buffer: Vec<u8>,
     // The PDUs that a frame gives, while they are heard: kept for its room.
     given: Vec<Vec<u8>>,
 }
 
 impl<O: Outbox, I: Inbox> Model for Station<O, I> {
-    ghost use Rattle.std.specs.Prelude.{◌≡◌, ◌+◌, ◌≤◌, length};
+    ghost use Rattle.std.specs.Prelude.{◌≡◌, length};
     ghost use Rattle.cfdp_entity.specs.Coded.{state_codes};
     ghost use Rattle.cfdp_station.specs.Station.{StationState};
 
@@ -70,8 +70,8 @@ impl<O: Outbox, I: Inbox> Model for Station<O, I> {
 
     ghost view = { λ s. record { entity = s.entity; down = s.down; up = s.up } };
 
-    ghost invariant = { λ s. (length s.buffer.items ≡ s.down.capacity)
-        × (length s.down.waiting ≤ s.down.capacity + 2047) };
+    ghost invariant = { λ s. (length s.buffer.items ≡ s.down.directives.capacity)
+        × (s.down.file_data.capacity ≡ s.down.directives.capacity) };
 }
 
 impl<O: Outbox, I: Inbox> Station<O, I> {
@@ -94,10 +94,11 @@ impl<O: Outbox, I: Inbox> Station<O, I> {
         ensures down { IfOk result (λ s. s.down
             ≡ first_down config.down config.capacity) }
         ensures up { IfOk result (λ s. s.up ≡ first_up config.up) }
-        // Its stream is empty, and it is as no frame of a stream leaves it.
-        ensures sent { IfOk result (λ s. IsDown s.down [] 0) }
-        ensures taken { (all : Bool) (ps : List (List ℕ)) → ArePackets ps →
-            AreOfLink config.up ps → IfOk result (λ s. IsUpOf all s.up ps [] 0) }
+        // The stream of each lane is empty, and it is as no frame of a stream leaves it.
+        ensures sent { (lane : Lane) → IfOk result (λ s. IsDown (lane_down lane s.down) [] 0) }
+        ensures taken { (lane : Lane) (all : Bool) (ps : List (List ℕ)) → ArePackets ps →
+            AreOfLink (lane_link lane config.up) ps →
+            IfOk result (λ s. IsUpOf all (lane_up lane s.up) ps [] 0) }
     {
         let down = Down::new(alloc, config.down, config.capacity)?;
         let up = Up::new(alloc, config.up)?;
@@ -231,7 +232,7 @@ impl<O: Outbox, I: Inbox> Station<O, I> {
     /// [`LinkDrop`](crate::LinkDrop) names; 0 of any other number. The count stays at the greatest
     /// `u64`.
     pub fn link_drops(&self, number: u8) -> u64
-        ensures { result ≡ count_of self.now.up.drops number }
+        ensures { result ≡ drop_count self.now.up number }
     {
         self.up.drops(number)
     }
@@ -269,8 +270,9 @@ impl<O: Outbox, I: Inbox> Station<O, I> {
         self.entity.inbox()
     }
 
-    /// Moves the PDU whose turn it is down the link, in a packet of its own, where one is due and
-    /// there is room for it. One that doesn't fit stays due. A PDU has 4,132 octets at the most.
+    /// Moves the PDU whose turn it is down its lane, in a packet of its own, where one is due and
+    /// there is room for it: file data go on their own lane, directives on the other. One that
+    /// doesn't fit stays due. A PDU has 4,132 octets at the most.
     ///
     /// # Errors
     ///
@@ -282,60 +284,78 @@ impl<O: Outbox, I: Inbox> Station<O, I> {
         ensures spells { IfOk result (λ answer. answer ≡ answers.Moved
             → SpellsTurn (turn self.old.entity.state) self.old.entity.state) }
         ensures full { IfOk result (λ answer. (answer ≡ answers.Full)
-            ↔ (downward.room self.old.down < next_len self.old.entity.state)) }
+            ↔ (next_room self.old.entity.state self.old.down
+            < next_len self.old.entity.state)) }
         ensures roomy { IfOk result (λ answer. answer ≡ answers.Full
-            → downward.room self.old.down < longest_pdu) }
+            → next_room self.old.entity.state self.old.down < longest_pdu) }
         ensures err { OnErr result (self.new ≡ self.old) }
         ensures counts { IfOk result (λ answer. CountsOutbox (stored_by_poll answer)
             self.old.entity.outbox_failures self.new.entity.outbox_failures) }
         ensures lacks { OnErr result
-            (TakesTurn (downward.room self.old.down) self.old.entity.state) }
+            (TakesTurn (next_room self.old.entity.state self.old.down) self.old.entity.state) }
         ensures inbox { self.new.entity.inbox_failures ≡ self.old.entity.inbox_failures }
-        ensures ahead { (frames : ℕ) → HoldsAtMost frames self.old.down →
-            WaitAtMost frames self.new.down }
-        ensures fixed { (self.new.down.link ≡ self.old.down.link)
-            × (self.new.down.capacity ≡ self.old.down.capacity) }
+        ensures ahead { (lane : Lane) (frames : ℕ) →
+            HoldsAtMost frames (lane_down lane self.old.down) →
+            WaitAtMost frames (lane_down lane self.new.down) }
+        ensures fixed { KeepsLanes self.old.down self.new.down }
     {
         move_one(&mut self.entity, &mut self.down, &mut self.buffer)
     }
 
-    /// Fills the begun frame by an idle packet, where one is begun, so that all that was sent can
-    /// leave in whole frames. It polls nothing.
+    /// Fills the begun frame of each lane by an idle packet, where one is begun, so that all that
+    /// was sent can leave in whole frames. It polls nothing.
     pub fn flush(&mut self)
-        ensures flushed { Flushes self.old.down self.new.down }
+        ensures flushed { FlushesBoth self.old.down self.new.down }
         ensures rest { KeepsRest self.old self.new }
-        ensures ahead { (frames : ℕ) → HoldsAtMost frames self.old.down →
-            WaitAtMost frames self.new.down }
+        ensures ahead { (lane : Lane) (frames : ℕ) →
+            HoldsAtMost frames (lane_down lane self.old.down) →
+            WaitAtMost frames (lane_down lane self.new.down) }
     {
-        self.down.flush();
+        self.down.flush(Lane::Directives);
+        self.down.flush(Lane::Data);
     }
 
-    /// The most whole frames that can ever wait after a poll or a flush: a bound that never changes,
-    /// not how many wait now. A caller that has room for so many can take them all.
-    pub fn frames_ahead(&self) -> usize
-        ensures enough { HoldsAtMost result self.now.down }
-        ensures no_more { result * self.now.down.link.zone ≤ self.now.down.capacity + 2047 }
+    /// The most whole frames that can ever wait in a lane after a poll or a flush: a bound that
+    /// never changes, not how many wait now. A caller that has room for so many of each lane can
+    /// take them all.
+    pub fn frames_ahead(&self, lane: Lane) -> usize
+        ensures enough { HoldsAtMost result (lane_down lane self.now.down) }
+        ensures no_more { result * (lane_down lane self.now.down).link.zone
+            ≤ (lane_down lane self.now.down).capacity + 2047 }
     {
-        self.down.frames_ahead()
+        self.down.frames_ahead(lane)
     }
 
-    /// The octets of each frame that it sends: 8 more than those of a zone.
+    /// The octets of each frame that it sends, in either lane: 8 more than those of a zone.
     pub fn frame_len(&self) -> usize
-        ensures { result ≡ 8 + self.now.down.link.zone }
+        ensures { (lane : Lane) → result ≡ 8 + (lane_down lane self.now.down).link.zone }
     {
         self.down.frame_len()
     }
 
-    /// Writes the oldest whole frame that waits, and takes it off. The buffer has
-    /// [`frame_len`](Self::frame_len) octets.
+    /// The lane whose frame [`next_frame`](Self::next_frame) gives next: directives go first.
+    /// `None` where no whole frame waits in either.
+    pub fn next_lane(&self) -> Option<Lane>
+        ensures { result ≡ frame_lane self.now.down }
+    {
+        self.down.next_lane()
+    }
+
+    /// Writes the oldest whole frame of [`next_lane`](Self::next_lane), takes it off, and tells the
+    /// lane. The buffer has [`frame_len`](Self::frame_len) octets.
     ///
-    /// False where no whole frame waits: nothing changed then.
-    pub fn next_frame(&mut self, out: &mut [u8]) -> bool
-        requires { length out.old ≡ 8 + self.old.down.link.zone }
-        ensures none { (result ≡ false) ↔ (length self.old.down.waiting < self.old.down.link.zone) }
-        ensures kept { result ≡ false → (self.new ≡ self.old) × (out.new ≡ out.old) }
-        // It is the stream's frame behind those made.
-        ensures made { result ≡ true → MakesFrame out.new self.old.down self.new.down }
+    /// `None` where no whole frame waits: nothing changed then.
+    pub fn next_frame(&mut self, out: &mut [u8]) -> Option<Lane>
+        requires { length out.old ≡ 8 + self.old.down.directives.link.zone }
+        // Directives go first.
+        ensures lane { result ≡ frame_lane self.old.down }
+        ensures kept { result ≡ None → (self.new ≡ self.old) × (out.new ≡ out.old) }
+        // It is the frame of the lane's stream behind those made.
+        ensures made { IfSome result (λ lane. MakesFrame out.new (lane_down lane self.old.down)
+            (lane_down lane self.new.down)) }
+        ensures other { IfSome result (λ lane. lane_down (other_lane lane) self.new.down
+            ≡ lane_down (other_lane lane) self.old.down) }
+        ensures packet_count { self.new.down.packet_count ≡ self.old.down.packet_count }
         ensures rest { KeepsRest self.old self.new }
     {
         self.down.next_frame(out)

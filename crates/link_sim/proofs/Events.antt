@@ -1,6 +1,8 @@
 -- What each event keeps of two stations, and the promises that follow.
--- What an event does to one station and to what it sent, as the other end sees it.
+-- What an event does to a lane of what a station sent, as the other end sees it.
 pub mod AtStations
+-- What an event does to one station and to both lanes of what it sent is a step of the world.
+pub mod InWorlds
 -- A station that keeps its frames back until it was polled and flushed, beside one of a world, whose frames leave at once: both do the same, and are the same
 -- once all frames have left.
 pub mod Behind

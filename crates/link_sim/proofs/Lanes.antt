@@ -1,11 +1,20 @@
 -- One lane of a direction may overtake the other.
+-- Lists over two lanes, one behind the other: what is put at the end of a lane, and what is taken from its front.
+pub mod Joined
+-- The counts of drops of both lanes, which are told as one number.
+pub mod Counts
+-- The lanes of both directions that an event leaves as they were.
+pub mod Ways
+-- What a direction delivered and what was sent on it, once a frame of one of its lanes was taken.
+pub mod Heard
+-- What both lanes of a direction have, where each lane is as it was.
+pub mod Same
 -- A list two parts of which changed places has the same members: so a course, and all else that is known of the PDUs on their way, stays where one lane
 -- overtakes the other.
 pub mod Swapping
--- What is kept of all puts, and the runs that they make, where a way is two lanes, one behind the other: a PDU that is sent goes behind those of its lane, and
--- those that a frame completes are the oldest of theirs.
-pub mod Kept
--- What is kept of the other lane of a direction while one is used.
-pub mod Other
+-- What holds of one lane and of the other one holds of both.
+pub mod Each
+-- The lane whose frame leaves next, and the lane that a frame comes to.
+pub mod Frames
 -- What will arrive over two lanes: of each lane all that is on its way, or all but the first, where the front of its packet was lost.
 pub mod Arrive

@@ -1,17 +1,19 @@
--- One direction of a link, from end to end.
--- The sending end of a direction.
+-- One lane of a direction of a link, from end to end.
+-- The sending end of a lane.
 pub mod Sending
--- What a send and a flush do to a direction.
+-- What a send and a flush do to a lane.
 pub mod Sends
--- The receiving end of a direction: a frame is delivered or struck.
+-- The receiving end of a lane: a frame is delivered or struck.
 pub mod Receiving
 -- Where pieces of octets lie.
 pub mod Placing
 -- A frame is made of what waits.
 pub mod Pulling
--- What the steps of a link do to a direction between events.
+-- Frames leave, one after another, of both lanes.
+pub mod Leaving
+-- What the steps of a link do to a lane between events.
 pub mod Carried
--- Both directions of a first world: nothing was sent, and nothing taken.
+-- Both lanes of both directions of a first world: nothing was sent, and nothing taken.
 pub mod First
 -- Polls and flushes of one station, one after another.
 pub mod Sendings

@@ -1,12 +1,14 @@
 -- What an event does to one station and to the frames that it sent, whatever the end is that
 -- receives them: it belongs to the other station.
-use Rattle.std.specs.Prelude.{◌≡◌, ◌≢◌, ◌⊎◌, ℕ, ◌+◌, ◌<◌, ◌≤◌, ◌++◌, false, true, List, [], ◌∷◌, length, Result, Ok, Err, alloc_error}
+use Rattle.std.specs.Prelude.{◌≡◌, ◌≢◌, ◌⊎◌, ℕ, ◌+◌, ◌%◌, ◌<◌, ◌≤◌, ◌++◌, false, true, List, [], ◌∷◌, length, drop, Some, Result, Ok, Err, alloc_error}
 use Rattle.std.specs.declared.alloc.AllocError.{AllocError}
 use Rattle.cfdp_header.specs.declared.value.TransactionId.{TransactionId}
+use Rattle.aos_frame.specs.Frame.{other_lane}
+use Rattle.aos_frame.specs.declared.config.Lane.{Lane}
 use Rattle.mpdu.specs.Packing.{flush_of}
 use Rattle.link_stack.specs.Frames.{packet_of}
-use Rattle.link_stack.specs.Downward.{LinkSenderState, packing}
-use Rattle.link_stack.specs.Upward.{LinkReceiverState}
+use Rattle.link_stack.specs.Downward.{DownState, LinkSenderState, frame_lane, lane_down, packing}
+use Rattle.link_stack.specs.Upward.{LinkReceiverState, UpState, lane_up}
 use Rattle.cfdp_store.specs.declared.stored.Stored.TheVariants as storeds
 use Rattle.cfdp_store.specs.Stores.{Counts, failures_after}
 use Rattle.cfdp_entity.specs.declared.error.PutError.{PutError}
@@ -18,6 +20,7 @@ use Rattle.cfdp_entity.specs.Polling.{Place, Rests, turn, served}
 use Rattle.cfdp_entity.specs.Putting.{Accepts, IsPutRefusal, put_refusal, stored_by_error, was_answered}
 use Rattle.cfdp_entity.specs.Sound.{SpellsTurn}
 use Rattle.cfdp_entity.specs.Table.{data_at}
+use Rattle.cfdp_station.specs.Link.{next_lane}
 use Rattle.cfdp_station.specs.Polling.{next_pdu}
 use Rattle.cfdp_station.specs.Station.{StationState}
 use Rattle.cfdp_station.specs.Taking.{GivesPdus, HearsAll}
@@ -25,7 +28,7 @@ use Rattle.link_sim.specs.declared.event.Applied.{Applied}
 use Rattle.link_sim.specs.declared.event.Applied.TheVariants as did
 use Rattle.link_sim.specs.declared.event.Refusal.TheVariants as refusal
 use Rattle.link_sim.specs.declared.event.AcceptedPut.{AcceptedPut}
-use Rattle.link_sim.specs.FrameLink.{FrameLinkState, oldest, most_struck}
+use Rattle.link_sim.specs.FrameLink.{FrameLinkState, FrameLinksState, frames_sent, lane_of_links, oldest, most_struck}
 use Rattle.link_sim.specs.OneWay.{IsOneWay, IsCarried, SendsNone, SendsMore, HearsMore, one_way}
 
 -- The frames, their marks and the octets of each are as they were: only buffers may have been made.
@@ -37,32 +40,97 @@ IsSameLink old new = (new.frames ≡ old.frames) × (new.marks ≡ old.marks) ×
 abbrev pub IsSameMarks : (old new : FrameLinkState) → Type 0
 IsSameMarks old new = (new.marks ≡ old.marks) × (new.run ≡ old.run) × (new.len ≡ old.len)
 
--- The link, the capacity, the count of packets, and whether a flush came last, are as they were.
+-- So it is of both lanes.
+abbrev pub AreSameLinks : (old new : FrameLinksState) → Type 0
+AreSameLinks old new = (l : Lane) → IsSameLink (lane_of_links l old) (lane_of_links l new)
+
+abbrev pub AreSameMarks : (old new : FrameLinksState) → Type 0
+AreSameMarks old new = (l : Lane) → IsSameMarks (lane_of_links l old) (lane_of_links l new)
+
+-- Of a lane the link, the capacity, and whether a flush came last, are as they were.
 abbrev pub IsSameEnd : (old new : LinkSenderState) → Type 0
 IsSameEnd old new = (new.link ≡ old.link) × (new.capacity ≡ old.capacity)
-    × (new.packet_count ≡ old.packet_count) × (new.flushed ≡ old.flushed)
+    × (new.flushed ≡ old.flushed)
 
--- Nothing of the direction is added to what was sent or delivered.
+-- So it is of both lanes; and the count of packets is as it was.
+pub record AreSameEnds (old new : DownState) : Type 0 where
+  pub lanes : (l : Lane) → IsSameEnd (lane_down l old) (lane_down l new)
+  pub packet_count : new.packet_count ≡ old.packet_count
+
+-- Nothing of the lane is added to what was sent or delivered.
 abbrev pub AddsNone : (old new : LinkSenderState) → (link link_now : FrameLinkState) → Type 0
 AddsNone old new link link_now = (up : LinkReceiverState) → IsOneWay (one_way old link up)
     → SendsNone (one_way old link up) (one_way new link_now up)
 
--- Between events, an end that sends and its link: no whole zone waits, the buffers fit the link's
--- frames, and a PDU of any kind has room.
+-- Less than a zone waits in a lane.
+abbrev pub IsNotWhole : LinkSenderState → Type 0
+IsNotWhole down = length down.waiting < down.link.zone
+
+-- Between events, a lane of an end that sends and its link: no whole zone waits, the buffers fit
+-- the link's frames, and a PDU of any kind has room.
 pub record IsReady (down : LinkSenderState) (link : FrameLinkState) : Type 0 where
   pub most_zone : down.link.zone ≤ 2040
-  pub none_waits : length down.waiting < down.link.zone
+  pub none_waits : IsNotWhole down
   pub fits : link.len ≡ 8 + down.link.zone
   pub capacity : 8192 ≤ down.capacity
 
--- A direction that was carried is carried still.
+-- Both lanes are ready.
+abbrev pub AreReady : DownState → FrameLinksState → Type 0
+AreReady down links = (l : Lane) → IsReady (lane_down l down) (lane_of_links l links)
+
+-- A lane that was carried is carried still.
 abbrev pub CarriesOn : (old new : LinkSenderState) → (link link_now : FrameLinkState) → Type 0
 CarriesOn old new link link_now =
     (up : LinkReceiverState) → IsCarried old link up → IsCarried new link_now up
 
+-- Each lane is carried, between the end that sends and the end that receives.
+abbrev pub AreCarried : DownState → FrameLinksState → UpState → Type 0
+AreCarried down links up =
+    (l : Lane) → IsCarried (lane_down l down) (lane_of_links l links) (lane_up l up)
+
+-- ---- frames leave
+-- The oldest whole zone of a lane became a frame, the last that was sent: it is placed behind all
+-- frames of both lanes. The other lane is as it was.
+pub record PullsOne (old new : DownState) (links links_now : FrameLinksState) : Type 0 where
+  pub lane : Lane
+  pub is_next : frame_lane old ≡ Some lane
+  pub way : AddsNone (lane_down lane old) (lane_down lane new) (lane_of_links lane links)
+      (lane_of_links lane links_now)
+  pub waiting : (lane_down lane new).waiting
+      ≡ drop (lane_down lane old).link.zone (lane_down lane old).waiting
+  pub used : (lane_of_links lane links_now).blanks + 1 ≡ (lane_of_links lane links).blanks
+  pub grown : length (lane_of_links lane links_now).frames
+      ≡ length (lane_of_links lane links).frames + 1
+  pub placed : (lane_of_links lane links_now).places
+      ≡ (lane_of_links lane links).places ++ frames_sent links ∷ []
+  pub other : lane_down (other_lane lane) new ≡ lane_down (other_lane lane) old
+  pub other_link : lane_of_links (other_lane lane) links_now ≡ lane_of_links (other_lane lane) links
+  pub ends : AreSameEnds old new
+  pub marks : AreSameMarks links links_now
+
+-- All whole zones of a lane became frames, or none waited and nothing changed.
+pub record PullsAll (old new : LinkSenderState) (link link_now : FrameLinkState) : Type 0 where
+  pub way : AddsNone old new link link_now
+  pub none_whole : IsNotWhole new
+  pub made : ((new ≡ old) × (link_now ≡ link))
+      ⊎ ((old.link.zone ≤ length old.waiting) × (length link.frames < length link_now.frames))
+  pub fixed : IsSameEnd old new
+  pub marks : IsSameMarks link link_now
+
+-- Both lanes of a direction that was carried are carried still.
+abbrev pub CarryOn : (old new : DownState) → (links links_now : FrameLinksState) → Type 0
+CarryOn old new links links_now = (l : Lane) → CarriesOn (lane_down l old) (lane_down l new)
+    (lane_of_links l links) (lane_of_links l links_now)
+
 -- Nothing changed but, at most, how many buffers there are.
-abbrev pub KeepsAt : (old new : StationState) → (link link_now : FrameLinkState) → Type 0
-KeepsAt old new link link_now = (new ≡ old) × IsSameLink link link_now
+abbrev pub KeepsAt : (old new : StationState) → (links links_now : FrameLinksState) → Type 0
+KeepsAt old new links links_now = (new ≡ old) × AreSameLinks links links_now
+
+-- Of a lane nothing changed but, at most, how many buffers there are.
+pub record KeepsLaneAt (l : Lane) (old new : DownState) (links links_now : FrameLinksState)
+    : Type 0 where
+  pub down : lane_down l new ≡ lane_down l old
+  pub link : IsSameLink (lane_of_links l links) (lane_of_links l links_now)
 
 -- These packets are behind all that were sent, which carry the PDUs with these texts.
 abbrev pub SendsAt : (old new : LinkSenderState) → (link link_now : FrameLinkState)
@@ -127,17 +195,22 @@ answered (Err call_errors.NoMemory) = Err alloc_error
 
 -- ---- a poll
 -- The PDU whose turn it is was taken, and its one packet is behind all that were sent.
-pub record SendsOneAt (old new : StationState) (link link_now : FrameLinkState) : Type 0 where
+pub record SendsOneAt (old new : StationState) (links links_now : FrameLinksState) : Type 0 where
   pub served : new.entity.state ≡ served storeds.Done (turn old.entity.state) old.entity.state
   pub spells : SpellsTurn (turn old.entity.state) old.entity.state
   pub failures : KeepsFailures old.entity new.entity
-  pub sends : let pdu = next_pdu old.entity.state in SendsAt old.down new.down link link_now
-      (packet_of old.down.link old.down.packet_count pdu ∷ []) (pdu ∷ [])
-  pub none_whole : length new.down.waiting < new.down.link.zone
-  pub unflushed : new.down.flushed ≡ false
+  pub sends : let pdu = next_pdu old.entity.state in let l = next_lane old.entity.state in
+      SendsAt (lane_down l old.down) (lane_down l new.down) (lane_of_links l links)
+      (lane_of_links l links_now)
+      (packet_of (lane_down l old.down).link old.down.packet_count pdu ∷ []) (pdu ∷ [])
+  pub packet_count : new.down.packet_count ≡ (old.down.packet_count + 1) % 16384
+  pub other : KeepsLaneAt (other_lane (next_lane old.entity.state)) old.down new.down
+      links links_now
+  pub none_whole : (l : Lane) → IsNotWhole (lane_down l new.down)
+  pub unflushed : (lane_down (next_lane old.entity.state) new.down).flushed ≡ false
 
 -- The outbox failed to give the file data that were due, and that was counted: no PDU moved.
-pub record FailsAt (old new : StationState) (link link_now : FrameLinkState) : Type 0 where
+pub record FailsAt (old new : StationState) (links links_now : FrameLinksState) : Type 0 where
   pub place : ℕ
   pub is_next : turn old.entity.state ≡ Place place
   pub carries : data_at place old.entity.state.table ≡ true
@@ -145,45 +218,71 @@ pub record FailsAt (old new : StationState) (link link_now : FrameLinkState) : T
   pub inbox : new.entity.inbox_failures ≡ old.entity.inbox_failures
   pub served : new.entity.state ≡ served storeds.Refused (turn old.entity.state) old.entity.state
   pub down : new.down ≡ old.down
-  pub same_link : IsSameLink link link_now
+  pub same_links : AreSameLinks links links_now
 
-abbrev pub PollsAt : Applied → (old new : StationState) → (link link_now : FrameLinkState) → Type 0
-PollsAt did.Applied old new link link_now =
-    SendsOneAt old new link link_now ⊎ FailsAt old new link link_now
-PollsAt did.Nothing old new link link_now =
-    (turn old.entity.state ≡ Rests) × KeepsAt old new link link_now
-PollsAt (did.Refused by) old new link link_now = ⊥
+abbrev pub PollsAt : Applied → (old new : StationState) → (links links_now : FrameLinksState)
+    → Type 0
+PollsAt did.Applied old new links links_now =
+    SendsOneAt old new links links_now ⊎ FailsAt old new links links_now
+PollsAt did.Nothing old new links links_now =
+    (turn old.entity.state ≡ Rests) × KeepsAt old new links links_now
+PollsAt (did.Refused by) old new links links_now = ⊥
 
 -- ---- a flush
--- The begun frame was filled by at most one idle packet, and left.
-pub record FillsAt (old new : StationState) (link link_now : FrameLinkState) : Type 0 where
-  pub entity : new.entity ≡ old.entity
-  pub sends : SendsAt old.down new.down link link_now (flush_of (packing old.down)) []
-  pub most : length (flush_of (packing old.down)) ≤ 1
-  pub none_whole : length new.down.waiting < new.down.link.zone
-  pub flushed : flush_of (packing old.down) ≡ [] → new.down.flushed ≡ old.down.flushed
-  pub more : length link.frames < length link_now.frames
+-- The begun frame of a lane was filled by at most one idle packet, and left. Where none was begun
+-- the lane is as it was.
+pub record FillsLaneAt (l : Lane) (old new : DownState) (links links_now : FrameLinksState)
+    : Type 0 where
+  pub sends : SendsAt (lane_down l old) (lane_down l new) (lane_of_links l links)
+      (lane_of_links l links_now) (flush_of (packing (lane_down l old))) []
+  pub most : length (flush_of (packing (lane_down l old))) ≤ 1
+  pub same : flush_of (packing (lane_down l old)) ≡ [] → KeepsLaneAt l old new links links_now
+  pub none_whole : IsNotWhole (lane_down l new)
 
-abbrev pub FlushesAt : Applied → (old new : StationState) → (link link_now : FrameLinkState)
+pub record FillsAt (old new : StationState) (links links_now : FrameLinksState) : Type 0 where
+  pub entity : new.entity ≡ old.entity
+  pub lanes : (l : Lane) → FillsLaneAt l old.down new.down links links_now
+  pub packet_count : new.down.packet_count ≡ old.down.packet_count
+  pub more : (l : Lane)
+      × (length (lane_of_links l links).frames < length (lane_of_links l links_now).frames)
+
+abbrev pub FlushesAt : Applied → (old new : StationState) → (links links_now : FrameLinksState)
     → Type 0
-FlushesAt did.Applied old new link link_now = FillsAt old new link link_now
-FlushesAt did.Nothing old new link link_now =
-    (flush_of (packing old.down) ≡ []) × KeepsAt old new link link_now
-FlushesAt (did.Refused by) old new link link_now = ⊥
+FlushesAt did.Applied old new links links_now = FillsAt old new links links_now
+FlushesAt did.Nothing old new links links_now =
+    ((l : Lane) → flush_of (packing (lane_down l old.down)) ≡ []) × KeepsAt old new links links_now
+FlushesAt (did.Refused by) old new links links_now = ⊥
 
 -- ---- a frame arrives
--- The oldest waiting frame of a link reached this station, whose entity heard, in order, the PDUs
--- that came up.
-pub record HearsAt (down : LinkSenderState) (link link_now : FrameLinkState)
+-- The oldest waiting frame of a lane reached this station, whose entity heard, in order, the PDUs
+-- that came up. The other lane's end is as it was.
+pub record HearsAt (l : Lane) (down : LinkSenderState) (link link_now : FrameLinkState)
     (old new : StationState) : Type 0 where
-  pub carried : IsCarried down link_now new.up
+  pub carried : IsCarried down link_now (lane_up l new.up)
   pub given : List (List ℕ)
-  pub gives : GivesPdus (oldest link) old.up new.up given
-  pub hears : HearsMore (one_way down link old.up) (one_way down link_now new.up) given
+  pub gives : GivesPdus (oldest link) (lane_up l old.up) (lane_up l new.up) given
+  pub hears : HearsMore (one_way down link (lane_up l old.up))
+      (one_way down link_now (lane_up l new.up)) given
   pub heard : HearsAll given old.entity new.entity
+  pub other_up : lane_up (other_lane l) new.up ≡ lane_up (other_lane l) old.up
+
+-- It arrives, or none waited and nothing changed.
+pub record FrameComes (l : Lane) (link link_now : FrameLinkState) (old new : StationState)
+    : Type 0 where
+  pub waits : length link.marks < length link.frames
+  pub marked : link_now ≡ record link { marks = link.marks ++ true ∷ []; run = 0 }
+  pub hears : (down : LinkSenderState) → IsCarried down link (lane_up l old.up) →
+      HearsAt l down link link_now old new
+
+abbrev pub FrameArrivesAt : Applied → Lane → (link link_now : FrameLinkState)
+    → (old new : StationState) → Type 0
+FrameArrivesAt did.Applied l link link_now old new = FrameComes l link link_now old new
+FrameArrivesAt did.Nothing l link link_now old new =
+    (length link.frames ≤ length link.marks) × (link_now ≡ link) × (new ≡ old)
+FrameArrivesAt (did.Refused by) l link link_now old new = ⊥
 
 -- ---- a frame is lost
--- The oldest waiting frame of a link was lost.
+-- The oldest waiting frame of a lane was lost.
 pub record StrikesFrameAt (link link_now : FrameLinkState) : Type 0 where
   pub waits : length link.marks < length link.frames
   pub few : link.run < most_struck

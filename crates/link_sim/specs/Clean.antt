@@ -11,11 +11,12 @@ use Rattle.cfdp_sender.specs.declared.phase.SenderPhase.TheVariants as sending
 use Rattle.cfdp_entity.specs.Entity.{EntityState, phase_told}
 use Rattle.cfdp_entity.specs.Seen.{Sends, Receives}
 use Rattle.cfdp_entity.specs.Table.{Entry}
-use Rattle.link_stack.specs.Drops.{count_of}
+use Rattle.aos_frame.specs.declared.config.Lane.{Lane}
+use Rattle.link_stack.specs.Upward.{drop_count}
 use Rattle.link_sim.specs.Observed.{seen}
 use Rattle.link_sim.specs.Stations.{other}
 use Rattle.link_sim.specs.Theorem.{completions_at, side_of}
-use Rattle.link_sim.specs.World.State.{WorldState, entity_at, link_from, station_at}
+use Rattle.link_sim.specs.World.State.{WorldState, entity_at, lane_from, station_at}
 use Rattle.link_sim.specs.declared.event.AcceptedPut.{AcceptedPut}
 use Rattle.link_sim.specs.declared.side.Side.{Side}
 
@@ -54,8 +55,8 @@ pub record IsCleanEntity (e : EntityState) : Type 0 where
 -- So it is at a station, no frame that it sent was lost, and its link dropped nothing.
 pub record IsCleanAt (s : Side) (w : WorldState) : Type 0 where
   pub entity : IsCleanEntity (entity_at s w)
-  pub none_lost : list_any not (link_from s w).marks ≡ false
-  pub read : (n : ℕ) → count_of (station_at s w).up.drops n ≡ 0
+  pub none_lost : (l : Lane) → list_any not (lane_from s l w).marks ≡ false
+  pub read : (n : ℕ) → drop_count (station_at s w).up n ≡ 0
 
 abbrev pub IsClean : WorldState → Type 0
 IsClean w = (s : Side) → IsCleanAt s w

@@ -3,22 +3,22 @@
 use Rattle.std.specs.Prelude.{◌≡◌, not, Bool, true, false, List, length, Some, Contains}
 use Rattle.std.specs.List.{list_any}
 use Rattle.cfdp_directives.specs.User.Put.{Put}
-use Rattle.link_stack.specs.Drops.{count_of}
+use Rattle.aos_frame.specs.declared.config.Lane.{Lane}
+use Rattle.link_stack.specs.Upward.{drop_count}
 use Rattle.link_sim.specs.Between.{Pdu, StaysOnCourse, AreSpelled}
 use Rattle.link_sim.specs.Known.{AreKnown}
 use Rattle.link_sim.specs.Observed.{seen}
-use Rattle.link_sim.specs.OneWay.{on_way}
 use Rattle.link_sim.specs.Stations.{other}
 use Rattle.link_sim.specs.Theorem.{put_of}
-use Rattle.link_sim.specs.World.State.{WorldState, entity_at, link_from, station_at, way_from}
+use Rattle.link_sim.specs.World.State.{WorldState, entity_at, lane_from, on_way_from, station_at}
 use Rattle.link_sim.specs.declared.event.AcceptedPut.{AcceptedPut}
 use Rattle.link_sim.specs.declared.side.Side.{Side}
 use Rattle.link_sim.specs.declared.side.Side.TheVariants.{One, Two}
 
 -- No frame of this station was lost, and none was dropped there for want of memory.
 pub record LosesNoneAt (s : Side) (w : WorldState) : Type 0 where
-  pub none_lost : list_any not (link_from s w).marks ≡ false
-  pub memory : count_of (station_at s w).up.drops 11 ≡ 0
+  pub none_lost : (l : Lane) → list_any not (lane_from s l w).marks ≡ false
+  pub memory : drop_count (station_at s w).up 11 ≡ 0
 
 abbrev pub LosesNone : WorldState → Type 0
 LosesNone w = (s : Side) → LosesNoneAt s w
@@ -36,8 +36,8 @@ StayOnCourse s w forth back = (put : Put) → put_of (seen w) put.id ≡ Some pu
 pub record KeepCourse (w : WorldState) : Type 0 where
   pub from_one : List Pdu
   pub from_two : List Pdu
-  pub spelled_one : AreSpelled (on_way (way_from One w)) from_one
-  pub spelled_two : AreSpelled (on_way (way_from Two w)) from_two
+  pub spelled_one : AreSpelled (on_way_from One w) from_one
+  pub spelled_two : AreSpelled (on_way_from Two w) from_two
   pub known : AreKnown (put_of (seen w)) (entity_at One w) (entity_at Two w) from_one from_two
   pub kinds : (s : Side) → length (entity_at s w).drops ≡ 18
   pub puts_of_one : StayOnCourse One w from_one from_two

@@ -10,13 +10,12 @@ use Rattle.link_sim.specs.Between.{Pdu, of_id, IsReceiverIn, AreSpelled}
 use Rattle.link_sim.specs.Exchange.{tells_complete}
 use Rattle.link_sim.specs.Known.{AreKnown}
 use Rattle.link_sim.specs.Observed.{seen}
-use Rattle.link_sim.specs.OneWay.{arriving}
 use Rattle.link_sim.specs.Runs.{Exchange, Runs, TellsMore, expire_sender, ReceiverExpires}
 use Rattle.link_sim.specs.Stations.{other}
 use Rattle.link_sim.specs.Stages.{AreWaitedBySender, AreWaitedByReceiver}
 use Rattle.link_sim.specs.Theorem.{put_of}
 use Rattle.link_sim.specs.Waiting.{one_tells}
-use Rattle.link_sim.specs.World.State.{WorldState, entity_at, way_from}
+use Rattle.link_sim.specs.World.State.{WorldState, arriving_from, entity_at}
 use Rattle.link_sim.specs.declared.side.Side.{Side}
 
 -- A put that this station made.
@@ -38,8 +37,8 @@ pub record IsExchange (put : Put) (mine theirs : EntityState) (forth back : List
 pub record HasExchange (s : Side) (put : Put) (w : WorldState) (e : Exchange) : Type 0 where
   pub forth : List Pdu
   pub back : List Pdu
-  pub spelled : AreSpelled (arriving (way_from s w)) forth
-  pub spelled_back : AreSpelled (arriving (way_from (other s) w)) back
+  pub spelled : AreSpelled (arriving_from s w) forth
+  pub spelled_back : AreSpelled (arriving_from (other s) w) back
   pub known : AreKnown (put_of (seen w)) (entity_at s w) (entity_at (other s) w) forth back
   pub is : IsExchange put (entity_at s w) (entity_at (other s) w) forth back e
 

@@ -1,4 +1,5 @@
--- One direction of a link: what was sent, what became of its frames, and what was delivered.
+-- One lane of a direction of a link: what was sent, what became of its frames, and what was
+-- delivered.
 use Rattle.std.specs.Prelude.{◌≡◌, ◌≢◌, ℕ, ◌+◌, ◌-◌, ◌*◌, ◌^◌, ◌<◌, ◌≤◌, ◌⊎◌, ◌==◌, ◌&&◌, Bool, true, false, List, [], ◌∷◌, ◌++◌, length, drop, map, not, replicate, slice_index_or, nat_le, nat_lt, if◌then◌else◌}
 use Rattle.std.specs.List.{list_any}
 use Rattle.aos_frame.specs.Frame.{IsLink}

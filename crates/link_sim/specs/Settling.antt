@@ -1,8 +1,10 @@
 -- What a settled world is, and what ends a settling before.
 use Rattle.std.specs.Prelude.{◌≡◌, ◌≢◌, ◌⊎◌, ℕ, ◌-◌, ◌^◌, ◌<◌, List, [], ◌∷◌, length, get_or, codes}
 use Rattle.mpdu.specs.Packing.{flush_of}
-use Rattle.link_stack.specs.Downward.{packing}
-use Rattle.link_stack.specs.Drops.{count_of}
+use Rattle.aos_frame.specs.declared.config.Lane.{Lane}
+use Rattle.aos_frame.specs.declared.config.Lane.TheVariants.{Directives, Data}
+use Rattle.link_stack.specs.Downward.{lane_down, packing}
+use Rattle.link_stack.specs.Upward.{drop_count}
 use Rattle.cfdp_entity.specs.Polling.{Rests, turn}
 use Rattle.cfdp_entity.specs.Table.{most_records}
 use Rattle.cfdp_station.specs.Station.{StationState}
@@ -20,21 +22,21 @@ use Rattle.link_sim.specs.Theorem.{WorldSeen, HoldsAt, Follows}
 use Rattle.link_sim.specs.World.State.{WorldState, station_at, entity_at}
 use Rattle.link_sim.specs.World.Steps.{FindsNoMemory, NoneWaits, NoneWhole, Steps, WantsMemory, side_in}
 
--- Nothing is due at either station, no whole zone waits there, no flush would make a frame, and no
--- frame waits.
+-- Nothing is due at either station, and in neither lane a whole zone waits there, a flush would
+-- make a frame, or a frame waits.
 pub record IsSettledAt (s : Side) (w : WorldState) : Type 0 where
   pub rests : turn (entity_at s w) ≡ Rests
-  pub none_whole : NoneWhole s w
-  pub filled : flush_of (packing (station_at s w).down) ≡ []
-  pub none_waits : NoneWaits s w
+  pub none_whole : (l : Lane) → NoneWhole s l w
+  pub filled : (l : Lane) → flush_of (packing (lane_down l (station_at s w).down)) ≡ []
+  pub none_waits : (l : Lane) → NoneWaits s l w
 
 abbrev pub IsSettled : WorldState → Type 0
 IsSettled w = (s : Side) → IsSettledAt s w
 
 -- Nothing is due at this station, and no flush would make a frame there.
 abbrev pub HasSent : Side → WorldState → Type 0
-HasSent s w =
-    (turn (entity_at s w) ≡ Rests) × (flush_of (packing (station_at s w).down) ≡ [])
+HasSent s w = (turn (entity_at s w) ≡ Rests)
+    × ((l : Lane) → flush_of (packing (lane_down l (station_at s w).down)) ≡ [])
 
 -- Where the promises hold of the old world, more happened up to the new one, and they hold of it.
 pub record LeadsTo (old new : WorldSeen) : Type 0 where
@@ -46,17 +48,19 @@ pub record LeadsTo (old new : WorldSeen) : Type 0 where
 abbrev pub IsOfSettling : Event → Type 0
 IsOfSettling (event.Poll s) = Unit {0}
 IsOfSettling (event.Flush s) = Unit {0}
-IsOfSettling (event.Deliver s) = Unit {0}
+IsOfSettling (event.Deliver s l) = Unit {0}
 IsOfSettling _ = ⊥
 
 -- In a round the first station polls and flushes, then the second one, and what waits of the first
--- is delivered, and then of the second. Behind that comes the next round.
+-- is delivered, and then of the second: of each the lane of directives first. Behind that comes the
+-- next round.
 abbrev pub next_of : Event → Event
 next_of (event.Poll s) = event.Flush s
 next_of (event.Flush One) = event.Poll Two
-next_of (event.Flush Two) = event.Deliver One
-next_of (event.Deliver One) = event.Deliver Two
-next_of (event.Deliver Two) = event.Poll One
+next_of (event.Flush Two) = event.Deliver One Directives
+next_of (event.Deliver s Directives) = event.Deliver s Data
+next_of (event.Deliver One Data) = event.Deliver Two Directives
+next_of (event.Deliver Two Data) = event.Poll One
 next_of e = e
 
 -- what comes behind an event: the same once more where it did something, and else the next one
@@ -95,7 +99,7 @@ OnlySettles old new = SettlesFrom first_event first_event old new
 -- room for a transaction or an acknowledgement
 abbrev pub shortages : StationState → Shortages
 shortages s = record {
-  link_memory = count_of s.up.drops 11;
+  link_memory = drop_count s.up 11;
   memory = get_or s.entity.state.drops 16 0;
   outbox = s.entity.outbox_failures;
   inbox = s.entity.inbox_failures;

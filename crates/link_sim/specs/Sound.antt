@@ -9,11 +9,10 @@ use Rattle.cfdp_entity.specs.Sound.{IsSound as IsSoundEntity, SaysDelivered}
 use Rattle.link_sim.specs.declared.side.Side.{Side}
 use Rattle.link_sim.specs.declared.event.AcceptedPut.{AcceptedPut}
 use Rattle.link_sim.specs.Observed.{seen}
-use Rattle.link_sim.specs.OneWay.{IsOneWay, pdus_sent, pdus_delivered}
 use Rattle.link_sim.specs.Stations.{other}
 use Rattle.link_sim.specs.Theorem.{put_of}
 use Rattle.link_sim.specs.Work.{AreWithin, most_offset}
-use Rattle.link_sim.specs.World.State.{WorldState, entity_at, way_from}
+use Rattle.link_sim.specs.World.State.{WorldState, AreWays, delivered_from, entity_at, sent_from}
 
 -- A PDU that a station sent tells the truth of its puts, and that a file was delivered only where
 -- the station completed it.
@@ -23,13 +22,12 @@ SentTruly s w text = (h : Header) (v : Content) → SpellsPdu h v text →
     SaysTruth e.config.entity (put_of (seen w)) h.id v
     × SaysDelivered e.config.entity e.table.told h.id v
 
--- What holds of one station, the direction on which it sends, and what it heard.
+-- What holds of one station, both lanes on which it sends, and what it heard.
 pub record IsSoundAt (s : Side) (w : WorldState) : Type 0 where
-  pub way : IsOneWay (way_from s w)
+  pub ways : AreWays s w
   pub first : FileMap
-  pub entity : IsSoundEntity (put_of (seen w)) (pdus_delivered (way_from (other s) w)) first
-      (entity_at s w)
-  pub sent : (text : List ℕ) → Contains (pdus_sent (way_from s w)) text → SentTruly s w text
+  pub entity : IsSoundEntity (put_of (seen w)) (delivered_from (other s) w) first (entity_at s w)
+  pub sent : (text : List ℕ) → Contains (sent_from s w) text → SentTruly s w text
   pub peer : (entity_at s w).config.peer ≡ (entity_at (other s) w).config.entity
   pub within : AreWithin most_offset (entity_at s w).table.records
   -- each put has a number of its station, below that of the next one

@@ -20,7 +20,7 @@ use Rattle.link_sim.specs.Stations.{other}
 -- ---- what is seen
 -- Of a station: its entity's id and the checksum type of its puts, the files that it can send, the
 -- files of its inbox, what it told its user, the PDUs that it put on the link, and those that were
--- delivered to it, each in order.
+-- delivered to it, in order within a lane.
 pub record StationSeen : Type 0 where
   pub entity : ℕ
   pub checksum_kind : ℕ

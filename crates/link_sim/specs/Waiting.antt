@@ -20,10 +20,9 @@ use Rattle.cfdp_entity.specs.Seen.{Seen, Sends, Receives}
 use Rattle.cfdp_entity.specs.Table.{record_of}
 use Rattle.link_sim.specs.Clean.{IsCompleteAt}
 use Rattle.link_sim.specs.Observed.{seen}
-use Rattle.link_sim.specs.OneWay.{on_way}
 use Rattle.link_sim.specs.Stations.{other}
 use Rattle.link_sim.specs.Theorem.{side_of}
-use Rattle.link_sim.specs.World.State.{WorldState, entity_at, way_from}
+use Rattle.link_sim.specs.World.State.{WorldState, entity_at, on_way_from}
 use Rattle.link_sim.specs.declared.event.AcceptedPut.{AcceptedPut}
 use Rattle.link_sim.specs.declared.side.Side.{Side}
 
@@ -108,7 +107,7 @@ pub record IsWaiting (id : TransactionId) (w : WorldState) : Type 0 where
 pub record IsComing (id : TransactionId) (w : WorldState) : Type 0 where
   pub to : Side
   pub text : List ℕ
-  pub among : Contains (on_way (way_from (other to) w)) text
+  pub among : Contains (on_way_from (other to) w) text
   pub header : Header
   pub content : Content
   pub spells : SpellsPdu header content text

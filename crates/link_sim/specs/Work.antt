@@ -18,8 +18,10 @@ use Rattle.cfdp_entity.specs.Entity.{EntityState}
 use Rattle.cfdp_entity.specs.Seen.{Seen, Sends, Receives}
 use Rattle.cfdp_entity.specs.Table.{Entry}
 use Rattle.cfdp_directives.specs.Pdu.Codes.{size_limit}
-use Rattle.link_sim.specs.OneWay.{OneWayState, on_way}
-use Rattle.link_sim.specs.World.State.{WorldState, way_from}
+use Rattle.aos_frame.specs.declared.config.Lane.TheVariants.{Directives, Data}
+use Rattle.link_sim.specs.OneWay.{OneWayState}
+use Rattle.link_sim.specs.World.State.{WorldState, on_way_from, way_from}
+use Rattle.link_sim.specs.declared.side.Side.{Side}
 use Rattle.link_sim.specs.declared.side.Side.TheVariants.{One, Two}
 
 -- how many offsets of a set lie below n
@@ -165,14 +167,18 @@ most_offset = size_limit true
 abbrev pub pdus_left : WorldState → ℕ
 pdus_left w = entity_work most_offset w.one.entity.state
     + entity_work most_offset w.two.entity.state
-    + texts_work most_offset (on_way (way_from One w))
-    + texts_work most_offset (on_way (way_from Two w))
+    + texts_work most_offset (on_way_from One w)
+    + texts_work most_offset (on_way_from Two w)
 
--- the octets and frames of a direction: 2 for each octet that waits, and 1 for each frame that does
+-- the octets and frames of a lane: 2 for each octet that waits, and 1 for each frame that does
 abbrev pub octets_left : OneWayState → ℕ
 octets_left w = 2 * length w.down.waiting + (length w.frames - length w.marks)
+
+-- of both lanes
+abbrev pub octets_left_from : Side → WorldState → ℕ
+octets_left_from s w = octets_left (way_from s Directives w) + octets_left (way_from s Data w)
 
 -- A PDU that is sent lowers the first number, and raises the others by no more than its packet of
 -- 65,542 octets at most may.
 unfoldable pub world_work : WorldState → ℕ
-world_work w = 131085 * pdus_left w + octets_left (way_from One w) + octets_left (way_from Two w)
+world_work w = 131085 * pdus_left w + octets_left_from One w + octets_left_from Two w

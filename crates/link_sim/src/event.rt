@@ -1,4 +1,5 @@
 use crate::side::Side;
+use aos_frame::Lane;
 use cfdp_directives::Octets;
 use cfdp_entity::{CallError, PutError};
 use cfdp_header::TransactionId;
@@ -39,17 +40,17 @@ pub enum Event {
     },
     /// A station sends its next PDU, where one is due.
     Poll(Side),
-    /// A station fills its begun frame, where one is begun.
+    /// A station fills its begun frame of each lane, where one is begun.
     Flush(Side),
     /// A station is told the time, and timers that are due expire.
     Tick {
         at: Side,
         now: u64,
     },
-    /// The oldest waiting frame that this station sent reaches the other one.
-    Deliver(Side),
-    /// The oldest waiting frame that this station sent is lost.
-    Strike(Side),
+    /// The oldest waiting frame that this station sent in this lane reaches the other one.
+    Deliver(Side, Lane),
+    /// The oldest waiting frame that this station sent in this lane is lost.
+    Strike(Side, Lane),
 }
 
 /// What an event did.
@@ -70,7 +71,7 @@ pub enum Refusal {
     Put(PutError),
     /// The station refused the call on a transaction.
     Call(CallError),
-    /// The last [`MOST_STRUCK`](crate::MOST_STRUCK) frames taken of this direction were struck: one
+    /// The last [`MOST_STRUCK`](crate::MOST_STRUCK) frames taken of this lane were struck: one
     /// more would be taken for none.
     LossRunTooLong,
 }

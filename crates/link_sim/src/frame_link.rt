@@ -1,41 +1,44 @@
-//! The frames of one direction of a link.
-ghost use Rattle.std.specs.Prelude.{◌≡◌, ◌≢◌, ◌+◌, ◌*◌, ◌<◌, ◌≤◌, ◌↔◌, ◌⊎◌, ◌++◌, [], ◌∷◌, true, false, length, take, drop, slice_index_or, OnOk, IfSome, MatchOption};
-ghost use Rattle.cfdp_station.specs.Link.{MakesFrame};
+//! The frames of one lane of a direction of a link.
+ghost use Rattle.std.specs.Prelude.{◌≡◌, ◌≢◌, ◌+◌, ◌*◌, ◌<◌, ◌≤◌, ◌↔◌, ◌++◌, [], ◌∷◌, true, false, length, take, drop, slice_get, slice_index_or, OnOk, Some, IfSome, MatchOption};
+ghost use Rattle.aos_frame.specs.Frame.{other_lane};
+ghost use Rattle.aos_frame.specs.declared.config.Lane.{Lane};
+ghost use Rattle.link_stack.specs.Downward.{MakesFrame, frame_lane, lane_down};
 ghost use Rattle.cfdp_station.specs.Station.{KeepsRest};
-ghost use Rattle.link_sim.specs.FrameLink.{most_struck, mark_at, oldest};
-ghost use Rattle.link_sim.specs.AtStation.{AddsNone, IsSameEnd, IsSameMarks};
+ghost use Rattle.link_sim.specs.FrameLink.{most_struck, mark_at, oldest, oldest_place};
+ghost use Rattle.link_sim.specs.AtStation.{AddsNone, AreSameEnds, IsSameMarks};
 ghost use Rattle.link_sim.specs.declared.mark.Loss.TheVariants as losses;
 
 use crate::loss_run::LossRun;
 use crate::mark::{Loss, Mark};
+use aos_frame::Lane;
 use cfdp_station::Station;
 use cfdp_store::{Inbox, Outbox};
 use std::alloc::{AllocError, Global};
 use std::marker::Model;
 
-/// Makes the oldest whole zone that waits at a station a frame, in `len` octets from octet `at` on;
-/// false where none waits. All other octets stay.
+/// Makes the oldest whole zone that waits at a station a frame, in the octets from octet `at` on.
+/// It is one of this lane. All other octets stay.
 fn write_frame<O: Outbox, I: Inbox>(
     station: &mut Station<O, I>,
+    lane: Lane,
     octets: &mut [u8],
     at: usize,
-    len: usize,
-) -> bool
-    requires room { at + len ≤ length octets.old }
-    requires len { len ≡ 8 + station.old.down.link.zone }
-    ensures none { (result ≡ false)
-        ↔ (length station.old.down.waiting < station.old.down.link.zone) }
-    ensures kept { result ≡ false → (station.new ≡ station.old) × (octets.new ≡ octets.old) }
-    ensures made { result ≡ true → MakesFrame (take len (drop at octets.new)) station.old.down
-        station.new.down }
+)
+    requires lane { frame_lane station.old.down ≡ Some lane }
+    requires room { at + (8 + (lane_down lane station.old.down).link.zone) ≤ length octets.old }
+    ensures made { MakesFrame
+        (take (8 + (lane_down lane station.old.down).link.zone) (drop at octets.new))
+        (lane_down lane station.old.down) (lane_down lane station.new.down) }
+    ensures other { lane_down (other_lane lane) station.new.down
+        ≡ lane_down (other_lane lane) station.old.down }
+    ensures packet_count { station.new.down.packet_count ≡ station.old.down.packet_count }
     ensures front { take at octets.new ≡ take at octets.old }
     ensures whole { length octets.new ≡ length octets.old }
-    ensures fixed { IsSameEnd station.old.down station.new.down }
     ensures rest { KeepsRest station.old station.new }
 {
     let (_, behind) = octets.split_at_mut(at);
-    let (frame, _) = behind.split_at_mut(len);
-    station.next_frame(frame)
+    let (frame, _) = behind.split_at_mut(station.frame_len());
+    let _ = station.next_frame(frame);
 }
 
 /// How many octets so many frames have, and so many more; `None` where that is no `usize`.
@@ -45,7 +48,7 @@ fn octets_of(frames: usize, more: usize, len: usize) -> Option<usize>
     frames.checked_add(more)?.checked_mul(len)
 }
 
-/// The frames that one station sent, in order, and what became of them.
+/// The frames that one station sent in one lane, in order, and what became of them.
 ///
 /// They stand in one buffer. Room for more is made ahead, by [`make_room`](Self::make_room); so to
 /// take one from the station's end needs no memory, nor to mark it.
@@ -59,6 +62,8 @@ pub struct FrameLink {
     blanks: usize,
     // The frames, one behind the other, and behind them the octets of those to come.
     octets: Vec<u8>,
+    // Of each frame: how many of both lanes were sent before it. All frames have room.
+    places: Vec<usize>,
     // Of those that no longer wait: true where delivered. All frames have room, those to come too.
     marks: Vec<bool>,
     run: LossRun,
@@ -72,6 +77,7 @@ impl Model for FrameLink {
 
     ghost view = { λ l. record {
       frames = pieces l.len l.count l.octets.items;
+      places = l.places.items;
       marks =
           l.marks.items;
       run = l.run;
@@ -80,20 +86,30 @@ impl Model for FrameLink {
     } };
 
     ghost invariant = { λ l. (length l.octets.items ≡ (l.count + l.blanks) * l.len)
-        × (l.count + l.blanks ≤ vec_capacity l.marks) };
+        × (l.count + l.blanks ≤ vec_capacity l.marks)
+        × (length l.places.items ≡ l.count)
+        × (l.count + l.blanks ≤ vec_capacity l.places) };
 }
 
 impl FrameLink {
     /// Nothing was sent; frames will have `len` octets. It takes no memory.
     #[tactic(auto, using(crate::proofs::Ways::Placing::pieces_none))]
     pub fn new(alloc: Global, len: usize) -> Self
-        ensures { result ≡ record { frames = []; marks = []; run = 0; blanks = 0; len = len } }
+        ensures { result ≡ record {
+          frames = [];
+          places = [];
+          marks = [];
+          run = 0;
+          blanks = 0;
+          len = len;
+        } }
     {
         FrameLink {
             len,
             count: 0,
             blanks: 0,
             octets: Vec::new(alloc),
+            places: Vec::new(alloc),
             marks: Vec::new(alloc),
             run: LossRun::new(),
         }
@@ -109,6 +125,7 @@ impl FrameLink {
         ensures grows { self.old.blanks ≤ self.new.blanks }
         ensures kept { (self.new.frames ≡ self.old.frames) × (self.new.marks ≡ self.old.marks)
             × (self.new.run ≡ self.old.run) × (self.new.len ≡ self.old.len) }
+        ensures places { self.new.places ≡ self.old.places }
     {
         if count <= self.blanks {
             return Ok(());
@@ -118,28 +135,39 @@ impl FrameLink {
         };
         let marks = self.count.saturating_add(count);
         self.marks.reserve(marks.saturating_sub(self.marks.len()))?;
+        self.places.reserve(count)?;
         self.octets.resize(octets, 0)?;
         self.blanks = count;
         Ok(())
     }
 
-    /// Takes the oldest whole zone that waits at a station as a frame, where it has room.
+    /// Takes the oldest whole zone that waits at a station in this lane as a frame, where it has
+    /// room; it leaves next. So many frames of both lanes were sent before it.
     ///
-    /// False where none waits, or there is no room: nothing changed then.
-    pub fn pull<O: Outbox, I: Inbox>(&mut self, station: &mut Station<O, I>) -> bool
-        requires { self.old.len ≡ 8 + station.old.down.link.zone }
-        ensures none { (result ≡ false)
-            ↔ ((length station.old.down.waiting < station.old.down.link.zone)
-            ⊎ (self.old.blanks ≡ 0)) }
+    /// False where there is no room: nothing changed then.
+    pub fn pull<O: Outbox, I: Inbox>(
+        &mut self,
+        station: &mut Station<O, I>,
+        lane: Lane,
+        place: usize,
+    ) -> bool
+        requires lane { frame_lane station.old.down ≡ Some lane }
+        requires len { self.old.len ≡ 8 + (lane_down lane station.old.down).link.zone }
+        ensures none { (result ≡ false) ↔ (self.old.blanks ≡ 0) }
         ensures kept { result ≡ false → (self.new ≡ self.old) × (station.new ≡ station.old) }
-        // It adds nothing to what was sent, nor to what was delivered.
-        ensures way { AddsNone station.old.down station.new.down self.old self.new }
-        ensures left { result ≡ true → station.new.down.waiting
-            ≡ drop station.old.down.link.zone station.old.down.waiting }
+        // It adds nothing to what was sent in the lane, nor to what was delivered.
+        ensures way { AddsNone (lane_down lane station.old.down) (lane_down lane station.new.down)
+            self.old self.new }
+        ensures left { result ≡ true → (lane_down lane station.new.down).waiting
+            ≡ drop (lane_down lane station.old.down).link.zone
+            (lane_down lane station.old.down).waiting }
         ensures used { result ≡ true → self.new.blanks + 1 ≡ self.old.blanks }
         ensures grown { result ≡ true →
             length self.new.frames ≡ length self.old.frames + 1 }
-        ensures fixed { IsSameEnd station.old.down station.new.down }
+        ensures placed { result ≡ true → self.new.places ≡ self.old.places ++ place ∷ [] }
+        ensures other { lane_down (other_lane lane) station.new.down
+            ≡ lane_down (other_lane lane) station.old.down }
+        ensures fixed { AreSameEnds station.old.down station.new.down }
         ensures rest { KeepsRest station.old station.new }
         ensures marks { IsSameMarks self.old self.new }
     {
@@ -147,12 +175,27 @@ impl FrameLink {
             return false;
         }
         let at = self.count * self.len;
-        if !write_frame(station, &mut self.octets, at, self.len) {
-            return false;
-        }
+        write_frame(station, lane, &mut self.octets, at);
+        let _ = self.places.push(place);
         self.count += 1;
         self.blanks -= 1;
         true
+    }
+
+    /// How many frames of both lanes were sent before the oldest that waits in this one; `None`
+    /// where none waits.
+    pub fn oldest_place(&self) -> Option<usize>
+        ensures place { result ≡ oldest_place self.now }
+        ensures waits { MatchOption result (length self.now.frames ≤ length self.now.marks)
+            (λ _. length self.now.marks < length self.now.frames) }
+    {
+        self.place(self.marks.len())
+    }
+
+    fn place(&self, frame: usize) -> Option<usize>
+        ensures { result ≡ slice_get self.now.places frame }
+    {
+        self.places.get(frame).copied()
     }
 
     /// How many frames were sent.

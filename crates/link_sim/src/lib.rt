@@ -4,6 +4,7 @@
 
 mod event;
 mod frame_link;
+mod frame_links;
 mod looking;
 mod loss_run;
 mod mark;
@@ -22,8 +23,10 @@ mod witness;
 mod world;
 mod world_config;
 
+pub use aos_frame::Lane;
 pub use event::{AcceptedPut, Applied, Event, Refusal};
 pub use frame_link::FrameLink;
+pub use frame_links::FrameLinks;
 pub use loss_run::{LossRun, MOST_STRUCK};
 pub use mark::{Loss, Mark};
 pub use memory_world::MemoryWorld;

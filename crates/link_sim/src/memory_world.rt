@@ -12,6 +12,7 @@ use crate::stations::Stations;
 use crate::witness::Witness;
 use crate::world::World;
 use crate::world_config::WorldConfig;
+use aos_frame::Lane;
 use cfdp_directives::Indication;
 use cfdp_store::{Files, MemoryInbox, MemoryOutbox};
 use std::alloc::{AllocError, Global};
@@ -74,6 +75,10 @@ impl<W: Witness> Stations for MemoryWorld<W> {
 
     fn apply(&mut self, event: &Event) -> Result<Applied, AllocError> {
         self.world.apply(event)
+    }
+
+    fn first_sent(&self, side: Side) -> Option<Lane> {
+        self.world.frames(side).first_sent()
     }
 
     fn spread(&mut self, side: Side) -> Result<(), AllocError> {

@@ -6,14 +6,13 @@ ghost use Rattle.cfdp_header.specs.Files.{FileMap};
 ghost use Rattle.link_sim.specs.Clean.{AllComplete, IsClean};
 ghost use Rattle.link_sim.specs.EveryPut.{KeepsPuts};
 ghost use Rattle.link_sim.specs.Observed.{seen};
-ghost use Rattle.link_sim.specs.OneWay.{IsOneWay, IsRested};
 ghost use Rattle.link_sim.specs.Running.{KeepsPromises, Led};
 ghost use Rattle.link_sim.specs.Settling.{DropsWhereFull, IsOfSettling, IsSettled, KeepsAll, all_shortages};
 ghost use Rattle.link_sim.specs.Sound.{IsSound};
 ghost use Rattle.link_sim.specs.Found.{ExpiresOn};
 ghost use Rattle.link_sim.specs.Tracks.{KeepsPutsOf, RunsAlong};
 ghost use Rattle.link_sim.specs.Theorem.{HoldsAt, FoldsAt, at, put_of, completions_at};
-ghost use Rattle.link_sim.specs.World.State.{WorldState, IsFirst, entity_at, way_from, files_at};
+ghost use Rattle.link_sim.specs.World.State.{AreRested, AreWays, WorldState, IsFirst, entity_at, files_at};
 ghost use Rattle.link_sim.specs.World.Steps.{Stays, Steps, TakesPut, TellsTime};
 ghost use Rattle.link_sim.specs.Stations.{IsWorldConfig};
 ghost use Rattle.link_sim.specs.Work.{world_work};
@@ -44,7 +43,7 @@ pub fn worlds_keep_the_promises()
 /// What every world keeps holds of a new one and after each event, and the promises follow from it.
 pub(crate) fn events_keep_the_promises()
     ensures first { (c : WorldConfig) (outboxes inboxes : FileMap × FileMap) (w : WorldState) →
-        IsWorldConfig c → IsFirst c outboxes inboxes w → ((s : Side) → IsOneWay (way_from s w))
+        IsWorldConfig c → IsFirst c outboxes inboxes w → ((s : Side) → AreWays s w)
         → IsSound w }
     ensures inboxes { (c : WorldConfig) (outboxes inboxes : FileMap × FileMap) (w : WorldState)
         (s : Side) → IsWorldConfig c → IsFirst c outboxes inboxes w → (at s (seen w)).inbox
@@ -62,7 +61,7 @@ pub(crate) fn events_keep_the_promises()
     ensures folds_none { (s : Side) (old new : WorldState) (t : Side) → IsSound old
         → Stays s old new → FoldsAt t (seen old) (seen new) }
     ensures less { (e : Event) (old new : WorldState) → IsSound old
-        → ((s : Side) → IsRested (way_from s old)) → ((s : Side) → IsRested (way_from s new))
+        → ((s : Side) → AreRested s old) → ((s : Side) → AreRested s new)
         → IsOfSettling e → Steps e dids.Applied old new → world_work new < world_work old }
     ensures holds { (w : WorldState) (s : Side) → IsSound w → HoldsAt s (seen w) }
     ensures puts_first { (c : WorldConfig) (outboxes inboxes : FileMap × FileMap)
@@ -90,7 +89,7 @@ pub(crate) fn events_keep_the_promises()
     ensures full_none { (s : Side) (old new : WorldState) → Stays s old new
         → DropsWhereFull old new }
     ensures completes { (w : WorldState) → IsSound w → KeepsPuts w
-        → ((s : Side) → IsRested (way_from s w)) → IsSettled w → IsClean w → AllComplete w }
+        → ((s : Side) → AreRested s w) → IsSettled w → IsClean w → AllComplete w }
 {
     cfdp_entity::an_entity_keeps_the_truth();
     cfdp_entity::an_entity_goes_on();

@@ -5,11 +5,13 @@ ghost use Rattle.link_sim.specs.Observed.{seen};
 ghost use Rattle.link_sim.specs.Onward.{GoesOn, GoesOnFrom};
 ghost use Rattle.link_sim.specs.Settling.{Ends, GoesWell, HasCause, HasCauseFrom, HasSent, IsOfSettling, IsSettled, LeadsTo, all_shortages, next_of};
 ghost use Rattle.link_sim.specs.Theorem.{HoldsAt, Follows};
-ghost use Rattle.link_sim.specs.World.Steps.{NoneWhole, Steps};
+ghost use Rattle.link_sim.specs.World.Steps.{NoneWaits, NoneWhole, Steps};
 ghost use Rattle.link_sim.specs.Work.{world_work};
 ghost use Rattle.link_sim.specs.declared.event.Applied.TheVariants as did;
 ghost use Rattle.link_sim.specs.declared.event.Event.TheVariants as events;
 ghost use Rattle.link_sim.specs.declared.side.Side.{Side};
+ghost use Rattle.aos_frame.specs.declared.config.Lane.{Lane};
+ghost use Rattle.aos_frame.specs.declared.config.Lane.TheVariants as lanes;
 
 use crate::event::{Applied, Event};
 use crate::promises::events_keep_the_promises;
@@ -18,6 +20,7 @@ use crate::shortages::{Shortages, shortage_since};
 use crate::side::Side;
 use crate::witness::Witness;
 use crate::world::World;
+use aos_frame::Lane;
 use cfdp_store::{Inbox, Outbox};
 
 impl<O: Outbox, I: Inbox, W: Witness> World<O, I, W> {
@@ -25,7 +28,8 @@ impl<O: Outbox, I: Inbox, W: Witness> World<O, I, W> {
     /// would make a frame, and no frame waits.
     ///
     /// A round polls and flushes the first station, then the second, and delivers all that waits of
-    /// the first, then of the second. Nothing is put, struck, cancelled, and no time is told.
+    /// the first, then of the second, of each directives first. Nothing is put, struck, cancelled,
+    /// and no time is told.
     ///
     /// # Errors
     ///
@@ -83,7 +87,7 @@ impl<O: Outbox, I: Inbox, W: Witness> World<O, I, W> {
 
     /// Shows that all whole zones are on the link.
     fn show_none_whole(&self)
-        ensures { (s : Side) → NoneWhole s self.now }
+        ensures { (s : Side) (lane : Lane) → NoneWhole s lane self.now }
     {
         self.stations.show_rest();
     }
@@ -99,10 +103,28 @@ impl<O: Outbox, I: Inbox, W: Witness> World<O, I, W> {
     {
         let one = self.send_all(Side::One)?;
         let two = self.send_all(Side::Two)?;
-        let from_one = self.repeat(&Event::Deliver(Side::One))?;
-        let from_two = self.repeat(&Event::Deliver(Side::Two))?;
+        let from_one = self.deliver_all(Side::One)?;
+        let from_two = self.deliver_all(Side::Two)?;
         self.show_none_whole();
         Ok(one || two || from_one || from_two)
+    }
+
+    /// All that waits of a station is delivered.
+    fn deliver_all(&mut self, side: Side) -> Result<bool, SettleError>
+        ensures leads { LeadsTo (seen self.old) (seen self.new) }
+        ensures less { IfOk result (λ happened. happened ≡ true
+            → world_work self.new < world_work self.old) }
+        ensures same { IfOk result (λ happened. happened ≡ false → self.new ≡ self.old) }
+        ensures none_waits { IfOk result (λ happened. happened ≡ false
+            → (lane : Lane) → NoneWaits side lane self.new) }
+        ensures well { OnOk result (GoesOnFrom (events.Deliver side lanes.Directives)
+            (next_of (events.Deliver side lanes.Data)) self.old self.new) }
+        ensures cause { IfErr result (λ error.
+            HasCauseFrom (events.Deliver side lanes.Directives) error self.old self.new) }
+    {
+        let directives = self.repeat(&Event::Deliver(side, Lane::Directives))?;
+        let file_data = self.repeat(&Event::Deliver(side, Lane::Data))?;
+        Ok(directives || file_data)
     }
 
     /// A station sends all that is due, and its begun frame.

@@ -2,17 +2,19 @@
 //!
 //! What is promised of a world, the delivery theorem first, holds whatever is done by these calls.
 //! It stands in no goal of functions that take any `Stations`.
-ghost use Rattle.std.specs.Prelude.{◌≡◌, IfErr, IfOk, OnErr, OnOk};
+ghost use Rattle.std.specs.Prelude.{◌≡◌, ◌<◌, length, MatchOption, IfErr, IfOk, OnErr, OnOk};
 ghost use Rattle.link_sim.specs.Recovering.{EndsBy, IsRecovered, Recovers};
 ghost use Rattle.link_sim.specs.Settling.{GoesWell, HasCause, IsSettled};
 ghost use Rattle.link_sim.specs.Spreading.{BurstFindsNoMemory, Bursts, SpreadFindsNoMemory, Spreads};
-ghost use Rattle.link_sim.specs.World.State.{WorldState, entity_at};
-ghost use Rattle.link_sim.specs.World.Steps.{Steps, WantsMemory};
+ghost use Rattle.link_sim.specs.World.State.{WorldState, entity_at, lane_from};
+ghost use Rattle.link_sim.specs.World.Steps.{NoneWaits, Steps, WantsMemory};
+ghost use Rattle.aos_frame.specs.declared.config.Lane.{Lane};
 
 use crate::event::{Applied, Event};
 use crate::recover_error::RecoverError;
 use crate::settle_error::SettleError;
 use crate::side::Side;
+use aos_frame::Lane;
 use cfdp_directives::Indication;
 use cfdp_store::Files;
 use std::alloc::AllocError;
@@ -36,6 +38,13 @@ pub trait Stations: Drop {
         ensures did { IfOk result (λ did. Steps event.now did (world self.old) (world self.new)) }
         ensures err { OnErr result (world self.new ≡ world self.old) }
         ensures lacks { OnErr result (WantsMemory event.now) };
+
+    /// The lane of the frame that a station sent first, of all of its frames that wait; `None`
+    /// where none does.
+    fn first_sent(&self, side: Side) -> Option<Lane>
+        ensures { MatchOption result ((lane : Lane) → NoneWaits side lane (world self.now))
+            (λ lane. length (lane_from side lane (world self.now)).marks
+            < length (lane_from side lane (world self.now)).frames) };
 
     /// Polls a station until nothing is due there, and flushes it after each PDU.
     ///

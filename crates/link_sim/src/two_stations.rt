@@ -1,29 +1,32 @@
 //! Two stations and the frames between them, before anything is said of puts and files.
-ghost use Rattle.std.specs.Prelude.{◌≡◌, ◌≢◌, ℕ, ◌+◌, ◌*◌, ◌<◌, ◌≤◌, ◌⊎◌, ◌++◌, [], ◌∷◌, true, length, IfOk, OnErr};
+ghost use Rattle.std.specs.Prelude.{◌≡◌, ◌+◌, ◌*◌, ◌<◌, ◌≤◌, ◌⊎◌, true, false, length, None, IfOk, OnErr, OnOk};
 ghost use Rattle.cfd_bits.specs.Counting.{raised};
 ghost use Rattle.cfdp_entity.specs.Entity.{with_table};
 ghost use Rattle.cfdp_entity.specs.Table.{Ticks};
 ghost use Rattle.cfdp_entity.specs.declared.call.Call.TheVariants as call_kinds;
-ghost use Rattle.cfdp_station.specs.Link.{WaitAtMost};
+ghost use Rattle.aos_frame.specs.Frame.{other_lane};
+ghost use Rattle.aos_frame.specs.declared.config.Lane.{Lane};
+ghost use Rattle.cfdp_station.specs.Link.{HoldsAtMost, WaitAtMost};
 ghost use Rattle.cfdp_station.specs.Station.{KeepsLink, KeepsRest};
-ghost use Rattle.link_stack.specs.Downward.{LinkSenderState};
+ghost use Rattle.link_stack.specs.Downward.{frame_lane, lane_down};
+ghost use Rattle.link_sim.specs.FrameLink.{lane_of_links};
 ghost use Rattle.link_sim.specs.declared.event.Applied.TheVariants as dids;
-ghost use Rattle.link_sim.specs.AtStation.{AddsNone, CarriesOn, FlushesAt, HearsAt, IsReady, IsSameEnd, IsSameMarks, KeepsAt, KeepsOutbox, PollsAt, PutsAt, StrikesAt, answered};
-ghost use Rattle.link_sim.specs.OneWay.{IsCarried, IsOneWay, IsRested};
+ghost use Rattle.link_sim.specs.AtStation.{AreReady, AreSameLinks, AreSameMarks, CarryOn, FlushesAt, FrameArrivesAt, KeepsAt, KeepsOutbox, PollsAt, PullsAll, PullsOne, PutsAt, StrikesAt, answered};
 ghost use Rattle.link_sim.specs.World.State as state;
 ghost use Rattle.link_sim.specs.World.Steps as steps;
 ghost use Rattle.link_sim.specs.World.State.{station_at, link_from, IsFirst};
 ghost use Rattle.link_sim.specs.World.Steps.{Steps};
 ghost use Rattle.link_sim.specs.Stations.{IsWorldConfig};
 ghost use Rattle.link_sim.specs.declared.side.Side.{Side};
-ghost use Rattle.link_sim.specs.declared.side.Side.TheVariants as sides;
 
 use crate::event::{AcceptedPut, Applied, Event, Refusal};
 use crate::frame_link::FrameLink;
+use crate::frame_links::FrameLinks;
 use crate::mark::Loss;
 use crate::side::Side;
 use crate::world::let_go;
 use crate::world_config::WorldConfig;
+use aos_frame::Lane;
 use cfdp_directives::Octets;
 use cfdp_header::TransactionId;
 use cfdp_station::{CallError, Polled, PutError, Station};
@@ -38,8 +41,8 @@ pub(crate) struct TwoStations<O: Outbox, I: Inbox> {
     alloc: Global,
     one: Station<O, I>,
     two: Station<O, I>,
-    from_one: FrameLink,
-    from_two: FrameLink,
+    from_one: FrameLinks,
+    from_two: FrameLinks,
     puts: Vec<AcceptedPut>,
     ticks: u64,
 }
@@ -47,8 +50,10 @@ pub(crate) struct TwoStations<O: Outbox, I: Inbox> {
 impl<O: Outbox, I: Inbox> Model for TwoStations<O, I> {
     ghost use Rattle.std.specs.Prelude.{◌≤◌};
     ghost use Rattle.cfdp_entity.specs.Coded.{state_codes};
-    ghost use Rattle.link_sim.specs.OneWay.{IsCarried};
-    ghost use Rattle.link_sim.specs.World.State.{WorldState, seen_link};
+    ghost use Rattle.aos_frame.specs.declared.config.Lane.{Lane};
+    ghost use Rattle.link_stack.specs.Downward.{lane_down};
+    ghost use Rattle.link_sim.specs.AtStation.{AreCarried};
+    ghost use Rattle.link_sim.specs.World.State.{WorldState, seen_links};
 
     ghost Value = { WorldState };
 
@@ -57,16 +62,18 @@ impl<O: Outbox, I: Inbox> Model for TwoStations<O, I> {
     ghost view = { λ w. record {
       one = w.one;
       two = w.two;
-      from_one = seen_link w.from_one;
-      from_two = seen_link w.from_two;
+      from_one = seen_links w.from_one;
+      from_two = seen_links w.from_two;
       puts = w.puts.items;
       ticks = w.ticks;
     } };
 
-    // Both directions are carried, and a PDU of any kind has room where no whole frame waits.
-    ghost invariant = { λ w. IsCarried w.one.down w.from_one w.two.up
-        × IsCarried w.two.down w.from_two w.one.up
-        × (8192 ≤ w.one.down.capacity) × (8192 ≤ w.two.down.capacity) };
+    // Both lanes of both directions are carried, and a PDU of any kind has room in each where no
+    // whole frame waits.
+    ghost invariant = { λ w. AreCarried w.one.down w.from_one w.two.up
+        × AreCarried w.two.down w.from_two w.one.up
+        × ((lane : Lane) → 8192 ≤ (lane_down lane w.one.down).capacity)
+        × ((lane : Lane) → 8192 ≤ (lane_down lane w.two.down).capacity) };
 }
 
 impl<O: Outbox, I: Inbox> TwoStations<O, I> {
@@ -80,15 +87,14 @@ impl<O: Outbox, I: Inbox> TwoStations<O, I> {
         requires { IsWorldConfig config }
         ensures first { IfOk result (IsFirst config (O.files outboxes.0, O.files outboxes.1)
             (I.published inboxes.0, I.published inboxes.1)) }
-        // Both directions are carried, from the first frame on.
-        ensures ways { IfOk result (λ w. IsOneWay (state.way_from sides.One w)
-            × IsOneWay (state.way_from sides.Two w)) }
+        // Both lanes of both directions are carried, from the first frame on.
+        ensures ways { IfOk result (λ w. (side : Side) → state.AreWays side w) }
     {
         let one = Station::new(alloc, config.one, outboxes.0, inboxes.0)?;
         match Station::new(alloc, config.two, outboxes.1, inboxes.1) {
             Ok(two) => {
-                let from_one = FrameLink::new(alloc, one.frame_len());
-                let from_two = FrameLink::new(alloc, two.frame_len());
+                let from_one = FrameLinks::new(alloc, one.frame_len());
+                let from_two = FrameLinks::new(alloc, two.frame_len());
                 Ok(TwoStations {
                     alloc,
                     one,
@@ -130,9 +136,9 @@ impl<O: Outbox, I: Inbox> TwoStations<O, I> {
         }
     }
 
-    /// The frames that a station sent, with their marks, lent.
-    pub(crate) fn frames(&self, side: Side) -> &FrameLink
-        ensures { state.seen_link result.now ≡ link_from side self.now }
+    /// The frames that a station sent, in both lanes, with their marks, lent.
+    pub(crate) fn frames(&self, side: Side) -> &FrameLinks
+        ensures { state.seen_links result.now ≡ link_from side self.now }
     {
         match side {
             Side::One => &self.from_one,
@@ -142,7 +148,7 @@ impl<O: Outbox, I: Inbox> TwoStations<O, I> {
 
     /// Shows what holds of both directions between events.
     pub(crate) fn show_rest(&self)
-        ensures { (side : Side) → IsRested (state.way_from side self.now) }
+        ensures { (side : Side) → state.AreRested side self.now }
     {
         let _ = &self.one;
     }
@@ -166,8 +172,8 @@ impl<O: Outbox, I: Inbox> TwoStations<O, I> {
             Event::Poll(side) => self.poll(*side),
             Event::Flush(side) => self.flush(*side),
             Event::Tick { at, now } => self.tick(*at, *now),
-            Event::Deliver(side) => Ok(self.deliver(*side)),
-            Event::Strike(side) => Ok(self.strike(*side)),
+            Event::Deliver(side, lane) => Ok(self.deliver(*side, *lane)),
+            Event::Strike(side, lane) => Ok(self.strike(*side, *lane)),
         }
     }
 
@@ -191,12 +197,12 @@ impl<O: Outbox, I: Inbox> TwoStations<O, I> {
         }
     }
 
-    pub(crate) fn deliver(&mut self, side: Side) -> Applied
-        ensures { steps.Delivers result side self.old self.new }
+    pub(crate) fn deliver(&mut self, side: Side, lane: Lane) -> Applied
+        ensures { steps.Delivers result side lane self.old self.new }
     {
         match side {
-            Side::One => deliver_to(&mut self.from_one, &mut self.two),
-            Side::Two => deliver_to(&mut self.from_two, &mut self.one),
+            Side::One => deliver_at(&mut self.from_one, lane, &mut self.two),
+            Side::Two => deliver_at(&mut self.from_two, lane, &mut self.one),
         }
     }
 
@@ -277,12 +283,12 @@ impl<O: Outbox, I: Inbox> TwoStations<O, I> {
         }
     }
 
-    fn strike(&mut self, side: Side) -> Applied
-        ensures { steps.Strikes result side self.old self.new }
+    fn strike(&mut self, side: Side, lane: Lane) -> Applied
+        ensures { steps.Strikes result side lane self.old self.new }
     {
         match side {
-            Side::One => strike_at(&mut self.from_one),
-            Side::Two => strike_at(&mut self.from_two),
+            Side::One => strike_at(&mut self.from_one, lane),
+            Side::Two => strike_at(&mut self.from_two, lane),
         }
     }
 }
@@ -349,39 +355,73 @@ fn tick_at<O: Outbox, I: Inbox>(
     Ok(Applied::Applied)
 }
 
-/// Takes all whole zones that wait at a station as frames. There are buffers for them.
-fn pull_all<O: Outbox, I: Inbox>(link: &mut FrameLink, station: &mut Station<O, I>)
-    requires len { link.old.len ≡ 8 + station.old.down.link.zone }
-    requires enough { WaitAtMost link.old.blanks station.old.down }
-    ensures way { AddsNone station.old.down station.new.down link.old link.new }
-    ensures all { length station.new.down.waiting < station.old.down.link.zone }
-    ensures made { ((station.new ≡ station.old) × (link.new ≡ link.old))
-        ⊎ ((station.old.down.link.zone ≤ length station.old.down.waiting)
-        × (length link.old.frames < length link.new.frames)) }
-    ensures fixed { IsSameEnd station.old.down station.new.down }
+/// Takes the frame that leaves a station next, where one does.
+fn pull_next<O: Outbox, I: Inbox>(links: &mut FrameLinks, station: &mut Station<O, I>) -> bool
+    requires lens { (l : Lane) → (lane_of_links l links.old).len
+        ≡ 8 + (lane_down l station.old.down).link.zone }
+    requires enough { (l : Lane) → WaitAtMost (lane_of_links l links.old).blanks
+        (lane_down l station.old.down) }
+    ensures none { result ≡ false → frame_lane station.old.down ≡ None }
+    ensures kept { result ≡ false → (links.new ≡ links.old) × (station.new ≡ station.old) }
+    ensures pulls { result ≡ true → PullsOne station.old.down station.new.down links.old links.new }
     ensures rest { KeepsRest station.old station.new }
-    ensures marks { IsSameMarks link.old link.new }
 {
-    while link.pull(station) {}
+    let place = links.count();
+    match station.next_lane() {
+        Some(Lane::Directives) => links.directives.pull(station, Lane::Directives, place),
+        Some(Lane::Data) => links.file_data.pull(station, Lane::Data, place),
+        None => false,
+    }
+}
+
+/// Takes all whole zones that wait at a station as frames. There are buffers for them.
+fn pull_all<O: Outbox, I: Inbox>(links: &mut FrameLinks, station: &mut Station<O, I>)
+    requires lens { (l : Lane) → (lane_of_links l links.old).len
+        ≡ 8 + (lane_down l station.old.down).link.zone }
+    requires enough { (l : Lane) → WaitAtMost (lane_of_links l links.old).blanks
+        (lane_down l station.old.down) }
+    ensures lanes { (l : Lane) → PullsAll (lane_down l station.old.down)
+        (lane_down l station.new.down) (lane_of_links l links.old) (lane_of_links l links.new) }
+    ensures packet_count { station.new.down.packet_count ≡ station.old.down.packet_count }
+    ensures rest { KeepsRest station.old station.new }
+{
+    while pull_next(links, station) {}
+}
+
+/// Makes room for all frames that a station may make.
+fn make_room<O: Outbox, I: Inbox>(
+    links: &mut FrameLinks,
+    station: &Station<O, I>,
+) -> Result<(), AllocError>
+    ensures ok { OnOk result ((l : Lane) → HoldsAtMost (lane_of_links l links.new).blanks
+        (lane_down l station.now.down)) }
+    ensures kept { AreSameLinks links.old links.new }
+{
+    links
+        .directives
+        .make_room(station.frames_ahead(Lane::Directives))?;
+    links.file_data.make_room(station.frames_ahead(Lane::Data))
 }
 
 /// A station sends its next PDU, and all frames that are whole then.
 fn poll_at<O: Outbox, I: Inbox>(
     station: &mut Station<O, I>,
-    link: &mut FrameLink,
+    links: &mut FrameLinks,
 ) -> Result<Applied, AllocError>
-    requires ready { IsReady station.old.down link.old }
-    ensures polls { IfOk result (λ did. PollsAt did station.old station.new link.old link.new) }
-    ensures err { OnErr result (KeepsAt station.old station.new link.old link.new) }
-    ensures carried { CarriesOn station.old.down station.new.down link.old link.new }
-    ensures rest { (station.new.up ≡ station.old.up)
-        × (station.new.down.capacity ≡ station.old.down.capacity) }
-    ensures marks { IsSameMarks link.old link.new }
+    requires ready { AreReady station.old.down links.old }
+    ensures polls { IfOk result (λ did. PollsAt did station.old station.new
+        links.old links.new) }
+    ensures err { OnErr result (KeepsAt station.old station.new links.old links.new) }
+    ensures carried { CarryOn station.old.down station.new.down links.old links.new }
+    ensures up { station.new.up ≡ station.old.up }
+    ensures capacity { (l : Lane) → (lane_down l station.new.down).capacity
+        ≡ (lane_down l station.old.down).capacity }
+    ensures marks { AreSameMarks links.old links.new }
 {
-    link.make_room(station.frames_ahead())?;
+    make_room(links, station)?;
     match station.poll()? {
         Polled::Moved => {
-            pull_all(link, station);
+            pull_all(links, station);
             Ok(Applied::Applied)
         }
         Polled::SourceFailed => Ok(Applied::Applied),
@@ -390,43 +430,50 @@ fn poll_at<O: Outbox, I: Inbox>(
     }
 }
 
-/// A station fills its begun frame, which leaves.
+/// Whether a lane has more frames than it had.
+fn has_more(links: &FrameLinks, directives: usize, file_data: usize) -> bool
+    ensures more { result ≡ true → (directives < length links.now.directives.frames)
+        ⊎ (file_data < length links.now.file_data.frames) }
+    ensures none { result ≡ false → (length links.now.directives.frames ≤ directives)
+        × (length links.now.file_data.frames ≤ file_data) }
+{
+    directives < links.count_in(Lane::Directives) || file_data < links.count_in(Lane::Data)
+}
+
+/// A station fills its begun frame of each lane, which leave.
 fn flush_at<O: Outbox, I: Inbox>(
     station: &mut Station<O, I>,
-    link: &mut FrameLink,
+    links: &mut FrameLinks,
 ) -> Result<Applied, AllocError>
-    requires ready { IsReady station.old.down link.old }
+    requires ready { AreReady station.old.down links.old }
     ensures flushes { IfOk result (λ did. FlushesAt did station.old station.new
-        link.old link.new) }
-    ensures err { OnErr result (KeepsAt station.old station.new link.old link.new) }
-    ensures carried { CarriesOn station.old.down station.new.down link.old link.new }
+        links.old links.new) }
+    ensures err { OnErr result (KeepsAt station.old station.new links.old links.new) }
+    ensures carried { CarryOn station.old.down station.new.down links.old links.new }
     ensures rest { KeepsRest station.old station.new }
-    ensures capacity { station.new.down.capacity ≡ station.old.down.capacity }
-    ensures marks { IsSameMarks link.old link.new }
+    ensures capacity { (l : Lane) → (lane_down l station.new.down).capacity
+        ≡ (lane_down l station.old.down).capacity }
+    ensures marks { AreSameMarks links.old links.new }
 {
-    link.make_room(station.frames_ahead())?;
-    let before = link.count();
+    make_room(links, station)?;
+    let directives = links.count_in(Lane::Directives);
+    let file_data = links.count_in(Lane::Data);
     station.flush();
-    pull_all(link, station);
-    if before < link.count() {
+    pull_all(links, station);
+    if has_more(links, directives, file_data) {
         Ok(Applied::Applied)
     } else {
         Ok(Applied::Nothing)
     }
 }
 
-/// The oldest waiting frame of a link reaches a station.
-fn deliver_to<O: Outbox, I: Inbox>(link: &mut FrameLink, station: &mut Station<O, I>) -> Applied
-    ensures waits { result ≡ dids.Applied → length link.old.marks < length link.old.frames }
-    ensures hears { result ≡ dids.Applied → (down : LinkSenderState) →
-        IsCarried down link.old station.old.up →
-        HearsAt down link.old link.new station.old station.new }
-    ensures marked { result ≡ dids.Applied →
-        link.new ≡ record link.old { marks = link.old.marks ++ true ∷ []; run = 0 } }
-    ensures none { result ≡ dids.Nothing →
-        (length link.old.frames ≤ length link.old.marks)
-        × (link.new ≡ link.old) × (station.new ≡ station.old) }
-    ensures refused { result ≢ dids.Applied → result ≡ dids.Nothing }
+/// The oldest waiting frame of a lane reaches a station.
+fn deliver_to<O: Outbox, I: Inbox>(
+    link: &mut FrameLink,
+    lane: Lane,
+    station: &mut Station<O, I>,
+) -> Applied
+    ensures arrives { FrameArrivesAt result lane link.old link.new station.old station.new }
     ensures down { station.new.down ≡ station.old.down }
 {
     let Some(frame) = link.oldest() else {
@@ -437,13 +484,44 @@ fn deliver_to<O: Outbox, I: Inbox>(link: &mut FrameLink, station: &mut Station<O
     Applied::Applied
 }
 
-/// The oldest waiting frame of a link is lost.
-fn strike_at(link: &mut FrameLink) -> Applied
-    ensures strikes { StrikesAt result link.old link.new }
+/// The oldest waiting frame of a lane reaches a station; the other lane stays.
+fn deliver_at<O: Outbox, I: Inbox>(
+    links: &mut FrameLinks,
+    lane: Lane,
+    station: &mut Station<O, I>,
+) -> Applied
+    ensures arrives { FrameArrivesAt result lane (lane_of_links lane links.old)
+        (lane_of_links lane links.new) station.old station.new }
+    ensures other { lane_of_links (other_lane lane) links.new
+        ≡ lane_of_links (other_lane lane) links.old }
+    ensures down { station.new.down ≡ station.old.down }
+{
+    match lane {
+        Lane::Directives => deliver_to(&mut links.directives, lane, station),
+        Lane::Data => deliver_to(&mut links.file_data, lane, station),
+    }
+}
+
+/// The oldest waiting frame of a lane is lost.
+fn strike_lane(link: &mut FrameLink) -> Applied
+    ensures { StrikesAt result link.old link.new }
 {
     match link.strike() {
         Loss::Done => Applied::Applied,
         Loss::NoneWaits => Applied::Nothing,
         Loss::TooMany => Applied::Refused(Refusal::LossRunTooLong),
+    }
+}
+
+/// The oldest waiting frame of a lane is lost; the other lane stays.
+fn strike_at(links: &mut FrameLinks, lane: Lane) -> Applied
+    ensures strikes { StrikesAt result (lane_of_links lane links.old)
+        (lane_of_links lane links.new) }
+    ensures other { lane_of_links (other_lane lane) links.new
+        ≡ lane_of_links (other_lane lane) links.old }
+{
+    match lane {
+        Lane::Directives => strike_lane(&mut links.directives),
+        Lane::Data => strike_lane(&mut links.file_data),
     }
 }

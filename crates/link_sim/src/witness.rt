@@ -1,6 +1,6 @@
 //! One who looks on while events happen in a world.
 use crate::event::Event;
-use crate::frame_link::FrameLink;
+use crate::frame_links::FrameLinks;
 use cfdp_station::Station;
 use cfdp_store::{Inbox, Outbox};
 
@@ -13,7 +13,7 @@ pub trait Witness: Drop {
         &mut self,
         event: &Event,
         stations: (&Station<O, I>, &Station<O, I>),
-        frames: (&FrameLink, &FrameLink),
+        frames: (&FrameLinks, &FrameLinks),
     );
 
     /// Hears which step the world's user comes to: events are of it, until it hears of another.
@@ -26,7 +26,7 @@ impl Witness for () {
         &mut self,
         _event: &Event,
         _stations: (&Station<O, I>, &Station<O, I>),
-        _frames: (&FrameLink, &FrameLink),
+        _frames: (&FrameLinks, &FrameLinks),
     ) {}
 
     fn comes_to(&mut self, _step: usize) {}

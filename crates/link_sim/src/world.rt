@@ -10,7 +10,7 @@ ghost use Rattle.link_sim.specs.Running.{Happens, Ran};
 ghost use Rattle.link_sim.specs.Settling.{DropsWhereFull, IsOfSettling, KeepsAll, all_shortages};
 ghost use Rattle.link_sim.specs.Theorem.{HoldsAt, FoldsAt, at, put_of, completions_at};
 ghost use Rattle.link_sim.specs.Tracks.{KeepsPutsOf, RunsAlong};
-ghost use Rattle.link_sim.specs.World.State.{IsFirst, published_at, station_at, entity_at, link_from, seen_link, files_at};
+ghost use Rattle.link_sim.specs.World.State.{IsFirst, published_at, station_at, entity_at, link_from, seen_links, files_at};
 ghost use Rattle.link_sim.specs.World.Steps.{PublishesAt, Steps, WantsMemory};
 ghost use Rattle.link_sim.specs.Stations.{IsWorldConfig};
 ghost use Rattle.link_sim.specs.Work.{world_work};
@@ -19,7 +19,7 @@ ghost use Rattle.link_sim.specs.declared.event.Event.TheVariants as events;
 ghost use Rattle.link_sim.specs.declared.side.Side.{Side};
 
 use crate::event::{AcceptedPut, Applied, Event};
-use crate::frame_link::FrameLink;
+use crate::frame_links::FrameLinks;
 use crate::promises::events_keep_the_promises;
 use crate::side::Side;
 use crate::two_stations::TwoStations;
@@ -143,9 +143,9 @@ impl<O: Outbox, I: Inbox, W: Witness> World<O, I, W> {
         self.stations.station(side)
     }
 
-    /// The frames that a station sent, with their marks, lent.
-    pub fn frames(&self, side: Side) -> &FrameLink
-        ensures { seen_link result.now ≡ link_from side self.now }
+    /// The frames that a station sent, in both lanes, with their marks, lent.
+    pub fn frames(&self, side: Side) -> &FrameLinks
+        ensures { seen_links result.now ≡ link_from side self.now }
     {
         self.stations.frames(side)
     }

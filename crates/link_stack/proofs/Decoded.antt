@@ -1,6 +1,6 @@
 -- The next frame of a stream, read.
-use Rattle.std.proofs.Common.{◌≡◌, ℕ, ◌+◌, ◌*◌, ◌%◌, ◌<◌, ◌≤◌, ◌==◌, Bool, true, false, None, List, ◌++◌, length, drop, refl, sym, ap, subst, ◌∙◌, arith, length-take, length-drop, length-append}
-use Rattle.std.proofs.lemmas.Bool.{eq-eqb, ne_eqb}
+use Rattle.std.proofs.Common.{◌≡◌, ◌⊎◌, ℕ, ◌+◌, ◌*◌, ◌%◌, ◌<◌, ◌≤◌, ◌==◌, ◌||◌, Bool, true, false, None, List, ◌++◌, length, drop, refl, sym, ap, subst, ◌∙◌, inl, inr, arith, length-take, length-drop, length-append}
+use Rattle.std.proofs.lemmas.Bool.{eq-eqb, ne_eqb, or_left, or_right}
 use Rattle.cfd_bits.specs.Field.{field}
 use Rattle.cfd_bits.proofs.Fields.{length-octets}
 use Rattle.aos_frame.specs.Counts.{frame_counts, CountsFrame}
@@ -23,6 +23,11 @@ pub record IsDecoded (all : Bool) (link : LinkConfig) (ps : List (List ℕ)) (n 
   pub zone_is : drop 2 (mpdu_in frame) ≡ zone link.zone (n * link.zone) (stream ps)
   pub size : length (drop 2 (mpdu_in frame)) ≡ link.zone
 
+-- the channel of one lane or of the other
+pub of_either : (n h a b : ℕ) → n ≡ h → (h ≡ a) ⊎ (h ≡ b) → (n == a || n == b) ≡ true
+of_either n h a b e (inl f) = or_left (n == a) (n == b) (eq-eqb n a (e ∙ f))
+of_either n h a b e (inr f) = or_right (n == a) (n == b) (eq-eqb n b (e ∙ f))
+
 -- what spells a frame has no fault
 pub no_fault : (link : LinkConfig) (h : FrameHeader) (text : List ℕ) → SpellsFrame link h text → frame_fault text link ≡ None
 no_fault link h text s =
@@ -34,7 +39,7 @@ no_fault link h text s =
       eq-eqb (field text 42 2) 0 s.two_bits,
       eq-eqb (field text 2 8) link.spacecraft (s.spacecraft ∙ s.our_spacecraft),
       ne_eqb (field text 10 6) 63 busy,
-      eq-eqb (field text 10 6) link.channel (s.channel ∙ s.our_channel),
+      of_either (field text 10 6) h.channel link.channel link.data_channel s.channel s.our_channel,
     ) refl
 
 -- what a header that is spelled tells of its count
@@ -71,7 +76,7 @@ made_is_next link ps marks frame valid byte next =
     let two : length (pointer_octets p) ≡ 2 = length-octets 2 p in
     let all : length (mpdu_of link ps n) ≡ 2 + link.zone = omega (arith, length-append (pointer_octets p) body) in
     let read : SpellsFrame link h (frame_of link ps n) × (drop 6 (frame_of link ps n) ≡ mpdu_of link ps n) =
-    written_frame_is_read link h (mpdu_of link ps n) (record { spacecraft = byte; channel = valid.channel; count = omega arith }) refl refl all in
+    written_frame_is_read link h (mpdu_of link ps n) (record { spacecraft = byte; channel = valid.channel; count = omega arith }) refl (inl refl) all in
     let s : SpellsFrame link h frame = subst (SpellsFrame link h) (sym next.octets) read.0 in
     let behind : drop 6 frame ≡ pointer_octets p ++ body = ap (λ l. drop 6 l) next.octets ∙ read.1 in
     let again = written_pointer p body (pointer_fits link.zone (n * link.zone) 0 ps valid.most_zone) in

@@ -1,5 +1,5 @@
 -- What the sending end of a link adds to its stream.
-use Rattle.std.proofs.Common.{◌≡◌, ℕ, ◌+◌, ◌*◌, ◌%◌, true, false, None, List, [], ◌∷◌, ◌++◌, ◌⊎◌, refl, sym, ap, subst, ◌∙◌, inl, inr, arith}
+use Rattle.std.proofs.Common.{◌≡◌, ℕ, ◌+◌, ◌*◌, ◌%◌, true, false, None, Result, Ok, Err, OnOk, IsErr, List, [], ◌∷◌, ◌++◌, ◌⊎◌, refl, sym, ap, subst, ◌∙◌, inl, inr, arith}
 use Rattle.std.proofs.lemmas.Bool.{cases_Bool, eq-eqb}
 use Rattle.std.proofs.lemmas.List.{append_assoc}
 use Rattle.cfd_bits.specs.Field.{flag}
@@ -45,28 +45,33 @@ written_frame link ps made count pointer headers body counted written zo =
     ap (λ n. pointer_octets n ++ body) zo.pointed ∙ ap (λ l. pointer_octets (first_header_pointer link.zone (made * link.zone) 0 ps) ++ l) zo.cut_out in
     ap (λ l. l ++ body) written ∙ append_assoc (h count) (pointer_octets pointer) body ∙ ap (λ n. h n ++ (pointer_octets pointer ++ body)) counted ∙ ap (λ l. h (made % frame_counts) ++ l) same
 
--- an end of the link, by its packer and its counts
-abbrev pub descent : LinkConfig → PackerState → ℕ → ℕ → LinkSenderState
-descent link p a b = record { link = link; capacity = p.capacity; waiting = p.waiting; first = p.first; flushed = p.flushed; packet_count = a; frame_count = b }
+-- a lane of the link, by its packer and the count of its frames
+abbrev pub descent : LinkConfig → PackerState → ℕ → LinkSenderState
+descent link p b = record { link = link; capacity = p.capacity; waiting = p.waiting; first = p.first; flushed = p.flushed; frame_count = b }
 
-pub same_packing : (d : LinkSenderState) (link : LinkConfig) (p : PackerState) (a b : ℕ) → d ≡ descent link p a b → p.size ≡ link.zone → p ≡ packing d
-same_packing d link p a b is size =
-    let sized : p ≡ packing (descent link p a b) = ap (λ n. record { size = n; capacity = p.capacity; waiting = p.waiting; first = p.first; flushed = p.flushed }) size in
+pub same_packing : (d : LinkSenderState) (link : LinkConfig) (p : PackerState) (b : ℕ) → d ≡ descent link p b → p.size ≡ link.zone → p ≡ packing d
+same_packing d link p b is size =
+    let sized : p ≡ packing (descent link p b) = ap (λ n. record { size = n; capacity = p.capacity; waiting = p.waiting; first = p.first; flushed = p.flushed }) size in
     sized ∙ sym (ap packing is)
 
 -- what its packer's stream is
-pub at_of : (d : LinkSenderState) (link : LinkConfig) (p : PackerState) (a b : ℕ) (ps : List (List ℕ)) (made : ℕ) → d ≡ descent link p a b → p.size ≡ link.zone → IsDown d ps made → IsAt p ps made
-at_of d link p a b ps made same size is = subst (λ (x : PackerState). IsAt x ps made) (sym (same_packing d link p a b same size)) is.packed
+pub at_of : (d : LinkSenderState) (link : LinkConfig) (p : PackerState) (b : ℕ) (ps : List (List ℕ)) (made : ℕ) → d ≡ descent link p b → p.size ≡ link.zone → IsDown d ps made → IsAt p ps made
+at_of d link p b ps made same size is = subst (λ (x : PackerState). IsAt x ps made) (sym (same_packing d link p b same size)) is.packed
 
 -- a step that keeps the link
-pub down_is : (d : LinkSenderState) (link : LinkConfig) (p q : PackerState) (a b a' b' : ℕ) (ps qs : List (List ℕ)) (made made' : ℕ) → d ≡ descent link p a b → q.size ≡ link.zone →
-    (AreOfLink link ps → AreOfLink link qs) → (b ≡ made % frame_counts → b' ≡ made' % frame_counts) → IsDown d ps made → IsAt q qs made' → IsDown (descent link q a' b') qs made'
-down_is d link p q a b a' b' ps qs made made' same size ours counts is at =
+pub down_is : (d : LinkSenderState) (link : LinkConfig) (p q : PackerState) (b b' : ℕ) (ps qs : List (List ℕ)) (made made' : ℕ) → d ≡ descent link p b → q.size ≡ link.zone →
+    (AreOfLink link ps → AreOfLink link qs) → (b ≡ made % frame_counts → b' ≡ made' % frame_counts) → IsDown d ps made → IsAt q qs made' → IsDown (descent link q b') qs made'
+down_is d link p q b b' ps qs made made' same size ours counts is at =
     record {
-      packed = subst (λ (x : PackerState). IsAt x qs made') (same_packing (descent link q a' b') link q a' b' refl size) at;
+      packed = subst (λ (x : PackerState). IsAt x qs made') (same_packing (descent link q b') link q b' refl size) at;
       of_link = ours (subst (λ (l : LinkConfig). AreOfLink l ps) (ap (λ x. x.link) same) is.of_link);
       counted = counts (sym (ap (λ x. x.frame_count) same) ∙ is.counted);
     }
 
 pub next_count : (b b' made : ℕ) → b ≡ made % frame_counts → b' ≡ (b + 1) % frame_counts → b' ≡ (made + 1) % frame_counts
 next_count b b' made e f = omega (arith, e, f)
+
+-- a packet that there was room for
+pub was_put : {A E P : Type 0} (r : Result A E) → (IsErr r → ⊥) → OnOk r P → P
+was_put (Ok x) room put = put
+was_put (Err e) room put = absurd (room refl)

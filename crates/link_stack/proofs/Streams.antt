@@ -16,8 +16,8 @@ use Rattle.link_stack.specs.declared.drops.LinkDrop.TheVariants.{NoMemory}
 use Rattle.link_stack.specs.Frames.{packet_drop, mpdu_in, AreOfLink, pdus_in}
 use Rattle.cfd_bits.specs.Counting.{raised}
 use Rattle.link_stack.specs.Drops.{counted, all_counted, count_of}
-use Rattle.link_stack.specs.Upward.{LinkReceiverState, FrameRead, pdus_of, drops_of, with_pdu, with_drop, zone_drops, idle_read, packets_read, read_unless, frame_read, Takes, TakesFront, HasZone, IsUpOf, IsNextFrameOf, TakesNextOf, TakesNextFrontOf}
-use Rattle.link_stack.proofs.Decoded.{IsDecoded, decoded}
+use Rattle.link_stack.specs.Upward.{LinkReceiverState, FrameRead, pdus_of, drops_of, with_pdu, with_drop, zone_drops, idle_read, packets_read, read_unless, frame_read, Takes, TakesFront, HasZone, IsUpOf, IsUp, IsNextFrame, IsNextFrameOf, TakesNextOf, TakesNextFrontOf, TakesNext, TakesNextFront, LaneTakes}
+use Rattle.link_stack.proofs.Decoded.{IsDecoded, decoded, made_is_next}
 use Rattle.link_stack.proofs.Grown.{some_counts}
 use Rattle.mpdu.proofs.Following.{held_follows}
 
@@ -209,3 +209,21 @@ all_given all up new ps marks missed old out none (inl t) =
     let given : out ≡ pdus_in t.added = t.pdus ∙ ap (λ l. l ++ pdus_in t.added) none in
     inl (ap pdus_in t.completed ∙ map-append (λ p. drop 6 p) before t.added ∙ ap (λ l. pdus_in before ++ l) (sym given))
 all_given all up new ps marks missed old out none (inr t) = inr t.drops
+
+-- all that a frame does to its lane
+pub lane_takes : (whole : Bool) (up new : LinkReceiverState) (frame : List ℕ) (old out : List (List ℕ)) → IsLink up.link → up.link.spacecraft < 256 →
+    (whole ≡ true → Takes (frame_read up frame) up new old out) → (whole ≡ false → HasZone up.link frame × TakesFront (frame_read up frame) up new old out) →
+    LaneTakes frame up new old out
+lane_takes whole up new frame old out valid byte whole_is front =
+    let others : (all : Bool) (ps : List (List ℕ)) (marks : List Bool) (missed : ℕ) → IsUpOf all up ps marks missed → IsNextFrameOf all up.link ps marks frame →
+    TakesNextOf all up new ps marks missed old out ⊎ TakesNextFrontOf all up new ps marks old out =
+    λ all ps marks missed is next. taken_either all whole up new ps marks missed frame old out valid is next whole_is front in
+    let next : (ps : List (List ℕ)) (marks : List Bool) (missed : ℕ) → IsUp up ps marks missed → IsNextFrame up.link ps marks frame →
+    TakesNext up new ps marks missed old out ⊎ TakesNextFront up new ps marks old out =
+    λ ps marks missed is made. others true ps marks missed is (made_is_next up.link ps marks frame valid byte made) in
+    record {
+      takes = elim (cases_Bool whole) [ inl e ↦ inl (whole_is e) | inr e ↦ inr (front e) ];
+      next = next;
+      others = others;
+      delivered = λ ps marks missed is made none. all_given true up new ps marks missed old out none (next ps marks missed is made);
+    }

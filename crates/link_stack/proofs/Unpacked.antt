@@ -1,6 +1,6 @@
 -- Packets made PDUs, one after another.
 use Rattle.std.proofs.Common.{◌≡◌, ℕ, zero, suc, ◌+◌, ◌-◌, ◌<◌, ◌≤◌, Option, Some, None, List, [], ◌∷◌, ◌++◌, length, take, drop, slice_set, slice_index_or, replicate, Vec, Global, refl, sym, ap, subst, ◌∙◌, arith}
-use Rattle.std.proofs.lemmas.List.{append_assoc, append-nil, take_all, drop_all, map-append, map-set, take-map, drop-map, get_or-map}
+use Rattle.std.proofs.lemmas.List.{append_assoc, append-nil, map-append, map-set, take-map, drop-map, get_or-map}
 use Rattle.std.specs.List.{remove}
 use Rattle.aos_frame.specs.declared.config.LinkConfig.{LinkConfig}
 use Rattle.link_stack.specs.declared.drops.LinkDrop.{LinkDrop}

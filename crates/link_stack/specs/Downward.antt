@@ -1,20 +1,24 @@
--- The sending end of a link, and the stream of packets that it was given.
-use Rattle.std.specs.Prelude.{◌≡◌, ℕ, ◌-◌, ◌%◌, Bool, List, length}
+-- The sending end of a link, and the stream of packets that each of its two lanes was given.
+use Rattle.std.specs.Prelude.{◌≡◌, ℕ, ◌-◌, ◌%◌, ◌*◌, ◌+◌, ◌≤◌, ◌++◌, ◌∷◌, nat_le, Bool, false, List, [], length, take, drop, Option, Some, None, if◌then◌else◌}
 use Rattle.aos_frame.specs.Counts.{frame_counts}
+use Rattle.aos_frame.specs.Frame.{lane_link}
 use Rattle.aos_frame.specs.declared.config.LinkConfig.{LinkConfig}
-use Rattle.mpdu.specs.Packing.{PackerState, IsAt}
-use Rattle.link_stack.specs.Frames.{AreOfLink}
+use Rattle.aos_frame.specs.declared.config.Lane.{Lane}
+use Rattle.aos_frame.specs.declared.config.Lane.TheVariants.{Directives, Data}
+use Rattle.mpdu.specs.Packets.{busy}
+use Rattle.mpdu.specs.Packing.{PackerState, IsAt, flush_of}
+use Rattle.mpdu.specs.Stream.{stream}
+use Rattle.link_stack.specs.Frames.{AreOfLink, frame_of, packet_of, pdus_in}
 
--- A sending end: the link; the most octets of packets that may wait, those that do, the place among
--- them where the next packet starts or will, and whether a flush's packet came last; the counts of
--- the next packet and the next frame.
+-- A lane of a sending end: the link as the lane has it; the most octets of packets that may wait,
+-- those that do, the place among them where the next packet starts or will, and whether a flush's
+-- packet came last; the count of the next frame.
 pub record LinkSenderState : Type 0 where
   pub link : LinkConfig
   pub capacity : ℕ
   pub waiting : List ℕ
   pub first : ℕ
   pub flushed : Bool
-  pub packet_count : ℕ
   pub frame_count : ℕ
 
 -- its packer
@@ -38,3 +42,99 @@ pub record IsDown (down : LinkSenderState) (ps : List (List ℕ)) (made : ℕ) :
   pub packed : IsAt (packing down) ps made
   pub of_link : AreOfLink down.link ps
   pub counted : down.frame_count ≡ made % frame_counts
+
+-- ---- what the calls do to a lane
+-- The link, the capacity and the count of frames are as they were.
+abbrev pub IsFixed : (old new : LinkSenderState) → Type 0
+IsFixed old new =
+    (new.link ≡ old.link) × (new.capacity ≡ old.capacity) × (new.frame_count ≡ old.frame_count)
+
+-- The stream is longer by one packet, that of this PDU, with this count.
+pub record SendsPdu (pdu : List ℕ) (count : ℕ) (old new : LinkSenderState) : Type 0 where
+  pub sends : (ps : List (List ℕ)) (made : ℕ) → IsDown old ps made →
+      IsDown new (ps ++ packet_of old.link count pdu ∷ []) made
+  pub carries : pdus_in (busy (packet_of old.link count pdu ∷ [])) ≡ pdu ∷ []
+  pub waiting : new.waiting ≡ old.waiting ++ packet_of old.link count pdu
+  pub len : length new.waiting ≡ length old.waiting + 6 + length pdu
+  pub unflushed : new.flushed ≡ false
+  pub fixed : IsFixed old new
+
+-- The stream is longer by an idle packet, which fills the begun zone, or no zone is begun and
+-- nothing changed. A second flush adds nothing.
+pub record Flushes (old new : LinkSenderState) : Type 0 where
+  pub sends : (ps : List (List ℕ)) (made : ℕ) → IsDown old ps made →
+      IsDown new (ps ++ flush_of (packing old)) made
+  pub one : length (flush_of (packing old)) ≤ 1
+  pub idle : busy (flush_of (packing old)) ≡ []
+  pub once : flush_of (packing new) ≡ []
+  pub same : flush_of (packing old) ≡ [] → new ≡ old
+  pub waiting : new.waiting ≡ old.waiting ++ stream (flush_of (packing old))
+  pub fixed : IsFixed old new
+
+-- The oldest whole zone became a frame: of a stream, its next one behind those made.
+pub record MakesFrame (frame : List ℕ) (old new : LinkSenderState) : Type 0 where
+  pub is_next : (ps : List (List ℕ)) (made : ℕ) → IsDown old ps made →
+      frame ≡ frame_of old.link ps made
+  pub inside : (ps : List (List ℕ)) (made : ℕ) → IsDown old ps made →
+      made * old.link.zone + old.link.zone ≤ length (stream ps)
+  pub after : (ps : List (List ℕ)) (made : ℕ) → IsDown old ps made → IsDown new ps (made + 1)
+  pub zone : drop 8 frame ≡ take old.link.zone old.waiting
+  pub waiting : new.waiting ≡ drop old.link.zone old.waiting
+  pub link : new.link ≡ old.link
+  pub capacity : new.capacity ≡ old.capacity
+  pub flushed : new.flushed ≡ old.flushed
+
+-- ---- both lanes
+-- Both lanes of a sending end, and the count of the next packet, which runs over both.
+pub record DownState : Type 0 where
+  pub directives : LinkSenderState
+  pub file_data : LinkSenderState
+  pub packet_count : ℕ
+
+abbrev pub lane_down : Lane → DownState → LinkSenderState
+lane_down Directives d = d.directives
+lane_down Data d = d.file_data
+
+-- The link and the capacity of each lane are as they were.
+abbrev pub KeepsLanes : (old new : DownState) → Type 0
+KeepsLanes old new =
+    (new.directives.link ≡ old.directives.link)
+    × (new.directives.capacity ≡ old.directives.capacity)
+    × (new.file_data.link ≡ old.file_data.link)
+    × (new.file_data.capacity ≡ old.file_data.capacity)
+
+-- No more waits in a lane than its capacity and what a flush adds.
+abbrev pub IsBounded : DownState → Type 0
+IsBounded d =
+    (length d.directives.waiting ≤ d.directives.capacity + 2047)
+    × (length d.file_data.waiting ≤ d.file_data.capacity + 2047)
+
+-- a lane that sent nothing, where so many octets of packets may wait
+abbrev pub first_lane_down : LinkConfig → ℕ → LinkSenderState
+first_lane_down link capacity = record {
+  link = link;
+  capacity = capacity;
+  waiting = [];
+  first = 0;
+  flushed = false;
+  frame_count = 0;
+}
+
+-- the end of a link that sent nothing: each lane has the capacity
+abbrev pub first_down : LinkConfig → ℕ → DownState
+first_down link capacity = record {
+  directives = first_lane_down link capacity;
+  file_data = first_lane_down (lane_link Data link) capacity;
+  packet_count = 0;
+}
+
+-- whether a whole zone waits in a lane
+abbrev pub has_whole : LinkSenderState → Bool
+has_whole d = nat_le d.link.zone (length d.waiting)
+
+-- the lane whose frame leaves next: directives go first
+abbrev pub frame_lane : DownState → Option Lane
+frame_lane d =
+    if has_whole d.directives then Some Directives
+    else if has_whole d.file_data then Some Data
+    else None

@@ -1,5 +1,5 @@
 -- What is dropped on the way up, and the counts of it.
-use Rattle.std.specs.Prelude.{ℕ, ◌+◌, ◌-◌, ◌^◌, Option, Some, None, List, [], ◌∷◌, ◌==◌, if◌then◌else◌, codes, slice_index_or, slice_set}
+use Rattle.std.specs.Prelude.{ℕ, ◌-◌, Option, Some, None, List, [], ◌∷◌, ◌==◌, if◌then◌else◌, codes, slice_index_or, slice_set}
 use Rattle.cfd_bits.specs.Counting.{raised}
 use Rattle.aos_frame.specs.declared.error.FrameError.{FrameError}
 use Rattle.aos_frame.specs.Frame.{refusal_number, refusal_name}

@@ -1,10 +1,13 @@
 -- The receiving end of a link: what one frame does to it, whatever it is, and what the frames of a
 -- stream leave.
-use Rattle.std.specs.Prelude.{◌≡◌, ℕ, ◌+◌, ◌*◌, ◌<◌, ◌≤◌, Bool, true, false, ◌==◌, ◌&&◌, not, if◌then◌else◌, Option, Some, None, IfSome, List, [], ◌∷◌, ◌++◌, length, take, drop, replicate}
+use Rattle.std.specs.Prelude.{◌≡◌, ◌⊎◌, ℕ, ◌+◌, ◌-◌, ◌*◌, ◌^◌, ◌<◌, ◌≤◌, nat_le, min, Bool, true, false, ◌==◌, ◌&&◌, not, if◌then◌else◌, Option, Some, None, IfSome, List, [], ◌∷◌, ◌++◌, length, take, drop, replicate}
+use Rattle.cfd_bits.specs.Field.{field}
 use Rattle.aos_frame.specs.Counts.{counts_of, follows, CountsFrame}
-use Rattle.aos_frame.specs.Frame.{frame_fault, seen_in}
+use Rattle.aos_frame.specs.Frame.{frame_fault, lane_link, seen_in}
 use Rattle.aos_frame.specs.declared.count.SeenCount.{SeenCount}
 use Rattle.aos_frame.specs.declared.config.LinkConfig.{LinkConfig}
+use Rattle.aos_frame.specs.declared.config.Lane.{Lane}
+use Rattle.aos_frame.specs.declared.config.Lane.TheVariants.{Directives, Data}
 use Rattle.aos_frame.specs.declared.error.FrameError.{FrameError}
 use Rattle.aos_frame.specs.declared.error.FrameError.TheVariants.{OnlyIdle}
 use Rattle.mpdu.specs.MpduHeader.{pointer_of}
@@ -16,8 +19,8 @@ use Rattle.link_stack.specs.declared.drops.LinkDrop.TheVariants.{Frame, Resync, 
 use Rattle.link_stack.specs.Frames.{packet_drop, mpdu_in, AreOfLink, frame_of, pdus_in}
 use Rattle.link_stack.specs.Drops.{counted, all_counted, count_of}
 
--- A receiving end: the link, the count of the last frame seen with its usage flag of the count
--- cycle, what is held of a begun packet, and the counts of drops.
+-- A lane of a receiving end: the link as the lane has it, the count of the last frame seen with its
+-- usage flag of the count cycle, what is held of a begun packet, and the counts of drops.
 pub record LinkReceiverState : Type 0 where
   pub link : LinkConfig
   pub last : Option SeenCount
@@ -196,3 +199,61 @@ pub record TakesNextFrontOf (all : Bool) (up new : LinkReceiverState) (ps : List
 abbrev pub TakesNextFront : LinkReceiverState → LinkReceiverState → List (List ℕ) → List Bool →
     List (List ℕ) → List (List ℕ) → Type 0
 TakesNextFront up new ps marks old out = TakesNextFrontOf true up new ps marks old out
+
+-- ---- both lanes
+pub record UpState : Type 0 where
+  pub directives : LinkReceiverState
+  pub file_data : LinkReceiverState
+
+abbrev pub lane_up : Lane → UpState → LinkReceiverState
+lane_up Directives u = u.directives
+lane_up Data u = u.file_data
+
+-- a lane that took no frame
+abbrev pub first_lane_up : LinkConfig → LinkReceiverState
+first_lane_up link = record { link = link; last = None; begun = []; drops = replicate 11 0 }
+
+-- the end of a link that took no frame
+abbrev pub first_up : LinkConfig → UpState
+first_up link = record {
+  directives = first_lane_up link;
+  file_data = first_lane_up (lane_link Data link);
+}
+
+-- the lane that takes a frame: that of its virtual channel. What is of neither, or no frame, goes
+-- to the lane of directives, which drops and counts it.
+abbrev pub lane_of : UpState → List ℕ → Lane
+lane_of u frame =
+    if nat_le 2 (length frame) && field frame 10 6 == u.file_data.link.channel then Data
+    else Directives
+
+-- how often a cause was counted: on either lane, save at the greatest value
+abbrev pub drop_count : UpState → ℕ → ℕ
+drop_count u number =
+    min (count_of u.directives.drops number + count_of u.file_data.drops number) (2 ^ 64 - 1)
+
+-- A frame was taken by the end of its lane, which gave the PDUs of the packets that the frame
+-- completes, or where it found no memory a front of them. Of a stream's next frame they are those
+-- of the survivors that it completes, also where another implementation makes the frames, and not
+-- all of them have the usage flag of the count cycle.
+pub record LaneTakes (frame : List ℕ) (up new : LinkReceiverState) (old out : List (List ℕ))
+    : Type 0 where
+  -- what any frame does
+  pub takes : Takes (frame_read up frame) up new old out
+      ⊎ (HasZone up.link frame × TakesFront (frame_read up frame) up new old out)
+  -- what the next frame of a stream does, where the end is as those before it leave it
+  pub next : (ps : List (List ℕ)) (marks : List Bool) (missed : ℕ) → IsUp up ps marks missed →
+      IsNextFrame up.link ps marks frame →
+      TakesNext up new ps marks missed old out ⊎ TakesNextFront up new ps marks old out
+  -- the same of a stream that anyone makes
+  pub others : (all : Bool) (ps : List (List ℕ)) (marks : List Bool) (missed : ℕ) →
+      IsUpOf all up ps marks missed → IsNextFrameOf all up.link ps marks frame →
+      TakesNextOf all up new ps marks missed old out
+      ⊎ TakesNextFrontOf all up new ps marks old out
+  -- so where nothing was given before, given are the PDUs of the survivors that this frame
+  -- completes, unless it found no memory
+  pub delivered : (ps : List (List ℕ)) (marks : List Bool) (missed : ℕ) → IsUp up ps marks missed →
+      IsNextFrame up.link ps marks frame → old ≡ [] →
+      (pdus_in (survivors up.link.zone (marks ++ true ∷ []) 0 ps)
+      ≡ pdus_in (survivors up.link.zone marks 0 ps) ++ out)
+      ⊎ (new.drops ≡ counted up.drops NoMemory)

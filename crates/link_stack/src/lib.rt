@@ -1,30 +1,34 @@
 //! PDUs down to AOS transfer frames (CCSDS 732.0-B-4), a space packet (CCSDS 133.0-B-2) each, and
 //! up again.
 //!
-//! One packet carries one whole PDU. A [`Down`] lays the packets of one direction over the frames
-//! of a virtual channel, and an [`Up`] gives back the PDUs all of whose frames came, in order. What
-//! can't be read is dropped, and each drop is counted under its number.
+//! One packet carries one whole PDU. A direction has two lanes, each a virtual channel: directives
+//! go on the one, file data on the other, so that a directive never waits behind file data. A
+//! [`Down`] lays the packets of each lane over the frames of its channel, and an [`Up`] gives back
+//! the PDUs all of whose frames came, in order within a lane. What can't be read is dropped, and
+//! each drop is counted under its number.
 //!
 //! ```
 //! let mut down = Down::new(alloc, link, 8192)?;
-//! down.send(&pdu)?;
-//! down.flush();
+//! down.send(&pdu, Lane::Data)?;
+//! down.flush(Lane::Data);
 //!
 //! let mut up = Up::new(alloc, link)?;
 //! let mut frame = vec![in alloc; 0u8; down.frame_len()]?;
 //! let mut pdus = Vec::new(alloc);
-//! while down.next_frame(&mut frame) {
+//! while down.next_frame(&mut frame).is_some() {
 //!     up.take(&frame, &mut pdus);
 //! }
 //! ```
 #![tactic(auto)]
 
 mod down;
+mod down_lane;
 mod drops;
 mod laws;
 mod up;
+mod up_lane;
 
-pub use aos_frame::LinkConfig;
+pub use aos_frame::{Lane, LinkConfig};
 pub use down::Down;
 pub use drops::LinkDrop;
 pub use laws::{

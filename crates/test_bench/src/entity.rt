@@ -4,7 +4,9 @@
 //!     hear PDU      to hear these octets
 //!     series FIRST STEP COUNT FRONT BEHIND
 //!                   to hear so many PDUs, in which a number of 8 digits stands between two texts
-//!     poll [ROOM]   to send what is due, with room for so many octets
+//!     poll [ROOM [DATA]]
+//!                   to send what is due, with room for a directive of so many octets, and for file
+//!                   data of as many, or of DATA
 //!     polls N       to send so much, and to say how much it was
 //!     tick TIME     to take note of the time
 //!     ask WORD      of the transaction 1:1: cancel, suspend, resume, nak, keep
@@ -24,7 +26,7 @@ use crate::strangers::{self, Fate, Target};
 use crate::telling::tell;
 use crate::words::{number, octets, pair, tell_octets};
 use cfdp_directives::{Delivery, FileStatus, Indication, Phase};
-use cfdp_entity::{CallError, Entity, EntityConfig, EntityPolled, PutError};
+use cfdp_entity::{CallError, Entity, EntityConfig, EntityPolled, PutError, Rooms};
 use cfdp_header::TransactionId;
 use cfdp_store::{FuseInbox, FuseOutbox, Inbox, MemoryInbox, MemoryOutbox};
 use std::alloc::{AllocError, Global};
@@ -38,6 +40,11 @@ const FIRST: TransactionId = TransactionId {
 
 /// Room for each PDU.
 const ROOM: usize = 600;
+
+const ROOMS: Rooms = Rooms {
+    directives: ROOM,
+    file_data: ROOM,
+};
 
 /// The most PDUs sent at once.
 const MOST: u8 = 200;
@@ -308,13 +315,14 @@ impl EntityBench {
         Ok(heard == "taken")
     }
 
-    fn polls(&mut self, room: &str, out: &mut String) -> Result<(), AllocError> {
-        let room = room.parse::<usize>().unwrap_or(ROOM);
+    fn polls(&mut self, words: &str, out: &mut String) -> Result<(), AllocError> {
+        let rooms = rooms(words);
+        let room = rooms.directives.max(rooms.file_data);
         let mut octets = vec![in self.alloc; 0u8; room]?;
-        match self.entity.poll(room, &mut octets)? {
-            EntityPolled::Moved(len) => {
+        match self.entity.poll(rooms, &mut octets)? {
+            EntityPolled::Moved { len, file_data } => {
                 octets.truncate(len);
-                tell_octets(self.alloc, &octets, out)
+                tell_pdu(self.alloc, file_data, &octets, out)
             }
             EntityPolled::Nothing => write!(out, " nothing\n"),
             EntityPolled::Full => write!(out, " full\n"),
@@ -336,8 +344,8 @@ impl EntityBench {
     /// The octets of the PDU that is due; none where nothing is due or the outbox failed.
     fn poll(&mut self) -> Result<Vec<u8>, AllocError> {
         let mut octets = vec![in self.alloc; 0u8; ROOM]?;
-        let len = match self.entity.poll(ROOM, &mut octets)? {
-            EntityPolled::Moved(len) => len,
+        let len = match self.entity.poll(ROOMS, &mut octets)? {
+            EntityPolled::Moved { len, .. } => len,
             EntityPolled::Nothing | EntityPolled::Full | EntityPolled::SourceFailed => 0,
         };
         octets.truncate(len);
@@ -415,6 +423,27 @@ impl EntityBench {
         }
         count
     }
+}
+
+/// The rooms that two words name, or one for both; that for each PDU where there is none.
+fn rooms(words: &str) -> Rooms {
+    let (directives, file_data) = pair(words);
+    let directives = directives.parse::<usize>().unwrap_or(ROOM);
+    Rooms {
+        directives,
+        file_data: file_data.parse::<usize>().unwrap_or(directives),
+    }
+}
+
+fn tell_pdu(
+    alloc: Global,
+    file_data: bool,
+    octets: &[u8],
+    out: &mut String,
+) -> Result<(), AllocError> {
+    let kind = if file_data { "file data" } else { "directive" };
+    write!(out, " {kind}")?;
+    tell_octets(alloc, octets, out)
 }
 
 fn tell_file(

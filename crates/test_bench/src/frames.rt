@@ -1,5 +1,5 @@
-//! Frames (`aos_frame`), of a link with spacecraft 42, channel 5, zones of 32 octets and packets of
-//! the process 100.
+//! Frames (`aos_frame`), of a link with spacecraft 42, channel 5 for directives and 7 for file
+//! data, zones of 32 octets and packets of the process 100.
 //!
 //!     encode SPACECRAFT CHANNEL COUNT CYCLE OCTETS   to write a header into these octets
 //!     again COUNT CYCLE OCTETS                    to write one of the link, and to read it again
@@ -7,7 +7,10 @@
 //!                                                 what stands behind it
 //!     any ZONE OCTETS                             to read a frame of the link that it names
 //!     writable SPACECRAFT CHANNEL COUNT CYCLE     whether a header can be written
-//!     valid SPACECRAFT CHANNEL ZONE PROCESS       whether there is such a link
+//!     valid SPACECRAFT CHANNEL DATA ZONE PROCESS  whether there is such a link, with that channel
+//!                                                 for file data
+//!     lane LANE                                   the channel of a lane, `dir` or `data`, and that
+//!                                                 of the other; then both as the lane has them
 //!     next                                        to tell the next count
 //!     see COUNT CYCLE, follows COUNT CYCLE        to hear of a frame, and to tell what is missing
 //!
@@ -16,9 +19,9 @@ ghost use Rattle.std.specs.Prelude.{◌≡◌, ◌+◌, ◌<◌, length};
 ghost use Rattle.aos_frame.specs.Frame.{FitsHeader};
 
 use crate::bench::{Bench, played, unknown};
-use crate::words::{flag, half, narrow, octet, octets, pair, tell_octets, word};
+use crate::words::{flag, half, lane, narrow, octet, octets, pair, tell_octets, word};
 use aos_frame::{
-    Continuity, FrameError, FrameHeader, LinkConfig, VcCounter, VcMonitor, decode, encode,
+    Continuity, FrameError, FrameHeader, Lane, LinkConfig, VcCounter, VcMonitor, decode, encode,
     written_frame_is_read,
 };
 use std::alloc::{AllocError, Global};
@@ -27,6 +30,7 @@ use std::alloc::{AllocError, Global};
 pub const LINK: LinkConfig = LinkConfig {
     spacecraft: 42,
     channel: 5,
+    data_channel: 7,
     zone: 32,
     apid: 100,
 };
@@ -83,6 +87,7 @@ fn says(alloc: Global, verb: &str, words: &str, out: &mut String) -> Result<(), 
         "any" => reads_any(alloc, words, out),
         "writable" => write!(out, " {}\n", header(words).is_writable()),
         "valid" => write!(out, " {}\n", link(words).is_valid()),
+        "lane" => tell_lane(lane(words), out),
         _ => unknown(out),
     }
 }
@@ -92,6 +97,16 @@ fn tell_missing(seen: Continuity, out: &mut String) -> Result<(), AllocError> {
         Continuity::Follows => write!(out, " follows\n"),
         Continuity::Gap(missing) => write!(out, " {missing} missing\n"),
     }
+}
+
+fn tell_lane(lane: Lane, out: &mut String) -> Result<(), AllocError> {
+    let (channel, other) = (LINK.channel_of(lane), LINK.channel_of(lane.other()));
+    let own = LINK.of_lane(lane);
+    write!(
+        out,
+        " {channel} {other}\n {} {}\n",
+        own.channel, own.data_channel
+    )
 }
 
 /// The header that four words describe.
@@ -104,13 +119,14 @@ fn header(words: &str) -> FrameHeader {
     }
 }
 
-/// The link that four words describe.
+/// The link that five words describe.
 fn link(words: &str) -> LinkConfig {
     LinkConfig {
         spacecraft: octet(word(words, 0)),
         channel: octet(word(words, 1)),
-        zone: half(word(words, 2)),
-        apid: half(word(words, 3)),
+        data_channel: octet(word(words, 2)),
+        zone: half(word(words, 3)),
+        apid: half(word(words, 4)),
     }
 }
 

@@ -11,13 +11,18 @@ ghost use Rattle.std.specs.FinMap as map;
 use crate::bench::{Bench, played, unknown};
 use crate::setup::first_entity;
 use crate::words::{number, octet, octets, pair, tell_octets};
-use cfdp_entity::{Entity, EntityPolled};
+use cfdp_entity::{Entity, EntityPolled, Rooms};
 use cfdp_store::{MemoryInbox, Outbox, StoreError};
 use std::alloc::{AllocError, Global};
 use std::marker::Model;
 
 /// Room for each PDU.
 const ROOM: usize = 5000;
+
+const ROOMS: Rooms = Rooms {
+    directives: ROOM,
+    file_data: ROOM,
+};
 
 /// Plays a transcript.
 pub fn play(
@@ -145,8 +150,8 @@ impl LargeBench {
         if octets.len() < ROOM {
             return Ok(0);
         }
-        match self.entity.poll(ROOM, octets)? {
-            EntityPolled::Moved(len) => Ok(len),
+        match self.entity.poll(ROOMS, octets)? {
+            EntityPolled::Moved { len, .. } => Ok(len),
             EntityPolled::Nothing | EntityPolled::Full | EntityPolled::SourceFailed => Ok(0),
         }
     }

@@ -1,29 +1,32 @@
-//! PDUs down to frames, and up again. The setup is the capacity of the sending end.
+//! PDUs down to frames, and up again. The setup is the capacity of each lane of the sending end.
+//! LANE is `dir` for the lane of directives, or `data` for that of file data.
 //!
-//!     send OCTETS    a PDU goes down
-//!     flush          the begun frame is filled
+//!     send LANE OCTETS   a PDU goes down
+//!     flush LANE     the begun frame of the lane is filled
 //!     frames         all whole frames are taken: how many there are
+//!     next           one more is taken: the lane that was told before, and that of the frame
 //!     frame PLACE    the one at this place, from 0
 //!     take OCTETS    the receiving end takes a frame: the PDUs that come. Behind some octets stand
 //!                    zeros where they are fewer than a frame's
 //!     drops          what it dropped, by number, and how often; a new end stands there then
 //!     every          for every choice of four frames, the first one's mark being the last: which
 //!                    PDUs come at a new end, counted from 1
-//!     room, waiting, ahead   the octets that may go down and those that wait, and the most frames
+//!     room LANE, waiting LANE, ahead LANE
+//!                    the octets that may go down and those that wait, and the most frames
 //!     drop resync, drop idle what such a drop is called: its number, its name, and in words
 ghost use Rattle.std.specs.Prelude.{◌≡◌, ◌≤◌, ℕ, ◌++◌, ◌⊎◌, List, Bool, [], ◌∷◌, true};
 ghost use Rattle.mpdu.specs.Feeding.{octets_of_each};
 ghost use Rattle.mpdu.specs.Stream.{survivors};
 ghost use Rattle.link_stack.specs.Frames.{pdus_in};
 ghost use Rattle.link_stack.specs.Drops.{counted};
-ghost use Rattle.link_stack.specs.Upward.{IsUp, IsNextFrame};
+ghost use Rattle.link_stack.specs.Upward.{IsUp, IsNextFrame, lane_of, lane_up};
 ghost use Rattle.link_stack.specs.declared.drops.LinkDrop.TheVariants.{NoMemory};
 
 use crate::bench::{Bench, played, unknown};
 use crate::frames::{FRAME_LEN, LINK};
-use crate::words::{count, octets, tell_octets};
+use crate::words::{count, lane, lane_word, octets, pair, tell_octets};
 use aos_frame::FrameError;
-use link_stack::{Down, LinkDrop, Up};
+use link_stack::{Down, Lane, LinkDrop, Up};
 use std::alloc::{AllocError, Global};
 
 /// Plays a transcript, where the sending end has so much room.
@@ -39,13 +42,15 @@ pub fn play(
 }
 
 /// A caller that needs no lemma: what is in a cleared `out` then are the PDUs that the frame
-/// completed.
+/// completed in its lane.
 fn take_alone(up: &mut Up, frame: &[u8], out: &mut Vec<Vec<u8>>)
-    ensures { (ps : List (List ℕ)) (marks : List Bool) (missed : ℕ) → IsUp up.old ps marks missed →
-        IsNextFrame up.old.link ps marks frame.now →
-        (pdus_in (survivors up.old.link.zone (marks ++ true ∷ []) 0 ps)
-        ≡ pdus_in (survivors up.old.link.zone marks 0 ps) ++ octets_of_each out.new.items)
-        ⊎ (up.new.drops ≡ counted up.old.drops NoMemory) }
+    ensures { (ps : List (List ℕ)) (marks : List Bool) (missed : ℕ) →
+        let old = lane_up (lane_of up.old frame.now) up.old in
+        let new = lane_up (lane_of up.old frame.now) up.new in
+        IsUp old ps marks missed → IsNextFrame old.link ps marks frame.now →
+        (pdus_in (survivors old.link.zone (marks ++ true ∷ []) 0 ps)
+        ≡ pdus_in (survivors old.link.zone marks 0 ps) ++ octets_of_each out.new.items)
+        ⊎ (new.drops ≡ counted old.drops NoMemory) }
 {
     out.clear();
     up.take(frame, out);
@@ -64,9 +69,10 @@ struct Link {
 impl Bench for Link {
     fn does(&mut self, verb: &str, words: &str, out: &mut String) -> Result<(), AllocError> {
         match verb {
-            "flush" => Ok(self.down.flush()),
+            "flush" => Ok(self.down.flush(lane(words))),
             "send" => self.sends(words, out),
             "frames" => write!(out, " {}\n", self.makes()?),
+            "next" => self.makes_next(out),
             "frame" => self.tells(count(words), out),
             "take" => self.takes(words, out),
             "drops" => self.ends(out),
@@ -91,21 +97,22 @@ impl Link {
 
     fn says(&self, verb: &str, words: &str, out: &mut String) -> Result<(), AllocError> {
         match verb {
-            "room" => write!(out, " {}\n", self.down.room()),
-            "waiting" => write!(out, " {}\n", self.down.waiting_len()),
-            "ahead" => write!(out, " {}\n", self.down.frames_ahead()),
+            "room" => write!(out, " {}\n", self.down.room(lane(words))),
+            "waiting" => write!(out, " {}\n", self.down.waiting_len(lane(words))),
+            "ahead" => write!(out, " {}\n", self.down.frames_ahead(lane(words))),
             "drop" => tell_drop(drop_of(words), out),
             _ => unknown(out),
         }
     }
 
-    fn sends(&mut self, word: &str, out: &mut String) -> Result<(), AllocError> {
-        let said = self.sent(octets(self.alloc, word)?)?;
+    fn sends(&mut self, words: &str, out: &mut String) -> Result<(), AllocError> {
+        let (way, digits) = pair(words);
+        let said = self.sent(lane(way), octets(self.alloc, digits)?)?;
         write!(out, " {said}\n")
     }
 
-    fn sent(&mut self, pdu: Vec<u8>) -> Result<&'static str, AllocError> {
-        if pdu.is_empty() || self.down.send(&pdu).is_err() {
+    fn sent(&mut self, lane: Lane, pdu: Vec<u8>) -> Result<&'static str, AllocError> {
+        if pdu.is_empty() || self.down.send(&pdu, lane).is_err() {
             return Ok("full");
         }
         self.sent.push(pdu)?;
@@ -119,12 +126,19 @@ impl Link {
         Ok(self.frames.len())
     }
 
-    fn makes_one(&mut self) -> Result<(), AllocError> {
+    fn makes_next(&mut self, out: &mut String) -> Result<(), AllocError> {
+        let told = word_of(self.down.next_lane());
+        let made = word_of(self.makes_one()?);
+        write!(out, " {told} {made}\n")
+    }
+
+    fn makes_one(&mut self) -> Result<Option<Lane>, AllocError> {
         let mut frame = vec![in self.alloc; 0u8; self.down.frame_len()]?;
-        if self.down.next_frame(&mut frame) {
+        let made = self.down.next_frame(&mut frame);
+        if made.is_some() {
             self.frames.push(frame)?;
         }
-        Ok(())
+        Ok(made)
     }
 
     fn tells(&self, place: usize, out: &mut String) -> Result<(), AllocError> {
@@ -159,6 +173,14 @@ impl Link {
         let mut came = Vec::new(self.alloc);
         take_marked(&mut self.up, &self.frames, marks, &mut came);
         tell_places(&self.sent, &came, out)
+    }
+}
+
+/// The word of a lane, if there is one.
+fn word_of(lane: Option<Lane>) -> &'static str {
+    match lane {
+        Some(lane) => lane_word(lane),
+        None => "none",
     }
 }
 

@@ -1,5 +1,5 @@
 //! How a program drives a station over a link of its own. README.md shows it.
-use cfdp_station::{EntityConfig, Inbox, LinkConfig, Outbox, Polled, Station, StationConfig};
+use cfdp_station::{EntityConfig, Inbox, Lane, LinkConfig, Outbox, Polled, Station, StationConfig};
 use std::alloc::{AllocError, Global};
 
 /// A link that a program has.
@@ -21,10 +21,15 @@ pub fn default_station<O: Outbox, I: Inbox>(
     let down = LinkConfig {
         spacecraft: 42,
         channel: 1,
+        data_channel: 3,
         zone: 1024,
         apid: 100,
     };
-    let up = LinkConfig { channel: 2, ..down };
+    let up = LinkConfig {
+        channel: 2,
+        data_channel: 4,
+        ..down
+    };
     let config = StationConfig::new(EntityConfig::new(1, 2), down, up);
     Station::new(alloc, config, outbox, inbox)
 }
@@ -43,9 +48,11 @@ pub fn turn<O: Outbox, I: Inbox, L: Link>(
     if station.poll()? == Polled::Nothing {
         station.flush();
     }
-    for _ in 0..station.frames_ahead() {
+    let directives = station.frames_ahead(Lane::Directives);
+    let file_data = station.frames_ahead(Lane::Data);
+    for _ in 0..directives.saturating_add(file_data) {
         let mut frame = vec![in alloc; 0u8; station.frame_len()]?;
-        if !station.next_frame(&mut frame) {
+        if station.next_frame(&mut frame).is_none() {
             break;
         }
         link.send(&frame);

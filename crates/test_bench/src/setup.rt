@@ -53,21 +53,22 @@ fn tell_new(words: &str, out: &mut String) -> Result<(), AllocError> {
 /// the calls with the last two numbers on, the outbox and the inbox of an entity fail.
 const KEYS: &str = "entity peer id_width number_width first_number segment checksum eof_time \
     nak_time finished_time inactivity_time down_channel down_zone down_apid up_channel up_zone \
-    up_apid capacity eof_limit nak_limit finished_limit ack_handler octets outbox_call inbox_call";
+    up_apid capacity eof_limit nak_limit finished_limit ack_handler octets outbox_call inbox_call \
+    down_data_channel up_data_channel";
 
 /// A number for each key.
-type Setup = [u64; 25];
+type Setup = [u64; 27];
 
 /// The first entity or station, with zones of 32 octets.
 const ONE: Setup = [
     1, 2, 2, 4, 1, 1024, 0, 10, 10, 10, 100, 5, 32, 100, 6, 32, 101, 16_384, 3, 3, 3, 0, 5,
-    1_000_000, 1_000_000,
+    1_000_000, 1_000_000, 7, 8,
 ];
 
 /// The second one.
 const TWO: Setup = [
     2, 1, 2, 4, 1, 1024, 0, 10, 10, 10, 100, 6, 32, 101, 5, 32, 100, 16_384, 3, 3, 3, 0, 5,
-    1_000_000, 1_000_000,
+    1_000_000, 1_000_000, 8, 7,
 ];
 
 /// A setup with other numbers: pairs of a key and its number, all of them words.
@@ -138,10 +139,11 @@ fn entity(setup: &Setup) -> EntityConfig {
     }
 }
 
-fn link(channel: u64, zone: u64, apid: u64) -> LinkConfig {
+fn link(channel: u64, data_channel: u64, zone: u64, apid: u64) -> LinkConfig {
     LinkConfig {
         spacecraft: 42,
         channel: octet(channel),
+        data_channel: octet(data_channel),
         zone: half_word(zone),
         apid: half_word(apid),
     }
@@ -150,8 +152,8 @@ fn link(channel: u64, zone: u64, apid: u64) -> LinkConfig {
 fn station(setup: &Setup) -> StationConfig {
     StationConfig {
         entity: entity(setup),
-        down: link(setup[11], setup[12], setup[13]),
-        up: link(setup[14], setup[15], setup[16]),
+        down: link(setup[11], setup[25], setup[12], setup[13]),
+        up: link(setup[14], setup[26], setup[15], setup[16]),
         capacity: usize::try_from(setup[17]).unwrap_or(0),
     }
 }

@@ -5,8 +5,8 @@
 //!     poll        to send one PDU
 //!     again N     to send N more, and to tell nothing
 //!     burst       to send all that is due, and to say how many PDUs, and why no more
-//!     flush       to fill the begun frame
-//!     ahead       to say how many whole frames may wait
+//!     flush       to fill the begun frame of each lane
+//!     ahead       to say how many whole frames may wait in each lane
 //!     link        to give its whole frames to the other station, and to write them
 //!     lose N      the same, where frame n is lost if bit n of N is 1; how many there were
 //!     pass        to send all that is due, and to give it to the other station
@@ -40,7 +40,7 @@ use crate::telling::{id_of, tell};
 use crate::words::{count, id, number, octets, pair, tell_octets};
 use cfdp_directives::Checksum;
 use cfdp_header::TransactionId;
-use cfdp_station::{EntityDrop, LinkDrop, Polled, Station, StationConfig};
+use cfdp_station::{EntityDrop, Lane, LinkDrop, Polled, Station, StationConfig};
 use cfdp_store::{Files, Inbox, MemoryInbox, MemoryOutbox};
 use link_stack::Up;
 use std::alloc::{AllocError, Global};
@@ -453,7 +453,7 @@ impl StationBench {
 
     fn says(&self, verb: &str, out: &mut String) -> Result<(), AllocError> {
         match verb {
-            "ahead" => write!(out, " {}\n", self.station.frames_ahead()),
+            "ahead" => self.tells_ahead(out),
             "told" => self.tells(out),
             "drops" => self.tells_drops(out),
             "inbox" => self.tells_inbox(out),
@@ -472,6 +472,12 @@ impl StationBench {
             "why" => self.tells_why(out),
             _ => unknown(out),
         }
+    }
+
+    fn tells_ahead(&self, out: &mut String) -> Result<(), AllocError> {
+        let directives = self.station.frames_ahead(Lane::Directives);
+        let file_data = self.station.frames_ahead(Lane::Data);
+        write!(out, " {directives} {file_data}\n")
     }
 
     fn tells_phases(&self, out: &mut String) -> Result<(), AllocError> {
@@ -529,7 +535,7 @@ impl StationBench {
     /// The next whole frame; no octet where none waits.
     fn frame(&mut self) -> Result<Vec<u8>, AllocError> {
         let mut frame = vec![in self.alloc; 0u8; self.station.frame_len()]?;
-        if !self.station.next_frame(&mut frame) {
+        if self.station.next_frame(&mut frame).is_none() {
             frame.clear();
         }
         Ok(frame)

@@ -1,4 +1,5 @@
 //! What the words of a transcript stand for, and words for what is told.
+use aos_frame::Lane;
 use cfdp_header::TransactionId;
 use hex::FromHexError;
 use std::alloc::{AllocError, Global};
@@ -41,6 +42,23 @@ pub fn octet(word: &str) -> u8 {
 /// Whether the word is `true`.
 pub fn flag(word: &str) -> bool {
     word == "true"
+}
+
+/// The lane of file data where the word is `data`, else that of directives.
+pub fn lane(word: &str) -> Lane {
+    if word == "data" {
+        Lane::Data
+    } else {
+        Lane::Directives
+    }
+}
+
+/// The word of a lane.
+pub fn lane_word(lane: Lane) -> &'static str {
+    match lane {
+        Lane::Directives => "dir",
+        Lane::Data => "data",
+    }
 }
 
 /// The transaction that SOURCE:NUMBER names.

@@ -3,14 +3,16 @@
 //!
 //!     put NAME         the first one is asked to send that file, to be published as `b.txt`
 //!     spread S         it sends all that is due, a frame for each PDU
-//!     deliver S N      so many of its frames arrive: how many did
-//!     strike S         its oldest frame is lost
+//!     deliver S N      so many of its frames arrive, those sent first: how many did
+//!     deliver S LANE N the same of one lane, `dir` or `data`
+//!     strike S         the frame that it sent first, of all that wait, is lost
+//!     strike S LANE    its oldest frame of a lane is lost
 //!     settle           all is settled
 //!     told S           to tell all that it indicated
-//!     frames S         how many of its frames are delivered, lost, and on their way
+//!     frames S         how many of its frames, of both lanes, are delivered, lost, and on their way
 //!     inbox S          to tell each published file
 //!     replay           a station of its own takes the frames that were delivered to the second
-//!                      one, and tells each published file
+//!                      one, those of directives first, and tells each published file
 //!     fronts           another takes each proper prefix of these frames, as in `strangers`
 //!     losses N         so many frames were struck in a row
 //!     lose, arrive     whether one more may be struck; and one arrives
@@ -23,7 +25,10 @@ use crate::words::{narrow, number, pair, tell_octets, text};
 use cfdp_directives::Octets;
 use cfdp_station::StationConfig;
 use cfdp_store::{Files, FuseInbox, FuseOutbox, MemoryInbox, MemoryOutbox};
-use link_sim::{Applied, Event, FrameLink, LossRun, MOST_STRUCK, Mark, Side, World, WorldConfig};
+use link_sim::{
+    Applied, Event, FrameLink, FrameLinks, Lane, LossRun, MOST_STRUCK, Mark, Side, World,
+    WorldConfig,
+};
 use std::alloc::{AllocError, Global};
 use std::marker::Model;
 
@@ -84,8 +89,8 @@ impl Bench for WorldBench {
         match verb {
             "put" => self.applies(&put(self.alloc, words)?, out),
             "spread" => self.world.spread(side(first)),
-            "deliver" => self.delivers(side(first), number(rest), out),
-            "strike" => self.applies(&Event::Strike(side(first)), out),
+            "deliver" => self.delivers(side(first), rest, out),
+            "strike" => self.strikes(side(first), rest, out),
             "settle" => self.settles(out),
             "replay" => self.replays(out),
             "fronts" => self.cuts(out),
@@ -148,10 +153,31 @@ impl WorldBench {
         write!(out, " {:?}\n", self.world.apply(event)?)
     }
 
-    fn delivers(&mut self, at: Side, most: u64, out: &mut String) -> Result<(), AllocError> {
+    /// The lane that was named, or that of the frame that was sent first.
+    fn lane_or_first(&self, at: Side, named: Option<Lane>) -> Lane {
+        match named {
+            Some(lane) => lane,
+            None => {
+                self.world
+                    .frames(at)
+                    .first_sent()
+                    .unwrap_or(Lane::Directives)
+            }
+        }
+    }
+
+    fn strikes(&mut self, at: Side, words: &str, out: &mut String) -> Result<(), AllocError> {
+        let (named, _) = lane_in(words);
+        let lane = self.lane_or_first(at, named);
+        self.applies(&Event::Strike(at, lane), out)
+    }
+
+    fn delivers(&mut self, at: Side, words: &str, out: &mut String) -> Result<(), AllocError> {
+        let (named, most) = lane_in(words);
         let mut count = 0u64;
-        for _ in 0..most {
-            if self.world.apply(&Event::Deliver(at))? == Applied::Applied {
+        for _ in 0..number(most) {
+            let lane = self.lane_or_first(at, named);
+            if self.world.apply(&Event::Deliver(at, lane))? == Applied::Applied {
                 count = count.saturating_add(1);
             }
         }
@@ -200,9 +226,26 @@ fn put(alloc: Global, name: &str) -> Result<Event, AllocError> {
     })
 }
 
-/// The frames of a link that were delivered.
-fn recorded(alloc: Global, link: &FrameLink) -> Result<Vec<Vec<u8>>, AllocError> {
+/// The lane that the first of these words names, if it does, and the words behind it.
+fn lane_in(words: &str) -> (Option<Lane>, &str) {
+    let (first, rest) = pair(words);
+    match first {
+        "dir" => (Some(Lane::Directives), rest),
+        "data" => (Some(Lane::Data), rest),
+        _ => (None, words),
+    }
+}
+
+/// The frames of a link that were delivered, those of directives first.
+fn recorded(alloc: Global, links: &FrameLinks) -> Result<Vec<Vec<u8>>, AllocError> {
     let mut frames = Vec::new(alloc);
+    record(alloc, links.lane(Lane::Directives), &mut frames)?;
+    record(alloc, links.lane(Lane::Data), &mut frames)?;
+    Ok(frames)
+}
+
+/// Appends the frames of a lane that were delivered.
+fn record(alloc: Global, link: &FrameLink, frames: &mut Vec<Vec<u8>>) -> Result<(), AllocError> {
     for place in 0..link.count() {
         if link.mark(place) == Some(Mark::Delivered)
             && let Some(frame) = link.frame(place)
@@ -210,7 +253,7 @@ fn recorded(alloc: Global, link: &FrameLink) -> Result<Vec<Vec<u8>>, AllocError>
             frames.push(Vec::from_slice(alloc, frame)?)?;
         }
     }
-    Ok(frames)
+    Ok(())
 }
 
 /// Gives a station these frames, and tells each file that it published. Of the station nothing is
@@ -227,10 +270,16 @@ fn replayed<R: Replay>(
     tell_files(alloc, station.files(), out)
 }
 
-fn tell_marks(link: &FrameLink, out: &mut String) -> Result<(), AllocError> {
-    let delivered = count_of(link, Mark::Delivered);
-    let (struck, waiting) = (count_of(link, Mark::Struck), count_of(link, Mark::Waiting));
+fn tell_marks(links: &FrameLinks, out: &mut String) -> Result<(), AllocError> {
+    let delivered = count_of_both(links, Mark::Delivered);
+    let struck = count_of_both(links, Mark::Struck);
+    let waiting = count_of_both(links, Mark::Waiting);
     write!(out, " {delivered} {struck} {waiting}\n")
+}
+
+fn count_of_both(links: &FrameLinks, mark: Mark) -> usize {
+    let directives = count_of(links.lane(Lane::Directives), mark);
+    directives.saturating_add(count_of(links.lane(Lane::Data), mark))
 }
 
 fn count_of(link: &FrameLink, mark: Mark) -> usize {

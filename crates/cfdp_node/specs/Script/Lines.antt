@@ -1,18 +1,23 @@
 -- What a script is: its lines, and what each means.
-use Rattle.std.specs.Prelude.{◌≡◌, ◌⊎◌, ◌+◌, ℕ, ◌==◌, Bool, true, false, ◌&&◌, not, nat_eq, nat_lt, nat_le, List, [], ◌∷◌, codes, length, min, if◌then◌else◌, Option, Some, None, is_none, option_map, option_and_then, fold, Result, Ok, Err, ⊤}
+use Rattle.std.specs.Prelude.{◌≡◌, ◌⊎◌, ◌+◌, ℕ, ◌==◌, Bool, true, false, ◌&&◌, not, nat_eq, nat_lt, nat_le, List, [], ◌∷◌, codes, length, min, if◌then◌else◌, Option, Some, None, is_none, is_some, option_map, option_and_then, fold, Result, Ok, Err, ⊤}
 use Rattle.std.specs.Option.{option_or}
 use Rattle.std.specs.List.{list_all, filter_map}
 use Rattle.std.specs.Cmp.Lexicographic.{pointwise}
 use Rattle.cfdp_header.specs.declared.value.TransactionId.{TransactionId}
+use Rattle.aos_frame.specs.declared.config.Lane.{Lane}
+use Rattle.aos_frame.specs.declared.config.Lane.TheVariants.{Directives, Data}
 use Rattle.link_sim.specs.declared.side.Side.{Side}
 use Rattle.link_sim.specs.declared.side.Side.TheVariants.{One, Two}
+use Rattle.link_sim.specs.declared.event.Event.{Event}
 use Rattle.link_sim.specs.declared.event.Event.TheVariants as event
 use Rattle.cfdp_node.specs.declared.script.command.Line.{Line}
 use Rattle.cfdp_node.specs.declared.script.command.Line.TheVariants as line
 use Rattle.cfdp_node.specs.declared.script.command.Contents.{Contents}
 use Rattle.cfdp_node.specs.declared.script.command.Contents.TheVariants.{Text, Fill}
 use Rattle.cfdp_node.specs.declared.script.command.Command.{Command}
-use Rattle.cfdp_node.specs.declared.script.command.Command.TheVariants.{Once, Repeat, Spread, Burst, Settle, Recover}
+use Rattle.cfdp_node.specs.declared.script.command.Command.TheVariants.{Once, Repeat, First, Spread, Burst, Settle, Recover}
+use Rattle.cfdp_node.specs.declared.script.command.Fate.{Fate}
+use Rattle.cfdp_node.specs.declared.script.command.Fate.TheVariants.{Arrives, IsLost}
 use Rattle.cfdp_node.specs.declared.script.command.Unread.{Unread}
 use Rattle.cfdp_node.specs.declared.script.command.Unread.TheVariants.{Bad, NoMemory}
 use Rattle.cfdp_node.specs.declared.script.command.FileLine.{FileLine}
@@ -49,6 +54,11 @@ id_of_parts _ = None
 
 abbrev pub id_of : List ℕ → Option TransactionId
 id_of word = id_of_parts (parts 58 word)
+
+-- a lane: `dir` for directives, `data` for file data
+abbrev pub lane_of : List ℕ → Option Lane
+lane_of word = if is word (codes "dir") then Some Directives
+    else if is word (codes "data") then Some Data else None
 
 -- whether a prompt asks for a Keep Alive, or else for a NAK
 abbrev pub asked_of : List ℕ → Option Bool
@@ -102,10 +112,33 @@ abbrev pub number_words : List (List ℕ) → Option (Side × ℕ)
 number_words words = option_and_then (λ w. both (λ at n. (at, n)) (station_of w.0) (number_of w.1))
     (two_of words)
 
--- a station and how often: once where no number stands there
-abbrev pub count_words : List (List ℕ) → Option (Side × ℕ)
-count_words words = option_or (option_map (λ at. (at, 1)) (station_words words))
-    (number_words words)
+-- how many: one where no number stands there
+abbrev pub count_of : List (List ℕ) → Option ℕ
+count_of words = if is_some (nothing_of words) then Some 1
+    else option_and_then number_of (one_of words)
+
+-- the event in which that befalls the oldest waiting frame which a station sent in a lane
+abbrev pub befalls : Fate → Side → Lane → Event
+befalls Arrives from lane = event.Deliver from lane
+befalls IsLost from lane = event.Strike from lane
+
+-- of which frames, where this word, which is the name of a lane or of none, stands there: those of
+-- the lane; or those sent first, so many as the word says
+abbrev pub which_by : Fate → Side → List ℕ → Option Lane → List (List ℕ) → Option Command
+which_by fate from word (Some lane) words = option_map (Repeat (befalls fate from lane))
+    (count_of words)
+which_by fate from word None words = both (λ _ count. First fate from count) (nothing_of words)
+    (number_of word)
+
+-- of the one sent first, where nothing stands there
+abbrev pub which_of : Fate → Side → List (List ℕ) → Option Command
+which_of fate from words = if is_some (nothing_of words) then Some (First fate from 1)
+    else option_and_then (λ w. which_by fate from w.0 (lane_of w.0) w.1) (next_word words)
+
+-- `deliver S [N]`, `deliver S LANE [N]`, and the same of `strike`
+abbrev pub frames_of : Fate → List (List ℕ) → Option Command
+frames_of fate words = option_and_then (λ w. option_and_then (λ from. which_of fate from w.1)
+    (station_of w.0)) (next_word words)
 
 -- `put S SRC DST`
 abbrev pub put_of : List (List ℕ) → Option Command
@@ -139,10 +172,8 @@ motion_of verb words =
     (station_words words)
     else if is verb (codes "tick") then option_map (λ w. Once (event.Tick w.0 w.1))
     (number_words words)
-    else if is verb (codes "deliver")
-    then option_map (λ w. Repeat (event.Deliver w.0) w.1) (count_words words)
-    else if is verb (codes "strike")
-    then option_map (λ w. Repeat (event.Strike w.0) w.1) (count_words words)
+    else if is verb (codes "deliver") then frames_of Arrives words
+    else if is verb (codes "strike") then frames_of IsLost words
     else round_of verb words
 
 -- these, and what a station's user asks of a transaction

@@ -1,12 +1,13 @@
 -- What each command of a script does to the two stations, and what it answers.
-use Rattle.std.specs.Prelude.{◌<◌, ◌≡◌, ℕ, List, [], ◌∷◌, Option, None, Some}
+use Rattle.std.specs.Prelude.{◌<◌, ◌≡◌, ◌⊎◌, ℕ, List, length, [], ◌∷◌, Option, None, Some}
 use Rattle.cfdp_directives.specs.declared.user.indication.Indication.{Indication}
+use Rattle.aos_frame.specs.declared.config.Lane.{Lane}
 use Rattle.cfdp_header.specs.Files.{FileMap}
 use Rattle.link_sim.specs.Recovering.{EndsBy, IsRecovered, Recovers}
 use Rattle.link_sim.specs.Settling.{GoesWell, HasCause, IsSettled}
 use Rattle.link_sim.specs.Spreading.{BurstFindsNoMemory, Bursts, SpreadFindsNoMemory, Spreads, Times}
-use Rattle.link_sim.specs.World.State.{WorldState, entity_at}
-use Rattle.link_sim.specs.World.Steps.{FindsNoMemory, Steps, WantsMemory, side_in}
+use Rattle.link_sim.specs.World.State.{WorldState, entity_at, lane_from}
+use Rattle.link_sim.specs.World.Steps.{FindsNoMemory, NoneWaits, Steps, WantsMemory, side_in}
 use Rattle.link_sim.specs.declared.event.Applied.TheVariants as did
 use Rattle.link_sim.specs.declared.event.Event.{Event}
 use Rattle.link_sim.specs.declared.event.Event.TheVariants as event
@@ -18,7 +19,9 @@ use Rattle.cfdp_node.specs.declared.report.answer.Answer.{Answer}
 use Rattle.cfdp_node.specs.declared.report.answer.Answered.{Answered}
 use Rattle.cfdp_node.specs.declared.report.answer.Answer.TheVariants.{Nothing, Refused, Ended}
 use Rattle.cfdp_node.specs.declared.script.command.Command.{Command}
-use Rattle.cfdp_node.specs.declared.script.command.Command.TheVariants.{Once, Repeat, Spread, Burst, Settle as SettleAll, Recover}
+use Rattle.cfdp_node.specs.declared.script.command.Command.TheVariants.{Once, Repeat, First, Spread, Burst, Settle as SettleAll, Recover}
+use Rattle.cfdp_node.specs.declared.script.command.Fate.{Fate}
+use Rattle.cfdp_node.specs.Script.Lines.{befalls}
 use Rattle.cfdp_node.specs.declared.script.Step.{Step}
 
 -- what a station told its user so far, and the files that it received
@@ -50,6 +53,25 @@ HappensOften e count (Some answer) old new = (before : ℕ) × (before < count)
     × (last : WorldState) × Times (Steps e did.Applied) before old last
     × HappensOnce e (Some answer) last new
 
+-- ---- frames of either lane
+-- A frame that a station sent waits in this lane, or none waits in either.
+abbrev pub MayTake : Side → Lane → WorldState → Type 0
+MayTake s lane w = (length (lane_from s lane w).marks < length (lane_from s lane w).frames)
+    ⊎ ((l : Lane) → NoneWaits s l w)
+
+-- That befell the oldest waiting frame of a lane in which one waited, or the answer says why it
+-- didn't: that there was nothing to do only where none waited in either.
+abbrev pub HappensToFirst : Fate → Side → Option Answer → (old new : WorldState) → Type 0
+HappensToFirst fate s answer old new =
+    (lane : Lane) × MayTake s lane old × HappensOnce (befalls fate s lane) answer old new
+
+-- So it befell so many; or fewer, and then came the answer.
+abbrev pub HappensToFirsts : Fate → Side → ℕ → Option Answer → (old new : WorldState) → Type 0
+HappensToFirsts fate s count None old new = Times (HappensToFirst fate s None) count old new
+HappensToFirsts fate s count (Some answer) old new = (before : ℕ) × (before < count)
+    × (last : WorldState) × Times (HappensToFirst fate s None) before old last
+    × HappensToFirst fate s (Some answer) last new
+
 -- All was done; or an error ended it before, which is the answer.
 abbrev pub IsDone : Option Answer → Type 0 → (RecoverError → Type 0) → Type 0
 IsDone None done ended = done
@@ -66,6 +88,7 @@ SettlingEnds StillArmed old new = ⊥
 abbrev pub Performs : Command → Option Answer → (old new : WorldState) → Type 0
 Performs (Once e) answer old new = HappensOnce e answer old new
 Performs (Repeat e count) answer old new = HappensOften e count answer old new
+Performs (First fate s count) answer old new = HappensToFirsts fate s count answer old new
 Performs (Spread s) answer old new =
     IsDone answer (Spreads s old new) (λ error. ForMemory error (SpreadFindsNoMemory s old new))
 Performs (Burst s) answer old new =

@@ -107,8 +107,20 @@ entity_of s side = record {
 
 -- the frames that a station sends
 abbrev pub link_of : Side → ℕ → LinkConfig
-link_of One zone = record { spacecraft = 42; channel = 5; zone = zone; apid = 100 }
-link_of Two zone = record { spacecraft = 42; channel = 6; zone = zone; apid = 101 }
+link_of One zone = record {
+  spacecraft = 42;
+  channel = 5;
+  data_channel = 7;
+  zone = zone;
+  apid = 100;
+}
+link_of Two zone = record {
+  spacecraft = 42;
+  channel = 6;
+  data_channel = 8;
+  zone = zone;
+  apid = 101;
+}
 
 -- a station takes the frames that the other sends
 abbrev pub station_of : Settings → Side → StationConfig

@@ -24,16 +24,16 @@ drawn_octet octet = if is_drawn octet then octet ∷ [] else codes "#" ++ (decim
 -- open head where they leave and a closed one where they arrive; a cross is a frame that is lost.
 -- All else is a note at the station.
 abbrev pub arrow : Side → Deed → List ℕ
-arrow One SendsFrame = codes "S1--)S2: "
-arrow Two SendsFrame = codes "S2--)S1: "
+arrow One (SendsFrame lane) = codes "S1--)S2: "
+arrow Two (SendsFrame lane) = codes "S2--)S1: "
 arrow One SendsPdu = codes "S1-)S2: "
 arrow Two SendsPdu = codes "S2-)S1: "
-arrow One TakesFrame = codes "S2-->>S1: "
-arrow Two TakesFrame = codes "S1-->>S2: "
+arrow One (TakesFrame lane) = codes "S2-->>S1: "
+arrow Two (TakesFrame lane) = codes "S1-->>S2: "
 arrow One HearsPdu = codes "S2->>S1: "
 arrow Two HearsPdu = codes "S1->>S2: "
-arrow One LosesFrame = codes "S1-xS2: "
-arrow Two LosesFrame = codes "S2-xS1: "
+arrow One (LosesFrame lane) = codes "S1-xS2: "
+arrow Two (LosesFrame lane) = codes "S2-xS1: "
 arrow One Ticks = codes "Note over S1: "
 arrow Two Ticks = codes "Note over S2: "
 arrow One Drops = codes "Note over S1: "

@@ -1,31 +1,34 @@
 -- What a trace says of what was seen at two stations.
 use Rattle.std.specs.Prelude.{◌≡◌, ℕ, false, List, ◌++◌, codes, decimal}
+use Rattle.aos_frame.specs.declared.config.Lane.TheVariants.{Directives, Data}
 use Rattle.link_sim.specs.Stations.{entity_of}
 use Rattle.cfdp_node.specs.Dump.Lines.{TellsAsFrame, TellsAsPdu}
 use Rattle.cfdp_node.specs.declared.watch.sighting.Deed.{Deed}
 use Rattle.cfdp_node.specs.declared.watch.sighting.Deed.TheVariants.{SendsFrame, SendsPdu, TakesFrame, HearsPdu, LosesFrame, Ticks, Drops, Tells}
 use Rattle.cfdp_node.specs.declared.watch.sighting.Sighting.{Sighting}
 
--- the word for what a station did
+-- the word for what a station did, with the lane of a frame
 abbrev pub deed_word : Deed → List ℕ
-deed_word SendsFrame = codes "sends"
+deed_word (SendsFrame Directives) = codes "sends dir"
+deed_word (SendsFrame Data) = codes "sends data"
 deed_word SendsPdu = codes "sends"
-deed_word TakesFrame = codes "takes"
+deed_word (TakesFrame Directives) = codes "takes dir"
+deed_word (TakesFrame Data) = codes "takes data"
 deed_word HearsPdu = codes "hears"
-deed_word LosesFrame = codes "loses"
+deed_word (LosesFrame Directives) = codes "loses dir"
+deed_word (LosesFrame Data) = codes "loses data"
 deed_word Ticks = codes "ticks"
 deed_word Drops = codes "drops"
 deed_word Tells = codes "tells"
 
--- Behind that word stands what a dump says of the frame or the PDU. Of the time, of a drop and of
--- an
+-- Behind that stands what a dump says of the frame or the PDU. Of the time, of a drop and of an
 -- indication the words were noted.
 abbrev pub TellsWords : Deed → (zone : ℕ) → List ℕ → List ℕ → Type 0
-TellsWords SendsFrame zone octets = TellsAsFrame false zone octets
+TellsWords (SendsFrame lane) zone octets = TellsAsFrame false zone octets
 TellsWords SendsPdu zone octets = TellsAsPdu false octets
-TellsWords TakesFrame zone octets = TellsAsFrame false zone octets
+TellsWords (TakesFrame lane) zone octets = TellsAsFrame false zone octets
 TellsWords HearsPdu zone octets = TellsAsPdu false octets
-TellsWords LosesFrame zone octets = TellsAsFrame false zone octets
+TellsWords (LosesFrame lane) zone octets = TellsAsFrame false zone octets
 TellsWords Ticks zone octets = λ words. words ≡ octets
 TellsWords Drops zone octets = λ words. words ≡ octets
 TellsWords Tells zone octets = λ words. words ≡ octets

@@ -1,11 +1,14 @@
 -- One turn of a station over a wire.
-use Rattle.std.specs.Prelude.{◌≡◌, ◌≢◌, ◌⊎◌, ◌<◌, ◌≤◌, ℕ, zero, suc, ◌+◌, ◌-◌, ◌==◌, List, length, Option, Some, None, Result, Ok, Err, ⊤, if◌then◌else◌}
+use Rattle.std.specs.Prelude.{◌≡◌, ◌≢◌, ◌⊎◌, ◌<◌, ◌≤◌, ℕ, zero, suc, ◌+◌, ◌-◌, ◌==◌, List, Option, Some, None, Result, Ok, Err, ⊤, if◌then◌else◌}
 use Rattle.cfdp_entity.specs.Entity.{with_table}
 use Rattle.cfdp_entity.specs.Gives.{CountsOutbox}
 use Rattle.cfdp_entity.specs.Polling.{turn}
 use Rattle.cfdp_entity.specs.Sound.{SpellsTurn}
 use Rattle.cfdp_entity.specs.Table.{Ticks}
-use Rattle.cfdp_station.specs.Link.{Flushes, MakesFrame}
+use Rattle.aos_frame.specs.Frame.{other_lane}
+use Rattle.aos_frame.specs.declared.config.Lane.{Lane}
+use Rattle.link_stack.specs.Downward.{DownState, MakesFrame, frame_lane, lane_down}
+use Rattle.cfdp_station.specs.Link.{FlushesBoth}
 use Rattle.cfdp_station.specs.Polling.{Polls, stored_by_poll}
 use Rattle.cfdp_station.specs.Station.{StationState, KeepsLink, KeepsRest}
 use Rattle.cfdp_station.specs.Taking.{TakesFrame}
@@ -82,15 +85,30 @@ pub record End (W : Type 0) : Type 0 where
   pub station : StationState
   pub wire : W
 
+-- The zones of both lanes have an octet.
+abbrev pub HasZones : DownState → Type 0
+HasZones d = (1 ≤ d.directives.link.zone) × (1 ≤ d.file_data.link.zone)
+
 -- A buffer of so many octets is as long as the frames that a station sends.
 abbrev pub FitsFrames : ℕ → StationState → Type 0
-FitsFrames len s = (1 ≤ s.down.link.zone) × (len ≡ 8 + s.down.link.zone)
+FitsFrames len s = HasZones s.down × (len ≡ 8 + s.down.directives.link.zone)
+
+-- Each lane has the link that it had.
+abbrev pub KeepsLanes : (old new : DownState) → Type 0
+KeepsLanes old new = (new.directives.link ≡ old.directives.link)
+    × (new.file_data.link ≡ old.file_data.link)
 
 module _ {W : Type 0} (Steps : W → WireCall → W → Type 0) where
-  -- The oldest whole frame left the station. The wire was to send it, unless it is to be lost.
+  -- The oldest whole frame of the lane whose turn it is left the station; the other lane is as it
+  -- was. The wire was to send the frame, unless it is to be lost.
   pub record SendsFrame (every : ℕ) (old new : Sending W) : Type 0 where
     pub frame : List ℕ
-    pub makes : MakesFrame frame old.station.down new.station.down
+    pub lane : Lane
+    pub is_next : frame_lane old.station.down ≡ Some lane
+    pub makes : MakesFrame frame (lane_down lane old.station.down) (lane_down lane new.station.down)
+    pub other : lane_down (other_lane lane) new.station.down
+        ≡ lane_down (other_lane lane) old.station.down
+    pub packet_count : new.station.down.packet_count ≡ old.station.down.packet_count
     pub rest : KeepsRest old.station new.station
     pub left : new.left ≡ next_left every old.left
     pub lost : old.left ≡ 1 → new.wire ≡ old.wire
@@ -101,7 +119,7 @@ module _ {W : Type 0} (Steps : W → WireCall → W → Type 0) where
   pub record SendsWhole (every : ℕ) (old new : Sending W) : Type 0 where
     pub count : ℕ
     pub sent : Times (SendsFrame every) count old new
-    pub none_whole : length new.station.down.waiting < new.station.down.link.zone
+    pub none_whole : frame_lane new.station.down ≡ None
 
   -- A station was told the time, polled, and flushed, and all whole frames left.
   pub record Sends (every now : ℕ) (old new : Sending W) : Type 0 where
@@ -110,7 +128,7 @@ module _ {W : Type 0} (Steps : W → WireCall → W → Type 0) where
     pub flushed : StationState
     pub tells : TellsTime now old.station told
     pub polls : PollsOut told polled
-    pub flushes : Flushes polled.down flushed.down × KeepsRest polled flushed
+    pub flushes : FlushesBoth polled.down flushed.down × KeepsRest polled flushed
     pub sends : SendsWhole every (record old { station = flushed }) new
 
   -- ---- datagrams that come

@@ -2,14 +2,14 @@ ghost use Rattle.std.specs.Prelude.{◌≡◌};
 ghost use Rattle.std.specs.Result.{result_ok};
 ghost use Rattle.cfdp_node.specs.Script.Numbers.{number_of, octet_of};
 ghost use Rattle.cfdp_node.specs.Script.Words.{left};
-ghost use Rattle.cfdp_node.specs.Script.Lines.{Reads, both, line_of, meaning, set_of, file_of, fill_of, fill_count, command_of, put_of, call_of, motion_of, round_of, station_words, transaction_words, number_words, count_words, prompt_of, asked_of, id_of, station_of, setting_of, patience_of, handler_key};
+ghost use Rattle.cfdp_node.specs.Script.Lines.{Reads, both, line_of, meaning, set_of, file_of, fill_of, fill_count, command_of, put_of, call_of, motion_of, round_of, station_words, transaction_words, number_words, frames_of, which_of, count_of, lane_of, prompt_of, asked_of, id_of, station_of, setting_of, patience_of, handler_key};
 
 use crate::script::number::{parse_hex_octet, parse_number};
 use crate::script::settings::Setting;
 use crate::script::words::{Words, cut_at_first};
 use cfdp_directives::Octets;
 use cfdp_header::TransactionId;
-use link_sim::{Event, Side};
+use link_sim::{Event, Lane, Side};
 use std::alloc::{AllocError, Global};
 use std::fmt;
 
@@ -53,8 +53,11 @@ pub enum Command {
     /// An event: `put S SRC DST`, `cancel S ID`, `suspend S ID`, `resume S ID`, `prompt S ID nak`,
     /// `prompt S ID keep`, `poll S`, `flush S`, `tick S N`.
     Once(Event),
-    /// An event so many times: `deliver S [N]`, `strike S [N]`.
+    /// An event so many times: `deliver S dir [N]`, `strike S data [N]`.
     Repeat(Event, u64),
+    /// So many times what befalls the frame that the station sent first, of all of its frames that
+    /// wait in either lane: `deliver S [N]`, `strike S [N]`.
+    First { fate: Fate, from: Side, count: u64 },
     /// `spread S`: polls until nothing is due, with a flush after each PDU.
     Spread(Side),
     /// `burst S`: polls until nothing is due, then one flush.
@@ -64,6 +67,29 @@ pub enum Command {
     /// `recover`: settles, and tells stations the time and settles again, until no timer is armed
     /// but those of Inactivity.
     Recover,
+}
+
+/// What befalls a frame that waits.
+#[derive(Clone, Copy)]
+pub enum Fate {
+    /// It arrives.
+    Arrives,
+    /// It is lost.
+    IsLost,
+}
+
+impl Fate {
+    ghost use Rattle.cfdp_node.specs.Script.Lines.{befalls};
+
+    /// The event in which it befalls the oldest waiting frame that this station sent in this lane.
+    pub fn event(self, from: Side, lane: Lane) -> Event
+        ensures { result ≡ befalls self from lane }
+    {
+        match self {
+            Fate::Arrives => Event::Deliver(from, lane),
+            Fate::IsLost => Event::Strike(from, lane),
+        }
+    }
 }
 
 /// Why a line was not read.
@@ -118,6 +144,8 @@ pub enum LineError {
     UnknownStation,
     /// A number isn't decimal digits below 2^64.
     BadNumber,
+    /// What stands where a lane or a number can isn't `dir` or `data`, nor such a number.
+    UnknownLane,
     /// A transaction isn't two numbers with a colon between.
     BadId,
     /// What a prompt asks for isn't `nak` or `keep`.
@@ -151,6 +179,9 @@ impl fmt::Display for LineError {
             LineError::UnknownKey => f.write_str("there is no such setting"),
             LineError::UnknownStation => f.write_str("a station is 1 or 2"),
             LineError::BadNumber => f.write_str("a number is decimal digits, below 2^64"),
+            LineError::UnknownLane => f.write_str(
+                "a lane is dir or data, and a number is decimal digits, below 2^64",
+            ),
             LineError::BadId => f.write_str("a transaction is two numbers with a colon between"),
             LineError::UnknownPrompt => f.write_str("a prompt asks for nak or keep"),
             LineError::FileTooLong => f.write_str("a file to fill has at most 1,048,576 octets"),
@@ -306,11 +337,9 @@ fn parse_motion(verb: &[u8], words: Words<'_>) -> Result<Command, LineError>
         let (at, now) = parse_number_at(words)?;
         Ok(Command::Once(Event::Tick { at, now }))
     } else if verb == b"deliver".as_slice() {
-        let (from, count) = parse_count(words)?;
-        Ok(Command::Repeat(Event::Deliver(from), count))
+        parse_frames(Fate::Arrives, words)
     } else if verb == b"strike".as_slice() {
-        let (from, count) = parse_count(words)?;
-        Ok(Command::Repeat(Event::Strike(from), count))
+        parse_frames(Fate::IsLost, words)
     } else {
         parse_round(verb, words)
     }
@@ -358,17 +387,57 @@ fn parse_number_at(words: Words<'_>) -> Result<(Side, u64), LineError>
     Ok((parse_station(station)?, parse_value(number)?))
 }
 
-/// A station and how often: once where no number stands there.
-fn parse_count(mut words: Words<'_>) -> Result<(Side, u64), LineError>
-    ensures { result_ok result ≡ count_words (left words.entry) }
+/// What befalls frames: of which station, and of which of them.
+fn parse_frames(fate: Fate, mut words: Words<'_>) -> Result<Command, LineError>
+    ensures { result_ok result ≡ frames_of fate (left words.entry) }
 {
-    let station = words.next_word()?;
-    let count = if words.is_empty() {
-        1
+    let from = parse_station(words.next_word()?)?;
+    parse_which(fate, from, words)
+}
+
+/// Which frames: those of a lane or of both, and how many: one where no number stands there.
+fn parse_which(fate: Fate, from: Side, mut words: Words<'_>) -> Result<Command, LineError>
+    ensures { result_ok result ≡ which_of fate from (left words.entry) }
+{
+    if words.is_empty() {
+        return Ok(Command::First {
+            fate,
+            from,
+            count: 1,
+        });
+    }
+    let word = words.next_word()?;
+    match parse_lane(word) {
+        Some(lane) => Ok(Command::Repeat(fate.event(from, lane), parse_count(words)?)),
+        None => {
+            words.end()?;
+            let count = parse_number(word).ok_or(LineError::UnknownLane)?;
+            Ok(Command::First { fate, from, count })
+        }
+    }
+}
+
+/// How many: one where no number stands there.
+fn parse_count(words: Words<'_>) -> Result<u64, LineError>
+    ensures { result_ok result ≡ count_of (left words.entry) }
+{
+    if words.is_empty() {
+        return Ok(1);
+    }
+    parse_value(words.one()?)
+}
+
+/// The lane of this name.
+fn parse_lane(word: &[u8]) -> Option<Lane>
+    ensures { result ≡ lane_of word.now }
+{
+    if word == b"dir".as_slice() {
+        Some(Lane::Directives)
+    } else if word == b"data".as_slice() {
+        Some(Lane::Data)
     } else {
-        parse_value(words.one()?)?
-    };
-    Ok((parse_station(station)?, count))
+        None
+    }
 }
 
 fn parse_prompt(words: Words<'_>) -> Result<Command, LineError>

@@ -77,8 +77,10 @@ its number, so that none comes back when a station is started anew.
 
 Keys of --set, beside those of 'sim --help', which hold for this station alone:
   spacecraft 42            of both directions, 0 to 255
-  channel 5, apid 100      of the frames that it sends, 0 to 62 and 0 to 2046
-  peer_channel 6, peer_apid 101
+  channel 5, data_channel 7, apid 100
+                           of the frames that it sends, with directives and with
+                           file data: 0 to 62, and 0 to 2046
+  peer_channel 6, peer_data_channel 8, peer_apid 101
                            of those that it takes
 Of the two stations that with the greater id has channels and APIDs exchanged.
 number_width is 8 here, and a unit of times is a second.

@@ -8,7 +8,7 @@ ghost use Rattle.cfdp_node.specs.Looping.Turns.{IsTold, told};
 ghost use Rattle.cfdp_node.specs.Report.Lines.{count_line, indication_line, is_own_completion};
 ghost use Rattle.cfdp_node.specs.Station.Serving.{EndsFrom, EndsStation, IsWritten, Longer, MakesPut, MakesPuts, Serves, ServesTo, TakesOne, TakesTurns, completed, station_exit};
 ghost use Rattle.cfdp_node.specs.Station.Serving as spec;
-ghost use Rattle.cfdp_node.specs.Wire.Turn.{FitsFrames, SendsInPart};
+ghost use Rattle.cfdp_node.specs.Wire.Turn.{FitsFrames, HasZones, SendsInPart};
 ghost use Rattle.cfdp_station.specs.Config.{IsStationConfig};
 
 use crate::dropping::let_go;
@@ -135,7 +135,7 @@ fn run_on<O: Outbox, I: Inbox, W: PeerWire, C: Clock, V: Write, L: Lookout>(
     out: &mut V,
     lookout: &mut L,
 ) -> Exit
-    requires { 1 ≤ station.old.down.link.zone }
+    requires { HasZones station.old.down }
     ensures { IsTold result (EndsFrom W.steps W.silent options.now.config.entity.entity
         options.now.drop_every options.now.puts.items result
         (record { station = station.old; wire = wire; left = options.now.drop_every })
@@ -256,7 +256,7 @@ fn make_puts<O: Outbox, I: Inbox, V: Write, L: Lookout>(
         (record { station = station.old; ids = []; lines = []; short = false })
         (record { station = station.new; ids = ids.new.items; lines = lines; short = short })
         × Appends (V.contents out.old) (V.contents out.new) lines) }
-    ensures link { station.new.down.link ≡ station.old.down.link }
+    ensures down { station.new.down ≡ station.old.down }
 {
     let puts = options.puts.as_slice();
     let mut short = false;
@@ -287,7 +287,7 @@ fn make_put<O: Outbox, I: Inbox, L: Lookout>(
         result.short ids.old.items ids.new.items station.old station.new }
     ensures room { vec_capacity ids.old ≤ vec_capacity ids.new }
     ensures more { vec_len ids.new ≤ vec_len ids.old + 1 }
-    ensures link { station.new.down.link ≡ station.old.down.link }
+    ensures down { station.new.down ≡ station.old.down }
 {
     match station.put(names.source.as_slice(), names.destination.as_slice()) {
         Ok(id) => {

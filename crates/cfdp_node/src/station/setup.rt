@@ -9,8 +9,9 @@ use link_sim::WorldConfig;
 
 /// The frames of one direction, as numbers that may fit no frame.
 #[derive(Clone, Copy)]
-struct Lane {
+struct Direction {
     channel: u64,
+    data_channel: u64,
     apid: u64,
 }
 
@@ -19,20 +20,22 @@ struct Lane {
 pub struct StationSetup {
     settings: Settings,
     spacecraft: u64,
-    own: Lane,
-    peer: Lane,
+    own: Direction,
+    peer: Direction,
 }
 
 impl StationSetup {
     /// What holds without `--set`: of both stations that with the lesser id sends as the first one
     /// of a script.
     pub fn new(is_lesser: bool, first_number: u64) -> StationSetup {
-        let one = Lane {
+        let one = Direction {
             channel: 5,
+            data_channel: 7,
             apid: 100,
         };
-        let two = Lane {
+        let two = Direction {
             channel: 6,
+            data_channel: 8,
             apid: 101,
         };
         let (own, peer) = if is_lesser { (one, two) } else { (two, one) };
@@ -54,10 +57,14 @@ impl StationSetup {
             self.spacecraft = value;
         } else if key == "channel" {
             self.own.channel = value;
+        } else if key == "data_channel" {
+            self.own.data_channel = value;
         } else if key == "apid" {
             self.own.apid = value;
         } else if key == "peer_channel" {
             self.peer.channel = value;
+        } else if key == "peer_data_channel" {
+            self.peer.data_channel = value;
         } else if key == "peer_apid" {
             self.peer.apid = value;
         } else if let Some(setting) = parse_setting(key.as_bytes()) {
@@ -87,12 +94,13 @@ impl StationSetup {
     }
 
     /// A direction of the link, where each value fits its field.
-    fn link(&self, lane: Lane) -> Option<LinkConfig> {
+    fn link(&self, direction: Direction) -> Option<LinkConfig> {
         Some(LinkConfig {
             spacecraft: u8::try_from(self.spacecraft).ok()?,
-            channel: u8::try_from(lane.channel).ok()?,
+            channel: u8::try_from(direction.channel).ok()?,
+            data_channel: u8::try_from(direction.data_channel).ok()?,
             zone: u16::try_from(self.settings.zone).ok()?,
-            apid: u16::try_from(lane.apid).ok()?,
+            apid: u16::try_from(direction.apid).ok()?,
         })
     }
 }

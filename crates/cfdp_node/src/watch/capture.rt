@@ -47,10 +47,10 @@ fn write_record<W: Write>(out: &mut W, sighting: &Sighting) -> io::Result<()>
 {
     match sighting.deed {
         Deed::SendsPdu => write_pdu(out, sighting.event, sighting.place, &sighting.octets),
-        Deed::SendsFrame
-        | Deed::TakesFrame
+        Deed::SendsFrame(_)
+        | Deed::TakesFrame(_)
         | Deed::HearsPdu
-        | Deed::LosesFrame
+        | Deed::LosesFrame(_)
         | Deed::Ticks
         | Deed::Drops
         | Deed::Tells => Ok(()),

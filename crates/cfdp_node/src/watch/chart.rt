@@ -99,16 +99,16 @@ fn arrow(station: Side, deed: Deed) -> &'static str
     ensures { result.now ≡ charts.arrow station deed }
 {
     match (station, deed) {
-        (Side::One, Deed::SendsFrame) => "S1--)S2: ",
-        (Side::Two, Deed::SendsFrame) => "S2--)S1: ",
+        (Side::One, Deed::SendsFrame(_)) => "S1--)S2: ",
+        (Side::Two, Deed::SendsFrame(_)) => "S2--)S1: ",
         (Side::One, Deed::SendsPdu) => "S1-)S2: ",
         (Side::Two, Deed::SendsPdu) => "S2-)S1: ",
-        (Side::One, Deed::TakesFrame) => "S2-->>S1: ",
-        (Side::Two, Deed::TakesFrame) => "S1-->>S2: ",
+        (Side::One, Deed::TakesFrame(_)) => "S2-->>S1: ",
+        (Side::Two, Deed::TakesFrame(_)) => "S1-->>S2: ",
         (Side::One, Deed::HearsPdu) => "S2->>S1: ",
         (Side::Two, Deed::HearsPdu) => "S1->>S2: ",
-        (Side::One, Deed::LosesFrame) => "S1-xS2: ",
-        (Side::Two, Deed::LosesFrame) => "S2-xS1: ",
+        (Side::One, Deed::LosesFrame(_)) => "S1-xS2: ",
+        (Side::Two, Deed::LosesFrame(_)) => "S2-xS1: ",
         (Side::One, Deed::Ticks | Deed::Drops | Deed::Tells) => "Note over S1: ",
         (Side::Two, Deed::Ticks | Deed::Drops | Deed::Tells) => "Note over S2: ",
     }

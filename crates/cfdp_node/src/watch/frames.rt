@@ -3,18 +3,26 @@ ghost use Rattle.aos_frame.specs.Frame.{IsLink};
 
 use crate::watch::sighting::{Deed, Log};
 use cfdp_station::LinkConfig;
-use link_sim::{FrameLink, Mark, Side};
+use link_sim::{FrameLink, FrameLinks, Lane, Mark, Side};
 use link_stack::{LinkDrop, Up};
 use std::alloc::{AllocError, Global};
+
+/// How many frames of a lane were seen to leave, and how many to arrive or to be lost.
+#[derive(Clone, Copy)]
+struct Counts {
+    sent: usize,
+    taken: usize,
+}
 
 /// How far the frames that a station sends were seen, and the PDUs in them.
 #[derive(Drop)]
 pub struct Watch {
     alloc: Global,
     from: Side,
-    // How many frames were seen to leave, and how many to arrive or to be lost.
-    sent: usize,
-    taken: usize,
+    // The virtual channel of frames that carry file data.
+    data_channel: u8,
+    directives: Counts,
+    file_data: Counts,
     // What finds the PDUs in the frames that left, and in those that arrived.
     sending: Up,
     hearing: Up,
@@ -32,42 +40,60 @@ impl Watch {
         Ok(Watch {
             alloc,
             from,
-            sent: 0,
-            taken: 0,
+            data_channel: link.data_channel,
+            directives: Counts { sent: 0, taken: 0 },
+            file_data: Counts { sent: 0, taken: 0 },
             sending: Up::new(alloc, link)?,
             hearing: Up::new(alloc, link)?,
         })
     }
 
     /// Notes what became of these frames in one event: any number were sent, and at most one
-    /// arrived or was lost.
-    pub fn look(&mut self, link: &FrameLink, log: &mut Log) {
-        for place in self.sent..link.count() {
+    /// arrived or was lost. Directives are sent first.
+    pub fn look(&mut self, links: &FrameLinks, log: &mut Log) {
+        self.directives = self.look_at(Lane::Directives, self.directives, links, log);
+        self.file_data = self.look_at(Lane::Data, self.file_data, links, log);
+    }
+
+    /// Notes what became of those of one lane, of which so many were seen before. Answers how many
+    /// are seen now.
+    fn look_at(&mut self, lane: Lane, seen: Counts, links: &FrameLinks, log: &mut Log) -> Counts {
+        let link = links.lane(lane);
+        for place in seen.sent..link.count() {
             if let Some(frame) = link.frame(place) {
-                self.leaves(frame, log);
+                self.leaves(lane, frame, log);
             }
         }
-        self.sent = link.count();
-        if let Some(mark) = link.mark(self.taken)
-            && let Some(frame) = link.frame(self.taken)
-        {
-            self.look_at(mark, frame, log);
+        Counts {
+            sent: link.count(),
+            taken: self.look_at_oldest(lane, seen.taken, link, log),
         }
     }
 
-    /// Notes what became of the oldest frame that waited.
-    fn look_at(&mut self, mark: Mark, frame: &[u8], log: &mut Log) {
-        match mark {
-            Mark::Waiting => return,
-            Mark::Struck => self.loses(frame, log),
-            Mark::Delivered => self.arrives(frame, log),
+    /// Notes what became of the oldest frame of a lane that waited. Answers how many wait no more.
+    fn look_at_oldest(
+        &mut self,
+        lane: Lane,
+        taken: usize,
+        link: &FrameLink,
+        log: &mut Log,
+    ) -> usize {
+        if let Some(mark) = link.mark(taken)
+            && let Some(frame) = link.frame(taken)
+        {
+            match mark {
+                Mark::Waiting => return taken,
+                Mark::Struck => self.loses(lane, frame, log),
+                Mark::Delivered => self.arrives(lane, frame, log),
+            }
+            return taken.saturating_add(1);
         }
-        self.taken = self.taken.saturating_add(1);
+        taken
     }
 
     /// Notes that a frame left, and which PDUs left with it.
-    pub fn leaves(&mut self, frame: &[u8], log: &mut Log) {
-        log.note(self.from, Deed::SendsFrame, frame);
+    pub fn leaves(&mut self, lane: Lane, frame: &[u8], log: &mut Log) {
+        log.note(self.from, Deed::SendsFrame(lane), frame);
         note_pdus(
             self.alloc,
             &mut self.sending,
@@ -79,14 +105,26 @@ impl Watch {
     }
 
     /// Notes that a frame which left is lost.
-    pub fn loses(&self, frame: &[u8], log: &mut Log) {
-        log.note(self.from, Deed::LosesFrame, frame);
+    pub fn loses(&self, lane: Lane, frame: &[u8], log: &mut Log) {
+        log.note(self.from, Deed::LosesFrame(lane), frame);
+    }
+
+    /// Notes that octets came over a wire, and which PDUs arrived with them. Their lane is that
+    /// which takes them: what is of neither channel, or no frame, goes to the lane of directives.
+    pub fn comes(&mut self, frame: &[u8], log: &mut Log) {
+        let is_data = frame.len() >= 2 && frame[1] % 64 == self.data_channel;
+        let lane = if is_data {
+            Lane::Data
+        } else {
+            Lane::Directives
+        };
+        self.arrives(lane, frame, log);
     }
 
     /// Notes that a frame arrived, and which PDUs did with it.
-    pub fn arrives(&mut self, frame: &[u8], log: &mut Log) {
+    fn arrives(&mut self, lane: Lane, frame: &[u8], log: &mut Log) {
         let to = self.from.other();
-        log.note(to, Deed::TakesFrame, frame);
+        log.note(to, Deed::TakesFrame(lane), frame);
         note_pdus(
             self.alloc,
             &mut self.hearing,

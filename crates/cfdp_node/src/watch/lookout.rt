@@ -1,7 +1,7 @@
 //! One who looks on while stations exchange frames over wires.
 use cfdp_station::{Polled, Station};
 use cfdp_store::{Inbox, Outbox};
-use link_sim::Side;
+use link_sim::{Lane, Side};
 
 /// What passed at a station.
 #[derive(Clone, Copy)]
@@ -12,8 +12,12 @@ pub enum Passed<'a> {
     Ticked(u64),
     /// It was polled, and answered so.
     Polled(Polled),
-    /// The frame left it. One that isn't sent is lost.
-    Left { frame: &'a [u8], is_sent: bool },
+    /// The frame left it, in this lane. One that isn't sent is lost.
+    Left {
+        lane: Lane,
+        frame: &'a [u8],
+        is_sent: bool,
+    },
     /// The frame came over its wire, and it took it.
     Took(&'a [u8]),
 }

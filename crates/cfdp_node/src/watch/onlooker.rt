@@ -8,7 +8,7 @@ use crate::watch::lookout::{Lookout, Passed};
 use crate::watch::sighting::{Deed, Log};
 use cfdp_station::Station;
 use cfdp_store::{Inbox, Outbox};
-use link_sim::{Event, FrameLink, Side, Witness, WorldConfig};
+use link_sim::{Event, FrameLinks, Side, Witness, WorldConfig};
 use std::alloc::{AllocError, Global};
 
 /// One who looks on at a run, or nobody.
@@ -51,7 +51,7 @@ impl Witness for Onlooker {
         &mut self,
         event: &Event,
         stations: (&Station<O, I>, &Station<O, I>),
-        frames: (&FrameLink, &FrameLink),
+        frames: (&FrameLinks, &FrameLinks),
     ) {
         match self {
             Onlooker::Nobody => {}
@@ -131,7 +131,7 @@ impl Seen {
         &mut self,
         event: &Event,
         stations: (&Station<O, I>, &Station<O, I>),
-        frames: (&FrameLink, &FrameLink),
+        frames: (&FrameLinks, &FrameLinks),
     ) {
         let (log, conditions) = (&mut self.log, &mut self.conditions);
         log.next_event();
@@ -174,13 +174,17 @@ impl Seen {
 fn note_frame(passed: Passed<'_>, own: &mut Watch, other: &mut Watch, log: &mut Log) {
     match passed {
         Passed::Put | Passed::Ticked(_) | Passed::Polled(_) => {}
-        Passed::Left { frame, is_sent } => {
-            own.leaves(frame, log);
+        Passed::Left {
+            lane,
+            frame,
+            is_sent,
+        } => {
+            own.leaves(lane, frame, log);
             if !is_sent {
-                own.loses(frame, log);
+                own.loses(lane, frame, log);
             }
         }
-        Passed::Took(frame) => other.arrives(frame, log),
+        Passed::Took(frame) => other.comes(frame, log),
     }
 }
 

@@ -6,23 +6,23 @@ ghost use Rattle.cfdp_node.specs.declared.watch.sighting.Deed.TheVariants as dee
 
 use crate::report::ToldWords;
 use cfdp_directives::Indication;
-use link_sim::Side;
+use link_sim::{Lane, Side};
 use std::alloc::{AllocError, Global};
 use std::fmt;
 
 /// What a station did.
 #[derive(Clone, Copy)]
 pub enum Deed {
-    /// The frame left it.
-    SendsFrame,
+    /// The frame left it, in this lane.
+    SendsFrame(Lane),
     /// The last of the frames that carry the PDU left it.
     SendsPdu,
-    /// The frame reached it.
-    TakesFrame,
+    /// The frame reached it, in this lane.
+    TakesFrame(Lane),
     /// The last of the frames that carry the PDU reached it, and so had the others.
     HearsPdu,
-    /// The frame left it, and is lost.
-    LosesFrame,
+    /// The frame left it, in this lane, and is lost.
+    LosesFrame(Lane),
     /// It was told the time.
     Ticks,
     /// It dropped something of what it took.

@@ -5,19 +5,24 @@ ghost use Rattle.cfdp_node.specs.Watch.Trace.{TellsDeed, TellsSighting, TellsWor
 
 use crate::dump::{write_frame, write_pdu};
 use crate::watch::sighting::{Deed, Sighting};
+use link_sim::Lane;
 use std::io;
 use std::io::Write;
 
 impl Deed {
-    /// The word for it.
+    /// The word for it, with the lane of a frame.
     fn word(self) -> &'static str
         ensures { result.now ≡ deed_word self }
     {
         match self {
-            Deed::SendsFrame | Deed::SendsPdu => "sends",
-            Deed::TakesFrame => "takes",
+            Deed::SendsFrame(Lane::Directives) => "sends dir",
+            Deed::SendsFrame(Lane::Data) => "sends data",
+            Deed::SendsPdu => "sends",
+            Deed::TakesFrame(Lane::Directives) => "takes dir",
+            Deed::TakesFrame(Lane::Data) => "takes data",
             Deed::HearsPdu => "hears",
-            Deed::LosesFrame => "loses",
+            Deed::LosesFrame(Lane::Directives) => "loses dir",
+            Deed::LosesFrame(Lane::Data) => "loses data",
             Deed::Ticks => "ticks",
             Deed::Drops => "drops",
             Deed::Tells => "tells",
@@ -73,7 +78,7 @@ fn write_words<W: Write>(out: &mut W, zone: u16, sighting: &Sighting) -> io::Res
 {
     match sighting.deed {
         Deed::SendsPdu | Deed::HearsPdu => write_pdu(&sighting.octets, false, out),
-        Deed::SendsFrame | Deed::TakesFrame | Deed::LosesFrame => {
+        Deed::SendsFrame(_) | Deed::TakesFrame(_) | Deed::LosesFrame(_) => {
             write_frame(&sighting.octets, zone, false, out)
         }
         Deed::Ticks | Deed::Drops | Deed::Tells => write_line(out, &sighting.octets),

@@ -14,9 +14,9 @@ ghost use Rattle.cfdp_node.specs.Looping.Turns.{LoopState, Puts, Turns};
 
 use crate::wire::Wire;
 
-/// Over wires that lose frames or bring them in the order in which they were sent, two stations
-/// that take turns are those of a world in which the same frames left, and the same ones came. So
-/// all that is promised of a world holds of them, whatever was lost. `Turns` are those of
+/// Over wires that lose frames, or bring those of each lane in the order in which they were sent,
+/// two stations that take turns are those of a world in which the same frames left, and the same
+/// ones came. So all that is promised of a world holds of them, whatever was lost. `Turns` are those of
 /// `run_loop`, from its put on.
 pub fn turns_are_of_a_world<W: Wire>()
     ensures { (c : WorldConfig) (outboxes inboxes : FileMap × FileMap)

@@ -1,6 +1,6 @@
 //! One turn of a station over a wire.
 ghost use Rattle.std.specs.Prelude.{◌≡◌, ◌==◌, ◌↔◌, IsTrue, length, OnErr, OnOk};
-ghost use Rattle.cfdp_node.specs.Wire.Turn.{HearsAll, IsMore, PollsInPart, PollsOut, Sends, SendsInPart, SendsWhole, FitsFrames, next_left};
+ghost use Rattle.cfdp_node.specs.Wire.Turn.{HearsAll, IsMore, PollsInPart, PollsOut, Sends, SendsInPart, SendsWhole, FitsFrames, KeepsLanes, next_left};
 
 use crate::watch::lookout::{Lookout, Passed};
 use crate::wire::Wire;
@@ -72,7 +72,7 @@ pub fn send_turn<O: Outbox, I: Inbox, W: Wire, L: Lookout>(
     ensures err { OnErr result (SendsInPart now station.old station.new
         × (wire.new ≡ wire.old) × (losses.new ≡ losses.old)) }
     ensures every { losses.new.every ≡ losses.old.every }
-    ensures link { station.new.down.link ≡ station.old.down.link }
+    ensures link { KeepsLanes station.old.down station.new.down }
 {
     station.tick(now)?;
     lookout.sees(side, Passed::Ticked(now), station);
@@ -90,7 +90,7 @@ fn poll_out<O: Outbox, I: Inbox, L: Lookout>(
 ) -> Result<(), AllocError>
     ensures ok { OnOk result (PollsOut station.old station.new) }
     ensures err { OnErr result (PollsInPart station.old station.new) }
-    ensures link { station.new.down.link ≡ station.old.down.link }
+    ensures link { KeepsLanes station.old.down station.new.down }
 {
     for _poll in 0..MOST_POLLS {
         let answer = station.poll()?;
@@ -126,11 +126,19 @@ fn send_whole<O: Outbox, I: Inbox, W: Wire, L: Lookout>(
         (record { station = station.old; wire = wire.old; left = losses.old.left })
         (record { station = station.new; wire = wire.new; left = losses.new.left }) }
     ensures every { losses.new.every ≡ losses.old.every }
-    ensures link { station.new.down.link ≡ station.old.down.link }
+    ensures link { KeepsLanes station.old.down station.new.down }
 {
-    while station.next_frame(frame) {
+    while let Some(lane) = station.next_frame(frame) {
         let is_sent = !losses.is_next_lost() && wire.send(frame).is_ok();
-        lookout.sees(side, Passed::Left { frame, is_sent }, station);
+        lookout.sees(
+            side,
+            Passed::Left {
+                lane,
+                frame,
+                is_sent,
+            },
+            station,
+        );
     }
 }
 
@@ -145,7 +153,7 @@ pub fn receive_turn<O: Outbox, I: Inbox, W: Wire, L: Lookout>(
 )
     ensures hears { HearsAll W.steps (record { station = station.old; wire = wire.old })
         (record { station = station.new; wire = wire.new }) }
-    ensures link { station.new.down.link ≡ station.old.down.link }
+    ensures link { KeepsLanes station.old.down station.new.down }
 {
     for _datagram in 0..MOST_DATAGRAMS {
         match wire.receive(buffer) {

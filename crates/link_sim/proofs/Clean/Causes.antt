@@ -1,6 +1,8 @@
 -- That nothing was short, and what ended a settling, over several events.
 use Rattle.std.proofs.Common.{◌≡◌, ◌⊎◌, ◌<◌, ◌≤◌, ◌||◌, ℕ, Bool, true, false, List, [], ◌∷◌, ◌++◌, Result, Err, refl, sym, ap, subst, ◌∙◌, inl, inr, arith}
 use Rattle.std.specs.Prelude.{IfErr}
+use Rattle.aos_frame.specs.declared.config.Lane.{Lane}
+use Rattle.aos_frame.specs.declared.config.Lane.TheVariants.{Directives, Data}
 use Rattle.cfdp_entity.specs.Entity.{EntityState}
 use Rattle.cfdp_entity.specs.Polling.{Rests, turn}
 use Rattle.link_sim.specs.declared.event.Event.{Event}
@@ -108,27 +110,27 @@ cause-then error from mid a b c well cause = record {
 pub not-refused : (e : Event) (by : Refusal) (old new : WorldState) → IsOfSettling e → Steps e (did.Refused by) old new → ⊥
 not-refused (event.Poll s) by old new of_it h = h
 not-refused (event.Flush s) by old new of_it h = h
-not-refused (event.Deliver s) by old new of_it h = h
+not-refused (event.Deliver s l) by old new of_it h = h
 not-refused (event.Put s source destination) by old new of_it h = of_it
 not-refused (event.Cancel s id) by old new of_it h = of_it
 not-refused (event.Suspend s id) by old new of_it h = of_it
 not-refused (event.Resume s id) by old new of_it h = of_it
 not-refused (event.Prompt s id keep_alive) by old new of_it h = of_it
 not-refused (event.Tick s now) by old new of_it h = of_it
-not-refused (event.Strike s) by old new of_it h = of_it
+not-refused (event.Strike s l) by old new of_it h = of_it
 
 -- what did nothing leaves all as it was
 pub nothing-same : (e : Event) (old new : WorldState) → IsOfSettling e → Steps e did.Nothing old new → new ≡ old
 nothing-same (event.Poll s) old new of_it h = h.1
 nothing-same (event.Flush s) old new of_it h = h.1
-nothing-same (event.Deliver s) old new of_it h = h.1
+nothing-same (event.Deliver s l) old new of_it h = h.1
 nothing-same (event.Put s source destination) old new of_it h = absurd of_it
 nothing-same (event.Cancel s id) old new of_it h = absurd of_it
 nothing-same (event.Suspend s id) old new of_it h = absurd of_it
 nothing-same (event.Resume s id) old new of_it h = absurd of_it
 nothing-same (event.Prompt s id keep_alive) old new of_it h = absurd of_it
 nothing-same (event.Tick s now) old new of_it h = absurd of_it
-nothing-same (event.Strike s) old new of_it h = absurd of_it
+nothing-same (event.Strike s l) old new of_it h = absurd of_it
 
 -- an error that is handed up
 pub err-then : {X : Type 0} (r : Result X SettleError) (P : SettleError → Type 0) (y e : SettleError) → r ≡ Err y → y ≡ e → P e → IfErr r P
@@ -159,17 +161,23 @@ any-true false false false (inr (inl e)) = absurd (let w : false ≡ true = e.1 
 any-true false false false (inr (inr e)) = absurd (let w : false ≡ true = e.2 in cc)
 
 -- a round in which nothing happened
-pub round-settled : (a b c d e : WorldState) → b ≡ a → c ≡ b → d ≡ c → e ≡ d → HasSent One b → HasSent Two c → Steps (event.Deliver One) did.Nothing d d → Steps (event.Deliver Two) did.Nothing e e →
-    ((s : Side) → NoneWhole s e) → IsSettled e
+pub round-settled : (a b c d e : WorldState) → b ≡ a → c ≡ b → d ≡ c → e ≡ d → HasSent One b → HasSent Two c → ((l : Lane) → NoneWaits One l d) → ((l : Lane) → NoneWaits Two l e) →
+    ((s : Side) (l : Lane) → NoneWhole s l e) → IsSettled e
 round-settled a b c d e ab bc cd de one two from_one from_two whole =
     let eb : e ≡ b = de ∙ cd ∙ bc in
     let ec : e ≡ c = de ∙ cd in
     let sent_one : HasSent One e = subst (λ (w : WorldState). HasSent One w) (sym eb) one in
     let sent_two : HasSent Two e = subst (λ (w : WorldState). HasSent Two w) (sym ec) two in
-    let none_one : NoneWaits One e = subst (λ (w : WorldState). NoneWaits One w) (sym de) from_one.0 in
+    let none_one : (l : Lane) → NoneWaits One l e = subst (λ (w : WorldState). (l : Lane) → NoneWaits One l w) (sym de) from_one in
     each (λ (s : Side). IsSettledAt s e)
     (record { rests = sent_one.0; none_whole = whole One; filled = sent_one.1; none_waits = none_one })
-    (record { rests = sent_two.0; none_whole = whole Two; filled = sent_two.1; none_waits = from_two.0 })
+    (record { rests = sent_two.0; none_whole = whole Two; filled = sent_two.1; none_waits = from_two })
+
+-- of a station, where nothing waited in either lane
+pub none-waits : (s : Side) (mid new : WorldState) → new ≡ mid → Steps (event.Deliver s Directives) did.Nothing mid mid → Steps (event.Deliver s Data) did.Nothing new new → (l : Lane) →
+    NoneWaits s l new
+none-waits s mid new is directives file_data Directives = subst (λ (w : WorldState). NoneWaits s Directives w) (sym is) directives.0
+none-waits s mid new is directives file_data Data = file_data.0
 
 -- a flush leaves an entity as it was, also one of which nothing is due
 pub flushed-rests : (moved : Bool) (s : Side) (old new : WorldState) → (moved ≡ true → Flushes did.Applied s old new) → (moved ≡ false → Flushes did.Nothing s old new) → turn (entity_at s old)

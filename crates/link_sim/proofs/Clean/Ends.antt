@@ -43,13 +43,12 @@ use Rattle.link_sim.specs.Clean.{IsClean, IsCompleteAt, AllComplete}
 use Rattle.link_sim.specs.EveryPut.{IsFound, KeepCourse}
 use Rattle.link_sim.specs.Exchange.{is_closed, is_closed_in, maybe, tells_complete}
 use Rattle.link_sim.specs.Observed.{seen}
-use Rattle.link_sim.specs.OneWay.{IsRested, on_way}
 use Rattle.link_sim.specs.Settling.{IsSettled}
 use Rattle.link_sim.specs.Stations.{other}
 use Rattle.link_sim.specs.Sound.{IsSound}
 use Rattle.link_sim.specs.Theorem.{side_of, put_of, completions_at}
 use Rattle.link_sim.specs.Waiting.{one_tells}
-use Rattle.link_sim.specs.World.State.{WorldState, entity_at, way_from}
+use Rattle.link_sim.specs.World.State.{WorldState, AreRested, entity_at, on_way_from}
 use Rattle.link_sim.proofs.Clean.Hears.{slice-or}
 use Rattle.link_sim.proofs.Clean.Puts.{IsCourseFrom, course-from, on-course, StandsAt, stands-at}
 use Rattle.link_sim.proofs.Course.Ends.{completes}
@@ -206,14 +205,14 @@ module _ (w : WorldState) (sound : IsSound w) where
             let phase : t.phase ≡ receiving.Closed = ap (λ (z : ReceiverState). z.phase) (sym is) ∙ closed-receiver r.phase closed in
             phase-is put.id (entity_at (other s) w).table (Receives t m) (sound (other s)).entity.once.distinct at ∙ ap (λ q. Some (phase_of (Receives (record t { phase = q }) m))) phase
 
-  module _ (course : KeepCourse w) (clean : IsClean w) (settled : IsSettled w) (rested : (s : Side) → IsRested (way_from s w)) where
+  module _ (course : KeepCourse w) (clean : IsClean w) (settled : IsSettled w) (rested : (s : Side) → AreRested s w) where
     at-side : (s : Side) (p : AcceptedPut) (put : Put) → put_of (seen w) p.id ≡ Some put → put.id ≡ p.id → p.id.source ≡ (entity_at s w).config.entity → IsCompleteAt s p w
     at-side s p put found id own =
         let mine : EntityState = entity_at s w in
         let theirs : EntityState = entity_at (other s) w in
         let c : IsCourseFrom s w = course-from s w course in
-        let none : on_way (way_from s w) ≡ [] = settled-on-way s w (sound s).way (rested s) (settled s) in
-        let none_back : on_way (way_from (other s) w) ≡ [] = settled-on-way (other s) w (sound (other s)).way (rested (other s)) (settled (other s)) in
+        let none : on_way_from s w ≡ [] = settled-on-way s w (sound s).ways (rested s) (settled s) in
+        let none_back : on_way_from (other s) w ≡ [] = settled-on-way (other s) w (sound (other s)).ways (rested (other s)) (settled (other s)) in
         let forth : c.forth ≡ [] = no-pdus c.forth (subst (λ (l : List (List ℕ)). AreSpelled l c.forth) none c.spelled) in
         let back : c.back ≡ [] = no-pdus c.back (subst (λ (l : List (List ℕ)). AreSpelled l c.back) none_back c.spelled_back) in
         let named : put_of (seen w) put.id ≡ Some put = ap (put_of (seen w)) id ∙ found in

@@ -59,14 +59,14 @@ module _ (old new : WorldState) where
   added (event.Tick s now) did.Applied h = inl h.puts
   added (event.Tick s now) did.Nothing h = absurd h
   added (event.Tick s now) (did.Refused by) h = absurd h
-  added (event.Deliver s) did.Applied h = inl h.counts.puts
-  added (event.Deliver s) did.Nothing h = same-world h.1
-  added (event.Deliver s) (did.Refused by) h = absurd h
-  added (event.Strike s) did.Applied h = inl h.counts.puts
-  added (event.Strike s) did.Nothing h = same-world h.1
-  added (event.Strike s) (did.Refused (refusal.Put by)) h = absurd h
-  added (event.Strike s) (did.Refused (refusal.Call by)) h = absurd h
-  added (event.Strike s) (did.Refused refusal.LossRunTooLong) h = same-world h.same
+  added (event.Deliver s l) did.Applied h = inl h.counts.puts
+  added (event.Deliver s l) did.Nothing h = same-world h.1
+  added (event.Deliver s l) (did.Refused by) h = absurd h
+  added (event.Strike s l) did.Applied h = inl h.counts.puts
+  added (event.Strike s l) did.Nothing h = same-world h.1
+  added (event.Strike s l) (did.Refused (refusal.Put by)) h = absurd h
+  added (event.Strike s l) (did.Refused (refusal.Call by)) h = absurd h
+  added (event.Strike s l) (did.Refused refusal.LossRunTooLong) h = same-world h.same
 
   -- ---- found before, found now
   module _ (m : Moves old new) where

@@ -13,6 +13,7 @@ use Rattle.cfdp_entity.specs.declared.call.Call.{Call}
 use Rattle.cfdp_entity.specs.declared.call.Call.TheVariants as calls
 use Rattle.cfdp_entity.specs.declared.error.EntityDrop.{EntityDrop}
 use Rattle.cfdp_entity.specs.declared.error.EntityDrop.TheVariants as drops
+use Rattle.aos_frame.specs.declared.config.Lane.{Lane}
 use Rattle.cfd_bits.specs.Counting.{raised}
 use Rattle.cfdp_entity.specs.Entity.{EntityState, Counted, counted}
 use Rattle.cfdp_entity.specs.Errors.{drop_number}
@@ -29,16 +30,15 @@ use Rattle.link_sim.specs.declared.event.Applied.TheVariants as did
 use Rattle.link_sim.specs.declared.event.Refusal.TheVariants as refusal
 use Rattle.link_sim.specs.declared.side.Side.{Side}
 use Rattle.link_sim.specs.declared.side.Side.TheVariants.{One, Two}
-use Rattle.link_sim.specs.Between.{Pdu, AreSpelled}
+use Rattle.link_sim.specs.Between.{Pdu}
 use Rattle.link_sim.specs.EveryPut.{KeepCourse}
 use Rattle.link_sim.specs.Known.{AreKnown}
 use Rattle.link_sim.specs.Observed.{seen}
-use Rattle.link_sim.specs.OneWay.{on_way}
 use Rattle.link_sim.specs.Settling.{DropsWhereFull, no_room}
 use Rattle.link_sim.specs.Stations.{other}
 use Rattle.link_sim.specs.Sound.{IsSound}
 use Rattle.link_sim.specs.Theorem.{put_of}
-use Rattle.link_sim.specs.World.State.{WorldState, entity_at, station_at, way_from}
+use Rattle.link_sim.specs.World.State.{WorldState, entity_at, on_way_from, station_at}
 use Rattle.link_sim.specs.World.Steps.{Stays, Puts, Calls, Polls, Flushes, Delivers, Strikes, DeliversFrame, Steps}
 use Rattle.link_sim.proofs.Clean.Given.{served-drops}
 use Rattle.link_sim.proofs.Clean.Puts.{IsCourseFrom, course-from}
@@ -46,6 +46,7 @@ use Rattle.link_sim.proofs.Events.Keeping.{both}
 use Rattle.link_sim.proofs.EveryPut.Known.{Continues, stepped-on, spoiled-on, hears-known, part-known}
 use Rattle.link_sim.proofs.EveryPut.Pdus.{HearsEach, InTwo, PartSpelled, hears-each, part-spelled, spelled-split}
 use Rattle.link_sim.proofs.EveryPut.Routes.{DropsNew, HeardSo, heard-so}
+use Rattle.link_sim.proofs.Lanes.Swapping.{SwapsPdus, swapped-known, swapped-none, swapped-spelled}
 use Rattle.link_sim.proofs.OnWay.World.{HearsOnWay, delivers-on-way}
 
 -- ---- one PDU
@@ -119,19 +120,21 @@ module _ (stays : (old new : TableState) → Leads old new → KeepsRecords old.
 
 -- ---- a delivery
 module _ (stays : (old new : TableState) → Leads old new → KeepsRecords old.records new.records) (old new : WorldState) (sound : IsSound old) (course : KeepCourse old) where
-  delivered-fills : (s : Side) → DeliversFrame s old new → GrowsFull (entity_at (other s) old) (entity_at (other s) new)
-  delivered-fills s h =
+  delivered-fills : (s : Side) (l : Lane) → DeliversFrame s l old new → GrowsFull (entity_at (other s) old) (entity_at (other s) new)
+  delivered-fills s l h =
       let P : TransactionId → Option Put = put_of (seen old) in
       let here : EntityState = entity_at s old in
       let c0 : Counted = (station_at (other s) old).entity in
       let c1 : Counted = (station_at (other s) new).entity in
       let c : IsCourseFrom s old = course-from s old course in
-      let on : HearsOnWay s h.given old new = delivers-on-way s old new (sound s).way h in
-      let rest : List (List ℕ) = on_way (way_from s new) in
-      let two : InTwo on.gone rest c.forth = spelled-split on.gone rest c.forth (subst (λ (l : List (List ℕ)). AreSpelled l c.forth) on.takes.forth c.spelled) in
+      let on : HearsOnWay s h.given old new = delivers-on-way s l old new (sound s).ways h in
+      let rest : List (List ℕ) = on_way_from s new in
+      let swaps : SwapsPdus (on.gone ++ rest) c.forth = swapped-spelled (on_way_from s old) (on.gone ++ rest) c.forth on.takes.forth c.spelled in
+      let two : InTwo on.gone rest swaps.swapped = spelled-split on.gone rest swaps.swapped swaps.spelled in
       let part : PartSpelled h.given two.first = part-spelled h.given on.gone two.first on.part two.spelled in
       let known : AreKnown P here c0.state (part.part ++ two.rest) c.back =
-      part-known P here c0.state part.part two.first two.rest c.back part.is (subst (λ l. AreKnown P here c0.state l c.back) two.joined c.known) in
+      part-known P here c0.state part.part two.first two.rest c.back part.is
+      (subst (λ l. AreKnown P here c0.state l c.back) two.joined (swapped-known c.forth swaps.swapped c.back c.back swaps.are (swapped-none c.back) P here c0.state c.known)) in
       each-fills stays P here c.back part.part two.rest c0 c1 (hears-each h.given part.part c0 c1 part.spelled h.heard) (known.1, known.0)
 
 -- ---- an event
@@ -182,12 +185,12 @@ module _ (old new : WorldState) where
   flush-none did.Nothing s h = same-none old new h.1
   flush-none (did.Refused by) s h = absurd h
 
-  strike-none : (d : Applied) (s : Side) → Strikes d s old new → CountsNone old new
-  strike-none did.Applied s h = spared-none s old new (ap (λ (x : StationState). x.entity.state.drops) h.station) h.spares.station
-  strike-none did.Nothing s h = same-none old new h.1
-  strike-none (did.Refused (refusal.Put by)) s h = absurd h
-  strike-none (did.Refused (refusal.Call by)) s h = absurd h
-  strike-none (did.Refused refusal.LossRunTooLong) s h = same-none old new h.same
+  strike-none : (d : Applied) (s : Side) (l : Lane) → Strikes d s l old new → CountsNone old new
+  strike-none did.Applied s l h = spared-none s old new (ap (λ (x : StationState). x.entity.state.drops) h.station) h.spares.station
+  strike-none did.Nothing s l h = same-none old new h.1
+  strike-none (did.Refused (refusal.Put by)) s l h = absurd h
+  strike-none (did.Refused (refusal.Call by)) s l h = absurd h
+  strike-none (did.Refused refusal.LossRunTooLong) s l h = same-none old new h.same
 
 -- the record table of each station is no larger than it may be
 few-at : (w : WorldState) → KeepCourse w → (s : Side) → length (entity_at s w).table.records ≤ most_records
@@ -196,16 +199,16 @@ few-at w k Two = k.known.1.few
 
 module _ (stays : (old new : TableState) → Leads old new → KeepsRecords old.records new.records) (old new : WorldState) (sound : IsSound old) (course : KeepCourse old)
     (course_then : KeepCourse new) where
-  deliver-full : (d : Applied) (s : Side) → Delivers d s old new → DropsWhereFull old new
-  deliver-full did.Applied s h =
+  deliver-full : (d : Applied) (s : Side) (l : Lane) → Delivers d s l old new → DropsWhereFull old new
+  deliver-full did.Applied s l h =
       both (λ t. no_room t new ≢ no_room t old → length (entity_at t new).table.records ≡ most_records) s
       (λ differs. absurd (differs (ap (λ (x : StationState). get_or x.entity.state.drops 15 0) h.station)))
       (λ differs. (
-      let p : most_records ≤ length (entity_at (other s) new).table.records = (delivered-fills stays old new sound course s h).full differs in
+      let p : most_records ≤ length (entity_at (other s) new).table.records = (delivered-fills stays old new sound course s l h).full differs in
       let q : length (entity_at (other s) new).table.records ≤ most_records = few-at new course_then (other s) in
       omega (arith, p, q)))
-  deliver-full did.Nothing s h = none-full old new (same-none old new h.1)
-  deliver-full (did.Refused by) s h = absurd h
+  deliver-full did.Nothing s l h = none-full old new (same-none old new h.1)
+  deliver-full (did.Refused by) s l h = absurd h
 
   pub event-full : (e : Event) (d : Applied) → Steps e d old new → DropsWhereFull old new
   event-full (event.Put s source destination) d h = none-full old new (put-none old new d s source destination h)
@@ -218,5 +221,5 @@ module _ (stays : (old new : TableState) → Leads old new → KeepsRecords old.
   event-full (event.Tick s now) did.Applied h = none-full old new (spared-none s old new (ap (λ (e : EntityState). e.drops) h.table) h.links.spares.station)
   event-full (event.Tick s now) did.Nothing h = absurd h
   event-full (event.Tick s now) (did.Refused by) h = absurd h
-  event-full (event.Deliver s) d h = deliver-full d s h
-  event-full (event.Strike s) d h = none-full old new (strike-none old new d s h)
+  event-full (event.Deliver s l) d h = deliver-full d s l h
+  event-full (event.Strike s l) d h = none-full old new (strike-none old new d s l h)

@@ -32,13 +32,12 @@ use Rattle.link_sim.specs.EveryPut.{LosesNone, KeepCourse, StayOnCourse}
 use Rattle.link_sim.specs.Exchange.{AllTrue, IsTrueForth, IsTrueBack, pauses}
 use Rattle.link_sim.specs.Known.{IsDirected, IsSending, AreKnown}
 use Rattle.link_sim.specs.Observed.{seen}
-use Rattle.link_sim.specs.OneWay.{on_way}
 use Rattle.link_sim.specs.Stations.{other}
 use Rattle.link_sim.specs.Sound.{IsSound}
 use Rattle.link_sim.specs.Theorem.{WorldSeen, at, side_of, accepted_as, with_octets, put_by, put_of}
 use Rattle.link_sim.specs.Waiting.{IsUncancelled, spoils}
 use Rattle.link_sim.specs.Work.{AreWithin, IsSeenWithin, most_offset}
-use Rattle.link_sim.specs.World.State.{WorldState, entity_at, way_from}
+use Rattle.link_sim.specs.World.State.{WorldState, entity_at, on_way_from}
 use Rattle.link_sim.proofs.Clean.Hears.{IsFine, IsFineForth, flag-allows, not-cancelling}
 use Rattle.link_sim.proofs.Events.Keeping.{other-other}
 use Rattle.link_sim.proofs.EveryPut.Routes.{directed-own, directed-peer}
@@ -143,8 +142,8 @@ loses-none w clean s = record { none_lost = (clean s).none_lost; memory = (clean
 pub record IsCourseFrom (s : Side) (w : WorldState) : Type 0 where
   pub forth : List Pdu
   pub back : List Pdu
-  pub spelled : AreSpelled (on_way (way_from s w)) forth
-  pub spelled_back : AreSpelled (on_way (way_from (other s) w)) back
+  pub spelled : AreSpelled (on_way_from s w) forth
+  pub spelled_back : AreSpelled (on_way_from (other s) w) back
   pub known : AreKnown (put_of (seen w)) (entity_at s w) (entity_at (other s) w) forth back
   pub puts : StayOnCourse s w forth back
   pub puts_back : StayOnCourse (other s) w back forth

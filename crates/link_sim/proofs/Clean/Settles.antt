@@ -1,56 +1,56 @@
 -- An event of a settling that goes well keeps a clean world clean.
-use Rattle.std.proofs.Common.{◌≡◌, ◌≢◌, ℕ, ◌-◌, ◌^◌, ◌<◌, ◌==◌, not, true, false, List, [], ◌∷◌, ◌++◌, drop, get_or, slice_get, Some, inl, inr, refl, sym, ap, subst, ◌∙◌, arith}
+use Rattle.std.proofs.Common.{◌≡◌, ◌≢◌, ℕ, ◌-◌, ◌^◌, ◌<◌, ◌==◌, not, true, false, List, [], ◌∷◌, ◌++◌, get_or, slice_get, Some, inl, inr, refl, sym, ap, subst, ◌∙◌, arith}
 use Rattle.std.specs.Prelude.{Contains}
 use Rattle.std.specs.List.{list_any}
 use Rattle.std.proofs.lemmas.Bool.{cases_Bool, eqb-true, eqb-false}
 use Rattle.cfdp_directives.specs.User.Put.{SaysTruth}
-use Rattle.cfdp_directives.proofs.Puts.{Contains-append_right}
+use Rattle.aos_frame.specs.Frame.{other_lane}
+use Rattle.aos_frame.specs.declared.config.Lane.{Lane}
 use Rattle.cfdp_entity.specs.Entity.{EntityState, Counted}
 use Rattle.cfdp_entity.specs.History.{Leads, KeepsRecords}
 use Rattle.cfdp_entity.specs.Polling.{turn}
 use Rattle.cfdp_entity.specs.Sound.{IsSound as IsSoundEntity, ComesTrue}
 use Rattle.cfdp_entity.specs.Table.{TableState}
 use Rattle.cfdp_station.specs.Station.{StationState}
-use Rattle.mpdu.specs.Packets.{busy}
-use Rattle.mpdu.specs.Parts.{IsPartOf}
-use Rattle.mpdu.specs.Stream.{survivors}
-use Rattle.mpdu.proofs.Fewer.{survivors-busy}
-use Rattle.mpdu.proofs.Parts.{part-map}
 use Rattle.link_stack.specs.Drops.{count_of}
-use Rattle.link_stack.specs.Frames.{pdus_in}
-use Rattle.link_stack.specs.Upward.{LinkReceiverState}
+use Rattle.link_stack.specs.Upward.{LinkReceiverState, UpState, drop_count, lane_up}
 use Rattle.link_sim.specs.declared.event.Event.{Event}
 use Rattle.link_sim.specs.declared.event.Event.TheVariants as event
 use Rattle.link_sim.specs.declared.event.Applied.TheVariants as did
 use Rattle.link_sim.specs.declared.side.Side.{Side}
 use Rattle.link_sim.specs.declared.side.Side.TheVariants.{One, Two}
-use Rattle.link_sim.specs.Between.{Pdu, AreSpelled}
+use Rattle.link_sim.specs.Between.{Pdu}
 use Rattle.link_sim.specs.Clean.{IsClean, IsCleanAt, IsCleanEntity}
 use Rattle.link_sim.specs.EveryPut.{KeepCourse}
 use Rattle.link_sim.specs.Exchange.{AllTrue}
 use Rattle.link_sim.specs.Known.{AreKnown}
 use Rattle.link_sim.specs.Observed.{seen}
-use Rattle.link_sim.specs.OneWay.{OneWayState, on_way, packets_sent, pdus_sent, pdus_delivered}
+use Rattle.link_sim.specs.Runs.{IsSwapped}
 use Rattle.link_sim.specs.Stations.{other}
 use Rattle.link_sim.specs.Sound.{IsSound}
 use Rattle.link_sim.specs.Theorem.{put_of}
 use Rattle.link_sim.specs.Work.{AreWithin, most_offset}
 use Rattle.link_sim.specs.Settling.{IsOfSettling, KeepsAll, all_shortages}
-use Rattle.link_sim.specs.World.State.{WorldState, LinkState, entity_at, link_from, station_at, way_from}
+use Rattle.link_sim.specs.World.State.{LanesState, LinkState, WorldState, delivered_from, entity_at, lane_from, link_from, on_lane, on_way_from, sent_from, station_at}
 use Rattle.link_sim.specs.World.Steps.{SendsOne, FailsSource, Fills, DeliversFrame, Steps}
 use Rattle.link_sim.proofs.Clean.Hears.{IsCleanTable, HearingLaws, IsFine, HearsClean, any-append}
 use Rattle.link_sim.proofs.Clean.Given.{served-clean, served-drops, all-clean}
-use Rattle.link_sim.proofs.Clean.Puts.{IsCourseFrom, course-from, IsText, text-at, in-front, all-from, fine-at}
+use Rattle.link_sim.proofs.Clean.Puts.{IsCourseFrom, course-from, IsText, text-at, in-front, all-at, all-from, fine-at}
 use Rattle.link_sim.proofs.Events.Keeping.{Grounds, both, other-other}
 use Rattle.link_sim.proofs.EveryPut.Pdus.{InTwo, spelled-split}
 use Rattle.link_sim.proofs.Events.Moving.{EntityLaws}
+use Rattle.link_sim.proofs.Lanes.Counts.{same-sum, sum-none}
+use Rattle.link_sim.proofs.Lanes.Heard.{given-heard, given-sent}
+use Rattle.link_sim.proofs.Lanes.Each.{either-lane}
+use Rattle.link_sim.proofs.Lanes.Joined.{swapped-none}
+use Rattle.link_sim.proofs.Lanes.Swapping.{SwapsPdus, swapped-all, swapped-known, swapped-spelled}
 use Rattle.link_sim.proofs.OnWay.World.{HearsOnWay, delivers-on-way}
 use Rattle.link_sim.proofs.Found.Puts.{puts-by-id}
 
 -- Nothing was short at this station: the counts that tell of it are as they were, and those of the stores would
 -- show it.
 pub record IsSparedAt (s : Side) (old new : WorldState) : Type 0 where
-  pub link_memory : count_of (station_at s new).up.drops 11 ≡ count_of (station_at s old).up.drops 11
+  pub link_memory : drop_count (station_at s new).up 11 ≡ drop_count (station_at s old).up 11
   pub memory : get_or (entity_at s new).drops 16 0 ≡ get_or (entity_at s old).drops 16 0
   pub table : get_or (entity_at s new).drops 15 0 ≡ get_or (entity_at s old).drops 15 0
   pub outbox : (station_at s new).entity.outbox_failures ≡ (station_at s old).entity.outbox_failures
@@ -107,8 +107,8 @@ none-more old new c h memory full = record { told = h.table.told; uncancelled = 
 pub clean-same : (t : Side) (old new : WorldState) → station_at t new ≡ station_at t old → link_from t new ≡ link_from t old → IsCleanAt t old → IsCleanAt t new
 clean-same t old new station link c = record {
   entity = subst (λ (x : StationState). IsCleanEntity x.entity.state) (sym station) c.entity;
-  none_lost = ap (λ (k : LinkState). list_any not k.marks) link ∙ c.none_lost;
-  read = λ n. ap (λ (x : StationState). count_of x.up.drops n) station ∙ c.read n;
+  none_lost = λ l. ap (λ (k : LanesState). list_any not (on_lane l k).marks) link ∙ c.none_lost l;
+  read = λ n. ap (λ (x : StationState). drop_count x.up n) station ∙ c.read n;
 }
 
 -- ---- a poll, and a flush
@@ -120,8 +120,8 @@ polled-clean s old new clean h =
     let drops : (entity_at s new).drops ≡ e.drops = ap (λ (x : EntityState). x.drops) h.served ∙ served-drops (turn e) e in
     let this : IsCleanAt s new = record {
       entity = record { told = table.told; uncancelled = table.kept; heard = λ n ne. ap (λ l. get_or l n 0) drops ∙ c.entity.heard n ne };
-      none_lost = ap (list_any not) h.marks.marks ∙ c.none_lost;
-      read = λ n. ap (λ (u : LinkReceiverState). count_of u.drops n) h.marks.up ∙ c.read n;
+      none_lost = λ l. ap (list_any not) (h.marks.marks l) ∙ c.none_lost l;
+      read = λ n. ap (λ (u : UpState). drop_count u n) h.marks.up ∙ c.read n;
     } in
     both (λ t. IsCleanAt t new) s this (clean-same (other s) old new h.marks.spares.station h.marks.spares.link (clean (other s)))
 
@@ -138,20 +138,14 @@ filled-clean s old new clean h =
     let c : IsCleanAt s old = clean s in
     let this : IsCleanAt s new = record {
       entity = subst (λ (x : Counted). IsCleanEntity x.state) (sym h.entity) c.entity;
-      none_lost = ap (list_any not) h.marks.marks ∙ c.none_lost;
-      read = λ n. ap (λ (u : LinkReceiverState). count_of u.drops n) h.marks.up ∙ c.read n;
+      none_lost = λ l. ap (list_any not) (h.marks.marks l) ∙ c.none_lost l;
+      read = λ n. ap (λ (u : UpState). drop_count u n) h.marks.up ∙ c.read n;
     } in
     both (λ t. IsCleanAt t new) s this (clean-same (other s) old new h.marks.spares.station h.marks.spares.link (clean (other s)))
 
 -- ---- a delivery
--- of the PDUs sent some are delivered
-pub part-delivered : (w : OneWayState) → IsPartOf (pdus_delivered w) (pdus_sent w)
-part-delivered w =
-    let z = w.up.link.zone in
-    part-map (λ p. drop 6 p) (survivors z w.marks 0 (packets_sent w)) (busy (packets_sent w)) (survivors-busy z w.marks 0 (packets_sent w))
-
-module _ (laws : CleanLaws) (s : Side) (old new : WorldState) (sound : IsSound old) (course : KeepCourse old) (clean : IsClean old)
-    (sizes : (t : Side) → AreWithin most_offset (entity_at t old).table.records) (h : DeliversFrame s old new)
+module _ (laws : CleanLaws) (s : Side) (l : Lane) (old new : WorldState) (sound : IsSound old) (course : KeepCourse old) (clean : IsClean old)
+    (sizes : (t : Side) → AreWithin most_offset (entity_at t old).table.records) (h : DeliversFrame s l old new)
     (spared : IsSparedAt (other s) old new) where
   abbrev there : EntityState
   there = entity_at (other s) old
@@ -160,52 +154,62 @@ module _ (laws : CleanLaws) (s : Side) (old new : WorldState) (sound : IsSound o
   c = course-from s old course
 
   abbrev heard : List (List ℕ)
-  heard = pdus_delivered (way_from s old) ++ h.hears.more
+  heard = delivered_from s old ++ h.hears.more
 
   peer-is : there.config.peer ≡ (entity_at s old).config.entity
   peer-is = (sound (other s)).peer ∙ ap (λ t. (entity_at t old).config.entity) (other-other s)
 
   comes : (x : List ℕ) → Contains h.given x → ComesTrue there.config.peer (put_of (seen old)) heard x
   comes x among =
-      let more : Contains h.hears.more x = laws.entity.in_whole h.hears.more h.given x h.hears.part among in
-      let came : Contains heard x = Contains-append_right (pdus_delivered (way_from s old)) h.hears.more x more in
-      let now : Contains (pdus_delivered (way_from s new)) x = subst (λ (l : List (List ℕ)). Contains l x) (sym h.hears.delivered) came in
-      let sent : Contains (pdus_sent (way_from s new)) x = laws.entity.in_whole (pdus_sent (way_from s new)) (pdus_delivered (way_from s new)) x (part-delivered (way_from s new)) now in
-      let sent_then : Contains (pdus_sent (way_from s old)) x = subst (λ (ps : List (List ℕ)). Contains (pdus_in (busy ps)) x) h.hears.packets sent in
+      let sent : Contains (sent_from s old) x = given-sent laws.entity.in_whole s l old new h x among in
       record {
-        among = came;
-        says = λ k v spells. subst (λ (n : ℕ). SaysTruth n (put_of (seen old)) k.id v) (sym peer-is) ((sound s).sent x sent_then k v spells).0;
+        among = given-heard laws.entity.in_whole s l old new h x among;
+        says = λ k v spells. subst (λ (n : ℕ). SaysTruth n (put_of (seen old)) k.id v) (sym peer-is) ((sound s).sent x sent k v spells).0;
       }
 
-  none_read : count_of (station_at (other s) new).up.drops 11 ≡ 0
+  none_read : drop_count (station_at (other s) new).up 11 ≡ 0
   none_read = spared.link_memory ∙ (clean (other s)).read 11
 
-  marks-now : list_any not (link_from s new).marks ≡ false
-  marks-now = ap (λ (k : LinkState). list_any not k.marks) h.link ∙ any-append not (link_from s old).marks (true ∷ []) (clean s).none_lost refl
+  marks-now : (m : Lane) → list_any not (lane_from s m new).marks ≡ false
+  marks-now = either-lane (λ (m : Lane). list_any not (lane_from s m new).marks ≡ false) l
+      (ap (λ (k : LinkState). list_any not k.marks) h.link ∙ any-append not (lane_from s l old).marks (true ∷ []) ((clean s).none_lost l) refl)
+      (ap (λ (k : LinkState). list_any not k.marks) h.other_link ∙ (clean s).none_lost (other_lane l))
 
   on : HearsOnWay s h.given old new
-  on = delivers-on-way s old new (sound s).way h
+  on = delivers-on-way s l old new (sound s).ways h
 
   given-is : h.given ≡ on.gone
   given-is = on.all marks-now none_read
 
-  two : InTwo h.given (on_way (way_from s new)) c.forth
-  two = spelled-split h.given (on_way (way_from s new)) c.forth (subst (λ (l : List (List ℕ)). AreSpelled l c.forth) (on.takes.forth ∙ ap (λ l. l ++ on_way (way_from s new)) (sym given-is)) c.spelled)
+  -- those of the lane whose frame came stand in front
+  swaps : SwapsPdus (h.given ++ on_way_from s new) c.forth
+  swaps = swapped-spelled (on_way_from s old) (h.given ++ on_way_from s new) c.forth
+      (subst (λ (ps : List (List ℕ)). IsSwapped (on_way_from s old) (ps ++ on_way_from s new)) (sym given-is) on.takes.forth) c.spelled
+
+  two : InTwo h.given (on_way_from s new) swaps.swapped
+  two = spelled-split h.given (on_way_from s new) swaps.swapped swaps.spelled
+
+  -- each is one of those that were on their way
+  places : AllTrue (λ (p : Pdu). (m : ℕ) × (slice_get c.forth m ≡ Some p)) swaps.swapped
+  places = swapped-all (λ (p : Pdu). (m : ℕ) × (slice_get c.forth m ≡ Some p)) c.forth swaps.swapped swaps.are
+      (all-from (λ (p : Pdu). (m : ℕ) × (slice_get c.forth m ≡ Some p)) c.forth (λ n p at. (n, at)))
 
   fine : AllTrue (IsFine (put_of (seen old)) heard) two.first
   fine = all-from (IsFine (put_of (seen old)) heard) two.first (λ n p at. (
       let t : IsText h.given p = text-at h.given two.first n p two.spelled at in
-      let there_at = subst (λ (l : List Pdu). slice_get l n ≡ Some p) (sym two.joined) (in-front two.first two.rest n p at) in
-      fine-at s old sound clean sizes c heard n p there_at t.text t.spells (comes t.text t.among)))
+      let there_at = subst (λ (ps : List Pdu). slice_get ps n ≡ Some p) (sym two.joined) (in-front two.first two.rest n p at) in
+      let place : (m : ℕ) × (slice_get c.forth m ≡ Some p) = all-at (λ (q : Pdu). (m : ℕ) × (slice_get c.forth m ≡ Some q)) swaps.swapped n p places there_at in
+      fine-at s old sound clean sizes c heard place.0 p place.1 t.text t.spells (comes t.text t.among)))
 
   sound-then : IsSoundEntity (put_of (seen old)) heard (sound (other s)).first there
   sound-then =
-      let now : IsSoundEntity (put_of (seen old)) (pdus_delivered (way_from s old)) (sound (other s)).first there =
-      subst (λ (t : Side). IsSoundEntity (put_of (seen old)) (pdus_delivered (way_from t old)) (sound (other s)).first there) (other-other s) (sound (other s)).entity in
-      laws.grounds.more (put_of (seen old)) (put_of (seen old)) (pdus_delivered (way_from s old)) h.hears.more (sound (other s)).first there (λ id put is. is) now
+      let now : IsSoundEntity (put_of (seen old)) (delivered_from s old) (sound (other s)).first there =
+      subst (λ (t : Side). IsSoundEntity (put_of (seen old)) (delivered_from t old) (sound (other s)).first there) (other-other s) (sound (other s)).entity in
+      laws.grounds.more (put_of (seen old)) (put_of (seen old)) (delivered_from s old) h.hears.more (sound (other s)).first there (λ id put is. is) now
 
   known : AreKnown (put_of (seen old)) there (entity_at s old) c.back (two.first ++ two.rest)
-  known = subst (λ (l : List Pdu). AreKnown (put_of (seen old)) there (entity_at s old) c.back l) two.joined (c.known.1, c.known.0)
+  known = subst (λ (ps : List Pdu). AreKnown (put_of (seen old)) there (entity_at s old) c.back ps) two.joined
+      (swapped-known c.back c.back c.forth swaps.swapped (swapped-none c.back) swaps.are (put_of (seen old)) there (entity_at s old) (c.known.1, c.known.0))
 
   hears : HearsClean there (entity_at (other s) new)
   hears =
@@ -216,16 +220,19 @@ module _ (laws : CleanLaws) (s : Side) (old new : WorldState) (sound : IsSound o
 
   pub delivered-clean : IsClean new
   delivered-clean =
-      let drops : (station_at (other s) new).up.drops ≡ (station_at (other s) old).up.drops = h.hears.clear (clean s).none_lost none_read in
+      let same : (lane_up l (station_at (other s) new).up).drops ≡ (lane_up l (station_at (other s) old).up).drops = h.hears.clear ((clean s).none_lost l)
+      (sum-none (station_at (other s) new).up 11 none_read l) in
       let this : IsCleanAt s new = record {
         entity = subst (λ (x : StationState). IsCleanEntity x.entity.state) (sym h.station) (clean s).entity;
         none_lost = marks-now;
-        read = λ n. ap (λ (x : StationState). count_of x.up.drops n) h.station ∙ (clean s).read n;
+        read = λ n. ap (λ (x : StationState). drop_count x.up n) h.station ∙ (clean s).read n;
       } in
       let that : IsCleanAt (other s) new = record {
         entity = none-more there (entity_at (other s) new) (clean (other s)).entity hears spared.memory spared.table;
-        none_lost = ap (λ (k : LinkState). list_any not k.marks) h.back ∙ (clean (other s)).none_lost;
-        read = λ n. ap (λ l. count_of l n) drops ∙ (clean (other s)).read n;
+        none_lost = λ m. ap (λ (k : LanesState). list_any not (on_lane m k).marks) h.back ∙ (clean (other s)).none_lost m;
+        read = λ n. same-sum (station_at (other s) old).up (station_at (other s) new).up n
+            (either-lane (λ (m : Lane). count_of (lane_up m (station_at (other s) new).up).drops n ≡ count_of (lane_up m (station_at (other s) old).up).drops n) l (ap (λ ds. count_of ds n) same)
+            (ap (λ (u : LinkReceiverState). count_of u.drops n) h.other_up)) ∙ (clean (other s)).read n;
       } in
       both (λ t. IsCleanAt t new) s this that
 
@@ -236,11 +243,11 @@ pub settles-clean : CleanLaws → (e : Event) (old new : WorldState) → IsOfSet
 settles-clean laws (event.Poll s) old new is (inl h) sound course sizes spared clean = polled-clean s old new clean h
 settles-clean laws (event.Poll s) old new is (inr h) sound course sizes spared clean = absurd (none-failed s old new (spared s) h)
 settles-clean laws (event.Flush s) old new is h sound course sizes spared clean = filled-clean s old new clean h.0
-settles-clean laws (event.Deliver s) old new is h sound course sizes spared clean = delivered-clean laws s old new sound course clean sizes h (spared (other s))
+settles-clean laws (event.Deliver s l) old new is h sound course sizes spared clean = delivered-clean laws s l old new sound course clean sizes h (spared (other s))
 settles-clean laws (event.Put s source destination) old new is h sound course sizes spared clean = absurd is
 settles-clean laws (event.Cancel s id) old new is h sound course sizes spared clean = absurd is
 settles-clean laws (event.Suspend s id) old new is h sound course sizes spared clean = absurd is
 settles-clean laws (event.Resume s id) old new is h sound course sizes spared clean = absurd is
 settles-clean laws (event.Prompt s id keep_alive) old new is h sound course sizes spared clean = absurd is
 settles-clean laws (event.Tick s now) old new is h sound course sizes spared clean = absurd is
-settles-clean laws (event.Strike s) old new is h sound course sizes spared clean = absurd is
+settles-clean laws (event.Strike s l) old new is h sound course sizes spared clean = absurd is

@@ -3,14 +3,15 @@
 use Rattle.std.proofs.Common.{◌≡◌, ℕ, zero, suc, ◌+◌, ◌*◌, ◌<◌, ◌≤◌, true, false, List, [], ◌∷◌, ◌++◌, length, drop, get_or, replicate, refl, sym, ap, subst, ◌∙◌, inl, inr, arith, length-append}
 use Rattle.std.proofs.lemmas.List.{append-nil, append_assoc}
 use Rattle.aos_frame.specs.Counts.{frame_counts}
-use Rattle.aos_frame.specs.Frame.{IsLink}
+use Rattle.aos_frame.specs.Frame.{IsLink, lane_link, other_lane}
+use Rattle.aos_frame.specs.declared.config.Lane.{Lane}
+use Rattle.aos_frame.specs.declared.config.Lane.TheVariants.{Directives, Data}
 use Rattle.aos_frame.specs.declared.config.LinkConfig.{LinkConfig}
 use Rattle.cfdp_header.specs.Files.{FileMap}
 use Rattle.cfdp_header.specs.declared.value.TransactionId.{TransactionId}
 use Rattle.mpdu.specs.Packing.{next_start}
-use Rattle.link_stack.specs.Frames.{packet_of}
-use Rattle.link_stack.specs.Downward.{LinkSenderState, IsDown}
-use Rattle.link_stack.specs.Upward.{LinkReceiverState, IsUp}
+use Rattle.link_stack.specs.Downward.{DownState, LinkSenderState, IsDown, MakesFrame, first_down, first_lane_down, lane_down}
+use Rattle.link_stack.specs.Upward.{LinkReceiverState, UpState, IsUp, first_lane_up, first_up, lane_up}
 use Rattle.link_stack.proofs.Grown.{new_is}
 use Rattle.cfdp_store.specs.Stores.{Counts}
 use Rattle.cfdp_store.specs.declared.stored.Stored.TheVariants as storeds
@@ -21,11 +22,10 @@ use Rattle.cfdp_entity.specs.Polling.{LosesPdu, turn}
 use Rattle.cfdp_entity.specs.Putting.{Accepts}
 use Rattle.cfdp_entity.specs.Sound.{SpellsTurn}
 use Rattle.cfdp_entity.specs.Table.{Ticks}
-use Rattle.cfdp_station.specs.Link as station_link
-use Rattle.cfdp_station.specs.Link.{MakesFrame}
+use Rattle.cfdp_station.specs.Link.{FlushesBoth, next_lane}
 use Rattle.cfdp_station.specs.Polling as station_polling
 use Rattle.cfdp_station.specs.Polling.{MovesPdu, next_pdu, stored_by_poll}
-use Rattle.cfdp_station.specs.Station.{StationState, KeepsLink, KeepsRest, first_down, first_up}
+use Rattle.cfdp_station.specs.Station.{StationState, KeepsLink, KeepsRest}
 use Rattle.cfdp_station.specs.Taking.{TakesFrame}
 use Rattle.cfdp_station.specs.declared.polled.Polled.{Polled}
 use Rattle.cfdp_station.specs.declared.polled.Polled.TheVariants.{Moved, Nothing, Full, SourceFailed}
@@ -36,23 +36,23 @@ use Rattle.link_sim.specs.declared.event.Applied.{Applied}
 use Rattle.link_sim.specs.declared.event.Applied.TheVariants as did
 use Rattle.link_sim.specs.declared.event.Event.{Event}
 use Rattle.link_sim.specs.declared.event.Event.TheVariants as event
-use Rattle.link_sim.specs.FrameLink.{most_struck, FrameLinkState, oldest}
+use Rattle.link_sim.specs.FrameLink.{most_struck, FrameLinkState, FrameLinksState, lane_of_links, oldest}
 use Rattle.link_sim.specs.declared.world_config.WorldConfig.{WorldConfig}
-use Rattle.link_sim.specs.AtStation.{HearsAt, IsSameMarks, KeepsFailures, KeepsOutbox}
+use Rattle.link_sim.specs.AtStation.{AreCarried, AreSameMarks, FailsAt, FillsAt, FrameArrivesAt, HearsAt, KeepsFailures, KeepsOutbox, SendsOneAt, StrikesAt}
 use Rattle.link_sim.specs.OneWay.{IsCarried}
 use Rattle.link_sim.specs.Running.{AreSteps, Called, Happens, Led}
-use Rattle.link_sim.specs.World.Steps as steps
 use Rattle.link_sim.specs.World.State.{WorldState, IsFirst, IsFirstAt}
-use Rattle.link_sim.specs.World.Steps.{DeliversFrame, FailsSource, SendsOne, Steps, StrikesFrame, TellsTime}
+use Rattle.link_sim.specs.World.Steps.{Steps, TellsTime}
 use Rattle.link_sim.specs.Stations.{IsWorldConfig}
-use Rattle.link_sim.proofs.Events.AtStations.{delivered_at, first_carried, struck_at, world_of}
-use Rattle.link_sim.proofs.Events.Behind.{GoesDown, IsBehind, caught_up, flush_goes, frame_leaves, none_behind, pdu_goes}
-use Rattle.link_sim.proofs.Events.Behind as behind
+use Rattle.link_sim.proofs.Events.AtStations.{delivered_at, first_carried, struck_at}
+use Rattle.link_sim.proofs.Events.Behind.{AreBehind, FillsBoth, IsBehind, SendsDown, all_left, all_sent, flush_both, lane_leaves, none_behind, one_more, sends_down}
+use Rattle.link_sim.proofs.Events.InWorlds.{delivers-one, delivers-two, flushes-one, flushes-two, polls-one, polls-two, strikes-one, strikes-two, world_of}
 use Rattle.link_sim.proofs.Events.Leading.{many-both, many-none, many-one}
+use Rattle.link_sim.proofs.Lanes.Each.{each-lane, either-lane, lane-valid}
 
 -- ---- a world, seen from one of its stations
 -- This station is on that side, and sends over the first link.
-abbrev pub world_at : Side → (a b : StationState) → (k m : FrameLinkState) → List AcceptedPut → ℕ → WorldState
+abbrev pub world_at : Side → (a b : StationState) → (k m : FrameLinksState) → List AcceptedPut → ℕ → WorldState
 world_at One a b k m puts ticks = world_of a b k m puts ticks
 world_at Two a b k m puts ticks = world_of b a m k puts ticks
 
@@ -90,41 +90,49 @@ pub reaches_led : (old new : WorldState) → Reaches old new → Led old new
 reaches_led old new h = led_by h.0 h.1.0 old new h.1.1
 
 -- a station whose end that sends is another
-abbrev pub with_down : StationState → LinkSenderState → StationState
+abbrev pub with_down : StationState → DownState → StationState
 with_down l d = record { entity = l.entity; down = d; up = l.up }
 
 -- Of the station on this side of a world `l` differs by the frames that it keeps back: it has made
--- only so many. The other one is as in the world.
-pub record IsAside (l : StationState) (d : LinkSenderState) (b : StationState) (k m : FrameLinkState) (sent : ℕ) : Type 0 where
-  pub behind : IsBehind l.down d k b.up sent
-  pub back : IsCarried b.down m l.up
+-- only so many of each lane. The other one is as in the world.
+pub record IsAside (l : StationState) (d : DownState) (b : StationState) (k m : FrameLinksState) (sent : Lane → ℕ) : Type 0 where
+  pub behind : AreBehind l.down d k b.up sent
+  pub back : AreCarried b.down m l.up
 
 -- It is the station of the world.
-pub aside_none : (a b : StationState) (k m : FrameLinkState) → IsCarried a.down k b.up → IsCarried b.down m a.up → IsAside a a.down b k m (length k.frames)
+pub aside_none : (a b : StationState) (k m : FrameLinksState) → AreCarried a.down k b.up → AreCarried b.down m a.up → IsAside a a.down b k m (all_sent k)
 aside_none a b k m forth back = record { behind = none_behind a.down k b.up forth; back = back }
 
 -- What came of a world while a station on this side moved on.
-pub record GoesAside (s : Side) (l now : StationState) (d : LinkSenderState) (b : StationState) (k m : FrameLinkState) (puts : List AcceptedPut) (ticks sent : ℕ) : Type 0 where
-  pub down : LinkSenderState
-  pub link : FrameLinkState
+pub record GoesAside (s : Side) (l now : StationState) (d : DownState) (b : StationState) (k m : FrameLinksState) (puts : List AcceptedPut) (ticks : ℕ) (sent : Lane → ℕ) : Type 0 where
+  pub down : DownState
+  pub link : FrameLinksState
   pub then_ticks : ℕ
   pub is : IsAside now down b link m sent
   pub led : Reaches (world_at s (with_down l d) b k m puts ticks) (world_at s (with_down now down) b link m puts then_ticks)
-  pub marks : IsSameMarks k link
-  pub more : List (List ℕ)
-  pub grows : link.frames ≡ k.frames ++ more
+  pub marks : AreSameMarks k link
+  pub more : Lane → List (List ℕ)
+  pub grows : (x : Lane) → (lane_of_links x link).frames ≡ (lane_of_links x k).frames ++ more x
 
 -- ---- what a station does before its frames leave
 same_station : (now l : StationState) → now.entity ≡ l.entity → now.down ≡ l.down → now.up ≡ l.up → now ≡ l
 same_station now l entity down up = λ i. record { entity = entity i; down = down i; up = up i }
 
-module _ (s : Side) (l now : StationState) (d : LinkSenderState) (b : StationState) (k m : FrameLinkState) (puts : List AcceptedPut) (ticks sent : ℕ) (is : IsAside l d b k m sent) where
+module _ (s : Side) (l now : StationState) (d : DownState) (b : StationState) (k m : FrameLinksState) (puts : List AcceptedPut) (ticks : ℕ) (sent : Lane → ℕ) (is : IsAside l d b k m sent) where
   abbrev Goes : Type 0
   Goes = GoesAside s l now d b k m puts ticks sent
 
   -- the other way is as it was
-  back_same : now.up ≡ l.up → IsCarried b.down m now.up
-  back_same up = subst (λ (u : LinkReceiverState). IsCarried b.down m u) (sym up) is.back
+  back_same : now.up ≡ l.up → AreCarried b.down m now.up
+  back_same up = subst (λ (u : UpState). AreCarried b.down m u) (sym up) is.back
+
+  -- so is this one
+  behind_same : now.down ≡ l.down → AreBehind now.down d k b.up sent
+  behind_same down = subst (λ (x : DownState). AreBehind x d k b.up sent) (sym down) is.behind
+
+  -- both lanes of it are carried
+  carried : AreCarried d k b.up
+  carried x = (is.behind.lanes x).carried
 
   -- where only the entity changed, in one event
   entity_goes : (e : Event) (then_ticks : ℕ) → now.down ≡ l.down → now.up ≡ l.up
@@ -133,14 +141,11 @@ module _ (s : Side) (l now : StationState) (d : LinkSenderState) (b : StationSta
     down = d;
     link = k;
     then_ticks = then_ticks;
-    is = record {
-      behind = subst (λ (x : LinkSenderState). IsBehind x d k b.up sent) (sym down) is.behind;
-      back = back_same up;
-    };
+    is = record { behind = behind_same down; back = back_same up };
     led = one_event _ _ e did.Applied step;
-    marks = (refl, refl, refl);
-    more = [];
-    grows = sym (append-nil k.frames);
+    marks = λ x. (refl, refl, refl);
+    more = λ x. [];
+    grows = λ (x : Lane). sym (append-nil (lane_of_links x k).frames);
   }
 
   -- where nothing did, but for a frame that the one behind may have made
@@ -151,9 +156,9 @@ module _ (s : Side) (l now : StationState) (d : LinkSenderState) (b : StationSta
     then_ticks = ticks;
     is = after;
     led = reaches_none _ _ (ap (λ (x : StationState). world_at s x b k m puts ticks) (same_station (with_down now d) (with_down l d) entity refl up));
-    marks = (refl, refl, refl);
-    more = [];
-    grows = sym (append-nil k.frames);
+    marks = λ x. (refl, refl, refl);
+    more = λ x. [];
+    grows = λ (x : Lane). sym (append-nil (lane_of_links x k).frames);
   }
 
   -- ---- the time
@@ -186,103 +191,90 @@ module _ (s : Side) (l now : StationState) (d : LinkSenderState) (b : StationSta
     abbrev pdu : List ℕ
     pdu = next_pdu l.entity.state
 
-    goes : GoesDown now.down d k b.up sent (packet_of d.link d.packet_count pdu ∷ []) (pdu ∷ [])
-    goes = pdu_goes l.down now.down d k b.up sent is.behind pdu moved.sent
+    abbrev its_lane : Lane
+    its_lane = next_lane l.entity.state
 
-    sends_one : (q : Side) → SendsOne q (world_at q (with_down l d) b k m puts ticks) (world_at q (with_down now goes.down) b goes.link m puts ticks)
-    sends_one One = record {
+    sent_down : SendsDown its_lane pdu now.down d k b.up sent
+    sent_down = sends_down l.down now.down d k b.up sent is.behind pdu moved.packet_count its_lane moved.sent moved.other
+
+    abbrev then_down : DownState
+    then_down = sent_down.goes.down
+
+    abbrev then_link : FrameLinksState
+    then_link = sent_down.goes.link
+
+    polled : SendsOneAt (with_down l d) (with_down now then_down) k then_link
+    polled = record {
       served = moved.served;
       spells = spells;
       failures = failures;
-      sends = goes.sends b.up is.behind.carried;
-      none_whole = goes.none_whole;
-      unflushed = goes.behind.flushed ∙ moved.sent.unflushed;
-      marks = record { up = up; marks = goes.marks.0; run = goes.marks.1; spares = record { station = refl; link = refl }; counts = record { puts = refl; ticks = refl } };
+      sends = sent_down.sends;
+      packet_count = sent_down.packet_count;
+      other = sent_down.other;
+      none_whole = sent_down.goes.none_whole;
+      unflushed = (sent_down.goes.behind.lanes its_lane).flushed ∙ moved.sent.unflushed;
     }
-    sends_one Two = record {
-      served = moved.served;
-      spells = spells;
-      failures = failures;
-      sends = goes.sends b.up is.behind.carried;
-      none_whole = goes.none_whole;
-      unflushed = goes.behind.flushed ∙ moved.sent.unflushed;
-      marks = record { up = up; marks = goes.marks.0; run = goes.marks.1; spares = record { station = refl; link = refl }; counts = record { puts = refl; ticks = refl } };
-    }
+
+    polls : (q : Side) → Steps (event.Poll q) did.Applied (world_at q (with_down l d) b k m puts ticks) (world_at q (with_down now then_down) b then_link m puts ticks)
+    polls One = polls-one (with_down l d) (with_down now then_down) b k then_link m puts ticks did.Applied (inl polled) carried up sent_down.goes.marks
+    polls Two = polls-two (with_down l d) (with_down now then_down) b k then_link m puts ticks did.Applied (inl polled) carried up sent_down.goes.marks
 
     moves_goes : Goes
     moves_goes = record {
-      down = goes.down;
-      link = goes.link;
+      down = then_down;
+      link = then_link;
       then_ticks = ticks;
-      is = record { behind = goes.behind; back = back_same up };
-      led = one_event _ _ (event.Poll s) did.Applied (inl (sends_one s));
-      marks = goes.marks;
-      more = goes.more;
-      grows = goes.grows;
+      is = record { behind = sent_down.goes.behind; back = back_same up };
+      led = one_event _ _ (event.Poll s) did.Applied (polls s);
+      marks = sent_down.goes.marks;
+      more = sent_down.goes.more;
+      grows = sent_down.goes.grows;
     }
 
   module _ (room : ℕ) (lost : LosesPdu room l.entity.state now.entity.state) (up : now.up ≡ l.up) (failed : Counts storeds.Refused l.entity.outbox_failures now.entity.outbox_failures)
       (inbox : now.entity.inbox_failures ≡ l.entity.inbox_failures) where
-    fails : (q : Side) → FailsSource q (world_at q (with_down l d) b k m puts ticks) (world_at q (with_down now d) b k m puts ticks)
-    fails One = record {
+    failed_at : FailsAt (with_down l d) (with_down now d) k k
+    failed_at = record {
       place = lost.place;
       is_next = lost.is_next;
       carries = lost.carries;
-      failed = failed;
+      counts = failed;
       inbox = inbox;
       served = lost.served;
-      links = record { ends = (refl, up); link = refl; spares = record { station = refl; link = refl } };
-      counts = record { puts = refl; ticks = refl };
+      down = refl;
+      same_links = λ x. (refl, refl, refl, refl);
     }
-    fails Two = record {
-      place = lost.place;
-      is_next = lost.is_next;
-      carries = lost.carries;
-      failed = failed;
-      inbox = inbox;
-      served = lost.served;
-      links = record { ends = (refl, up); link = refl; spares = record { station = refl; link = refl } };
-      counts = record { puts = refl; ticks = refl };
-    }
+
+    fails : (q : Side) → Steps (event.Poll q) did.Applied (world_at q (with_down l d) b k m puts ticks) (world_at q (with_down now d) b k m puts ticks)
+    fails One = polls-one (with_down l d) (with_down now d) b k k m puts ticks did.Applied (inr failed_at) carried up (λ x. (refl, refl, refl))
+    fails Two = polls-two (with_down l d) (with_down now d) b k k m puts ticks did.Applied (inr failed_at) carried up (λ x. (refl, refl, refl))
 
   pub poll_goes : (answer : Polled) → station_polling.Polls answer l now → (answer ≡ Moved → SpellsTurn (turn l.entity.state) l.entity.state)
       → CountsOutbox (stored_by_poll answer) l.entity.outbox_failures now.entity.outbox_failures → now.entity.inbox_failures ≡ l.entity.inbox_failures → Goes
   poll_goes Moved polls spells outbox inbox = moves_goes polls.0 polls.1 (spells refl) (outbox, inbox)
-  poll_goes Nothing polls spells outbox inbox =
-      nothing_goes (record { behind = subst (λ (x : LinkSenderState). IsBehind x d k b.up sent) (sym polls.0.2) is.behind; back = back_same polls.1 }) polls.0.1 polls.1
-  poll_goes Full polls spells outbox inbox =
-      nothing_goes (record { behind = subst (λ (x : LinkSenderState). IsBehind x d k b.up sent) (sym polls.0.2) is.behind; back = back_same polls.1 }) polls.0.1 polls.1
-  poll_goes SourceFailed polls spells outbox inbox =
-      entity_goes (event.Poll s) ticks polls.0.1 polls.1 (inr (fails _ polls.0.0 polls.1 outbox inbox s))
+  poll_goes Nothing polls spells outbox inbox = nothing_goes (record { behind = behind_same polls.0.2; back = back_same polls.1 }) polls.0.1 polls.1
+  poll_goes Full polls spells outbox inbox = nothing_goes (record { behind = behind_same polls.0.2; back = back_same polls.1 }) polls.0.1 polls.1
+  poll_goes SourceFailed polls spells outbox inbox = entity_goes (event.Poll s) ticks polls.0.1 polls.1 (fails _ polls.0.0 polls.1 outbox inbox s)
 
   -- ---- a flush
-  module _ (rest : KeepsRest l now) (f : behind.Fills l.down now.down d k b.up sent is.behind) where
-    fills : (q : Side) → steps.Fills q (world_at q (with_down l d) b k m puts ticks) (world_at q (with_down now f.goes.down) b f.goes.link m puts ticks)
-    fills One = record {
-      entity = rest.0;
-      sends = f.goes.sends b.up is.behind.carried;
-      most = f.most;
-      none_whole = f.goes.none_whole;
-      flushed = λ none. absurd (f.some none);
-      marks = record { up = rest.1; marks = f.goes.marks.0; run = f.goes.marks.1; spares = record { station = refl; link = refl }; counts = record { puts = refl; ticks = refl } };
-    }
-    fills Two = record {
-      entity = rest.0;
-      sends = f.goes.sends b.up is.behind.carried;
-      most = f.most;
-      none_whole = f.goes.none_whole;
-      flushed = λ none. absurd (f.some none);
-      marks = record { up = rest.1; marks = f.goes.marks.0; run = f.goes.marks.1; spares = record { station = refl; link = refl }; counts = record { puts = refl; ticks = refl } };
-    }
+  module _ (rest : KeepsRest l now) (f : FillsBoth now.down d k b.up sent) where
+    abbrev filled_down : DownState
+    filled_down = f.goes.down
 
-    flushes : (q : Side) → Steps (event.Flush q) did.Applied (world_at q (with_down l d) b k m puts ticks) (world_at q (with_down now f.goes.down) b f.goes.link m puts ticks)
-    flushes One = (fills One, f.more)
-    flushes Two = (fills Two, f.more)
+    abbrev filled_link : FrameLinksState
+    filled_link = f.goes.link
+
+    filled : FillsAt (with_down l d) (with_down now filled_down) k filled_link
+    filled = record { entity = rest.0; lanes = f.lanes; packet_count = f.packet_count; more = f.more }
+
+    flushes : (q : Side) → Steps (event.Flush q) did.Applied (world_at q (with_down l d) b k m puts ticks) (world_at q (with_down now filled_down) b filled_link m puts ticks)
+    flushes One = flushes-one (with_down l d) (with_down now filled_down) b k filled_link m puts ticks did.Applied filled carried rest.1 f.goes.marks
+    flushes Two = flushes-two (with_down l d) (with_down now filled_down) b k filled_link m puts ticks did.Applied filled carried rest.1 f.goes.marks
 
     fills_goes : Goes
     fills_goes = record {
-      down = f.goes.down;
-      link = f.goes.link;
+      down = filled_down;
+      link = filled_link;
       then_ticks = ticks;
       is = record { behind = f.goes.behind; back = back_same rest.1 };
       led = one_event _ _ (event.Flush s) did.Applied (flushes s);
@@ -291,21 +283,32 @@ module _ (s : Side) (l now : StationState) (d : LinkSenderState) (b : StationSta
       grows = f.goes.grows;
     }
 
-  pub flush_on : station_link.Flushes l.down now.down → KeepsRest l now → Goes
-  flush_on flushed rest = elim (flush_goes l.down now.down d k b.up sent is.behind flushed) [
-    | inl none ↦ nothing_goes (record { behind = subst (λ (x : LinkSenderState). IsBehind x d k b.up sent) (sym none.1) is.behind; back = back_same rest.1 }) rest.0 rest.1
+  pub flush_on : FlushesBoth l.down now.down → KeepsRest l now → Goes
+  flush_on flushed rest = elim (flush_both l.down now.down d k b.up sent is.behind flushed) [
+    | inl none ↦ nothing_goes (record { behind = behind_same none.1; back = back_same rest.1 }) rest.0 rest.1
     | inr f ↦ fills_goes rest f
   ]
 
   -- ---- a frame leaves
-  pub frame_on : (frame : List ℕ) → MakesFrame frame l.down now.down → KeepsRest l now →
-      IsAside now d b k m (sent + 1) × (sent < length k.frames) × (frame ≡ get_or k.frames sent []) × (with_down now d ≡ with_down l d)
-  frame_on frame made rest =
-      let f = frame_leaves l.down d k b.up sent is.behind now.down frame made in
+  pub frame_on : (x : Lane) (frame : List ℕ) → MakesFrame frame (lane_down x l.down) (lane_down x now.down) → lane_down (other_lane x) now.down ≡ lane_down (other_lane x) l.down →
+      now.down.packet_count ≡ l.down.packet_count → KeepsRest l now →
+      IsAside now d b k m (one_more x sent) × (sent x < length (lane_of_links x k).frames) × (frame ≡ get_or (lane_of_links x k).frames (sent x) []) × (with_down now d ≡ with_down l d)
+  frame_on x frame made other count rest =
+      let f = lane_leaves x l.down now.down d k b.up sent frame is.behind made other count in
       (record { behind = f.0; back = back_same rest.1 }, f.1, f.2, same_station (with_down now d) (with_down l d) rest.0 refl rest.1)
 
+-- as many frames left, in other words
+pub sent_as : (l : StationState) (d : DownState) (b : StationState) (k m : FrameLinksState) (sent count : Lane → ℕ) → ((x : Lane) → count x ≡ sent x) → IsAside l d b k m sent → IsAside l d b k m count
+sent_as l d b k m sent count same is = record {
+  behind = record {
+    lanes = λ (x : Lane). subst (λ n. IsBehind (lane_down x l.down) (lane_down x d) (lane_of_links x k) (lane_up x b.up) n) (sym (same x)) (is.behind.lanes x);
+    packet_count = is.behind.packet_count;
+  };
+  back = is.back;
+}
+
 -- one step after another
-pub goes_both : (s : Side) (l mid now : StationState) (d : LinkSenderState) (b : StationState) (k m : FrameLinkState) (puts : List AcceptedPut) (ticks sent : ℕ) →
+pub goes_both : (s : Side) (l mid now : StationState) (d : DownState) (b : StationState) (k m : FrameLinksState) (puts : List AcceptedPut) (ticks : ℕ) (sent : Lane → ℕ) →
     (one : GoesAside s l mid d b k m puts ticks sent) → GoesAside s mid now one.down b one.link m puts one.then_ticks sent → GoesAside s l now d b k m puts ticks sent
 goes_both s l mid now d b k m puts ticks sent one two = record {
   down = two.down;
@@ -313,26 +316,26 @@ goes_both s l mid now d b k m puts ticks sent one two = record {
   then_ticks = two.then_ticks;
   is = two.is;
   led = reaches_both _ _ _ one.led two.led;
-  marks = (two.marks.0 ∙ one.marks.0, two.marks.1 ∙ one.marks.1, two.marks.2 ∙ one.marks.2);
-  more = one.more ++ two.more;
-  grows = two.grows ∙ ap (λ x. x ++ two.more) one.grows ∙ append_assoc k.frames one.more two.more;
+  marks = λ (x : Lane). ((two.marks x).0 ∙ (one.marks x).0, (two.marks x).1 ∙ (one.marks x).1, (two.marks x).2 ∙ (one.marks x).2);
+  more = λ (x : Lane). one.more x ++ two.more x;
+  grows = λ (x : Lane). two.grows x ∙ ap (λ (y : List (List ℕ)). y ++ two.more x) (one.grows x) ∙ append_assoc (lane_of_links x k).frames (one.more x) (two.more x);
 }
 
 -- all frames of the one behind have left: it is the station of the world
-pub aside_all : (l : StationState) (d : LinkSenderState) (b : StationState) (k m : FrameLinkState) (sent : ℕ) → IsAside l d b k m sent → length l.down.waiting < l.down.link.zone →
-    (with_down l d ≡ l) × (sent ≡ length k.frames)
+pub aside_all : (l : StationState) (d : DownState) (b : StationState) (k m : FrameLinksState) (sent : Lane → ℕ) → IsAside l d b k m sent →
+    ((x : Lane) → length (lane_down x l.down).waiting < (lane_down x l.down).link.zone) → (with_down l d ≡ l) × ((x : Lane) → sent x ≡ length (lane_of_links x k).frames)
 aside_all l d b k m sent is waits =
-    let all = caught_up l.down d k b.up sent is.behind waits in
-    (ap (λ (x : LinkSenderState). with_down l x) (sym all.0), all.1)
+    let all = all_left l.down d k b.up sent is.behind waits in
+    (ap (λ (x : DownState). with_down l x) (sym all.0), all.1)
 
 -- ---- frames that are lost, and one that arrives
--- Both ways are carried. Of the frames of the first one so many were taken, of which the last, if there is
--- one, arrived.
-pub record AreJoined (a b : StationState) (k m : FrameLinkState) (taken : ℕ) : Type 0 where
-  pub forth : IsCarried a.down k b.up
-  pub back : IsCarried b.down m a.up
-  pub marks : length k.marks ≡ taken
-  pub run : k.run ≡ 0
+-- Both ways are carried. Of the frames of each lane of the first one so many were taken, of which the
+-- last, if there is one, arrived.
+pub record AreJoined (a b : StationState) (k m : FrameLinksState) (taken : Lane → ℕ) : Type 0 where
+  pub forth : AreCarried a.down k b.up
+  pub back : AreCarried b.down m a.up
+  pub marks : (x : Lane) → length (lane_of_links x k).marks ≡ taken x
+  pub run : (x : Lane) → (lane_of_links x k).run ≡ 0
 
 abbrev struck_link : FrameLinkState → FrameLinkState
 struck_link k = record k { marks = k.marks ++ false ∷ []; run = k.run + 1 }
@@ -340,126 +343,127 @@ struck_link k = record k { marks = k.marks ++ false ∷ []; run = k.run + 1 }
 abbrev arrived_link : FrameLinkState → FrameLinkState
 arrived_link k = record k { marks = k.marks ++ true ∷ []; run = 0 }
 
-module _ (s : Side) (a : StationState) (m : FrameLinkState) (puts : List AcceptedPut) (ticks : ℕ) where
-  strikes_one : (b : StationState) (k : FrameLinkState) → IsCarried a.down k b.up → length k.marks < length k.frames → k.run < most_struck → (q : Side) →
-      StrikesFrame q (world_at q a b k m puts ticks) (world_at q a b (struck_link k) m puts ticks)
-  strikes_one b k forth there few One = record {
-    waits = there;
-    few = few;
-    link = refl;
-    sends = (struck_at did.Applied a.down k (struck_link k) b.up (record { waits = there; few = few; marked = refl }) forth).1;
-    station = refl;
-    spares = record { station = refl; link = refl };
-    counts = record { puts = refl; ticks = refl };
-  }
-  strikes_one b k forth there few Two = record {
-    waits = there;
-    few = few;
-    link = refl;
-    sends = (struck_at did.Applied a.down k (struck_link k) b.up (record { waits = there; few = few; marked = refl }) forth).1;
-    station = refl;
-    spares = record { station = refl; link = refl };
-    counts = record { puts = refl; ticks = refl };
-  }
+-- a lane that is as it was is carried still
+still : {d : LinkSenderState} {k n : FrameLinkState} {u v : LinkReceiverState} → IsCarried d k u → n ≡ k → v ≡ u → IsCarried d n v
+still {d} {k} {n} {u} {v} is link up = subst (λ (y : FrameLinkState). IsCarried d y v) (sym link) (subst (λ (y : LinkReceiverState). IsCarried d k y) (sym up) is)
 
-  -- so many frames were lost
-  record Loses (b : StationState) (k : FrameLinkState) (lost : ℕ) : Type 0 where
-    pub link : FrameLinkState
-    pub forth : IsCarried a.down link b.up
+-- one lane with other frames; of that lane, and of the other one
+abbrev put_lane : Lane → FrameLinkState → FrameLinksState → FrameLinksState
+put_lane Directives n k = record { directives = n; file_data = k.file_data }
+put_lane Data n k = record { directives = k.directives; file_data = n }
+
+put_here : (x : Lane) (n : FrameLinkState) (k : FrameLinksState) → lane_of_links x (put_lane x n k) ≡ n
+put_here Directives n k = refl
+put_here Data n k = refl
+
+put_beside : (x : Lane) (n : FrameLinkState) (k : FrameLinksState) → lane_of_links (other_lane x) (put_lane x n k) ≡ lane_of_links (other_lane x) k
+put_beside Directives n k = refl
+put_beside Data n k = refl
+
+module _ (s : Side) (a : StationState) (m : FrameLinksState) (puts : List AcceptedPut) (ticks : ℕ) (x : Lane) where
+  strikes : (q : Side) (b : StationState) (k n : FrameLinksState) → lane_of_links (other_lane x) n ≡ lane_of_links (other_lane x) k →
+      IsCarried (lane_down x a.down) (lane_of_links x k) (lane_up x b.up) → StrikesAt did.Applied (lane_of_links x k) (lane_of_links x n) →
+      Steps (event.Strike q x) did.Applied (world_at q a b k m puts ticks) (world_at q a b n m puts ticks)
+  strikes One b k n other forth h = strikes-one x a b k n m puts ticks other did.Applied h forth
+  strikes Two b k n other forth h = strikes-two x b a k n m puts ticks other did.Applied h forth
+
+  -- so many frames of this lane were lost
+  record Loses (b : StationState) (k : FrameLinksState) (lost : ℕ) : Type 0 where
+    pub link : FrameLinksState
+    pub forth : IsCarried (lane_down x a.down) (lane_of_links x link) (lane_up x b.up)
     pub led : Reaches (world_at s a b k m puts ticks) (world_at s a b link m puts ticks)
-    pub frames : link.frames ≡ k.frames
-    pub marks : length link.marks ≡ length k.marks + lost
+    pub frames : (lane_of_links x link).frames ≡ (lane_of_links x k).frames
+    pub marks : length (lane_of_links x link).marks ≡ length (lane_of_links x k).marks + lost
+    pub other : lane_of_links (other_lane x) link ≡ lane_of_links (other_lane x) k
 
-  loses : (b : StationState) (k : FrameLinkState) (lost : ℕ) → IsCarried a.down k b.up → length k.marks + lost ≤ length k.frames → k.run + lost ≤ most_struck → Loses b k lost
-  loses b k zero forth there few = record { link = k; forth = forth; led = reaches_none _ _ refl; frames = refl; marks = omega arith }
+  loses : (b : StationState) (k : FrameLinksState) (lost : ℕ) → IsCarried (lane_down x a.down) (lane_of_links x k) (lane_up x b.up) →
+      length (lane_of_links x k).marks + lost ≤ length (lane_of_links x k).frames → (lane_of_links x k).run + lost ≤ most_struck → Loses b k lost
+  loses b k zero forth there few = record { link = k; forth = forth; led = reaches_none _ _ refl; frames = refl; marks = omega arith; other = refl }
   loses b k (suc lost) forth there few =
-      let waits : length k.marks < length k.frames = omega arith in
-      let low : k.run < most_struck = omega arith in
-      let one : IsCarried a.down (struck_link k) b.up = (struck_at did.Applied a.down k (struck_link k) b.up (record { waits = waits; few = low; marked = refl }) forth).0 in
-      let more : length (k.marks ++ false ∷ []) ≡ length k.marks + 1 = length-append k.marks (false ∷ []) in
-      let rest : Loses b (struck_link k) lost = loses b (struck_link k) lost one (omega (arith, more, there)) (omega (arith, few)) in
+      let old : FrameLinkState = lane_of_links x k in
+      let n : FrameLinksState = put_lane x (struck_link old) k in
+      let here : lane_of_links x n ≡ struck_link old = put_here x (struck_link old) k in
+      let lost_one : StrikesAt did.Applied old (lane_of_links x n) = record { waits = omega (arith, there); few = omega (arith, few); marked = here } in
+      let one : IsCarried (lane_down x a.down) (lane_of_links x n) (lane_up x b.up) = (struck_at did.Applied (lane_down x a.down) old (lane_of_links x n) (lane_up x b.up) lost_one forth).0 in
+      let frames : (lane_of_links x n).frames ≡ old.frames = ap (λ (y : FrameLinkState). y.frames) here in
+      let more : length (lane_of_links x n).marks ≡ length old.marks + 1 = ap (λ (y : FrameLinkState). length y.marks) here ∙ length-append old.marks (false ∷ []) in
+      let rest : Loses b n lost = loses b n lost one
+      (omega (arith, more, there, ap (λ (y : List (List ℕ)). length y) frames)) (omega (arith, few, ap (λ (y : FrameLinkState). y.run) here)) in
       record {
         link = rest.link;
         forth = rest.forth;
-        led = reaches_both _ _ _ (one_event _ (world_at s a b (struck_link k) m puts ticks) (event.Strike s) did.Applied (strikes s b k forth waits low)) rest.led;
-        frames = rest.frames;
+        led = reaches_both _ _ _ (one_event _ (world_at s a b n m puts ticks) (event.Strike s x) did.Applied (strikes s b k n (put_beside x (struck_link old) k) forth lost_one)) rest.led;
+        frames = rest.frames ∙ frames;
         marks = omega (arith, rest.marks, more);
-      }
-    where
-      strikes : (q : Side) (b : StationState) (k : FrameLinkState) → IsCarried a.down k b.up → length k.marks < length k.frames → k.run < most_struck →
-          Steps (event.Strike q) did.Applied (world_at q a b k m puts ticks) (world_at q a b (struck_link k) m puts ticks)
-      strikes q b k forth there few = strikes_one b k forth there few q
-
-  delivers_one : (b now : StationState) (k : FrameLinkState) (frame : List ℕ) → (forth : IsCarried a.down k b.up) → (there : length k.marks < length k.frames) → (e : frame ≡ oldest k) →
-      (taken : TakesFrame frame b now) → (q : Side) →
-      DeliversFrame q (world_at q a b k m puts ticks) (world_at q a now (arrived_link k) m puts ticks)
-  delivers_one b now k frame forth there e taken One =
-      let h : HearsAt a.down k (arrived_link k) b now = delivered_at a.down k b now frame forth there e taken in
-      record {
-        waits = there;
-        link = refl;
-        given = h.given;
-        gives = h.gives;
-        hears = h.hears;
-        heard = h.heard;
-        down = taken.down;
-        station = refl;
-        back = refl;
-        counts = record { puts = refl; ticks = refl };
-      }
-  delivers_one b now k frame forth there e taken Two =
-      let h : HearsAt a.down k (arrived_link k) b now = delivered_at a.down k b now frame forth there e taken in
-      record {
-        waits = there;
-        link = refl;
-        given = h.given;
-        gives = h.gives;
-        hears = h.hears;
-        heard = h.heard;
-        down = taken.down;
-        station = refl;
-        back = refl;
-        counts = record { puts = refl; ticks = refl };
+        other = rest.other ∙ put_beside x (struck_link old) k;
       }
 
-  -- What came of a world in which a frame arrived, those before it having been lost.
-  pub record Arrives (b now : StationState) (k : FrameLinkState) (then_taken : ℕ) : Type 0 where
-    pub link : FrameLinkState
+  delivers : (q : Side) (b now : StationState) (k n : FrameLinksState) → lane_of_links (other_lane x) n ≡ lane_of_links (other_lane x) k → now.down ≡ b.down →
+      IsCarried (lane_down x a.down) (lane_of_links x k) (lane_up x b.up) → FrameArrivesAt did.Applied x (lane_of_links x k) (lane_of_links x n) b now →
+      Steps (event.Deliver q x) did.Applied (world_at q a b k m puts ticks) (world_at q a now n m puts ticks)
+  delivers One b now k n other down forth h = delivers-one x k n m b now a puts ticks other down did.Applied h forth
+  delivers Two b now k n other down forth h = delivers-two x k n m b now a puts ticks other down did.Applied h forth
+
+  -- What came of a world in which a frame of this lane arrived, those before it having been lost.
+  pub record Arrives (b now : StationState) (k : FrameLinksState) (then_taken : Lane → ℕ) : Type 0 where
+    pub link : FrameLinksState
     pub are : AreJoined a now link m then_taken
     pub led : Reaches (world_at s a b k m puts ticks) (world_at s a now link m puts ticks)
-    pub frames : link.frames ≡ k.frames
+    pub frames : (y : Lane) → (lane_of_links y link).frames ≡ (lane_of_links y k).frames
 
-  pub arrives : (b now : StationState) (k : FrameLinkState) (taken lost : ℕ) (frame : List ℕ) → AreJoined a b k m taken → lost < frame_counts → taken + lost < length k.frames →
-      frame ≡ get_or k.frames (taken + lost) [] → TakesFrame frame b now → Arrives b now k (taken + lost + 1)
-  arrives b now k taken lost frame are few there e takes =
-      let n : Loses b k lost = loses b k lost are.forth (omega (arith, are.marks, there)) (omega (arith, are.run, few)) in
-      let at : length n.link.marks ≡ taken + lost = omega (arith, n.marks, are.marks) in
-      let waits : length n.link.marks < length n.link.frames = omega (arith, at, there, ap (λ (x : List (List ℕ)). length x) n.frames) in
-      let first : frame ≡ oldest n.link = e ∙ ap (λ i. get_or k.frames i []) (sym at) ∙ ap (λ (x : List (List ℕ)). get_or x (length n.link.marks) []) (sym n.frames) in
-      let h : HearsAt a.down n.link (arrived_link n.link) b now = delivered_at a.down n.link b now frame n.forth waits first takes in
-      let more : length (n.link.marks ++ true ∷ []) ≡ length n.link.marks + 1 = length-append n.link.marks (true ∷ []) in
+  pub arrives : (b now : StationState) (k : FrameLinksState) (taken then_taken : Lane → ℕ) (lost : ℕ) (frame : List ℕ) → AreJoined a b k m taken → lost < frame_counts →
+      taken x + lost < length (lane_of_links x k).frames → frame ≡ get_or (lane_of_links x k).frames (taken x + lost) [] → TakesFrame frame b now →
+      then_taken x ≡ taken x + lost + 1 → then_taken (other_lane x) ≡ taken (other_lane x) → Arrives b now k then_taken
+  arrives b now k taken then_taken lost frame are few there e takes taken_here taken_beside =
+      let marks : length (lane_of_links x k).marks ≡ taken x = are.marks x in
+      let n : Loses b k lost = loses b k lost (are.forth x) (omega (arith, marks, there)) (omega (arith, are.run x, few)) in
+      let old : FrameLinkState = lane_of_links x n.link in
+      let at : length old.marks ≡ taken x + lost = omega (arith, n.marks, marks) in
+      let waits : length old.marks < length old.frames = omega (arith, at, there, ap (λ (y : List (List ℕ)). length y) n.frames) in
+      let first : frame ≡ oldest old = e ∙ ap (λ i. get_or (lane_of_links x k).frames i []) (sym at) ∙ ap (λ (y : List (List ℕ)). get_or y (length old.marks) []) (sym n.frames) in
+      let forth : AreCarried a.down n.link b.up = either-lane (λ (y : Lane). IsCarried (lane_down y a.down) (lane_of_links y n.link) (lane_up y b.up)) x
+      n.forth (subst (λ (y : FrameLinkState). IsCarried (lane_down (other_lane x) a.down) y (lane_up (other_lane x) b.up)) (sym n.other) (are.forth (other_lane x))) in
+      let link : FrameLinksState = put_lane x (arrived_link old) n.link in
+      let hears : (down : LinkSenderState) → IsCarried down old (lane_up x b.up) → HearsAt x down old (arrived_link old) b now =
+      λ (down : LinkSenderState) (is : IsCarried down old (lane_up x b.up)). delivered_at x down old b now frame is waits first takes in
+      let h : HearsAt x (lane_down x a.down) old (arrived_link old) b now = hears (lane_down x a.down) (forth x) in
+      let comes : FrameArrivesAt did.Applied x old (lane_of_links x link) b now =
+      subst (λ (y : FrameLinkState). FrameArrivesAt did.Applied x old y b now) (sym (put_here x (arrived_link old) n.link)) (record { waits = waits; hears = hears; marked = refl }) in
+      let here : lane_of_links x link ≡ arrived_link old = put_here x (arrived_link old) n.link in
+      let beside : lane_of_links (other_lane x) link ≡ lane_of_links (other_lane x) k = put_beside x (arrived_link old) n.link ∙ n.other in
+      let marked_here : length (lane_of_links x link).marks ≡ then_taken x =
+      ap (λ (y : FrameLinkState). length y.marks) here ∙ length-append old.marks (true ∷ []) ∙ ap (λ i. i + 1) at ∙ sym taken_here in
       record {
-        link = arrived_link n.link;
+        link = link;
         are = record {
-          forth = h.carried;
-          back = subst (λ (x : LinkSenderState). IsCarried x m a.up) (sym takes.down) are.back;
-          marks = omega (arith, more, at);
-          run = refl;
+          forth = either-lane (λ (y : Lane). IsCarried (lane_down y a.down) (lane_of_links y link) (lane_up y now.up)) x
+              (subst (λ (y : FrameLinkState). IsCarried (lane_down x a.down) y (lane_up x now.up)) (sym here) h.carried)
+              (still (forth (other_lane x)) (put_beside x (arrived_link old) n.link) h.other_up);
+          back = subst (λ (d : DownState). AreCarried d m a.up) (sym takes.down) are.back;
+          marks = either-lane (λ (y : Lane). length (lane_of_links y link).marks ≡ then_taken y) x marked_here
+              (ap (λ (y : FrameLinkState). length y.marks) beside ∙ are.marks (other_lane x) ∙ sym taken_beside);
+          run = either-lane (λ (y : Lane). (lane_of_links y link).run ≡ 0) x (ap (λ (y : FrameLinkState). y.run) here)
+              (ap (λ (y : FrameLinkState). y.run) beside ∙ are.run (other_lane x));
         };
-        led = reaches_both _ _ _ n.led (one_event (world_at s a b n.link m puts ticks) _ (event.Deliver s) did.Applied (delivers s waits first n.forth));
-        frames = n.frames;
+        led = reaches_both _ _ _ n.led (one_event (world_at s a b n.link m puts ticks) _ (event.Deliver s x) did.Applied
+            (delivers s b now n.link link (put_beside x (arrived_link old) n.link) takes.down (forth x) comes));
+        frames = either-lane (λ (y : Lane). (lane_of_links y link).frames ≡ (lane_of_links y k).frames) x
+            (ap (λ (y : FrameLinkState). y.frames) here ∙ n.frames) (ap (λ (y : FrameLinkState). y.frames) beside);
       }
-    where
-      delivers : (q : Side) {x : FrameLinkState} → length x.marks < length x.frames → frame ≡ oldest x → IsCarried a.down x b.up →
-          Steps (event.Deliver q) did.Applied (world_at q a b x m puts ticks) (world_at q a now (arrived_link x) m puts ticks)
-      delivers q {x} there first forth = delivers_one b now x frame forth there first takes q
 
 -- ---- at first
-abbrev pub no_link : LinkSenderState → FrameLinkState
-no_link d = record { frames = []; marks = []; run = 0; blanks = 0; len = 8 + d.link.zone }
+abbrev no_lane : LinkSenderState → FrameLinkState
+no_lane d = record { frames = []; places = []; marks = []; run = 0; blanks = 0; len = 8 + d.link.zone }
+
+abbrev pub no_link : DownState → FrameLinksState
+no_link d = record { directives = no_lane d.directives; file_data = no_lane d.file_data }
+
+pub no_link-none : (d : DownState) (x : Lane) → ((lane_of_links x (no_link d)).frames ≡ []) × (length (lane_of_links x (no_link d)).marks ≡ 0) × ((lane_of_links x (no_link d)).run ≡ 0)
+no_link-none d Directives = (refl, refl, refl)
+no_link-none d Data = (refl, refl, refl)
 
 -- an end that sent nothing, and one that took nothing
-none_down : (link : LinkConfig) (capacity : ℕ) → IsDown (first_down link capacity) [] 0
+none_down : (link : LinkConfig) (capacity : ℕ) → IsDown (first_lane_down link capacity) [] 0
 none_down link capacity =
     let none : 0 * link.zone ≡ 0 = omega arith in
     record {
@@ -473,29 +477,38 @@ none_down link capacity =
       counted = refl;
     }
 
-none_up : (link : LinkConfig) → IsUp (first_up link) [] [] 0
+none_up : (link : LinkConfig) → IsUp (first_lane_up link) [] [] 0
 none_up link = new_is true link [] (replicate 11 0) refl tt tt
 
-first_carries : (d : LinkSenderState) (u : LinkReceiverState) (link : LinkConfig) (capacity : ℕ) → IsLink link → d ≡ first_down link capacity → u ≡ first_up link → IsCarried d (no_link d) u
-first_carries d u link capacity valid down up =
-    first_carried d u (no_link d) link capacity (8 + d.link.zone) valid down (subst (λ (x : LinkSenderState). IsDown x [] 0) (sym down) (none_down link capacity))
+lane_carries : (d : LinkSenderState) (u : LinkReceiverState) (link : LinkConfig) (capacity : ℕ) → IsLink link → d ≡ first_lane_down link capacity → u ≡ first_lane_up link → IsCarried d (no_lane d) u
+lane_carries d u link capacity valid down up =
+    first_carried d u (no_lane d) link capacity (8 + d.link.zone) valid down (subst (λ (x : LinkSenderState). IsDown x [] 0) (sym down) (none_down link capacity))
     up (subst (λ (x : LinkReceiverState). IsUp x [] [] 0) (sym up) (none_up link)) refl refl
+
+first_carries : (d : DownState) (u : UpState) (link : LinkConfig) (capacity : ℕ) → IsLink link → d ≡ first_down link capacity → u ≡ first_up link → AreCarried d (no_link d) u
+first_carries d u link capacity valid down up = each-lane (λ (x : Lane). IsCarried (lane_down x d) (lane_of_links x (no_link d)) (lane_up x u))
+    (lane_carries d.directives u.directives link capacity valid (ap (λ (x : DownState). x.directives) down) (ap (λ (x : UpState). x.directives) up))
+    (lane_carries d.file_data u.file_data (lane_link Data link) capacity (lane-valid Data link valid) (ap (λ (x : DownState). x.file_data) down) (ap (λ (x : UpState). x.file_data) up))
+
+-- no frame of either lane was taken
+abbrev pub none_taken : Lane → ℕ
+none_taken x = 0
 
 -- Two new stations of a world's configuration are joined.
 pub first_joined : (c : WorldConfig) (outboxes inboxes : FileMap × FileMap) (a b : StationState) → IsWorldConfig c → IsFirstAt c.one outboxes.0 inboxes.0 a → IsFirstAt c.two outboxes.1 inboxes.1 b →
-    AreJoined a b (no_link a.down) (no_link b.down) 0 × IsFirst c outboxes inboxes (world_of a b (no_link a.down) (no_link b.down) [] 0)
+    AreJoined a b (no_link a.down) (no_link b.down) none_taken × IsFirst c outboxes inboxes (world_of a b (no_link a.down) (no_link b.down) [] 0)
 first_joined c outboxes inboxes a b valid one two = (
   record {
     forth = first_carries a.down b.up c.one.down c.one.capacity valid.one.down one.down (two.up ∙ ap first_up (sym valid.down));
     back = first_carries b.down a.up c.two.down c.two.capacity valid.two.down two.down (one.up ∙ ap first_up valid.up);
-    marks = refl;
-    run = refl;
+    marks = λ (x : Lane). (no_link-none a.down x).1;
+    run = λ (x : Lane). (no_link-none a.down x).2;
   },
   record { one = one; two = two; from_one = refl; from_two = refl; puts = refl; ticks = refl },
 )
 
 -- A put that the first station accepts is an event of the world.
-pub put_reaches : (source destination : List ℕ) (id : TransactionId) (a now b : StationState) (k m : FrameLinkState) (puts : List AcceptedPut) (ticks : ℕ) →
+pub put_reaches : (source destination : List ℕ) (id : TransactionId) (a now b : StationState) (k m : FrameLinksState) (puts : List AcceptedPut) (ticks : ℕ) →
     Accepts source destination id a.entity.state now.entity.state →
     KeepsFailures a.entity now.entity → KeepsLink a now → Reaches (world_of a b k m puts ticks) (world_of now b k m (puts ++ record { id = id; source = source; destination = destination } ∷ []) ticks)
 put_reaches source destination id a now b k m puts ticks accepts failures link = one_event _ _ (event.Put One source destination) did.Applied (record {

@@ -1,30 +1,31 @@
--- What an event does to one station and to what it sent, as the other end sees it.
-use Rattle.std.proofs.Common.{◌≡◌, ◌≢◌, ℕ, ◌+◌, ◌-◌, ◌%◌, ◌<◌, ◌≤◌, Bool, true, false, ◌||◌, ◌==◌, List, [], ◌∷◌, ◌++◌, length, refl, sym, ap, subst, ◌∙◌, inl, inr, arith, length-append}
+-- What an event does to a lane of what a station sent, as the other end sees it.
+use Rattle.std.proofs.Common.{◌≡◌, ℕ, ◌+◌, ◌-◌, ◌%◌, ◌<◌, ◌≤◌, Bool, true, false, ◌||◌, ◌==◌, List, [], ◌∷◌, ◌++◌, length, refl, sym, ap, subst, ◌∙◌, inl, inr, arith, length-append}
 use Rattle.std.proofs.lemmas.Bool.{cases_Bool}
 use Rattle.std.proofs.lemmas.List.{append-nil}
 use Rattle.std.proofs.Math.Nat.{mod-eq_of_lt}
 use Rattle.mpdu.specs.Packing.{flush_of, idle_packet, idle_len}
 use Rattle.mpdu.specs.Stream.{stream}
 use Rattle.mpdu.proofs.Packed.{idle_len-low}
-use Rattle.link_stack.specs.Frames.{packet_of}
-use Rattle.aos_frame.specs.Frame.{IsLink}
+use Rattle.cfd_bits.specs.Field.{field}
+use Rattle.link_stack.specs.Frames.{frame_of, packet_of}
+use Rattle.aos_frame.specs.Frame.{IsLink, lane_link, other_lane}
 use Rattle.aos_frame.specs.declared.config.LinkConfig.{LinkConfig}
-use Rattle.link_stack.specs.Downward.{LinkSenderState, IsDown, packing}
-use Rattle.link_stack.specs.Upward.{LinkReceiverState, IsUp}
-use Rattle.cfdp_station.specs.Link.{SendsPdu, Flushes}
-use Rattle.cfdp_station.specs.Station.{StationState, first_down, first_up}
+use Rattle.aos_frame.specs.declared.config.Lane.{Lane}
+use Rattle.aos_frame.specs.declared.config.Lane.TheVariants.{Directives, Data}
+use Rattle.link_stack.specs.Downward.{DownState, LinkSenderState, Flushes, IsDown, SendsPdu, first_down, first_lane_down, lane_down, packing}
+use Rattle.link_stack.specs.Upward.{LinkReceiverState, IsUp, UpState, first_lane_up, first_up, lane_of, lane_up}
+use Rattle.cfdp_station.specs.Station.{StationState}
 use Rattle.cfdp_station.specs.Taking.{GivesPdus, TakesFrame}
-use Rattle.link_sim.specs.declared.side.Side.TheVariants.{One, Two}
 use Rattle.link_sim.specs.declared.event.Applied.{Applied}
 use Rattle.link_sim.specs.declared.event.Applied.TheVariants as did
 use Rattle.link_sim.specs.declared.event.Refusal.TheVariants as refusal
-use Rattle.link_sim.specs.declared.event.AcceptedPut.{AcceptedPut}
-use Rattle.link_sim.specs.FrameLink.{FrameLinkState, oldest}
-use Rattle.link_sim.specs.AtStation.{IsSameLink, IsSameEnd, IsSameMarks, AddsNone, HearsAt, StrikesAt}
-use Rattle.link_sim.specs.OneWay.{OneWayState, IsOneWayOf, IsCarried, IsRested, SendsMore, SendsNone, HearsMore, one_way, packets_sent}
-use Rattle.link_sim.specs.World.State.{WorldState, seen_link}
-use Rattle.link_sim.specs.World.Steps.{Delivers, Strikes}
-use Rattle.link_sim.proofs.Ways.Carried.{sent_on}
+use Rattle.link_sim.specs.FrameLink.{FrameLinkState, FrameLinksState, lane_of_links, oldest}
+use Rattle.link_sim.specs.AtStation.{AddsNone, AreCarried, AreSameLinks, CarryOn, FrameArrivesAt, HearsAt, IsNotWhole, IsSameEnd, IsSameLink, IsSameMarks, PullsAll, StrikesAt}
+use Rattle.link_sim.specs.OneWay.{OneWayState, IsOneWay, IsOneWayOf, IsCarried, IsRested, SendsMore, SendsNone, HearsMore, one_way, packets_sent}
+use Rattle.link_sim.proofs.Lanes.Frames.{frame-channel}
+use Rattle.link_sim.proofs.Lanes.Each.{either-lane, lane-valid}
+use Rattle.link_sim.proofs.Ways.Carried.{same_way, sent_on}
+use Rattle.link_sim.proofs.Ways.First.{first-down_lane, first-up_lane}
 use Rattle.link_sim.proofs.OnWay.Rests.{length-idle, idle_len-fills, rests-unflushed, rests-flushed}
 use Rattle.link_sim.proofs.Ways.Pulling.{pulled_none}
 use Rattle.link_sim.proofs.Ways.Receiving.{delivers, next_frame, strikes}
@@ -32,10 +33,10 @@ use Rattle.link_sim.proofs.Ways.Sending.{new_way, way_is}
 use Rattle.link_sim.proofs.Ways.Sends.{sends, flushes}
 
 -- ---- at first
-pub first_carried : (d : LinkSenderState) (u : LinkReceiverState) (k : FrameLinkState) (link : LinkConfig) (capacity len : ℕ) → IsLink link → d ≡ first_down link capacity → IsDown d [] 0 →
-    u ≡ first_up link → IsUp u [] [] 0 → k ≡ record { frames = []; marks = []; run = 0; blanks = 0; len = len } → len ≡ 8 + d.link.zone → IsCarried d k u
+pub first_carried : (d : LinkSenderState) (u : LinkReceiverState) (k : FrameLinkState) (link : LinkConfig) (capacity len : ℕ) → IsLink link → d ≡ first_lane_down link capacity → IsDown d [] 0 →
+    u ≡ first_lane_up link → IsUp u [] [] 0 → k ≡ record { frames = []; places = []; marks = []; run = 0; blanks = 0; len = len } → len ≡ 8 + d.link.zone → IsCarried d k u
 first_carried d u k link capacity len valid e down f up new fits =
-    let n : FrameLinkState = record { frames = []; marks = []; run = 0; blanks = 0; len = len } in
+    let n : FrameLinkState = record { frames = []; places = []; marks = []; run = 0; blanks = 0; len = len } in
     let is : IsOneWayOf (one_way d n u) [] = new_way d u link capacity valid e down f up in
     let all : IsCarried d n u = record {
       way = way_is (one_way d n u) [] is;
@@ -44,17 +45,24 @@ first_carried d u k link capacity len valid e down f up new fits =
     } in
     subst (λ (x : FrameLinkState). IsCarried d x u) (sym new) all
 
+pub first-lanes : (d : DownState) (u : UpState) (k : FrameLinksState) (link : LinkConfig) (capacity len : ℕ) → IsLink link → d ≡ first_down link capacity →
+    ((l : Lane) → IsDown (lane_down l d) [] 0) → u ≡ first_up link → ((l : Lane) → IsUp (lane_up l u) [] [] 0) →
+    ((l : Lane) → lane_of_links l k ≡ record { frames = []; places = []; marks = []; run = 0; blanks = 0; len = len }) → ((l : Lane) → len ≡ 8 + (lane_down l d).link.zone) → AreCarried d k u
+first-lanes d u k link capacity len valid down sent up taken none fits l =
+    first_carried (lane_down l d) (lane_up l u) (lane_of_links l k) (lane_link l link) capacity len (lane-valid l link valid)
+    (ap (λ (x : DownState). lane_down l x) down ∙ first-down_lane l link capacity) (sent l) (ap (λ (x : UpState). lane_up l x) up ∙ first-up_lane l link) (taken l) (none l) (fits l)
+
 -- ---- what is sent
 -- room was made, a PDU went down, and frames were made of all whole zones
-pub moved_on : (d e f : LinkSenderState) (k m n : FrameLinkState) (u : LinkReceiverState) (pdu : List ℕ) → IsCarried d k u → IsSameLink k m → SendsPdu pdu d e → AddsNone e f m n →
+pub moved_on : (d e f : LinkSenderState) (k m n : FrameLinkState) (u : LinkReceiverState) (pdu : List ℕ) (count : ℕ) → IsCarried d k u → IsSameLink k m → SendsPdu pdu count d e → AddsNone e f m n →
     IsSameEnd e f → IsSameMarks m n → length f.waiting < e.link.zone →
-    IsCarried f n u × SendsMore (one_way d k u) (one_way f n u) (packet_of d.link d.packet_count pdu ∷ []) (pdu ∷ [])
-moved_on d e f k m n u pdu is same sent pulled fixed marks waits =
+    IsCarried f n u × SendsMore (one_way d k u) (one_way f n u) (packet_of d.link count pdu ∷ []) (pdu ∷ [])
+moved_on d e f k m n u pdu count is same sent pulled fixed marks waits =
     let l : OneWayState = one_way d k u in
-    let more : SendsMore l (one_way e k u) (packet_of d.link d.packet_count pdu ∷ []) (pdu ∷ []) =
-    sends l e pdu is.way (sent.sends (packets_sent l) (length k.frames) is.way.sent.made) sent.carries sent.waiting sent.fixed.0 in
-    let rested : IsRested (one_way f n u) = rests-unflushed (one_way f n u) (omega (arith, waits, ap (λ x. x.zone) fixed.0)) (fixed.3 ∙ sent.unflushed) in
-    sent_on d e f k m n u (packet_of d.link d.packet_count pdu ∷ []) (pdu ∷ []) is same more pulled sent.fixed.0 fixed.0 marks.2 (λ x. rested)
+    let more : SendsMore l (one_way e k u) (packet_of d.link count pdu ∷ []) (pdu ∷ []) =
+    sends l e count pdu is.way (sent.sends (packets_sent l) (length k.frames) is.way.sent.made) sent.carries sent.waiting sent.fixed.0 in
+    let rested : IsRested (one_way f n u) = rests-unflushed (one_way f n u) (omega (arith, waits, ap (λ x. x.zone) fixed.0)) (fixed.2 ∙ sent.unflushed) in
+    sent_on d e f k m n u (packet_of d.link count pdu ∷ []) (pdu ∷ []) is same more pulled sent.fixed.0 fixed.0 marks.2 (λ x. rested)
 
 -- room was made, a flush filled the begun zone, and frames were made of all whole zones
 pub filled_on : (d e f : LinkSenderState) (k m n : FrameLinkState) (u : LinkReceiverState) → IsCarried d k u → IsSameLink k m → Flushes d e → AddsNone e f m n →
@@ -64,7 +72,7 @@ filled_on d e f k m n u is same sent pulled fixed marks waits =
     let more : SendsMore l (one_way e k u) (flush_of (packing d)) [] =
     flushes l e is.way (sent.sends (packets_sent l) (length k.frames) is.way.sent.made) sent.same (sent.one, sent.idle) sent.waiting sent.fixed.0 in
     let room : length f.waiting < d.link.zone = omega (arith, waits, ap (λ x. x.zone) sent.fixed.0) in
-    let kept : flush_of (packing d) ≡ [] → f.flushed ≡ d.flushed = λ (x : flush_of (packing d) ≡ []). fixed.3 ∙ ap (λ y. y.flushed) (sent.same x) in
+    let kept : flush_of (packing d) ≡ [] → f.flushed ≡ d.flushed = λ (x : flush_of (packing d) ≡ []). fixed.2 ∙ ap (λ y. y.flushed) (sent.same x) in
     sent_on d e f k m n u (flush_of (packing d)) [] is same more pulled sent.fixed.0 fixed.0 marks.2 (λ x. rests-flushed l (one_way f n u) is.way is.rested x refl room kept)
 
 -- a flush that leaves no whole zone added nothing
@@ -85,23 +93,81 @@ flushed_none d e h waits =
     absurd (omega (arith, long, waits, rest, idle_len-fills free)) in
     elim (cases_Bool t) [ inl e ↦ none e | inr e ↦ some e ]
 
+-- ---- all whole zones of a lane became frames
+pub moved_all : (d e f : LinkSenderState) (k m n : FrameLinkState) (u : LinkReceiverState) (pdu : List ℕ) (count : ℕ) → IsCarried d k u → IsSameLink k m → SendsPdu pdu count d e →
+    PullsAll e f m n → IsCarried f n u × SendsMore (one_way d k u) (one_way f n u) (packet_of d.link count pdu ∷ []) (pdu ∷ [])
+moved_all d e f k m n u pdu count is room sent p =
+    moved_on d e f k m n u pdu count is room sent p.way p.fixed p.marks (omega (arith, p.none_whole, ap (λ x. x.zone) p.fixed.0))
+
+pub filled_all : (d e f : LinkSenderState) (k m n : FrameLinkState) (u : LinkReceiverState) → IsCarried d k u → IsSameLink k m → Flushes d e → PullsAll e f m n →
+    IsCarried f n u × SendsMore (one_way d k u) (one_way f n u) (flush_of (packing d)) []
+filled_all d e f k m n u is room sent p = filled_on d e f k m n u is room sent p.way p.fixed p.marks (omega (arith, p.none_whole, ap (λ x. x.zone) p.fixed.0))
+
+-- where no whole zone waited in a lane, and nothing was sent in it, it stays
+pub stays_all : (d e f : LinkSenderState) (k m n : FrameLinkState) → e ≡ d → IsNotWhole d → IsSameLink k m → PullsAll e f m n → (f ≡ d) × IsSameLink k n
+stays_all d e f k m n same less room p = elim p.made [
+  | inl s ↦ (s.0 ∙ same, subst (λ (x : FrameLinkState). IsSameLink k x) (sym s.1) room)
+  | inr w ↦ absurd (omega (arith, w.0, less, ap (λ (x : LinkSenderState). x.link.zone) same, ap (λ (x : LinkSenderState). length x.waiting) same))
+]
+
+-- where a flush made no frame, it added nothing
+pub none_filled : (d e f : LinkSenderState) (k m n : FrameLinkState) → IsSameLink k m → Flushes d e → PullsAll e f m n → length n.frames ≤ length m.frames →
+    (flush_of (packing d) ≡ []) × (f ≡ d) × IsSameLink k n
+none_filled d e f k m n room sent p few =
+    let same : (f ≡ e) × (n ≡ m) = elim p.made [ inl s ↦ s | inr w ↦ absurd (omega (arith, w.1, few)) ] in
+    let less : length e.waiting < d.link.zone = omega (arith, p.none_whole, ap (λ (x : LinkSenderState). length x.waiting) same.0, ap (λ x. x.zone) p.fixed.0, ap (λ x. x.zone) sent.fixed.0) in
+    let none : flush_of (packing d) ≡ [] = flushed_none d e sent less in
+    (none, same.0 ∙ sent.same none, subst (λ (x : FrameLinkState). IsSameLink k x) (sym same.1) room)
+
+-- a lane that stays is carried still
+pub carried_same : (d f : LinkSenderState) (k n : FrameLinkState) (u : LinkReceiverState) → f ≡ d → IsSameLink k n → IsCarried d k u → IsCarried f n u
+carried_same d f k n u down same is =
+    let way : one_way f n u ≡ one_way d k u = ap (λ (x : LinkSenderState). one_way x n u) down ∙ same_way d k n u same in
+    record {
+      way = subst IsOneWay (sym way) is.way;
+      rested = subst IsRested (sym way) is.rested;
+      fits = omega (arith, same.3, is.fits, ap (λ (x : LinkSenderState). x.link.zone) down);
+    }
+
+-- ---- both lanes
+pub same_down : (d e : DownState) → ((l : Lane) → lane_down l e ≡ lane_down l d) → e.packet_count ≡ d.packet_count → e ≡ d
+same_down d e lanes count =
+    let a : e.directives ≡ d.directives = lanes Directives in
+    let b : e.file_data ≡ d.file_data = lanes Data in
+    λ i. record { directives = a i; file_data = b i; packet_count = count i }
+
+pub carry_same : (d f : DownState) (k n : FrameLinksState) → f ≡ d → AreSameLinks k n → CarryOn d f k n
+carry_same d f k n down same l u is = carried_same (lane_down l d) (lane_down l f) (lane_of_links l k) (lane_of_links l n) u (ap (λ (x : DownState). lane_down l x) down) (same l) is
+
 -- ---- what arrives
-pub delivered_at : (d : LinkSenderState) (k : FrameLinkState) (old new : StationState) (frame : List ℕ) → IsCarried d k old.up → length k.marks < length k.frames → frame ≡ oldest k →
-    TakesFrame frame old new → HearsAt d k (record k { marks = k.marks ++ true ∷ []; run = 0 }) old new
-delivered_at d k old new frame is there e taken =
-    let l : OneWayState = one_way d k old.up in
-    let after : OneWayState = record l { up = new.up; marks = l.marks ++ true ∷ []; run = 0 } in
-    let r : (given : List (List ℕ)) × (taken.pdus ≡ [] ++ given) × HearsMore l after given =
-    delivers l new.up [] taken.pdus is.way there (taken.given.next (packets_sent l) is.way.received.read k.run is.way.received.end (next_frame l frame is.way there e)) in
-    let is_rested : IsRested (one_way d (record k { marks = k.marks ++ true ∷ []; run = 0 }) new.up) = record { none_waits = is.rested.none_waits; filled = is.rested.filled } in
-    let hears : HearsMore l after taken.pdus = subst (λ x. HearsMore l after x) (sym r.1) r.2 in
+-- The oldest frame that waits in a lane comes to the end of that lane.
+comes_to : (l : Lane) (d : LinkSenderState) (k : FrameLinkState) (old new : StationState) (frame : List ℕ) → IsCarried d k (lane_up l old.up) → length k.marks < length k.frames →
+    frame ≡ oldest k → TakesFrame frame old new → lane_of old.up frame ≡ l
+comes_to l d k old new frame is there e taken =
+    let ps : List (List ℕ) = packets_sent (one_way d k (lane_up l old.up)) in
+    let made : frame ≡ frame_of d.link ps (length k.marks) = e ∙ is.way.sent.frames (length k.marks) there in
+    let channel : (2 ≤ length (frame_of d.link ps (length k.marks))) × (field (frame_of d.link ps (length k.marks)) 10 6 ≡ d.link.channel) = frame-channel d.link ps (length k.marks) is.way.sent.valid in
+    taken.lane l (subst (λ (f : List ℕ). 2 ≤ length f) (sym made) channel.0)
+    (ap (λ (f : List ℕ). field f 10 6) made ∙ channel.1 ∙ ap (λ x. x.channel) (sym is.way.same_link))
+
+pub delivered_at : (l : Lane) (d : LinkSenderState) (k : FrameLinkState) (old new : StationState) (frame : List ℕ) → IsCarried d k (lane_up l old.up) → length k.marks < length k.frames →
+    frame ≡ oldest k → TakesFrame frame old new → HearsAt l d k (record k { marks = k.marks ++ true ∷ []; run = 0 }) old new
+delivered_at l d k old new frame is there e taken =
+    let w : OneWayState = one_way d k (lane_up l old.up) in
+    let here : lane_of old.up frame ≡ l = comes_to l d k old new frame is there e taken in
+    let given : GivesPdus frame (lane_up l old.up) (lane_up l new.up) taken.pdus = subst (λ (x : Lane). GivesPdus frame (lane_up x old.up) (lane_up x new.up) taken.pdus) here taken.given in
+    let after : OneWayState = record w { up = lane_up l new.up; marks = w.marks ++ true ∷ []; run = 0 } in
+    let r : (heard : List (List ℕ)) × (taken.pdus ≡ [] ++ heard) × HearsMore w after heard =
+    delivers w (lane_up l new.up) [] taken.pdus is.way there (given.next (packets_sent w) is.way.received.read k.run is.way.received.end (next_frame w frame is.way there e)) in
+    let is_rested : IsRested (one_way d (record k { marks = k.marks ++ true ∷ []; run = 0 }) (lane_up l new.up)) = record { none_waits = is.rested.none_waits; filled = is.rested.filled } in
+    let hears : HearsMore w after taken.pdus = subst (λ x. HearsMore w after x) (sym r.1) r.2 in
     record {
       carried = record { way = hears.way; rested = is_rested; fits = is.fits };
       given = taken.pdus;
-      gives = subst (λ (f : List ℕ). GivesPdus f old.up new.up taken.pdus) e taken.given;
-      hears =
-          hears;
+      gives = subst (λ (f : List ℕ). GivesPdus f (lane_up l old.up) (lane_up l new.up) taken.pdus) e given;
+      hears = hears;
       heard = taken.heard;
+      other_up = subst (λ (x : Lane). lane_up (other_lane x) new.up ≡ lane_up (other_lane x) old.up) here taken.other;
     }
 
 -- ---- what is lost
@@ -117,94 +183,24 @@ struck_at (did.Refused (refusal.Call by)) d k m u h is = absurd h
 struck_at (did.Refused refusal.LossRunTooLong) d k m u h is =
     subst (λ (x : FrameLinkState). IsCarried d x u × SendsNone (one_way d k u) (one_way d x u)) (sym h.same) (is, pulled_none (one_way d k u) is.way)
 
--- both stations and links
-abbrev pub world_of : (a b : StationState) → (k m : FrameLinkState) → List AcceptedPut → ℕ → WorldState
-world_of a b k m puts ticks = record { one = a; two = b; from_one = seen_link k; from_two = seen_link m; puts = puts; ticks = ticks }
+-- ---- both lanes
+-- a frame of one lane is lost
+pub struck_all : (l : Lane) (r : Applied) (d : DownState) (k n : FrameLinksState) (u : UpState) → StrikesAt r (lane_of_links l k) (lane_of_links l n) →
+    lane_of_links (other_lane l) n ≡ lane_of_links (other_lane l) k → AreCarried d k u → AreCarried d n u
+struck_all l r d k n u h other is = either-lane (λ m. IsCarried (lane_down m d) (lane_of_links m n) (lane_up m u)) l
+    ((struck_at r (lane_down l d) (lane_of_links l k) (lane_of_links l n) (lane_up l u) h (is l)).0)
+    (subst (λ (x : FrameLinkState). IsCarried (lane_down (other_lane l) d) x (lane_up (other_lane l) u)) (sym other) (is (other_lane l)))
 
-pub strikes-one : (r : Applied) (a b : StationState) (k n m : FrameLinkState) (puts : List AcceptedPut) (ticks : ℕ) → StrikesAt r k n → IsCarried a.down k b.up →
-    Strikes r One (world_of a b k m puts ticks) (world_of a b n m puts ticks)
-strikes-one did.Applied a b k n m puts ticks h is = record {
-  waits = h.waits;
-  few = h.few;
-  link = ap seen_link h.marked;
-  sends = (struck_at did.Applied a.down k n b.up h is).1;
-  station = refl;
-  spares = record { station = refl; link = refl };
-  counts = record { puts = refl; ticks = refl };
-}
-strikes-one did.Nothing a b k n m puts ticks h is = (h.0, ap (λ (x : FrameLinkState). world_of a b x m puts ticks) h.1)
-strikes-one (did.Refused (refusal.Put by)) a b k n m puts ticks h is = absurd h
-strikes-one (did.Refused (refusal.Call by)) a b k n m puts ticks h is = absurd h
-strikes-one (did.Refused refusal.LossRunTooLong) a b k n m puts ticks h is = record {
-  waits = h.waits;
-  run = h.run;
-  same = ap (λ (x : FrameLinkState). world_of a b x m puts ticks) h.same;
-}
-
-pub strikes-two : (r : Applied) (a b : StationState) (k m n : FrameLinkState) (puts : List AcceptedPut) (ticks : ℕ) → StrikesAt r m n → IsCarried b.down m a.up →
-    Strikes r Two (world_of a b k m puts ticks) (world_of a b k n puts ticks)
-strikes-two did.Applied a b k m n puts ticks h is = record {
-  waits = h.waits;
-  few = h.few;
-  link = ap seen_link h.marked;
-  sends = (struck_at did.Applied b.down m n a.up h is).1;
-  station = refl;
-  spares = record { station = refl; link = refl };
-  counts = record { puts = refl; ticks = refl };
-}
-strikes-two did.Nothing a b k m n puts ticks h is = (h.0, ap (λ (x : FrameLinkState). world_of a b k x puts ticks) h.1)
-strikes-two (did.Refused (refusal.Put by)) a b k m n puts ticks h is = absurd h
-strikes-two (did.Refused (refusal.Call by)) a b k m n puts ticks h is = absurd h
-strikes-two (did.Refused refusal.LossRunTooLong) a b k m n puts ticks h is = record {
-  waits = h.waits;
-  run = h.run;
-  same = ap (λ (x : FrameLinkState). world_of a b k x puts ticks) h.same;
-}
-
--- The oldest waiting frame reached a station, or none waited.
-module _ (r : Applied) (k n : FrameLinkState) (old new : StationState) (waits : r ≡ did.Applied → length k.marks < length k.frames)
-    (hears : r ≡ did.Applied → (down : LinkSenderState) → IsCarried down k old.up → HearsAt down k n old new) (marked : r ≡ did.Applied → n ≡ record k { marks = k.marks ++ true ∷ []; run = 0 })
-    (none : r ≡ did.Nothing → (length k.frames ≤ length k.marks) × (n ≡ k) × (new ≡ old)) (refused : r ≢ did.Applied → r ≡ did.Nothing) (down : new.down ≡ old.down) where
-  pub delivers-one : (a : StationState) (m : FrameLinkState) (puts : List AcceptedPut) (ticks : ℕ) → IsCarried a.down k old.up →
-      Delivers r One (world_of a old k m puts ticks) (world_of a new n m puts ticks)
-  delivers-one a m puts ticks is = by r refl
-    where
-      by : (q : Applied) → r ≡ q → Delivers q One (world_of a old k m puts ticks) (world_of a new n m puts ticks)
-      by did.Applied same =
-          let h : HearsAt a.down k n old new = hears same a.down is in
-          record {
-            waits = waits same;
-            link = ap seen_link (marked same);
-            given = h.given;
-            gives = h.gives;
-            hears = h.hears;
-            heard = h.heard;
-            down = down;
-            station = refl;
-            back = refl;
-            counts = record { puts = refl; ticks = refl };
-          }
-      by did.Nothing same = let h = none same in (h.0, λ i. world_of a (h.2 i) (h.1 i) m puts ticks)
-      by (did.Refused by_it) same = absurd (let bad : did.Refused by_it ≡ did.Nothing = sym same ∙ refused (λ e. (let no : did.Refused by_it ≡ did.Applied = sym same ∙ e in cc)) in cc)
-
-  pub delivers-two : (b : StationState) (m : FrameLinkState) (puts : List AcceptedPut) (ticks : ℕ) → IsCarried b.down k old.up →
-      Delivers r Two (world_of old b m k puts ticks) (world_of new b m n puts ticks)
-  delivers-two b m puts ticks is = by r refl
-    where
-      by : (q : Applied) → r ≡ q → Delivers q Two (world_of old b m k puts ticks) (world_of new b m n puts ticks)
-      by did.Applied same =
-          let h : HearsAt b.down k n old new = hears same b.down is in
-          record {
-            waits = waits same;
-            link = ap seen_link (marked same);
-            given = h.given;
-            gives = h.gives;
-            hears = h.hears;
-            heard = h.heard;
-            down = down;
-            station = refl;
-            back = refl;
-            counts = record { puts = refl; ticks = refl };
-          }
-      by did.Nothing same = let h = none same in (h.0, λ i. world_of (h.2 i) b m (h.1 i) puts ticks)
-      by (did.Refused by_it) same = absurd (let bad : did.Refused by_it ≡ did.Nothing = sym same ∙ refused (λ e. (let no : did.Refused by_it ≡ did.Applied = sym same ∙ e in cc)) in cc)
+-- a frame of one lane arrives
+pub arrived_all : (l : Lane) (r : Applied) (d : DownState) (k n : FrameLinksState) (old new : StationState) → FrameArrivesAt r l (lane_of_links l k) (lane_of_links l n) old new →
+    lane_of_links (other_lane l) n ≡ lane_of_links (other_lane l) k → AreCarried d k old.up → AreCarried d n new.up
+arrived_all l did.Applied d k n old new h other is =
+    let o : Lane = other_lane l in
+    let x : HearsAt l (lane_down l d) (lane_of_links l k) (lane_of_links l n) old new = h.hears (lane_down l d) (is l) in
+    either-lane (λ m. IsCarried (lane_down m d) (lane_of_links m n) (lane_up m new.up)) l x.carried
+    (subst (λ (y : FrameLinkState). IsCarried (lane_down o d) y (lane_up o new.up)) (sym other) (subst (λ (y : LinkReceiverState). IsCarried (lane_down o d) (lane_of_links o k) y) (sym x.other_up) (is o)))
+arrived_all l did.Nothing d k n old new h other is = either-lane (λ m. IsCarried (lane_down m d) (lane_of_links m n) (lane_up m new.up)) l (same l h.1) (same (other_lane l) other)
+  where
+    same : (m : Lane) → lane_of_links m n ≡ lane_of_links m k → IsCarried (lane_down m d) (lane_of_links m n) (lane_up m new.up)
+    same m e = subst (λ (y : FrameLinkState). IsCarried (lane_down m d) y (lane_up m new.up)) (sym e) (subst (λ (y : StationState). IsCarried (lane_down m d) (lane_of_links m k) (lane_up m y.up)) (sym h.2) (is m))
+arrived_all l (did.Refused by) d k n old new h other is = absurd h

@@ -1,19 +1,23 @@
 -- Two stations in which nothing happened are sound; and what each event comes to.
-use Rattle.std.proofs.Common.{◌≡◌, ℕ, List, [], Option, sym, ap, subst, ◌∙◌, inl, inr}
+use Rattle.std.proofs.Common.{◌≡◌, ℕ, List, [], ◌++◌, Option, refl, sym, ap, subst, ◌∙◌, inl, inr}
 use Rattle.std.specs.Prelude.{Contains}
 use Rattle.cfdp_header.specs.declared.value.TransactionId.{TransactionId}
 use Rattle.cfdp_header.specs.Files.{FileMap}
 use Rattle.cfdp_directives.specs.User.Completions.{completions}
 use Rattle.cfdp_directives.specs.User.Put.{Put, inbox_after}
+use Rattle.aos_frame.specs.declared.config.Lane.{Lane}
+use Rattle.aos_frame.specs.declared.config.Lane.TheVariants.{Directives, Data}
 use Rattle.mpdu.specs.Packets.{packets_of}
 use Rattle.mpdu.specs.Packets as packets
+use Rattle.link_stack.specs.Downward.{first_down, lane_down}
+use Rattle.link_stack.specs.Upward.{first_up, lane_up}
 use Rattle.cfdp_entity.specs.declared.call.Call.{Call}
 use Rattle.cfdp_entity.specs.declared.call.Call.TheVariants as calls
 use Rattle.cfdp_entity.specs.declared.config.EntityConfig.{EntityConfig}
 use Rattle.cfdp_entity.specs.Config.{IsConfig}
 use Rattle.cfdp_entity.specs.Entity.{EntityState, first_entity}
 use Rattle.cfdp_entity.specs.Sound.{IsSound as IsSoundEntity}
-use Rattle.cfdp_station.specs.Station.{StationState, first_down, first_up}
+use Rattle.cfdp_station.specs.Station.{StationState}
 use Rattle.cfdp_station.specs.declared.config.StationConfig.{StationConfig}
 use Rattle.link_sim.specs.declared.side.Side.{Side}
 use Rattle.link_sim.specs.declared.side.Side.TheVariants.{One, Two}
@@ -25,29 +29,38 @@ use Rattle.link_sim.specs.declared.event.Refusal.TheVariants as refusal
 use Rattle.link_sim.specs.declared.event.AcceptedPut.{AcceptedPut}
 use Rattle.link_sim.specs.declared.world_config.WorldConfig.{WorldConfig}
 use Rattle.link_sim.specs.Stations.{IsWorldConfig, other}
-use Rattle.link_sim.specs.OneWay.{IsOneWay, pdus_sent, pdus_delivered}
-use Rattle.link_sim.specs.World.State.{WorldState, LinkState, entity_at, way, way_from, files_at, no_frames, IsFirst}
+use Rattle.link_sim.specs.OneWay.{pdus_sent, pdus_delivered}
+use Rattle.link_sim.specs.World.State.{WorldState, AreWays, LanesState, delivered_from, entity_at, files_at, no_lanes, on_lane, sent_from, way, IsFirst}
 use Rattle.link_sim.specs.World.Steps.{Puts, Calls, Polls, Flushes, Delivers, Strikes, Steps}
 use Rattle.link_sim.specs.Theorem.{at, put_of, completions_at}
 use Rattle.link_sim.specs.Observed.{seen}
 use Rattle.link_sim.specs.Sound.{IsSound}
 use Rattle.link_sim.proofs.Events.Keeping.{at-done, at-inbox}
+use Rattle.link_sim.proofs.Lanes.Ways.{lane-same}
 use Rattle.link_sim.proofs.Work.WithinWorld.{first-within}
 use Rattle.link_sim.proofs.Events.Moving.{EntityLaws, Moves, none-in, same-moves, stays-moves, put-moves, called-moves, told-moves, sent-moves, failed-moves, filled-moves, delivered-moves, struck-moves}
 
 -- ---- the first world
+both-none : {xs ys : List (List ℕ)} → xs ≡ [] → ys ≡ [] → xs ++ ys ≡ []
+both-none {xs} {ys} a b = ap (λ l. l ++ ys) a ∙ b
+
 abbrev config-at : Side → WorldConfig → StationConfig
 config-at One c = c.one
 config-at Two c = c.two
 
--- nothing was sent on a direction
-none-sent : (c e : StationConfig) (s t : StationState) (k : LinkState) → s.down ≡ first_down c.down c.capacity → t.up ≡ first_up e.up → k ≡ no_frames → (pdus_sent (way s.down k t.up) ≡ [])
-    × (pdus_delivered (way s.down k t.up) ≡ [])
+-- nothing was sent in a lane of a direction
+none-in-lane : (l : Lane) (c e : StationConfig) → (pdus_sent (way (lane_down l (first_down c.down c.capacity)) (on_lane l no_lanes) (lane_up l (first_up e.up))) ≡ [])
+    × (pdus_delivered (way (lane_down l (first_down c.down c.capacity)) (on_lane l no_lanes) (lane_up l (first_up e.up))) ≡ [])
 unfolding packets_of packets.first_packets
-none-sent c e s t k down up link =
-    let is : way s.down k t.up ≡ way (first_down c.down c.capacity) no_frames (first_up e.up) =
-    ap (λ x. way x k t.up) down ∙ ap (λ x. way (first_down c.down c.capacity) x t.up) link ∙ ap (λ x. way (first_down c.down c.capacity) no_frames x) up in
-    (ap pdus_sent is, ap pdus_delivered is)
+none-in-lane Directives c e = (refl, refl)
+none-in-lane Data c e = (refl, refl)
+
+none-sent : (l : Lane) (c e : StationConfig) (s t : StationState) (k : LanesState) → s.down ≡ first_down c.down c.capacity → t.up ≡ first_up e.up → k ≡ no_lanes →
+    (pdus_sent (way (lane_down l s.down) (on_lane l k) (lane_up l t.up)) ≡ []) × (pdus_delivered (way (lane_down l s.down) (on_lane l k) (lane_up l t.up)) ≡ [])
+none-sent l c e s t k down up link =
+    let is : way (lane_down l s.down) (on_lane l k) (lane_up l t.up) ≡ way (lane_down l (first_down c.down c.capacity)) (on_lane l no_lanes) (lane_up l (first_up e.up)) =
+    lane-same l (first_down c.down c.capacity) s.down no_lanes k (first_up e.up) t.up down link up in
+    (ap pdus_sent is ∙ (none-in-lane l c e).0, ap pdus_delivered is ∙ (none-in-lane l c e).1)
 
 module _ (c : WorldConfig) (outboxes inboxes : FileMap × FileMap) (w : WorldState) (valid : IsWorldConfig c) (is : IsFirst c outboxes inboxes w) where
   entity-first : (s : Side) → entity_at s w ≡ first_entity (files_at s outboxes) (files_at s inboxes) (config-at s c).entity
@@ -65,20 +78,24 @@ module _ (c : WorldConfig) (outboxes inboxes : FileMap × FileMap) (w : WorldSta
   peers One = valid.peer_of_one
   peers Two = sym valid.peer_of_two
 
-  ways : (s : Side) → (pdus_sent (way_from s w) ≡ []) × (pdus_delivered (way_from s w) ≡ [])
-  ways One = none-sent c.one c.two w.one w.two w.from_one is.one.down is.two.up is.from_one
-  ways Two = none-sent c.two c.one w.two w.one w.from_two is.two.down is.one.up is.from_two
+  ways : (s : Side) → (sent_from s w ≡ []) × (delivered_from s w ≡ [])
+  ways One =
+      let none = λ (l : Lane). none-sent l c.one c.two w.one w.two w.from_one is.one.down is.two.up is.from_one in
+      (both-none (none Directives).0 (none Data).0, both-none (none Directives).1 (none Data).1)
+  ways Two =
+      let none = λ (l : Lane). none-sent l c.two c.one w.two w.one w.from_two is.two.down is.one.up is.from_two in
+      (both-none (none Directives).0 (none Data).0, both-none (none Directives).1 (none Data).1)
 
   pub sound-first : ((p : TransactionId → Option Put) (heard : List (List ℕ)) (sources files : FileMap) (config : EntityConfig) → IsConfig config →
       IsSoundEntity p heard files (first_entity sources files config)) →
-      ((s : Side) → IsOneWay (way_from s w)) → IsSound w
-  sound-first law one_ways s =
+      ((s : Side) → AreWays s w) → IsSound w
+  sound-first law are_ways s =
       let e = entity-first s in
       record {
-        way = one_ways s;
+        ways = are_ways s;
         first = files_at s inboxes;
-        entity = subst (λ (x : EntityState). IsSoundEntity (put_of (seen w)) (pdus_delivered (way_from (other s) w)) (files_at s inboxes) x) (sym e)
-            (law (put_of (seen w)) (pdus_delivered (way_from (other s) w)) (files_at s outboxes) (files_at s inboxes) (config-at s c).entity (config-first s));
+        entity = subst (λ (x : EntityState). IsSoundEntity (put_of (seen w)) (delivered_from (other s) w) (files_at s inboxes) x) (sym e)
+            (law (put_of (seen w)) (delivered_from (other s) w) (files_at s outboxes) (files_at s inboxes) (config-at s c).entity (config-first s));
         sent = λ text k. absurd (none-in text (subst (λ (l : List (List ℕ)). Contains l text) (ways s).0 k));
         peer = ap (λ (x : EntityState). x.config.peer) e ∙ peers s ∙ sym (ap (λ (x : EntityState). x.config.entity) (entity-first (other s)));
         within = first-within c outboxes inboxes w is s;
@@ -119,17 +136,17 @@ module _ (laws : EntityLaws) (old new : WorldState) (sound : IsSound old) where
   flush-by did.Nothing s h = same-moves old new sound h.1
   flush-by (did.Refused by) s h = absurd h
 
-  deliver-by : (d : Applied) (s : Side) → Delivers d s old new → Moves old new
-  deliver-by did.Applied s h = delivered-moves laws old new sound s h
-  deliver-by did.Nothing s h = same-moves old new sound h.1
-  deliver-by (did.Refused by) s h = absurd h
+  deliver-by : (d : Applied) (s : Side) (l : Lane) → Delivers d s l old new → Moves old new
+  deliver-by did.Applied s l h = delivered-moves laws old new sound s l h
+  deliver-by did.Nothing s l h = same-moves old new sound h.1
+  deliver-by (did.Refused by) s l h = absurd h
 
-  strike-by : (d : Applied) (s : Side) → Strikes d s old new → Moves old new
-  strike-by did.Applied s h = struck-moves laws old new sound s h
-  strike-by did.Nothing s h = same-moves old new sound h.1
-  strike-by (did.Refused (refusal.Put by)) s h = absurd h
-  strike-by (did.Refused (refusal.Call by)) s h = absurd h
-  strike-by (did.Refused refusal.LossRunTooLong) s h = same-moves old new sound h.same
+  strike-by : (d : Applied) (s : Side) (l : Lane) → Strikes d s l old new → Moves old new
+  strike-by did.Applied s l h = struck-moves laws old new sound s l h
+  strike-by did.Nothing s l h = same-moves old new sound h.1
+  strike-by (did.Refused (refusal.Put by)) s l h = absurd h
+  strike-by (did.Refused (refusal.Call by)) s l h = absurd h
+  strike-by (did.Refused refusal.LossRunTooLong) s l h = same-moves old new sound h.same
 
   pub event-moves : (e : Event) (d : Applied) → Steps e d old new → Moves old new
   event-moves (event.Put s source destination) d h = put-by d s source destination h
@@ -142,5 +159,5 @@ module _ (laws : EntityLaws) (old new : WorldState) (sound : IsSound old) where
   event-moves (event.Tick s now) did.Applied h = told-moves laws old new sound s now h
   event-moves (event.Tick s now) did.Nothing h = absurd h
   event-moves (event.Tick s now) (did.Refused by) h = absurd h
-  event-moves (event.Deliver s) d h = deliver-by d s h
-  event-moves (event.Strike s) d h = strike-by d s h
+  event-moves (event.Deliver s l) d h = deliver-by d s l h
+  event-moves (event.Strike s l) d h = strike-by d s l h

@@ -1,6 +1,7 @@
 -- What a station published changes in no event but a delivery to it.
 use Rattle.std.proofs.Common.{◌≡◌, ◌⊎◌, ◌&&◌, ℕ, List, [], ◌∷◌, Option, None, Some, true, false, not, refl, ap, ◌∙◌, slice_get, inl, inr}
 use Rattle.std.proofs.lemmas.Bool.{cond_both}
+use Rattle.aos_frame.specs.declared.config.Lane.{Lane}
 use Rattle.cfdp_header.specs.declared.value.TransactionId.{TransactionId}
 use Rattle.cfdp_header.specs.Files.{FileMap}
 use Rattle.cfdp_directives.specs.declared.user.handler.Handler.{Handler}
@@ -182,26 +183,26 @@ module _ (t : Side) (old new : WorldState) where
   flush-files (did.Refused by) s h = absurd h
 
   -- the station that sent the frame
-  from-files : (s : Side) → station_at s new ≡ station_at s old → PublishesAt t (event.Deliver s) ⊎ (published_at t new ≡ published_at t old)
+  from-files : (s : Side) (l : Lane) → station_at s new ≡ station_at s old → PublishesAt t (event.Deliver s l) ⊎ (published_at t new ≡ published_at t old)
   from-files = by-sides t
     where
-      by-sides : (t s : Side) → station_at s new ≡ station_at s old → PublishesAt t (event.Deliver s) ⊎ (published_at t new ≡ published_at t old)
-      by-sides One One same = inr (station-files One old new same)
-      by-sides One Two same = inl refl
-      by-sides Two One same = inl refl
-      by-sides Two Two same = inr (station-files Two old new same)
+      by-sides : (t s : Side) (l : Lane) → station_at s new ≡ station_at s old → PublishesAt t (event.Deliver s l) ⊎ (published_at t new ≡ published_at t old)
+      by-sides One One l same = inr (station-files One old new same)
+      by-sides One Two l same = inl refl
+      by-sides Two One l same = inl refl
+      by-sides Two Two l same = inr (station-files Two old new same)
 
-  deliver-files : (d : Applied) (s : Side) → Delivers d s old new → PublishesAt t (event.Deliver s) ⊎ (published_at t new ≡ published_at t old)
-  deliver-files did.Applied s h = from-files s h.station
-  deliver-files did.Nothing s h = inr (same-files t old new h.1)
-  deliver-files (did.Refused by) s h = absurd h
+  deliver-files : (d : Applied) (s : Side) (l : Lane) → Delivers d s l old new → PublishesAt t (event.Deliver s l) ⊎ (published_at t new ≡ published_at t old)
+  deliver-files did.Applied s l h = from-files s l h.station
+  deliver-files did.Nothing s l h = inr (same-files t old new h.1)
+  deliver-files (did.Refused by) s l h = absurd h
 
-  strike-files : (d : Applied) (s : Side) → Strikes d s old new → published_at t new ≡ published_at t old
-  strike-files did.Applied s h = by-side s t old new (station-files s old new h.station) h.spares.station
-  strike-files did.Nothing s h = same-files t old new h.1
-  strike-files (did.Refused (refusal.Put by)) s h = absurd h
-  strike-files (did.Refused (refusal.Call by)) s h = absurd h
-  strike-files (did.Refused refusal.LossRunTooLong) s h = same-files t old new h.same
+  strike-files : (d : Applied) (s : Side) (l : Lane) → Strikes d s l old new → published_at t new ≡ published_at t old
+  strike-files did.Applied s l h = by-side s t old new (station-files s old new h.station) h.spares.station
+  strike-files did.Nothing s l h = same-files t old new h.1
+  strike-files (did.Refused (refusal.Put by)) s l h = absurd h
+  strike-files (did.Refused (refusal.Call by)) s l h = absurd h
+  strike-files (did.Refused refusal.LossRunTooLong) s l h = same-files t old new h.same
 
   pub event-files : (e : Event) (d : Applied) → Steps e d old new → PublishesAt t e ⊎ (published_at t new ≡ published_at t old)
   event-files (event.Put s source destination) d h = inr (put-files d s source destination h)
@@ -217,5 +218,5 @@ module _ (t : Side) (old new : WorldState) where
       tick-files = ap (λ (st : TableState). st.files) h.ticked.ticked ∙ all-expired-files h.ticked.fired (at_time now (entity_at s old).table)
   event-files (event.Tick s now) did.Nothing h = absurd h
   event-files (event.Tick s now) (did.Refused by) h = absurd h
-  event-files (event.Deliver s) d h = deliver-files d s h
-  event-files (event.Strike s) d h = inr (strike-files d s h)
+  event-files (event.Deliver s l) d h = deliver-files d s l h
+  event-files (event.Strike s l) d h = inr (strike-files d s l h)

@@ -1,6 +1,6 @@
 -- What every event keeps of two stations, and the promises that follow: from the laws of an entity,
 -- and from what the steps do to the two directions.
-use Rattle.std.proofs.Common.{◌≡◌, ℕ, zero, suc, ◌+◌, ◌<◌, ◌≤◌, List, [], ◌∷◌, ◌++◌, ◌⊎◌, length, Option, refl, sym, ap, subst, ◌∙◌, inl, inr, arith, drop}
+use Rattle.std.proofs.Common.{◌≡◌, ℕ, zero, suc, ◌+◌, ◌<◌, ◌≤◌, List, [], ◌∷◌, ◌++◌, ◌⊎◌, length, Option, refl, sym, ap, subst, ◌∙◌, inl, inr, arith}
 use Rattle.std.specs.Prelude.{Contains, count_by}
 use Rattle.cfdp_header.specs.declared.value.Header.{Header}
 use Rattle.cfdp_header.specs.declared.value.TransactionId.{TransactionId}
@@ -11,11 +11,7 @@ use Rattle.cfdp_directives.specs.Pdu.Content.{Content, FileData, Metadata, Eof, 
 use Rattle.cfdp_directives.specs.Pdu.Grammar.{SpellsPdu}
 use Rattle.cfdp_directives.specs.User.Put.{Put, SaysTruth, IsOfPut, SaysComplete, SomePdu, HeardInFull, inbox_after}
 use Rattle.cfdp_directives.proofs.Puts.{completions-append, inbox_after-append, Contains-append_left, Contains-append_right}
-use Rattle.mpdu.specs.Stream.{survivors}
-use Rattle.mpdu.specs.Packets.{busy}
 use Rattle.mpdu.specs.Parts.{IsPartOf}
-use Rattle.mpdu.proofs.Fewer.{survivors-busy}
-use Rattle.mpdu.proofs.Parts.{part-map}
 use Rattle.cfdp_entity.specs.Entity.{EntityState}
 use Rattle.cfdp_entity.specs.History.{open_of}
 use Rattle.cfdp_entity.specs.Table.{record_of}
@@ -24,12 +20,14 @@ use Rattle.link_sim.specs.declared.side.Side.{Side}
 use Rattle.link_sim.specs.declared.side.Side.TheVariants.{One, Two}
 use Rattle.link_sim.specs.declared.event.AcceptedPut.{AcceptedPut}
 use Rattle.link_sim.specs.Stations.{other}
-use Rattle.link_sim.specs.OneWay.{OneWayState, IsOneWay, packets_sent, pdus_sent, pdus_delivered}
-use Rattle.link_sim.specs.World.State.{WorldState, entity_at, way_from}
+use Rattle.link_sim.specs.Runs.{IsSwapped}
+use Rattle.link_sim.specs.World.State.{WorldState, AreWays, delivered_from, entity_at, sent_from}
 use Rattle.link_sim.specs.Theorem.{at, put_of, completions_at, FoldsAt, CausedAt, ToldAt, TruthAt, HoldsAt}
 use Rattle.link_sim.specs.Observed.{seen}
 use Rattle.link_sim.specs.Sound.{SentTruly, IsSound}
 use Rattle.link_sim.specs.Work.{AreWithin, most_offset}
+use Rattle.link_sim.proofs.Lanes.Heard.{delivered-sent}
+use Rattle.link_sim.proofs.Lanes.Joined.{swapped-among, swapped-back}
 
 -- ---- two sides
 pub both : (P : Side → Type 0) (s : Side) → P s → P (other s) → (t : Side) → P t
@@ -58,11 +56,11 @@ at-told : (s : Side) (w : WorldState) → (at s (seen w)).told ≡ (entity_at s 
 at-told One w = refl
 at-told Two w = refl
 
-at-sent : (s : Side) (w : WorldState) → (at s (seen w)).sent ≡ pdus_sent (way_from s w)
+at-sent : (s : Side) (w : WorldState) → (at s (seen w)).sent ≡ sent_from s w
 at-sent One w = refl
 at-sent Two w = refl
 
-at-delivered : (s : Side) (w : WorldState) → (at s (seen w)).delivered ≡ pdus_delivered (way_from (other s) w)
+at-delivered : (s : Side) (w : WorldState) → (at s (seen w)).delivered ≡ delivered_from (other s) w
 at-delivered One w = refl
 at-delivered Two w = refl
 
@@ -102,30 +100,26 @@ in-either (z ∷ xs) ys x (suc k, low, e) = behind z xs ys x (in-either xs ys x 
     behind z xs ys x (inl c) = inl (suc c.0, (let n = c.0 in let h : n < length xs = c.1 in omega arith), c.2)
     behind z xs ys x (inr c) = inr c
 
--- of the PDUs sent some are delivered
-part-delivered : (w : OneWayState) → IsPartOf (pdus_delivered w) (pdus_sent w)
-part-delivered w =
-    let z = w.up.link.zone in
-    part-map (λ p. drop 6 p) (survivors z w.marks 0 (packets_sent w)) (busy (packets_sent w)) (survivors-busy z w.marks 0 (packets_sent w))
-
--- The law of parts, and what an entity keeps where more is put and heard.
+-- The law of parts, and what an entity keeps where more is put and heard, in whatever order.
 pub record Grounds : Type 0 where
   pub in_whole : (whole part : List (List ℕ)) (x : List ℕ) → IsPartOf part whole → Contains part x → Contains whole x
   pub more : (p q : TransactionId → Option Put) (heard more : List (List ℕ)) (first : FileMap) (e : EntityState) → FindsMore p q → IsSoundEntity p heard first e →
       IsSoundEntity q (heard ++ more) first e
+  pub among : (p : TransactionId → Option Put) (heard others : List (List ℕ)) (first : FileMap) (e : EntityState) → ((text : List ℕ) → Contains heard text → Contains others text) →
+      IsSoundEntity p heard first e → IsSoundEntity p others first e
 
 -- What an event does to one side: to its entity, to what it sent, and to what it heard. The
 -- entity stays sound if what it hears is true, and what it sends is true.
 pub record SideMoves (t u : Side) (old new : WorldState) : Type 0 where
   pub goes : GoesOn (entity_at t old) (entity_at t new)
-  pub way : IsOneWay (way_from t new)
+  pub ways : AreWays t new
   pub texts : List (List ℕ)
-  pub sent : pdus_sent (way_from t new) ≡ pdus_sent (way_from t old) ++ texts
+  pub sent : IsSwapped (sent_from t old ++ texts) (sent_from t new)
   pub says : (p : TransactionId → Option Put) (heard : List (List ℕ)) (first : FileMap) → IsSoundEntity p heard first (entity_at t old) → (x : List ℕ) → Contains texts x → (h : Header) (v : Content) →
       SpellsPdu h v x →
       SaysTruth (entity_at t old).config.entity p h.id v × SaysDelivered (entity_at t old).config.entity (entity_at t old).table.told h.id v
   pub more : List (List ℕ)
-  pub delivered : pdus_delivered (way_from u new) ≡ pdus_delivered (way_from u old) ++ more
+  pub delivered : IsSwapped (delivered_from u old ++ more) (delivered_from u new)
   pub kept : (heard : List (List ℕ)) (first : FileMap) → ((x : List ℕ) → Contains more x → ComesTrue (entity_at t old).config.peer (put_of (seen new)) heard x) →
       IsSoundEntity (put_of (seen new)) heard first (entity_at t old) → IsSoundEntity (put_of (seen new)) heard first (entity_at t new)
 
@@ -138,7 +132,7 @@ module _ (grounds : Grounds) where
   -- ---- one event
   module _ (old new : WorldState) (sound : IsSound old) (moves : (t : Side) → SideMoves t (other t) old new) (puts : PutsMove old new) where
     -- all that was sent is true
-    sent-truly : (t : Side) (x : List ℕ) → Contains (pdus_sent (way_from t new)) x → SentTruly t new x
+    sent-truly : (t : Side) (x : List ℕ) → Contains (sent_from t new) x → SentTruly t new x
     sent-truly t x c h v spelled =
         let m = moves t in
         let o = sound t in
@@ -152,38 +146,43 @@ module _ (grounds : Grounds) where
           subst (λ (n : ℕ). SaysDelivered n (entity_at t new).table.told h.id v) (sym own)
               (subst (λ (l : List Indication). SaysDelivered (entity_at t old).config.entity l h.id v) (sym m.goes.told) told),
         )) in
-        let where_ : Contains (pdus_sent (way_from t old)) x ⊎ Contains m.texts x = in-either (pdus_sent (way_from t old)) m.texts x (subst (λ (l : List (List ℕ)). Contains l x) m.sent c) in
+        let among : Contains (sent_from t old ++ m.texts) x = swapped-among (sent_from t new) (sent_from t old ++ m.texts) (swapped-back (sent_from t old ++ m.texts) (sent_from t new) m.sent) x c in
+        let where_ : Contains (sent_from t old) x ⊎ Contains m.texts x = in-either (sent_from t old) m.texts x among in
         elim where_ [
           | inl before ↦ lift (o.sent x before h v spelled)
-          | inr now ↦ lift (m.says (put_of (seen old)) (pdus_delivered (way_from (other t) old)) o.first o.entity x now h v spelled)
+          | inr now ↦ lift (m.says (put_of (seen old)) (delivered_from (other t) old) o.first o.entity x now h v spelled)
         ]
 
-    -- what comes to a side is true
-    pub comes-true : (t : Side) (x : List ℕ) → Contains (moves t).more x → ComesTrue (entity_at t old).config.peer (put_of (seen new)) (pdus_delivered (way_from (other t) old) ++ (moves t).more) x
-    comes-true t x c =
+    -- what a side heard is true
+    pub heard-true : (t : Side) (x : List ℕ) → Contains (delivered_from (other t) old ++ (moves t).more) x →
+        ComesTrue (entity_at t old).config.peer (put_of (seen new)) (delivered_from (other t) old ++ (moves t).more) x
+    heard-true t x c =
         let m = moves t in
-        let came : Contains (pdus_delivered (way_from (other t) old) ++ m.more) x = Contains-append_right (pdus_delivered (way_from (other t) old)) m.more x c in
-        let there : Contains (pdus_delivered (way_from (other t) new)) x = subst (λ (l : List (List ℕ)). Contains l x) (sym m.delivered) came in
-        let sent : Contains (pdus_sent (way_from (other t) new)) x = grounds.in_whole (pdus_sent (way_from (other t) new)) (pdus_delivered (way_from (other t) new)) x
-        (part-delivered (way_from (other t) new)) there in
+        let there : Contains (delivered_from (other t) new) x = swapped-among (delivered_from (other t) old ++ m.more) (delivered_from (other t) new) m.delivered x c in
+        let sent : Contains (sent_from (other t) new) x = delivered-sent grounds.in_whole (other t) new x there in
         let peer : (entity_at (other t) new).config.entity ≡ (entity_at t old).config.peer = ap (λ c. c.entity) (moves (other t)).goes.config ∙ sym (sound t).peer in
         record {
-          among = came;
+          among = c;
           says = λ h v spelled. subst (λ (n : ℕ). SaysTruth n (put_of (seen new)) h.id v) peer (sent-truly (other t) x sent h v spelled).0;
         }
 
-    -- the entity of a side, where more was put and heard but nothing was done
-    pub entity-then : (t : Side) → IsSoundEntity (put_of (seen new)) (pdus_delivered (way_from (other t) old) ++ (moves t).more) (sound t).first (entity_at t old)
-    entity-then t = grounds.more (put_of (seen old)) (put_of (seen new)) (pdus_delivered (way_from (other t) old)) (moves t).more (sound t).first (entity_at t old) puts.finds (sound t).entity
+    -- what comes to it is
+    pub comes-true : (t : Side) (x : List ℕ) → Contains (moves t).more x → ComesTrue (entity_at t old).config.peer (put_of (seen new)) (delivered_from (other t) old ++ (moves t).more) x
+    comes-true t x c = heard-true t x (Contains-append_right (delivered_from (other t) old) (moves t).more x c)
 
-    entity-now : (t : Side) → IsSoundEntity (put_of (seen new)) (pdus_delivered (way_from (other t) old) ++ (moves t).more) (sound t).first (entity_at t new)
-    entity-now t = (moves t).kept (pdus_delivered (way_from (other t) old) ++ (moves t).more) (sound t).first (comes-true t) (entity-then t)
+    -- the entity of a side, where more was put and heard but nothing was done
+    pub entity-then : (t : Side) → IsSoundEntity (put_of (seen new)) (delivered_from (other t) old ++ (moves t).more) (sound t).first (entity_at t old)
+    entity-then t = grounds.more (put_of (seen old)) (put_of (seen new)) (delivered_from (other t) old) (moves t).more (sound t).first (entity_at t old) puts.finds (sound t).entity
+
+    entity-now : (t : Side) → IsSoundEntity (put_of (seen new)) (delivered_from (other t) old ++ (moves t).more) (sound t).first (entity_at t new)
+    entity-now t = (moves t).kept (delivered_from (other t) old ++ (moves t).more) (sound t).first (comes-true t) (entity-then t)
 
     pub sound-next : ((t : Side) → AreWithin most_offset (entity_at t new).table.records) → IsSound new
     sound-next within t = record {
-      way = (moves t).way;
+      ways = (moves t).ways;
       first = (sound t).first;
-      entity = subst (λ (heard : List (List ℕ)). IsSoundEntity (put_of (seen new)) heard (sound t).first (entity_at t new)) (sym (moves t).delivered) (entity-now t);
+      entity = grounds.among (put_of (seen new)) (delivered_from (other t) old ++ (moves t).more) (delivered_from (other t) new) (sound t).first (entity_at t new)
+          (swapped-among (delivered_from (other t) old ++ (moves t).more) (delivered_from (other t) new) (moves t).delivered) (entity-now t);
       sent = sent-truly t;
       peer = ap (λ c. c.peer) (moves t).goes.config ∙ (sound t).peer ∙ sym (ap (λ c. c.entity) (moves (other t)).goes.config);
       within = within t;
@@ -220,17 +219,16 @@ module _ (grounds : Grounds) where
 
     truth : (s : Side) → TruthAt s (seen w)
     truth s text c h v spelled =
-        let here : Contains (pdus_sent (way_from s w)) text = subst (λ (l : List (List ℕ)). Contains l text) (at-sent s w) c in
+        let here : Contains (sent_from s w) text = subst (λ (l : List (List ℕ)). Contains l text) (at-sent s w) c in
         subst (λ (n : ℕ). SaysTruth n (put_of (seen w)) h.id v) (sym (at-entity s w)) ((sound s).sent text here h v spelled).0
 
     -- a Finished that was heard was sent by the other station, which completed the transaction
-    completed : (s : Side) (id : TransactionId) → SomePdu (SaysComplete id) (pdus_delivered (way_from (other s) w)) → Contains (done (other s) w) id
+    completed : (s : Side) (id : TransactionId) → SomePdu (SaysComplete id) (delivered_from (other s) w) → Contains (done (other s) w) id
     completed s id heard =
         let k = heard.0 in
         let text : List ℕ = heard.1 in
-        let there : Contains (pdus_delivered (way_from (other s) w)) text = (k, heard.2, heard.3) in
-        let sent : Contains (pdus_sent (way_from (other s) w)) text = grounds.in_whole (pdus_sent (way_from (other s) w)) (pdus_delivered (way_from (other s) w)) text
-        (part-delivered (way_from (other s) w)) there in
+        let there : Contains (delivered_from (other s) w) text = (k, heard.2, heard.3) in
+        let sent : Contains (sent_from (other s) w) text = delivered-sent grounds.in_whole (other s) w text there in
         let said = heard.4 in
         let h : Header = said.0 in
         let v : Content = said.1.0 in
@@ -243,7 +241,7 @@ module _ (grounds : Grounds) where
     told s id t =
         let own = subst (λ (n : ℕ). IsToldComplete n (at s (seen w)).told id) (at-entity s w) t in
         let here : IsToldComplete (entity_at s w).config.entity (entity_at s w).table.told id = subst (λ (l : List Indication). IsToldComplete (entity_at s w).config.entity l id) (at-told s w) own in
-        let heard : SomePdu (SaysComplete id) (pdus_delivered (way_from (other s) w)) = (sound s).entity.tells.told id here in
+        let heard : SomePdu (SaysComplete id) (delivered_from (other s) w) = (sound s).entity.tells.told id here in
         record {
           heard = subst (λ (l : List (List ℕ)). SomePdu (SaysComplete id) l) (sym (at-delivered s w)) heard;
           completed = subst (λ (l : List TransactionId). Contains l id) (sym (at-done (other s) w)) (completed s id heard);

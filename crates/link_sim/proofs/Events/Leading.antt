@@ -183,14 +183,14 @@ IsNoPut _ = Unit {0}
 pub no-put-settles : (e : Event) → IsOfSettling e → IsNoPut e
 no-put-settles (event.Poll s) of_it = tt
 no-put-settles (event.Flush s) of_it = tt
-no-put-settles (event.Deliver s) of_it = tt
+no-put-settles (event.Deliver s l) of_it = tt
 no-put-settles (event.Put s source destination) of_it = of_it
 no-put-settles (event.Cancel s id) of_it = tt
 no-put-settles (event.Suspend s id) of_it = tt
 no-put-settles (event.Resume s id) of_it = tt
 no-put-settles (event.Prompt s id keep_alive) of_it = tt
 no-put-settles (event.Tick s now) of_it = tt
-no-put-settles (event.Strike s) of_it = tt
+no-put-settles (event.Strike s l) of_it = tt
 
 pub no-put-same : (e : Event) (d : Applied) (old new : WorldState) → IsNoPut e → Steps e d old new → new.puts ≡ old.puts
 no-put-same e d old new is h = elim (puts-after e d old new h) [

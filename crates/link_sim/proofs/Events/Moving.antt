@@ -4,6 +4,8 @@ use Rattle.std.proofs.lemmas.List.{append-nil, append_assoc}
 use Rattle.std.proofs.lemmas.Bool.{eqb-true, eq-eqb}
 use Rattle.std.specs.Prelude.{Contains, unwrap_or, ◌==◌, if◌then◌else◌}
 use Rattle.std.specs.FinMap.{get}
+use Rattle.aos_frame.specs.Frame.{other_lane}
+use Rattle.aos_frame.specs.declared.config.Lane.{Lane}
 use Rattle.std.specs.Option.{option_or}
 use Rattle.cfdp_header.specs.declared.value.Header.{Header}
 use Rattle.cfdp_header.specs.declared.value.TransactionId.{TransactionId}
@@ -24,24 +26,26 @@ use Rattle.cfdp_entity.specs.Polling.{turn, turn_octets, served}
 use Rattle.cfdp_entity.specs.Putting.{Accepts, asked, early_refusal}
 use Rattle.cfdp_entity.specs.Sound.{IsSound as IsSoundEntity, FindsById, ComesTrue, SaysDelivered, SpellsTurn, GoesOn, next_put}
 use Rattle.cfdp_entity.specs.Table.{Ticks}
+use Rattle.cfdp_station.specs.Link.{next_lane}
 use Rattle.cfdp_station.specs.Taking.{HearsPdu, HearsAll}
-use Rattle.mpdu.specs.Packets.{busy}
 use Rattle.mpdu.specs.Parts.{IsPartOf}
-use Rattle.link_stack.specs.Frames.{pdus_in}
-use Rattle.link_stack.specs.Downward.{LinkSenderState}
-use Rattle.link_stack.specs.Upward.{LinkReceiverState}
 use Rattle.link_sim.specs.declared.side.Side.{Side}
 use Rattle.link_sim.specs.declared.side.Side.TheVariants.{One, Two}
 use Rattle.link_sim.specs.declared.event.AcceptedPut.{AcceptedPut}
 use Rattle.link_sim.specs.Stations.{other}
 use Rattle.link_sim.specs.OneWay.{IsOneWay, pdus_sent, pdus_delivered}
-use Rattle.link_sim.specs.World.State.{WorldState, LinkState, station_at, link_from, entity_at, way, way_from}
-use Rattle.link_sim.specs.World.Steps.{KeepsLinks, Stays, TakesPut, StepsAt, TellsTime, KeepsMarks, SendsOne, FailsSource, Fills, DeliversFrame, StrikesFrame}
+use Rattle.link_sim.specs.Runs.{IsSwapped}
+use Rattle.link_sim.specs.World.State.{WorldState, AreWays, delivered_from, entity_at, sent_from, station_at, way_from}
+use Rattle.link_sim.specs.World.Steps.{KeepsLinks, KeepsOther, Stays, TakesPut, StepsAt, TellsTime, KeepsMarks, SendsOne, FailsSource, Fills, DeliversFrame, StrikesFrame}
 use Rattle.link_sim.specs.Theorem.{at, side_of, put_of, put_at, with_octets}
 use Rattle.link_sim.specs.Observed.{seen}
 use Rattle.link_sim.specs.Sound.{IsSound}
 use Rattle.link_sim.proofs.Found.Puts.{SendsSame, puts-by-id, puts-more, put-last}
 use Rattle.link_sim.proofs.Events.Keeping.{both, other-other, in-either, SideMoves, PutsMove}
+use Rattle.link_sim.proofs.Lanes.Heard.{delivered-more, delivers-sent, strikes-delivered, strikes-sent}
+use Rattle.link_sim.proofs.Lanes.Each.{either-lane}
+use Rattle.link_sim.proofs.Lanes.Joined.{lanes-same, put-in-lane, swapped-same}
+use Rattle.link_sim.proofs.Lanes.Ways.{back-delivers, back-kept, back-marks, back-strikes, delivered-kept, forth-kept, other-delivers, other-strikes, sent-kept}
 
 -- The laws of an entity, and that of parts of lists.
 pub record EntityLaws : Type 0 where
@@ -86,62 +90,50 @@ goes-both first second third g h = record {
   next = omega (arith, g.next, h.next);
 }
 
--- ---- directions that stay
-way-same : (d e : LinkSenderState) (k m : LinkState) (u v : LinkReceiverState) → e ≡ d → m ≡ k → v ≡ u → way e m v ≡ way d k u
-way-same d e k m u v a b c = ap (λ x. way x m v) a ∙ ap (λ x. way d x v) b ∙ ap (λ x. way d k x) c
-
--- the other station sends on
-back-same : (s : Side) (old new : WorldState) → (station_at (other s) new).down ≡ (station_at (other s) old).down → link_from (other s) new ≡ link_from (other s) old → (station_at s new).up
-    ≡ (station_at s old).up →
-    way_from (other s) new ≡ way_from (other s) old
-back-same One old new d k u = way-same old.two.down new.two.down old.from_two new.from_two old.one.up new.one.up d k u
-back-same Two old new d k u = way-same old.one.down new.one.down old.from_one new.from_one old.two.up new.two.up d k u
-
-front-same : (s : Side) (old new : WorldState) → KeepsLinks s old new → way_from s new ≡ way_from s old
-front-same s old new k =
-    way-same (station_at s old).down (station_at s new).down (link_from s old) (link_from s new) (station_at (other s) old).up (station_at (other s) new).up
-    k.ends.0 k.link (ap (λ x. x.up) k.spares.station)
-
-back-kept : (s : Side) (old new : WorldState) → KeepsLinks s old new → way_from (other s) new ≡ way_from (other s) old
-back-kept s old new k = back-same s old new (ap (λ x. x.down) k.spares.station) k.spares.link k.ends.1
-
 -- ---- sides
 pub none-in : {X : Type 0} (x : X) → Contains [] x → ⊥
 none-in x c = let k = c.0 in let low : k < 0 = c.1 in omega arith
 
+-- nothing came behind it
+none-behind : (xs ys : List (List ℕ)) → ys ≡ xs → IsSwapped (xs ++ []) ys
+none-behind xs ys e = swapped-same (xs ++ []) ys (e ∙ sym (append-nil xs))
+
+ways-kept : (t : Side) (old new : WorldState) → AreWays t old → ((l : Lane) → way_from t l new ≡ way_from t l old) → AreWays t new
+ways-kept t old new is same l = subst IsOneWay (sym (same l)) (is l)
+
 -- a side of which only the entity moved
-quiet : (t u : Side) (old new : WorldState) → IsOneWay (way_from t old) → way_from t new ≡ way_from t old → way_from u new ≡ way_from u old → GoesOn (entity_at t old) (entity_at t new) →
+quiet : (t u : Side) (old new : WorldState) → AreWays t old → ((l : Lane) → way_from t l new ≡ way_from t l old) → ((l : Lane) → way_from u l new ≡ way_from u l old) →
+    GoesOn (entity_at t old) (entity_at t new) →
     ((heard : List (List ℕ)) (first : FileMap) → IsSoundEntity (put_of (seen new)) heard first (entity_at t old) → IsSoundEntity (put_of (seen new)) heard first (entity_at t new)) →
     SideMoves t u old new
 quiet t u old new is front back goes kept = record {
   goes = goes;
-  way = subst IsOneWay (sym front) is;
+  ways = ways-kept t old new is front;
   texts = [];
-  sent = ap pdus_sent front ∙ sym (append-nil (pdus_sent (way_from t old)));
+  sent = none-behind (sent_from t old) (sent_from t new) (sent-kept t old new front);
   says = λ p heard first e x c. absurd (none-in x c);
   more = [];
-  delivered = ap pdus_delivered back ∙ sym (append-nil (pdus_delivered (way_from u old)));
+  delivered = none-behind (delivered_from u old) (delivered_from u new) (delivered-kept u old new back);
   kept = λ heard first true_. kept heard first;
 }
 
 -- a side whose entity is as it was, and that sent and heard nothing more
-resting : (t u : Side) (old new : WorldState) → IsOneWay (way_from t new) → pdus_sent (way_from t new) ≡ pdus_sent (way_from t old) → pdus_delivered (way_from u new)
-    ≡ pdus_delivered (way_from u old) →
-    entity_at t new ≡ entity_at t old → SideMoves t u old new
+resting : (t u : Side) (old new : WorldState) → AreWays t new → sent_from t new ≡ sent_from t old → delivered_from u new ≡ delivered_from u old → entity_at t new ≡ entity_at t old → SideMoves t u old new
 resting t u old new is sent delivered e = record {
   goes = goes-same (entity_at t old) (entity_at t new) e;
-  way = is;
+  ways = is;
   texts = [];
-  sent = sent ∙ sym (append-nil (pdus_sent (way_from t old)));
+  sent = none-behind (sent_from t old) (sent_from t new) sent;
   says = λ p heard first is x c. absurd (none-in x c);
   more = [];
-  delivered = delivered ∙ sym (append-nil (pdus_delivered (way_from u old)));
+  delivered = none-behind (delivered_from u old) (delivered_from u new) delivered;
   kept = λ heard first true_ k. subst (λ (x : EntityState). IsSoundEntity (put_of (seen new)) heard first x) (sym e) k;
 }
 
 -- a side of which nothing moved
-still : (t u : Side) (old new : WorldState) → IsOneWay (way_from t old) → way_from t new ≡ way_from t old → way_from u new ≡ way_from u old → entity_at t new ≡ entity_at t old → SideMoves t u old new
-still t u old new is front back e = resting t u old new (subst IsOneWay (sym front) is) (ap pdus_sent front) (ap pdus_delivered back) e
+still : (t u : Side) (old new : WorldState) → AreWays t old → ((l : Lane) → way_from t l new ≡ way_from t l old) → ((l : Lane) → way_from u l new ≡ way_from u l old) → entity_at t new ≡ entity_at t old →
+    SideMoves t u old new
+still t u old new is front back e = resting t u old new (ways-kept t old new is front) (sent-kept t old new front) (delivered-kept u old new back) e
 
 each-side : (s : Side) (old new : WorldState) → SideMoves s (other s) old new → SideMoves (other s) s old new → (t : Side) → SideMoves t (other t) old new
 each-side s old new this that =
@@ -181,8 +173,8 @@ only-entity : (s : Side) (old new : WorldState) → IsSound old → KeepsLinks s
     SideMoves t (other t) old new
 only-entity s old new sound k goes kept =
     each-side s old new
-    (quiet s (other s) old new (sound s).way (front-same s old new k) (back-kept s old new k) goes kept)
-    (still (other s) s old new (sound (other s)).way (back-kept s old new k) (front-same s old new k) (ap (λ x. x.entity.state) k.spares.station))
+    (quiet s (other s) old new (sound s).ways (forth-kept s old new k) (back-kept s old new k) goes kept)
+    (still (other s) s old new (sound (other s)).ways (back-kept s old new k) (forth-kept s old new k) (ap (λ x. x.entity.state) k.spares.station))
 
 pub stays-moves : (s : Side) (old new : WorldState) → IsSound old → Stays s old new → Moves old new
 stays-moves s old new sound h =
@@ -193,7 +185,7 @@ stays-moves s old new sound h =
 
 pub same-moves : (old new : WorldState) → IsSound old → new ≡ old → Moves old new
 same-moves old new sound e =
-    subst (λ (w : WorldState). Moves old w) (sym e) (moves-kept old old sound (λ t. still t (other t) old old (sound t).way refl refl refl) refl)
+    subst (λ (w : WorldState). Moves old w) (sym e) (moves-kept old old sound (λ t. still t (other t) old old (sound t).ways (λ l. refl) (λ l. refl) refl) refl)
 
 -- ---- the two entities
 pub apart : (old : WorldState) → IsSound old → (s : Side) → (entity_at s old).config.entity ≡ (entity_at (other s) old).config.entity → ⊥
@@ -320,26 +312,33 @@ module _ (laws : EntityLaws) (old new : WorldState) (sound : IsSound old) where
   failed-moves s h = moves-kept old new sound (only-entity s old new sound h.links (served-goes s Refused h.served) (served-kept s Refused h.served)) h.counts.puts
 
   -- the other side, where only what one side sent grew
-  unheard : (s : Side) → KeepsMarks s old new → pdus_delivered (way_from s new) ≡ pdus_delivered (way_from s old) → SideMoves (other s) s old new
+  unheard : (s : Side) → KeepsMarks s old new → delivered_from s new ≡ delivered_from s old → SideMoves (other s) s old new
   unheard s k same =
-      let back : way_from (other s) new ≡ way_from (other s) old = back-same s old new (ap (λ x. x.down) k.spares.station) k.spares.link k.up in
-      resting (other s) s old new (subst IsOneWay (sym back) (sound (other s)).way) (ap pdus_sent back) same (ap (λ x. x.entity.state) k.spares.station)
+      let back : (l : Lane) → way_from (other s) l new ≡ way_from (other s) l old = back-marks s old new k in
+      resting (other s) s old new (ways-kept (other s) old new (sound (other s)).ways back) (sent-kept (other s) old new back) same (ap (λ x. x.entity.state) k.spares.station)
+
+  -- a lane on which something happened, and the other one, which is as it was
+  ways-now : (s : Side) (l : Lane) → IsOneWay (way_from s l new) → KeepsOther s l old new → AreWays s new
+  ways-now s l way same = either-lane (λ m. IsOneWay (way_from s m new)) l way (subst IsOneWay (sym same) ((sound s).ways (other_lane l)))
 
   pub sent-moves : (s : Side) → SendsOne s old new → Moves old new
   sent-moves s h =
       let e = entity_at s old in
-      let back : way_from (other s) new ≡ way_from (other s) old = back-same s old new (ap (λ x. x.down) h.marks.spares.station) h.marks.spares.link h.marks.up in
+      let l : Lane = next_lane e in
       let this : SideMoves s (other s) old new = record {
         goes = served-goes s Done h.served;
-        way = h.sends.way;
+        ways = ways-now s l h.sends.way h.other;
         texts = turn_octets (turn e) e ∷ [];
-        sent = h.sends.pdus;
+        sent = put-in-lane l (λ m. pdus_sent (way_from s m old)) (λ m. pdus_sent (way_from s m new)) (turn_octets (turn e) e ∷ []) h.sends.pdus (ap pdus_sent h.other);
         says = λ p heard first is x c h2 v spelled. laws.sends p heard first e h2 v is h.spells (subst (λ (l : List ℕ). SpellsPdu h2 v l) (is-it x (turn_octets (turn e) e) c) spelled);
         more = [];
-        delivered = ap pdus_delivered back ∙ sym (append-nil (pdus_delivered (way_from (other s) old)));
+        delivered = none-behind (delivered_from (other s) old) (delivered_from (other s) new) (delivered-kept (other s) old new (back-marks s old new h.marks));
         kept = λ heard first true_ k. served-kept s Done h.served heard first k;
       } in
-      moves-kept old new sound (each-side s old new this (unheard s h.marks h.sends.delivered)) h.marks.counts.puts
+      let same : delivered_from s new ≡ delivered_from s old =
+      lanes-same (λ m. pdus_delivered (way_from s m old)) (λ m. pdus_delivered (way_from s m new))
+      (either-lane (λ m. pdus_delivered (way_from s m new) ≡ pdus_delivered (way_from s m old)) l h.sends.delivered (ap pdus_delivered h.other)) in
+      moves-kept old new sound (each-side s old new this (unheard s h.marks same)) h.marks.counts.puts
     where
       is-it : (x y : List ℕ) → Contains (y ∷ []) x → x ≡ y
       is-it x y (zero, low, e) = sym e
@@ -347,19 +346,22 @@ module _ (laws : EntityLaws) (old new : WorldState) (sound : IsSound old) where
 
   pub filled-moves : (s : Side) → Fills s old new → Moves old new
   filled-moves s h =
-      let back : way_from (other s) new ≡ way_from (other s) old = back-same s old new (ap (λ x. x.down) h.marks.spares.station) h.marks.spares.link h.marks.up in
+      let sent : sent_from s new ≡ sent_from s old =
+      lanes-same (λ m. pdus_sent (way_from s m old)) (λ m. pdus_sent (way_from s m new)) (λ m. (h.sends m).pdus ∙ append-nil (pdus_sent (way_from s m old))) in
+      let same : delivered_from s new ≡ delivered_from s old =
+      lanes-same (λ m. pdus_delivered (way_from s m old)) (λ m. pdus_delivered (way_from s m new)) (λ m. (h.sends m).delivered) in
       let this : SideMoves s (other s) old new =
-      resting s (other s) old new h.sends.way (h.sends.pdus ∙ append-nil (pdus_sent (way_from s old))) (ap pdus_delivered back) (ap (λ x. x.state) h.entity) in
-      moves-kept old new sound (each-side s old new this (unheard s h.marks h.sends.delivered)) h.marks.counts.puts
+      resting s (other s) old new (λ m. (h.sends m).way) sent (delivered-kept (other s) old new (back-marks s old new h.marks)) (ap (λ x. x.state) h.entity) in
+      moves-kept old new sound (each-side s old new this (unheard s h.marks same)) h.marks.counts.puts
 
   -- ---- frames
-  pub struck-moves : (s : Side) → StrikesFrame s old new → Moves old new
-  struck-moves s h =
-      let back : way_from (other s) new ≡ way_from (other s) old = back-same s old new (ap (λ x. x.down) h.spares.station) h.spares.link (ap (λ x. x.up) h.station) in
+  pub struck-moves : (s : Side) (l : Lane) → StrikesFrame s l old new → Moves old new
+  struck-moves s l h =
+      let back : (m : Lane) → way_from (other s) m new ≡ way_from (other s) m old = back-strikes s l old new h in
       let this : SideMoves s (other s) old new =
-      resting s (other s) old new h.sends.way (ap (λ ps. pdus_in (busy ps)) h.sends.packets) (ap pdus_delivered back) (ap (λ x. x.entity.state) h.station) in
+      resting s (other s) old new (ways-now s l h.sends.way (other-strikes s l old new h)) (strikes-sent s l old new h) (delivered-kept (other s) old new back) (ap (λ x. x.entity.state) h.station) in
       let that : SideMoves (other s) s old new =
-      resting (other s) s old new (subst IsOneWay (sym back) (sound (other s)).way) (ap pdus_sent back) h.sends.delivered (ap (λ x. x.entity.state) h.spares.station) in
+      resting (other s) s old new (ways-kept (other s) old new (sound (other s)).ways back) (sent-kept (other s) old new back) (strikes-delivered s l old new h) (ap (λ x. x.entity.state) h.spares.station) in
       moves-kept old new sound (each-side s old new this that) h.counts.puts
 
   -- these PDUs were heard, in turn
@@ -387,19 +389,19 @@ module _ (laws : EntityLaws) (old new : WorldState) (sound : IsSound old) where
       (λ x c. subst (λ (n : ℕ). ComesTrue n p heard x) (sym peer) (t x (suc c.0, (let n = c.0 in let low : n < length pdus = c.1 in omega arith), c.2)))
       (one-heard p heard first ids pdu a mid here (t pdu (0, omega arith, refl)) k)
 
-  pub delivered-moves : (s : Side) → DeliversFrame s old new → Moves old new
-  delivered-moves s h =
-      let back : way_from (other s) new ≡ way_from (other s) old = back-same s old new h.down h.back (ap (λ x. x.up) h.station) in
+  pub delivered-moves : (s : Side) (l : Lane) → DeliversFrame s l old new → Moves old new
+  delivered-moves s l h =
+      let back : (m : Lane) → way_from (other s) m new ≡ way_from (other s) m old = back-delivers s l old new h in
       let this : SideMoves s (other s) old new =
-      resting s (other s) old new h.hears.way (ap (λ ps. pdus_in (busy ps)) h.hears.packets) (ap pdus_delivered back) (ap (λ x. x.entity.state) h.station) in
+      resting s (other s) old new (ways-now s l h.hears.way (other-delivers s l old new h)) (delivers-sent s l old new h) (delivered-kept (other s) old new back) (ap (λ x. x.entity.state) h.station) in
       let that : SideMoves (other s) s old new = record {
         goes = all-goes h.given (station_at (other s) old).entity (station_at (other s) new).entity h.heard;
-        way = subst IsOneWay (sym back) (sound (other s)).way;
+        ways = ways-kept (other s) old new (sound (other s)).ways back;
         texts = [];
-        sent = ap pdus_sent back ∙ sym (append-nil (pdus_sent (way_from (other s) old)));
+        sent = none-behind (sent_from (other s) old) (sent_from (other s) new) (sent-kept (other s) old new back);
         says = λ p heard first is x c. absurd (none-in x c);
         more = h.hears.more;
-        delivered = h.hears.delivered;
+        delivered = delivered-more s l old new h;
         kept = λ heard first true_ k. all-heard (put_of (seen new)) heard first (puts-by-id (seen new)) h.given (station_at (other s) old).entity (station_at (other s) new).entity h.heard
             (λ x c. true_ x (laws.in_whole h.hears.more h.given x h.hears.part c)) k;
       } in

@@ -3,9 +3,12 @@
 use Rattle.std.proofs.Common.{◌≡◌, ◌≢◌, ◌<◌, length, List, [], ◌∷◌, ◌++◌, ◌⊎◌, Contains, ℕ, zero, suc, refl, sym, ap, subst, ◌∙◌, inl, inr, arith}
 use Rattle.std.proofs.lemmas.List.Elements.{Contains-append_cases}
 use Rattle.cfdp_header.specs.declared.value.TransactionId.{TransactionId}
+use Rattle.aos_frame.specs.Frame.{other_lane}
+use Rattle.aos_frame.specs.declared.config.Lane.{Lane}
 use Rattle.mpdu.specs.Packing.{flush_of}
-use Rattle.link_stack.specs.Downward.{LinkSenderState, packing}
-use Rattle.link_stack.specs.Upward.{LinkReceiverState}
+use Rattle.link_stack.specs.Downward.{LinkSenderState, lane_down, packing}
+use Rattle.link_stack.specs.Upward.{LinkReceiverState, lane_up}
+use Rattle.cfdp_station.specs.Link.{next_lane}
 use Rattle.link_sim.specs.declared.event.AcceptedPut.{AcceptedPut}
 use Rattle.link_sim.specs.declared.event.Applied.{Applied}
 use Rattle.link_sim.specs.declared.event.Applied.TheVariants as did
@@ -13,19 +16,19 @@ use Rattle.link_sim.specs.declared.event.Event.{Event}
 use Rattle.link_sim.specs.declared.event.Event.TheVariants as event
 use Rattle.link_sim.specs.declared.event.Refusal.TheVariants as refusal
 use Rattle.link_sim.specs.declared.side.Side.{Side}
-use Rattle.link_sim.specs.declared.side.Side.TheVariants.{One, Two}
 use Rattle.link_sim.specs.OneWay.{OneWayState, IsOneWay, IsRested, SendsMore}
 use Rattle.link_sim.specs.Running.{AreApart}
 use Rattle.link_sim.specs.Stations.{other}
 use Rattle.link_sim.specs.Sound.{IsSound}
-use Rattle.link_sim.specs.World.State.{WorldState, LinkState, station_at, link_from, way, way_from}
-use Rattle.link_sim.specs.World.Steps.{Fills, KeepsLinks, KeepsMarks, SendsOne, Steps, TakesPut}
+use Rattle.link_sim.specs.World.State.{WorldState, AreRested, LanesState, LinkState, entity_at, lane_from, link_from, on_lane, station_at, way, way_from}
+use Rattle.link_sim.specs.World.Steps.{DeliversFrame, Fills, KeepsLinks, KeepsMarks, SendsOne, Spares, Steps, StrikesFrame, TakesPut}
 use Rattle.link_sim.proofs.Events.Keeping.{both}
+use Rattle.link_sim.proofs.Lanes.Each.{either-lane}
 use Rattle.link_sim.proofs.OnWay.Rests.{rests-flushed, rests-unflushed, same-link}
 
 -- ---- ends that rest
 abbrev AllRest : WorldState → Type 0
-AllRest w = (t : Side) → IsRested (way_from t w)
+AllRest w = (t : Side) → AreRested t w
 
 -- it is a matter of the end that sends and of the frames
 rested-way : (d e : LinkSenderState) (k m : LinkState) (u v : LinkReceiverState) → e ≡ d → m.frames ≡ k.frames → IsRested (way d k u) → IsRested (way e m v)
@@ -35,11 +38,16 @@ rested-way d e k m u v de fk is =
 
 -- what a station sent is as it was
 abbrev IsSameWay : Side → (old new : WorldState) → Type 0
-IsSameWay t old new = ((station_at t new).down ≡ (station_at t old).down) × ((link_from t new).frames ≡ (link_from t old).frames)
+IsSameWay t old new = ((station_at t new).down ≡ (station_at t old).down) × ((l : Lane) → (lane_from t l new).frames ≡ (lane_from t l old).frames)
 
-rested-same : (t : Side) (old new : WorldState) → IsSameWay t old new → IsRested (way_from t old) → IsRested (way_from t new)
-rested-same One old new k is = rested-way old.one.down new.one.down old.from_one new.from_one old.two.up new.two.up k.0 k.1 is
-rested-same Two old new k is = rested-way old.two.down new.two.down old.from_two new.from_two old.one.up new.one.up k.0 k.1 is
+rested-same : (t : Side) (old new : WorldState) → IsSameWay t old new → AreRested t old → AreRested t new
+rested-same t old new k is l =
+    rested-way (lane_down l (station_at t old).down) (lane_down l (station_at t new).down) (lane_from t l old) (lane_from t l new)
+    (lane_up l (station_at (other t) old).up) (lane_up l (station_at (other t) new).up) (ap (lane_down l) k.0) (k.1 l) (is l)
+
+-- each lane has the same frames
+same-frames : (k m : LanesState) → m ≡ k → (l : Lane) → (on_lane l m).frames ≡ (on_lane l k).frames
+same-frames k m same l = ap (λ (x : LanesState). (on_lane l x).frames) same
 
 module _ (old new : WorldState) (sound : IsSound old) (rest : AllRest old) where
   all-same : ((t : Side) → IsSameWay t old new) → AllRest new
@@ -48,18 +56,20 @@ module _ (old new : WorldState) (sound : IsSound old) (rest : AllRest old) where
   world-same : new ≡ old → AllRest new
   world-same e = subst AllRest (sym e) rest
 
+  -- what the other station sent
+  spared-way : (s : Side) → Spares s old new → IsSameWay (other s) old new
+  spared-way s k = (ap (λ x. x.down) k.station, same-frames (link_from (other s) old) (link_from (other s) new) k.link)
+
   links-same : (s : Side) → KeepsLinks s old new → AllRest new
-  links-same s k = all-same (both (λ t. IsSameWay t old new) s
-      (k.ends.0, ap (λ (x : LinkState). x.frames) k.link)
-      (ap (λ x. x.down) k.spares.station, ap (λ (x : LinkState). x.frames) k.spares.link))
+  links-same s k = all-same (both (λ t. IsSameWay t old new) s (k.ends.0, same-frames (link_from s old) (link_from s new) k.link) (spared-way s k.spares))
 
-  marks-same : (s : Side) → KeepsMarks s old new → IsRested (way_from s new) → AllRest new
-  marks-same s k rested = both (λ t. IsRested (way_from t new)) s rested
-      (rested-same (other s) old new (ap (λ x. x.down) k.spares.station, ap (λ (x : LinkState). x.frames) k.spares.link) (rest (other s)))
+  marks-same : (s : Side) → KeepsMarks s old new → AreRested s new → AllRest new
+  marks-same s k rested = both (λ t. AreRested t new) s rested (rested-same (other s) old new (spared-way s k.spares) (rest (other s)))
 
-  sent-rests : (s : Side) → SendsOne s old new → IsRested (way_from s new)
-  sent-rests One h = rests-unflushed (way_from One new) h.none_whole h.unflushed
-  sent-rests Two h = rests-unflushed (way_from Two new) h.none_whole h.unflushed
+  sent-rests : (s : Side) → SendsOne s old new → AreRested s new
+  sent-rests s h =
+      let l : Lane = next_lane (entity_at s old) in
+      either-lane (λ m. IsRested (way_from s m new)) l (rests-unflushed (way_from s l new) (h.none_whole l) h.unflushed) (subst IsRested (sym h.other) (rest s (other_lane l)))
 
   filled-way : (o n : OneWayState) → IsOneWay o → IsRested o → SendsMore o n (flush_of (packing o.down)) [] → n.up ≡ o.up → length n.down.waiting < n.down.link.zone →
       (flush_of (packing o.down) ≡ [] → n.down.flushed ≡ o.down.flushed) → IsRested n
@@ -67,9 +77,25 @@ module _ (old new : WorldState) (sound : IsSound old) (rest : AllRest old) where
       let zone : n.down.link.zone ≡ o.down.link.zone = ap (λ k. k.zone) (same-link o n is more.way up) in
       rests-flushed o n is rested more up (omega (arith, waits, zone)) same
 
-  filled-rests : (s : Side) → Fills s old new → IsRested (way_from s new)
-  filled-rests One h = filled-way (way_from One old) (way_from One new) (sound One).way (rest One) h.sends (ap (λ x. x.up) h.marks.spares.station) h.none_whole h.flushed
-  filled-rests Two h = filled-way (way_from Two old) (way_from Two new) (sound Two).way (rest Two) h.sends (ap (λ x. x.up) h.marks.spares.station) h.none_whole h.flushed
+  filled-rests : (s : Side) → Fills s old new → AreRested s new
+  filled-rests s h l =
+      filled-way (way_from s l old) (way_from s l new) ((sound s).ways l) (rest s l) (h.sends l) (ap (λ x. lane_up l x.up) h.marks.spares.station) (h.none_whole l)
+      (λ none. ap (λ (w : OneWayState). w.down.flushed) (h.same l none))
+
+  -- a frame of a lane was taken
+  delivered-rests : (s : Side) (l : Lane) → DeliversFrame s l old new → AllRest new
+  delivered-rests s l h = all-same (both (λ t. IsSameWay t old new) s (
+    ap (λ x. x.down) h.station,
+    either-lane (λ m. (lane_from s m new).frames ≡ (lane_from s m old).frames) l (ap (λ (k : LinkState). k.frames) h.link) (ap (λ (k : LinkState). k.frames) h.other_link),
+  )
+      (h.down, same-frames (link_from (other s) old) (link_from (other s) new) h.back))
+
+  struck-rests : (s : Side) (l : Lane) → StrikesFrame s l old new → AllRest new
+  struck-rests s l h = all-same (both (λ t. IsSameWay t old new) s (
+    ap (λ x. x.down) h.station,
+    either-lane (λ m. (lane_from s m new).frames ≡ (lane_from s m old).frames) l (ap (λ (k : LinkState). k.frames) h.link) (ap (λ (k : LinkState). k.frames) h.other_link),
+  )
+      (spared-way s h.spares))
 
   pub rests-kept : (e : Event) (d : Applied) → Steps e d old new → AllRest new
   rests-kept (event.Put s source destination) did.Applied h = links-same s h.links
@@ -107,18 +133,14 @@ module _ (old new : WorldState) (sound : IsSound old) (rest : AllRest old) where
   rests-kept (event.Tick s now) did.Applied h = links-same s h.links
   rests-kept (event.Tick s now) did.Nothing h = absurd h
   rests-kept (event.Tick s now) (did.Refused by) h = absurd h
-  rests-kept (event.Deliver s) did.Applied h = all-same (both (λ t. IsSameWay t old new) s
-      (ap (λ x. x.down) h.station, ap (λ (x : LinkState). x.frames) h.link)
-      (h.down, ap (λ (x : LinkState). x.frames) h.back))
-  rests-kept (event.Deliver s) did.Nothing h = world-same h.1
-  rests-kept (event.Deliver s) (did.Refused by) h = absurd h
-  rests-kept (event.Strike s) did.Applied h = all-same (both (λ t. IsSameWay t old new) s
-      (ap (λ x. x.down) h.station, ap (λ (x : LinkState). x.frames) h.link)
-      (ap (λ x. x.down) h.spares.station, ap (λ (x : LinkState). x.frames) h.spares.link))
-  rests-kept (event.Strike s) did.Nothing h = world-same h.1
-  rests-kept (event.Strike s) (did.Refused (refusal.Put by)) h = absurd h
-  rests-kept (event.Strike s) (did.Refused (refusal.Call by)) h = absurd h
-  rests-kept (event.Strike s) (did.Refused refusal.LossRunTooLong) h = world-same h.same
+  rests-kept (event.Deliver s l) did.Applied h = delivered-rests s l h
+  rests-kept (event.Deliver s l) did.Nothing h = world-same h.1
+  rests-kept (event.Deliver s l) (did.Refused by) h = absurd h
+  rests-kept (event.Strike s l) did.Applied h = struck-rests s l h
+  rests-kept (event.Strike s l) did.Nothing h = world-same h.1
+  rests-kept (event.Strike s l) (did.Refused (refusal.Put by)) h = absurd h
+  rests-kept (event.Strike s l) (did.Refused (refusal.Call by)) h = absurd h
+  rests-kept (event.Strike s l) (did.Refused refusal.LossRunTooLong) h = world-same h.same
 
 -- ---- puts
 -- What an event does to the puts: one more, or none.
@@ -159,14 +181,14 @@ puts-after (event.Flush s) (did.Refused by) old new h = absurd h
 puts-after (event.Tick s now) did.Applied old new h = inr h.puts
 puts-after (event.Tick s now) did.Nothing old new h = absurd h
 puts-after (event.Tick s now) (did.Refused by) old new h = absurd h
-puts-after (event.Deliver s) did.Applied old new h = inr h.counts.puts
-puts-after (event.Deliver s) did.Nothing old new h = inr (ap (λ (w : WorldState). w.puts) h.1)
-puts-after (event.Deliver s) (did.Refused by) old new h = absurd h
-puts-after (event.Strike s) did.Applied old new h = inr h.counts.puts
-puts-after (event.Strike s) did.Nothing old new h = inr (ap (λ (w : WorldState). w.puts) h.1)
-puts-after (event.Strike s) (did.Refused (refusal.Put by)) old new h = absurd h
-puts-after (event.Strike s) (did.Refused (refusal.Call by)) old new h = absurd h
-puts-after (event.Strike s) (did.Refused refusal.LossRunTooLong) old new h = inr (ap (λ (w : WorldState). w.puts) h.same)
+puts-after (event.Deliver s l) did.Applied old new h = inr h.counts.puts
+puts-after (event.Deliver s l) did.Nothing old new h = inr (ap (λ (w : WorldState). w.puts) h.1)
+puts-after (event.Deliver s l) (did.Refused by) old new h = absurd h
+puts-after (event.Strike s l) did.Applied old new h = inr h.counts.puts
+puts-after (event.Strike s l) did.Nothing old new h = inr (ap (λ (w : WorldState). w.puts) h.1)
+puts-after (event.Strike s l) (did.Refused (refusal.Put by)) old new h = absurd h
+puts-after (event.Strike s l) (did.Refused (refusal.Call by)) old new h = absurd h
+puts-after (event.Strike s l) (did.Refused refusal.LossRunTooLong) old new h = inr (ap (λ (w : WorldState). w.puts) h.same)
 
 is-one : (p q : AcceptedPut) → Contains (p ∷ []) q → q ≡ p
 is-one p q (zero, low, e) = sym e

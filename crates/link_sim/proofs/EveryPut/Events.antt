@@ -1,9 +1,11 @@
 -- Each put stays on its course: a new world keeps it, and so does every event.
-use Rattle.std.proofs.Common.{◌≡◌, ℕ, ◌<◌, Bool, true, false, List, [], ◌∷◌, ◌++◌, length, Option, Some, None, inl, inr, refl, sym, ap, subst, ◌∙◌}
+use Rattle.std.proofs.Common.{◌≡◌, ℕ, Bool, true, false, List, [], ◌∷◌, ◌++◌, length, Option, Some, None, inl, inr, refl, sym, ap, subst, ◌∙◌}
 use Rattle.std.specs.Prelude.{Contains, IsSome}
 use Rattle.cfdp_header.specs.declared.value.TransactionId.{TransactionId}
 use Rattle.cfdp_header.specs.Files.{FileMap}
 use Rattle.cfdp_directives.specs.User.Put.{Put}
+use Rattle.aos_frame.specs.declared.config.Lane.{Lane}
+use Rattle.aos_frame.specs.declared.config.Lane.TheVariants.{Directives, Data}
 use Rattle.mpdu.specs.Packets.{packets_of}
 use Rattle.mpdu.specs.Packets as packets
 use Rattle.cfdp_entity.specs.declared.call.Call.{Call}
@@ -11,9 +13,11 @@ use Rattle.cfdp_entity.specs.declared.call.Call.TheVariants as calls
 use Rattle.cfdp_entity.specs.Entity.{EntityState, Counted}
 use Rattle.cfdp_entity.specs.History.{KeepsRecords, Leads}
 use Rattle.cfdp_entity.specs.Polling.{turn, turn_octets}
-use Rattle.cfdp_entity.specs.Sound.{IsSound as IsSoundEntity, FindsMore}
+use Rattle.cfdp_entity.specs.Sound.{IsSound as IsSoundEntity, ComesTrue, FindsMore}
 use Rattle.cfdp_entity.specs.Table.{TableState}
-use Rattle.cfdp_station.specs.Station.{StationState, first_down, first_up}
+use Rattle.link_stack.specs.Downward.{first_down, lane_down}
+use Rattle.link_stack.specs.Upward.{first_up, lane_up}
+use Rattle.cfdp_station.specs.Station.{StationState}
 use Rattle.cfdp_station.specs.declared.config.StationConfig.{StationConfig}
 use Rattle.link_sim.specs.declared.side.Side.{Side}
 use Rattle.link_sim.specs.declared.side.Side.TheVariants.{One, Two}
@@ -28,29 +32,34 @@ use Rattle.link_sim.specs.Between.{Pdu, AreSpelled}
 use Rattle.link_sim.specs.EveryPut.{KeepCourse, LosesNone}
 use Rattle.link_sim.specs.Known.{AreKnown, ArePeers}
 use Rattle.link_sim.specs.Observed.{seen}
-use Rattle.link_sim.specs.OneWay.{on_way, pdus_delivered}
+use Rattle.link_sim.specs.OneWay.{on_way}
 use Rattle.link_sim.specs.Stations.{other}
 use Rattle.link_sim.specs.Sound.{IsSound}
 use Rattle.link_sim.specs.Theorem.{put_of, put_by, accepted_as}
-use Rattle.link_sim.specs.World.State.{WorldState, LinkState, station_at, link_from, entity_at, way, way_from, no_frames, IsFirst}
-use Rattle.link_sim.specs.World.Steps.{KeepsLinks, Stays, TakesPut, StepsAt, TellsTime, SendsOne, FailsSource, Fills, DeliversFrame, StrikesFrame, Puts, Calls, Polls, Flushes, Delivers, Strikes, Steps}
+use Rattle.link_sim.specs.World.State.{WorldState, LanesState, delivered_from, entity_at, no_lanes, on_lane, on_way_from, station_at, way, way_from, IsFirst}
+use Rattle.link_sim.specs.World.Steps.{KeepsLinks, Stays, TakesPut, StepsAt, TellsTime, SendsOne, FailsSource, Fills, HasFrame, DeliversFrame, StrikesFrame, Puts, Calls, Polls, Flushes, Delivers, Strikes, Steps}
 use Rattle.link_sim.proofs.Events.Beginning.{event-moves}
 use Rattle.link_sim.proofs.EveryPut.Heard.{Runs, Given, Ran, given-all, given-part, lost-run, run}
 use Rattle.link_sim.proofs.EveryPut.Kept.{Kept, kept-same, kept-losses, kept-called, kept-ticked, kept-sent, kept-failed, kept-run, kept-put}
 use Rattle.link_sim.proofs.EveryPut.Lost.{loses-kept, loses-marks, loses-delivered, loses-struck}
-use Rattle.link_sim.proofs.Events.Keeping.{Grounds, each, other-other, entity-then, comes-true}
+use Rattle.link_sim.proofs.Events.Keeping.{Grounds, each, other-other, entity-then, heard-true}
 use Rattle.link_sim.proofs.EveryPut.Steps.{IsInOrder, in-order}
 use Rattle.link_sim.proofs.EveryPut.Known.{first-known, front-known}
 use Rattle.link_sim.proofs.EveryPut.Pdus.{InTwo, spelled-split}
 use Rattle.link_sim.proofs.EveryPut.Puts.{adds-put, same-puts}
 use Rattle.link_sim.proofs.Events.Moving.{EntityLaws, Moves, sends-one, sends-two, apart, goes-at, fresh, found-now, stays-moves}
+use Rattle.link_sim.proofs.Lanes.Heard.{given-delivered}
+use Rattle.link_sim.proofs.Lanes.Joined.{lanes-same, swapped-among, swapped-back}
+use Rattle.link_sim.proofs.Lanes.Same.{same-on-way}
+use Rattle.link_sim.proofs.Lanes.Swapping.{swapped-kept}
+use Rattle.link_sim.proofs.Lanes.Ways.{back-kept, forth-kept, lane-same}
 use Rattle.link_sim.proofs.OnWay.Pdus.{pdus_ended}
-use Rattle.link_sim.proofs.OnWay.World.{SendsOnWay, FlushesOnWay, HearsOnWay, TakesOffWay, forth-kept, back-kept, polls-on-way, fills-on-way, delivers-on-way, strikes-on-way}
+use Rattle.link_sim.proofs.OnWay.World.{SendsOnWay, FlushesOnWay, HearsOnWay, TakesOffWay, polls-on-way, fills-on-way, delivers-on-way, strikes-on-way}
 use Rattle.link_sim.proofs.Found.Puts.{puts-by-id, found-by, accepted-among, accepted-id}
 
 -- ---- seen from either station
 abbrev KeptAt : Side → WorldState → Type 0
-KeptAt s w = Kept (put_of (seen w)) (LosesNone w) (entity_at s w) (entity_at (other s) w) (on_way (way_from s w)) (on_way (way_from (other s) w))
+KeptAt s w = Kept (put_of (seen w)) (LosesNone w) (entity_at s w) (entity_at (other s) w) (on_way_from s w) (on_way_from (other s) w)
 
 to-kept : (s : Side) (w : WorldState) → KeepCourse w → KeptAt s w
 to-kept One w k = record {
@@ -106,12 +115,19 @@ kept-as P N m m1 th th1 a a1 b b1 im ith ia ib k =
 
 -- ---- at first
 -- nothing is on its way
-none-on-way : (c e : StationConfig) (s t : StationState) (k : LinkState) → s.down ≡ first_down c.down c.capacity → t.up ≡ first_up e.up → k ≡ no_frames → on_way (way s.down k t.up) ≡ []
+none-in-lane : (l : Lane) (c e : StationConfig) → on_way (way (lane_down l (first_down c.down c.capacity)) (on_lane l no_lanes) (lane_up l (first_up e.up))) ≡ []
 unfolding packets_of packets.first_packets
+none-in-lane Directives c e = refl
+none-in-lane Data c e = refl
+
+none-on-lane : (l : Lane) (c e : StationConfig) (s t : StationState) (k : LanesState) → s.down ≡ first_down c.down c.capacity → t.up ≡ first_up e.up → k ≡ no_lanes →
+    on_way (way (lane_down l s.down) (on_lane l k) (lane_up l t.up)) ≡ []
+none-on-lane l c e s t k down up link = ap on_way (lane-same l (first_down c.down c.capacity) s.down no_lanes k (first_up e.up) t.up down link up) ∙ none-in-lane l c e
+
+none-on-way : (c e : StationConfig) (s t : StationState) (k : LanesState) → s.down ≡ first_down c.down c.capacity → t.up ≡ first_up e.up → k ≡ no_lanes →
+    on_way (way (lane_down Directives s.down) (on_lane Directives k) (lane_up Directives t.up)) ++ on_way (way (lane_down Data s.down) (on_lane Data k) (lane_up Data t.up)) ≡ []
 none-on-way c e s t k down up link =
-    let is : way s.down k t.up ≡ way (first_down c.down c.capacity) no_frames (first_up e.up) =
-    ap (λ x. way x k t.up) down ∙ ap (λ x. way (first_down c.down c.capacity) x t.up) link ∙ ap (λ x. way (first_down c.down c.capacity) no_frames x) up in
-    ap on_way is
+    lanes-same (λ l. []) (λ l. on_way (way (lane_down l s.down) (on_lane l k) (lane_up l t.up))) (λ l. none-on-lane l c e s t k down up link)
 
 module _ (c : WorldConfig) (outboxes inboxes : FileMap × FileMap) (w : WorldState) (is : IsFirst c outboxes inboxes w) where
   none-found : (id : TransactionId) → put_of (seen w) id ≡ None
@@ -148,10 +164,6 @@ are-peers w sound s = record {
   apart = apart w sound s;
 }
 
-stripped : (xs ys zs : List (List ℕ)) → xs ++ ys ≡ xs ++ zs → ys ≡ zs
-stripped [] ys zs e = e
-stripped (x ∷ xs) ys zs e = stripped xs ys zs (let f : x ∷ (xs ++ ys) ≡ x ∷ (xs ++ zs) = e in cc)
-
 -- the law of records and those of an entity, an event, and what it comes to
 module _ (laws : EntityLaws) (grounds : Grounds) (stays : (old new : TableState) → Leads old new → KeepsRecords old.records new.records) (old new : WorldState) (sound : IsSound old) where
   -- ---- a put
@@ -160,15 +172,15 @@ module _ (laws : EntityLaws) (grounds : Grounds) (stays : (old new : TableState)
       let p : AcceptedPut = record { id = h.id; source = source; destination = destination } in
       let goes = goes-at laws old new sound s source destination h in
       let none : IsSome (put_of (seen old) h.id) → ⊥ = is-fresh (put_of (seen old) h.id) refl in
-      let c = kept-losses (put_of (seen old)) (LosesNone old) (LosesNone new) (entity_at s old) (entity_at (other s) old) (on_way (way_from s old)) (on_way (way_from (other s) old))
+      let c = kept-losses (put_of (seen old)) (LosesNone old) (LosesNone new) (entity_at s old) (entity_at (other s) old) (on_way_from s old) (on_way_from (other s) old)
       (loses-kept s old new h.links) (to-kept s old k) in
-      let after = kept-put (put_of (seen old)) (put_of (seen new)) (LosesNone new) source destination h.id (entity_at s old) (entity_at s new) (entity_at (other s) old) (on_way (way_from s old))
-      (on_way (way_from (other s) old)) h.accepts
+      let after = kept-put (put_of (seen old)) (put_of (seen new)) (LosesNone new) source destination h.id (entity_at s old) (entity_at s new) (entity_at (other s) old) (on_way_from s old)
+      (on_way_from (other s) old) h.accepts
       (adds-put (seen old) (seen new) p (sends-one old new sound goes) (sends-two old new sound goes) h.puts) (are-peers old sound s) (found-now laws old new sound s source destination h) none
-      (pdus_delivered (way_from (other (other s)) old)) (sound (other s)).first (sound (other s)).entity c in
-      from-kept s new (kept-as (put_of (seen new)) (LosesNone new) (entity_at s new) (entity_at s new) (entity_at (other s) old) (entity_at (other s) new) (on_way (way_from s old))
-      (on_way (way_from s new)) (on_way (way_from (other s) old)) (on_way (way_from (other s) new))
-      refl (ap (λ x. x.entity.state) h.links.spares.station) (ap on_way (forth-kept s old new h.links)) (ap on_way (back-kept s old new h.links)) after)
+      (delivered_from (other (other s)) old) (sound (other s)).first (sound (other s)).entity c in
+      from-kept s new (kept-as (put_of (seen new)) (LosesNone new) (entity_at s new) (entity_at s new) (entity_at (other s) old) (entity_at (other s) new) (on_way_from s old)
+      (on_way_from s new) (on_way_from (other s) old) (on_way_from (other s) new)
+      refl (ap (λ x. x.entity.state) h.links.spares.station) (same-on-way s old new (forth-kept s old new h.links)) (same-on-way (other s) old new (back-kept s old new h.links)) after)
     where
       is-fresh : (o : Option Put) → put_of (seen old) h.id ≡ o → IsSome o → ⊥
       is-fresh None e some = absurd cc
@@ -189,7 +201,7 @@ module _ (laws : EntityLaws) (grounds : Grounds) (stays : (old new : TableState)
 
     -- what came to a station
     abbrev came : Side → List (List ℕ)
-    came t = pdus_delivered (way_from (other t) old) ++ (m.sides t).more
+    came t = delivered_from (other t) old ++ (m.sides t).more
 
     sound-then : (t : Side) → IsSoundEntity P (came t) (sound t).first (entity_at t old)
     sound-then t = entity-then grounds old new sound m.sides m.puts t
@@ -199,83 +211,84 @@ module _ (laws : EntityLaws) (grounds : Grounds) (stays : (old new : TableState)
 
     -- what was kept, in the words of the new world
     start : (s : Side) → (LosesNone new → LosesNone old) → KeepCourse old →
-        Kept P (LosesNone new) (entity_at s old) (entity_at (other s) old) (on_way (way_from s old)) (on_way (way_from (other s) old))
+        Kept P (LosesNone new) (entity_at s old) (entity_at (other s) old) (on_way_from s old) (on_way_from (other s) old)
     start s so k =
-        kept-losses P (LosesNone old) (LosesNone new) (entity_at s old) (entity_at (other s) old) (on_way (way_from s old)) (on_way (way_from (other s) old)) so
-        (kept-same (put_of (seen old)) P (LosesNone old) (entity_at s old) (entity_at (other s) old) (on_way (way_from s old)) (on_way (way_from (other s) old)) same.0 same.1 (to-kept s old k))
+        kept-losses P (LosesNone old) (LosesNone new) (entity_at s old) (entity_at (other s) old) (on_way_from s old) (on_way_from (other s) old) so
+        (kept-same (put_of (seen old)) P (LosesNone old) (entity_at s old) (entity_at (other s) old) (on_way_from s old) (on_way_from (other s) old) same.0 same.1 (to-kept s old k))
 
     -- where only the entity of one station moved
-    moved : (s : Side) → KeepsLinks s old new → Kept P (LosesNone new) (entity_at s new) (entity_at (other s) old) (on_way (way_from s old)) (on_way (way_from (other s) old)) → KeepCourse new
+    moved : (s : Side) → KeepsLinks s old new → Kept P (LosesNone new) (entity_at s new) (entity_at (other s) old) (on_way_from s old) (on_way_from (other s) old) → KeepCourse new
     moved s l k =
-        from-kept s new (kept-as P (LosesNone new) (entity_at s new) (entity_at s new) (entity_at (other s) old) (entity_at (other s) new) (on_way (way_from s old)) (on_way (way_from s new))
-        (on_way (way_from (other s) old)) (on_way (way_from (other s) new))
-        refl (ap (λ x. x.entity.state) l.spares.station) (ap on_way (forth-kept s old new l)) (ap on_way (back-kept s old new l)) k)
+        from-kept s new (kept-as P (LosesNone new) (entity_at s new) (entity_at s new) (entity_at (other s) old) (entity_at (other s) new) (on_way_from s old) (on_way_from s new)
+        (on_way_from (other s) old) (on_way_from (other s) new)
+        refl (ap (λ x. x.entity.state) l.spares.station) (same-on-way s old new (forth-kept s old new l)) (same-on-way (other s) old new (back-kept s old new l)) k)
 
     pub stays-course : (s : Side) → Stays s old new → KeepCourse old → KeepCourse new
     stays-course s h k =
-        moved s h.links (subst (λ (x : EntityState). Kept P (LosesNone new) x (entity_at (other s) old) (on_way (way_from s old)) (on_way (way_from (other s) old))) (sym h.entity)
+        moved s h.links (subst (λ (x : EntityState). Kept P (LosesNone new) x (entity_at (other s) old) (on_way_from s old) (on_way_from (other s) old)) (sym h.entity)
         (start s (loses-kept s old new h.links) k))
 
     pub called-courses : (s : Side) (c : Call) (id : TransactionId) → StepsAt s c id old new → KeepCourse old → KeepCourse new
     called-courses s c id h k =
-        moved s h.links (kept-called stays P (LosesNone new) (entity_at s old) (entity_at s new) (entity_at (other s) old) (on_way (way_from s old)) (on_way (way_from (other s) old)) (config s)
+        moved s h.links (kept-called stays P (LosesNone new) (entity_at s old) (entity_at s new) (entity_at (other s) old) (on_way_from s old) (on_way_from (other s) old) (config s)
         (order s) (order (other s)) (start s (loses-kept s old new h.links) k) c id h.called)
 
     pub told-courses : (s : Side) (now : ℕ) → TellsTime s now old new → KeepCourse old → KeepCourse new
     told-courses s now h k =
-        moved s h.links (kept-ticked stays P (LosesNone new) (entity_at s old) (entity_at s new) (entity_at (other s) old) (on_way (way_from s old)) (on_way (way_from (other s) old)) (config s)
+        moved s h.links (kept-ticked stays P (LosesNone new) (entity_at s old) (entity_at s new) (entity_at (other s) old) (on_way_from s old) (on_way_from (other s) old) (config s)
         (order s) (order (other s)) (start s (loses-kept s old new h.links) k) now h.ticked h.table)
 
     pub failed-courses : (s : Side) → FailsSource s old new → KeepCourse old → KeepCourse new
     failed-courses s h k =
-        moved s h.links (kept-failed stays P (LosesNone new) (entity_at s old) (entity_at s new) (entity_at (other s) old) (on_way (way_from s old)) (on_way (way_from (other s) old)) (config s)
+        moved s h.links (kept-failed stays P (LosesNone new) (entity_at s old) (entity_at s new) (entity_at (other s) old) (on_way_from s old) (on_way_from (other s) old) (config s)
         (order s) (order (other s)) (start s (loses-kept s old new h.links) k)
         h.place h.is_next h.carries h.served)
 
     pub sent-courses : (s : Side) → SendsOne s old new → KeepCourse old → KeepCourse new
     sent-courses s h k =
         let e : EntityState = entity_at s old in
-        let on : SendsOnWay s (turn_octets (turn e) e) old new = polls-on-way s old new (sound s).way h in
-        let after = kept-sent stays P (LosesNone new) e (entity_at s new) (entity_at (other s) old) (on_way (way_from s old)) (on_way (way_from (other s) old)) (config s) (order s) (order (other s))
+        let text : List ℕ = turn_octets (turn e) e in
+        let on : SendsOnWay s text old new = polls-on-way s old new (sound s).ways h in
+        let after = kept-sent stays P (LosesNone new) e (entity_at s new) (entity_at (other s) old) (on_way_from s old) (on_way_from (other s) old) (config s) (order s) (order (other s))
         (start s (loses-marks s old new h.marks) k)
         (came s) (sound s).first (sound-then s) (are-peers old sound s) h.spells h.served in
-        from-kept s new (kept-as P (LosesNone new) (entity_at s new) (entity_at s new) (entity_at (other s) old) (entity_at (other s) new) (on_way (way_from s old) ++ turn_octets (turn e) e ∷ [])
-        (on_way (way_from s new)) (on_way (way_from (other s) old)) (on_way (way_from (other s) new))
-        refl (ap (λ x. x.entity.state) h.marks.spares.station) on.forth (ap on_way on.back) after)
+        let turned = swapped-kept P (LosesNone new) (entity_at s new) (entity_at (other s) old) (on_way_from s old ++ text ∷ []) (on_way_from s new) (on_way_from (other s) old) on.forth after in
+        from-kept s new (kept-as P (LosesNone new) (entity_at s new) (entity_at s new) (entity_at (other s) old) (entity_at (other s) new) (on_way_from s new)
+        (on_way_from s new) (on_way_from (other s) old) (on_way_from (other s) new)
+        refl (ap (λ x. x.entity.state) h.marks.spares.station) refl (same-on-way (other s) old new on.back) turned)
 
-    pub filled-courses : (s : Side) → Fills s old new → length (link_from s old).frames < length (link_from s new).frames → KeepCourse old → KeepCourse new
+    pub filled-courses : (s : Side) → Fills s old new → HasFrame s old new → KeepCourse old → KeepCourse new
     filled-courses s h grown k =
-        let on : FlushesOnWay s old new = fills-on-way s old new (sound s).way h grown in
-        from-kept s new (kept-as P (LosesNone new) (entity_at s old) (entity_at s new) (entity_at (other s) old) (entity_at (other s) new) (on_way (way_from s old)) (on_way (way_from s new))
-        (on_way (way_from (other s) old)) (on_way (way_from (other s) new))
-        (ap (λ (c : Counted). c.state) h.entity) (ap (λ x. x.entity.state) h.marks.spares.station) on.forth (ap on_way on.back) (start s (loses-marks s old new h.marks) k))
+        let on : FlushesOnWay s old new = fills-on-way s old new (sound s).ways h grown in
+        from-kept s new (kept-as P (LosesNone new) (entity_at s old) (entity_at s new) (entity_at (other s) old) (entity_at (other s) new) (on_way_from s old) (on_way_from s new)
+        (on_way_from (other s) old) (on_way_from (other s) new)
+        (ap (λ (c : Counted). c.state) h.entity) (ap (λ x. x.entity.state) h.marks.spares.station) on.forth (same-on-way (other s) old new on.back) (start s (loses-marks s old new h.marks) k))
 
     -- ---- frames
-    -- what was delivered to the other station
-    more-is : (s : Side) (h : DeliversFrame s old new) → (m.sides (other s)).more ≡ h.hears.more
-    more-is s h =
-        let more : List (List ℕ) = (m.sides (other s)).more in
-        let there : pdus_delivered (way_from s new) ≡ pdus_delivered (way_from s old) ++ more =
-        subst (λ (u : Side). pdus_delivered (way_from u new) ≡ pdus_delivered (way_from u old) ++ more) (other-other s) (m.sides (other s)).delivered in
-        stripped (pdus_delivered (way_from s old)) more h.hears.more (sym there ∙ h.hears.delivered)
+    -- what is given of a frame is true
+    given-true : (s : Side) (l : Lane) (h : DeliversFrame s l old new) (x : List ℕ) → Contains h.given x → ComesTrue (entity_at (other s) old).config.peer P (came (other s)) x
+    given-true s l h x c =
+        let there : Contains (delivered_from (other (other s)) new) x =
+        subst (λ (u : Side). Contains (delivered_from u new) x) (sym (other-other s)) (given-delivered grounds.in_whole s l old new h x c) in
+        heard-true grounds old new sound m.sides m.puts (other s) x
+        (swapped-among (delivered_from (other (other s)) new) (came (other s))
+        (swapped-back (came (other s)) (delivered_from (other (other s)) new) (m.sides (other s)).delivered) x there)
 
-    pub delivered-courses : (s : Side) → DeliversFrame s old new → KeepCourse old → KeepCourse new
-    delivered-courses s h k =
-        let u : Side = other s in
+    -- with those on their way that the frame ends in front
+    heard-courses : (s : Side) (l : Lane) (h : DeliversFrame s l old new) (on : HearsOnWay s h.given old new) →
+        Kept P (LosesNone new) (entity_at s old) (entity_at (other s) old) (on.gone ++ on_way_from s new) (on_way_from (other s) old) → KeepCourse new
+    heard-courses s l h on kept =
         let c0 : Counted = (station_at (other s) old).entity in
         let c1 : Counted = (station_at (other s) new).entity in
         let e : EntityState = entity_at s old in
-        let a : List (List ℕ) = on_way (way_from s new) in
-        let b : List (List ℕ) = on_way (way_from (other s) old) in
-        let on : HearsOnWay s h.given old new = delivers-on-way s old new (sound s).way h in
-        let kept : Kept P (LosesNone new) e c0.state (on.gone ++ a) b = subst (λ (l : List (List ℕ)). Kept P (LosesNone new) e c0.state l b) on.takes.forth (start s (loses-delivered s old new h) k) in
+        let a : List (List ℕ) = on_way_from s new in
+        let b : List (List ℕ) = on_way_from (other s) old in
         let parts : InTwo on.gone a kept.forth = spelled-split on.gone a kept.forth kept.spelled in
         let known : AreKnown P c0.state e kept.back (parts.first ++ parts.rest) = subst (λ l. AreKnown P c0.state e kept.back l) parts.joined (kept.known.1, kept.known.0) in
         let ran : (lossless : Bool) → Given lossless h.given on.gone → Ran laws stays P (puts-by-id (seen new)) (came (other s))
         (sound (other s)).first e kept.back lossless parts.first parts.rest c0 c1 = λ lossless given.
         run laws stays P (puts-by-id (seen new)) (came (other s)) (sound (other s)).first e kept.back lossless on.gone h.given parts.first parts.rest c0 c1 given parts.spelled h.heard
-        (λ x c. comes-true grounds old new sound m.sides m.puts (other s) x
-        (subst (λ (l : List (List ℕ)). Contains l x) (sym (more-is s h)) (grounds.in_whole h.hears.more h.given x h.hears.part c)))
+        (given-true s l h)
         (sound-then (other s)) kept.kinds_there known in
         let some : Given false h.given on.gone = given-part h.given on.gone on.part in
         let all : LosesNone new → Given true h.given on.gone = λ (none : LosesNone new).
@@ -283,34 +296,47 @@ module _ (laws : EntityLaws) (grounds : Grounds) (stays : (old new : TableState)
         let last = ran false some in
         let after : Kept P (LosesNone new) e c1.state a b = kept-run P (LosesNone new) e c0 c1 on.gone a b (config (other s)) (order s) kept last.known last.kinds
         (λ lossless none. by-losses P h.given on.gone parts.first c0 c1 (LosesNone new) all some (λ l g. (ran l g).runs) lossless none) in
-        from-kept s new (kept-as P (LosesNone new) e (entity_at s new) (entity_at (other s) new) (entity_at (other s) new) a (on_way (way_from s new)) b (on_way (way_from (other s) new))
-        (ap (λ x. x.entity.state) h.station) refl refl (ap on_way on.takes.back) after)
+        from-kept s new (kept-as P (LosesNone new) e (entity_at s new) (entity_at (other s) new) (entity_at (other s) new) a (on_way_from s new) b (on_way_from (other s) new)
+        (ap (λ x. x.entity.state) h.station) refl refl (same-on-way (other s) old new on.takes.back) after)
       where
         by-losses : (P : TransactionId → Option Put) (given gone : List (List ℕ)) (pdus : List Pdu) (c0 c1 : Counted) (N : Type 0) → (N → Given true given gone) → Given false given gone →
             ((lossless : Bool) → Given lossless given gone → Runs P lossless pdus c0 c1) → (lossless : Bool) → (lossless ≡ true → N) → Runs P lossless pdus c0 c1
         by-losses P given gone pdus c0 c1 N all some runs true none = runs true (all (none refl))
         by-losses P given gone pdus c0 c1 N all some runs false none = runs false some
 
-    pub struck-courses : (s : Side) → StrikesFrame s old new → KeepCourse old → KeepCourse new
-    struck-courses s h k =
+    pub delivered-courses : (s : Side) (l : Lane) → DeliversFrame s l old new → KeepCourse old → KeepCourse new
+    delivered-courses s l h k =
+        let on : HearsOnWay s h.given old new = delivers-on-way s l old new (sound s).ways h in
+        heard-courses s l h on
+        (swapped-kept P (LosesNone new) (entity_at s old) (entity_at (other s) old) (on_way_from s old) (on.gone ++ on_way_from s new) (on_way_from (other s) old) on.takes.forth
+        (start s (loses-delivered s old new l h) k))
+
+    -- with those on their way that the lost frame ends in front
+    lost-courses : (s : Side) (l : Lane) (h : StrikesFrame s l old new) (gone : List (List ℕ)) (on : TakesOffWay s gone old new) →
+        Kept P (LosesNone new) (entity_at s old) (entity_at (other s) old) (gone ++ on_way_from s new) (on_way_from (other s) old) → KeepCourse new
+    lost-courses s l h gone on kept =
         let c0 : Counted = (station_at (other s) old).entity in
         let e : EntityState = entity_at s old in
-        let gone : List (List ℕ) = pdus_ended (way_from s old) in
-        let a : List (List ℕ) = on_way (way_from s new) in
-        let b : List (List ℕ) = on_way (way_from (other s) old) in
-        let on : TakesOffWay s gone old new = strikes-on-way s old new (sound s).way h in
-        let kept : Kept P (LosesNone new) e c0.state (gone ++ a) b = subst (λ (l : List (List ℕ)). Kept P (LosesNone new) e c0.state l b) on.forth
-        (start s (λ none. absurd (loses-struck s old new h none)) k) in
+        let a : List (List ℕ) = on_way_from s new in
+        let b : List (List ℕ) = on_way_from (other s) old in
         let parts : InTwo gone a kept.forth = spelled-split gone a kept.forth kept.spelled in
         let known : AreKnown P e c0.state parts.rest kept.back = front-known P e c0.state parts.first parts.rest kept.back (subst (λ l. AreKnown P e c0.state l kept.back) parts.joined kept.known) in
         let after : Kept P (LosesNone new) e c0.state a b = kept-run P (LosesNone new) e c0 c0 gone a b refl (order s) kept (known.1, known.0) kept.kinds_there
-        (λ lossless none. all-lost-by P parts.first c0 (LosesNone new) (loses-struck s old new h) lossless none) in
-        from-kept s new (kept-as P (LosesNone new) e (entity_at s new) (entity_at (other s) old) (entity_at (other s) new) a (on_way (way_from s new)) b (on_way (way_from (other s) new))
-        (ap (λ x. x.entity.state) h.station) (ap (λ x. x.entity.state) h.spares.station) refl (ap on_way on.back) after)
+        (λ lossless none. all-lost-by P parts.first c0 (LosesNone new) (loses-struck s old new l h) lossless none) in
+        from-kept s new (kept-as P (LosesNone new) e (entity_at s new) (entity_at (other s) old) (entity_at (other s) new) a (on_way_from s new) b (on_way_from (other s) new)
+        (ap (λ x. x.entity.state) h.station) (ap (λ x. x.entity.state) h.spares.station) refl (same-on-way (other s) old new on.back) after)
       where
         all-lost-by : (P : TransactionId → Option Put) (pdus : List Pdu) (c : Counted) (N : Type 0) → (N → ⊥) → (lossless : Bool) → (lossless ≡ true → N) → Runs P lossless pdus c c
         all-lost-by P pdus c N lost true none = absurd (lost (none refl))
         all-lost-by P pdus c N lost false none = lost-run P pdus c
+
+    pub struck-courses : (s : Side) (l : Lane) → StrikesFrame s l old new → KeepCourse old → KeepCourse new
+    struck-courses s l h k =
+        let gone : List (List ℕ) = pdus_ended (way_from s l old) in
+        let on : TakesOffWay s gone old new = strikes-on-way s l old new (sound s).ways h in
+        lost-courses s l h gone on
+        (swapped-kept P (LosesNone new) (entity_at s old) (entity_at (other s) old) (on_way_from s old) (gone ++ on_way_from s new) (on_way_from (other s) old) on.forth
+        (start s (λ none. absurd (loses-struck s old new l h none)) k))
 
   -- ---- each event
   same-courses : new ≡ old → KeepCourse old → KeepCourse new
@@ -344,17 +370,17 @@ module _ (laws : EntityLaws) (grounds : Grounds) (stays : (old new : TableState)
   flush-by-event did.Nothing s m h k = same-courses h.1 k
   flush-by-event (did.Refused by) s m h k = absurd h
 
-  deliver-by-event : (d : Applied) (s : Side) → Moves old new → Delivers d s old new → KeepCourse old → KeepCourse new
-  deliver-by-event did.Applied s m h k = delivered-courses m h.counts.puts s h k
-  deliver-by-event did.Nothing s m h k = same-courses h.1 k
-  deliver-by-event (did.Refused by) s m h k = absurd h
+  deliver-by-event : (d : Applied) (s : Side) (l : Lane) → Moves old new → Delivers d s l old new → KeepCourse old → KeepCourse new
+  deliver-by-event did.Applied s l m h k = delivered-courses m h.counts.puts s l h k
+  deliver-by-event did.Nothing s l m h k = same-courses h.1 k
+  deliver-by-event (did.Refused by) s l m h k = absurd h
 
-  strike-by-event : (d : Applied) (s : Side) → Moves old new → Strikes d s old new → KeepCourse old → KeepCourse new
-  strike-by-event did.Applied s m h k = struck-courses m h.counts.puts s h k
-  strike-by-event did.Nothing s m h k = same-courses h.1 k
-  strike-by-event (did.Refused (refusal.Put by)) s m h k = absurd h
-  strike-by-event (did.Refused (refusal.Call by)) s m h k = absurd h
-  strike-by-event (did.Refused refusal.LossRunTooLong) s m h k = same-courses h.same k
+  strike-by-event : (d : Applied) (s : Side) (l : Lane) → Moves old new → Strikes d s l old new → KeepCourse old → KeepCourse new
+  strike-by-event did.Applied s l m h k = struck-courses m h.counts.puts s l h k
+  strike-by-event did.Nothing s l m h k = same-courses h.1 k
+  strike-by-event (did.Refused (refusal.Put by)) s l m h k = absurd h
+  strike-by-event (did.Refused (refusal.Call by)) s l m h k = absurd h
+  strike-by-event (did.Refused refusal.LossRunTooLong) s l m h k = same-courses h.same k
 
   by-event : (e : Event) (d : Applied) → Moves old new → Steps e d old new → KeepCourse old → KeepCourse new
   by-event (event.Put s source destination) d m h k = put-by-event d s source destination h k
@@ -367,8 +393,8 @@ module _ (laws : EntityLaws) (grounds : Grounds) (stays : (old new : TableState)
   by-event (event.Tick s now) did.Applied m h k = told-courses m h.puts s now h k
   by-event (event.Tick s now) did.Nothing m h k = absurd h
   by-event (event.Tick s now) (did.Refused by) m h k = absurd h
-  by-event (event.Deliver s) d m h k = deliver-by-event d s m h k
-  by-event (event.Strike s) d m h k = strike-by-event d s m h k
+  by-event (event.Deliver s l) d m h k = deliver-by-event d s l m h k
+  by-event (event.Strike s l) d m h k = strike-by-event d s l m h k
 
   pub steps-courses : (e : Event) (d : Applied) → Steps e d old new → KeepCourse old → KeepCourse new
   steps-courses e d h k = by-event e d (event-moves laws old new sound e d h) h k

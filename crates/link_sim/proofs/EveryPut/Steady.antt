@@ -10,7 +10,7 @@ use Rattle.cfdp_directives.specs.User.Put.{Put}
 use Rattle.cfdp_store.specs.declared.stored.Stored.TheVariants.{Done, Refused}
 use Rattle.cfdp_store.specs.Files.{octets_in}
 use Rattle.cfdp_sender.specs.declared.due.SenderDue.{SenderDue}
-use Rattle.cfdp_sender.specs.Due.{sender_due, carries}
+use Rattle.cfdp_sender.specs.Due.{sender_due, carries, carries_by}
 use Rattle.cfdp_sender.specs.declared.transfer.Transfer.{Transfer}
 use Rattle.cfdp_sender.specs.State.{opened_sender}
 use Rattle.cfdp_entity.specs.declared.call.Call.{Call}
@@ -19,7 +19,7 @@ use Rattle.cfdp_entity.specs.Calls.{IsCalled}
 use Rattle.cfdp_entity.specs.Entity.{EntityState, Counted, with_table}
 use Rattle.cfdp_entity.specs.Polling.{Place, turn, served}
 use Rattle.cfdp_entity.specs.Putting.{Accepts, next_id, next_transfer}
-use Rattle.cfdp_entity.specs.Seen.{Seen, Sends, Receives, due_content, carries_by, carries_data}
+use Rattle.cfdp_entity.specs.Seen.{Seen, Sends, Receives, due_content, carries_data}
 use Rattle.cfdp_entity.specs.Sound.{next_put}
 use Rattle.cfdp_entity.specs.Steps.{calls, takes}
 use Rattle.cfdp_entity.specs.Table.{Entry, Ticks, place_of, record_of, data_due, data_at}

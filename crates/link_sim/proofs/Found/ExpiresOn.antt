@@ -18,20 +18,20 @@ use Rattle.link_sim.specs.Exchange.{tells_complete}
 use Rattle.link_sim.specs.Found.{HasExchange, ExpiresHere, ExpiresThere, ExpiresOn}
 use Rattle.link_sim.specs.Known.{AreKnown}
 use Rattle.link_sim.specs.Observed.{seen}
-use Rattle.link_sim.specs.OneWay.{arriving}
 use Rattle.link_sim.specs.Runs.{Exchange, expire_sender, ReceiverExpires}
 use Rattle.link_sim.specs.Stations.{other}
 use Rattle.link_sim.specs.Sound.{IsSound}
 use Rattle.link_sim.specs.Stages.{AreWaitedBySender, AreWaitedByReceiver}
 use Rattle.link_sim.specs.Theorem.{put_of}
 use Rattle.link_sim.specs.Waiting.{one_tells}
-use Rattle.link_sim.specs.World.State.{WorldState, entity_at, way_from}
+use Rattle.link_sim.specs.World.State.{WorldState, arriving_from, entity_at}
 use Rattle.link_sim.specs.World.Steps.{TellsTime}
 use Rattle.link_sim.specs.declared.side.Side.{Side}
 use Rattle.link_sim.proofs.Found.ExpiresWorld.{kinds_of, fired-sender, fired-receiver, fired-none, fired-waited, fired-all, expired-rest, none-expires, none-waited, SendsIn, Received, StaysNone}
 use Rattle.link_sim.proofs.Events.Keeping.{other-other}
 use Rattle.link_sim.proofs.EveryPut.Known.{ticks-known, same-known}
-use Rattle.link_sim.proofs.OnWay.World.{forth-kept, back-kept}
+use Rattle.link_sim.proofs.Lanes.Same.{same-arriving}
+use Rattle.link_sim.proofs.Lanes.Ways.{back-kept, forth-kept}
 
 module _ (stays : (old new : TableState) → Leads old new → KeepsRecords old.records new.records) (s : Side) (now : ℕ) (old new : WorldState) (sound : IsSound old) (h : TellsTime s now old new)
     (same : FindsMore (put_of (seen old)) (put_of (seen new)) × FindsMore (put_of (seen new)) (put_of (seen old))) where
@@ -92,8 +92,8 @@ module _ (stays : (old new : TableState) → Leads old new → KeepsRecords old.
       is_end = record {
         forth = has.forth;
         back = has.back;
-        spelled = subst (λ l. AreSpelled l has.forth) (sym (ap arriving (forth-kept s old new h.links))) has.spelled;
-        spelled_back = subst (λ l. AreSpelled l has.back) (sym (ap arriving (back-kept s old new h.links))) has.spelled_back;
+        spelled = subst (λ l. AreSpelled l has.forth) (sym (same-arriving s old new (forth-kept s old new h.links))) has.spelled;
+        spelled_back = subst (λ l. AreSpelled l has.back) (sym (same-arriving (other s) old new (back-kept s old new h.links))) has.spelled_back;
         known = known-then has.forth has.back has.known;
         is = record {
           is_sender = fired.is;
@@ -108,11 +108,11 @@ module _ (stays : (old new : TableState) → Leads old new → KeepsRecords old.
     }
 
   -- ---- a put of the other station
-  way-there : arriving (way_from (other s) new) ≡ arriving (way_from (other s) old)
-  way-there = ap arriving (back-kept s old new h.links)
+  way-there : arriving_from (other s) new ≡ arriving_from (other s) old
+  way-there = same-arriving (other s) old new (back-kept s old new h.links)
 
-  way-here : arriving (way_from (other (other s)) new) ≡ arriving (way_from (other (other s)) old)
-  way-here = ap (λ (t : Side). arriving (way_from t new)) (other-other s) ∙ ap arriving (forth-kept s old new h.links) ∙ sym (ap (λ (t : Side). arriving (way_from t old)) (other-other s))
+  way-here : arriving_from (other (other s)) new ≡ arriving_from (other (other s)) old
+  way-here = ap (λ (t : Side). arriving_from t new) (other-other s) ∙ same-arriving s old new (forth-kept s old new h.links) ∙ sym (ap (λ (t : Side). arriving_from t old) (other-other s))
 
   module _ (put : Put) (e : Exchange) (has : HasExchange (other s) put old e) where
     abbrev kinds_there : List Kind

@@ -1,7 +1,6 @@
 -- A list two parts of which changed places has the same members: so a course, and all else that is
 -- known of the PDUs on their way, stays where one lane overtakes the other.
-use Rattle.std.proofs.Common.{◌≡◌, inl, inr, ℕ, Bool, true, false, List, [], ◌∷◌, ◌++◌, append-nil, ◌||◌, Option, refl, sym, ap, subst, ◌∙◌}
-use Rattle.std.proofs.lemmas.List.{append_assoc}
+use Rattle.std.proofs.Common.{◌≡◌, inl, inr, ℕ, Bool, true, false, List, [], ◌∷◌, ◌++◌, ◌||◌, Option, refl, sym, ap, subst, ◌∙◌}
 use Rattle.std.proofs.lemmas.List.Folds.{list_any-append}
 use Rattle.cfdp_header.specs.declared.value.TransactionId.{TransactionId}
 use Rattle.cfdp_directives.specs.Pdu.Content.{Content}
@@ -18,29 +17,9 @@ use Rattle.link_sim.proofs.EveryPut.Views.{of_id-append}
 use Rattle.link_sim.proofs.EveryPut.Known.{all-append, all-front, all-behind, known-with}
 use Rattle.link_sim.proofs.EveryPut.Pdus.{InTwo, spelled-append, spelled-split}
 use Rattle.link_sim.proofs.EveryPut.Kept.{Kept}
+pub use Rattle.link_sim.proofs.Lanes.Joined.{swapped-none, swapped-back, swapped-front, swapped-put}
 
 -- ---- lists
-pub swapped-none : {X : Type 0} (xs : List X) → IsSwapped xs xs
-swapped-none xs = record { before = xs; first = []; second = []; behind = []; was = sym (append-nil xs); is = sym (append-nil xs) }
-
-pub swapped-back : {X : Type 0} (xs ys : List X) → IsSwapped xs ys → IsSwapped ys xs
-swapped-back xs ys s = record { before = s.before; first = s.second; second = s.first; behind = s.behind; was = s.is; is = s.was }
-
--- the oldest of the second lane come to the front of both
-pub swapped-front : {X : Type 0} (lane ps rest : List X) → IsSwapped (lane ++ (ps ++ rest)) (ps ++ (lane ++ rest))
-swapped-front lane ps rest = record { before = []; first = lane; second = ps; behind = rest; was = refl; is = refl }
-
--- those that were put behind both lanes go behind the first
-pub swapped-put : {X : Type 0} (one two ps : List X) → IsSwapped ((one ++ two) ++ ps) ((one ++ ps) ++ two)
-swapped-put one two ps = record {
-  before = one;
-  first = two;
-  second = ps;
-  behind = [];
-  was = append_assoc one two ps ∙ ap (λ l. one ++ (two ++ l)) (sym (append-nil ps));
-  is = append_assoc one ps two ∙ ap (λ l. one ++ (ps ++ l)) (sym (append-nil two));
-}
-
 pub swapped-all : {X : Type 0} (Is : X → Type 0) (xs ys : List X) → IsSwapped xs ys → AllTrue Is xs → AllTrue Is ys
 swapped-all Is xs ys s h =
     let all : AllTrue Is (s.before ++ (s.first ++ (s.second ++ s.behind))) = subst (AllTrue Is) s.was h in

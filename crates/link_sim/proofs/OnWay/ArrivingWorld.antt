@@ -1,18 +1,23 @@
 -- The PDUs that will arrive from a station where no more is lost, after each event of a settling.
-use Rattle.std.proofs.Common.{◌≡◌, ℕ, ◌*◌, ◌≤◌, ◌==◌, Bool, true, false, not, List, [], ◌∷◌, ◌++◌, ◌⊎◌, length, drop, refl, sym, ap, subst, ◌∙◌, inl, inr, arith}
+use Rattle.std.proofs.Common.{◌≡◌, ℕ, ◌*◌, ◌-◌, ◌^◌, ◌<◌, ◌≤◌, ◌==◌, Bool, true, false, not, List, [], ◌∷◌, ◌++◌, ◌⊎◌, length, drop, refl, sym, ap, subst, ◌∙◌, inl, inr, arith}
 use Rattle.std.proofs.lemmas.List.{append-nil}
+use Rattle.aos_frame.specs.declared.config.Lane.{Lane}
 use Rattle.mpdu.specs.Stream.{stream, is_idle, ArePackets, keep}
 use Rattle.mpdu.specs.Packets.{busy}
-use Rattle.mpdu.specs.Packing.{flush_of}
 use Rattle.mpdu.specs.Reading.{held_at}
-use Rattle.link_stack.specs.Downward.{packing}
 use Rattle.link_stack.specs.Frames.{pdus_in}
-use Rattle.link_stack.specs.Upward.{LinkReceiverState}
+use Rattle.link_stack.specs.Upward.{LinkReceiverState, drop_count, lane_up}
+use Rattle.cfdp_station.specs.Link.{next_lane}
 use Rattle.cfdp_station.specs.Polling.{next_pdu}
 use Rattle.link_sim.specs.declared.side.Side.{Side}
 use Rattle.link_sim.specs.OneWay.{OneWayState, packets_sent, pdus_sent, behind, on_way, unbroken, arriving, IsOneWay, SendsMore}
-use Rattle.link_sim.specs.World.State.{WorldState, station_at, entity_at, way_from}
-use Rattle.link_sim.specs.World.Steps.{SendsOne, Fills}
+use Rattle.link_sim.specs.Runs.{IsSwapped}
+use Rattle.link_sim.specs.Stations.{other}
+use Rattle.link_sim.specs.World.State.{WorldState, AreWays, arriving_from, entity_at, station_at, way_from}
+use Rattle.link_sim.specs.World.Steps.{SendsOne, Fills, DeliversFrame, filling}
+use Rattle.link_sim.proofs.Lanes.Counts.{sum-low, sum-other}
+use Rattle.link_sim.proofs.Lanes.Joined.{lanes-same, put-in-lane, take-from-lane}
+use Rattle.link_sim.proofs.Lanes.Ways.{other-delivers}
 use Rattle.link_sim.proofs.OnWay.Arriving.{OneFewer, unbroken-append, unbroken-behind}
 use Rattle.link_sim.proofs.OnWay.Pdus.{stripped, packets-behind}
 use Rattle.link_sim.proofs.OnWay.Rests.{same-link}
@@ -53,11 +58,28 @@ arriving-sends old new qs texts is more up marks run =
     ∙ ap (λ l. pdus_in (busy l)) (unbroken-append limit 0 held ps qs (packets-behind ps qs whole) (omega (arith, inside)))
     ∙ pdus_more (unbroken limit 0 held ps) qs ∙ ap (λ l. arriving old ++ l) (sym carry)
 
--- ---- a poll, and a flush
-pub polls-arriving : (s : Side) (old new : WorldState) → IsOneWay (way_from s old) → SendsOne s old new → arriving (way_from s new) ≡ arriving (way_from s old) ++ next_pdu (entity_at s old) ∷ []
-polls-arriving s old new is h = arriving-sends (way_from s old) (way_from s new) _ (next_pdu (entity_at s old) ∷ []) is h.sends (ap (λ x. x.up) h.marks.spares.station) h.marks.marks h.marks.run
+-- ---- a poll, a flush and a frame that is delivered
+pub polls-arriving : (s : Side) (old new : WorldState) → AreWays s old → SendsOne s old new → IsSwapped (arriving_from s old ++ next_pdu (entity_at s old) ∷ []) (arriving_from s new)
+polls-arriving s old new is h =
+    let l : Lane = next_lane (entity_at s old) in
+    put-in-lane l (λ m. arriving (way_from s m old)) (λ m. arriving (way_from s m new)) (next_pdu (entity_at s old) ∷ [])
+    (arriving-sends (way_from s l old) (way_from s l new) _ (next_pdu (entity_at s old) ∷ []) (is l) h.sends (ap (λ x. lane_up l x.up) h.marks.spares.station) (h.marks.marks l) (h.marks.run l))
+    (ap arriving h.other)
 
-pub fills-arriving : (s : Side) (old new : WorldState) → IsOneWay (way_from s old) → Fills s old new → arriving (way_from s new) ≡ arriving (way_from s old)
-fills-arriving s old new is h =
-    arriving-sends (way_from s old) (way_from s new) (flush_of (packing (station_at s old).down)) [] is h.sends (ap (λ x. x.up) h.marks.spares.station) h.marks.marks h.marks.run
-    ∙ append-nil (arriving (way_from s old))
+pub fills-arriving : (s : Side) (old new : WorldState) → AreWays s old → Fills s old new → arriving_from s new ≡ arriving_from s old
+fills-arriving s old new is h = lanes-same (λ l. arriving (way_from s l old)) (λ l. arriving (way_from s l new)) one
+  where
+    one : (l : Lane) → arriving (way_from s l new) ≡ arriving (way_from s l old)
+    one l =
+        arriving-sends (way_from s l old) (way_from s l new) (filling s l old) [] (is l) (h.sends l) (ap (λ x. lane_up l x.up) h.marks.spares.station) (h.marks.marks l) (h.marks.run l)
+        ∙ append-nil (arriving (way_from s l old))
+
+-- What is given were the first to arrive of their lane, where no drop was counted for want of memory.
+pub delivers-arriving : (s : Side) (l : Lane) (old new : WorldState) → (h : DeliversFrame s l old new) → drop_count (station_at (other s) new).up 11 ≡ drop_count (station_at (other s) old).up 11 →
+    drop_count (station_at (other s) new).up 11 < 2 ^ 64 - 1 → IsSwapped (arriving_from s old) (h.given ++ arriving_from s new)
+delivers-arriving s l old new h same low =
+    let u = (station_at (other s) old).up in
+    let v = (station_at (other s) new).up in
+    take-from-lane l (λ m. arriving (way_from s m old)) (λ m. arriving (way_from s m new)) h.given
+    (h.hears.lands (sum-other u v 11 l same low h.other_up) (sum-low v 11 low l))
+    (ap arriving (other-delivers s l old new h))

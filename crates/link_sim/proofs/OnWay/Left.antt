@@ -10,7 +10,7 @@ use Rattle.link_stack.specs.Downward.{packing}
 use Rattle.link_sim.specs.OneWay.{OneWayState, packets_sent, IsOneWay, IsRested, SendsMore}
 use Rattle.link_sim.specs.Work.{octets_left}
 use Rattle.link_sim.proofs.Ways.Sending.{last_whole}
-use Rattle.link_sim.proofs.OnWay.Rests.{zones-more, zones-most, whole_zone, same-link, sent-now, length-idle, flush-is}
+use Rattle.link_sim.proofs.OnWay.Rests.{zones-more, zones-most, whole_zone, same-link, sent-now, length-idle, flush-is, idle_len-fills}
 
 -- What is sent raises the number by twice its octets at most.
 pub left-sends : (old new : OneWayState) (qs texts : List (List ℕ)) → IsOneWay old → SendsMore old new qs texts → IsRested new → new.up ≡ old.up → new.marks ≡ old.marks →
@@ -71,6 +71,31 @@ left-fills old new is rested more rests up marks grown =
     let lower : 2 * n + k < 2 * w = idle-fills z w k n least h.0 rested.none_waits some (omega (arith, rests.none_waits, zone)) (m.2 ∙ ap (λ x. w + x) size) in
     omega (arith, lower, m.1, few, ap length marks) in
     elim (flush-is old rested) [ inl e ↦ absurd (never e) | inr h ↦ fills h ]
+
+-- One that makes none doesn't raise it.
+pub left-flushes : (old new : OneWayState) → IsOneWay old → IsRested old → SendsMore old new (flush_of (packing old.down)) [] → IsRested new → new.up ≡ old.up → new.marks ≡ old.marks →
+    octets_left new ≤ octets_left old
+left-flushes old new is rested more rests up marks =
+    let grown : length old.frames < length new.frames → octets_left new ≤ octets_left old = λ (c : length old.frames < length new.frames).
+    omega (arith, left-fills old new is rested more rests up marks c) in
+    let z : ℕ = old.down.link.zone in
+    let zone : new.down.link.zone ≡ z = ap (λ k. k.zone) (same-link old new is more.way up) in
+    let qs : List (List ℕ) = flush_of (packing old.down) in
+    let m : (k : ℕ) × (length new.frames ≡ length old.frames + k) × (k * z + length new.down.waiting ≡ length old.down.waiting + length (stream qs)) =
+    zones-more z (length old.frames) (length new.frames) (length old.down.waiting) (length new.down.waiting) (length (stream qs)) (sent-now old new qs [] is more up)
+    (omega (arith, rests.none_waits, zone)) in
+    let k : ℕ = m.0 in
+    let same : length new.frames ≤ length old.frames → octets_left new ≤ octets_left old = λ (c : length new.frames ≤ length old.frames).
+    let none : k ≡ 0 = omega (arith, m.1, c) in
+    let nothing : k * z ≡ 0 = ap (λ x. x * z) none ∙ omega arith in
+    elim (flush-is old rested) [
+      | inl e ↦ (let empty : length (stream qs) ≡ 0 = ap (λ l. length (stream l)) e in omega (arith, m.2, nothing, empty, ap length marks, c))
+      | inr h ↦ (let size : length (stream qs) ≡ idle_len (z - length old.down.waiting) =
+          ap (λ l. length (stream l)) h.1 ∙ ap length (append-nil (idle_packet (idle_len (z - length old.down.waiting))))
+          ∙ length-idle (idle_len (z - length old.down.waiting)) (idle_len-low (z - length old.down.waiting)) in
+          absurd (omega (arith, m.2, nothing, size, idle_len-fills (z - length old.down.waiting), rested.none_waits, rests.none_waits, zone)))
+    ] in
+    elim (cases_lt (length old.frames) (length new.frames)) [ inl c ↦ grown c | inr c ↦ same c ]
 
 -- ---- what is taken
 -- A frame that is delivered or lost lowers the number by 1.

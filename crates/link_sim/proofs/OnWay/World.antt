@@ -1,122 +1,127 @@
 -- The PDUs on their way between two stations, and what both directions have left, after each kind of event of a settling.
-use Rattle.std.proofs.Common.{◌≡◌, ℕ, ◌+◌, ◌<◌, ◌≤◌, true, false, not, List, [], ◌∷◌, ◌++◌, length, ap, ◌∙◌}
+use Rattle.std.proofs.Common.{◌≡◌, ℕ, ◌+◌, ◌<◌, ◌≤◌, true, false, not, List, [], ◌∷◌, ◌++◌, ap, arith}
 use Rattle.std.specs.List.{list_any}
-use Rattle.mpdu.specs.Packing.{flush_of}
+use Rattle.aos_frame.specs.Frame.{other_lane}
+use Rattle.aos_frame.specs.declared.config.Lane.{Lane}
+use Rattle.aos_frame.specs.declared.config.Lane.TheVariants.{Directives, Data}
 use Rattle.mpdu.specs.Parts.{IsPartOf}
 use Rattle.link_stack.specs.Frames.{packet_of}
-use Rattle.link_stack.specs.Drops.{count_of}
-use Rattle.link_stack.specs.Downward.{LinkSenderState, packing}
-use Rattle.link_stack.specs.Upward.{LinkReceiverState}
+use Rattle.link_stack.specs.Downward.{DownState, LinkSenderState, lane_down}
+use Rattle.link_stack.specs.Upward.{drop_count, lane_up}
+use Rattle.cfdp_station.specs.Link.{next_lane}
 use Rattle.cfdp_station.specs.Polling.{next_pdu}
 use Rattle.link_sim.specs.declared.side.Side.{Side}
-use Rattle.link_sim.specs.declared.side.Side.TheVariants.{One, Two}
 use Rattle.link_sim.specs.Stations.{other}
-use Rattle.link_sim.specs.OneWay.{IsOneWay, IsRested, on_way}
+use Rattle.link_sim.specs.OneWay.{on_way}
+use Rattle.link_sim.specs.Runs.{IsSwapped}
 use Rattle.link_sim.specs.Settling.{IsSettledAt}
-use Rattle.link_sim.specs.World.State.{WorldState, LinkState, station_at, link_from, entity_at, way, way_from}
-use Rattle.link_sim.specs.World.Steps.{KeepsLinks, SendsOne, Fills, DeliversFrame, StrikesFrame}
-use Rattle.link_sim.specs.Work.{octets_left}
+use Rattle.link_sim.specs.World.State.{WorldState, LinkState, AreRested, AreWays, station_at, lane_from, entity_at, on_way_from, way_from}
+use Rattle.link_sim.specs.World.Steps.{SendsOne, Fills, HasFrame, DeliversFrame, StrikesFrame, filling}
+use Rattle.link_sim.specs.Work.{octets_left, octets_left_from}
+use Rattle.link_sim.proofs.Lanes.Counts.{sum-none}
+use Rattle.link_sim.proofs.Lanes.Joined.{lanes-same, more-in-lane, one-fewer-in-lane, put-in-lane, take-from-lane}
+use Rattle.link_sim.proofs.Lanes.Ways.{back-delivers, back-marks, back-strikes, other-delivers, other-strikes}
+pub use Rattle.link_sim.proofs.Lanes.Ways.{back-kept, forth-kept}
 use Rattle.link_sim.proofs.OnWay.Pdus.{pdus_ended, on-way-sends, on-way-flushes, on-way-takes, on-way-hears, on-way-all, on-way-settled}
-use Rattle.link_sim.proofs.OnWay.Left.{left-polls, left-fills, left-takes}
-
--- ---- directions that stay
-way-same : (d e : LinkSenderState) (k m : LinkState) (u v : LinkReceiverState) → e ≡ d → m ≡ k → v ≡ u → way e m v ≡ way d k u
-way-same d e k m u v a b c = ap (λ x. way x m v) a ∙ ap (λ x. way d x v) b ∙ ap (λ x. way d k x) c
-
--- the other station's
-back-same : (s : Side) (old new : WorldState) → (station_at (other s) new).down ≡ (station_at (other s) old).down → link_from (other s) new ≡ link_from (other s) old → (station_at s new).up
-    ≡ (station_at s old).up →
-    way_from (other s) new ≡ way_from (other s) old
-back-same One old new d k u = way-same old.two.down new.two.down old.from_two new.from_two old.one.up new.one.up d k u
-back-same Two old new d k u = way-same old.one.down new.one.down old.from_one new.from_one old.two.up new.two.up d k u
-
--- an event that sends and takes nothing keeps both
-pub forth-kept : (s : Side) (old new : WorldState) → KeepsLinks s old new → way_from s new ≡ way_from s old
-forth-kept s old new k =
-    way-same (station_at s old).down (station_at s new).down (link_from s old) (link_from s new) (station_at (other s) old).up (station_at (other s) new).up
-    k.ends.0 k.link (ap (λ x. x.up) k.spares.station)
-
-pub back-kept : (s : Side) (old new : WorldState) → KeepsLinks s old new → way_from (other s) new ≡ way_from (other s) old
-back-kept s old new k = back-same s old new (ap (λ x. x.down) k.spares.station) k.spares.link k.ends.1
+use Rattle.link_sim.proofs.OnWay.Left.{left-polls, left-fills, left-flushes, left-takes}
 
 -- ---- a poll
--- A PDU is on its way behind all that are.
+-- A PDU is on its way behind all that are of its lane.
 pub record SendsOnWay (s : Side) (pdu : List ℕ) (old new : WorldState) : Type 0 where
-  pub forth : on_way (way_from s new) ≡ on_way (way_from s old) ++ pdu ∷ []
-  pub back : way_from (other s) new ≡ way_from (other s) old
-  pub left : IsRested (way_from s new) → octets_left (way_from s new) ≤ octets_left (way_from s old) + 131084
+  pub forth : IsSwapped (on_way_from s old ++ pdu ∷ []) (on_way_from s new)
+  pub back : (l : Lane) → way_from (other s) l new ≡ way_from (other s) l old
+  pub left : AreRested s new → octets_left_from s new ≤ octets_left_from s old + 131084
 
-pub polls-on-way : (s : Side) (old new : WorldState) → IsOneWay (way_from s old) → SendsOne s old new → SendsOnWay s (next_pdu (entity_at s old)) old new
+pub polls-on-way : (s : Side) (old new : WorldState) → AreWays s old → SendsOne s old new → SendsOnWay s (next_pdu (entity_at s old)) old new
 polls-on-way s old new is h =
-    let d : LinkSenderState = (station_at s old).down in
+    let l : Lane = next_lane (entity_at s old) in
+    let d : DownState = (station_at s old).down in
     let pdu : List ℕ = next_pdu (entity_at s old) in
-    let q : List ℕ = packet_of d.link d.packet_count pdu in
-    let up : (station_at (other s) new).up ≡ (station_at (other s) old).up = ap (λ x. x.up) h.marks.spares.station in
+    let q : List ℕ = packet_of (lane_down l d).link d.packet_count pdu in
+    let up : lane_up l (station_at (other s) new).up ≡ lane_up l (station_at (other s) old).up = ap (λ x. lane_up l x.up) h.marks.spares.station in
     record {
-      forth = on-way-sends (way_from s old) (way_from s new) (q ∷ []) (pdu ∷ []) is h.sends up h.marks.marks;
-      back = back-same s old new (ap (λ x. x.down) h.marks.spares.station) h.marks.spares.link h.marks.up;
-      left = λ r. left-polls (way_from s old) (way_from s new) q (pdu ∷ []) is h.sends r up h.marks.marks;
+      forth = put-in-lane l (λ m. on_way (way_from s m old)) (λ m. on_way (way_from s m new)) (pdu ∷ [])
+          (on-way-sends (way_from s l old) (way_from s l new) (q ∷ []) (pdu ∷ []) (is l) h.sends up (h.marks.marks l)) (ap on_way h.other);
+      back = back-marks s old new h.marks;
+      left = λ r. more-in-lane l (λ m. octets_left (way_from s m old)) (λ m. octets_left (way_from s m new)) 131084
+          (left-polls (way_from s l old) (way_from s l new) q (pdu ∷ []) (is l) h.sends (r l) up (h.marks.marks l)) (ap octets_left h.other);
     }
 
 -- ---- a flush
 -- The same PDUs are on their way, and less is left.
 pub record FlushesOnWay (s : Side) (old new : WorldState) : Type 0 where
-  pub forth : on_way (way_from s new) ≡ on_way (way_from s old)
-  pub back : way_from (other s) new ≡ way_from (other s) old
-  pub left : IsRested (way_from s old) → IsRested (way_from s new) → octets_left (way_from s new) < octets_left (way_from s old)
+  pub forth : on_way_from s new ≡ on_way_from s old
+  pub back : (l : Lane) → way_from (other s) l new ≡ way_from (other s) l old
+  pub left : AreRested s old → AreRested s new → octets_left_from s new < octets_left_from s old
 
-pub fills-on-way : (s : Side) (old new : WorldState) → IsOneWay (way_from s old) → Fills s old new → length (link_from s old).frames < length (link_from s new).frames → FlushesOnWay s old new
-fills-on-way s old new is h grown =
-    let up : (station_at (other s) new).up ≡ (station_at (other s) old).up = ap (λ x. x.up) h.marks.spares.station in
+-- one lane has less, and none has more
+fewer-in-one : (l : Lane) (old new : Lane → ℕ) → new l < old l → ((m : Lane) → new m ≤ old m) → new Directives + new Data < old Directives + old Data
+fewer-in-one Directives old new less most = omega (arith, less, most Data)
+fewer-in-one Data old new less most = omega (arith, less, most Directives)
+
+pub fills-on-way : (s : Side) (old new : WorldState) → AreWays s old → Fills s old new → HasFrame s old new → FlushesOnWay s old new
+fills-on-way s old new is h frame =
+    let up : (l : Lane) → lane_up l (station_at (other s) new).up ≡ lane_up l (station_at (other s) old).up = λ l. ap (λ x. lane_up l x.up) h.marks.spares.station in
     record {
-      forth = on-way-flushes (way_from s old) (way_from s new) (flush_of (packing (station_at s old).down)) is h.sends up h.marks.marks;
-      back = back-same s old new (ap (λ x. x.down) h.marks.spares.station) h.marks.spares.link h.marks.up;
-      left = λ r t. left-fills (way_from s old) (way_from s new) is r h.sends t up h.marks.marks grown;
+      forth = lanes-same (λ m. on_way (way_from s m old)) (λ m. on_way (way_from s m new))
+          (λ l. on-way-flushes (way_from s l old) (way_from s l new) (filling s l old) (is l) (h.sends l) (up l) (h.marks.marks l));
+      back = back-marks s old new h.marks;
+      left = λ r t. fewer-in-one frame.0 (λ m. octets_left (way_from s m old)) (λ m. octets_left (way_from s m new))
+          (left-fills (way_from s frame.0 old) (way_from s frame.0 new) (is frame.0) (r frame.0) (h.sends frame.0) (t frame.0) (up frame.0) (h.marks.marks frame.0) frame.1)
+          (λ l. left-flushes (way_from s l old) (way_from s l new) (is l) (r l) (h.sends l) (t l) (up l) (h.marks.marks l));
     }
 
 -- ---- a frame that is taken
--- These PDUs, the first, aren't on their way any more.
+-- These PDUs, the first of a lane, aren't on their way any more.
 pub record TakesOffWay (s : Side) (gone : List (List ℕ)) (old new : WorldState) : Type 0 where
-  pub forth : on_way (way_from s old) ≡ gone ++ on_way (way_from s new)
-  pub back : way_from (other s) new ≡ way_from (other s) old
-  pub left : octets_left (way_from s new) + 1 ≡ octets_left (way_from s old)
+  pub forth : IsSwapped (on_way_from s old) (gone ++ on_way_from s new)
+  pub back : (l : Lane) → way_from (other s) l new ≡ way_from (other s) l old
+  pub left : octets_left_from s new + 1 ≡ octets_left_from s old
 
 -- One that is delivered: some of them were heard, and all where none was lost and no drop counted for want of memory.
 pub record HearsOnWay (s : Side) (given : List (List ℕ)) (old new : WorldState) : Type 0 where
   pub gone : List (List ℕ)
   pub takes : TakesOffWay s gone old new
   pub part : IsPartOf given gone
-  pub all : list_any not (link_from s new).marks ≡ false → count_of (station_at (other s) new).up.drops 11 ≡ 0 → given ≡ gone
+  pub all : ((l : Lane) → list_any not (lane_from s l new).marks ≡ false) → drop_count (station_at (other s) new).up 11 ≡ 0 → given ≡ gone
 
-pub delivers-on-way : (s : Side) (old new : WorldState) → IsOneWay (way_from s old) → (h : DeliversFrame s old new) → HearsOnWay s h.given old new
-delivers-on-way s old new is h =
-    let down : (station_at s new).down ≡ (station_at s old).down = ap (λ x. x.down) h.station in
-    let link : (station_at s new).down.link ≡ (station_at s old).down.link = ap (λ (d : LinkSenderState). d.link) down in
-    let marks : (link_from s new).marks ≡ (link_from s old).marks ++ true ∷ [] = ap (λ (k : LinkState). k.marks) h.link in
-    let frames : (link_from s new).frames ≡ (link_from s old).frames = ap (λ (k : LinkState). k.frames) h.link in
+pub delivers-on-way : (s : Side) (l : Lane) (old new : WorldState) → AreWays s old → (h : DeliversFrame s l old new) → HearsOnWay s h.given old new
+delivers-on-way s l old new is h =
+    let down : (lane_down l (station_at s new).down) ≡ (lane_down l (station_at s old).down) = ap (λ x. lane_down l x.down) h.station in
+    let link : (lane_down l (station_at s new).down).link ≡ (lane_down l (station_at s old).down).link = ap (λ (d : LinkSenderState). d.link) down in
+    let marks : (lane_from s l new).marks ≡ (lane_from s l old).marks ++ true ∷ [] = ap (λ (k : LinkState). k.marks) h.link in
+    let frames : (lane_from s l new).frames ≡ (lane_from s l old).frames = ap (λ (k : LinkState). k.frames) h.link in
+    let same : way_from s (other_lane l) new ≡ way_from s (other_lane l) old = other-delivers s l old new h in
     record {
-      gone = pdus_ended (way_from s old);
+      gone = pdus_ended (way_from s l old);
       takes = record {
-        forth = on-way-takes (way_from s old) (way_from s new) true is h.hears.packets link marks;
-        back = back-same s old new h.down h.back (ap (λ x. x.up) h.station);
-        left = left-takes (way_from s old) (way_from s new) true down frames marks h.waits;
+        forth = take-from-lane l (λ m. on_way (way_from s m old)) (λ m. on_way (way_from s m new)) (pdus_ended (way_from s l old))
+            (on-way-takes (way_from s l old) (way_from s l new) true (is l) h.hears.packets link marks) (ap on_way same);
+        back = back-delivers s l old new h;
+        left = one-fewer-in-lane l (λ m. octets_left (way_from s m old)) (λ m. octets_left (way_from s m new))
+            (left-takes (way_from s l old) (way_from s l new) true down frames marks h.waits) (ap octets_left same);
       };
-      part = on-way-hears (way_from s old) (way_from s new) h.given is h.hears link marks;
-      all = on-way-all (way_from s old) (way_from s new) h.given is h.hears link marks;
+      part = on-way-hears (way_from s l old) (way_from s l new) h.given (is l) h.hears link marks;
+      all = λ none memory. on-way-all (way_from s l old) (way_from s l new) h.given (is l) h.hears link marks (none l) (sum-none (station_at (other s) new).up 11 memory l);
     }
 
-pub strikes-on-way : (s : Side) (old new : WorldState) → IsOneWay (way_from s old) → StrikesFrame s old new → TakesOffWay s (pdus_ended (way_from s old)) old new
-strikes-on-way s old new is h =
-    let down : (station_at s new).down ≡ (station_at s old).down = ap (λ x. x.down) h.station in
-    let link : (station_at s new).down.link ≡ (station_at s old).down.link = ap (λ (d : LinkSenderState). d.link) down in
-    let marks : (link_from s new).marks ≡ (link_from s old).marks ++ false ∷ [] = ap (λ (k : LinkState). k.marks) h.link in
-    let frames : (link_from s new).frames ≡ (link_from s old).frames = ap (λ (k : LinkState). k.frames) h.link in
+pub strikes-on-way : (s : Side) (l : Lane) (old new : WorldState) → AreWays s old → StrikesFrame s l old new → TakesOffWay s (pdus_ended (way_from s l old)) old new
+strikes-on-way s l old new is h =
+    let down : (lane_down l (station_at s new).down) ≡ (lane_down l (station_at s old).down) = ap (λ x. lane_down l x.down) h.station in
+    let link : (lane_down l (station_at s new).down).link ≡ (lane_down l (station_at s old).down).link = ap (λ (d : LinkSenderState). d.link) down in
+    let marks : (lane_from s l new).marks ≡ (lane_from s l old).marks ++ false ∷ [] = ap (λ (k : LinkState). k.marks) h.link in
+    let frames : (lane_from s l new).frames ≡ (lane_from s l old).frames = ap (λ (k : LinkState). k.frames) h.link in
+    let same : way_from s (other_lane l) new ≡ way_from s (other_lane l) old = other-strikes s l old new h in
     record {
-      forth = on-way-takes (way_from s old) (way_from s new) false is h.sends.packets link marks;
-      back = back-same s old new (ap (λ x. x.down) h.spares.station) h.spares.link (ap (λ x. x.up) h.station);
-      left = left-takes (way_from s old) (way_from s new) false down frames marks h.waits;
+      forth = take-from-lane l (λ m. on_way (way_from s m old)) (λ m. on_way (way_from s m new)) (pdus_ended (way_from s l old))
+          (on-way-takes (way_from s l old) (way_from s l new) false (is l) h.sends.packets link marks) (ap on_way same);
+      back = back-strikes s l old new h;
+      left = one-fewer-in-lane l (λ m. octets_left (way_from s m old)) (λ m. octets_left (way_from s m new))
+          (left-takes (way_from s l old) (way_from s l new) false down frames marks h.waits) (ap octets_left same);
     }
 
 -- ---- in the end
-pub settled-on-way : (s : Side) (w : WorldState) → IsOneWay (way_from s w) → IsRested (way_from s w) → IsSettledAt s w → on_way (way_from s w) ≡ []
-settled-on-way s w is rests h = on-way-settled (way_from s w) is rests h.filled h.none_waits
+pub settled-on-way : (s : Side) (w : WorldState) → AreWays s w → AreRested s w → IsSettledAt s w → on_way_from s w ≡ []
+settled-on-way s w is rests h =
+    let none : (l : Lane) → on_way (way_from s l w) ≡ [] = λ l. on-way-settled (way_from s l w) (is l) (rests l) (h.filled l) (h.none_waits l) in
+    lanes-same (λ l. []) (λ l. on_way (way_from s l w)) none

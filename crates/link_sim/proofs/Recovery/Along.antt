@@ -44,14 +44,14 @@ pub settling-puts : (e : Event) (old new : WorldState) → IsOfSettling e → St
 settling-puts (event.Poll s) old new of_it (inl h) = h.marks.counts.puts
 settling-puts (event.Poll s) old new of_it (inr h) = h.counts.puts
 settling-puts (event.Flush s) old new of_it h = h.0.marks.counts.puts
-settling-puts (event.Deliver s) old new of_it h = h.counts.puts
+settling-puts (event.Deliver s l) old new of_it h = h.counts.puts
 settling-puts (event.Put s source destination) old new of_it h = absurd of_it
 settling-puts (event.Cancel s id) old new of_it h = absurd of_it
 settling-puts (event.Suspend s id) old new of_it h = absurd of_it
 settling-puts (event.Resume s id) old new of_it h = absurd of_it
 settling-puts (event.Prompt s id keep_alive) old new of_it h = absurd of_it
 settling-puts (event.Tick s now) old new of_it h = absurd of_it
-settling-puts (event.Strike s) old new of_it h = absurd of_it
+settling-puts (event.Strike s l) old new of_it h = absurd of_it
 
 -- where no put was accepted
 module _ (laws : EntityLaws) (old new : WorldState) (sound : IsSound old) (m : Moves old new) (puts : new.puts ≡ old.puts) where

@@ -22,14 +22,13 @@ use Rattle.link_sim.specs.Course.{IsCourse}
 use Rattle.link_sim.specs.EveryPut.{KeepsPuts}
 use Rattle.link_sim.specs.Exchange.{maybe}
 use Rattle.link_sim.specs.Found.{IsPutOf, HasExchange, RunsTo}
-use Rattle.link_sim.specs.OneWay.{arriving, on_way}
 use Rattle.link_sim.specs.Runs.{Exchange, IsItsSender, Runs}
 use Rattle.link_sim.specs.Stations.{other}
 use Rattle.link_sim.specs.Sound.{IsSound}
 use Rattle.link_sim.specs.Stages.{Stands, IsAtRest, IsActiveCourse, IsBelow, IsReceiverBelow, IsOver, IsOverAt}
 use Rattle.link_sim.specs.Tracks.{StandsIn, StandsOf, OverIn, AllStand, AllTracked, RunsAlong}
 use Rattle.link_sim.specs.Waiting.{policy_at, is_open, is_open_sender, is_open_receiver, IsWaitingRecord, IsWaitingIn, IsWaiting, IsOpen, IsComing, IsUnfinished, AllWait, IsUncancelled}
-use Rattle.link_sim.specs.World.State.{WorldState, entity_at, way_from}
+use Rattle.link_sim.specs.World.State.{WorldState, arriving_from, entity_at, on_way_from}
 use Rattle.link_sim.specs.declared.side.Side.{Side}
 use Rattle.link_sim.proofs.Clean.Puts.{IsText, text-at}
 use Rattle.link_sim.proofs.Events.Keeping.{other-other}
@@ -41,7 +40,7 @@ pub record FirstLaws : Type 0 where
       Stands here there put b
   pub over_runs : (n : ℕ) (put : Put) (a b : Exchange) → IsOver a → Runs n put a b → IsOver b
   -- what will arrive is on its way
-  pub arriving_among : (s : Side) (w : WorldState) → IsSound w → (text : List ℕ) → Contains (arriving (way_from s w)) text → Contains (on_way (way_from s w)) text
+  pub arriving_among : (s : Side) (w : WorldState) → IsSound w → (text : List ℕ) → Contains (arriving_from s w) text → Contains (on_way_from s w) text
   pub has_exchange : (w : WorldState) → IsSound w → KeepsPuts w → (s : Side) (put : Put) → IsPutOf s put w → (e : Exchange) × HasExchange s put w e
   pub exchange_true : (w : WorldState) → IsSound w → KeepsPuts w → (s : Side) (put : Put) (e : Exchange) → IsPutOf s put w → HasExchange s put w e →
       IsUnspoiled false put.id (entity_at s w) (entity_at (other s) w)
@@ -157,11 +156,11 @@ module _ (laws : FirstLaws) (w v : WorldState) (sound : IsSound w) (puts : Keeps
   coming : (s : Side) (put : Put) (e : Exchange) (v : Content) (rest : List Content) → HasExchange s put w e → e.receiver ≡ None → e.forth ≡ v ∷ rest → IsComing put.id w
   coming s put e v rest has none is =
       let o : OfIt put.id has.forth = of-it put.id has.forth v rest (has.is.is_forth ∙ is) in
-      let t : IsText (arriving (way_from s w)) o.pdu = text-at (arriving (way_from s w)) has.forth o.place o.pdu has.spelled o.at in
+      let t : IsText (arriving_from s w) o.pdu = text-at (arriving_from s w) has.forth o.place o.pdu has.spelled o.at in
       record {
         to = other s;
         text = t.text;
-        among = subst (λ (u : Side). Contains (on_way (way_from u w)) t.text) (sym (other-other s)) (laws.arriving_among s w sound t.text t.among);
+        among = subst (λ (u : Side). Contains (on_way_from u w) t.text) (sym (other-other s)) (laws.arriving_among s w sound t.text t.among);
         header = o.pdu.0;
         content = o.pdu.1;
         spells = t.spells;

@@ -30,16 +30,16 @@ event-ticks (event.Poll s) (did.Refused by) old new of_it h = absurd h
 event-ticks (event.Flush s) did.Applied old new of_it h = h.0.marks.counts.ticks
 event-ticks (event.Flush s) did.Nothing old new of_it h = ap (λ (w : WorldState). w.ticks) h.1
 event-ticks (event.Flush s) (did.Refused by) old new of_it h = absurd h
-event-ticks (event.Deliver s) did.Applied old new of_it h = h.counts.ticks
-event-ticks (event.Deliver s) did.Nothing old new of_it h = ap (λ (w : WorldState). w.ticks) h.1
-event-ticks (event.Deliver s) (did.Refused by) old new of_it h = absurd h
+event-ticks (event.Deliver s l) did.Applied old new of_it h = h.counts.ticks
+event-ticks (event.Deliver s l) did.Nothing old new of_it h = ap (λ (w : WorldState). w.ticks) h.1
+event-ticks (event.Deliver s l) (did.Refused by) old new of_it h = absurd h
 event-ticks (event.Put s source destination) d old new of_it h = absurd of_it
 event-ticks (event.Cancel s id) d old new of_it h = absurd of_it
 event-ticks (event.Suspend s id) d old new of_it h = absurd of_it
 event-ticks (event.Resume s id) d old new of_it h = absurd of_it
 event-ticks (event.Prompt s id keep_alive) d old new of_it h = absurd of_it
 event-ticks (event.Tick s now) d old new of_it h = absurd of_it
-event-ticks (event.Strike s) d old new of_it h = absurd of_it
+event-ticks (event.Strike s l) d old new of_it h = absurd of_it
 
 events-ticks : (steps : List (Event × Applied)) (old new : WorldState) → AreOfSettling steps old new → new.ticks ≡ old.ticks
 events-ticks [] old new is = ap (λ (w : WorldState). w.ticks) is

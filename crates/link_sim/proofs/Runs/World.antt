@@ -1,12 +1,10 @@
 -- The run of its own that each put makes in an event of a settling in which nothing is short.
-use Rattle.std.proofs.Common.{◌≡◌, ℕ, ◌-◌, ◌^◌, ◌<◌, List, [], ◌∷◌, ◌++◌, length, Option, inl, inr, refl, sym, ap, subst, ◌∙◌, arith}
+use Rattle.std.proofs.Common.{◌≡◌, ℕ, ◌-◌, ◌^◌, ◌<◌, List, [], ◌∷◌, ◌++◌, Option, inl, inr, refl, sym, ap, subst, ◌∙◌, arith}
 use Rattle.std.specs.Prelude.{Contains}
 use Rattle.cfdp_header.specs.declared.value.TransactionId.{TransactionId}
 use Rattle.cfdp_directives.specs.User.Put.{Put, SaysTruth}
-use Rattle.cfdp_directives.proofs.Puts.{Contains-append_right}
-use Rattle.mpdu.specs.Packets.{busy}
-use Rattle.link_stack.specs.Drops.{count_of}
-use Rattle.link_stack.specs.Frames.{pdus_in}
+use Rattle.aos_frame.specs.declared.config.Lane.{Lane}
+use Rattle.link_stack.specs.Upward.{drop_count}
 use Rattle.cfdp_store.specs.declared.stored.Stored.TheVariants.{Done}
 use Rattle.cfdp_entity.specs.declared.config.EntityConfig.{EntityConfig}
 use Rattle.cfdp_entity.specs.Entity.{EntityState, Counted}
@@ -23,18 +21,17 @@ use Rattle.link_sim.specs.EveryPut.{KeepsPuts}
 use Rattle.link_sim.specs.Found.{IsPutOf, IsExchange, HasExchange, RunsTo, RunsOn}
 use Rattle.link_sim.specs.Known.{AreKnown}
 use Rattle.link_sim.specs.Observed.{seen}
-use Rattle.link_sim.specs.OneWay.{pdus_sent, pdus_delivered, arriving}
 use Rattle.link_sim.specs.Runs.{Exchange, Runs}
 use Rattle.link_sim.specs.Settling.{IsOfSettling, KeepsAll, all_shortages}
 use Rattle.link_sim.specs.Stations.{other}
 use Rattle.link_sim.specs.Sound.{IsSound}
 use Rattle.link_sim.specs.Theorem.{put_of}
-use Rattle.link_sim.specs.World.State.{WorldState, entity_at, link_from, station_at, way_from}
+use Rattle.link_sim.specs.World.State.{WorldState, arriving_from, delivered_from, entity_at, sent_from, station_at}
 use Rattle.link_sim.specs.World.Steps.{SendsOne, FailsSource, Fills, DeliversFrame, Polls, Flushes, Delivers, Steps}
-use Rattle.link_sim.proofs.OnWay.ArrivingWorld.{polls-arriving, fills-arriving}
+use Rattle.link_sim.proofs.OnWay.ArrivingWorld.{delivers-arriving, fills-arriving, polls-arriving}
 use Rattle.link_sim.proofs.Events.Beginning.{event-moves}
 use Rattle.link_sim.proofs.Clean.Puts.{receivable}
-use Rattle.link_sim.proofs.Clean.Settles.{CleanLaws, part-delivered}
+use Rattle.link_sim.proofs.Clean.Settles.{CleanLaws}
 use Rattle.link_sim.proofs.EveryPut.Events.{are-peers}
 use Rattle.link_sim.proofs.Events.Keeping.{both, other-other}
 use Rattle.link_sim.proofs.EveryPut.Steps.{IsInOrder, in-order}
@@ -42,17 +39,21 @@ use Rattle.link_sim.proofs.EveryPut.Known.{TurnSays, pdu_of, turn-says, sends-kn
 use Rattle.link_sim.proofs.EveryPut.Pdus.{InTwo, spelled-append, spelled-split}
 use Rattle.link_sim.proofs.EveryPut.Puts.{same-puts}
 use Rattle.link_sim.proofs.Events.Moving.{Moves, sends-one, sends-two}
-use Rattle.link_sim.proofs.OnWay.World.{polls-on-way, fills-on-way, delivers-on-way}
 use Rattle.link_sim.proofs.Found.Puts.{puts-by-id}
 use Rattle.link_sim.proofs.Runs.Given.{AllRun, all-run, mine-sends, theirs-sends}
 use Rattle.link_sim.proofs.Runs.Hears.{Spared}
-use Rattle.link_sim.proofs.Runs.Places.{RunsInto, Goes, runs-both, goes-none}
+use Rattle.link_sim.proofs.Runs.Places.{RunsInto, Goes, goes-both, goes-none, goes-overtaken, runs-both}
+use Rattle.link_sim.proofs.Lanes.Heard.{given-heard, given-sent}
+use Rattle.link_sim.proofs.Lanes.Joined.{swapped-none}
+use Rattle.link_sim.proofs.Lanes.Same.{same-arriving}
+use Rattle.link_sim.proofs.Lanes.Swapping.{SwapsPdus, swapped-known, swapped-spelled}
+use Rattle.link_sim.proofs.Lanes.Ways.{back-delivers, back-marks}
 
 -- ---- seen from either station
 -- What will arrive from a station and at it: `forth` and `back`.
 pub record Ways (s : Side) (w : WorldState) (forth back : List Pdu) : Type 0 where
-  pub spelled : AreSpelled (arriving (way_from s w)) forth
-  pub spelled_back : AreSpelled (arriving (way_from (other s) w)) back
+  pub spelled : AreSpelled (arriving_from s w) forth
+  pub spelled_back : AreSpelled (arriving_from (other s) w) back
   pub known : AreKnown (put_of (seen w)) (entity_at s w) (entity_at (other s) w) forth back
 
 ways-in : (s : Side) (put : Put) (w : WorldState) (e : Exchange) → (h : HasExchange s put w e) → Ways s w h.forth h.back
@@ -127,8 +128,8 @@ runs-on-trans a b c keeps p q s put is e h =
 -- ---- an event
 -- nothing was short at a station
 record IsSparedAt (s : Side) (old new : WorldState) : Type 0 where
-  link : count_of (station_at s new).up.drops 11 ≡ count_of (station_at s old).up.drops 11
-  link_low : count_of (station_at s new).up.drops 11 < 2 ^ 64 - 1
+  link : drop_count (station_at s new).up 11 ≡ drop_count (station_at s old).up 11
+  link_low : drop_count (station_at s new).up 11 < 2 ^ 64 - 1
   outbox : (station_at s new).entity.outbox_failures ≡ (station_at s old).entity.outbox_failures
   outbox_low : (station_at s new).entity.outbox_failures < 2 ^ 64 - 1
   entity : Spared (station_at s old).entity (station_at s new).entity
@@ -162,7 +163,7 @@ module _ (laws : CleanLaws) (old new : WorldState) (sound : IsSound old) (kept :
   known-now s forth back k = same-known P (put_of (seen new)) (entity_at s new) (entity_at (other s) new) forth back same.0 same.1 k
 
   order : (s : Side) → IsInOrder P (entity_at s old).table
-  order s = in-order P (pdus_delivered (way_from (other s) old)) (sound s).first (entity_at s old) (sound s).entity
+  order s = in-order P (delivered_from (other s) old) (sound s).first (entity_at s old) (sound s).entity
 
   -- ---- a poll
   polled : (s : Side) → SendsOne s old new → (forth back : List Pdu) → Ways s old forth back → EventGoes s old new forth back
@@ -174,19 +175,28 @@ module _ (laws : CleanLaws) (old new : WorldState) (sound : IsSound old) (kept :
       let t : TurnSays e = turn-says e k.known.0.none_stray h.spells in
       let p : Pdu = pdu_of t.entry t.content in
       let there : th1 ≡ th = ap (λ x. x.entity.state) h.marks.spares.station in
-      let known : AreKnown P e1 th (forth ++ p ∷ []) back = sends-known laws.stays P e e1 th forth back (pdus_delivered (way_from (other s) old)) (sound s).first Done t (sound s).entity
+      let behind : List Pdu = forth ++ p ∷ [] in
+      let swaps : SwapsPdus (arriving_from s new) behind = swapped-spelled (arriving_from s old ++ turn_octets (turn e) e ∷ []) (arriving_from s new) behind
+      (polls-arriving s old new (sound s).ways h)
+      (spelled-append (arriving_from s old) (turn_octets (turn e) e ∷ []) forth (p ∷ []) k.spelled (t.spells, tt)) in
+      let now : List Pdu = swaps.swapped in
+      let known : AreKnown P e1 th behind back = sends-known laws.stays P e e1 th forth back (delivered_from (other s) old) (sound s).first Done t (sound s).entity
       (are-peers old sound s) h.served k.known in
       record {
-        forth_then = forth ++ p ∷ [];
+        forth_then = now;
         back_then = back;
         ways = record {
-          spelled = subst (λ l. AreSpelled l (forth ++ p ∷ [])) (sym (polls-arriving s old new (sound s).way h))
-              (spelled-append (arriving (way_from s old)) (turn_octets (turn e) e ∷ []) forth (p ∷ []) k.spelled (t.spells, tt));
-          spelled_back = subst (λ w. AreSpelled (arriving w) back) (sym (polls-on-way s old new (sound s).way h).back) k.spelled_back;
-          known = known-now s (forth ++ p ∷ []) back (subst (λ (x : EntityState). AreKnown P e1 x (forth ++ p ∷ []) back) (sym there) known);
+          spelled = swaps.spelled;
+          spelled_back = subst (λ l. AreSpelled l back) (sym (same-arriving (other s) old new (back-marks s old new h.marks))) k.spelled_back;
+          known = known-now s now back (subst (λ (x : EntityState). AreKnown P e1 x now back) (sym there)
+              (swapped-known behind now back back swaps.are (swapped-none back) P e1 th known));
         };
-        mine = λ put is. subst (λ (x : EntityState). Goes put e th forth back e1 x (forth ++ p ∷ []) back) (sym there) (mine-sends put P is.found e e1 (order s) t h.served th forth back);
-        theirs = λ put is. subst (λ (x : EntityState). Goes put th e back forth x e1 back (forth ++ p ∷ [])) (sym there) (theirs-sends put P is.found e e1 (order s) t h.served th back forth);
+        mine = λ put is. subst (λ (x : EntityState). Goes put e th forth back e1 x now back) (sym there)
+            (goes-both put e th forth back e1 th behind back e1 th now back (mine-sends put P is.found e e1 (order s) t h.served th forth back)
+            (goes-overtaken put e1 th behind back now back swaps.are (swapped-none back)));
+        theirs = λ put is. subst (λ (x : EntityState). Goes put th e back forth x e1 back now) (sym there)
+            (goes-both put th e back forth th e1 back behind th e1 back now (theirs-sends put P is.found e e1 (order s) t h.served th back forth)
+            (goes-overtaken put th e1 back behind back now (swapped-none back) swaps.are));
       }
 
   -- the outbox didn't fail
@@ -198,8 +208,8 @@ module _ (laws : CleanLaws) (old new : WorldState) (sound : IsSound old) (kept :
       omega (arith, more, is)
 
   -- ---- a flush
-  filled : (s : Side) → Fills s old new → length (link_from s old).frames < length (link_from s new).frames → (forth back : List Pdu) → Ways s old forth back → EventGoes s old new forth back
-  filled s h grown forth back k =
+  filled : (s : Side) → Fills s old new → (forth back : List Pdu) → Ways s old forth back → EventGoes s old new forth back
+  filled s h forth back k =
       let e : EntityState = entity_at s old in
       let th : EntityState = entity_at (other s) old in
       let here : entity_at s new ≡ e = ap (λ (c : Counted). c.state) h.entity in
@@ -208,8 +218,8 @@ module _ (laws : CleanLaws) (old new : WorldState) (sound : IsSound old) (kept :
         forth_then = forth;
         back_then = back;
         ways = record {
-          spelled = subst (λ l. AreSpelled l forth) (sym (fills-arriving s old new (sound s).way h)) k.spelled;
-          spelled_back = subst (λ w. AreSpelled (arriving w) back) (sym (fills-on-way s old new (sound s).way h grown).back) k.spelled_back;
+          spelled = subst (λ l. AreSpelled l forth) (sym (fills-arriving s old new (sound s).ways h)) k.spelled;
+          spelled_back = subst (λ l. AreSpelled l back) (sym (same-arriving (other s) old new (back-marks s old new h.marks))) k.spelled_back;
           known = known-now s forth back (subst (λ (x : EntityState). AreKnown P x (entity_at (other s) new) forth back) (sym here)
               (subst (λ (x : EntityState). AreKnown P e x forth back) (sym there) k.known));
         };
@@ -220,39 +230,40 @@ module _ (laws : CleanLaws) (old new : WorldState) (sound : IsSound old) (kept :
       }
 
   -- ---- a delivery
-  module _ (s : Side) (h : DeliversFrame s old new) (spared : IsSparedAt (other s) old new) (forth back : List Pdu) (k : Ways s old forth back) where
+  module _ (s : Side) (l : Lane) (h : DeliversFrame s l old new) (spared : IsSparedAt (other s) old new) (forth back : List Pdu) (k : Ways s old forth back) where
     abbrev there : EntityState
     there = entity_at (other s) old
 
     abbrev heard : List (List ℕ)
-    heard = pdus_delivered (way_from s old) ++ h.hears.more
+    heard = delivered_from s old ++ h.hears.more
 
     peer-is : there.config.peer ≡ (entity_at s old).config.entity
     peer-is = (sound (other s)).peer ∙ ap (λ t. (entity_at t old).config.entity) (other-other s)
 
     comes : (x : List ℕ) → Contains h.given x → ComesTrue there.config.peer P heard x
     comes x among =
-        let more : Contains h.hears.more x = laws.entity.in_whole h.hears.more h.given x h.hears.part among in
-        let came : Contains heard x = Contains-append_right (pdus_delivered (way_from s old)) h.hears.more x more in
-        let now : Contains (pdus_delivered (way_from s new)) x = subst (λ (l : List (List ℕ)). Contains l x) (sym h.hears.delivered) came in
-        let sent : Contains (pdus_sent (way_from s new)) x = laws.entity.in_whole (pdus_sent (way_from s new)) (pdus_delivered (way_from s new)) x (part-delivered (way_from s new)) now in
-        let sent_then : Contains (pdus_sent (way_from s old)) x = subst (λ (ps : List (List ℕ)). Contains (pdus_in (busy ps)) x) h.hears.packets sent in
+        let sent : Contains (sent_from s old) x = given-sent laws.entity.in_whole s l old new h x among in
         record {
-          among = came;
-          says = λ i v spells. subst (λ (n : ℕ). SaysTruth n P i.id v) (sym peer-is) ((sound s).sent x sent_then i v spells).0;
+          among = given-heard laws.entity.in_whole s l old new h x among;
+          says = λ i v spells. subst (λ (n : ℕ). SaysTruth n P i.id v) (sym peer-is) ((sound s).sent x sent i v spells).0;
         }
 
     sound-then : IsSoundEntity P heard (sound (other s)).first there
     sound-then =
-        let now : IsSoundEntity P (pdus_delivered (way_from s old)) (sound (other s)).first there =
-        subst (λ (t : Side). IsSoundEntity P (pdus_delivered (way_from t old)) (sound (other s)).first there) (other-other s) (sound (other s)).entity in
-        laws.grounds.more P P (pdus_delivered (way_from s old)) h.hears.more (sound (other s)).first there (λ id put is. is) now
+        let now : IsSoundEntity P (delivered_from s old) (sound (other s)).first there =
+        subst (λ (t : Side). IsSoundEntity P (delivered_from t old) (sound (other s)).first there) (other-other s) (sound (other s)).entity in
+        laws.grounds.more P P (delivered_from s old) h.hears.more (sound (other s)).first there (λ id put is. is) now
 
-    two : InTwo h.given (arriving (way_from s new)) forth
-    two = spelled-split h.given (arriving (way_from s new)) forth (subst (λ (l : List (List ℕ)). AreSpelled l forth) (h.hears.lands spared.link spared.link_low) k.spelled)
+    -- those of the lane whose frame came stand in front
+    swaps : SwapsPdus (h.given ++ arriving_from s new) forth
+    swaps = swapped-spelled (arriving_from s old) (h.given ++ arriving_from s new) forth (delivers-arriving s l old new h spared.link spared.link_low) k.spelled
+
+    two : InTwo h.given (arriving_from s new) swaps.swapped
+    two = spelled-split h.given (arriving_from s new) swaps.swapped swaps.spelled
 
     known : AreKnown P there (entity_at s old) back (two.first ++ two.rest)
-    known = subst (λ (l : List Pdu). AreKnown P there (entity_at s old) back l) two.joined (k.known.1, k.known.0)
+    known = subst (λ (ps : List Pdu). AreKnown P there (entity_at s old) back ps) two.joined
+        (swapped-known back back forth swaps.swapped (swapped-none back) swaps.are P there (entity_at s old) (k.known.1, k.known.0))
 
     ran : AllRun laws.entity laws.hearing laws.stays P (puts-by-id (seen old)) heard (sound (other s)).first (entity_at s old) back two.first two.rest (station_at (other s) old).entity
         (station_at (other s) new).entity
@@ -270,13 +281,16 @@ module _ (laws : CleanLaws) (old new : WorldState) (sound : IsSound old) (kept :
           back_then = back;
           ways = record {
             spelled = two.spelled_rest;
-            spelled_back = subst (λ w. AreSpelled (arriving w) back) (sym (delivers-on-way s old new (sound s).way h).takes.back) k.spelled_back;
+            spelled_back = subst (λ ps. AreSpelled ps back) (sym (same-arriving (other s) old new (back-delivers s l old new h))) k.spelled_back;
             known = known-now s two.rest back (subst (λ (x : EntityState). AreKnown P x th1 two.rest back) (sym here) (ran.known.1, ran.known.0));
           };
-          mine = λ put is. subst (λ (x : EntityState). Goes put e there forth back x th1 two.rest back) (sym here) (subst (λ l. Goes put e there l back e th1 two.rest back) (sym two.joined)
-              (ran.theirs_too put is.found (receivable old sound (λ t. (sound t).within) s forth back k.known put is.found is.own)));
+          mine = λ put is. subst (λ (x : EntityState). Goes put e there forth back x th1 two.rest back) (sym here)
+              (goes-both put e there forth back e there swaps.swapped back e th1 two.rest back (goes-overtaken put e there forth back swaps.swapped back swaps.are (swapped-none back))
+              (subst (λ ps. Goes put e there ps back e th1 two.rest back) (sym two.joined)
+              (ran.theirs_too put is.found (receivable old sound (λ t. (sound t).within) s forth back k.known put is.found is.own))));
           theirs = λ put is. subst (λ (x : EntityState). Goes put there e back forth th1 x back two.rest) (sym here)
-              (subst (λ l. Goes put there e back l th1 e back two.rest) (sym two.joined) (ran.mine put is.found));
+              (goes-both put there e back forth there e back swaps.swapped th1 e back two.rest (goes-overtaken put there e back forth back swaps.swapped (swapped-none back) swaps.are)
+              (subst (λ ps. Goes put there e back ps th1 e back two.rest) (sym two.joined) (ran.mine put is.found)));
         }
 
 -- ---- each event of a settling
@@ -291,14 +305,14 @@ module _ (laws : CleanLaws) (old new : WorldState) (sound : IsSound old) (kept :
   polls-run (did.Refused by) s m h = absurd h
 
   flushes-run : (d : Applied) (s : Side) → Moves old new → Flushes d s old new → RunsOn old new
-  flushes-run did.Applied s m h = runs-by s old new (filled laws old new sound kept m h.0.marks.counts.puts s h.0 h.1)
+  flushes-run did.Applied s m h = runs-by s old new (filled laws old new sound kept m h.0.marks.counts.puts s h.0)
   flushes-run did.Nothing s m h = same-runs h.1
   flushes-run (did.Refused by) s m h = absurd h
 
-  delivers-run : (d : Applied) (s : Side) → Moves old new → Delivers d s old new → RunsOn old new
-  delivers-run did.Applied s m h = runs-by s old new (delivered laws old new sound kept m h.counts.puts s h (spared (other s)))
-  delivers-run did.Nothing s m h = same-runs h.1
-  delivers-run (did.Refused by) s m h = absurd h
+  delivers-run : (d : Applied) (s : Side) (l : Lane) → Moves old new → Delivers d s l old new → RunsOn old new
+  delivers-run did.Applied s l m h = runs-by s old new (delivered laws old new sound kept m h.counts.puts s l h (spared (other s)))
+  delivers-run did.Nothing s l m h = same-runs h.1
+  delivers-run (did.Refused by) s l m h = absurd h
 
 -- the puts of a station stay its own
 pub puts-kept : CleanLaws → (e : Event) (d : Applied) (old new : WorldState) → Steps e d old new → IsSound old → (s : Side) (put : Put) → IsPutOf s put old → IsPutOf s put new
@@ -310,11 +324,11 @@ pub settles-run : CleanLaws → (e : Event) (d : Applied) (old new : WorldState)
     RunsOn old new
 settles-run laws (event.Poll s) d old new is h keeps sound kept = polls-run laws old new sound kept (spared-at old new keeps) d s (event-moves laws.entity old new sound (event.Poll s) d h) h
 settles-run laws (event.Flush s) d old new is h keeps sound kept = flushes-run laws old new sound kept (spared-at old new keeps) d s (event-moves laws.entity old new sound (event.Flush s) d h) h
-settles-run laws (event.Deliver s) d old new is h keeps sound kept = delivers-run laws old new sound kept (spared-at old new keeps) d s (event-moves laws.entity old new sound (event.Deliver s) d h) h
+settles-run laws (event.Deliver s l) d old new is h keeps sound kept = delivers-run laws old new sound kept (spared-at old new keeps) d s l (event-moves laws.entity old new sound (event.Deliver s l) d h) h
 settles-run laws (event.Put s source destination) d old new is h keeps sound kept = absurd is
 settles-run laws (event.Cancel s id) d old new is h keeps sound kept = absurd is
 settles-run laws (event.Suspend s id) d old new is h keeps sound kept = absurd is
 settles-run laws (event.Resume s id) d old new is h keeps sound kept = absurd is
 settles-run laws (event.Prompt s id keep_alive) d old new is h keeps sound kept = absurd is
 settles-run laws (event.Tick s now) d old new is h keeps sound kept = absurd is
-settles-run laws (event.Strike s) d old new is h keeps sound kept = absurd is
+settles-run laws (event.Strike s l) d old new is h keeps sound kept = absurd is

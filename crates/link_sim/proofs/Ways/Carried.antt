@@ -1,4 +1,4 @@
--- What the steps of a link do to a direction between events.
+-- What the steps of a link do to a lane between events.
 use Rattle.std.proofs.Common.{◌≡◌, ℕ, List, sym, ap, subst, ◌∙◌, arith}
 use Rattle.mpdu.specs.Packets.{busy}
 use Rattle.link_stack.specs.Frames.{pdus_in}
@@ -8,7 +8,7 @@ use Rattle.link_sim.specs.FrameLink.{FrameLinkState}
 use Rattle.link_sim.specs.AtStation.{IsSameLink}
 use Rattle.link_sim.specs.OneWay.{OneWayState, IsOneWay, IsCarried, IsRested, SendsNone, SendsMore, one_way}
 
--- a link that has more buffers is the same direction
+-- a lane that has more buffers is the same
 pub same_way : (d : LinkSenderState) (k m : FrameLinkState) (u : LinkReceiverState) → IsSameLink k m → one_way d m u ≡ one_way d k u
 same_way d k m u (f, g, r, n) =
     let a : one_way d m u ≡ record { down = d; up = u; frames = k.frames; marks = m.marks; run = m.run } = ap (λ x. record { down = d; up = u; frames = x; marks = m.marks; run = m.run }) f in

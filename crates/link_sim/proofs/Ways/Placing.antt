@@ -1,5 +1,7 @@
 -- Where pieces of octets lie.
-use Rattle.std.proofs.Common.{◌≡◌, ℕ, zero, suc, add-one, ◌+◌, ◌*◌, ◌<◌, ◌≤◌, List, [], ◌∷◌, ◌++◌, length, take, drop, slice_index_or, refl, sym, ap, subst, ◌∙◌, arith}
+use Rattle.std.proofs.Common.{◌≡◌, MatchOption, inl, inr, ℕ, zero, suc, add-one, ◌+◌, ◌*◌, ◌<◌, ◌≤◌, List, [], ◌∷◌, ◌++◌, length, take, drop, slice_index_or, refl, sym, ap, subst, ◌∙◌, arith}
+use Rattle.std.specs.List.{slice_get}
+use Rattle.std.proofs.lemmas.Option.{slice_get_cases}
 use Rattle.std.proofs.lemmas.List.{drop-drop, drop-take, take-take, length-take, take-append-le}
 use Rattle.std.proofs.Math.Seq.{take-append_seam}
 use Rattle.std.proofs.Math.Nat.{mul-le-mul_right}
@@ -80,3 +82,7 @@ pieces_pulled len count n w o r whole is front =
     let written : take n (w ++ drop (length w) o) ≡ w = subst (λ (k : ℕ). take k (w ++ drop (length w) o) ≡ w) whole (take-append_seam w (drop (length w) o)) in
     ap (pieces len (count + 1)) written ∙ pieces_more len count w
     ∙ ap (λ x. x ++ take len (drop (count * len) w) ∷ []) (pieces_front len count w o (front ∙ ap (take (count * len)) is))
+
+-- one place for each frame: there is one of the oldest that waits
+pub place_waits : (places : List ℕ) (taken n : ℕ) → length places ≡ n → MatchOption (slice_get places taken) (n ≤ taken) (λ place. taken < n)
+place_waits places taken n is = elim (slice_get_cases places taken).1 [ inl h ↦ rw h.2 (omega (arith, h.1, is)) | inr h ↦ rw h.1 (omega (arith, h.0, is)) ]

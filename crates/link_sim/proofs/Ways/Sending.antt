@@ -1,5 +1,5 @@
--- The sending end of a direction.
-use Rattle.std.proofs.Common.{◌≡◌, ℕ, ◌+◌, ◌*◌, ◌<◌, ◌≤◌, Bool, true, false, not, None, List, [], ◌∷◌, ◌++◌, ◌⊎◌, length, drop, replicate, refl, sym, ap, subst, ◌∙◌, inl, arith}
+-- The sending end of a lane.
+use Rattle.std.proofs.Common.{◌≡◌, ℕ, ◌+◌, ◌*◌, ◌<◌, ◌≤◌, Bool, true, false, not, None, List, [], ◌∷◌, ◌++◌, ◌⊎◌, length, drop, refl, sym, ap, subst, ◌∙◌, inl, arith}
 use Rattle.std.proofs.lemmas.List.{append_assoc, map-append}
 use Rattle.std.proofs.Math.Nat.{mul-le-mul_right}
 use Rattle.aos_frame.specs.Frame.{IsLink}
@@ -8,8 +8,8 @@ use Rattle.mpdu.specs.Stream.{stream, survivors, keep, is_idle, IsPacket, ArePac
 use Rattle.mpdu.proofs.Later.{stream-push}
 use Rattle.mpdu.proofs.Later.{survivors-push}
 use Rattle.link_stack.specs.Frames.{packet_drop, AreOfLink, frame_of, pdus_in}
-use Rattle.link_stack.specs.Downward.{LinkSenderState, IsDown}
-use Rattle.link_stack.specs.Upward.{LinkReceiverState, IsUp}
+use Rattle.link_stack.specs.Downward.{LinkSenderState, IsDown, first_lane_down}
+use Rattle.link_stack.specs.Upward.{LinkReceiverState, IsUp, first_lane_up}
 use Rattle.link_stack.proofs.Grown.{frame-push, up-push}
 use Rattle.mpdu.specs.Packets.{busy}
 use Rattle.link_sim.specs.OneWay.{OneWayState, zones_of, octets_sent, packets_sent, pdus_delivered, IsSent, IsReceived, IsOneWayOf, IsOneWay}
@@ -25,8 +25,7 @@ way_is l ps is = subst (λ qs. IsOneWayOf l qs) (sym (spells l ps is)) is
 
 -- nothing was sent yet
 pub new_way : (d : LinkSenderState) (u : LinkReceiverState) (link : LinkConfig) (capacity : ℕ) → IsLink link →
-    d ≡ record { link = link; capacity = capacity; waiting = []; first = 0; flushed = false; packet_count = 0; frame_count = 0 } → IsDown d [] 0 →
-    u ≡ record { link = link; last = None; begun = []; drops = replicate 11 0 } → IsUp u [] [] 0 →
+    d ≡ first_lane_down link capacity → IsDown d [] 0 → u ≡ first_lane_up link → IsUp u [] [] 0 →
     IsOneWayOf (record { down = d; up = u; frames = []; marks = []; run = 0 }) []
 new_way d u link capacity valid e down f up =
     record {

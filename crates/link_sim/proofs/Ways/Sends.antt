@@ -1,4 +1,4 @@
--- What a send and a flush do to a direction.
+-- What a send and a flush do to a lane.
 use Rattle.std.proofs.Common.{◌≡◌, ℕ, ◌≤◌, List, [], ◌∷◌, ◌++◌, ◌⊎◌, length, refl, sym, ap, subst, ◌∙◌, inl, inr, arith}
 use Rattle.std.proofs.lemmas.List.{append-nil}
 use Rattle.mpdu.specs.Stream.{stream}
@@ -23,10 +23,10 @@ sends_one l d q pdus is down waits link carries =
       delivered = none_delivered l d ps q is (last_whole ps q down.packed.packets_whole) packets;
     }
 
-pub sends : (l : OneWayState) (d : LinkSenderState) (pdu : List ℕ) → IsOneWay l → IsDown d (packets_sent l ++ packet_of l.down.link l.down.packet_count pdu ∷ []) (length l.frames) →
-    pdus_in (busy (packet_of l.down.link l.down.packet_count pdu ∷ [])) ≡ pdu ∷ [] → d.waiting ≡ l.down.waiting ++ packet_of l.down.link l.down.packet_count pdu → d.link ≡ l.down.link →
-    SendsMore l (record l { down = d }) (packet_of l.down.link l.down.packet_count pdu ∷ []) (pdu ∷ [])
-sends l d pdu is down one waits link = sends_one l d (packet_of l.down.link l.down.packet_count pdu) (pdu ∷ []) is down waits link one
+pub sends : (l : OneWayState) (d : LinkSenderState) (count : ℕ) (pdu : List ℕ) → IsOneWay l → IsDown d (packets_sent l ++ packet_of l.down.link count pdu ∷ []) (length l.frames) →
+    pdus_in (busy (packet_of l.down.link count pdu ∷ [])) ≡ pdu ∷ [] → d.waiting ≡ l.down.waiting ++ packet_of l.down.link count pdu → d.link ≡ l.down.link →
+    SendsMore l (record l { down = d }) (packet_of l.down.link count pdu ∷ []) (pdu ∷ [])
+sends l d count pdu is down one waits link = sends_one l d (packet_of l.down.link count pdu) (pdu ∷ []) is down waits link one
 
 -- a list of one item at most
 pub one_at_most : {A : Type 0} (xs : List A) → length xs ≤ 1 → (xs ≡ []) ⊎ ((x : A) × (xs ≡ x ∷ []))

@@ -1,5 +1,6 @@
 -- No event takes what is held and sent at either station out of its bounds.
 use Rattle.std.proofs.Common.{◌≡◌, ℕ, ◌≤◌, true, List, sym, ap, subst, inl, inr, arith}
+use Rattle.aos_frame.specs.declared.config.Lane.{Lane}
 use Rattle.cfdp_header.specs.declared.value.TransactionId.{TransactionId}
 use Rattle.cfdp_header.specs.Files.{FileMap}
 use Rattle.cfdp_directives.specs.Pdu.Codes.{size_limit}
@@ -63,8 +64,8 @@ module _ (old new : WorldState) (config : (t : Side) → IsConfig (entity_at t o
   served-within : (s : Side) (stored : Stored) → entity_at s new ≡ served stored (turn (entity_at s old)) (entity_at s old) → Within s new
   served-within s stored e = subst (λ (x : EntityState). AreWithin most_offset x.table.records) (sym e) (within-served most_offset limit stored (turn (entity_at s old)) (entity_at s old) (is s))
 
-  delivered-within : (s : Side) → DeliversFrame s old new → (t : Side) → Within t new
-  delivered-within s h = both (λ t. Within t new) s (kept s (ap (λ x. x.entity.state) h.station))
+  delivered-within : (s : Side) (l : Lane) → DeliversFrame s l old new → (t : Side) → Within t new
+  delivered-within s l h = both (λ t. Within t new) s (kept s (ap (λ x. x.entity.state) h.station))
       (within-hears-all most_offset limit h.given (station_at (other s) old).entity (station_at (other s) new).entity (is (other s)) h.heard)
 
   -- ---- any event
@@ -93,17 +94,17 @@ module _ (old new : WorldState) (config : (t : Side) → IsConfig (entity_at t o
   flush-by did.Nothing s h = same-within h.1
   flush-by (did.Refused by) s h = absurd h
 
-  deliver-by : (d : Applied) (s : Side) → Delivers d s old new → (t : Side) → Within t new
-  deliver-by did.Applied s h = delivered-within s h
-  deliver-by did.Nothing s h = same-within h.1
-  deliver-by (did.Refused by) s h = absurd h
+  deliver-by : (d : Applied) (s : Side) (l : Lane) → Delivers d s l old new → (t : Side) → Within t new
+  deliver-by did.Applied s l h = delivered-within s l h
+  deliver-by did.Nothing s l h = same-within h.1
+  deliver-by (did.Refused by) s l h = absurd h
 
-  strike-by : (d : Applied) (s : Side) → Strikes d s old new → (t : Side) → Within t new
-  strike-by did.Applied s h = one-within s h.spares (kept s (ap (λ x. x.entity.state) h.station))
-  strike-by did.Nothing s h = same-within h.1
-  strike-by (did.Refused (refusal.Put by)) s h = absurd h
-  strike-by (did.Refused (refusal.Call by)) s h = absurd h
-  strike-by (did.Refused refusal.LossRunTooLong) s h = same-within h.same
+  strike-by : (d : Applied) (s : Side) (l : Lane) → Strikes d s l old new → (t : Side) → Within t new
+  strike-by did.Applied s l h = one-within s h.spares (kept s (ap (λ x. x.entity.state) h.station))
+  strike-by did.Nothing s l h = same-within h.1
+  strike-by (did.Refused (refusal.Put by)) s l h = absurd h
+  strike-by (did.Refused (refusal.Call by)) s l h = absurd h
+  strike-by (did.Refused refusal.LossRunTooLong) s l h = same-within h.same
 
   pub event-within : (e : Event) (d : Applied) → Steps e d old new → (t : Side) → Within t new
   event-within (event.Put s source destination) d h = put-by d s source destination h
@@ -116,5 +117,5 @@ module _ (old new : WorldState) (config : (t : Side) → IsConfig (entity_at t o
   event-within (event.Tick s now) did.Applied h = told-within s now h
   event-within (event.Tick s now) did.Nothing h = absurd h
   event-within (event.Tick s now) (did.Refused by) h = absurd h
-  event-within (event.Deliver s) d h = deliver-by d s h
-  event-within (event.Strike s) d h = strike-by d s h
+  event-within (event.Deliver s l) d h = deliver-by d s l h
+  event-within (event.Strike s l) d h = strike-by d s l h

@@ -1,10 +1,13 @@
 -- What each event does to two stations and the frames between them.
-use Rattle.std.specs.Prelude.{◌≡◌, ◌≢◌, ◌⊎◌, ◌<◌, ◌≤◌, ℕ, ◌+◌, Bool, true, false, List, [], ◌∷◌, ◌++◌, length, slice_index_or, Some}
+use Rattle.std.specs.Prelude.{◌≡◌, ◌≢◌, ◌⊎◌, ◌<◌, ◌≤◌, ℕ, ◌+◌, ◌%◌, Bool, true, false, List, [], ◌∷◌, ◌++◌, length, slice_index_or, Some}
 use Rattle.cfd_bits.specs.Counting.{raised}
 use Rattle.cfdp_header.specs.declared.value.TransactionId.{TransactionId}
+use Rattle.aos_frame.specs.Frame.{other_lane}
+use Rattle.aos_frame.specs.declared.config.Lane.{Lane}
 use Rattle.mpdu.specs.Packing.{flush_of}
 use Rattle.link_stack.specs.Frames.{packet_of}
-use Rattle.link_stack.specs.Downward.{packing}
+use Rattle.link_stack.specs.Downward.{lane_down, packing}
+use Rattle.link_stack.specs.Upward.{lane_up}
 use Rattle.cfdp_store.specs.declared.stored.Stored.TheVariants as storeds
 use Rattle.cfdp_store.specs.Stores.{Counts}
 use Rattle.cfdp_entity.specs.declared.call.Call.{Call}
@@ -19,6 +22,7 @@ use Rattle.cfdp_entity.specs.Polling.{Place, Rests, turn, served}
 use Rattle.cfdp_entity.specs.Putting.{Accepts, IsPutRefusal, put_refusal, stored_by_error}
 use Rattle.cfdp_entity.specs.Sound.{SpellsTurn}
 use Rattle.cfdp_entity.specs.Table.{Ticks, data_at}
+use Rattle.cfdp_station.specs.Link.{next_lane}
 use Rattle.cfdp_station.specs.Polling.{next_pdu}
 use Rattle.cfdp_station.specs.Station.{KeepsLink}
 use Rattle.cfdp_station.specs.Taking.{GivesPdus, HearsAll}
@@ -32,7 +36,7 @@ use Rattle.link_sim.specs.FrameLink.{most_struck}
 use Rattle.link_sim.specs.AtStation.{KeepsFailures, KeepsOutbox, CountsPut}
 use Rattle.link_sim.specs.OneWay.{SendsMore, SendsNone, HearsMore}
 use Rattle.link_sim.specs.Stations.{other}
-use Rattle.link_sim.specs.World.State.{LinkState, WorldState, entity_at, link_from, station_at, way_from}
+use Rattle.link_sim.specs.World.State.{LinkState, WorldState, entity_at, lane_from, link_from, on_lane, station_at, way_from}
 
 -- ---- what stays
 -- The other station, and what it sent, are as they were.
@@ -57,9 +61,15 @@ pub record Stays (s : Side) (old new : WorldState) : Type 0 where
   pub links : KeepsLinks s old new
   pub counts : KeepsCounts old new
 
--- Less than a zone waits of what a station sent: every whole one is on the link, as a frame.
-abbrev pub NoneWhole : Side → WorldState → Type 0
-NoneWhole s w = length (station_at s w).down.waiting < (station_at s w).down.link.zone
+-- Less than a zone waits of what a station sent in a lane: every whole one is on the link, as a
+-- frame.
+abbrev pub NoneWhole : Side → Lane → WorldState → Type 0
+NoneWhole s l w = let down = lane_down l (station_at s w).down in
+    length down.waiting < down.link.zone
+
+-- The other lane of what a station sent is as it was, from end to end.
+abbrev pub KeepsOther : Side → Lane → (old new : WorldState) → Type 0
+KeepsOther s l old new = way_from s (other_lane l) new ≡ way_from s (other_lane l) old
 
 -- A call at this station found no memory: nothing changed.
 abbrev pub FindsNoMemory : Side → (old new : WorldState) → Type 0
@@ -127,24 +137,27 @@ pub record TellsTime (s : Side) (now : ℕ) (old new : WorldState) : Type 0 wher
   pub ticks : new.ticks ≡ raised old.ticks
 
 -- ---- what a station sends
--- The end that receives, the marks and the run are as they were: only what a station sent grew.
+-- The end that receives, the marks and the runs are as they were: only what a station sent grew.
 pub record KeepsMarks (s : Side) (old new : WorldState) : Type 0 where
   pub up : (station_at s new).up ≡ (station_at s old).up
-  pub marks : (link_from s new).marks ≡ (link_from s old).marks
-  pub run : (link_from s new).run ≡ (link_from s old).run
+  pub marks : (l : Lane) → (lane_from s l new).marks ≡ (lane_from s l old).marks
+  pub run : (l : Lane) → (lane_from s l new).run ≡ (lane_from s l old).run
   pub spares : Spares s old new
   pub counts : KeepsCounts old new
 
--- The PDU whose turn it was was taken, and its one packet is behind all that were sent.
+-- The PDU whose turn it was was taken, and its one packet is behind all that were sent in its lane.
 pub record SendsOne (s : Side) (old new : WorldState) : Type 0 where
   pub served : entity_at s new ≡ served storeds.Done (turn (entity_at s old)) (entity_at s old)
   pub spells : SpellsTurn (turn (entity_at s old)) (entity_at s old)
   pub failures : KeepsFailures (station_at s old).entity (station_at s new).entity
   pub sends : let down = (station_at s old).down in let pdu = next_pdu (entity_at s old) in
-      SendsMore (way_from s old) (way_from s new) (packet_of down.link down.packet_count pdu ∷ [])
-      (pdu ∷ [])
-  pub none_whole : NoneWhole s new
-  pub unflushed : (station_at s new).down.flushed ≡ false
+      let l = next_lane (entity_at s old) in SendsMore (way_from s l old) (way_from s l new)
+      (packet_of (lane_down l down).link down.packet_count pdu ∷ []) (pdu ∷ [])
+  pub packet_count : (station_at s new).down.packet_count
+      ≡ ((station_at s old).down.packet_count + 1) % 16384
+  pub other : KeepsOther s (next_lane (entity_at s old)) old new
+  pub none_whole : (l : Lane) → NoneWhole s l new
+  pub unflushed : (lane_down (next_lane (entity_at s old)) (station_at s new).down).flushed ≡ false
   pub marks : KeepsMarks s old new
 
 -- The outbox failed to give the file data that were due, and that was counted: no PDU moved.
@@ -164,79 +177,94 @@ Polls did.Applied s old new = SendsOne s old new ⊎ FailsSource s old new
 Polls did.Nothing s old new = (turn (entity_at s old) ≡ Rests) × (new ≡ old)
 Polls (did.Refused by) s old new = ⊥
 
--- The begun frame was filled by at most one idle packet, and left.
+-- what a flush adds to a lane
+abbrev pub filling : Side → Lane → WorldState → List (List ℕ)
+filling s l w = flush_of (packing (lane_down l (station_at s w).down))
+
+-- The begun frame of each lane was filled by at most one idle packet, and left. Where none was
+-- begun the lane is as it was.
 pub record Fills (s : Side) (old new : WorldState) : Type 0 where
   pub entity : (station_at s new).entity ≡ (station_at s old).entity
-  pub sends : SendsMore (way_from s old) (way_from s new)
-      (flush_of (packing (station_at s old).down)) []
-  pub most : length (flush_of (packing (station_at s old).down)) ≤ 1
-  pub none_whole : NoneWhole s new
-  pub flushed : flush_of (packing (station_at s old).down) ≡ []
-      → (station_at s new).down.flushed ≡ (station_at s old).down.flushed
+  pub sends : (l : Lane) → SendsMore (way_from s l old) (way_from s l new) (filling s l old) []
+  pub most : (l : Lane) → length (filling s l old) ≤ 1
+  pub packet_count : (station_at s new).down.packet_count ≡ (station_at s old).down.packet_count
+  pub same : (l : Lane) → filling s l old ≡ [] → way_from s l new ≡ way_from s l old
+  pub none_whole : (l : Lane) → NoneWhole s l new
   pub marks : KeepsMarks s old new
 
+-- A frame more is on the link, in one lane at least.
+abbrev pub HasFrame : Side → (old new : WorldState) → Type 0
+HasFrame s old new =
+    (l : Lane) × (length (lane_from s l old).frames < length (lane_from s l new).frames)
+
 abbrev pub Flushes : Applied → Side → (old new : WorldState) → Type 0
-Flushes did.Applied s old new = Fills s old new
-    × (length (link_from s old).frames < length (link_from s new).frames)
-Flushes did.Nothing s old new =
-    (flush_of (packing (station_at s old).down) ≡ []) × (new ≡ old)
+Flushes did.Applied s old new = Fills s old new × HasFrame s old new
+Flushes did.Nothing s old new = ((l : Lane) → filling s l old ≡ []) × (new ≡ old)
 Flushes (did.Refused by) s old new = ⊥
 
 -- ---- frames that arrive or are lost
--- No frame waits of what a station sent.
-abbrev pub NoneWaits : Side → WorldState → Type 0
-NoneWaits s w = length (link_from s w).frames ≤ length (link_from s w).marks
+-- No frame waits of what a station sent in a lane.
+abbrev pub NoneWaits : Side → Lane → WorldState → Type 0
+NoneWaits s l w = length (lane_from s l w).frames ≤ length (lane_from s l w).marks
 
--- the link once its oldest waiting frame was taken
+-- The other lane of what a station sent has the same frames, marks and run.
+abbrev pub KeepsOtherLink : Side → Lane → (old new : WorldState) → Type 0
+KeepsOtherLink s l old new = lane_from s (other_lane l) new ≡ lane_from s (other_lane l) old
+
+-- a lane once its oldest waiting frame was taken
 abbrev pub marked : Bool → ℕ → LinkState → LinkState
 marked mark run k = record k { marks = k.marks ++ mark ∷ []; run = run }
 
--- the oldest frame that waits on a link
+-- the oldest frame that waits in a lane
 abbrev pub oldest_of : LinkState → List ℕ
 oldest_of k = slice_index_or k.frames (length k.marks) []
 
--- The oldest waiting frame reached the other station, whose receiving end took it and gave the PDUs
--- that came up, and whose entity heard these in order.
-pub record DeliversFrame (s : Side) (old new : WorldState) : Type 0 where
-  pub waits : length (link_from s old).marks < length (link_from s old).frames
-  pub link : link_from s new ≡ marked true 0 (link_from s old)
+-- The oldest waiting frame of a lane reached the other station, whose receiving end of that lane
+-- took it and gave the PDUs that came up, and whose entity heard these in order.
+pub record DeliversFrame (s : Side) (l : Lane) (old new : WorldState) : Type 0 where
+  pub waits : length (lane_from s l old).marks < length (lane_from s l old).frames
+  pub link : lane_from s l new ≡ marked true 0 (lane_from s l old)
   pub given : List (List ℕ)
-  pub gives : GivesPdus (oldest_of (link_from s old)) (station_at (other s) old).up
-      (station_at (other s) new).up given
-  pub hears : HearsMore (way_from s old) (way_from s new) given
+  pub gives : GivesPdus (oldest_of (lane_from s l old)) (lane_up l (station_at (other s) old).up)
+      (lane_up l (station_at (other s) new).up) given
+  pub hears : HearsMore (way_from s l old) (way_from s l new) given
   pub heard : HearsAll given (station_at (other s) old).entity (station_at (other s) new).entity
+  pub other_up : lane_up (other_lane l) (station_at (other s) new).up
+      ≡ lane_up (other_lane l) (station_at (other s) old).up
+  pub other_link : KeepsOtherLink s l old new
   pub down : (station_at (other s) new).down ≡ (station_at (other s) old).down
   pub station : station_at s new ≡ station_at s old
   pub back : link_from (other s) new ≡ link_from (other s) old
   pub counts : KeepsCounts old new
 
-abbrev pub Delivers : Applied → Side → (old new : WorldState) → Type 0
-Delivers did.Applied s old new = DeliversFrame s old new
-Delivers did.Nothing s old new = NoneWaits s old × (new ≡ old)
-Delivers (did.Refused by) s old new = ⊥
+abbrev pub Delivers : Applied → Side → Lane → (old new : WorldState) → Type 0
+Delivers did.Applied s l old new = DeliversFrame s l old new
+Delivers did.Nothing s l old new = NoneWaits s l old × (new ≡ old)
+Delivers (did.Refused by) s l old new = ⊥
 
--- The oldest waiting frame was lost.
-pub record StrikesFrame (s : Side) (old new : WorldState) : Type 0 where
-  pub waits : length (link_from s old).marks < length (link_from s old).frames
-  pub few : (link_from s old).run < most_struck
-  pub link : link_from s new ≡ marked false ((link_from s old).run + 1) (link_from s old)
-  pub sends : SendsNone (way_from s old) (way_from s new)
+-- The oldest waiting frame of a lane was lost.
+pub record StrikesFrame (s : Side) (l : Lane) (old new : WorldState) : Type 0 where
+  pub waits : length (lane_from s l old).marks < length (lane_from s l old).frames
+  pub few : (lane_from s l old).run < most_struck
+  pub link : lane_from s l new ≡ marked false ((lane_from s l old).run + 1) (lane_from s l old)
+  pub sends : SendsNone (way_from s l old) (way_from s l new)
+  pub other_link : KeepsOtherLink s l old new
   pub station : station_at s new ≡ station_at s old
   pub spares : Spares s old new
   pub counts : KeepsCounts old new
 
--- One more loss in a row would be taken for none.
-pub record IsTooLong (s : Side) (old new : WorldState) : Type 0 where
-  pub waits : length (link_from s old).marks < length (link_from s old).frames
-  pub run : (link_from s old).run ≡ most_struck
+-- One more loss in a row of this lane would be taken for none.
+pub record IsTooLong (s : Side) (l : Lane) (old new : WorldState) : Type 0 where
+  pub waits : length (lane_from s l old).marks < length (lane_from s l old).frames
+  pub run : (lane_from s l old).run ≡ most_struck
   pub same : new ≡ old
 
-abbrev pub Strikes : Applied → Side → (old new : WorldState) → Type 0
-Strikes did.Applied s old new = StrikesFrame s old new
-Strikes did.Nothing s old new = NoneWaits s old × (new ≡ old)
-Strikes (did.Refused (refusal.Put by)) s old new = ⊥
-Strikes (did.Refused (refusal.Call by)) s old new = ⊥
-Strikes (did.Refused refusal.LossRunTooLong) s old new = IsTooLong s old new
+abbrev pub Strikes : Applied → Side → Lane → (old new : WorldState) → Type 0
+Strikes did.Applied s l old new = StrikesFrame s l old new
+Strikes did.Nothing s l old new = NoneWaits s l old × (new ≡ old)
+Strikes (did.Refused (refusal.Put by)) s l old new = ⊥
+Strikes (did.Refused (refusal.Call by)) s l old new = ⊥
+Strikes (did.Refused refusal.LossRunTooLong) s l old new = IsTooLong s l old new
 
 -- ---- all events
 abbrev pub IsApplied : Applied → Type 0 → Type 0
@@ -253,8 +281,8 @@ Steps (event.Prompt s id keep_alive) did old new = Calls did s (calls.Prompt kee
 Steps (event.Poll s) did old new = Polls did s old new
 Steps (event.Flush s) did old new = Flushes did s old new
 Steps (event.Tick s now) did old new = IsApplied did (TellsTime s now old new)
-Steps (event.Deliver s) did old new = Delivers did s old new
-Steps (event.Strike s) did old new = Strikes did s old new
+Steps (event.Deliver s l) did old new = Delivers did s l old new
+Steps (event.Strike s l) did old new = Strikes did s l old new
 
 -- the station that an event is about
 abbrev pub side_in : Event → Side
@@ -266,16 +294,16 @@ side_in (event.Prompt s id keep_alive) = s
 side_in (event.Poll s) = s
 side_in (event.Flush s) = s
 side_in (event.Tick s now) = s
-side_in (event.Deliver s) = s
-side_in (event.Strike s) = s
+side_in (event.Deliver s l) = s
+side_in (event.Strike s l) = s
 
 -- The event needs memory: to take a frame off the link needs none.
 abbrev pub WantsMemory : Event → Type 0
-WantsMemory (event.Deliver s) = ⊥
-WantsMemory (event.Strike s) = ⊥
+WantsMemory (event.Deliver s l) = ⊥
+WantsMemory (event.Strike s l) = ⊥
 WantsMemory _ = Unit {0}
 
 -- The event may publish a file at this station: a frame of the other one reaches it.
 abbrev pub PublishesAt : Side → Event → Type 0
-PublishesAt s (event.Deliver from) = s ≡ other from
+PublishesAt s (event.Deliver from l) = s ≡ other from
 PublishesAt s _ = ⊥

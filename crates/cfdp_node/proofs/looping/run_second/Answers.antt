@@ -1,5 +1,7 @@
-use Rattle.std.proofs.Common.{refl}
+use Rattle.std.proofs.Common.{ap, arith, length, refl, sym, ◌+◌, ◌∙◌}
 use Rattle.std.specs.FinMap.{empty}
+use Rattle.aos_frame.specs.declared.config.Lane.TheVariants.{Directives}
+use Rattle.cfdp_node.proofs.TurnLemmas.{first_fits}
 use Rattle.cfdp_node.proofs.LoopLemmas.{first_over, from_both}
 use Rattle.cfdp_node.proofs.looping.run_second.Goals as goal
 
@@ -13,3 +15,12 @@ returns-in-Ok-new g c =
     (g.V.Write.contents c.args.out.now) (g.V.Write.contents c.run_both-exit.new.out)
     c.args.one.now c.in-Ok-new.two c.args.config published c.in-Ok.turning.losses.every c.in-Ok.turning.losses.left
     c.in-Ok.ensures.losses.0 c.in-Ok.ensures.losses.1 first c.run_both-exit.ensures
+
+pub run_both-exit-requires-clause-one : goal.run_both-exit-requires-clause-one
+run_both-exit-requires-clause-one g c = (c.requires.least, c.in-Ok.ensures.frame ∙ c.frame_len.ensures Directives)
+
+pub run_both-exit-requires-clause-two : goal.run_both-exit-requires-clause-two
+run_both-exit-requires-clause-two g c =
+    first_fits (length c.in-Ok.turning.frame.items) c.args.config.down c.args.config.capacity c.in-Ok-new.two.down c.in-Ok-new.ensures.down
+    (let some = c.requires.least.0 in let same = c.requires.zone in omega (arith, some, same))
+    (c.in-Ok.ensures.frame ∙ c.frame_len.ensures Directives ∙ ap (λ n. 8 + n) (sym c.requires.zone))

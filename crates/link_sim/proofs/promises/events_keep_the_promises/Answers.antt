@@ -47,13 +47,13 @@ returns-clause-keeps c e did old new sound h =
           c.an_entity_sends_the_truth.ensures;
     } in
     let m : Moves old new = event-moves laws old new sound e did h in
-    let grounds : Grounds = record { in_whole = c.a_part_has_no_more.ensures; more = kept.more } in
+    let grounds : Grounds = record { in_whole = c.a_part_has_no_more.ensures; more = kept.more; among = kept.among } in
     sound-next grounds old new sound m.sides m.puts (event-within old new (λ t. (sound t).entity.config) (λ t. (sound t).within) e did h)
 
 pub returns-clause-stays : goal.returns-clause-stays
 returns-clause-stays c s old new sound h =
     let m : Moves old new = stays-moves s old new sound h in
-    let grounds : Grounds = record { in_whole = c.a_part_has_no_more.ensures; more = c.an_entity_keeps_the_truth.ensures.more } in
+    let grounds : Grounds = record { in_whole = c.a_part_has_no_more.ensures; more = c.an_entity_keeps_the_truth.ensures.more; among = c.an_entity_keeps_the_truth.ensures.among } in
     sound-next grounds old new sound m.sides m.puts (stays-within old new (λ t. (sound t).entity.config) (λ t. (sound t).within) s h)
 
 pub returns-clause-puts : goal.returns-clause-puts
@@ -104,18 +104,18 @@ returns-clause-folds c e did old new t sound h =
           c.an_entity_sends_the_truth.ensures;
     } in
     let m : Moves old new = event-moves laws old new sound e did h in
-    let grounds : Grounds = record { in_whole = c.a_part_has_no_more.ensures; more = kept.more } in
+    let grounds : Grounds = record { in_whole = c.a_part_has_no_more.ensures; more = kept.more; among = kept.among } in
     folds-next grounds old new sound m.sides m.puts t
 
 pub returns-clause-folds_none : goal.returns-clause-folds_none
 returns-clause-folds_none c s old new t sound h =
     let m : Moves old new = stays-moves s old new sound h in
-    let grounds : Grounds = record { in_whole = c.a_part_has_no_more.ensures; more = c.an_entity_keeps_the_truth.ensures.more } in
+    let grounds : Grounds = record { in_whole = c.a_part_has_no_more.ensures; more = c.an_entity_keeps_the_truth.ensures.more; among = c.an_entity_keeps_the_truth.ensures.among } in
     folds-next grounds old new sound m.sides m.puts t
 
 pub returns-clause-holds : goal.returns-clause-holds
 returns-clause-holds c w s sound =
-    let grounds : Grounds = record { in_whole = c.a_part_has_no_more.ensures; more = c.an_entity_keeps_the_truth.ensures.more } in
+    let grounds : Grounds = record { in_whole = c.a_part_has_no_more.ensures; more = c.an_entity_keeps_the_truth.ensures.more; among = c.an_entity_keeps_the_truth.ensures.among } in
     holds grounds w sound s
 
 pub returns-clause-less : goal.returns-clause-less
@@ -146,7 +146,7 @@ returns-clause-puts_kept c e did old new sound k h =
       sends =
           c.an_entity_sends_the_truth.ensures;
     } in
-    let grounds : Grounds = record { in_whole = c.a_part_has_no_more.ensures; more = kept.more } in
+    let grounds : Grounds = record { in_whole = c.a_part_has_no_more.ensures; more = kept.more; among = kept.among } in
     record {
       course = steps-courses laws grounds c.records_stay_for_good.ensures.steps old new sound e did h k.course;
       found = steps-found laws old new sound e did h k.found;
@@ -174,7 +174,7 @@ returns-clause-puts_rest c s old new sound k h =
       sends =
           c.an_entity_sends_the_truth.ensures;
     } in
-    let grounds : Grounds = record { in_whole = c.a_part_has_no_more.ensures; more = kept.more } in
+    let grounds : Grounds = record { in_whole = c.a_part_has_no_more.ensures; more = kept.more; among = kept.among } in
     record {
       course = stays-courses laws grounds c.records_stay_for_good.ensures.steps old new sound s h k.course;
       found = stays-found s old new sound h k.found;
@@ -208,7 +208,7 @@ returns-clause-clean c e old new sound k of_it h spared clean =
       sends =
           c.an_entity_sends_the_truth.ensures;
     } in
-    let grounds : Grounds = record { in_whole = c.a_part_has_no_more.ensures; more = kept.more } in
+    let grounds : Grounds = record { in_whole = c.a_part_has_no_more.ensures; more = kept.more; among = kept.among } in
     let hearing : HearingLaws = record { faultless = c.a_true_file_raises_no_fault.ensures.none; opened = c.what_is_heard_true_is_kept_true.ensures.opened } in
     let all : CleanLaws = record { entity = laws; grounds = grounds; hearing = hearing; stays = c.records_stay_for_good.ensures.steps } in
     settles-clean all e old new of_it h sound k.course (λ t. (sound t).within) (spared-at old new spared) clean
@@ -238,7 +238,7 @@ returns-clause-full c e did old new sound k h =
       sends =
           c.an_entity_sends_the_truth.ensures;
     } in
-    let grounds : Grounds = record { in_whole = c.a_part_has_no_more.ensures; more = kept.more } in
+    let grounds : Grounds = record { in_whole = c.a_part_has_no_more.ensures; more = kept.more; among = kept.among } in
     event-full c.records_stay_for_good.ensures.steps old new sound k.course (steps-courses laws grounds c.records_stay_for_good.ensures.steps old new sound e did h k.course) e did h
 
 pub returns-clause-full_none : goal.returns-clause-full_none
@@ -266,7 +266,7 @@ returns-clause-runs c e old new sound k of_it h spared =
       sends =
           c.an_entity_sends_the_truth.ensures;
     } in
-    let grounds : Grounds = record { in_whole = c.a_part_has_no_more.ensures; more = kept.more } in
+    let grounds : Grounds = record { in_whole = c.a_part_has_no_more.ensures; more = kept.more; among = kept.among } in
     let hearing : HearingLaws = record { faultless = c.a_true_file_raises_no_fault.ensures.none; opened = c.what_is_heard_true_is_kept_true.ensures.opened } in
     let all : CleanLaws = record { entity = laws; grounds = grounds; hearing = hearing; stays = c.records_stay_for_good.ensures.steps } in
     let m : Moves old new = event-moves laws old new sound e dids.Applied h in

@@ -1,11 +1,10 @@
 use Rattle.std.proofs.Common.{◌≡◌, ◌∙◌, refl, inl, inr, subst, sym}
 use Rattle.link_sim.specs.EveryPut.{KeepsPuts}
 use Rattle.link_sim.specs.Observed.{seen}
-use Rattle.link_sim.specs.OneWay.{IsRested}
 use Rattle.link_sim.specs.Running.{AreApart, Goes, KeepsPromises}
 use Rattle.link_sim.specs.Sound.{IsSound}
 use Rattle.link_sim.specs.Theorem.{Follows}
-use Rattle.link_sim.specs.World.State.{WorldState, entity_at, files_at, way_from}
+use Rattle.link_sim.specs.World.State.{WorldState, AreRested, entity_at, files_at}
 use Rattle.link_sim.specs.declared.side.Side.{Side}
 use Rattle.link_sim.proofs.Ways.First.{first-rests, first-ways}
 use Rattle.link_sim.proofs.Events.Folding.{inbox-follows}
@@ -53,7 +52,7 @@ returns-clause-completes c config outboxes inboxes first now valid is led settle
     c.events_keep_the_promises.ensures.completes now k.0 k.1 k.2 settled clean
   where
     Kept : WorldState → Type 0
-    Kept w = IsSound w × KeepsPuts w × ((s : Side) → IsRested (way_from s w))
+    Kept w = IsSound w × KeepsPuts w × ((s : Side) → AreRested s w)
 
     sound-first : IsSound first
     sound-first = c.events_keep_the_promises.ensures.first config outboxes inboxes first valid is (first-ways config outboxes inboxes first valid is)

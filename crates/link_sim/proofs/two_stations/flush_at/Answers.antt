@@ -1,61 +1,83 @@
-use Rattle.std.proofs.Common.{◌≡◌, ◌<◌, [], length, sym, ap, subst, ◌∙◌, inl, inr, arith}
+use Rattle.std.proofs.Common.{◌≡◌, ◌⊎◌, ◌<◌, ◌≤◌, [], length, ap, ◌∙◌, inl, inr, arith}
+use Rattle.aos_frame.specs.declared.config.Lane.{Lane}
+use Rattle.aos_frame.specs.declared.config.Lane.TheVariants.{Directives, Data}
 use Rattle.mpdu.specs.Packing.{flush_of}
-use Rattle.link_stack.specs.Downward.{packing}
+use Rattle.link_stack.specs.Downward.{DownState, lane_down, packing}
 use Rattle.link_stack.specs.Upward.{LinkReceiverState}
-use Rattle.link_sim.specs.FrameLink.{FrameLinkState}
-use Rattle.link_sim.specs.AtStation.{IsSameLink}
+use Rattle.cfdp_station.specs.Station.{StationState}
+use Rattle.link_sim.specs.FrameLink.{FrameLinksState, lane_of_links}
 use Rattle.link_sim.specs.OneWay.{IsCarried}
-use Rattle.link_sim.proofs.Events.AtStations.{filled_on, flushed_none}
+use Rattle.link_sim.proofs.Events.AtStations.{filled_all, none_filled, same_down, stays_all}
+use Rattle.link_sim.proofs.Lanes.Each.{each-lane}
 use Rattle.link_sim.proofs.two_stations.flush_at.Goals as goal
 
-pub returns-then-before-count-clause-flushes : goal.returns-then-before-count-clause-flushes
-returns-then-before-count-clause-flushes g c =
-    let old = c.args.station.now in
+pub returns-then-has_more-clause-flushes : goal.returns-then-has_more-clause-flushes
+returns-then-has_more-clause-flushes g c =
+    let old : StationState = c.args.station.now in
+    let mid : StationState = c.flush.new.self in
+    let new : StationState = c.pull_all.new.station in
+    let links : FrameLinksState = c.args.links.now in
+    let room : FrameLinksState = c.make_room.new.links in
+    let links_now : FrameLinksState = c.pull_all.new.links in
+    let kept = c.in_ok-make_room.ensures.kept in
     let e = c.flush.ensures in
     let p = c.pull_all.ensures in
-    let before : c.count-before.result ≡ length c.args.link.now.frames = c.count-before.ensures ∙ ap length c.in_ok-make_room.ensures.kept.0 in
-    let after : c.count.result ≡ length c.pull_all.new.link.frames = c.count.ensures in
+    let before_d : c.count_in-directives.result ≡ length (lane_of_links Directives room).frames = c.count_in-directives.ensures in
+    let before_f : c.count_in-file_data.result ≡ length (lane_of_links Data room).frames = c.count_in-file_data.ensures in
+    let more : (c.count_in-directives.result < length links_now.directives.frames) ⊎ (c.count_in-file_data.result < length links_now.file_data.frames) =
+    c.has_more.ensures.more c.if-has_more.true in
     record {
       entity = p.rest.0 ∙ e.rest.0;
-      sends = λ (up : LinkReceiverState) (is : IsCarried old.down c.args.link.now up).
-          (filled_on old.down c.flush.new.self.down c.pull_all.new.station.down c.args.link.now c.make_room.new.self c.pull_all.new.link up is
-          c.in_ok-make_room.ensures.kept e.flushed p.way p.fixed p.marks p.all).1;
-      most = e.flushed.one;
-      none_whole = (let zone = ap (λ x. x.zone) p.fixed.0 in omega (arith, p.all, zone));
-      flushed = λ (x : flush_of (packing old.down) ≡ []). p.fixed.3 ∙ ap (λ y. y.flushed) (e.flushed.same x);
-      more = omega (arith, before, after, c.if-before-count.true);
+      lanes = λ (l : Lane). record {
+        sends = λ (up : LinkReceiverState) (is : IsCarried (lane_down l old.down) (lane_of_links l links) up).
+            (filled_all (lane_down l old.down) (lane_down l mid.down) (lane_down l new.down) (lane_of_links l links) (lane_of_links l room) (lane_of_links l links_now) up is (kept l)
+            (e.flushed.lanes l) (p.lanes l)).1;
+        most = (e.flushed.lanes l).one;
+        same = λ (none : flush_of (packing (lane_down l old.down)) ≡ []).
+            let stays = stays_all (lane_down l old.down) (lane_down l mid.down) (lane_down l new.down) (lane_of_links l links) (lane_of_links l room) (lane_of_links l links_now)
+            ((e.flushed.lanes l).same none) (c.requires.ready l).none_waits (kept l) (p.lanes l) in
+            record { down = stays.0; link = stays.1 };
+        none_whole = (p.lanes l).none_whole;
+      };
+      packet_count = p.packet_count ∙ e.flushed.packet_count;
+      more = elim more [
+        | inl d ↦ (Directives, omega (arith, d, before_d, ap length (kept Directives).0))
+        | inr f ↦ (Data, omega (arith, f, before_f, ap length (kept Data).0))
+      ];
     }
 
-pub returns-then-before-count-clause-carried : goal.returns-then-before-count-clause-carried
-returns-then-before-count-clause-carried g c up is =
-    let p = c.pull_all.ensures in
-    (filled_on c.args.station.now.down c.flush.new.self.down c.pull_all.new.station.down c.args.link.now c.make_room.new.self c.pull_all.new.link up is
-    c.in_ok-make_room.ensures.kept c.flush.ensures.flushed p.way p.fixed p.marks p.all).0
+pub returns-then-has_more-clause-carried : goal.returns-then-has_more-clause-carried
+returns-then-has_more-clause-carried g c l up is =
+    (filled_all (lane_down l c.args.station.now.down) (lane_down l c.flush.new.self.down) (lane_down l c.pull_all.new.station.down) (lane_of_links l c.args.links.now)
+    (lane_of_links l c.make_room.new.links) (lane_of_links l c.pull_all.new.links) up is (c.in_ok-make_room.ensures.kept l) (c.flush.ensures.flushed.lanes l) (c.pull_all.ensures.lanes l)).0
 
-pub returns-else-before-count-clause-flushes : goal.returns-else-before-count-clause-flushes
-returns-else-before-count-clause-flushes g c =
-    let old = c.args.station.now in
+pub returns-else-has_more-clause-flushes : goal.returns-else-has_more-clause-flushes
+returns-else-has_more-clause-flushes g c =
+    let old : StationState = c.args.station.now in
+    let mid : StationState = c.flush.new.self in
+    let new : StationState = c.pull_all.new.station in
+    let links : FrameLinksState = c.args.links.now in
+    let room : FrameLinksState = c.make_room.new.links in
+    let links_now : FrameLinksState = c.pull_all.new.links in
+    let kept = c.in_ok-make_room.ensures.kept in
     let e = c.flush.ensures in
     let p = c.pull_all.ensures in
-    let kept = c.in_ok-make_room.ensures.kept in
-    let now = c.pull_all.new.station in
-    let before : c.count-before.result ≡ length c.make_room.new.self.frames = c.count-before.ensures in
-    let after : c.count.result ≡ length c.pull_all.new.link.frames = c.count.ensures in
-    let same : (now ≡ c.flush.new.self) × (c.pull_all.new.link ≡ c.make_room.new.self) = elim p.made [
-      | inl s ↦ s
-      | inr m ↦ absurd (omega (arith, before, after, m.1, c.if-before-count.false))
-    ] in
-    let zone : c.flush.new.self.down.link.zone ≡ old.down.link.zone = ap (λ x. x.zone) e.flushed.fixed.0 in
-    let waits : length c.flush.new.self.down.waiting < old.down.link.zone = omega (arith, p.all, zone, ap (λ s. length s.down.waiting) same.0) in
-    let none : flush_of (packing old.down) ≡ [] = flushed_none old.down c.flush.new.self.down e.flushed waits in
-    let flushed : c.flush.new.self ≡ old =
-    ap (λ x. record { entity = x; down = c.flush.new.self.down; up = c.flush.new.self.up }) e.rest.0
-    ∙ ap (λ x. record { entity = old.entity; down = x; up = c.flush.new.self.up }) (e.flushed.same none)
-    ∙ ap (λ x. record { entity = old.entity; down = old.down; up = x }) e.rest.1 in
-    (none, (same.0 ∙ flushed, subst (λ (x : FrameLinkState). IsSameLink c.args.link.now x) (sym same.1) kept))
+    let before_d : c.count_in-directives.result ≡ length (lane_of_links Directives room).frames = c.count_in-directives.ensures in
+    let before_f : c.count_in-file_data.result ≡ length (lane_of_links Data room).frames = c.count_in-file_data.ensures in
+    let few : (length links_now.directives.frames ≤ c.count_in-directives.result) × (length links_now.file_data.frames ≤ c.count_in-file_data.result) =
+    c.has_more.ensures.none c.if-has_more.false in
+    let fewer : (l : Lane) → length (lane_of_links l links_now).frames ≤ length (lane_of_links l room).frames =
+    each-lane (λ (l : Lane). length (lane_of_links l links_now).frames ≤ length (lane_of_links l room).frames)
+    (omega (arith, few.0, before_d)) (omega (arith, few.1, before_f)) in
+    let all = λ (l : Lane).
+    none_filled (lane_down l old.down) (lane_down l mid.down) (lane_down l new.down) (lane_of_links l links) (lane_of_links l room) (lane_of_links l links_now) (kept l)
+    (e.flushed.lanes l) (p.lanes l) (fewer l) in
+    let down : new.down ≡ old.down = same_down old.down new.down (λ l. (all l).1) (p.packet_count ∙ e.flushed.packet_count) in
+    let same : new ≡ old = ap (λ x. record { entity = x; down = new.down; up = new.up }) (p.rest.0 ∙ e.rest.0)
+    ∙ ap (λ (x : DownState). record { entity = old.entity; down = x; up = new.up }) down ∙ ap (λ x. record { entity = old.entity; down = old.down; up = x }) (p.rest.1 ∙ e.rest.1) in
+    (λ l. (all l).0, (same, λ l. (all l).2))
 
-pub returns-else-before-count-clause-carried : goal.returns-else-before-count-clause-carried
-returns-else-before-count-clause-carried g c up is =
-    let p = c.pull_all.ensures in
-    (filled_on c.args.station.now.down c.flush.new.self.down c.pull_all.new.station.down c.args.link.now c.make_room.new.self c.pull_all.new.link up is
-    c.in_ok-make_room.ensures.kept c.flush.ensures.flushed p.way p.fixed p.marks p.all).0
+pub returns-else-has_more-clause-carried : goal.returns-else-has_more-clause-carried
+returns-else-has_more-clause-carried g c l up is =
+    (filled_all (lane_down l c.args.station.now.down) (lane_down l c.flush.new.self.down) (lane_down l c.pull_all.new.station.down) (lane_of_links l c.args.links.now)
+    (lane_of_links l c.make_room.new.links) (lane_of_links l c.pull_all.new.links) up is (c.in_ok-make_room.ensures.kept l) (c.flush.ensures.flushed.lanes l) (c.pull_all.ensures.lanes l)).0

@@ -1,39 +1,76 @@
-use Rattle.std.proofs.Common.{◌≡◌, ℕ, List, ap, subst, ◌∙◌, inl, arith}
+use Rattle.std.proofs.Common.{◌≡◌, ℕ, List, ap, subst, ◌∙◌, inl}
+use Rattle.aos_frame.specs.Frame.{other_lane}
+use Rattle.aos_frame.specs.declared.config.Lane.{Lane}
+use Rattle.link_stack.specs.Downward.{lane_down}
 use Rattle.link_stack.specs.Upward.{LinkReceiverState}
 use Rattle.cfdp_entity.specs.Gives.{CountsOutbox}
+use Rattle.cfdp_station.specs.Link.{next_lane}
+use Rattle.cfdp_station.specs.Station.{StationState}
 use Rattle.cfdp_station.specs.declared.polled.Polled.{Polled}
 use Rattle.cfdp_station.specs.declared.polled.Polled.TheVariants.{Moved}
 use Rattle.cfdp_station.specs.Polling.{next_pdu, Polls, stored_by_poll}
+use Rattle.link_sim.specs.FrameLink.{FrameLinksState, lane_of_links}
+use Rattle.link_sim.specs.AtStation.{CarriesOn, IsSameLink}
 use Rattle.link_sim.specs.OneWay.{IsCarried}
-use Rattle.link_sim.proofs.Events.AtStations.{moved_on}
+use Rattle.link_sim.proofs.Events.AtStations.{carried_same, moved_all, stays_all}
+use Rattle.link_sim.proofs.Lanes.Each.{either-lane}
 use Rattle.link_sim.proofs.two_stations.poll_at.Goals as goal
 
 pub returns-in-Moved-clause-polls : goal.returns-in-Moved-clause-polls
 returns-in-Moved-clause-polls g c =
-    let old = c.args.station.now in
+    let old : StationState = c.args.station.now in
+    let mid : StationState = c.poll.new.self in
+    let new : StationState = c.pull_all.new.station in
+    let links : FrameLinksState = c.args.links.now in
+    let room : FrameLinksState = c.make_room.new.links in
+    let links_now : FrameLinksState = c.pull_all.new.links in
+    let kept = c.in_ok-make_room.ensures.kept in
     let e = c.in_ok-poll.ensures in
     let p = c.pull_all.ensures in
+    let l : Lane = next_lane old.entity.state in
+    let o : Lane = other_lane l in
     let pdu : List ℕ = next_pdu old.entity.state in
-    let polled : Polls Moved old c.poll.new.self = subst (λ (a : Polled). Polls a old c.poll.new.self) c.in-Moved.is e.polled in
+    let polled : Polls Moved old mid = subst (λ (a : Polled). Polls a old mid) c.in-Moved.is e.polled in
     let moved = polled.0 in
+    let stays = stays_all (lane_down o old.down) (lane_down o mid.down) (lane_down o new.down) (lane_of_links o links) (lane_of_links o room) (lane_of_links o links_now) moved.other
+    (c.requires.ready o).none_waits (kept o) (p.lanes o) in
     inl (record {
-      served = (let same : c.pull_all.new.station.entity.state ≡ c.poll.new.self.entity.state = (ap (λ x. x.state) p.rest.0) in same ∙ moved.served);
+      served = (let same : new.entity.state ≡ mid.entity.state = (ap (λ x. x.state) p.rest.0) in same ∙ moved.served);
       spells = e.spells c.in-Moved.is;
       failures = (
-        ap (λ x. x.outbox_failures) p.rest.0 ∙ subst (λ (a : Polled). CountsOutbox (stored_by_poll a) old.entity.outbox_failures c.poll.new.self.entity.outbox_failures) c.in-Moved.is e.counts,
+        ap (λ x. x.outbox_failures) p.rest.0 ∙ subst (λ (a : Polled). CountsOutbox (stored_by_poll a) old.entity.outbox_failures mid.entity.outbox_failures) c.in-Moved.is e.counts,
         ap (λ x. x.inbox_failures) p.rest.0 ∙ e.inbox,
       );
-      sends = λ (up : LinkReceiverState) (is : IsCarried old.down c.args.link.now up).
-          (moved_on old.down c.poll.new.self.down c.pull_all.new.station.down c.args.link.now c.make_room.new.self c.pull_all.new.link up pdu is
-          c.in_ok-make_room.ensures.kept moved.sent p.way p.fixed p.marks p.all).1;
-      none_whole = (let zone = ap (λ x. x.zone) p.fixed.0 in omega (arith, p.all, zone));
-      unflushed = p.fixed.3 ∙ moved.sent.unflushed;
+      sends = λ (up : LinkReceiverState) (is : IsCarried (lane_down l old.down) (lane_of_links l links) up).
+          (moved_all (lane_down l old.down) (lane_down l mid.down) (lane_down l new.down) (lane_of_links l links) (lane_of_links l room) (lane_of_links l links_now) up pdu
+          old.down.packet_count is (kept l) moved.sent (p.lanes l)).1;
+      packet_count = p.packet_count ∙ moved.packet_count;
+      other = record { down = stays.0; link = stays.1 };
+      none_whole = λ m. (p.lanes m).none_whole;
+      unflushed = (p.lanes l).fixed.2 ∙ moved.sent.unflushed;
     })
 
 pub returns-in-Moved-clause-carried : goal.returns-in-Moved-clause-carried
-returns-in-Moved-clause-carried g c up is =
-    let old = c.args.station.now in
+returns-in-Moved-clause-carried g c =
+    let old : StationState = c.args.station.now in
+    let mid : StationState = c.poll.new.self in
+    let new : StationState = c.pull_all.new.station in
+    let links : FrameLinksState = c.args.links.now in
+    let room : FrameLinksState = c.make_room.new.links in
+    let links_now : FrameLinksState = c.pull_all.new.links in
+    let kept = c.in_ok-make_room.ensures.kept in
     let p = c.pull_all.ensures in
-    let polled : Polls Moved old c.poll.new.self = subst (λ (a : Polled). Polls a old c.poll.new.self) c.in-Moved.is c.in_ok-poll.ensures.polled in
-    (moved_on old.down c.poll.new.self.down c.pull_all.new.station.down c.args.link.now c.make_room.new.self c.pull_all.new.link up (next_pdu old.entity.state) is
-    c.in_ok-make_room.ensures.kept polled.0.sent p.way p.fixed p.marks p.all).0
+    let l : Lane = next_lane old.entity.state in
+    let o : Lane = other_lane l in
+    let polled : Polls Moved old mid = subst (λ (a : Polled). Polls a old mid) c.in-Moved.is c.in_ok-poll.ensures.polled in
+    let here : CarriesOn (lane_down l old.down) (lane_down l new.down) (lane_of_links l links) (lane_of_links l links_now) =
+    λ (up : LinkReceiverState) (is : IsCarried (lane_down l old.down) (lane_of_links l links) up).
+    (moved_all (lane_down l old.down) (lane_down l mid.down) (lane_down l new.down) (lane_of_links l links) (lane_of_links l room) (lane_of_links l links_now) up
+    (next_pdu old.entity.state) old.down.packet_count is (kept l) polled.0.sent (p.lanes l)).0 in
+    let stays : (lane_down o new.down ≡ lane_down o old.down) × IsSameLink (lane_of_links o links) (lane_of_links o links_now) =
+    stays_all (lane_down o old.down) (lane_down o mid.down) (lane_down o new.down) (lane_of_links o links) (lane_of_links o room) (lane_of_links o links_now) polled.0.other
+    (c.requires.ready o).none_waits (kept o) (p.lanes o) in
+    let there : CarriesOn (lane_down o old.down) (lane_down o new.down) (lane_of_links o links) (lane_of_links o links_now) =
+    λ (up : LinkReceiverState) (is : IsCarried (lane_down o old.down) (lane_of_links o links) up).
+    carried_same (lane_down o old.down) (lane_down o new.down) (lane_of_links o links) (lane_of_links o links_now) up stays.0 stays.1 is in
+    either-lane (λ (m : Lane). CarriesOn (lane_down m old.down) (lane_down m new.down) (lane_of_links m links) (lane_of_links m links_now)) l here there

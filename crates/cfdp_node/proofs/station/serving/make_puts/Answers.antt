@@ -35,5 +35,5 @@ loop-place-preserved g c =
       ),
       omega (arith, few, more),
       omega (arith, room, roomy),
-      c.make_put-made.ensures.link ∙ c.loop-place.invariant.3,
+      c.make_put-made.ensures.down ∙ c.loop-place.invariant.3,
     )

@@ -10,4 +10,4 @@ invariant-loop-place g l = ((lines : List ℕ) × MakesPuts l.options.puts.items
     (record { station = l.station; ids = l.ids.items; lines = lines; short = l.short })
     × Appends (g.V.Write.contents l.initial.out) (g.V.Write.contents l.out) lines)
     × (vec_len l.ids ≤ l.place) × (length l.options.puts.items ≤ vec_capacity l.ids)
-    × (l.station.down.link ≡ l.initial.station.down.link)
+    × (l.station.down ≡ l.initial.station.down)

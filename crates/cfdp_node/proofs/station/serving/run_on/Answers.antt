@@ -1,3 +1,5 @@
+use Rattle.std.proofs.Common.{◌∙◌}
+use Rattle.aos_frame.specs.declared.config.Lane.TheVariants.{Directives}
 use Rattle.cfdp_node.proofs.ServingLemmas.{from-all}
 use Rattle.cfdp_node.proofs.station.serving.run_on.Goals as goal
 
@@ -7,3 +9,6 @@ returns-in-Ok-new g c =
     c.run_all.result c.args.station.now c.args.wire c.in-Ok-new.turning.losses.every c.in-Ok-new.turning.losses.left
     (g.V.Write.contents c.args.out.now) (g.V.Write.contents c.run_all.new.out)
     c.in-Ok-new.ensures.losses.0 c.in-Ok-new.ensures.losses.1 c.run_all.ensures
+
+pub run_all-requires-clause-fits : goal.run_all-requires-clause-fits
+run_all-requires-clause-fits g c = (c.requires, c.in-Ok-new.ensures.frame ∙ c.frame_len.ensures Directives)

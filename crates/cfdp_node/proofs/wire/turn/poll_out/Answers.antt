@@ -29,7 +29,7 @@ loop-poll-preserved g c =
     } in
     let more : IsMore c.in_ok-answer.answer = c.is_more.ensures.0 c.if-not-is_more.false in (
       once_more PollMoves c.loop-poll._poll c.args.station.now c.loop-poll.station c.poll.new.self c.loop-poll.invariant.0 (c.in_ok-answer.answer, more, once),
-      c.in_ok-answer.ensures.fixed.0 ∙ c.loop-poll.invariant.1,
+      (c.in_ok-answer.ensures.fixed.0 ∙ c.loop-poll.invariant.1.0, c.in_ok-answer.ensures.fixed.2 ∙ c.loop-poll.invariant.1.1),
     )
 
 pub returns-clause-ok : goal.returns-clause-ok

@@ -1,7 +1,6 @@
-use Rattle.std.proofs.Common.{◌≡◌}
-use Rattle.cfdp_node.specs.Wire.Turn.{PollMoves, Times}
+use Rattle.cfdp_node.specs.Wire.Turn.{KeepsLanes, PollMoves, Times}
 use Rattle.cfdp_node.proofs.wire.turn.poll_out.Given as goal
 
 abbrev pub invariant-loop-poll : goal.invariant-loop-poll
 invariant-loop-poll g l = Times PollMoves l._poll l.initial.station l.station
-    × (l.station.down.link ≡ l.initial.station.down.link)
+    × KeepsLanes l.initial.station.down l.station.down

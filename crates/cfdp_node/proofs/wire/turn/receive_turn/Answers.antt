@@ -1,4 +1,5 @@
 use Rattle.std.proofs.Common.{ap, arith, Err, inl, inr, Ok, refl, Some, subst, sym, take, ◌∙◌}
+use Rattle.link_stack.specs.Downward.{DownState}
 use Rattle.cfdp_station.specs.Station.{StationState}
 use Rattle.cfdp_station.specs.Taking.{TakesFrame}
 use Rattle.cfdp_node.proofs.TurnLemmas.{fault_came, heard_more, some_came}
@@ -25,13 +26,13 @@ loop-datagram-preserved g c =
             heard_more g.W.Wire.steps c.loop-datagram._datagram (record { station = c.args.station.now; wire = c.args.wire.now }) c.loop-datagram.station c.match-receive.station c.loop-datagram.wire
                 c.receive.new.self
                 (Ok (Some frame)) c.loop-datagram.invariant.0 (some_came _ frame refl) asked takes,
-            ap (λ s. s.link) takes.down ∙ c.loop-datagram.invariant.1,
+            (ap (λ (d : DownState). d.directives.link) takes.down ∙ c.loop-datagram.invariant.1.0, ap (λ (d : DownState). d.file_data.link) takes.down ∙ c.loop-datagram.invariant.1.1),
           )
       | in-Err w ↦ (
         heard_more g.W.Wire.steps c.loop-datagram._datagram (record { station = c.args.station.now; wire = c.args.wire.now }) c.loop-datagram.station c.match-receive.station c.loop-datagram.wire
             c.receive.new.self
             (Err w.in-Err.field-0) c.loop-datagram.invariant.0 (fault_came _ w.in-Err.field-0 refl) w.in-Err.ensures.steps w.station-is,
-        ap (λ (s : StationState). s.down.link) w.station-is ∙ c.loop-datagram.invariant.1,
+        (ap (λ (s : StationState). s.down.directives.link) w.station-is ∙ c.loop-datagram.invariant.1.0, ap (λ (s : StationState). s.down.file_data.link) w.station-is ∙ c.loop-datagram.invariant.1.1),
       )
     ]
 

@@ -1,8 +1,7 @@
-use Rattle.std.proofs.Common.{◌≡◌}
-use Rattle.cfdp_node.specs.Wire.Turn.{AsksOn, Times}
+use Rattle.cfdp_node.specs.Wire.Turn.{AsksOn, KeepsLanes, Times}
 use Rattle.cfdp_node.proofs.wire.turn.receive_turn.Given as goal
 
 abbrev pub invariant-loop-datagram : goal.invariant-loop-datagram
 invariant-loop-datagram g l = Times (AsksOn g.W.Wire.steps) l._datagram
     (record { station = l.initial.station; wire = l.initial.wire }) (record { station = l.station; wire = l.wire })
-    × (l.station.down.link ≡ l.initial.station.down.link)
+    × KeepsLanes l.initial.station.down l.station.down

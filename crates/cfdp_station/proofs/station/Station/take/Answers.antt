@@ -8,5 +8,5 @@ pub returns : goal.returns
 returns g c =
     let i = c.self.inside in
     takes_frame c.args.frame.now i.entity c.hear_all.new.entity i.down i.up c.take.new.self c.clear.new.self.items
-    (octets_of_each c.take.new.out.items) c.clear.ensures.items c.take.ensures.takes c.take.ensures.stream c.take.ensures.others c.take.ensures.delivered
+    (octets_of_each c.take.new.out.items) c.clear.ensures.items c.take.ensures.taken c.take.ensures.other c.take.ensures.lane
     (subst (λ (vs : List (Vec ℕ Global)). HearsAll (octets_of_each vs) i.entity c.hear_all.new.entity) c.deref.ensures.value c.hear_all.ensures) c.args.self.now c.self.view_is

@@ -1,8 +1,17 @@
-use Rattle.std.proofs.Common.{true, [], sym, ap, ◌∙◌, arith}
-use Rattle.cfdp_station.specs.Station.{first_up}
-use Rattle.link_sim.specs.OneWay.{IsCarried}
-use Rattle.link_sim.proofs.Events.AtStations.{first_carried}
+use Rattle.std.proofs.Common.{◌≡◌, ◌≤◌, ℕ, true, [], refl, sym, ap, ◌∙◌, arith}
+use Rattle.aos_frame.specs.declared.config.LinkConfig.{LinkConfig}
+use Rattle.aos_frame.specs.declared.config.Lane.{Lane}
+use Rattle.link_stack.specs.Downward.{DownState, first_down, lane_down}
+use Rattle.link_stack.specs.Upward.{first_up}
+use Rattle.link_sim.specs.AtStation.{AreCarried}
+use Rattle.link_sim.proofs.Events.AtStations.{first-lanes}
+use Rattle.link_sim.proofs.Events.InWorlds.{none-seen, ways-of}
+use Rattle.link_sim.proofs.Ways.First.{first-down_lane}
 use Rattle.link_sim.proofs.two_stations.TwoStations.new.Goals as goal
+
+-- a lane has the capacity that its end was made with
+capacity : (d : DownState) (link : LinkConfig) (n : ℕ) → d ≡ first_down link n → 8192 ≤ n → (l : Lane) → 8192 ≤ (lane_down l d).capacity
+capacity d link n down least l = omega (arith, ap (λ (x : DownState). (lane_down l x).capacity) down, ap (λ x. x.capacity) (first-down_lane l link n), least)
 
 pub invariant_of-result : goal.invariant_of-result
 invariant_of-result g c =
@@ -11,13 +20,30 @@ invariant_of-result g c =
     let b = c.in-Ok.two in
     let e = c.in_ok-one.ensures in
     let f = c.in-Ok.ensures in
-    let from_one : IsCarried a.down c.new-from_one.result b.up =
-    first_carried a.down b.up c.new-from_one.result c.args.config.one.down c.args.config.one.capacity c.frame_len.result r.one.down e.down e.sent (f.up ∙ ap first_up (sym r.down))
-    (f.taken true [] tt tt) c.new-from_one.ensures c.frame_len.ensures in
-    let from_two : IsCarried b.down c.new-from_two.result a.up =
-    first_carried b.down a.up c.new-from_two.result c.args.config.two.down c.args.config.two.capacity c.frame_len-in-Ok.result r.two.down f.down f.sent (e.up ∙ ap first_up r.up)
-    (e.taken true [] tt tt) c.new-from_two.ensures c.frame_len-in-Ok.ensures in
-    (from_one, from_two, omega (arith, ap (λ x. x.capacity) e.down, r.one.least), omega (arith, ap (λ x. x.capacity) f.down, r.two.least))
+    let from_one : AreCarried a.down c.new-from_one.result b.up =
+    first-lanes a.down b.up c.new-from_one.result c.args.config.one.down c.args.config.one.capacity c.frame_len.result r.one.down e.down e.sent (f.up ∙ ap first_up (sym r.down))
+    (λ l. f.taken l true [] tt tt) c.new-from_one.ensures c.frame_len.ensures in
+    let from_two : AreCarried b.down c.new-from_two.result a.up =
+    first-lanes b.down a.up c.new-from_two.result c.args.config.two.down c.args.config.two.capacity c.frame_len-in-Ok.result r.two.down f.down f.sent (e.up ∙ ap first_up r.up)
+    (λ l. e.taken l true [] tt tt) c.new-from_two.ensures c.frame_len-in-Ok.ensures in (
+      from_one,
+      from_two,
+      capacity a.down c.args.config.one.down c.args.config.one.capacity e.down r.one.least,
+      capacity b.down c.args.config.two.down c.args.config.two.capacity f.down r.two.least,
+    )
+
+pub returns-in-Ok-clause-first : goal.returns-in-Ok-clause-first
+returns-in-Ok-clause-first g c =
+    let e = c.in_ok-one.ensures in
+    let f = c.in-Ok.ensures in
+    record {
+      one = record { entity = e.entity; down = e.down; up = e.up };
+      two = record { entity = f.entity; down = f.down; up = f.up };
+      from_one = none-seen c.new-from_one.result c.frame_len.result c.new-from_one.ensures;
+      from_two = none-seen c.new-from_two.result c.frame_len-in-Ok.result c.new-from_two.ensures;
+      puts = c.new-in-Ok.ensures.items;
+      ticks = refl;
+    }
 
 pub returns-in-Ok-clause-ways : goal.returns-in-Ok-clause-ways
 returns-in-Ok-clause-ways g c =
@@ -26,10 +52,10 @@ returns-in-Ok-clause-ways g c =
     let b = c.in-Ok.two in
     let e = c.in_ok-one.ensures in
     let f = c.in-Ok.ensures in
-    let from_one : IsCarried a.down c.new-from_one.result b.up =
-    first_carried a.down b.up c.new-from_one.result c.args.config.one.down c.args.config.one.capacity c.frame_len.result r.one.down e.down e.sent (f.up ∙ ap first_up (sym r.down))
-    (f.taken true [] tt tt) c.new-from_one.ensures c.frame_len.ensures in
-    let from_two : IsCarried b.down c.new-from_two.result a.up =
-    first_carried b.down a.up c.new-from_two.result c.args.config.two.down c.args.config.two.capacity c.frame_len-in-Ok.result r.two.down f.down f.sent (e.up ∙ ap first_up r.up)
-    (e.taken true [] tt tt) c.new-from_two.ensures c.frame_len-in-Ok.ensures in
-    (from_one.way, from_two.way)
+    let from_one : AreCarried a.down c.new-from_one.result b.up =
+    first-lanes a.down b.up c.new-from_one.result c.args.config.one.down c.args.config.one.capacity c.frame_len.result r.one.down e.down e.sent (f.up ∙ ap first_up (sym r.down))
+    (λ l. f.taken l true [] tt tt) c.new-from_one.ensures c.frame_len.ensures in
+    let from_two : AreCarried b.down c.new-from_two.result a.up =
+    first-lanes b.down a.up c.new-from_two.result c.args.config.two.down c.args.config.two.capacity c.frame_len-in-Ok.result r.two.down f.down f.sent (e.up ∙ ap first_up r.up)
+    (λ l. e.taken l true [] tt tt) c.new-from_two.ensures c.frame_len-in-Ok.ensures in
+    ways-of a b c.new-from_one.result c.new-from_two.result c.new-in-Ok.result.items 0 from_one from_two

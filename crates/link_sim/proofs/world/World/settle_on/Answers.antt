@@ -44,3 +44,6 @@ pub returns-clause-completes : goal.returns-clause-completes
 returns-clause-completes g c clean =
     let well = on-then first_event first_event first_event c.args.self.now c.loop.self c.settle_round.new.self c.loop.invariant.well c.in_ok-settle_round.ensures.well in
     c.show_completion.ensures (c.in_ok-settle_round.ensures.settled c.if-branch.false) (well.well.clean clean)
+
+pub returns-clause-settled : goal.returns-clause-settled
+returns-clause-settled g c = c.in_ok-settle_round.ensures.settled c.if-branch.false

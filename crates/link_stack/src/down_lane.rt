@@ -1,0 +1,184 @@
+//! One lane of the way down: PDUs to the frames of one virtual channel.
+ghost use Rattle.std.specs.Prelude.{◌≡◌, ℕ, ◌+◌, ◌*◌, ◌<◌, ◌≤◌, ◌++◌, List, [], ◌∷◌, true, false, length, take, drop, IfOk};
+ghost use Rattle.aos_frame.specs.Frame.{IsLink, FitsHeader, frame_octets};
+ghost use Rattle.mpdu.specs.MpduHeader.{pointer_octets};
+ghost use Rattle.mpdu.specs.Stream.{stream};
+ghost use Rattle.mpdu.specs.Packing.{flush_of};
+ghost use Rattle.mpdu.specs.Packets.{busy};
+ghost use Rattle.link_stack.specs.Frames.{packet_of, frame_of, pdus_in};
+ghost use Rattle.link_stack.specs.Downward.{packing, IsDown, IsFixed, first_lane_down};
+ghost use Rattle.link_stack.specs.Downward as downward;
+
+use crate::UNSEGMENTED;
+use aos_frame::{FrameHeader, HEADER_LEN as FRAME_HEADER_LEN, LinkConfig, VcCounter};
+use mpdu::{MPDU_HEADER_LEN, Packer, put_pointer};
+use space_packet::Packet;
+use space_packet::header::HEADER_LEN as PACKET_HEADER_LEN;
+use std::alloc::{AllocError, Global};
+use std::marker::Model;
+
+/// Writes the headers of a frame with a packet zone, in front of the zone.
+fn put_headers(frame: &FrameHeader, pointer: u16, out: &mut [u8])
+    requires fits { FitsHeader frame.now }
+    requires pointer { pointer < 2048 }
+    requires room { length out.old ≡ 8 }
+    ensures { out.new ≡ frame_octets frame.now (pointer_octets pointer) }
+{
+    let (header, behind) = out.split_at_mut(FRAME_HEADER_LEN);
+    aos_frame::encode(frame, header);
+    put_pointer(behind, pointer);
+}
+
+/// A lane of the sending end: each PDU in a packet of its own, the packets end to end over the
+/// frames of one virtual channel.
+#[derive(Debug, Drop)]
+pub(crate) struct DownLane {
+    // as the lane has it
+    link: LinkConfig,
+    packer: Packer,
+    frames: VcCounter,
+}
+
+impl Model for DownLane {
+    ghost use Rattle.std.specs.Prelude.{◌≡◌, ◌≤◌};
+    ghost use Rattle.aos_frame.specs.Frame.{IsLink};
+    ghost use Rattle.link_stack.specs.Downward.{LinkSenderState};
+
+    ghost Value = { LinkSenderState };
+
+    ghost view = { λ d. record {
+      link = d.link;
+      capacity = d.packer.capacity;
+      waiting =
+          d.packer.waiting;
+      first = d.packer.first;
+      flushed = d.packer.flushed;
+      frame_count = d.frames;
+    } };
+
+    ghost invariant = { λ d. IsLink d.link × (d.packer.size ≡ d.link.zone)
+        × (d.packer.capacity ≤ 65536) };
+}
+
+impl DownLane {
+    /// A lane with no PDU sent, of the link as it has it.
+    pub(crate) fn new(alloc: Global, link: LinkConfig, capacity: usize) -> Result<Self, AllocError>
+        requires link { IsLink link }
+        requires most { capacity ≤ 65536 }
+        ensures new { IfOk result (λ d. d ≡ first_lane_down link capacity) }
+        ensures stream { IfOk result (λ d. IsDown d [] 0) }
+    {
+        Ok(DownLane {
+            link,
+            packer: Packer::new(alloc, link.zone as usize, capacity)?,
+            frames: VcCounter::new(),
+        })
+    }
+
+    /// The link as the lane has it.
+    pub(crate) fn link(&self) -> LinkConfig
+        ensures is { result ≡ self.now.link }
+        ensures valid { IsLink result }
+    {
+        self.link
+    }
+
+    /// The octets of the longest PDU for which there is room; 0 where there is none.
+    pub(crate) fn room(&self) -> usize
+        ensures { result ≡ downward.room self.now }
+    {
+        self.packer.room().saturating_sub(PACKET_HEADER_LEN)
+    }
+
+    /// The octets of packets that wait to be made frames.
+    pub(crate) fn waiting_len(&self) -> usize
+        ensures len { result ≡ length self.now.waiting }
+        ensures most { result ≤ self.now.capacity + 2047 }
+    {
+        self.packer.waiting_len()
+    }
+
+    /// Whether a whole zone waits.
+    pub(crate) fn has_whole(&self) -> bool
+        ensures { result ≡ downward.has_whole self.now }
+    {
+        usize::from(self.link.zone) <= self.packer.waiting_len()
+    }
+
+    /// Puts a PDU of at least one octet, for which there is room, behind the others: in a packet
+    /// with this count, which is written into a buffer of the capacity.
+    pub(crate) fn send(&mut self, pdu: &[u8], count: u16, buffer: &mut [u8])
+        requires some { 1 ≤ length pdu.now }
+        requires room { length pdu.now ≤ downward.room self.old }
+        requires count { count < 16384 }
+        requires buffer { length buffer.old ≡ self.old.capacity }
+        // The stream is then longer by one packet: the PDU's, with this count.
+        ensures stream { (ps : List (List ℕ)) (made : ℕ) → IsDown self.old ps made →
+            IsDown self.new (ps ++ packet_of self.old.link count pdu.now ∷ []) made }
+        ensures pdu { pdus_in (busy (packet_of self.old.link count pdu.now ∷ []))
+            ≡ pdu.now ∷ [] }
+        ensures waiting { self.new.waiting ≡ self.old.waiting
+            ++ packet_of self.old.link count pdu.now }
+        ensures len { length self.new.waiting ≡ length self.old.waiting + 6 + length pdu.now }
+        ensures unflushed { self.new.flushed ≡ false }
+        ensures fixed { IsFixed self.old self.new }
+    {
+        let packet = Packet {
+            apid: self.link.apid,
+            kind: false,
+            secondary: false,
+            flags: UNSEGMENTED,
+            count,
+            body: pdu,
+        };
+        let len = space_packet::encode(&packet, buffer);
+        let _ = self.packer.push(&buffer[..len]);
+    }
+
+    /// Fills the begun zone by an idle packet, where one is begun.
+    pub(crate) fn flush(&mut self)
+        // The stream is then longer by the idle packet, or as it was.
+        ensures stream { (ps : List (List ℕ)) (made : ℕ) → IsDown self.old ps made →
+            IsDown self.new (ps ++ flush_of (packing self.old)) made }
+        ensures idle { (length (flush_of (packing self.old)) ≤ 1)
+            × (busy (flush_of (packing self.old)) ≡ []) }
+        ensures once { flush_of (packing self.new) ≡ [] }
+        ensures same { flush_of (packing self.old) ≡ [] → self.new ≡ self.old }
+        ensures waiting { self.new.waiting ≡ self.old.waiting
+            ++ stream (flush_of (packing self.old)) }
+        ensures most { length self.new.waiting ≤ self.old.capacity + 2047 }
+        ensures fixed { IsFixed self.old self.new }
+    {
+        self.packer.flush();
+    }
+
+    /// Writes the oldest whole zone as a frame with the next count, and takes it off. False where
+    /// no whole zone waits: nothing changed then.
+    pub(crate) fn next_frame(&mut self, out: &mut [u8]) -> bool
+        requires { length out.old ≡ 8 + self.old.link.zone }
+        ensures whole { result ≡ downward.has_whole self.old }
+        ensures kept { result ≡ false → (self.new ≡ self.old) × (out.new ≡ out.old) }
+        // It is the stream's frame behind those made, and one more is made then.
+        ensures stream { (ps : List (List ℕ)) (made : ℕ) → IsDown self.old ps made → result ≡ true →
+            (out.new ≡ frame_of self.old.link ps made)
+            × (made * self.old.link.zone + self.old.link.zone ≤ length (stream ps))
+            × IsDown self.new ps (made + 1) }
+        ensures zone { result ≡ true → drop 8 out.new ≡ take self.old.link.zone self.old.waiting }
+        ensures rest { result ≡ true → self.new.waiting ≡ drop self.old.link.zone self.old.waiting }
+        ensures fixed { (self.new.link ≡ self.old.link) × (self.new.capacity ≡ self.old.capacity)
+            × (self.new.flushed ≡ self.old.flushed) }
+    {
+        let (header, zone) = out.split_at_mut(FRAME_HEADER_LEN + MPDU_HEADER_LEN);
+        let Some(pointer) = self.packer.zone(zone) else {
+            return false;
+        };
+        let frame = FrameHeader {
+            spacecraft: self.link.spacecraft,
+            channel: self.link.channel,
+            count: self.frames.next(),
+            cycle: true,
+        };
+        put_headers(&frame, pointer, header);
+        true
+    }
+}

@@ -1,0 +1,298 @@
+//! One lane of the way up: the frames of one virtual channel to PDUs.
+ghost use Rattle.std.specs.Prelude.{◌≡◌, ℕ, ◌+◌, ◌-◌, ◌==◌, ◌<◌, ◌≤◌, ◌⊎◌, ◌++◌, List, Bool, [], ◌∷◌, true, false, length, take, drop, replicate, Some, None, IfOk, OnErr};
+ghost use Rattle.aos_frame.specs.Frame.{IsLink};
+ghost use Rattle.mpdu.specs.Feeding.{octets_of_each};
+ghost use Rattle.mpdu.specs.MpduHeader.{pointer_of};
+ghost use Rattle.mpdu.specs.Stream.{ArePackets, survivors};
+ghost use Rattle.link_stack.specs.Frames.{packet_drop, AreOfLink, pdus_in};
+ghost use Rattle.cfd_bits.specs.Counting.{raised};
+ghost use Rattle.link_stack.specs.Drops.{counted, all_counted, count_of};
+ghost use Rattle.link_stack.specs.Upward.{AreLong, pdus_of, drops_of, zone_drops, packets_read, mpdu_read, frame_read, HasZone, LaneTakes, Takes, TakesFront, IsUpOf, first_lane_up};
+ghost use Rattle.link_stack.specs.declared.drops.LinkDrop.TheVariants.{BadPacket, NoMemory};
+
+use crate::UNSEGMENTED;
+use crate::drops::LinkDrop;
+use aos_frame::{FrameError, LinkConfig, VcMonitor, decode};
+use mpdu::{MPDU_HEADER_LEN, Notes, ONLY_IDLE, Reassembler, read_pointer};
+use space_packet::header;
+use std::alloc::{AllocError, Global};
+use std::marker::Model;
+
+/// The causes that drops are counted under.
+const CAUSES: usize = 11;
+
+/// How often something was dropped, for each cause.
+#[derive(Debug, Drop)]
+struct Drops {
+    // in the order of their numbers, from 1
+    counts: [u64; CAUSES],
+}
+
+impl Model for Drops {
+    ghost use Rattle.std.specs.Prelude.{ℕ, List};
+
+    ghost Value = { List ℕ };
+
+    ghost view = { λ d. d.counts };
+}
+
+/// One more, save at the greatest value.
+fn one_more(count: u64) -> u64
+    ensures { result ≡ raised count }
+{
+    count.saturating_add(1)
+}
+
+impl Drops {
+    fn new() -> Self
+        ensures { result ≡ replicate 11 0 }
+    {
+        Drops {
+            counts: [0; CAUSES],
+        }
+    }
+
+    fn of(&self, number: u8) -> u64
+        ensures { result ≡ count_of self.now number }
+    {
+        match number {
+            1..=11 => self.counts[usize::from(number) - 1],
+            _ => 0,
+        }
+    }
+
+    fn count(&mut self, drop: LinkDrop)
+        ensures { self.new ≡ counted self.old drop }
+    {
+        let place = usize::from(drop.number()) - 1;
+        self.counts[place] = one_more(self.counts[place]);
+    }
+}
+
+/// Counts what a zone tells, or that it found no memory.
+fn note(fed: &Result<Notes, AllocError>, drops: &mut Drops)
+    ensures read { IfOk fed.now (λ n. drops.new
+        ≡ all_counted drops.old (zone_drops n.resync n.bad)) }
+    ensures no_memory { OnErr fed.now (drops.new ≡ counted drops.old NoMemory) }
+{
+    let Ok(notes) = fed else {
+        drops.count(LinkDrop::NoMemory);
+        return;
+    };
+    if notes.resync {
+        drops.count(LinkDrop::Resync);
+    }
+    count_bad(notes.bad, drops);
+}
+
+/// Counts so many bad packets.
+fn count_bad(bad: u8, drops: &mut Drops)
+    ensures { drops.new ≡ all_counted drops.old (replicate bad BadPacket) }
+{
+    for _ in 0..bad {
+        drops.count(LinkDrop::BadPacket);
+    }
+}
+
+/// Why a whole packet that isn't idle carries no PDU of the link, if it doesn't.
+#[tactic(auto, unfolding(crate::specs::Frames::packet_drop))]
+fn packet_drop_of(link: &LinkConfig, packet: &[u8]) -> Option<LinkDrop>
+    requires { 6 ≤ length packet.now }
+    ensures { result ≡ packet_drop link.now packet.now }
+{
+    if header::apid(packet) != link.apid {
+        return Some(LinkDrop::OtherApid);
+    }
+    if header::sequence_flags(packet) != UNSEGMENTED || header::has_secondary_header(packet) {
+        return Some(LinkDrop::Segmented);
+    }
+    None
+}
+
+/// Leaves what stands behind a packet's header.
+fn drop_header(packet: &mut Vec<u8>)
+    requires { 6 ≤ length packet.old.items }
+    ensures { packet.new.items ≡ drop 6 packet.old.items }
+{
+    packet.copy_within(header::HEADER_LEN.., 0);
+    packet.truncate(packet.len() - header::HEADER_LEN);
+}
+
+/// Makes the packet at a place its PDU, or takes it out and counts why it carries none. Answers the
+/// place of the next.
+fn unpack_one(
+    link: &LinkConfig,
+    packets: &mut Vec<Vec<u8>>,
+    place: usize,
+    drops: &mut Drops,
+) -> usize
+    requires there { place < length packets.old.items }
+    requires long { AreLong (drop place (octets_of_each packets.old.items)) }
+    ensures nearer { length packets.new.items + place < length packets.old.items + result }
+    ensures within { result ≤ length packets.new.items }
+    ensures one { (q : List ℕ) (left : List (List ℕ)) →
+        drop place (octets_of_each packets.old.items) ≡ q ∷ left →
+        (drop result (octets_of_each packets.new.items) ≡ left)
+        × (take result (octets_of_each packets.new.items)
+        ≡ take place (octets_of_each packets.old.items) ++ pdus_of link.now (q ∷ []))
+        × (drops.new ≡ all_counted drops.old (drops_of link.now (q ∷ []))) }
+{
+    if let Some(drop) = packet_drop_of(link, &packets[place]) {
+        drops.count(drop);
+        packets.remove(place);
+        return place;
+    }
+    drop_header(&mut packets[place]);
+    place + 1
+}
+
+/// Makes the packets from a place on their PDUs, and takes out and counts those that carry none.
+fn unpack(link: &LinkConfig, packets: &mut Vec<Vec<u8>>, first: usize, drops: &mut Drops)
+    requires there { first ≤ length packets.old.items }
+    requires long { AreLong (drop first (octets_of_each packets.old.items)) }
+    ensures pdus { octets_of_each packets.new.items ≡ take first (octets_of_each packets.old.items)
+        ++ pdus_of link.now (drop first (octets_of_each packets.old.items)) }
+    ensures drops { drops.new
+        ≡ all_counted drops.old (drops_of link.now (drop first (octets_of_each packets.old.items))) }
+{
+    let mut place = first;
+    while place < packets.len() {
+        place = unpack_one(link, packets, place, drops);
+    }
+}
+
+/// A lane of the receiving end: what it takes of the frames of its virtual channel are the PDUs all
+/// of whose frames came, in order.
+#[derive(Debug, Drop)]
+pub(crate) struct UpLane {
+    // as the lane has it
+    link: LinkConfig,
+    monitor: VcMonitor,
+    reassembler: Reassembler,
+    drops: Drops,
+}
+
+impl Model for UpLane {
+    ghost use Rattle.aos_frame.specs.Frame.{IsLink};
+    ghost use Rattle.link_stack.specs.Upward.{LinkReceiverState};
+
+    ghost Value = { LinkReceiverState };
+
+    ghost view = { λ u. record {
+      link = u.link;
+      last = u.monitor;
+      begun = u.reassembler;
+      drops =
+          u.drops;
+    } };
+
+    ghost invariant = { λ u. IsLink u.link };
+}
+
+impl UpLane {
+    /// A lane that has taken no frame, of the link as it has it.
+    pub(crate) fn new(alloc: Global, link: LinkConfig) -> Result<Self, AllocError>
+        requires { IsLink link }
+        ensures new { IfOk result (λ u. u ≡ first_lane_up link) }
+        // It is as no frame of a stream of the lane leaves it.
+        ensures stream { (all : Bool) (ps : List (List ℕ)) → ArePackets ps → AreOfLink link ps →
+            IfOk result (λ u. IsUpOf all u ps [] 0) }
+    {
+        Ok(UpLane {
+            link,
+            monitor: VcMonitor::new(),
+            reassembler: Reassembler::new(alloc)?,
+            drops: Drops::new(),
+        })
+    }
+
+    /// How often something was dropped under a number.
+    pub(crate) fn drops(&self, number: u8) -> u64
+        ensures { result ≡ count_of self.now.drops number }
+    {
+        self.drops.of(number)
+    }
+
+    /// The virtual channel of the lane.
+    pub(crate) fn channel(&self) -> u8
+        ensures { result ≡ self.now.link.channel }
+    {
+        self.link.channel
+    }
+
+    /// Reads a zone whose first header pointer may be any but that of idle data. False where it
+    /// found no memory.
+    fn read_zone(
+        &mut self,
+        pointer: u16,
+        zone: &[u8],
+        follows: bool,
+        out: &mut Vec<Vec<u8>>,
+    ) -> bool
+        requires least { 16 ≤ length zone.now }
+        requires most { length zone.now ≤ 2040 }
+        ensures all { result ≡ true →
+            Takes (packets_read self.old.last self.old.begun follows pointer zone.now) self.old
+            self.new
+            (octets_of_each out.old.items) (octets_of_each out.new.items) }
+        ensures front { result ≡ false →
+            TakesFront (packets_read self.old.last self.old.begun follows pointer zone.now) self.old
+            self.new
+            (octets_of_each out.old.items) (octets_of_each out.new.items) }
+    {
+        let first = out.len();
+        let fed = self.reassembler.feed(pointer, zone, follows, out);
+        note(&fed, &mut self.drops);
+        unpack(&self.link, out, first, &mut self.drops);
+        fed.is_ok()
+    }
+
+    /// Reads the M_PDU of a frame of the link with this count, and this usage flag of the count
+    /// cycle. False where its zone found no memory.
+    fn read_mpdu(&mut self, count: u32, cycle: bool, mpdu: &[u8], out: &mut Vec<Vec<u8>>) -> bool
+        requires len { length mpdu.now ≡ 2 + self.old.link.zone }
+        ensures all { result ≡ true →
+            Takes (mpdu_read self.old (record { count = count; cycle = cycle }) mpdu.now) self.old
+            self.new (octets_of_each out.old.items) (octets_of_each out.new.items) }
+        ensures front { result ≡ false → ((pointer_of mpdu.now == 2046) ≡ false)
+            × TakesFront (mpdu_read self.old (record { count = count; cycle = cycle }) mpdu.now)
+            self.old self.new (octets_of_each out.old.items) (octets_of_each out.new.items) }
+    {
+        let in_order = self.monitor.follows(count, cycle);
+        let pointer = read_pointer(mpdu);
+        if pointer == ONLY_IDLE {
+            self.reassembler.let_go();
+            self.drops.count(LinkDrop::Frame(FrameError::OnlyIdle));
+            return true;
+        }
+        self.read_zone(pointer, &mpdu[MPDU_HEADER_LEN..], in_order, out)
+    }
+
+    /// Reads a frame. False where its zone found no memory.
+    fn read_frame(&mut self, frame: &[u8], out: &mut Vec<Vec<u8>>) -> bool
+        ensures all { result ≡ true →
+            Takes (frame_read self.old frame.now) self.old self.new (octets_of_each out.old.items)
+            (octets_of_each out.new.items) }
+        ensures front { result ≡ false → HasZone self.old.link frame.now
+            × TakesFront (frame_read self.old frame.now) self.old self.new
+            (octets_of_each out.old.items) (octets_of_each out.new.items) }
+    {
+        match decode(frame, &self.link) {
+            Ok((header, mpdu)) => self.read_mpdu(header.count, header.cycle, mpdu, out),
+            Err(error) => {
+                self.drops.count(LinkDrop::Frame(error));
+                true
+            }
+        }
+    }
+
+    /// Takes a frame, whatever its octets are, appends the PDUs that it completes, and counts what
+    /// is dropped of it.
+    pub(crate) fn take(&mut self, frame: &[u8], out: &mut Vec<Vec<u8>>)
+        ensures { LaneTakes frame.now self.old self.new (octets_of_each out.old.items)
+            (octets_of_each out.new.items) }
+    {
+        let _ = &self.link;
+        let _whole = self.read_frame(frame, out);
+    }
+}
