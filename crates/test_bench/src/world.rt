@@ -9,7 +9,7 @@
 //!     strike S LANE    its oldest frame of a lane is lost
 //!     settle           all is settled
 //!     told S           to tell all that it indicated
-//!     frames S         how many of its frames, of both lanes, are delivered, lost, and on their way
+//!     frames S         how many of its frames, of both lanes, are delivered, lost, and on the way
 //!     inbox S          to tell each published file
 //!     replay           a station of its own takes the frames that were delivered to the second
 //!                      one, those of directives first, and tells each published file

@@ -16,8 +16,8 @@ use crate::wire::Wire;
 
 /// Over wires that lose frames, or bring those of each lane in the order in which they were sent,
 /// two stations that take turns are those of a world in which the same frames left, and the same
-/// ones came. So all that is promised of a world holds of them, whatever was lost. `Turns` are those of
-/// `run_loop`, from its put on.
+/// ones came. So all that is promised of a world holds of them, whatever was lost. `Turns` are those
+/// of `run_loop`, from its put on.
 pub fn turns_are_of_a_world<W: Wire>()
     ensures { (c : WorldConfig) (outboxes inboxes : FileMap × FileMap)
         (source destination : List ℕ) (id : TransactionId) (every count : ℕ)
