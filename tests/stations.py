@@ -106,7 +106,7 @@ def exchange_mistakes(program):
             if came != sent[3 - own]:
                 yield f"what came to station {own} isn't what was sent: {sorted(came)}"
             with open(f"{folder}/{own}/pdus.pcap", "rb") as it:
-                if it.read(4) != bytes.fromhex("A1B2C3D4"):
+                if it.read(4) != bytes.fromhex("0A0D0D0A"):
                     yield f"station {own} wrote no capture"
 
 

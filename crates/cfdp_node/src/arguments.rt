@@ -132,8 +132,8 @@ arrive, loses a frame that it sent, drops, tells its user. In front of a frame
 stands its lane.
 With --chart FILE, the same as a sequence diagram in Mermaid's text.
 With --pcap FILE, the PDUs that are sent go to FILE for Wireshark, with the
-number of the event as time. There, in Preferences, Protocols, DLT_USER, User 0
-(DLT=147) is to have the payload dissector cfdp.
+number of the event as time and the lane as interface. There, in Preferences,
+Protocols, DLT_USER, User 0 (DLT=147) is to have the payload dissector cfdp.
 
 Exit status: 0 all puts completed, 1 some not, 2 bad script or arguments,
 3 a failed read, write or store, or no memory (told on standard error).
@@ -156,6 +156,8 @@ Output: a line for each; ID is the source and the number of the transaction.
   frame SPACECRAFT CHANNEL COUNT POINTER
   error N NAME                      why it is none
 With --long a line goes on. That of a frame:
+  dir, data                         its lane, where CHANNEL is one of those that
+                                    scripts use: 5 and 6 dir, 7 and 8 data
   cycle                             its COUNT has 28 bits; else it has 24
 That of a PDU:
   toward receiver destination N     or sender; N is the entity that receives the

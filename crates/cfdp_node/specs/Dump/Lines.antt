@@ -1,5 +1,5 @@
 -- What the program's `dump` prints.
-use Rattle.std.specs.Prelude.{◌≡◌, ◌⊎◌, ⊤, ℕ, ◌-◌, ◌<◌, ◌/◌, ◌%◌, ◌==◌, ◌&&◌, Bool, true, List, [], ◌∷◌, ◌++◌, codes, decimal, drop, length, replicate, if◌then◌else◌, Option, None, Some, IfSome, MatchOption}
+use Rattle.std.specs.Prelude.{◌≡◌, ◌⊎◌, ⊤, ℕ, ◌-◌, ◌<◌, ◌/◌, ◌%◌, ◌==◌, ◌||◌, Bool, true, List, [], ◌∷◌, ◌++◌, codes, decimal, drop, length, replicate, if◌then◌else◌, Option, None, Some, IfSome, MatchOption}
 use Rattle.std.specs.List.{flat_map, AllZip}
 use Rattle.std.specs.Result.{result_ok}
 use Rattle.std.specs.Io.KnownBytes.{Appends, Keeps}
@@ -126,10 +126,22 @@ frame_text h pointer =
     codes "frame " ++ decimal h.spacecraft ++ codes " " ++ decimal h.channel ++ codes " "
     ++ decimal h.count ++ codes " " ++ decimal pointer
 
--- the line of a frame: a long one tells too that its count has 28 bits, by the usage flag of the
--- count cycle (732.0-B-4, 4.1.2.5)
+-- the lane of a virtual channel: scripts, and stations that aren't told others, send directives on
+-- channels 5 and 6, and file data on 7 and 8
+abbrev pub lane_word : ℕ → List ℕ
+lane_word channel =
+    if channel == 5 || channel == 6 then codes " dir"
+    else if channel == 7 || channel == 8 then codes " data"
+    else codes ""
+
+-- whether the count has 28 bits (732.0-B-4, 4.1.2.5, usage flag of the count cycle)
+abbrev pub cycle_word : Bool → List ℕ
+cycle_word cycle = if cycle then codes " cycle" else codes ""
+
+-- the line of a frame: a long one tells too its lane, and that its count has 28 bits
 abbrev pub frame_line : Bool → FrameHeader → ℕ → List ℕ
-frame_line long h pointer = if long && h.cycle then frame_text h pointer ++ codes " cycle"
+frame_line long h pointer =
+    if long then frame_text h pointer ++ lane_word h.channel ++ cycle_word h.cycle
     else frame_text h pointer
 
 -- the lines of a text: each ends with a line feed, which the last needs not

@@ -1,25 +1,61 @@
--- What is in a capture: the classic pcap format, all numbers with the highest octet first.
-use Rattle.std.specs.Prelude.{ℕ, List, [], ◌++◌, length}
-use Rattle.std.specs.Int.{to_be_bytes, w16, w32}
+-- What is in a capture: the pcapng format, as libpcap and Wireshark read it, all numbers with the
+-- highest octet first. It is a row of blocks. Each has its kind in front, its length in octets behind
+-- that and again at its end, and is filled up to a multiple of four octets.
+use Rattle.std.specs.Prelude.{ℕ, ◌+◌, ◌-◌, ◌*◌, ◌^◌, ◌%◌, List, [], ◌++◌, codes, length, replicate, take}
+use Rattle.std.specs.Int.{to_be_bytes, w16, w32, w64}
 use Rattle.std.specs.List.{flat_map}
+use Rattle.aos_frame.specs.declared.config.Lane.{Lane}
+use Rattle.aos_frame.specs.declared.config.Lane.TheVariants.{Directives, Data}
 use Rattle.cfdp_node.specs.declared.watch.sighting.Deed.{Deed}
 use Rattle.cfdp_node.specs.declared.watch.sighting.Deed.TheVariants.{SendsPdu}
 use Rattle.cfdp_node.specs.declared.watch.sighting.Sighting.{Sighting}
 
--- its number, version 2.4, time zone and accuracy (0), the longest record, and link type 147
+-- how many octets are wanting up to a multiple of four
+abbrev pub spare : ℕ → ℕ
+spare len = (4 - len % 4) % 4
+
+-- zeros for these
+abbrev pub filling : ℕ → List ℕ
+filling len = take (spare len) (replicate 3 0)
+
+-- the block that begins a capture: the order of octets, version 1.0, and a length that isn't told
+abbrev pub section_octets : List ℕ
+section_octets = to_be_bytes w32 0x0A0D0D0A ++ to_be_bytes w32 28 ++ to_be_bytes w32 0x1A2B3C4D
+    ++ to_be_bytes w16 1 ++ to_be_bytes w16 0 ++ to_be_bytes w64 (2 ^ 64 - 1) ++ to_be_bytes w32 28
+
+-- a block of an interface, whose name is of three or four octets: link type 147, records of at most
+-- 65,535 octets, the name (option 2), and the end of options
+abbrev pub interface_octets : List ℕ → List ℕ
+interface_octets name = to_be_bytes w32 1 ++ to_be_bytes w32 32 ++ to_be_bytes w16 147
+    ++ to_be_bytes w16 0 ++ to_be_bytes w32 65535 ++ to_be_bytes w16 2
+    ++ to_be_bytes w16 (length name) ++ name ++ filling (length name) ++ to_be_bytes w32 0
+    ++ to_be_bytes w32 32
+
+-- Each lane is an interface.
 abbrev pub header_octets : List ℕ
-header_octets = to_be_bytes w32 0xA1B2C3D4 ++ to_be_bytes w16 2 ++ to_be_bytes w16 4
-    ++ to_be_bytes w32 0 ++ to_be_bytes w32 0 ++ to_be_bytes w32 65535 ++ to_be_bytes w32 147
+header_octets = section_octets ++ interface_octets (codes "dir") ++ interface_octets (codes "data")
 
--- a PDU behind its time, and its length as captured and as sent
-abbrev pub pdu_octets : (seconds microseconds : ℕ) → List ℕ → List ℕ
-pdu_octets seconds microseconds pdu = to_be_bytes w32 seconds ++ to_be_bytes w32 microseconds
-    ++ to_be_bytes w32 (length pdu) ++ to_be_bytes w32 (length pdu) ++ pdu
+-- the number of a lane's interface: its place among them
+abbrev pub interface_of : Lane → ℕ
+interface_of Directives = 0
+interface_of Data = 1
 
--- Each PDU that is sent is there once. It was sent in the second that is its event's number, and in
--- the microsecond that is its place in it.
+-- the length of the block of a PDU of so many octets
+abbrev pub block_len : ℕ → ℕ
+block_len len = 32 + len + spare len
+
+-- a block of a packet: its interface, its time in microseconds, its length as captured and as sent,
+-- and the PDU
+abbrev pub packet_octets : Lane → (microseconds : ℕ) → List ℕ → List ℕ
+packet_octets lane microseconds pdu = to_be_bytes w32 6 ++ to_be_bytes w32 (block_len (length pdu))
+    ++ to_be_bytes w32 (interface_of lane) ++ to_be_bytes w64 microseconds
+    ++ to_be_bytes w32 (length pdu) ++ to_be_bytes w32 (length pdu)
+    ++ (pdu ++ (filling (length pdu) ++ to_be_bytes w32 (block_len (length pdu))))
+
+-- Each PDU that is sent is there once, at the interface of the lane in which its last frame left. It
+-- was sent in the second that is its event's number, and in the microsecond that is its place in it.
 abbrev pub record_of : Deed → (event place : ℕ) → List ℕ → List ℕ
-record_of SendsPdu event place pdu = pdu_octets event place pdu
+record_of (SendsPdu lane) event place pdu = packet_octets lane (event * 1000000 + place) pdu
 record_of _ event place octets = []
 
 abbrev pub record_octets : Sighting → List ℕ

@@ -11,10 +11,10 @@ use Rattle.cfdp_node.specs.declared.watch.sighting.Sighting.{Sighting}
 abbrev pub deed_word : Deed → List ℕ
 deed_word (SendsFrame Directives) = codes "sends dir"
 deed_word (SendsFrame Data) = codes "sends data"
-deed_word SendsPdu = codes "sends"
+deed_word (SendsPdu lane) = codes "sends"
 deed_word (TakesFrame Directives) = codes "takes dir"
 deed_word (TakesFrame Data) = codes "takes data"
-deed_word HearsPdu = codes "hears"
+deed_word (HearsPdu lane) = codes "hears"
 deed_word (LosesFrame Directives) = codes "loses dir"
 deed_word (LosesFrame Data) = codes "loses data"
 deed_word Ticks = codes "ticks"
@@ -25,9 +25,9 @@ deed_word Tells = codes "tells"
 -- indication the words were noted.
 abbrev pub TellsWords : Deed → (zone : ℕ) → List ℕ → List ℕ → Type 0
 TellsWords (SendsFrame lane) zone octets = TellsAsFrame false zone octets
-TellsWords SendsPdu zone octets = TellsAsPdu false octets
+TellsWords (SendsPdu lane) zone octets = TellsAsPdu false octets
 TellsWords (TakesFrame lane) zone octets = TellsAsFrame false zone octets
-TellsWords HearsPdu zone octets = TellsAsPdu false octets
+TellsWords (HearsPdu lane) zone octets = TellsAsPdu false octets
 TellsWords (LosesFrame lane) zone octets = TellsAsFrame false zone octets
 TellsWords Ticks zone octets = λ words. words ≡ octets
 TellsWords Drops zone octets = λ words. words ≡ octets

@@ -308,12 +308,35 @@ impl fmt::Display for DumpedFrame {
 
     fn fmt<W: fmt::Write>(&self, f: &mut fmt::Formatter<W>) -> fmt::Result {
         let frame = self.frame;
-        if self.long && frame.header.cycle {
-            write!(f, "{frame} cycle")
+        if self.long {
+            let lane = lane_word(frame.header.channel);
+            let cycle = cycle_word(frame.header.cycle);
+            write!(f, "{frame}{lane}{cycle}")
         } else {
             write!(f, "{frame}")
         }
     }
+}
+
+/// The word for the lane of a virtual channel, with a space before it, where it is one of those
+/// that scripts use, and stations that aren't told others.
+fn lane_word(channel: u8) -> &'static str
+    ensures { result.now ≡ Rattle.cfdp_node.specs.Dump.Lines.lane_word channel }
+{
+    if channel == 5 || channel == 6 {
+        " dir"
+    } else if channel == 7 || channel == 8 {
+        " data"
+    } else {
+        ""
+    }
+}
+
+/// The word for a frame whose count has 28 bits, with a space before it.
+fn cycle_word(cycle: bool) -> &'static str
+    ensures { result.now ≡ Rattle.cfdp_node.specs.Dump.Lines.cycle_word cycle }
+{
+    if cycle { " cycle" } else { "" }
 }
 
 /// A frame, with the first header pointer of its packet zone.

@@ -1,22 +1,35 @@
 //! Captures of PDUs, as Wireshark reads them.
-ghost use Rattle.std.specs.Prelude.{OnOk};
+ghost use Rattle.std.specs.Prelude.{◌≡◌, ◌+◌, ◌*◌, ◌<◌, OnOk};
 ghost use Rattle.std.specs.Int.{to_be_bytes, w32};
 ghost use Rattle.std.specs.Io.KnownBytes.{Appends};
 ghost use Rattle.std.specs.List.{flat_map};
-ghost use Rattle.cfdp_node.specs.Watch.Capture.{capture_octets, record_octets};
+ghost use Rattle.cfdp_node.specs.Watch.Capture.{capture_octets, interface_of, packet_octets, record_octets};
 
 use crate::watch::sighting::{Deed, Sighting};
+use link_sim::Lane;
 use std::io;
 use std::io::{ErrorKind, Write};
 
-/// The header of a capture: version 2.4, records of at most 65,535 octets, link type 147, the first
-/// of those that stand for what a user says.
-const HEADER: [u8; 24] = [
-    0xA1, 0xB2, 0xC3, 0xD4, 0, 2, 0, 4, 0, 0, 0, 0, 0, 0, 0, 0, 0, 0, 0xFF, 0xFF, 0, 0, 0, 147,
+/// The header of a capture: version 1.0, and an interface for each lane, with its name, records of
+/// at most 65,535 octets, and link type 147, the first of those that stand for what a user says.
+const HEADER: [u8; 92] = [
+    0x0A, 0x0D, 0x0D, 0x0A, 0, 0, 0, 28, 0x1A, 0x2B, 0x3C, 0x4D, 0, 1, 0, 0, // version
+    0xFF, 0xFF, 0xFF, 0xFF, 0xFF, 0xFF, 0xFF, 0xFF, 0, 0, 0, 28, // no length
+    0, 0, 0, 1, 0, 0, 0, 32, 0, 147, 0, 0, 0, 0, 0xFF, 0xFF, // link type
+    0, 2, 0, 3, b'd', b'i', b'r', 0, 0, 0, 0, 0, 0, 0, 0, 32, // name
+    0, 0, 0, 1, 0, 0, 0, 32, 0, 147, 0, 0, 0, 0, 0xFF, 0xFF, // link type
+    0, 2, 0, 4, b'd', b'a', b't', b'a', 0, 0, 0, 0, 0, 0, 0, 32, // name
 ];
 
-/// Writes the PDUs that were sent, in order, as a capture in the classic pcap format. The time of
-/// each is the number of its event in seconds, and its place in it in microseconds.
+/// The kind of a block that has a packet.
+const PACKET: u32 = 6;
+
+/// The octets of such a block around the packet.
+const AROUND: u32 = 32;
+
+/// Writes the PDUs that were sent, in order, as a capture in the pcapng format, in which each lane is
+/// an interface. The time of each is the number of its event in seconds, and its place in it in
+/// microseconds.
 ///
 /// # Errors
 ///
@@ -46,10 +59,13 @@ fn write_record<W: Write>(out: &mut W, sighting: &Sighting) -> io::Result<()>
         (record_octets sighting.now)) }
 {
     match sighting.deed {
-        Deed::SendsPdu => write_pdu(out, sighting.event, sighting.place, &sighting.octets),
+        Deed::SendsPdu(lane) => {
+            let time = microseconds(sighting.event, sighting.place);
+            write_packet(out, lane, time, &sighting.octets)
+        }
         Deed::SendsFrame(_)
         | Deed::TakesFrame(_)
-        | Deed::HearsPdu
+        | Deed::HearsPdu(_)
         | Deed::LosesFrame(_)
         | Deed::Ticks
         | Deed::Drops
@@ -57,20 +73,52 @@ fn write_record<W: Write>(out: &mut W, sighting: &Sighting) -> io::Result<()>
     }
 }
 
-/// Writes a PDU behind its time and its length, which stands twice: as captured, and as sent.
-fn write_pdu<W: Write>(out: &mut W, seconds: u32, microseconds: u32, pdu: &[u8]) -> io::Result<()>
+/// Writes the block of a PDU that left in this lane at this time, which is in microseconds. Its
+/// length stands twice, as captured and as sent, and that of the block at both its ends.
+fn write_packet<W: Write>(out: &mut W, lane: Lane, time: u64, pdu: &[u8]) -> io::Result<()>
     ensures { OnOk result (Appends (W.contents out.old) (W.contents out.new)
-        (Rattle.cfdp_node.specs.Watch.Capture.pdu_octets seconds microseconds pdu.now)) }
+        (packet_octets lane time pdu.now)) }
 {
     let Ok(len) = u16::try_from(pdu.len()) else {
         return Err(io::Error::from(ErrorKind::InvalidInput));
     };
-    write_number(out, seconds)?;
-    write_number(out, microseconds)?;
     let len = u32::from(len);
+    let spare = spare(len);
+    let block_len = AROUND + len + spare;
+    write_number(out, PACKET)?;
+    write_number(out, block_len)?;
+    write_number(out, interface(lane))?;
+    out.write_all(&time.to_be_bytes())?;
     write_number(out, len)?;
     write_number(out, len)?;
-    out.write_all(pdu)
+    out.write_all(pdu)?;
+    out.write_all(&[0; 3][..spare as usize])?;
+    write_number(out, block_len)
+}
+
+/// How many octets are wanting up to a multiple of four.
+fn spare(len: u32) -> u32
+    ensures within { result < 4 }
+    ensures same { result ≡ Rattle.cfdp_node.specs.Watch.Capture.spare len }
+{
+    (4 - len % 4) % 4
+}
+
+/// The time in microseconds at a place of an event.
+fn microseconds(event: u32, place: u32) -> u64
+    ensures { result ≡ event * 1000000 + place }
+{
+    u64::from(event) * 1_000_000 + u64::from(place)
+}
+
+/// The number of a lane's interface.
+fn interface(lane: Lane) -> u32
+    ensures { result ≡ interface_of lane }
+{
+    match lane {
+        Lane::Directives => 0,
+        Lane::Data => 1,
+    }
 }
 
 /// Writes a number as four octets, the highest first.

@@ -99,7 +99,7 @@ impl Watch {
             &mut self.sending,
             frame,
             self.from,
-            Deed::SendsPdu,
+            Deed::SendsPdu(lane),
             log,
         );
     }
@@ -130,7 +130,7 @@ impl Watch {
             &mut self.hearing,
             frame,
             to,
-            Deed::HearsPdu,
+            Deed::HearsPdu(lane),
             log,
         );
     }

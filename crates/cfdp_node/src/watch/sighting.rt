@@ -15,12 +15,12 @@ use std::fmt;
 pub enum Deed {
     /// The frame left it, in this lane.
     SendsFrame(Lane),
-    /// The last of the frames that carry the PDU left it.
-    SendsPdu,
+    /// The last of the frames that carry the PDU left it, in this lane.
+    SendsPdu(Lane),
     /// The frame reached it, in this lane.
     TakesFrame(Lane),
-    /// The last of the frames that carry the PDU reached it, and so had the others.
-    HearsPdu,
+    /// The last of the frames that carry the PDU reached it, in this lane, and so had the others.
+    HearsPdu(Lane),
     /// The frame left it, in this lane, and is lost.
     LosesFrame(Lane),
     /// It was told the time.
