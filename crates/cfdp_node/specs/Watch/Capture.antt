@@ -1,6 +1,7 @@
--- What is in a capture: the pcapng format, as libpcap and Wireshark read it, all numbers with the
--- highest octet first. It is a row of blocks. Each has its kind in front, its length in octets behind
--- that and again at its end, and is filled up to a multiple of four octets.
+-- What is in a capture: the pcapng format (draft-ietf-opsawg-pcapng), as Wireshark reads it, all
+-- numbers with the highest octet first. It is a row of blocks (3.1 there). Each has its kind in
+-- front, its length in octets behind that and again at its end, and is filled up to a multiple of
+-- four octets.
 use Rattle.std.specs.Prelude.{ℕ, ◌+◌, ◌-◌, ◌*◌, ◌^◌, ◌%◌, List, [], ◌++◌, codes, length, replicate, take}
 use Rattle.std.specs.Int.{to_be_bytes, w16, w32, w64}
 use Rattle.std.specs.List.{flat_map}
@@ -18,13 +19,14 @@ spare len = (4 - len % 4) % 4
 abbrev pub filling : ℕ → List ℕ
 filling len = take (spare len) (replicate 3 0)
 
--- the block that begins a capture: the order of octets, version 1.0, and a length that isn't told
+-- the block that begins a capture (4.1): the order of octets, version 1.0, and a length that isn't
+-- told
 abbrev pub section_octets : List ℕ
 section_octets = to_be_bytes w32 0x0A0D0D0A ++ to_be_bytes w32 28 ++ to_be_bytes w32 0x1A2B3C4D
     ++ to_be_bytes w16 1 ++ to_be_bytes w16 0 ++ to_be_bytes w64 (2 ^ 64 - 1) ++ to_be_bytes w32 28
 
--- a block of an interface, whose name is of three or four octets: link type 147, records of at most
--- 65,535 octets, the name (option 2), and the end of options
+-- a block of an interface (4.2), whose name is of three or four octets: link type 147, records of
+-- at most 65,535 octets, the name (option 2), and the end of options
 abbrev pub interface_octets : List ℕ → List ℕ
 interface_octets name = to_be_bytes w32 1 ++ to_be_bytes w32 32 ++ to_be_bytes w16 147
     ++ to_be_bytes w16 0 ++ to_be_bytes w32 65535 ++ to_be_bytes w16 2
@@ -44,16 +46,17 @@ interface_of Data = 1
 abbrev pub block_len : ℕ → ℕ
 block_len len = 32 + len + spare len
 
--- a block of a packet: its interface, its time in microseconds, its length as captured and as sent,
--- and the PDU
+-- a block of a packet (4.3): its interface, its time in microseconds, its length as captured and as
+-- sent, and the PDU
 abbrev pub packet_octets : Lane → (microseconds : ℕ) → List ℕ → List ℕ
 packet_octets lane microseconds pdu = to_be_bytes w32 6 ++ to_be_bytes w32 (block_len (length pdu))
     ++ to_be_bytes w32 (interface_of lane) ++ to_be_bytes w64 microseconds
     ++ to_be_bytes w32 (length pdu) ++ to_be_bytes w32 (length pdu)
     ++ (pdu ++ (filling (length pdu) ++ to_be_bytes w32 (block_len (length pdu))))
 
--- Each PDU that is sent is there once, at the interface of the lane in which its last frame left. It
--- was sent in the second that is its event's number, and in the microsecond that is its place in it.
+-- Each PDU that is sent is there once, at the interface of the lane in which its last frame left.
+-- It was sent in the second that is its event's number, and in the microsecond that is its place
+-- in it.
 abbrev pub record_of : Deed → (event place : ℕ) → List ℕ → List ℕ
 record_of (SendsPdu lane) event place pdu = packet_octets lane (event * 1000000 + place) pdu
 record_of _ event place octets = []

@@ -27,8 +27,8 @@ const PACKET: u32 = 6;
 /// The octets of such a block around the packet.
 const AROUND: u32 = 32;
 
-/// Writes the PDUs that were sent, in order, as a capture in the pcapng format, in which each lane is
-/// an interface. The time of each is the number of its event in seconds, and its place in it in
+/// Writes the PDUs that were sent, in order, as a capture in the pcapng format, in which each lane
+/// is an interface. The time of each is the number of its event in seconds, and its place in it in
 /// microseconds.
 ///
 /// # Errors
