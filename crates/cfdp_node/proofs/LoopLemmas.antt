@@ -68,22 +68,21 @@ is_told (Device TooLong) P so = so
 
 module _ {W : Type 0} (Steps : W → WireCall → W → Type 0) (old mid new : Option (List ℕ)) (kept : Keeps mid new)
     (source destination : List ℕ) (every most : ℕ) (wire_one wire_two : W) where
-  all_kept : (first : LoopState W) (exit : Exit) → LoopsAll Steps source destination every most first exit old mid
-      → LoopsAll Steps source destination every most first exit old new
-  all_kept first exit all = record {
+  all_kept : (first last : LoopState W) (exit : Exit) → LoopsAll Steps source destination every most first last exit old mid
+      → LoopsAll Steps source destination every most first last exit old new
+  all_kept first last exit all = record {
     answer = all.answer;
     short = all.short;
-    last = all.last;
     runs = all.runs;
     ends = all.ends;
-    written = Appends-kept old mid new (loop_text all.answer all.last.one all.last.two) all.written kept;
+    written = Appends-kept old mid new (loop_text all.answer last.one last.two) all.written kept;
   }
 
   one_kept : (exit : Exit) (one : StationState) (config : StationConfig) (files : FileMap)
       → EndsFromOne Steps exit one config files wire_one wire_two source destination every most old mid
       → EndsFromOne Steps exit one config files wire_one wire_two source destination every most old new
   one_kept exit one config files (inl none) = inl (none.0, Keeps-trans old mid new none.1 kept)
-  one_kept exit one config files (inr two) = inr (two.0, two.1, all_kept _ exit two.2)
+  one_kept exit one config files (inr two) = inr (two.0, two.1, (two.2.0, all_kept _ _ exit two.2.1))
 
   loop_kept : (exit : Exit) (sources files : FileMap)
       → EndsLoop Steps exit sources files wire_one wire_two source destination every most old mid
@@ -147,16 +146,16 @@ first_over config sources own_sources files own_files s same_sources same_files 
 -- ---- from one station to both
 module _ {W : Type 0} (Steps : W → WireCall → W → Type 0) (exit : Exit) (source destination : List ℕ) (every most : ℕ) (wire_one wire_two : W)
     (old new : Option (List ℕ)) where
-  pub from_both : (one two : StationState) (config : StationConfig) (files : FileMap) (own_every left : ℕ) → own_every ≡ every → left ≡ every
-      → IsFirstAt config empty files two
+  pub from_both : (one two : StationState) (config : StationConfig) (files : FileMap) (own_every left : ℕ) (last : LoopState W)
+      → own_every ≡ every → left ≡ every → IsFirstAt config empty files two
       → IsTold exit (LoopsAll Steps source destination own_every most
-      (record { one = one; two = two; wire_one = wire_one; wire_two = wire_two; left = left }) exit old new)
+      (record { one = one; two = two; wire_one = wire_one; wire_two = wire_two; left = left }) last exit old new)
       → IsTold exit (EndsFromOne Steps exit one config files wire_one wire_two source destination every most old new)
-  from_both one two config files own_every left same_every same_left first told =
+  from_both one two config files own_every left last same_every same_left first told =
       let All : ℕ → ℕ → Type 0 = λ e l. LoopsAll Steps source destination e most
-      (record { one = one; two = two; wire_one = wire_one; wire_two = wire_two; left = l }) exit old new in
+      (record { one = one; two = two; wire_one = wire_one; wire_two = wire_two; left = l }) last exit old new in
       told_too exit (All own_every left) (EndsFromOne Steps exit one config files wire_one wire_two source destination every most old new)
-      (λ all. inr (two, first, subst (λ e. All e every) same_every (subst (All own_every) same_left all))) told
+      (λ all. inr (two, first, (last, subst (λ e. All e every) same_every (subst (All own_every) same_left all)))) told
 
   pub from_first : (one : StationState) (configs : WorldConfig) (sources files : FileMap) → configs ≡ world_of loop_settings
       → IsFirstAt configs.one sources empty one

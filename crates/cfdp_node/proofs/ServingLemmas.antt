@@ -172,11 +172,10 @@ made-more puts count first mid new before next = rw add-one (mid, before, next)
 
 -- ---- the whole
 module _ {W : Type 0} (Steps : W → WireCall → W → Type 0) (silent : W → Bool) (own every : ℕ) (puts : List PutNames) where
-  served-kept : (exit : Exit) (first : Sending W) (old mid new : Option (List ℕ)) → Keeps mid new
-      → ServesTo Steps silent own every puts exit first old mid → ServesTo Steps silent own every puts exit first old new
-  served-kept exit first old mid new kept to = record {
+  served-kept : (exit : Exit) (first last : Sending W) (old mid new : Option (List ℕ)) → Keeps mid new
+      → ServesTo Steps silent own every puts exit first last old mid → ServesTo Steps silent own every puts exit first last old new
+  served-kept exit first last old mid new kept to = record {
     short = to.short;
-    last = to.last;
     serves = record {
       station = to.serves.station;
       ids = to.serves.ids;
@@ -194,7 +193,7 @@ module _ {W : Type 0} (Steps : W → WireCall → W → Type 0) (silent : W → 
   from-kept : (exit : Exit) (first : Sending W) (old mid new : Option (List ℕ)) → Keeps mid new
       → EndsFrom Steps silent own every puts exit first old mid → EndsFrom Steps silent own every puts exit first old new
   from-kept exit first old mid new kept (inl none) = inl (none.0, Keeps-trans old mid new none.1 kept)
-  from-kept exit first old mid new kept (inr to) = inr (served-kept exit first old mid new kept to)
+  from-kept exit first old mid new kept (inr to) = inr (to.0, served-kept exit first to.0 old mid new kept to.1)
 
   station-kept : (exit : Exit) (config : StationConfig) (sources files : FileMap) (wire : W) (old mid new : Option (List ℕ)) → Keeps mid new
       → EndsStation Steps silent own every puts exit config sources files wire old mid → EndsStation Steps silent own every puts exit config sources files wire old new
@@ -212,9 +211,9 @@ module _ {W : Type 0} (Steps : W → WireCall → W → Type 0) (silent : W → 
       ⊎_elim (λ e. subst Ends (sym e) now) (λ e. subst Ends (sym e) tt) from
 
   -- a new station and its wire, with what turns need
-  pub from-all : (exit : Exit) (station : StationState) (wire : W) (own_every left : ℕ) (old new : Option (List ℕ)) → own_every ≡ every → left ≡ every
-      → IsTold exit (ServesTo Steps silent own own_every puts exit (record { station = station; wire = wire; left = left }) old new)
+  pub from-all : (exit : Exit) (station : StationState) (wire : W) (own_every left : ℕ) (last : Sending W) (old new : Option (List ℕ)) → own_every ≡ every → left ≡ every
+      → IsTold exit (ServesTo Steps silent own own_every puts exit (record { station = station; wire = wire; left = left }) last old new)
       → IsTold exit (EndsFrom Steps silent own every puts exit (record { station = station; wire = wire; left = every }) old new)
-  from-all exit station wire own_every left old new same_every same_left told =
-      let All : ℕ → ℕ → Type 0 = λ e l. ServesTo Steps silent own e puts exit (record { station = station; wire = wire; left = l }) old new in
-      told_too exit (All own_every left) _ (λ all. inr (subst (λ e. All e every) same_every (subst (All own_every) same_left all))) told
+  from-all exit station wire own_every left last old new same_every same_left told =
+      let All : ℕ → ℕ → Type 0 = λ e l. ServesTo Steps silent own e puts exit (record { station = station; wire = wire; left = l }) last old new in
+      told_too exit (All own_every left) _ (λ all. inr (last, subst (λ e. All e every) same_every (subst (All own_every) same_left all))) told

@@ -3,7 +3,7 @@ ghost use Rattle.std.specs.Io.Buffered.{writer_buffer, writer_contents};
 ghost use Rattle.std.specs.Io.KnownBytes.{Appends};
 ghost use Rattle.std.specs.Prelude.{◌≡◌, ◌↔◌, Some, length, IfOk, IsTrue, OnErr, OnOk};
 ghost use Rattle.cfdp_node.specs.Exit.{IsFlushedAt};
-ghost use Rattle.cfdp_node.specs.Looping.Turns.{EndsFromOne, EndsLoop, IsClosed, IsTold, LoopRuns, LoopsAll, RunsInPart, RunsTurns, TakesTurn, TurnsInPart, completed, is_no_memory, loop_exit, loop_settings, loop_text, more_failures, refusal_answer};
+ghost use Rattle.cfdp_node.specs.Looping.Turns.{EndsFromOne, EndsLoop, HasRun, IsClosed, IsTold, LoopRuns, LoopsAll, RunsInPart, RunsTurns, TakesTurn, TurnsInPart, completed, is_no_memory, loop_exit, loop_settings, loop_text, more_failures, refusal_answer};
 ghost use Rattle.cfdp_node.specs.Script.Settings.{world_of};
 ghost use Rattle.cfdp_node.specs.Report.Lines.{count_line};
 ghost use Rattle.cfdp_node.specs.Wire.Turn.{FitsFrames, HasZones};
@@ -138,12 +138,21 @@ fn run_second<O: Outbox, I: Inbox, J: Inbox, W: Wire, V: Write, L: Lookout>(
         wires.0 wires.1 options.now.source.items options.now.destination.items
         options.now.drop_every options.now.turns (V.contents out.old) (V.contents out.new)) }
 {
-    let Ok(turning) = Turning::new(alloc, one.frame_len(), options.drop_every) else {
+    let Ok(mut turning) = Turning::new(alloc, one.frame_len(), options.drop_every) else {
         return Exit::Device(Fault::NoMemoryAtStart);
     };
     match Station::new(alloc, config, MemoryOutbox::new(alloc), inbox) {
         Ok(mut two) => {
-            let exit = run_both(options, one, &mut two, wires, turning, out, lookout);
+            let mut wires = wires;
+            let exit = run_both(
+                options,
+                one,
+                &mut two,
+                &mut wires,
+                &mut turning,
+                out,
+                lookout,
+            );
             let_go(two);
             exit
         }
@@ -185,32 +194,55 @@ impl Turning {
     }
 }
 
-/// Runs all at two stations that did nothing yet, and writes the report.
-fn run_both<O: Outbox, I: Inbox, P: Outbox, J: Inbox, W: Wire, V: Write, L: Lookout>(
+/// Runs all at two stations that did nothing yet, and writes the report. Both stations and their
+/// wires are left as the turns left them, also where the report can't be written.
+pub fn run_both<O: Outbox, I: Inbox, P: Outbox, J: Inbox, W: Wire, V: Write, L: Lookout>(
     options: &LoopOptions,
     one: &mut Station<O, J>,
     two: &mut Station<P, I>,
-    wires: (W, W),
-    turning: Turning,
+    wires: &mut (W, W),
+    turning: &mut Turning,
     out: &mut V,
     lookout: &mut L,
 ) -> Exit
-    requires one { FitsFrames (length turning.frame.items) one.old }
-    requires two { FitsFrames (length turning.frame.items) two.old }
-    ensures { IsTold result (LoopsAll W.steps options.now.source.items
-        options.now.destination.items turning.losses.every options.now.turns
+    requires one { FitsFrames (length turning.old.frame.items) one.old }
+    requires two { FitsFrames (length turning.old.frame.items) two.old }
+    ensures ran { HasRun W.steps options.now.source.items options.now.destination.items
+        turning.old.losses.every options.now.turns
         (record {
           one = one.old;
           two = two.old;
-          wire_one = wires.0;
-          wire_two = wires.1;
-          left = turning.losses.left;
+          wire_one = wires.old.0;
+          wire_two = wires.old.1;
+          left = turning.old.losses.left;
+        })
+        (record {
+          one = one.new;
+          two = two.new;
+          wire_one = wires.new.0;
+          wire_two = wires.new.1;
+          left = turning.new.losses.left;
+        }) }
+    ensures told { IsTold result (LoopsAll W.steps options.now.source.items
+        options.now.destination.items turning.old.losses.every options.now.turns
+        (record {
+          one = one.old;
+          two = two.old;
+          wire_one = wires.old.0;
+          wire_two = wires.old.1;
+          left = turning.old.losses.left;
+        })
+        (record {
+          one = one.new;
+          two = two.new;
+          wire_one = wires.new.0;
+          wire_two = wires.new.1;
+          left = turning.new.losses.left;
         }) result (V.contents out.old) (V.contents out.new)) }
 {
-    let (mut wires, mut turning) = (wires, turning);
     let read = one.outbox().failures();
     let written = two.inbox().failures();
-    let ended = run(options, one, two, &mut wires, &mut turning, lookout);
+    let ended = run(options, one, two, wires, turning, lookout);
     lookout.ends();
     let failed = have_failed(one, two, read, written);
     match write_report(out, ended.answer, one, two) {

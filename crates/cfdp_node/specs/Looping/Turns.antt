@@ -177,13 +177,18 @@ module _ {W : Type 0} (Steps : W → WireCall → W → Type 0) where
     pub follows : Follows Steps every most put short (record first { one = one }) last
     pub answered : answer ≡ put_answer put
 
+  -- That happened, whatever the put answered, and whether or not memory was wanting.
+  abbrev pub HasRun : (source destination : List ℕ) → (every most : ℕ)
+      → (first last : LoopState W) → Type 0
+  HasRun source destination every most first last = (answer : Option Answer) × (short : Bool)
+      × LoopRuns source destination every most answer short first last
+
   -- From these stations and wires that happened, and what was written is the report of the
   -- stations that it left.
-  pub record LoopsAll (source destination : List ℕ) (every most : ℕ) (first : LoopState W)
+  pub record LoopsAll (source destination : List ℕ) (every most : ℕ) (first last : LoopState W)
       (exit : Exit) (old new : Option (List ℕ)) : Type 0 where
     pub answer : Option Answer
     pub short : Bool
-    pub last : LoopState W
     pub runs : LoopRuns source destination every most answer short first last
     pub ends : exit ≡ loop_exit short (completed last.one)
         (has_failed first.one first.two last.one last.two)
@@ -201,9 +206,9 @@ abbrev pub EndsFromOne : {W : Type 0} → (W → WireCall → W → Type 0) → 
 EndsFromOne Steps exit one config files wire_one wire_two source destination every most old new =
     ((exit ≡ Device NoMemoryAtStart) × Keeps old new)
     ⊎ ((two : StationState) × IsFirstAt config empty files two
-    × LoopsAll Steps source destination every most
+    × ((last : LoopState _) × LoopsAll Steps source destination every most
     (record { one = one; two = two; wire_one = wire_one; wire_two = wire_two; left = every })
-    exit old new)
+    last exit old new))
 
 -- A file went so, from two new stations, of which the first has these files to send and the second
 -- published those before; or there was no memory for the stations, and nothing is written.

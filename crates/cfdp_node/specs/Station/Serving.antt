@@ -163,9 +163,9 @@ module _ {W : Type 0} (Steps : W → WireCall → W → Type 0) (silent : W → 
       pub wants : short ≡ (refused || halted)
 
   -- That happened, and so the run ended.
-  pub record ServesTo (exit : Exit) (first : Sending W) (old new : Option (List ℕ)) : Type 0 where
+  pub record ServesTo (exit : Exit) (first last : Sending W) (old new : Option (List ℕ)) : Type 0
+    where
     pub short : Bool
-    pub last : Sending W
     pub serves : Serves short first last old new
     pub ends : exit ≡ station_exit short (more_failures first.station.entity.outbox_failures
         first.station.entity.inbox_failures last.station last.station)
@@ -174,7 +174,8 @@ module _ {W : Type 0} (Steps : W → WireCall → W → Type 0) (silent : W → 
   -- It happened from this state; or there was no memory to begin, and nothing is written.
   abbrev pub EndsFrom : Exit → Sending W → (old new : Option (List ℕ)) → Type 0
   EndsFrom exit first old new =
-      ((exit ≡ Device NoMemoryAtStart) × Keeps old new) ⊎ ServesTo exit first old new
+      ((exit ≡ Device NoMemoryAtStart) × Keeps old new)
+      ⊎ ((last : Sending W) × ServesTo exit first last old new)
 
   -- It happened so from a new station, which has these files to send and published those before.
   abbrev pub EndsStation : Exit → StationConfig → (sources files : FileMap) → W

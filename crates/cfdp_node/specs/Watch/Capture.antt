@@ -1,7 +1,7 @@
 -- What is in a capture: the pcapng format (draft-ietf-opsawg-pcapng), as Wireshark reads it, all
 -- numbers with the highest octet first. It is a row of blocks (3.1 there). Each has its kind in
--- front, its length in octets behind that and again at its end, and is filled up to a multiple of
--- four octets.
+-- front, its length in octets behind that and again at its end, and is padded to a multiple of four
+-- octets.
 use Rattle.std.specs.Prelude.{ℕ, ◌+◌, ◌-◌, ◌*◌, ◌^◌, ◌%◌, List, [], ◌++◌, codes, length, replicate, take}
 use Rattle.std.specs.Int.{to_be_bytes, w16, w32, w64}
 use Rattle.std.specs.List.{flat_map}
@@ -11,13 +11,13 @@ use Rattle.cfdp_node.specs.declared.watch.sighting.Deed.{Deed}
 use Rattle.cfdp_node.specs.declared.watch.sighting.Deed.TheVariants.{SendsPdu}
 use Rattle.cfdp_node.specs.declared.watch.sighting.Sighting.{Sighting}
 
--- how many octets are wanting up to a multiple of four
-abbrev pub spare : ℕ → ℕ
-spare len = (4 - len % 4) % 4
+-- how many octets of padding follow so many octets, up to a multiple of four
+abbrev pub padding_len : ℕ → ℕ
+padding_len len = (4 - len % 4) % 4
 
--- zeros for these
-abbrev pub filling : ℕ → List ℕ
-filling len = take (spare len) (replicate 3 0)
+-- these octets, which are zero
+abbrev pub padding : ℕ → List ℕ
+padding len = take (padding_len len) (replicate 3 0)
 
 -- the block that begins a capture (4.1): the order of octets, version 1.0, and a length that isn't
 -- told
@@ -30,7 +30,7 @@ section_octets = to_be_bytes w32 0x0A0D0D0A ++ to_be_bytes w32 28 ++ to_be_bytes
 abbrev pub interface_octets : List ℕ → List ℕ
 interface_octets name = to_be_bytes w32 1 ++ to_be_bytes w32 32 ++ to_be_bytes w16 147
     ++ to_be_bytes w16 0 ++ to_be_bytes w32 65535 ++ to_be_bytes w16 2
-    ++ to_be_bytes w16 (length name) ++ name ++ filling (length name) ++ to_be_bytes w32 0
+    ++ to_be_bytes w16 (length name) ++ name ++ padding (length name) ++ to_be_bytes w32 0
     ++ to_be_bytes w32 32
 
 -- Each lane is an interface.
@@ -44,7 +44,7 @@ interface_of Data = 1
 
 -- the length of the block of a PDU of so many octets
 abbrev pub block_len : ℕ → ℕ
-block_len len = 32 + len + spare len
+block_len len = 32 + len + padding_len len
 
 -- a block of a packet (4.3): its interface, its time in microseconds, its length as captured and as
 -- sent, and the PDU
@@ -52,7 +52,7 @@ abbrev pub packet_octets : Lane → (microseconds : ℕ) → List ℕ → List �
 packet_octets lane microseconds pdu = to_be_bytes w32 6 ++ to_be_bytes w32 (block_len (length pdu))
     ++ to_be_bytes w32 (interface_of lane) ++ to_be_bytes w64 microseconds
     ++ to_be_bytes w32 (length pdu) ++ to_be_bytes w32 (length pdu)
-    ++ (pdu ++ (filling (length pdu) ++ to_be_bytes w32 (block_len (length pdu))))
+    ++ (pdu ++ (padding (length pdu) ++ to_be_bytes w32 (block_len (length pdu))))
 
 -- Each PDU that is sent is there once, at the interface of the lane in which its last frame left.
 -- It was sent in the second that is its event's number, and in the microsecond that is its place

@@ -14,7 +14,7 @@ deed_word (SendsFrame Data) = codes "sends data"
 deed_word (SendsPdu lane) = codes "sends"
 deed_word (TakesFrame Directives) = codes "takes dir"
 deed_word (TakesFrame Data) = codes "takes data"
-deed_word (HearsPdu lane) = codes "hears"
+deed_word HearsPdu = codes "hears"
 deed_word (LosesFrame Directives) = codes "loses dir"
 deed_word (LosesFrame Data) = codes "loses data"
 deed_word Ticks = codes "ticks"
@@ -27,7 +27,7 @@ abbrev pub TellsWords : Deed → (zone : ℕ) → List ℕ → List ℕ → Type
 TellsWords (SendsFrame lane) zone octets = TellsAsFrame false zone octets
 TellsWords (SendsPdu lane) zone octets = TellsAsPdu false octets
 TellsWords (TakesFrame lane) zone octets = TellsAsFrame false zone octets
-TellsWords (HearsPdu lane) zone octets = TellsAsPdu false octets
+TellsWords HearsPdu zone octets = TellsAsPdu false octets
 TellsWords (LosesFrame lane) zone octets = TellsAsFrame false zone octets
 TellsWords Ticks zone octets = λ words. words ≡ octets
 TellsWords Drops zone octets = λ words. words ≡ octets

@@ -145,41 +145,48 @@ fn run_on<O: Outbox, I: Inbox, W: PeerWire, C: Clock, V: Write, L: Lookout>(
         return Exit::Device(Fault::NoMemoryAtStart);
     };
     match Turning::new(alloc, station.frame_len(), options.drop_every) {
-        Ok(turning) => run_all(options, station, wire, clock, ids, turning, out, lookout),
+        Ok(mut turning) => {
+            let mut wire = wire;
+            run_all(
+                options,
+                station,
+                &mut wire,
+                clock,
+                ids,
+                &mut turning,
+                out,
+                lookout,
+            )
+        }
         Err(AllocError) => Exit::Device(Fault::NoMemoryAtStart),
     }
 }
 
-/// Runs a station that did nothing yet, and tells how that ended.
-fn run_all<O: Outbox, I: Inbox, W: PeerWire, C: Clock, V: Write, L: Lookout>(
+/// Runs a station that did nothing yet, and tells how that ended. The station and its wire are left
+/// as what is told left them.
+pub fn run_all<O: Outbox, I: Inbox, W: PeerWire, C: Clock, V: Write, L: Lookout>(
     options: &StationOptions,
     station: &mut Station<O, I>,
-    wire: W,
+    wire: &mut W,
     clock: C,
     ids: Vec<TransactionId>,
-    turning: Turning,
+    turning: &mut Turning,
     out: &mut V,
     lookout: &mut L,
 ) -> Exit
-    requires fits { FitsFrames (length turning.frame.items) station.old }
+    requires fits { FitsFrames (length turning.old.frame.items) station.old }
     requires none { ids.items ≡ [] }
     requires room { length options.now.puts.items ≤ vec_capacity ids }
     ensures { IsTold result (ServesTo W.steps W.silent options.now.config.entity.entity
-        turning.losses.every options.now.puts.items result
-        (record { station = station.old; wire = wire; left = turning.losses.left })
+        turning.old.losses.every options.now.puts.items result
+        (record { station = station.old; wire = wire.old; left = turning.old.losses.left })
+        (record { station = station.new; wire = wire.new; left = turning.new.losses.left })
         (V.contents out.old) (V.contents out.new)) }
 {
-    let (mut wire, mut clock, mut ids, mut turning) = (wire, clock, ids, turning);
+    let (mut clock, mut ids) = (clock, ids);
     let (read, written) = (station.outbox().failures(), station.inbox().failures());
     let served = serve(
-        options,
-        station,
-        &mut wire,
-        &mut clock,
-        &mut ids,
-        &mut turning,
-        out,
-        lookout,
+        options, station, wire, &mut clock, &mut ids, turning, out, lookout,
     );
     lookout.ends();
     match served {

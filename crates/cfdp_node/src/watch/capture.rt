@@ -65,7 +65,7 @@ fn write_record<W: Write>(out: &mut W, sighting: &Sighting) -> io::Result<()>
         }
         Deed::SendsFrame(_)
         | Deed::TakesFrame(_)
-        | Deed::HearsPdu(_)
+        | Deed::HearsPdu
         | Deed::LosesFrame(_)
         | Deed::Ticks
         | Deed::Drops
@@ -83,8 +83,8 @@ fn write_packet<W: Write>(out: &mut W, lane: Lane, time: u64, pdu: &[u8]) -> io:
         return Err(io::Error::from(ErrorKind::InvalidInput));
     };
     let len = u32::from(len);
-    let spare = spare(len);
-    let block_len = AROUND + len + spare;
+    let padding = padding_len(len);
+    let block_len = AROUND + len + padding;
     write_number(out, PACKET)?;
     write_number(out, block_len)?;
     write_number(out, interface(lane))?;
@@ -92,14 +92,14 @@ fn write_packet<W: Write>(out: &mut W, lane: Lane, time: u64, pdu: &[u8]) -> io:
     write_number(out, len)?;
     write_number(out, len)?;
     out.write_all(pdu)?;
-    out.write_all(&[0; 3][..spare as usize])?;
+    out.write_all(&[0; 3][..padding as usize])?;
     write_number(out, block_len)
 }
 
-/// How many octets are wanting up to a multiple of four.
-fn spare(len: u32) -> u32
+/// How many octets of padding follow so many octets, up to a multiple of four.
+fn padding_len(len: u32) -> u32
     ensures within { result < 4 }
-    ensures same { result ≡ Rattle.cfdp_node.specs.Watch.Capture.spare len }
+    ensures same { result ≡ Rattle.cfdp_node.specs.Watch.Capture.padding_len len }
 {
     (4 - len % 4) % 4
 }

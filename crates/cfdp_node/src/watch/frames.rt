@@ -130,7 +130,7 @@ impl Watch {
             &mut self.hearing,
             frame,
             to,
-            Deed::HearsPdu(lane),
+            Deed::HearsPdu,
             log,
         );
     }

@@ -19,8 +19,8 @@ pub enum Deed {
     SendsPdu(Lane),
     /// The frame reached it, in this lane.
     TakesFrame(Lane),
-    /// The last of the frames that carry the PDU reached it, in this lane, and so had the others.
-    HearsPdu(Lane),
+    /// The last of the frames that carry the PDU reached it, and so had the others.
+    HearsPdu,
     /// The frame left it, in this lane, and is lost.
     LosesFrame(Lane),
     /// It was told the time.

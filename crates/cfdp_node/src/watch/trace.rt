@@ -20,7 +20,7 @@ impl Deed {
             Deed::SendsPdu(_) => "sends",
             Deed::TakesFrame(Lane::Directives) => "takes dir",
             Deed::TakesFrame(Lane::Data) => "takes data",
-            Deed::HearsPdu(_) => "hears",
+            Deed::HearsPdu => "hears",
             Deed::LosesFrame(Lane::Directives) => "loses dir",
             Deed::LosesFrame(Lane::Data) => "loses data",
             Deed::Ticks => "ticks",
@@ -77,7 +77,7 @@ fn write_words<W: Write>(out: &mut W, zone: u16, sighting: &Sighting) -> io::Res
         (W.contents out.old) (W.contents out.new)) }
 {
     match sighting.deed {
-        Deed::SendsPdu(_) | Deed::HearsPdu(_) => write_pdu(&sighting.octets, false, out),
+        Deed::SendsPdu(_) | Deed::HearsPdu => write_pdu(&sighting.octets, false, out),
         Deed::SendsFrame(_) | Deed::TakesFrame(_) | Deed::LosesFrame(_) => {
             write_frame(&sighting.octets, zone, false, out)
         }

@@ -14,7 +14,14 @@ returns-in-Ok-new g c =
     c.args.options.now.drop_every c.args.options.now.turns c.args.wires.0 c.args.wires.1
     (g.V.Write.contents c.args.out.now) (g.V.Write.contents c.run_both-exit.new.out)
     c.args.one.now c.in-Ok-new.two c.args.config published c.in-Ok.turning.losses.every c.in-Ok.turning.losses.left
-    c.in-Ok.ensures.losses.0 c.in-Ok.ensures.losses.1 first c.run_both-exit.ensures
+    (record {
+      one = c.run_both-exit.new.one;
+      two = c.run_both-exit.new.two;
+      wire_one = c.run_both-exit.new.wires.0;
+      wire_two = c.run_both-exit.new.wires.1;
+      left = c.run_both-exit.new.turning.losses.left;
+    })
+    c.in-Ok.ensures.losses.0 c.in-Ok.ensures.losses.1 first c.run_both-exit.ensures.told
 
 pub run_both-exit-requires-clause-one : goal.run_both-exit-requires-clause-one
 run_both-exit-requires-clause-one g c = (c.requires.least, c.in-Ok.ensures.frame ∙ c.frame_len.ensures Directives)

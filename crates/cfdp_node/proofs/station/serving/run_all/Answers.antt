@@ -13,7 +13,6 @@ returns-in-Ok g c =
     let asked = ap length c.as_slice.ensures.value in
     is_told c.exit.result _ (record {
       short = c.in-Ok.served.short;
-      last = record { station = station; wire = c.serve-served.new.wire; left = c.serve-served.new.turning.losses.left };
       serves = c.in-Ok.ensures.serves;
       ends = c.exit.ensures ∙ same-exit c.in-Ok.served.short _ _ _ _ _ _ failed c.in-Ok.ensures.complete asked;
     })

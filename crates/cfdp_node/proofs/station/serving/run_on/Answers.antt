@@ -7,6 +7,7 @@ pub returns-in-Ok-new : goal.returns-in-Ok-new
 returns-in-Ok-new g c =
     from-all g.W.Wire.steps g.W.PeerWire.silent c.args.options.now.config.entity.entity c.args.options.now.drop_every c.args.options.now.puts.items
     c.run_all.result c.args.station.now c.args.wire c.in-Ok-new.turning.losses.every c.in-Ok-new.turning.losses.left
+    (record { station = c.run_all.new.station; wire = c.run_all.new.wire; left = c.run_all.new.turning.losses.left })
     (g.V.Write.contents c.args.out.now) (g.V.Write.contents c.run_all.new.out)
     c.in-Ok-new.ensures.losses.0 c.in-Ok-new.ensures.losses.1 c.run_all.ensures
 
