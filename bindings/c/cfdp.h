@@ -42,10 +42,10 @@ enum {
     CFDP_NOTHING = 6,      /* there is nothing of the kind */
     CFDP_NAME_TAKEN = 11,  /* cfdp_add: there is a file of that name */
 
-    /* cfdp_put, the first that holds in the order Name, TableFull, .. as the numbers stand here */
-    CFDP_NO_SUCH_FILE = 21,  /* the outbox has no file of that name; after CFDP_NUMBERS_SPENT */
-    CFDP_BAD_NAME = 22,      /* a name hasn't 1 to 255 octets; the first of all */
-    CFDP_TOO_LARGE = 23,     /* the file has more than 2^48 octets; after CFDP_NO_SUCH_FILE */
+    /* cfdp_put: the first that holds, in the order 22, 24, 25, 26, 21, 23; then CFDP_NO_MEMORY */
+    CFDP_NO_SUCH_FILE = 21,  /* the outbox has no file of that name */
+    CFDP_BAD_NAME = 22,      /* a name hasn't 1 to 255 octets */
+    CFDP_TOO_LARGE = 23,     /* the file has more than 2^48 octets */
     CFDP_TABLE_FULL = 24,    /* the station has had 4,096 transactions */
     CFDP_NUMBERS_SPENT = 25, /* the next number doesn't fit number_width */
     CFDP_SOURCE_FAULT = 26,  /* the outbox failed; one in memory never does */
@@ -88,11 +88,11 @@ typedef struct cfdp_config {
     uint16_t segment;         /* most octets of a file in a PDU, 1 to 4096 */
     uint8_t id_width;         /* octets of an entity id, 1 to 8 */
     uint8_t number_width;     /* octets of a sequence number, 1 to 8 */
-    uint8_t checksum;         /* 0 modular, 15 none */
+    uint8_t checksum;         /* 0 modular, 15 null */
     uint8_t eof_limit;        /* how often an EOF is sent again */
     uint8_t nak_limit;        /* .. a NAK */
     uint8_t finished_limit;   /* .. a Finished */
-    uint8_t on_ack_limit;     /* then: 0 cancel, 1 suspend, 2 go on, 3 abandon */
+    uint8_t on_ack_limit;     /* then: 0 cancel, 1 suspend, 2 ignore, 3 abandon */
     uint8_t on_nak_limit;
     uint8_t on_inactivity;
 } cfdp_config;
@@ -221,7 +221,7 @@ typedef struct cfdp_indication {
     uint8_t kind;
     uint8_t condition;      /* kinds 5, 6, 8, 9: a condition code, 0 where all went well */
     uint8_t delivery;       /* kind 5: 0 complete, 1 incomplete */
-    uint8_t status;         /* kind 5: 0 discarded, 1 rejected, 2 retained, 3 not reported */
+    uint8_t status;         /* kind 5: 0 discarded, 1 rejected, 2 retained, 3 unreported */
 } cfdp_indication;
 
 /* Octets that suffice for the names of every indication, and for the name of every file. */

@@ -51,7 +51,7 @@ pub struct CfdpConfig {
     pub id_width: u8,
     /// Octets of a sequence number: 1 to 8.
     pub number_width: u8,
-    /// The checksum of the files that it sends: 0 (modular) or 15 (none).
+    /// The checksum of the files that it sends: 0 (modular) or 15 (null).
     pub checksum: u8,
     /// How often an EOF is sent again.
     pub eof_limit: u8,
@@ -59,7 +59,7 @@ pub struct CfdpConfig {
     pub nak_limit: u8,
     /// How often a Finished is sent again.
     pub finished_limit: u8,
-    /// What is done where no ACK comes: 0 cancels, 1 suspends, 2 goes on, 3 abandons.
+    /// What is done where no ACK comes: 0 cancels, 1 suspends, 2 ignores it, 3 abandons.
     pub on_ack_limit: u8,
     /// What is done where nothing comes after NAKs.
     pub on_nak_limit: u8,

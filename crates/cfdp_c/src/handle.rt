@@ -1,5 +1,5 @@
 //! A station in a caller's memory: to open and to close it.
-ghost use Rattle.std.specs.Prelude.{◌≡◌, ◌↔◌, ◌≢◌, true, false, Some, IsSome, IsSomeAnd, MatchOption, IfOk};
+ghost use Rattle.std.specs.Prelude.{◌≡◌, ◌↔◌, ◌≢◌, ◌⊎◌, true, false, Some, IsSome, IsSomeAnd, MatchOption, IfOk};
 ghost use Rattle.cfdp_station.specs.Config.{IsStationConfig};
 ghost use Rattle.cfdp_c.specs.Calls.{IsFirst};
 ghost use Rattle.cfdp_c.specs.Codes as codes;
@@ -65,6 +65,8 @@ impl CfdpStation {
 /// for 0 the handle is as it was.
 #[unsafe(no_mangle)]
 pub extern "C" fn cfdp_open(alloc: Global, station: &mut CfdpStation, config: &CfdpConfig) -> u32
+    ensures answers { ((result ≡ codes.ok) ⊎ (result ≡ codes.already_open))
+        ⊎ ((result ≡ codes.bad_argument) ⊎ (result ≡ codes.no_memory)) }
     ensures twice { (result ≡ codes.already_open) ↔ (station.old.is_open ≡ true) }
     ensures bad { station.old.is_open ≡ false →
         ((result ≢ codes.bad_argument) ↔ IsUsable config.now) }

@@ -139,7 +139,7 @@ module _ {W : Type 0} (Steps : W → WireCall → W → Type 0) where
       let l : StationState = old.station in
       let sent : Lane → ℕ = all_sent k in
       let told : GoesAside s l h.told l.down b k m puts ticks sent =
-      tick_goes s l h.told l.down b k m puts ticks sent (aside_none l b k m forth back) now h.tells.ticked h.tells.table h.tells.failures h.tells.link in
+      tick_goes s l h.told l.down b k m puts ticks sent (aside_none l b k m forth back) now h.tells.ticked h.tells.table h.tells.failures h.tells.raises h.tells.link in
       let polled : GoesAside s l h.polled l.down b k m puts ticks sent = polled_out s b m puts l h.told h.polled l.down k ticks sent h.polls told in
       let g : GoesAside s l h.flushed l.down b k m puts ticks sent = goes_both s l h.polled h.flushed l.down b k m puts ticks sent polled
       (flush_on s h.polled h.flushed polled.down b polled.link m puts polled.then_ticks sent polled.is h.flushes.0 h.flushes.1) in

@@ -167,8 +167,7 @@ That of a PDU:
   tlv TT:VV..                       each option, type and value in hexadecimal
 Errors of any line: 0 Hex (no such digits).
 Errors of PDUs: 1 Short, 2 Version, 3 CrcPresent, 4 Length, 5 Unacknowledged,
-7 Directive, 8 Truncated, 9 Trailing, 10 Tlv, 11 Condition; never 6 LargeFile,
-by which a station drops PDUs of large files.
+7 Directive, 8 Truncated, 9 Trailing, 10 Tlv, 11 Condition; 6 is no longer used.
 Errors of frames: 1 Length (mostly: another --zone is meant), 2 Version,
 3 OtherProfile, 6 OnlyIdle.
 

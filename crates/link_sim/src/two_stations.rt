@@ -1,7 +1,9 @@
 //! Two stations and the frames between them, before anything is said of puts and files.
 ghost use Rattle.std.specs.Prelude.{◌≡◌, ◌+◌, ◌*◌, ◌<◌, ◌≤◌, ◌⊎◌, true, false, length, None, IfOk, OnErr, OnOk};
 ghost use Rattle.cfd_bits.specs.Counting.{raised};
+ghost use Rattle.cfdp_store.specs.Chains.{Raises};
 ghost use Rattle.cfdp_entity.specs.Entity.{with_table};
+ghost use Rattle.cfdp_entity.specs.Storing.{AsksToTick};
 ghost use Rattle.cfdp_entity.specs.Table.{Ticks};
 ghost use Rattle.cfdp_entity.specs.declared.call.Call.TheVariants as call_kinds;
 ghost use Rattle.aos_frame.specs.Frame.{other_lane};
@@ -348,6 +350,8 @@ fn tick_at<O: Outbox, I: Inbox>(
         × (ticks.new ≡ raised ticks.old)) }
     ensures err { OnErr result ((station.new ≡ station.old) × (ticks.new ≡ ticks.old)) }
     ensures failures { KeepsOutbox station.old.entity station.new.entity }
+    ensures raises { OnOk result (AsksToTick Raises now station.old.entity.state.table
+        station.old.entity.inbox_failures station.new.entity.inbox_failures) }
     ensures link { KeepsLink station.old station.new }
 {
     station.tick(now)?;

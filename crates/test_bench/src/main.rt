@@ -1,4 +1,4 @@
-//! `test_bench`: plays transcripts of questions and answers on the sixteen crates of the product,
+//! `test_bench`: plays transcripts of questions and answers on fifteen of the crates of the product,
 //! of which it is no part.
 //!
 //! It reads a transcript on standard input, and writes it anew on standard output. A line that

@@ -1,9 +1,11 @@
 -- One turn of a station over a wire.
 use Rattle.std.specs.Prelude.{◌≡◌, ◌≢◌, ◌⊎◌, ◌<◌, ◌≤◌, ℕ, zero, suc, ◌+◌, ◌-◌, ◌==◌, List, Option, Some, None, Result, Ok, Err, ⊤, if◌then◌else◌}
+use Rattle.cfdp_store.specs.Chains.{Raises}
 use Rattle.cfdp_entity.specs.Entity.{with_table}
 use Rattle.cfdp_entity.specs.Gives.{CountsOutbox}
 use Rattle.cfdp_entity.specs.Polling.{turn}
 use Rattle.cfdp_entity.specs.Sound.{SpellsTurn}
+use Rattle.cfdp_entity.specs.Storing.{AsksToTick}
 use Rattle.cfdp_entity.specs.Table.{Ticks}
 use Rattle.aos_frame.specs.Frame.{other_lane}
 use Rattle.aos_frame.specs.declared.config.Lane.{Lane}
@@ -25,11 +27,14 @@ module _ {S : Type 0} (Step : S → S → Type 0) where
   Times (suc count) old new = (mid : S) × Times count old mid × Step mid new
 
 -- ---- time
--- The time was told to a station.
+-- The time was told to a station. What the steps of its timers asked of the inbox was counted where
+-- it failed.
 pub record TellsTime (now : ℕ) (old new : StationState) : Type 0 where
   pub ticked : Ticks now old.entity.state.table new.entity.state.table
   pub table : new.entity.state ≡ with_table old.entity.state new.entity.state.table
   pub failures : KeepsOutbox old.entity new.entity
+  pub raises : AsksToTick Raises now old.entity.state.table old.entity.inbox_failures
+      new.entity.inbox_failures
   pub link : KeepsLink old new
 
 -- ---- polls

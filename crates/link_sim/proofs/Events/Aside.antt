@@ -13,6 +13,7 @@ use Rattle.mpdu.specs.Packing.{next_start}
 use Rattle.link_stack.specs.Downward.{DownState, LinkSenderState, IsDown, MakesFrame, first_down, first_lane_down, lane_down}
 use Rattle.link_stack.specs.Upward.{LinkReceiverState, UpState, IsUp, first_lane_up, first_up, lane_up}
 use Rattle.link_stack.proofs.Grown.{new_is}
+use Rattle.cfdp_store.specs.Chains.{Raises}
 use Rattle.cfdp_store.specs.Stores.{Counts}
 use Rattle.cfdp_store.specs.declared.stored.Stored.TheVariants as storeds
 use Rattle.cfd_bits.specs.Counting.{raised}
@@ -21,6 +22,7 @@ use Rattle.cfdp_entity.specs.Gives.{CountsOutbox}
 use Rattle.cfdp_entity.specs.Polling.{LosesPdu, turn}
 use Rattle.cfdp_entity.specs.Putting.{Accepts}
 use Rattle.cfdp_entity.specs.Sound.{SpellsTurn}
+use Rattle.cfdp_entity.specs.Storing.{AsksToTick}
 use Rattle.cfdp_entity.specs.Table.{Ticks}
 use Rattle.cfdp_station.specs.Link.{FlushesBoth, next_lane}
 use Rattle.cfdp_station.specs.Polling as station_polling
@@ -163,12 +165,14 @@ module _ (s : Side) (l now : StationState) (d : DownState) (b : StationState) (k
 
   -- ---- the time
   module _ (t : ℕ) (ticked : Ticks t l.entity.state.table now.entity.state.table) (table : now.entity.state ≡ with_table l.entity.state now.entity.state.table)
-      (failures : KeepsOutbox l.entity now.entity) (link : KeepsLink l now) where
+      (failures : KeepsOutbox l.entity now.entity) (raises : AsksToTick Raises t l.entity.state.table l.entity.inbox_failures now.entity.inbox_failures)
+      (link : KeepsLink l now) where
     tells : (q : Side) → TellsTime q t (world_at q (with_down l d) b k m puts ticks) (world_at q (with_down now d) b k m puts (raised ticks))
     tells One = record {
       ticked = ticked;
       table = table;
       failures = failures;
+      raises = raises;
       links = record { ends = (refl, link.1); link = refl; spares = record { station = refl; link = refl } };
       puts = refl;
       ticks = refl;
@@ -177,6 +181,7 @@ module _ (s : Side) (l now : StationState) (d : DownState) (b : StationState) (k
       ticked = ticked;
       table = table;
       failures = failures;
+      raises = raises;
       links = record { ends = (refl, link.1); link = refl; spares = record { station = refl; link = refl } };
       puts = refl;
       ticks = refl;

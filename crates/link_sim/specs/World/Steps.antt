@@ -9,6 +9,7 @@ use Rattle.link_stack.specs.Frames.{packet_of}
 use Rattle.link_stack.specs.Downward.{lane_down, packing}
 use Rattle.link_stack.specs.Upward.{lane_up}
 use Rattle.cfdp_store.specs.declared.stored.Stored.TheVariants as storeds
+use Rattle.cfdp_store.specs.Chains.{Raises}
 use Rattle.cfdp_store.specs.Stores.{Counts}
 use Rattle.cfdp_entity.specs.declared.call.Call.{Call}
 use Rattle.cfdp_entity.specs.declared.call.Call.TheVariants as calls
@@ -21,6 +22,7 @@ use Rattle.cfdp_entity.specs.Entity.{with_table}
 use Rattle.cfdp_entity.specs.Polling.{Place, Rests, turn, served}
 use Rattle.cfdp_entity.specs.Putting.{Accepts, IsPutRefusal, put_refusal, stored_by_error}
 use Rattle.cfdp_entity.specs.Sound.{SpellsTurn}
+use Rattle.cfdp_entity.specs.Storing.{AsksByCall, AsksToTick}
 use Rattle.cfdp_entity.specs.Table.{Ticks, data_at}
 use Rattle.cfdp_station.specs.Link.{next_lane}
 use Rattle.cfdp_station.specs.Polling.{next_pdu}
@@ -103,6 +105,14 @@ Puts (did.Refused (refusal.Put by)) s source destination old new =
 Puts (did.Refused (refusal.Call by)) s source destination old new = ⊥
 Puts (did.Refused refusal.LossRunTooLong) s source destination old new = ⊥
 
+-- What a call asked of the inbox was counted where it failed: a cancel that its step's calls did,
+-- and no other call asks anything.
+abbrev pub RaisesByCall : Side → Call → TransactionId → (old new : WorldState) → Type 0
+RaisesByCall s calls.Cancel id old new = AsksByCall Raises calls.Cancel id (entity_at s old).table
+    (station_at s old).entity.inbox_failures (station_at s new).entity.inbox_failures
+RaisesByCall s _ id old new =
+    (station_at s new).entity.inbox_failures ≡ (station_at s old).entity.inbox_failures
+
 -- A call on a transaction was one step of its record. Only one that gives up what is received may
 -- ask something of the inbox, and so fail there.
 pub record StepsAt (s : Side) (c : Call) (id : TransactionId) (old new : WorldState) : Type 0 where
@@ -110,6 +120,7 @@ pub record StepsAt (s : Side) (c : Call) (id : TransactionId) (old new : WorldSt
   pub failures : KeepsOutbox (station_at s old).entity (station_at s new).entity
   pub inbox : asks_inbox c id (entity_at s old).table ≡ false
       → (station_at s new).entity.inbox_failures ≡ (station_at s old).entity.inbox_failures
+  pub raises : RaisesByCall s c id old new
   pub links : KeepsLinks s old new
   pub counts : KeepsCounts old new
 
@@ -127,11 +138,14 @@ Calls (did.Refused (refusal.Put by)) s c id old new = ⊥
 Calls (did.Refused (refusal.Call by)) s c id old new = RefusesCall s c id by old new
 Calls (did.Refused refusal.LossRunTooLong) s c id old new = ⊥
 
--- The time was told to a station.
+-- The time was told to a station. What the steps of its timers asked of the inbox was counted where
+-- it failed.
 pub record TellsTime (s : Side) (now : ℕ) (old new : WorldState) : Type 0 where
   pub ticked : Ticks now (entity_at s old).table (entity_at s new).table
   pub table : entity_at s new ≡ with_table (entity_at s old) (entity_at s new).table
   pub failures : KeepsOutbox (station_at s old).entity (station_at s new).entity
+  pub raises : AsksToTick Raises now (entity_at s old).table
+      (station_at s old).entity.inbox_failures (station_at s new).entity.inbox_failures
   pub links : KeepsLinks s old new
   pub puts : new.puts ≡ old.puts
   pub ticks : new.ticks ≡ raised old.ticks

@@ -9,6 +9,7 @@ returns-in_err-poll_out-clause-err g c =
       ticked = c.in_ok-tick.ensures.ticked;
       table = c.in_ok-tick.ensures.table;
       failures = (c.in_ok-tick.ensures.outbox, c.in_ok-tick.ensures.grows);
+      raises = c.in_ok-tick.ensures.raises;
       link = c.in_ok-tick.ensures.link;
     } in
     let part : SendsInPart c.args.now c.args.station.now c.poll_out.new.station = record { ends = inr (c.tick.new.self, tells, c.in_err-poll_out.ensures.err) } in
