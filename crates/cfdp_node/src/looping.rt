@@ -3,7 +3,7 @@ ghost use Rattle.std.specs.Io.Buffered.{writer_buffer, writer_contents};
 ghost use Rattle.std.specs.Io.KnownBytes.{Appends};
 ghost use Rattle.std.specs.Prelude.{◌≡◌, ◌↔◌, Some, length, IfOk, IsTrue, OnErr, OnOk};
 ghost use Rattle.cfdp_node.specs.Exit.{IsFlushedAt};
-ghost use Rattle.cfdp_node.specs.Looping.Turns.{EndsFromOne, EndsLoop, HasRun, IsClosed, IsTold, LoopRuns, LoopsAll, RunsInPart, RunsTurns, TakesTurn, TurnsInPart, completed, is_no_memory, loop_exit, loop_settings, loop_text, more_failures, refusal_answer};
+ghost use Rattle.cfdp_node.specs.Looping.Turns.{EndsBoth, EndsFromOne, EndsLoop, IsClosed, IsTold, LoopRuns, RunsInPart, RunsTurns, TakesTurn, TurnsInPart, completed, is_no_memory, loop_exit, loop_settings, loop_text, more_failures, refusal_answer};
 ghost use Rattle.cfdp_node.specs.Script.Settings.{world_of};
 ghost use Rattle.cfdp_node.specs.Report.Lines.{count_line};
 ghost use Rattle.cfdp_node.specs.Wire.Turn.{FitsFrames, HasZones};
@@ -207,7 +207,7 @@ pub fn run_both<O: Outbox, I: Inbox, P: Outbox, J: Inbox, W: Wire, V: Write, L: 
 ) -> Exit
     requires one { FitsFrames (length turning.old.frame.items) one.old }
     requires two { FitsFrames (length turning.old.frame.items) two.old }
-    ensures ran { HasRun W.steps options.now.source.items options.now.destination.items
+    ensures { EndsBoth W.steps options.now.source.items options.now.destination.items
         turning.old.losses.every options.now.turns
         (record {
           one = one.old;
@@ -222,23 +222,7 @@ pub fn run_both<O: Outbox, I: Inbox, P: Outbox, J: Inbox, W: Wire, V: Write, L: 
           wire_one = wires.new.0;
           wire_two = wires.new.1;
           left = turning.new.losses.left;
-        }) }
-    ensures told { IsTold result (LoopsAll W.steps options.now.source.items
-        options.now.destination.items turning.old.losses.every options.now.turns
-        (record {
-          one = one.old;
-          two = two.old;
-          wire_one = wires.old.0;
-          wire_two = wires.old.1;
-          left = turning.old.losses.left;
-        })
-        (record {
-          one = one.new;
-          two = two.new;
-          wire_one = wires.new.0;
-          wire_two = wires.new.1;
-          left = turning.new.losses.left;
-        }) result (V.contents out.old) (V.contents out.new)) }
+        }) result (V.contents out.old) (V.contents out.new) }
 {
     let read = one.outbox().failures();
     let written = two.inbox().failures();

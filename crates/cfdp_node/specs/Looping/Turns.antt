@@ -194,6 +194,13 @@ module _ {W : Type 0} (Steps : W → WireCall → W → Type 0) where
         (has_failed first.one first.two last.one last.two)
     pub written : Appends old new (loop_text answer last.one last.two)
 
+  -- That is so; and it happened also where the report can't be written.
+  abbrev pub EndsBoth : (source destination : List ℕ) → (every most : ℕ)
+      → (first last : LoopState W) → (exit : Exit) → (old new : Option (List ℕ)) → Type 0
+  EndsBoth source destination every most first last exit old new =
+      HasRun source destination every most first last
+      × IsTold exit (LoopsAll source destination every most first last exit old new)
+
 -- the settings of a script, but that NAKs are sent again up to 255 times
 abbrev pub loop_settings : Settings
 loop_settings = record default_settings { nak_limit = 255 }

@@ -165,11 +165,11 @@ module _ {W : Type 0} (Steps : W → WireCall → W → Type 0) (silent : W → 
   -- That happened, and so the run ended.
   pub record ServesTo (exit : Exit) (first last : Sending W) (old new : Option (List ℕ)) : Type 0
     where
-    pub short : Bool
-    pub serves : Serves short first last old new
-    pub ends : exit ≡ station_exit short (more_failures first.station.entity.outbox_failures
-        first.station.entity.inbox_failures last.station last.station)
-        (completed own last.station) (length puts)
+      pub short : Bool
+      pub serves : Serves short first last old new
+      pub ends : exit ≡ station_exit short (more_failures first.station.entity.outbox_failures
+          first.station.entity.inbox_failures last.station last.station)
+          (completed own last.station) (length puts)
 
   -- It happened from this state; or there was no memory to begin, and nothing is written.
   abbrev pub EndsFrom : Exit → Sending W → (old new : Option (List ℕ)) → Type 0

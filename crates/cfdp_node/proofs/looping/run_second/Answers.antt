@@ -21,7 +21,7 @@ returns-in-Ok-new g c =
       wire_two = c.run_both-exit.new.wires.1;
       left = c.run_both-exit.new.turning.losses.left;
     })
-    c.in-Ok.ensures.losses.0 c.in-Ok.ensures.losses.1 first c.run_both-exit.ensures.told
+    c.in-Ok.ensures.losses.0 c.in-Ok.ensures.losses.1 first c.run_both-exit.ensures.1
 
 pub run_both-exit-requires-clause-one : goal.run_both-exit-requires-clause-one
 run_both-exit-requires-clause-one g c = (c.requires.least, c.in-Ok.ensures.frame ∙ c.frame_len.ensures Directives)
