@@ -1,5 +1,5 @@
-//! `test_bench`: plays transcripts of questions and answers on fifteen of the crates of the product,
-//! of which it is no part.
+//! `test_bench`: plays transcripts of questions and answers on fifteen crates of the product, of
+//! which it is no part.
 //!
 //! It reads a transcript on standard input, and writes it anew on standard output. A line that
 //! begins with a space is an answer, and is passed over; each other line is a question, which is

@@ -44,7 +44,8 @@ impl Ran {
 ///
 /// Nothing is written unless the whole script was read, is good, and there is memory for all that
 /// stands before its first command. From then on a command that answers NoMemory or StoreFailed
-/// stands in the report, and the answer is `Device` too. A report that can't be written to its end is not begun again.
+/// stands in the report, and the answer is `Device` too. A report that can't be written to its end
+/// is not begun again.
 pub fn run_sim<R: Read + Drop, W: Write + Drop>(
     alloc: Global,
     is_watched: bool,
