@@ -21,6 +21,10 @@
  *   receive=K       the Kth datagram that came is lost, or with 0 each is
  *   memory=N        the Nth growth of memory is refused
  *   mark            a file `refused` is made where one of the last three faults shows
+ *   clock=N         the time of day is N seconds later, or with a minus earlier
+ *   clock=at:N      the time of day is N seconds since 1970 as it is read first, and goes on
+ *   order           a file `order` gets a line for each file or folder that is flushed to its
+ *                   device, and for each that is renamed, in the order of these calls
  */
 #define _GNU_SOURCE
 #include <dlfcn.h>
@@ -29,12 +33,14 @@
 #include <signal.h>
 #include <stdarg.h>
 #include <stdint.h>
+#include <stdio.h>
 #include <stdlib.h>
 #include <string.h>
 #include <sys/resource.h>
 #include <sys/socket.h>
 #include <sys/stat.h>
 #include <sys/uio.h>
+#include <time.h>
 #include <unistd.h>
 
 static const char *fault(const char *name)
@@ -178,16 +184,38 @@ static int failing(const char *name, int error)
     return 1;
 }
 
+/* Notes a call that went well, with its paths, if that is asked for. */
+static int noted(int status, const char *call, const char *path, const char *to)
+{
+    int (*next)(const char *, int, ...) = NEXT("open");
+    int order = -1;
+    if (status == 0 && fault("order"))
+        order = next("order", O_CREAT | O_APPEND | O_WRONLY, 0600);
+    if (order >= 0) {
+        dprintf(order, "%s %s%s%s\n", call, path, *to ? " " : "", to);
+        close(order);
+    }
+    return status;
+}
+
 int fsync(int fd)
 {
     int (*next)(int) = NEXT("fsync");
-    return failing("no-sync", EIO) ? -1 : next(fd);
+    char link[64], path[4096] = "";
+    if (failing("no-sync", EIO))
+        return -1;
+    if (fault("order")) {
+        snprintf(link, sizeof link, "/proc/self/fd/%d", fd);
+        ssize_t len = readlink(link, path, sizeof path - 1);
+        path[len < 0 ? 0 : len] = 0;
+    }
+    return noted(next(fd), "fsync", path, "");
 }
 
 int rename(const char *from, const char *to)
 {
     int (*next)(const char *, const char *) = NEXT("rename");
-    return failing("no-rename", EACCES) ? -1 : next(from, to);
+    return failing("no-rename", EACCES) ? -1 : noted(next(from, to), "rename", from, to);
 }
 
 int unlink(const char *path)
@@ -263,6 +291,27 @@ ssize_t recv(int fd, void *to, size_t count, int flags)
         return -1;
     }
     return got;
+}
+
+/* The time of day, as the fault sets it; other clocks go as ever. */
+int clock_gettime(clockid_t clock, struct timespec *to)
+{
+    int (*next)(clockid_t, struct timespec *) = NEXT("clock_gettime");
+    static struct timespec first = {0, 0};
+    const char *set = fault("clock=");
+    int status = next(clock, to);
+    if (status != 0 || clock != CLOCK_REALTIME || !set)
+        return status;
+    set += strlen("clock=");
+    if (strncmp(set, "at:", 3) != 0) {
+        to->tv_sec += atol(set);
+        return 0;
+    }
+    if (first.tv_sec == 0)
+        first = *to;
+    to->tv_sec += atol(set + 3) - first.tv_sec - (to->tv_nsec < first.tv_nsec);
+    to->tv_nsec += (to->tv_nsec < first.tv_nsec ? 1000000000 : 0) - first.tv_nsec;
+    return 0;
 }
 
 /* ---- memory: what the C library itself has under these names */

@@ -9,9 +9,15 @@ import signal
 import socket
 import subprocess
 import tempfile
+import threading
 import time
 
 SECONDS = 200
+
+# The ports that were given out: runs go side by side, and none is to have that of another. A
+# process that begins has all sockets of this one for a moment, so none begins while a port is
+# looked for.
+GIVEN, ALONE = set(), threading.Lock()
 
 # Answers are waited for a second, and what is lost is sent again as often as it takes.
 PATIENT = {"eof_time": 1, "nak_time": 1, "finished_time": 1}
@@ -19,13 +25,15 @@ PATIENT |= {"eof_limit": 255, "nak_limit": 255, "finished_limit": 255}
 
 
 def free_ports(count):
-    """So many ports of 127.0.0.1 that nobody has."""
-    sockets = [socket.socket(socket.AF_INET, socket.SOCK_DGRAM) for _ in range(count)]
-    for it in sockets:
-        it.bind(("127.0.0.1", 0))
-    ports = [it.getsockname()[1] for it in sockets]
-    for it in sockets:
-        it.close()
+    """So many ports of 127.0.0.1 that nobody has, and that were given to nobody before."""
+    ports = []
+    while len(ports) < count:
+        with ALONE, socket.socket(socket.AF_INET, socket.SOCK_DGRAM) as it:
+            it.bind(("127.0.0.1", 0))
+            port = it.getsockname()[1]
+            if port not in GIVEN:
+                GIVEN.add(port)
+                ports.append(port)
     return ports
 
 
@@ -33,7 +41,7 @@ class Station:
     """A station that runs in a folder, with one folder for files to send and one for others."""
 
     def __init__(self, program, folder, own, peer, ports, words, settings, **ways):
-        self.own, self.told = own, b""
+        self.own, self.port, self.told = own, ports[own], b""
         for it in ("from", "to"):
             os.makedirs(f"{folder}/{own}/{it}", exist_ok=True)
         addresses = ["--listen", f"127.0.0.1:{ports[own]}", "--to", f"127.0.0.1:{ports[peer]}"]
@@ -42,7 +50,17 @@ class Station:
         whole = [program.path, "station", *ids, *addresses, *sets, *words]
         how = {"cwd": f"{folder}/{own}", "env": {"PATH": "/usr/bin:/bin"}}
         pipes = {"stdout": subprocess.PIPE, "stderr": subprocess.PIPE}
-        self.process = subprocess.Popen(whole, **{**how, **pipes, **ways})
+        with ALONE:
+            self.process = subprocess.Popen(whole, **{**how, **pipes, **ways})
+
+    def comes_up(self):
+        """Waits until it has its port, or has ended."""
+        end, is_up = time.monotonic() + SECONDS, False
+        while not is_up and self.process.poll() is None and time.monotonic() < end:
+            time.sleep(0.01)
+            with open("/proc/net/udp", encoding="ascii") as it:
+                ports = [line.split()[1].split(":")[1] for line in it.readlines()[1:]]
+            is_up = f"{self.port:04X}" in ports
 
     def comes_to(self, word):
         """Reads what it tells, as it happens, until a line has this word."""
@@ -72,6 +90,11 @@ def put(folder, own, name, octets):
         it.write(octets)
 
 
+def unheard(text):
+    """What a station told on standard error, but that its peer wasn't there yet, or any more."""
+    return re.sub(r"note: nobody listens at \S+\n", "", text)
+
+
 def files_at(folder, own):
     """The files that a station received."""
     found = {}
@@ -99,7 +122,7 @@ def exchange_mistakes(program):
             stations.append(Station(program, folder, own, 3 - own, ports, words, settings))
         for station in stations:
             status, out, err = station.ended()
-            if status or err or not out.endswith("complete 20 of 20\n"):
+            if status or unheard(err) or not out.endswith("complete 20 of 20\n"):
                 yield f"station {station.own}: status {status}, {out[-300:]!r}, {err[-300:]!r}"
         for own in (1, 2):
             came = files_at(folder, own)
@@ -119,7 +142,8 @@ def restart_mistakes(program):
         ports = dict(zip((1, 2), free_ports(2)))
         put(folder, 1, "first", first)
         put(folder, 1, "second", second)
-        receiver = Station(program, folder, 2, 1, ports, ["--inbox", "to", "--idle", "15"], settings)
+        words = ["--inbox", "to", "--idle", "15"]
+        receiver = Station(program, folder, 2, 1, ports, words, settings)
         words = ["--outbox", "from", "--rate", "100", "--put", "first", "first"]
         sender = Station(program, folder, 1, 2, ports, words, settings)
         if not receiver.comes_to(b"metadata"):
@@ -128,11 +152,11 @@ def restart_mistakes(program):
         sender.process.communicate()
         words = ["--outbox", "from", "--put", "second", "second", "--idle", "3"]
         status, out, err = Station(program, folder, 1, 2, ports, words, settings).ended()
-        if status or err or not out.endswith("complete 1 of 1\n"):
+        if status or unheard(err) or not out.endswith("complete 1 of 1\n"):
             yield f"the new station: status {status}, {out[-300:]!r}, {err[-300:]!r}"
         status, out, err = receiver.ended()
         begun = re.search(r"2 metadata (1:\d+) first first 1048576\n", out)
-        if status or err or not begun or not out.endswith("complete 0 of 0\n"):
+        if status or unheard(err) or not begun or not out.endswith("complete 0 of 0\n"):
             yield f"the receiver: status {status}, {out[-300:]!r}, {err[-300:]!r}"
         elif not re.search(rf"2 (fault|abandoned) {begun[1]} ", out):
             yield f"the receiver told no fault of the first file: {out!r}"
@@ -141,7 +165,8 @@ def restart_mistakes(program):
 
 
 def stranger_mistakes(program):
-    """What is wrong where datagrams come from another address than the peer's."""
+    """What is wrong where datagrams come from another address than the peer's: the system drops
+    them, and nobody hears of them."""
     with tempfile.TemporaryDirectory(dir=program.room) as folder:
         ports = dict(zip((1, 2, 3), free_ports(3)))
         station = Station(program, folder, 2, 1, ports, ["--inbox", "to", "--idle", "3"], {})
@@ -151,8 +176,7 @@ def stranger_mistakes(program):
             for _ in range(7):
                 stranger.sendto(bytes(264), ("127.0.0.1", ports[2]))
             status, out, err = station.ended()
-        wanted = (0, "complete 0 of 0\n", "7 datagrams came from other addresses, and were not read\n")
-        if (status, out, err) != wanted:
+        if (status, out, err) != (0, "complete 0 of 0\n", ""):
             yield f"with status {status} it wrote {out!r} and {err!r}"
 
 
@@ -176,11 +200,11 @@ def refused_mistakes(program):
         receiver = Station(program, folder, 2, 1, ports, ["--idle", "4"], settings)
         words = ["--outbox", "from", "--put", "a", "b", "--idle", "3"]
         status, out, err = Station(program, folder, 1, 2, ports, words, settings).ended()
-        if status != 1 or err or not out.endswith("complete 0 of 1\n"):
+        if status != 1 or unheard(err) or not out.endswith("complete 0 of 1\n"):
             yield f"the sender: status {status}, {out!r}, {err!r}"
         status, out, err = receiver.ended()
         wanted = "error: a file came and there is no --inbox, or there is not enough memory\n"
-        if status != 3 or err != wanted or not re.search(r"2 fault 1:\d+ 4\n", out):
+        if status != 3 or unheard(err) != wanted or not re.search(r"2 fault 1:\d+ 4\n", out):
             yield f"the receiver: status {status}, {out!r}, {err!r}"
 
 
@@ -204,6 +228,7 @@ def terminal_mistakes(program):
         ports = dict(zip((1, 2), free_ports(2)))
         put(folder, 1, "a", bytes(30_000))
         receiver = Station(program, folder, 2, 1, ports, ["--inbox", "to", "--idle", "3"], {})
+        receiver.comes_up()
         words = ["--outbox", "from", "--put", "a", "b", "--idle", "2", "--rate", "200"]
         reading, terminal = pty.openpty()
         ways = {"stdout": terminal, "stderr": terminal}
@@ -237,7 +262,7 @@ def memory_mistakes(program):
             if station.comes_to(b"eof-sent"):
                 station.process.kill()
             status, out, err = station.ended()
-            is_met = os.path.exists(f"{folder}/1/refused")
+            is_met, err = os.path.exists(f"{folder}/1/refused"), unheard(err)
         if out.startswith("line ") or err:
             refused += out.startswith("line ")
             if status != 3 or out not in ("", "line 1 NoMemory\ncomplete 0 of 1\n"):

@@ -53,6 +53,17 @@ impl VcCounter {
         VcCounter { next: 0 }
     }
 
+    /// A counter whose first count is this one modulo [`FRAME_COUNTS`]: for a channel whose counts
+    /// before may still be known at the other end, so that its first frame isn't taken for the next
+    /// one of those.
+    pub fn from_count(count: u32) -> Self
+        ensures { result ≡ count % frame_counts }
+    {
+        VcCounter {
+            next: count % FRAME_COUNTS,
+        }
+    }
+
     /// The count of the next frame, below [`FRAME_COUNTS`].
     pub fn next(&mut self) -> u32
         ensures count { result ≡ self.old }

@@ -108,6 +108,7 @@ plain_station : (refusals (line (codes "station" ∷ codes "--id" ∷ codes "1" 
       to = codes "b";
       inbox = None;
       outbox = None;
+      state = None;
       puts = [];
       sets = [];
       shown = nothing;
@@ -116,15 +117,16 @@ unfolding clap_on_literals
 plain_station = (refl, refl)
 
 sending_station : (refusals (line (codes "station" ∷ codes "--put" ∷ codes "x" ∷ codes "y" ∷ codes "--id" ∷ codes "3" ∷ codes "--peer" ∷ codes "4" ∷ codes "--set" ∷ codes "zone" ∷ codes "512" ∷ codes
-    "--listen" ∷ codes "a" ∷ codes "--to" ∷ codes "b" ∷ codes "--put" ∷ codes "v" ∷ codes "w" ∷ codes "--outbox" ∷ codes "o" ∷ codes "--idle" ∷ codes "9" ∷ [])) ≡ [])
+    "--listen" ∷ codes "a" ∷ codes "--to" ∷ codes "b" ∷ codes "--put" ∷ codes "v" ∷ codes "w" ∷ codes "--outbox" ∷ codes "o" ∷ codes "--state" ∷ codes "s" ∷ codes "--idle" ∷ codes "9" ∷ [])) ≡ [])
     × (asked_of (line (codes "station" ∷ codes "--put" ∷ codes "x" ∷ codes "y" ∷ codes "--id" ∷ codes "3" ∷ codes "--peer" ∷ codes "4" ∷ codes "--set" ∷ codes "zone" ∷ codes "512" ∷ codes "--listen" ∷
-    codes "a" ∷ codes "--to" ∷ codes "b" ∷ codes "--put" ∷ codes "v" ∷ codes "w" ∷ codes "--outbox" ∷ codes "o" ∷ codes "--idle" ∷ codes "9" ∷ []))
+    codes "a" ∷ codes "--to" ∷ codes "b" ∷ codes "--put" ∷ codes "v" ∷ codes "w" ∷ codes "--outbox" ∷ codes "o" ∷ codes "--state" ∷ codes "s" ∷ codes "--idle" ∷ codes "9" ∷ []))
     ≡ Some (station (record {
       numbers = record { id = 3; peer = 4; idle = 9; first_number = 0; rate = 1000; drop_every = 0 };
       listen = codes "a";
       to = codes "b";
       inbox = None;
       outbox = Some (codes "o");
+      state = Some (codes "s");
       puts = codes "x" ∷ codes "y" ∷ codes "v" ∷ codes "w" ∷ [];
       sets = codes "zone" ∷ codes "512" ∷ [];
       shown = nothing;

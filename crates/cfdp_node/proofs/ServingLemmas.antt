@@ -1,5 +1,5 @@
 -- What a station told its user stays through its turns, and what is written of it.
-use Rattle.std.proofs.Common.{◌≡◌, ◌⊎◌, Bool, ℕ, zero, suc, ◌+◌, ◌≤◌, List, [], ◌∷◌, ◌++◌, add-one, append_assoc, append-nil, ap, arith, drop, inl, inr, length, length-append, Ok, Err, Option, Some, None, refl, Result, subst, sym, take, take_all, ⊎_elim, ◌∙◌}
+use Rattle.std.proofs.Common.{◌≡◌, ◌⊎◌, Bool, false, true, ℕ, zero, suc, ◌+◌, ◌≤◌, List, [], ◌∷◌, ◌++◌, add-one, append_assoc, append-nil, ap, arith, drop, inl, inr, length, length-append, Ok, Err, Option, Some, None, refl, Result, subst, sym, take, take_all, ⊎_elim, ◌∙◌}
 use Rattle.std.specs.Io.KnownBytes.{Appends, Keeps}
 use Rattle.std.specs.List.{flat_map}
 use Rattle.std.proofs.KnownBytes.{Appends-kept, Appends-nil, Appends-trans, Keeps-trans}
@@ -16,14 +16,16 @@ use Rattle.cfdp_entity.specs.Hearing.{DropsOctets, HearsOctets}
 use Rattle.cfdp_entity.specs.Polling.{served, turn}
 use Rattle.cfdp_entity.specs.Sound.{GoesOn}
 use Rattle.cfdp_entity.specs.Table.{Ticks}
-use Rattle.cfdp_station.specs.Station.{StationState}
+use Rattle.link_stack.specs.Downward.{both_counted_from}
+use Rattle.cfdp_station.specs.Station.{KeepsRest, StationState}
 use Rattle.cfdp_station.specs.Taking.{HearsAll as HearsPdus}
 use Rattle.cfdp_station.specs.declared.polled.Polled.{Polled}
 use Rattle.cfdp_station.specs.declared.polled.Polled.TheVariants.{Moved, Nothing, Full, SourceFailed}
 use Rattle.cfdp_node.specs.Looping.Turns.{IsTold, told}
 use Rattle.cfdp_node.specs.Report.Lines.{indication_line}
 use Rattle.cfdp_node.specs.Station.Serving.{EndsFrom, EndsStation, IsWritten, Longer, MakesNext, MakesPuts, Putting, ServesTo, station_exit}
-use Rattle.cfdp_node.specs.Wire.Turn.{AsksOn, Asks, End, HearsAll, PollMoves, PollsOnce, PollsOut, Sending, Sends, SendsFrame, SendsInPart, SendsWhole, TellsTime, Times}
+use Rattle.cfdp_node.specs.Station.Turning.{EndsPolls, FillsUp, Hears, MovesMore, Pulls, SendsNext, SendsSome, SendsSomeInPart, TakesInPart, TakesOne}
+use Rattle.cfdp_node.specs.Wire.Turn.{AsksOn, Asks, End, HearsAll, PollsOnce, Sending, TellsTime, Times}
 use Rattle.cfdp_node.specs.Wire.Calls.{WireCall}
 use Rattle.cfdp_node.specs.declared.exit.Exit.{Exit}
 use Rattle.cfdp_node.specs.declared.exit.Exit.TheVariants.{Device}
@@ -75,13 +77,23 @@ module _ (laws : GoesOnLaws) where
   poll-longer Nothing a b once = same-entity a b once.polls.0.1
   poll-longer Full a b once = same-entity a b once.polls.0.1
 
-  moves-longer : (count : ℕ) (a b : StationState) → Times PollMoves count a b → Longer (told a) (told b)
-  moves-longer = longer-times PollMoves told (λ a b move. poll-longer move.0 a b move.2)
+  moves-longer : (count : ℕ) (a b : StationState) → Times MovesMore count a b → Longer (told a) (told b)
+  moves-longer = longer-times MovesMore told (λ a b more. poll-longer more.1.0 a b more.1.2)
 
-  polls-longer : (a b : StationState) → PollsOut a b → Longer (told a) (told b)
-  polls-longer a b polls =
-      longer-both (told a) (told polls.last) (told b) (moves-longer polls.count a polls.last polls.moved)
-      (⊎_elim (λ rests. poll-longer rests.1.0 polls.last b rests.1.2) (λ same. longer-same (told polls.last) (told b) (ap told same.1)) polls.ends)
+  fills-longer : (both : Bool) (a b : StationState) → FillsUp both a b → Longer (told a) (told b)
+  fills-longer true a b fills = same-entity a b fills.1.0
+  fills-longer false a b fills = same-entity a b fills.keeps.0
+
+  ends-longer : (rests : Bool) (count : ℕ) (a b : StationState) → EndsPolls rests count a b → Longer (told a) (told b)
+  ends-longer true count a b ends = poll-longer ends.1.1.0 a b ends.1.1.2
+  ends-longer false count a b ends = longer-same (told a) (told b) (ap told ends.1)
+
+  pulls-longer : (a b : StationState) → Pulls a b → Longer (told a) (told b)
+  pulls-longer a b pulls =
+      let polls = pulls.polls in
+      let moved = moves-longer polls.count a polls.last polls.moved in
+      let polled = longer-both (told a) (told polls.last) (told pulls.polled) moved (ends-longer pulls.rests polls.count polls.last pulls.polled polls.ends) in
+      longer-both (told a) (told pulls.polled) (told b) polled (fills-longer pulls.rests pulls.polled b pulls.fills)
 
   pdus-longer : (pdus : List (List ℕ)) (a b : Counted) → HearsPdus pdus a b → Longer a.state.table.told b.state.table.told
   pdus-longer [] a b same = longer-same a.state.table.told b.state.table.told (ap (λ (e : Counted). e.state.table.told) same)
@@ -91,32 +103,51 @@ module _ (laws : GoesOnLaws) where
       (pdus-longer pdus mid b behind)
 
   module _ {W : Type 0} (Steps : W → WireCall → W → Type 0) where
-    frames-longer : (every : ℕ) (a b : Sending W) → SendsWhole Steps every a b → Longer (told a.station) (told b.station)
-    frames-longer every a b whole =
-        longer-times (SendsFrame Steps every) (λ (s : Sending W). told s.station) (λ x y frame. same-entity x.station y.station frame.rest.0) whole.count a b whole.sent
+    next-longer : (every : ℕ) (a b : Sending W) → SendsNext Steps every a b → Longer (told a.station) (told b.station)
+    next-longer every a b next =
+        longer-both (told a.station) (told next.pulled) (told b.station) (pulls-longer a.station next.pulled next.pulls) (same-entity next.pulled b.station next.sends.rest.0)
 
-    pub sends-longer : (every now : ℕ) (a b : Sending W) → Sends Steps every now a b → Longer (told a.station) (told b.station)
-    sends-longer every now a b sends =
-        let ticked = ticks-longer now a.station sends.told sends.tells in
-        let polled = longer-both (told a.station) (told sends.told) (told sends.polled) ticked (polls-longer sends.told sends.polled sends.polls) in
-        let flushed = longer-both (told a.station) (told sends.polled) (told sends.flushed) polled (same-entity sends.polled sends.flushed sends.flushes.1.0) in
-        longer-both (told a.station) (told sends.flushed) (told b.station) flushed (frames-longer every _ b sends.sends)
+    nexts-longer : (every count : ℕ) (a b : Sending W) → Times (SendsNext Steps every) count a b → Longer (told a.station) (told b.station)
+    nexts-longer every = longer-times (SendsNext Steps every) (λ (s : Sending W). told s.station) (next-longer every)
+
+    some-longer : (every : ℕ) (a b : Sending W) → SendsSome Steps every a b → Longer (told a.station) (told b.station)
+    some-longer every a b some =
+        longer-both (told a.station) (told some.last.station) (told b.station) (nexts-longer every some.count a some.last some.sent)
+        (⊎_elim (λ none. pulls-longer some.last.station b.station none.1.pulls)
+        (λ same. longer-same (told some.last.station) (told b.station) (ap (λ (s : Sending W). told s.station) same.1)) some.ends)
+
+    some_part-longer : (every : ℕ) (a b : Sending W) → SendsSomeInPart Steps every a b → Longer (told a.station) (told b.station)
+    some_part-longer every a b some =
+        longer-both (told a.station) (told some.last.station) (told b.station) (nexts-longer every some.count a some.last some.sent)
+        (moves-longer some.part.count some.last.station b.station some.part.moved)
 
     asks-longer : (came : Result (Option (List ℕ)) WireFault) (a b : End W) → Asks Steps came a b → Longer (told a.station) (told b.station)
     asks-longer (Ok (Some frame)) a b asks = pdus-longer asks.takes.pdus a.station.entity b.station.entity asks.takes.heard
     asks-longer (Ok None) a b asks = longer-same (told a.station) (told b.station) (ap told asks.takes)
     asks-longer (Err fault) a b asks = longer-same (told a.station) (told b.station) (ap told asks.takes)
 
-    pub hears-longer : (a b : End W) → HearsAll Steps a b → Longer (told a.station) (told b.station)
+    hears-longer : (a b : End W) → HearsAll Steps a b → Longer (told a.station) (told b.station)
     hears-longer a b hears =
         longer-both (told a.station) (told hears.last.station) (told b.station)
         (longer-times (AsksOn Steps) (λ (e : End W). told e.station) (λ x y on. asks-longer on.0 x y on.2) hears.count a hears.last hears.heard)
         (⊎_elim (λ last. asks-longer (Ok None) hears.last b last.1) (λ same. longer-same (told hears.last.station) (told b.station) (ap (λ (e : End W). told e.station) same.1)) hears.ends)
 
-  pub part-longer : (now : ℕ) (a b : StationState) → SendsInPart now a b → Longer (told a) (told b)
-  part-longer now a b part =
-      ⊎_elim (λ same. longer-same (told a) (told b) (ap told same))
-      (λ more. longer-both (told a) (told more.0) (told b) (ticks-longer now a more.0 more.1) (moves-longer more.2.count more.0 b more.2.moved)) part.ends
+    hear-longer : (a b : Sending W) → Hears Steps a b → Longer (told a.station) (told b.station)
+    hear-longer a b hears = hears-longer (record { station = a.station; wire = a.wire }) (record { station = b.station; wire = b.wire }) hears.hears
+
+    pub turn-longer : (every now : ℕ) (a b : Sending W) → TakesOne Steps every now a b → Longer (told a.station) (told b.station)
+    turn-longer every now a b turn =
+        let heard = hear-longer a turn.heard turn.hears in
+        let ticked = ticks-longer now turn.heard.station turn.told turn.tells in
+        let both = longer-both (told a.station) (told turn.heard.station) (told turn.told) heard ticked in
+        longer-both (told a.station) (told turn.told) (told b.station) both (some-longer every (record turn.heard { station = turn.told }) b turn.sends)
+
+    pub part-longer : (every now : ℕ) (a b : Sending W) → TakesInPart Steps every now a b → Longer (told a.station) (told b.station)
+    part-longer every now a b part =
+        longer-both (told a.station) (told part.heard.station) (told b.station) (hear-longer a part.heard part.hears)
+        (⊎_elim (λ same. longer-same (told part.heard.station) (told b.station) (ap (λ (s : Sending W). told s.station) same))
+        (λ more. longer-both (told part.heard.station) (told more.0) (told b.station) (ticks-longer now part.heard.station more.0 more.1)
+        (some_part-longer every (record part.heard { station = more.0 }) b more.2)) part.ends)
 
 -- ---- what is written
 -- nothing yet
@@ -166,19 +197,22 @@ pub same-exit : (short failed failed_now : Bool) (complete complete_now asked as
     → station_exit short failed complete asked ≡ station_exit short failed_now complete_now asked_now
 same-exit short failed failed_now complete complete_now asked asked_now same_failed same_complete same_asked = rw (same_failed, same_complete, same_asked) refl
 
+-- a station whose frames are counted from a number on
+pub counted-is : (count : ℕ) (s t : StationState) → t.down ≡ both_counted_from count s.down → KeepsRest s t → t ≡ record s { down = both_counted_from count s.down }
+counted-is count s t down rest = rw (sym down, sym rest.0, sym rest.1) refl
+
 -- one put more
 pub made-more : (puts : List PutNames) (count : ℕ) (first mid new : Putting) → MakesPuts puts count first mid → MakesNext puts count mid new → MakesPuts puts (count + 1) first new
 made-more puts count first mid new before next = rw add-one (mid, before, next)
 
 -- ---- the whole
-module _ {W : Type 0} (Steps : W → WireCall → W → Type 0) (silent : W → Bool) (own every : ℕ) (puts : List PutNames) where
+module _ {W : Type 0} (Steps : W → WireCall → W → Type 0) (own every : ℕ) (puts : List PutNames) where
   served-kept : (exit : Exit) (first last : Sending W) (old mid new : Option (List ℕ)) → Keeps mid new
-      → ServesTo Steps silent own every puts exit first last old mid → ServesTo Steps silent own every puts exit first last old new
+      → ServesTo Steps own every puts exit first last old mid → ServesTo Steps own every puts exit first last old new
   served-kept exit first last old mid new kept to = record {
     short = to.short;
     serves = record {
       station = to.serves.station;
-      ids = to.serves.ids;
       refusals = to.serves.refusals;
       refused = to.serves.refused;
       halted = to.serves.halted;
@@ -191,29 +225,29 @@ module _ {W : Type 0} (Steps : W → WireCall → W → Type 0) (silent : W → 
   }
 
   from-kept : (exit : Exit) (first : Sending W) (old mid new : Option (List ℕ)) → Keeps mid new
-      → EndsFrom Steps silent own every puts exit first old mid → EndsFrom Steps silent own every puts exit first old new
+      → EndsFrom Steps own every puts exit first old mid → EndsFrom Steps own every puts exit first old new
   from-kept exit first old mid new kept (inl none) = inl (none.0, Keeps-trans old mid new none.1 kept)
   from-kept exit first old mid new kept (inr to) = inr (to.0, served-kept exit first to.0 old mid new kept to.1)
 
-  station-kept : (exit : Exit) (config : StationConfig) (sources files : FileMap) (wire : W) (old mid new : Option (List ℕ)) → Keeps mid new
-      → EndsStation Steps silent own every puts exit config sources files wire old mid → EndsStation Steps silent own every puts exit config sources files wire old new
-  station-kept exit config sources files wire old mid new kept (inl none) = inl (none.0, Keeps-trans old mid new none.1 kept)
-  station-kept exit config sources files wire old mid new kept (inr s) = inr (s.0, s.1, from-kept exit _ old mid new kept s.2)
+  station-kept : (count : ℕ) (exit : Exit) (config : StationConfig) (sources files : FileMap) (wire : W) (old mid new : Option (List ℕ)) → Keeps mid new
+      → EndsStation Steps own every puts count exit config sources files wire old mid → EndsStation Steps own every puts count exit config sources files wire old new
+  station-kept count exit config sources files wire old mid new kept (inl none) = inl (none.0, Keeps-trans old mid new none.1 kept)
+  station-kept count exit config sources files wire old mid new kept (inr s) = inr (s.0, s.1, from-kept exit _ old mid new kept s.2)
 
   -- it holds still once what waits in the buffer was written out
-  pub flushed-station : (exit ended : Exit) (config : StationConfig) (sources files : FileMap) (wire : W) (old mid new : Option (List ℕ)) → Keeps mid new
-      → IsTold exit (EndsStation Steps silent own every puts exit config sources files wire old mid)
+  pub flushed-station : (count : ℕ) (exit ended : Exit) (config : StationConfig) (sources files : FileMap) (wire : W) (old mid new : Option (List ℕ)) → Keeps mid new
+      → IsTold exit (EndsStation Steps own every puts count exit config sources files wire old mid)
       → (ended ≡ exit) ⊎ (ended ≡ Device Unwritable)
-      → IsTold ended (EndsStation Steps silent own every puts ended config sources files wire old new)
-  flushed-station exit ended config sources files wire old mid new kept told from =
-      let Ends : Exit → Type 0 = λ e. IsTold e (EndsStation Steps silent own every puts e config sources files wire old new) in
-      let now : Ends exit = told_too exit _ _ (station-kept exit config sources files wire old mid new kept) told in
+      → IsTold ended (EndsStation Steps own every puts count ended config sources files wire old new)
+  flushed-station count exit ended config sources files wire old mid new kept told from =
+      let Ends : Exit → Type 0 = λ e. IsTold e (EndsStation Steps own every puts count e config sources files wire old new) in
+      let now : Ends exit = told_too exit _ _ (station-kept count exit config sources files wire old mid new kept) told in
       ⊎_elim (λ e. subst Ends (sym e) now) (λ e. subst Ends (sym e) tt) from
 
   -- a new station and its wire, with what turns need
   pub from-all : (exit : Exit) (station : StationState) (wire : W) (own_every left : ℕ) (last : Sending W) (old new : Option (List ℕ)) → own_every ≡ every → left ≡ every
-      → IsTold exit (ServesTo Steps silent own own_every puts exit (record { station = station; wire = wire; left = left }) last old new)
-      → IsTold exit (EndsFrom Steps silent own every puts exit (record { station = station; wire = wire; left = every }) old new)
+      → IsTold exit (ServesTo Steps own own_every puts exit (record { station = station; wire = wire; left = left }) last old new)
+      → IsTold exit (EndsFrom Steps own every puts exit (record { station = station; wire = wire; left = every }) old new)
   from-all exit station wire own_every left last old new same_every same_left told =
-      let All : ℕ → ℕ → Type 0 = λ e l. ServesTo Steps silent own e puts exit (record { station = station; wire = wire; left = l }) last old new in
+      let All : ℕ → ℕ → Type 0 = λ e l. ServesTo Steps own e puts exit (record { station = station; wire = wire; left = l }) last old new in
       told_too exit (All own_every left) _ (λ all. inr (last, subst (λ e. All e every) same_every (subst (All own_every) same_left all))) told

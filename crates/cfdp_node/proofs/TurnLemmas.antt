@@ -1,5 +1,5 @@
 -- A step so many times, and once more; what a wire brings, and frames that leave.
-use Rattle.std.proofs.Common.{◌≡◌, ◌≢◌, ℕ, ◌+◌, ◌<◌, ◌≤◌, ◌==◌, List, length, drop, length-drop, add-one, ap, arith, eqb-true, eq-eqb, subst, sym, ◌∙◌, Option, Some, None, Ok, Err, Result, true, false, Bool, IsTrue, ◌↔◌, OnErr}
+use Rattle.std.proofs.Common.{◌≡◌, ◌≢◌, ℕ, ◌+◌, ◌<◌, ◌≤◌, ◌==◌, List, length, drop, length-drop, add-one, ap, arith, eqb-true, eq-eqb, subst, sym, ◌∙◌, Option, Some, None, Ok, Err, Result, true, false, Bool, IsTrue, ◌↔◌, OnErr, OnOk}
 use Rattle.aos_frame.specs.Frame.{other_lane}
 use Rattle.aos_frame.specs.declared.config.LinkConfig.{LinkConfig}
 use Rattle.aos_frame.specs.declared.config.Lane.{Lane}
@@ -8,7 +8,7 @@ use Rattle.link_stack.specs.Downward.{DownState, LinkSenderState, first_down, fr
 use Rattle.link_sim.proofs.Lanes.Frames.{next-is_whole}
 use Rattle.cfdp_station.specs.Link.{FlushesBoth}
 use Rattle.cfdp_station.specs.Station.{StationState}
-use Rattle.cfdp_node.specs.Wire.Turn.{AsksOn, End, FitsFrames, HasZones, KeepsLanes, TakesWhat, Times}
+use Rattle.cfdp_node.specs.Wire.Turn.{AsksOn, End, FitsFrames, HasZones, KeepsLanes, TakesWhat, Times, all_waiting}
 use Rattle.cfdp_node.specs.Wire.Calls.{WireCall, Asked}
 use Rattle.cfdp_node.specs.declared.wire.WireFault.{WireFault}
 
@@ -32,6 +32,10 @@ some_came came frame is none = cc
 pub fault_came : (came : Result (Option (List ℕ)) WireFault) (fault : WireFault) → came ≡ Err fault → came ≢ Ok None
 fault_came came fault is none = cc
 
+-- what is something isn't nothing
+pub some_waits : {A : Type 0} (o : Option A) (x : A) → o ≡ Some x → o ≢ None
+some_waits o x is none = cc
+
 -- whether the next frame is to be lost
 pub next_is_lost : (lost : Bool) (left : ℕ) → lost ≡ (left == 1) → lost ≡ true → left ≡ 1
 next_is_lost lost left told is = eqb-true left 1 (sym told ∙ is)
@@ -46,6 +50,20 @@ not_so b P same is holds = let so : IsTrue b = same.1 holds in cc
 pub on_err : {A E : Type 0} (r : Result A E) (P : Type 0) → P → OnErr r P
 on_err (Ok x) P holds = tt
 on_err (Err e) P holds = holds
+
+-- what follows from what holds of an answer, holds of it
+pub ok-map : {A E : Type 0} (r : Result A E) (P Q : Type 0) → (P → Q) → OnOk r P → OnOk r Q
+ok-map (Ok x) P Q follows holds = follows holds
+ok-map (Err e) P Q follows holds = tt
+
+pub err-map : {A E : Type 0} (r : Result A E) (P Q : Type 0) → (P → Q) → OnErr r P → OnErr r Q
+err-map (Ok x) P Q follows holds = tt
+err-map (Err e) P Q follows holds = follows holds
+
+-- what follows from both answers
+pub on_both : {A E : Type 0} (r : Result A E) (P Q R : Type 0) → OnOk r P → OnErr r Q → (P → R) → (Q → R) → R
+on_both (Ok x) P Q R ok err if_ok if_err = if_ok ok
+on_both (Err e) P Q R ok err if_ok if_err = if_err err
 
 -- ---- lanes
 pub lanes_kept : (x : Lane) (old now : DownState) → (lane_down x now).link ≡ (lane_down x old).link → lane_down (other_lane x) now ≡ lane_down (other_lane x) old → KeepsLanes old now
@@ -74,10 +92,6 @@ fits_still len old now kept fits = (
   (subst (λ (c : LinkConfig). 1 ≤ c.zone) (sym kept.0) fits.0.0, subst (λ (c : LinkConfig). 1 ≤ c.zone) (sym kept.1) fits.0.1),
   subst (λ (c : LinkConfig). len ≡ 8 + c.zone) (sym kept.0) fits.1,
 )
-
--- what waits, in both lanes
-abbrev pub all_waiting : DownState → ℕ
-all_waiting d = length d.directives.waiting + length d.file_data.waiting
 
 -- a frame takes its zone off it
 taken_off : (zone : ℕ) (old now : List ℕ) → now ≡ drop zone old → 1 ≤ zone → zone ≤ length old → length now < length old

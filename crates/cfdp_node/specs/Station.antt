@@ -1,3 +1,4 @@
 -- A station that serves its peer.
 pub mod Request
 pub mod Serving
+pub mod Turning

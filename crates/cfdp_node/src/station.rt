@@ -3,9 +3,14 @@ ghost use Rattle.std.specs.Prelude.{IfOk};
 ghost use Rattle.cfdp_station.specs.Config.{IsStationConfig};
 ghost use Rattle.link_sim.specs.Stations.{IsWorldConfig};
 
+pub mod beacon;
+pub mod exchange;
+pub mod notices;
 pub mod request;
 pub mod serving;
 pub mod setup;
+pub mod state_file;
+pub mod turning;
 
 use crate::exit::{Exit, Fault};
 use crate::input::Input;
@@ -13,9 +18,13 @@ use crate::looping::folders::{LoopLookout, TellingInbox, check_name, folder};
 use crate::report::name::Name;
 use crate::script::number::parse_number;
 use crate::script::sim::Ran;
+use crate::station::beacon::Beacon;
+use crate::station::exchange::Exchange;
+use crate::station::notices::Notices;
 use crate::station::request::{StationNumbers, StationRequest};
 use crate::station::serving::{PutNames, StationOptions, run_station};
 use crate::station::setup::StationSetup;
+use crate::station::state_file::{Reservation, StateError};
 use crate::watch::lookout::Lookout;
 use crate::watch::onlooker::Onlooker;
 use crate::watch::progress::Progress;
@@ -28,7 +37,6 @@ use std::alloc::{AllocError, Global};
 use std::cell::Cell;
 use std::fs::File;
 use std::io::{BufWriter, ErrorKind, Read};
-use std::time::{SystemTime, UNIX_EPOCH};
 use std::{fs, io};
 
 /// The exit status of bad arguments.
@@ -42,34 +50,51 @@ const DEVICE: u8 = 3;
 struct StationParts<'a> {
     outbox: MemoryOutbox,
     socket: PeerSocket<'a>,
+    /// The count of its first frame in either lane.
+    frame_count: u32,
 }
 
 /// Runs the station that is asked for, writes the report to standard output, and says on standard
 /// error what went wrong. Answers the exit status.
 ///
 /// What may be wrong is looked for in this order: what is set, the names of files that are to be
-/// sent, the folders, those files, the addresses.
+/// sent, the folders, those files, the file of reserved numbers, the addresses.
 pub fn station_status(rt: &HostRuntime, request: &StationRequest) -> u8 {
-    let config = match configuration(rt, request) {
-        Ok(config) => config,
+    let setup = match set_up(rt, request) {
+        Ok(setup) => setup,
         Err(status) => return status,
     };
-    let strangers = Cell::new(0);
-    match prepared(rt, request, &strangers) {
-        Ok(prepared) => {
-            let status = ran_status(rt, request, &config, prepared);
-            tell_strangers(rt, strangers.get());
-            status
+    match begun(rt, request, &setup) {
+        Ok((config, outbox, reservation)) => {
+            let exchange = Exchange::new();
+            match parts(rt, request, &config, outbox, reservation, &exchange) {
+                Ok(parts) => ran_status(rt, request, &config, parts, &exchange),
+                Err(status) => status,
+            }
         }
         Err(status) => status,
     }
 }
 
-/// Says how many datagrams came from other addresses than the peer's.
-fn tell_strangers(rt: &HostRuntime, count: u64) {
-    if count > 0 {
-        let _ = eprintln!(rt; "{count} datagrams came from other addresses, and were not read");
-    }
+/// Looks at what is set, at names and folders, reads the files that are to be sent, and reserves
+/// numbers.
+///
+/// # Errors
+///
+/// The exit status, where something is wrong, which was told on standard error.
+fn begun<'a>(
+    rt: &'a HostRuntime,
+    request: &StationRequest,
+    setup: &StationSetup,
+) -> Result<(WorldConfig, MemoryOutbox, Reservation<'a>), u8>
+    ensures { IfOk result (λ begun. IsWorldConfig begun.0) }
+{
+    let _ = configuration(rt, request, setup)?;
+    let outbox = stored(rt, request)?;
+    let reservation = reserved(rt, request, setup)?;
+    let setup = setup.beginning_at(reservation.number());
+    let config = configuration(rt, request, &setup)?;
+    Ok((config, outbox, reservation))
 }
 
 /// How the station and its peer are set up.
@@ -77,15 +102,18 @@ fn tell_strangers(rt: &HostRuntime, count: u64) {
 /// # Errors
 ///
 /// The exit status, where they can't be, which was told on standard error.
-fn configuration(rt: &HostRuntime, request: &StationRequest) -> Result<WorldConfig, u8>
+fn configuration(
+    rt: &HostRuntime,
+    request: &StationRequest,
+    setup: &StationSetup,
+) -> Result<WorldConfig, u8>
     ensures { IfOk result IsWorldConfig }
 {
     let StationNumbers { id, peer, .. } = request.numbers;
-    let setup = set_up(rt, request)?;
     match setup.config(id, peer) {
         Some(config) => Ok(config),
         None => {
-            tell_bad(rt, &setup);
+            tell_bad(rt, setup);
             Err(MISTAKE)
         }
     }
@@ -107,8 +135,13 @@ fn tell_bad(rt: &HostRuntime, setup: &StationSetup) {
 
 /// What is set.
 fn set_up(rt: &HostRuntime, request: &StationRequest) -> Result<StationSetup, u8> {
-    let StationNumbers { id, peer, .. } = request.numbers;
-    let mut setup = StationSetup::new(id < peer, first_number(rt, request.numbers));
+    let StationNumbers {
+        id,
+        peer,
+        first_number,
+        ..
+    } = request.numbers;
+    let mut setup = StationSetup::new(id < peer).beginning_at(first_number);
     let words = request.sets.as_slice();
     for pair in 0..words.len() / 2 {
         set_one(
@@ -134,40 +167,111 @@ fn set_one(rt: &HostRuntime, setup: &mut StationSetup, key: &str, word: &str) ->
     Ok(())
 }
 
-/// The number of the first transaction: as it is asked for, or else the milliseconds since 1970.
-fn first_number(rt: &HostRuntime, numbers: StationNumbers) -> u64 {
-    if numbers.first_number != 0 {
-        return numbers.first_number;
+/// Reserves numbers in the file that is said; or, where none is and the first number isn't said
+/// either, in the one beside the outbox, or beside the inbox where there is no outbox. Without that
+/// file a station that puts nothing goes by the clock.
+///
+/// # Errors
+///
+/// The exit status, where that file can't be used, which was told on standard error.
+fn reserved<'a>(
+    rt: &'a HostRuntime,
+    request: &StationRequest,
+    setup: &StationSetup,
+) -> Result<Reservation<'a>, u8> {
+    let (number, width) = (setup.first_number(), setup.number_width());
+    let said = if number == 0 { None } else { Some(number) };
+    if let Some(path) = &request.state {
+        return match Reservation::take(rt, path.as_str(), said, width) {
+            Ok(reservation) => Ok(reservation),
+            Err(error) => Err(tell_state(rt, path.as_str(), &error)),
+        };
     }
-    match SystemTime::now(rt) {
-        Ok(now) => match now.duration_since(UNIX_EPOCH) {
-            Ok(since) => u64::try_from(since.as_millis()).unwrap_or(1),
-            Err(_) => 1,
-        },
-        Err(_) => 1,
+    if said.is_some() {
+        return Ok(Reservation::by_clock(rt, said));
+    }
+    match (&request.outbox, &request.inbox) {
+        (Some(folder), _) | (None, Some(folder)) => {
+            reserved_beside(rt, folder.as_str(), request.puts.is_empty(), width)
+        }
+        (None, None) => Ok(Reservation::by_clock(rt, None)),
     }
 }
 
-/// Looks at the folders, reads the files that are to be sent, and opens the socket.
+/// Reserves numbers in the file beside a folder.
+///
+/// # Errors
+///
+/// The exit status, where that file can't be used, which was told on standard error. Where it is
+/// the system that refuses it, a station that puts nothing does without.
+fn reserved_beside<'a>(
+    rt: &'a HostRuntime,
+    folder: &str,
+    puts_nothing: bool,
+    width: u64,
+) -> Result<Reservation<'a>, u8> {
+    let path = match beside(rt, folder) {
+        Ok(path) => path,
+        Err(error) => return Err(tell_state(rt, folder, &StateError::System(error))),
+    };
+    match Reservation::take(rt, path.as_str(), None, width) {
+        Ok(reservation) => Ok(reservation),
+        Err(StateError::System(_)) if puts_nothing => Ok(Reservation::by_clock(rt, None)),
+        Err(error) => Err(tell_state(rt, path.as_str(), &error)),
+    }
+}
+
+/// Says why the file of reserved numbers can't be used. Answers the exit status.
+fn tell_state(rt: &HostRuntime, path: &str, error: &StateError) -> u8 {
+    let _ = eprintln!(rt;
+        "error: {path}: {error} (the numbers that were used are kept there; --state names another \
+         file)"
+    );
+    DEVICE
+}
+
+/// The path of the file beside a folder.
+fn beside(rt: &HostRuntime, folder: &str) -> io::Result<String> {
+    let path = fs::canonicalize(rt, folder)?;
+    Ok(format!(in rt.alloc(); "{}.state", path.display())?)
+}
+
+/// Looks at names and folders, and reads the files that are to be sent.
 ///
 /// # Errors
 ///
 /// The exit status, where something is wrong, which was told on standard error.
-fn prepared<'a>(
-    rt: &'a HostRuntime,
-    request: &StationRequest,
-    strangers: &'a Cell<u64>,
-) -> Result<StationParts<'a>, u8> {
+fn stored(rt: &HostRuntime, request: &StationRequest) -> Result<MemoryOutbox, u8> {
     for put in 0..request.puts.len() / 2 {
         check_name(rt, request.puts[2 * put].as_str())?;
     }
     if let Some(inbox) = &request.inbox {
         let _ = folder(rt, inbox.as_str())?;
     }
-    let outbox = filled_outbox(rt, request)?;
+    filled_outbox(rt, request)
+}
+
+/// Opens the socket, which notes the counts of its frames.
+///
+/// # Errors
+///
+/// The exit status, where it can't be had, which was told on standard error.
+fn parts<'a>(
+    rt: &'a HostRuntime,
+    request: &StationRequest,
+    config: &WorldConfig,
+    outbox: MemoryOutbox,
+    reservation: Reservation<'a>,
+    exchange: &'a Exchange,
+) -> Result<StationParts<'a>, u8>
+    requires { IsWorldConfig config.now }
+{
+    let frame_count = reservation.frame_count();
+    let config = config_at(side_of(request), config);
     Ok(StationParts {
         outbox,
-        socket: socket(rt, request, strangers)?,
+        socket: socket(rt, request, &config, reservation, exchange)?,
+        frame_count,
     })
 }
 
@@ -217,14 +321,18 @@ fn add_file(
 fn socket<'a>(
     rt: &'a HostRuntime,
     request: &StationRequest,
-    strangers: &'a Cell<u64>,
+    config: &StationConfig,
+    reservation: Reservation<'a>,
+    exchange: &'a Exchange,
 ) -> Result<PeerSocket<'a>, u8> {
     let (listen, to) = (request.listen.as_str(), request.to.as_str());
     let pace = Pace {
         rate: request.numbers.rate,
         idle: request.numbers.idle,
+        up: config.up,
+        beacon: Beacon::of(config),
     };
-    match PeerSocket::bind(rt, listen, to, pace, strangers) {
+    match PeerSocket::bind(rt, listen, to, pace, reservation, exchange) {
         Ok(socket) => Ok(socket),
         Err(unusable) => {
             let _ = match unusable {
@@ -241,12 +349,19 @@ fn ran_status(
     rt: &HostRuntime,
     request: &StationRequest,
     config: &WorldConfig,
-    prepared: StationParts<'_>,
+    parts: StationParts<'_>,
+    exchange: &Exchange,
 ) -> u8
     requires { IsWorldConfig config.now }
 {
     let (told, progress) = (Cell::new(false), Progress::new(rt));
-    let ran = ran(rt, request, config, prepared, &told, &progress);
+    let context = Context {
+        rt,
+        request,
+        exchange,
+        progress: &progress,
+    };
+    let ran = ran(context, config, parts, &told);
     tell_untold(rt, request.inbox.is_some(), ran.exit, &told);
     shown_status(rt, &request.shown, &ran)
 }
@@ -272,47 +387,61 @@ fn tell_fault(rt: &HostRuntime, has_inbox: bool, fault: Fault) {
     }
 }
 
+/// What a run is shown by, and what was asked for.
+#[derive(Clone, Copy)]
+struct Context<'a> {
+    rt: &'a HostRuntime,
+    request: &'a StationRequest,
+    exchange: &'a Exchange,
+    progress: &'a Progress<'a>,
+}
+
 /// Runs the station over the folder of its inbox; without one it takes no file.
 fn ran(
-    rt: &HostRuntime,
-    request: &StationRequest,
+    context: Context<'_>,
     config: &WorldConfig,
-    prepared: StationParts<'_>,
+    parts: StationParts<'_>,
     told: &Cell<bool>,
-    progress: &Progress<'_>,
 ) -> Ran
     requires { IsWorldConfig config.now }
 {
-    match &request.inbox {
-        Some(path) => match TellingInbox::new(rt, path.as_str(), told, progress) {
-            Ok(inbox) => ran_over(rt, request, config, prepared, inbox, progress),
+    let rt = context.rt;
+    match &context.request.inbox {
+        Some(path) => match TellingInbox::new(rt, path.as_str(), told, context.progress) {
+            Ok(inbox) => ran_over(context, config, parts, inbox),
             Err(AllocError) => Ran::unseen(Exit::Device(Fault::NoMemoryAtStart)),
         },
         None => {
             let inbox = FuseInbox::new(MemoryInbox::new(rt.alloc()), 1);
-            ran_over(rt, request, config, prepared, inbox, progress)
+            ran_over(context, config, parts, inbox)
         }
     }
 }
 
 /// Runs the station over this inbox. One looks on if that is asked for.
 fn ran_over<I: Inbox>(
-    rt: &HostRuntime,
-    request: &StationRequest,
+    context: Context<'_>,
     config: &WorldConfig,
-    prepared: StationParts<'_>,
+    parts: StationParts<'_>,
     inbox: I,
-    progress: &Progress<'_>,
 ) -> Ran
     requires { IsWorldConfig config.now }
 {
+    let Context {
+        rt,
+        request,
+        exchange,
+        progress,
+    } = context;
     match Onlooker::new(rt.alloc(), *config, request.shown.is_watched()) {
         Ok(onlooker) => {
-            let mut lookout = LoopLookout { onlooker, progress };
-            let exit = reported(rt, request, config, prepared, inbox, &mut lookout);
+            let own = config_at(side_of(request), config);
+            let lookout = LoopLookout { onlooker, progress };
+            let mut notices = Notices::new(rt, lookout, exchange, own, request.to.as_str());
+            let exit = reported(rt, request, config, parts, inbox, &mut notices);
             Ran {
                 exit,
-                seen: lookout.onlooker.into_seen(),
+                seen: notices.lookout.onlooker.into_seen(),
             }
         }
         Err(AllocError) => Ran::unseen(Exit::Device(Fault::NoMemoryAtStart)),
@@ -325,20 +454,24 @@ fn reported<I: Inbox, L: Lookout>(
     rt: &HostRuntime,
     request: &StationRequest,
     config: &WorldConfig,
-    prepared: StationParts<'_>,
+    parts: StationParts<'_>,
     inbox: I,
     lookout: &mut L,
 ) -> Exit
     requires { IsWorldConfig config.now }
 {
     let alloc = rt.alloc();
-    let Ok(options) = options(alloc, request, config) else {
+    let StationParts {
+        outbox,
+        socket,
+        frame_count,
+    } = parts;
+    let Ok(options) = options(alloc, request, config, frame_count) else {
         return Exit::Device(Fault::NoMemoryAtStart);
     };
     let Ok(mut out) = BufWriter::new(alloc, io::writer(rt)) else {
         return Exit::Device(Fault::NoMemoryAtStart);
     };
-    let StationParts { outbox, socket } = prepared;
     let clock = socket.clock();
     let exit = run_station(
         alloc, options, outbox, inbox, socket, clock, &mut out, lookout,
@@ -353,18 +486,28 @@ fn options(
     alloc: Global,
     request: &StationRequest,
     config: &WorldConfig,
+    frame_count: u32,
 ) -> Result<StationOptions, AllocError>
     requires { IsWorldConfig config.now }
     ensures { IfOk result (λ options. IsStationConfig options.config) }
 {
-    let StationNumbers { id, peer, .. } = request.numbers;
-    let side = if id < peer { Side::One } else { Side::Two };
+    let side = side_of(request);
     Ok(StationOptions {
         config: config_at(side, config),
+        frame_count,
         puts: put_names(alloc, request.puts.as_slice())?,
         drop_every: request.numbers.drop_every,
         side,
     })
+}
+
+/// Which of both stations it is.
+fn side_of(request: &StationRequest) -> Side {
+    if request.numbers.id < request.numbers.peer {
+        Side::One
+    } else {
+        Side::Two
+    }
 }
 
 /// The configuration of one of both stations.

@@ -1,8 +1,9 @@
 //! What takes frames to another station, and brings frames from it.
-ghost use Rattle.std.specs.Prelude.{◌≡◌, ◌≤◌, Bool, length, IfOk, IfSome};
-ghost use Rattle.cfdp_node.specs.Wire.Calls.{WireCall, Asked, Sent, brought};
+ghost use Rattle.std.specs.Prelude.{◌≤◌, length, IfOk, IfSome};
+ghost use Rattle.cfdp_node.specs.Wire.Calls.{WireCall, Asked, Readied, Rested, Sent, brought};
 
 pub mod in_order;
+pub mod pacer;
 pub mod peer_socket;
 pub mod turn;
 pub mod udp;
@@ -37,12 +38,15 @@ pub trait Wire: Drop {
         ensures within { IfOk result (λ came. IfSome came (λ len. len ≤ length buffer.new)) };
 }
 
-/// A wire that knows whether its peer is silent.
+/// A wire that says when a frame may leave, and whether its peer is silent.
 pub trait PeerWire: Wire {
-    /// Whether the peer was silent for as long as it may be, as of the last call.
-    ghost silent: { Self → Bool };
+    /// Whether a frame may leave now. Where none may, frames stay in the station, so that directives
+    /// that come to be due still overtake file data.
+    fn is_ready(&mut self) -> bool
+        ensures { Self.steps self.old (Readied result) self.new };
 
-    /// Whether nothing has come for so long that no more is waited for.
-    fn is_silent(&self) -> bool
-        ensures { result ≡ silent self.now };
+    /// Whether nothing has come, and no transaction was open at the station, for as long as is
+    /// waited. It is told whether one is open now.
+    fn is_silent(&mut self, is_open: bool) -> bool
+        ensures { Self.steps self.old (Rested is_open result) self.new };
 }

@@ -2,7 +2,7 @@
 ghost use Rattle.std.specs.Prelude.{◌≡◌, ℕ, ◌+◌, ◌*◌, ◌<◌, ◌≤◌, ◌↔◌, Bool, List, [], true, false, length, max, get_or, IfOk, IfErr, MatchOption, None, IfSome, OnOk, OnErr};
 ghost use Rattle.mpdu.specs.Stream.{ArePackets};
 ghost use Rattle.aos_frame.specs.Frame.{lane_link, other_lane};
-ghost use Rattle.link_stack.specs.Downward.{IsDown, KeepsLanes, MakesFrame, first_down, frame_lane, lane_down};
+ghost use Rattle.link_stack.specs.Downward.{Flushes, IsDown, KeepsLanes, MakesFrame, both_counted_from, first_down, frame_lane, idle_zones, lane_down};
 ghost use Rattle.link_stack.specs.Frames.{AreOfLink};
 ghost use Rattle.link_stack.specs.Upward.{IsUpOf, drop_count, first_up, lane_up};
 ghost use Rattle.cfdp_timers.specs.Due.{due_count};
@@ -112,6 +112,25 @@ impl<O: Outbox, I: Inbox> Station<O, I> {
             buffer,
             given: Vec::new(alloc),
         })
+    }
+
+    /// Counts the frames of both lanes from this number on, modulo 2^28, as if so many had left
+    /// (CCSDS 732.0-B-4, 4.1.2.4).
+    ///
+    /// It is meant before the first frame, for a station that is started anew where another one
+    /// sent before, whose last counts its peer still knows. Counted from 0 again, its first frame
+    /// may be taken for the next one of those. Counted from a number far from them, as one drawn by
+    /// chance, it shows the peer that frames are missing, and the peer lets go what it had begun.
+    pub fn count_frames_from(&mut self, count: u32)
+        ensures from { self.new.down ≡ both_counted_from count self.old.down }
+        // A lane that sent nothing is then as one that made so many frames, each filled by an idle
+        // packet.
+        ensures stream { (lane : Lane) → IsDown (lane_down lane self.old.down) [] 0 →
+            IsDown (lane_down lane self.new.down)
+            (idle_zones (lane_down lane self.old.down).link.zone count) count }
+        ensures rest { KeepsRest self.old self.new }
+    {
+        self.down.count_from(count);
     }
 
     /// Sends a file of the outbox, to be published by the peer under the second name; both have 1
@@ -313,6 +332,18 @@ impl<O: Outbox, I: Inbox> Station<O, I> {
     {
         self.down.flush(Lane::Directives);
         self.down.flush(Lane::Data);
+    }
+
+    /// Does the same in one lane, and leaves the other one as it is: so a directive need not wait for
+    /// the file data behind it, whose begun frame goes on being filled.
+    pub fn flush_lane(&mut self, lane: Lane)
+        ensures flushed { Flushes (lane_down lane self.old.down) (lane_down lane self.new.down) }
+        ensures other { lane_down (other_lane lane) self.new.down
+            ≡ lane_down (other_lane lane) self.old.down }
+        ensures packet_count { self.new.down.packet_count ≡ self.old.down.packet_count }
+        ensures rest { KeepsRest self.old self.new }
+    {
+        self.down.flush(lane);
     }
 
     /// The most whole frames that can ever wait in a lane after a poll or a flush: a bound that

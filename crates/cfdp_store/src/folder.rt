@@ -247,7 +247,7 @@ impl<F: Files + Drop> FolderInbox<F> {
     {
         let folder = self.folder.as_str();
         let part = format!(in self.alloc; "{folder}/.part-{}-{}", id.source, id.number)?;
-        match move_in(&self.files, part.as_str(), path, octets) {
+        match move_in(&self.files, folder, part.as_str(), path, octets) {
             Ok(()) => Ok(()),
             Err(error) => {
                 let _ = fs::remove_file(&self.files, part.as_str());
@@ -256,8 +256,8 @@ impl<F: Files + Drop> FolderInbox<F> {
         }
     }
 
-    /// What can fail is done first: so a file that lies in the folder under its own name is one
-    /// that was published.
+    /// What can fail is done first, but for the flush of the folder: so a file that lies in the
+    /// folder under its own name is one that was published, or whose name the device failed to keep.
     fn try_publish(&mut self, id: TransactionId, name: &[u8], size: u64) -> Result<(), FolderError>
         ensures ok { OnOk result (published_of self.new.received.items
             ≡ map.insert (published_of self.old.received.items) name.now
@@ -283,14 +283,24 @@ impl<F: Files + Drop> FolderInbox<F> {
     }
 }
 
-/// Writes a file at one path, flushes it to the device, and moves it to another path. What lay at
-/// the first path is gone; nothing at all lies there before the file is made.
-fn move_in<F: Files>(files: &F, part: &str, path: &str, octets: &[u8]) -> io::Result<()> {
+/// Writes a file at one path of a folder, flushes it to the device, moves it to another path, and
+/// flushes the folder, so that the file keeps its name. What lay at the first path is gone; nothing
+/// at all lies there before the file is made. Where the folder can't be flushed at the end, the file
+/// may lie at the other path.
+fn move_in<F: Files>(
+    files: &F,
+    folder: &str,
+    part: &str,
+    path: &str,
+    octets: &[u8],
+) -> io::Result<()> {
     let _ = fs::remove_file(files, part);
+    let names = File::open(files, folder)?;
     let mut file = File::create_new(files, part)?;
     file.write_all(octets)?;
     file.sync_all()?;
-    fs::rename(files, part, path)
+    fs::rename(files, part, path)?;
+    names.sync_all()
 }
 
 impl<F: Files + Drop> Inbox for FolderInbox<F> {

@@ -4,3 +4,4 @@ pub mod Taking
 pub mod Decoded
 pub mod Streams
 pub mod Grown
+pub mod Counted

@@ -1,12 +1,12 @@
 -- The sending end of a link, and the stream of packets that each of its two lanes was given.
-use Rattle.std.specs.Prelude.{◌≡◌, ℕ, ◌-◌, ◌%◌, ◌*◌, ◌+◌, ◌≤◌, ◌++◌, ◌∷◌, nat_le, Bool, false, List, [], length, take, drop, Option, Some, None, if◌then◌else◌}
+use Rattle.std.specs.Prelude.{◌≡◌, ℕ, ◌-◌, ◌%◌, ◌*◌, ◌+◌, ◌≤◌, ◌++◌, ◌∷◌, nat_le, Bool, false, List, [], length, take, drop, replicate, Option, Some, None, if◌then◌else◌}
 use Rattle.aos_frame.specs.Counts.{frame_counts}
 use Rattle.aos_frame.specs.Frame.{lane_link}
 use Rattle.aos_frame.specs.declared.config.LinkConfig.{LinkConfig}
 use Rattle.aos_frame.specs.declared.config.Lane.{Lane}
 use Rattle.aos_frame.specs.declared.config.Lane.TheVariants.{Directives, Data}
 use Rattle.mpdu.specs.Packets.{busy}
-use Rattle.mpdu.specs.Packing.{PackerState, IsAt, flush_of}
+use Rattle.mpdu.specs.Packing.{PackerState, IsAt, flush_of, idle_packet}
 use Rattle.mpdu.specs.Stream.{stream}
 use Rattle.link_stack.specs.Frames.{AreOfLink, frame_of, packet_of, pdus_in}
 
@@ -131,6 +131,22 @@ first_down link capacity = record {
 -- whether a whole zone waits in a lane
 abbrev pub has_whole : LinkSenderState → Bool
 has_whole d = nat_le d.link.zone (length d.waiting)
+
+-- ---- frames counted from a number on
+-- the lane, whose frames are counted from this number on
+abbrev pub counted_from : ℕ → LinkSenderState → LinkSenderState
+counted_from count d = record d { frame_count = count % frame_counts }
+
+-- both lanes so
+abbrev pub both_counted_from : ℕ → DownState → DownState
+both_counted_from count d = record d {
+  directives = counted_from count d.directives;
+  file_data = counted_from count d.file_data;
+}
+
+-- so many idle packets, each of which fills a zone
+abbrev pub idle_zones : (zone count : ℕ) → List (List ℕ)
+idle_zones zone count = replicate count (idle_packet zone)
 
 -- the lane whose frame leaves next: directives go first
 abbrev pub frame_lane : DownState → Option Lane

@@ -1,7 +1,7 @@
 //! PDUs down to frames.
 ghost use Rattle.std.specs.Prelude.{◌≡◌, ◌+◌, ◌*◌, ◌%◌, ◌<◌, ◌≤◌, ◌↔◌, [], length, Some, None, IfOk, IfSome, OnOk, OnErr, IsErr};
 ghost use Rattle.aos_frame.specs.Frame.{IsLink, other_lane};
-ghost use Rattle.link_stack.specs.Downward.{Flushes, IsBounded, IsDown, KeepsLanes, MakesFrame, SendsPdu, first_down, frame_lane, lane_down};
+ghost use Rattle.link_stack.specs.Downward.{Flushes, IsBounded, IsDown, KeepsLanes, MakesFrame, SendsPdu, both_counted_from, first_down, frame_lane, idle_zones, lane_down};
 ghost use Rattle.link_stack.specs.Downward as downward;
 
 use crate::down_lane::DownLane;
@@ -66,6 +66,24 @@ impl Down {
             packets: Counter::new(),
             packet: vec![in alloc; 0u8; capacity]?,
         })
+    }
+
+    /// Counts the frames of both lanes from this number on, modulo 2^28 (CCSDS 732.0-B-4, 4.1.2.4).
+    ///
+    /// It is meant before the first frame, for an end that is made anew where another one sent
+    /// before: so its first frame isn't taken for the next one of those.
+    pub fn count_from(&mut self, count: u32)
+        ensures from { self.new ≡ both_counted_from count self.old }
+        // A lane that sent nothing is then as one that made so many frames, each filled by an idle
+        // packet.
+        ensures stream { (lane : Lane) → IsDown (lane_down lane self.old) [] 0 →
+            IsDown (lane_down lane self.new)
+            (idle_zones (lane_down lane self.old).link.zone count) count }
+        ensures fixed { KeepsLanes self.old self.new }
+        ensures bounded { IsBounded self.new }
+    {
+        self.directives.count_from(count);
+        self.file_data.count_from(count);
     }
 
     fn lane(&self, lane: Lane) -> &DownLane

@@ -6,7 +6,7 @@ ghost use Rattle.mpdu.specs.Stream.{stream};
 ghost use Rattle.mpdu.specs.Packing.{flush_of};
 ghost use Rattle.mpdu.specs.Packets.{busy};
 ghost use Rattle.link_stack.specs.Frames.{packet_of, frame_of, pdus_in};
-ghost use Rattle.link_stack.specs.Downward.{packing, IsDown, IsFixed, first_lane_down};
+ghost use Rattle.link_stack.specs.Downward.{packing, IsDown, IsFixed, counted_from, first_lane_down, idle_zones};
 ghost use Rattle.link_stack.specs.Downward as downward;
 
 use crate::UNSEGMENTED;
@@ -73,6 +73,17 @@ impl DownLane {
             packer: Packer::new(alloc, link.zone as usize, capacity)?,
             frames: VcCounter::new(),
         })
+    }
+
+    /// Counts the frames from this number on, modulo 2^28.
+    pub(crate) fn count_from(&mut self, count: u32)
+        ensures from { self.new ≡ counted_from count self.old }
+        // A lane that sent nothing is then as one that made so many frames, each filled by an idle
+        // packet.
+        ensures stream { IsDown self.old [] 0 →
+            IsDown self.new (idle_zones self.old.link.zone count) count }
+    {
+        self.frames = VcCounter::from_count(count);
     }
 
     /// The link as the lane has it.

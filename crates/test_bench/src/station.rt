@@ -5,7 +5,8 @@
 //!     poll        to send one PDU
 //!     again N     to send N more, and to tell nothing
 //!     burst       to send all that is due, and to say how many PDUs, and why no more
-//!     flush       to fill the begun frame of each lane
+//!     flush       to fill the begun frame of each lane; with LANE, `dir` or `data`, of that one
+//!     count N     to count the frames of both lanes from this number on
 //!     ahead       to say how many whole frames may wait in each lane
 //!     link        to give its whole frames to the other station, and to write them
 //!     lose N      the same, where frame n is lost if bit n of N is 1; how many there were
@@ -37,7 +38,7 @@ use crate::own_link::{self, Link};
 use crate::setup::{first_station, second_station};
 use crate::strangers::{self, Fate, Target};
 use crate::telling::{id_of, tell};
-use crate::words::{count, id, number, octets, pair, tell_octets};
+use crate::words::{count, id, lane, narrow, number, octets, pair, tell_octets};
 use cfdp_directives::Checksum;
 use cfdp_header::TransactionId;
 use cfdp_station::{EntityDrop, Lane, LinkDrop, Polled, Station, StationConfig};
@@ -298,7 +299,8 @@ impl Bench for StationBench {
             "poll" => write!(out, " {:?}\n", self.station.poll()?),
             "again" => self.polls(number(words)),
             "burst" => self.bursts(out),
-            "flush" => Ok(self.station.flush()),
+            "flush" => Ok(self.flushes(words)),
+            "count" => Ok(self.station.count_frames_from(narrow(words))),
             "take" => Ok(self.take(&octets(self.alloc, words)?)),
             "of" => self.tells_of(id(words), out),
             "since" => self.tells_since(count(words), out),
@@ -595,6 +597,14 @@ impl StationBench {
         self.polls(u64::from(MOST))?;
         self.station.flush();
         Ok(())
+    }
+
+    fn flushes(&mut self, words: &str) {
+        if words.is_empty() {
+            self.station.flush();
+        } else {
+            self.station.flush_lane(lane(words));
+        }
     }
 
     fn polls(&mut self, count: u64) -> Result<(), AllocError> {

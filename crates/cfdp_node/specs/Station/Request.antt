@@ -54,8 +54,8 @@ own_numbers_app = with_rule (with_rule numbered_app (tuned_rule (codes "rate") (
     drop_rule
 
 abbrev pub stores_app : App
-stores_app = with_rule (with_rule own_numbers_app (file_rule (codes "inbox")))
-    (file_rule (codes "outbox"))
+stores_app = with_rule (with_rule (with_rule own_numbers_app (file_rule (codes "inbox")))
+    (file_rule (codes "outbox"))) (file_rule (codes "state"))
 
 abbrev pub lists_app : App
 lists_app = with_rule (with_rule stores_app (pairs_rule (codes "put"))) (pairs_rule (codes "set"))
@@ -65,15 +65,17 @@ station_app = with_shown lists_app
 
 -- ---- what is asked for
 
--- To run a station: who it is, and how it runs; its address and its peer's; the folders that files
--- come to and lie in; the names of files to send, each with its name at the peer behind it; the
--- keys of settings, each with its value behind it; and what is shown.
+-- To run a station: who it is, and how it runs; its address and its peer's; the folders that
+-- files come to and lie in, and the file that keeps which numbers are reserved; the names of
+-- files to send, each with its name at the peer behind it; the keys of settings, each with its
+-- value behind it; and what is shown.
 pub record StationAsked : Type 0 where
   pub numbers : StationNumbers
   pub listen : Text
   pub to : Text
   pub inbox : Option Text
   pub outbox : Option Text
+  pub state : Option Text
   pub puts : List Text
   pub sets : List Text
   pub shown : ShownAsked
@@ -103,6 +105,7 @@ asked_with rows numbers listen to = record {
   to = to;
   inbox = first_of (codes "inbox") rows;
   outbox = first_of (codes "outbox") rows;
+  state = first_of (codes "state") rows;
   puts = words_for (codes "put") rows;
   sets = words_for (codes "set") rows;
   shown = shown_of rows;
@@ -122,6 +125,7 @@ station_asked request = record {
   to = request.to.bytes.items;
   inbox = option_map (λ folder. folder.bytes.items) request.inbox;
   outbox = option_map (λ folder. folder.bytes.items) request.outbox;
+  state = option_map (λ file. file.bytes.items) request.state;
   puts = map (λ name. name.bytes.items) request.puts.items;
   sets = map (λ word. word.bytes.items) request.sets.items;
   shown = asked_shown request.shown;

@@ -1,11 +1,14 @@
 -- Calls of a wire, each with what it answered.
-use Rattle.std.specs.Prelude.{ℕ, List, take, Option, Some, None, Result, Ok, Err}
+use Rattle.std.specs.Prelude.{ℕ, Bool, List, take, Option, Some, None, Result, Ok, Err}
 use Rattle.cfdp_node.specs.declared.wire.WireFault.{WireFault}
 
--- a frame was to be sent; or it was asked what came, and these octets had, or none
+-- A frame was to be sent; it was asked what came, and these octets had, or none; whether a frame may
+-- leave; or whether it has been silent for long enough, where a transaction is open or none is.
 pub data WireCall : Type 0 where
   Sent : (frame : List ℕ) (answer : Result (Unit {0}) WireFault) → WireCall
   Asked : (came : Result (Option (List ℕ)) WireFault) → WireCall
+  Readied : (answer : Bool) → WireCall
+  Rested : (is_open answer : Bool) → WireCall
 
 -- what came, of which a buffer holds so many octets at its front
 abbrev pub brought : Result (Option ℕ) WireFault → List ℕ → Result (Option (List ℕ)) WireFault

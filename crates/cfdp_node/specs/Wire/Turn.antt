@@ -1,5 +1,5 @@
 -- One turn of a station over a wire.
-use Rattle.std.specs.Prelude.{◌≡◌, ◌≢◌, ◌⊎◌, ◌<◌, ◌≤◌, ℕ, zero, suc, ◌+◌, ◌-◌, ◌==◌, List, Option, Some, None, Result, Ok, Err, ⊤, if◌then◌else◌}
+use Rattle.std.specs.Prelude.{◌≡◌, ◌≢◌, ◌⊎◌, ◌<◌, ◌≤◌, ℕ, zero, suc, ◌+◌, ◌-◌, ◌==◌, List, length, Option, Some, None, Result, Ok, Err, ⊤, if◌then◌else◌}
 use Rattle.cfdp_store.specs.Chains.{Raises}
 use Rattle.cfdp_entity.specs.Entity.{with_table}
 use Rattle.cfdp_entity.specs.Gives.{CountsOutbox}
@@ -97,6 +97,10 @@ HasZones d = (1 ≤ d.directives.link.zone) × (1 ≤ d.file_data.link.zone)
 -- A buffer of so many octets is as long as the frames that a station sends.
 abbrev pub FitsFrames : ℕ → StationState → Type 0
 FitsFrames len s = HasZones s.down × (len ≡ 8 + s.down.directives.link.zone)
+
+-- how many octets wait, in both lanes
+abbrev pub all_waiting : DownState → ℕ
+all_waiting d = length d.directives.waiting + length d.file_data.waiting
 
 -- Each lane has the link that it had.
 abbrev pub KeepsLanes : (old new : DownState) → Type 0

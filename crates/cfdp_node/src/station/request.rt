@@ -24,6 +24,8 @@ pub struct StationRequest {
     pub inbox: Option<String>,
     /// The path of the folder that the files lie in which it sends.
     pub outbox: Option<String>,
+    /// The path of the file that keeps which numbers are reserved, where it is said.
+    pub state: Option<String>,
     /// The files that it sends: the name of each in that folder, and behind it the one that it is
     /// to have at the peer.
     pub puts: Vec<String>,
@@ -40,9 +42,10 @@ pub struct StationNumbers {
     pub id: u64,
     /// The id of its peer's.
     pub peer: u64,
-    /// The seconds without a frame after which it ends, up to 1,000,000; with 0 it never does.
+    /// The seconds after which it ends in which nothing came and nothing was open, up to 1,000,000;
+    /// with 0 it never does.
     pub idle: u64,
-    /// The number of its first transaction; with 0 the milliseconds since 1970.
+    /// The number of its first transaction; with 0 it begins behind those that are reserved.
     pub first_number: u64,
     /// The most frames that leave in a second, up to 1,000,000; with 0 any number.
     pub rate: u64,
@@ -61,19 +64,27 @@ struct StationWords<'a> {
 const STATION_HELP: &str = "\
 One station over a UDP socket: it sends the files that --put names, and puts
 those that come from its peer into the folder of --inbox. A datagram is one AOS
-frame. Only those of the peer's address are read; the others are counted.
+frame. The system drops those that come from other addresses than the peer's.
 ADDR is as in 127.0.0.1:5001. The names of files in folders are 1 to 64 of
 A-Z a-z 0-9 . _ - and begin with no point. Files that are sent are read as a
 whole when the station begins, and those that came stay in its memory too.
 
-It ends once all its puts are closed and nothing came from the peer for as many
-seconds as --idle says; without --idle it never does. Let that be longer than
-all times of both stations, since so long an answer that was lost is waited for.
-A put stays open where a handler suspends it or ignores its fault.
+It ends once all its transactions are closed, those that it receives too, and no
+frame of the link came for as many seconds as --idle says; without --idle it
+never does. Let that be longer than all times of both stations, since so long an
+answer that was lost is waited for.
 A station has 4096 transactions, closed ones too; then it takes no more.
-Without --first-number the first transaction has the milliseconds since 1970 as
-its number, so that none comes back when a station is started anew.
---rate keeps bursts from overrunning the peer: a socket holds some 200 frames.
+
+Numbers of transactions are reserved in a file before they are used, so that none
+comes back when a station is killed and started anew: FOLDER.state beside the
+folder of --outbox, or of --inbox without one. --state names another file, and
+--first-number a number, for which you answer then.
+--rate N sends a frame each 1/N seconds; with 0 as fast as it can. The system
+drops what a socket has no room for, and it is sent again.
+
+What is wrong with the link is told on standard error at once, and then once a
+minute at most, as 'note: ..': where the peer is set up otherwise, what was
+dropped, and what is waited for.
 
 Keys of --set, beside those of 'sim --help', which hold for this station alone:
   spacecraft 42            of both directions, 0 to 255
@@ -125,7 +136,12 @@ fn stores_command<'a>(alloc: Global) -> Result<Command<'a>, AllocError>
 {
     own_numbers_command(alloc)?
         .arg(file_for(alloc, "inbox", "The folder that files come to"))?
-        .arg(file_for(alloc, "outbox", "The folder that files lie in"))
+        .arg(file_for(alloc, "outbox", "The folder that files lie in"))?
+        .arg(file_for(
+            alloc,
+            "state",
+            "The file that keeps which numbers were used",
+        ))
 }
 
 /// The same without stores.
@@ -153,7 +169,7 @@ fn numbered_command<'a>(alloc: Global) -> Result<Command<'a>, AllocError>
             "idle",
             "N",
             "0",
-            "Ends after N seconds without a frame; 0 never",
+            "Ends after N seconds in which nothing came or was open; 0 never",
         ))?
         .arg(first_number_argument(alloc))
 }
@@ -202,7 +218,7 @@ fn first_number_argument<'a>(alloc: Global) -> Arg<'a>
     Arg::new(alloc, "first-number")
         .long("first-number")
         .value_name("N")
-        .help("The number of its first transaction; 0 the milliseconds since 1970")
+        .help("The number of its first transaction; 0 the next that was never used")
         .value_parser(value_parser!(u64))
         .default_value("0")
 }
@@ -273,6 +289,7 @@ impl StationWords<'_> {
             to: String::from_str(alloc, self.to)?,
             inbox: owned_word(alloc, arguments, "inbox")?,
             outbox: owned_word(alloc, arguments, "outbox")?,
+            state: owned_word(alloc, arguments, "state")?,
             puts: owned_words(alloc, arguments, "put")?,
             sets: owned_words(alloc, arguments, "set")?,
             shown: shown_by(alloc, arguments)?,

@@ -27,7 +27,7 @@ pub struct StationSetup {
 impl StationSetup {
     /// What holds without `--set`: of both stations that with the lesser id sends as the first one
     /// of a script.
-    pub fn new(is_lesser: bool, first_number: u64) -> StationSetup {
+    pub fn new(is_lesser: bool) -> StationSetup {
         let one = Direction {
             channel: 5,
             data_channel: 7,
@@ -42,7 +42,6 @@ impl StationSetup {
         StationSetup {
             settings: Settings {
                 number_width: 8,
-                first_number,
                 ..Settings::DEFAULT
             },
             spacecraft: 42,
@@ -73,6 +72,22 @@ impl StationSetup {
             return false;
         }
         true
+    }
+
+    /// The same, with this number for its first transaction.
+    pub fn beginning_at(mut self, number: u64) -> StationSetup {
+        self.settings.first_number = number;
+        self
+    }
+
+    /// The octets of a sequence number.
+    pub fn number_width(&self) -> u64 {
+        self.settings.number_width
+    }
+
+    /// The number of its first transaction.
+    pub fn first_number(&self) -> u64 {
+        self.settings.first_number
     }
 
     /// The first setting of those of scripts whose value is out of its range.

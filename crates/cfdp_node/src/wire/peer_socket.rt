@@ -1,53 +1,101 @@
 //! A wire of one UDP socket, with the peer's at another address: one frame in each datagram.
+ghost use Rattle.std.specs.Prelude.{◌≡◌};
+
+use crate::station::beacon::{BEACON_LEN, Beacon};
+use crate::station::exchange::Exchange;
 use crate::station::serving::Clock;
+use crate::station::state_file::Reservation;
+use crate::wire::pacer::{Pacer, SECOND};
 use crate::wire::{PeerWire, Wire, WireFault};
-use std::cell::Cell;
+use cfdp_station::LinkConfig;
+use libc::net::{self, POLLIN, POLLOUT, SO_RCVBUF, SO_SNDBUF, SOL_SOCKET};
+use libc::types::pollfd;
+use std::alloc::AllocError;
 use std::io::ErrorKind;
 use std::net::{SocketAddr, ToSocketAddrs, UdpSocket};
+use std::os::fd::AsRawFd;
 use std::time::{Duration, Instant};
 use std::{io, thread};
 
-/// A second, in microseconds.
-const SECOND: u64 = 1_000_000;
-
-/// The shortest wait, in microseconds.
-const LEAST_WAIT: u64 = 1000;
+/// A millisecond, in nanoseconds.
+const MILLISECOND: u64 = 1_000_000;
 
 /// For how many milliseconds the socket is left alone after it failed.
 const AFTER_FAILURE: u64 = 100;
 
-/// How long a socket waits for its peer, and how fast it sends.
+/// The most datagrams that a turn takes, so that one that is flooded still sends.
+const MOST_IN_TURN: u32 = 64;
+
+/// The time, in nanoseconds, after which a turn takes no more: files are published meanwhile.
+const MOST_TURN_TIME: u64 = 10 * MILLISECOND;
+
+/// By how much the time that a station is told may lag while datagrams wait in the socket: what
+/// came in time is taken before a timer expires for want of it.
+const MOST_LAG: u64 = 2 * SECOND;
+
+/// The octets of a datagram for which room is asked beside those of its frame.
+const DATAGRAM_COST: u64 = 768;
+
+/// How long a socket waits for its peer, how fast it sends, and the link whose frames it takes.
 #[derive(Clone, Copy)]
 pub struct Pace {
     /// The most frames in a second; 0 for any number.
     pub rate: u64,
-    /// After so many seconds without a frame the peer is silent; with 0 never.
+    /// After so many seconds in which nothing came and nothing was open it is silent; with 0 never.
     pub idle: u64,
+    /// The frames that it takes.
+    pub up: LinkConfig,
+    /// What it tells its peer of how it is set up.
+    pub beacon: Beacon,
 }
 
-/// A UDP socket at an address of this machine. Of the datagrams that come only those of the peer's
-/// address are frames; the others are counted.
+/// A UDP socket at an address of this machine, connected to the peer's: the system drops what comes
+/// from others.
 ///
-/// It waits for frames as it is asked for what came: as long as those that it sent last are to take
-/// on the link; or, where neither one was sent nor one came since it was asked, until the second is
-/// over by its clock; and else a millisecond.
+/// It waits as it is asked for what came, and only where nothing was sent and nothing came since it
+/// was asked before: until a datagram comes, a frame may leave, or the second is over by its clock.
+/// A frame that the system has no room for is kept, and none may leave until it has gone.
 #[derive(Drop)]
 pub struct PeerSocket<'a> {
     rt: &'a HostRuntime,
     socket: UdpSocket,
-    peer: SocketAddr,
-    strangers: &'a Cell<u64>,
+    exchange: &'a Exchange,
+    reservation: Reservation<'a>,
+    pace: Pace,
+    pacer: Pacer,
     start: Instant,
-    // How long a frame is to take on the link, and how long the peer may be silent.
-    frame_time: u64,
-    patience: Option<u64>,
-    // All times are in microseconds since the start: when the last frame came, and until when those
-    // that were sent are on the link.
-    heard: u64,
-    busy_until: u64,
-    // Whether neither a frame was sent nor one came since it was asked last.
-    rests: bool,
-    silent: bool,
+    // A frame that the system had no room for, and how many octets it has; 0 where there is none.
+    kept: Vec<u8>,
+    kept_len: usize,
+    // The frame that tells the peer how this station is set up.
+    beacon: Vec<u8>,
+    // All times are in nanoseconds since the start: until when no frame may leave, since when it has
+    // been silent, and when it sent its beacon last.
+    blocked_until: u64,
+    quiet_since: u64,
+    beacon_sent: Option<u64>,
+    // How many datagrams came in this turn, when the first of them did, and whether it has sent or
+    // waited in it.
+    came: u32,
+    came_first: u64,
+    has_sent: bool,
+    // Whether a frame waits that might not leave as it was to.
+    is_held: bool,
+}
+
+/// Why a socket can't be used.
+#[derive(Drop)]
+pub enum Unusable {
+    /// Something stands against its own address, as that it is in use.
+    Own(io::Error),
+    /// The peer's address can't be found.
+    Peer(io::Error),
+}
+
+impl From<AllocError> for Unusable {
+    fn from(error: AllocError) -> Unusable {
+        Unusable::Own(io::Error::from(error))
+    }
 }
 
 impl<'a> PeerSocket<'a> {
@@ -61,23 +109,36 @@ impl<'a> PeerSocket<'a> {
         listen: &str,
         to: &str,
         pace: Pace,
-        strangers: &'a Cell<u64>,
+        reservation: Reservation<'a>,
+        exchange: &'a Exchange,
     ) -> Result<PeerSocket<'a>, Unusable> {
         let peer = peer_address(rt, to).map_err(Unusable::Peer)?;
         let socket = UdpSocket::bind(rt, listen).map_err(Unusable::Own)?;
+        socket.connect(peer).map_err(Unusable::Peer)?;
+        socket.set_nonblocking(true).map_err(Unusable::Own)?;
+        ask_for_room(&socket, &pace);
         let start = Instant::now(rt).map_err(Unusable::Own)?;
+        let kept = vec![in rt.alloc(); 0u8; frame_len(&pace.up)]?;
+        let mut beacon = Vec::from_slice(rt.alloc(), &pace.beacon.octets())?;
+        beacon.resize(frame_len(&pace.up).max(BEACON_LEN), 0)?;
         Ok(PeerSocket {
             rt,
             socket,
-            peer,
-            strangers,
+            exchange,
+            reservation,
+            pace,
+            pacer: Pacer::new(pace.rate),
             start,
-            frame_time: SECOND.checked_div(pace.rate).unwrap_or(0),
-            patience: patience(pace.idle),
-            heard: 0,
-            busy_until: 0,
-            rests: true,
-            silent: false,
+            kept,
+            kept_len: 0,
+            beacon,
+            blocked_until: 0,
+            quiet_since: 0,
+            beacon_sent: None,
+            came: 0,
+            came_first: 0,
+            has_sent: true,
+            is_held: false,
         })
     }
 
@@ -86,65 +147,241 @@ impl<'a> PeerSocket<'a> {
         SteadyClock {
             rt: self.rt,
             start: self.start,
+            exchange: self.exchange,
             last: 0,
         }
     }
 
     /// The time now.
     fn now(&self) -> u64 {
-        match self.start.elapsed(self.rt) {
-            Ok(since) => u64::try_from(since.as_micros()).unwrap_or(u64::MAX),
-            Err(_) => self.busy_until,
+        nanoseconds(self.rt, self.start, self.blocked_until)
+    }
+
+    /// What a send of the system answered: whether the octets have gone. They haven't where it has
+    /// no room now, or where nobody listens at the peer's address, as an earlier datagram told.
+    fn has_gone(&mut self, answer: io::Result<usize>) -> Result<bool, WireFault> {
+        let Err(error) = answer else {
+            return Ok(true);
+        };
+        let kind = error.kind();
+        if kind == ErrorKind::WouldBlock {
+            return Ok(false);
+        }
+        self.fails(kind);
+        if kind == ErrorKind::ConnectionRefused {
+            Ok(false)
+        } else {
+            Err(WireFault)
         }
     }
 
-    /// How long it waits for a frame now.
-    fn wait(&self) -> u64 {
+    /// Notes that the system failed, after which nothing is sent for a while.
+    fn fails(&mut self, kind: ErrorKind) {
+        self.exchange.failed.set(Some(kind));
+        self.blocked_until = self
+            .now()
+            .saturating_add(AFTER_FAILURE.saturating_mul(MILLISECOND));
+    }
+
+    /// Sends the frame that was kept, if there is one. False where it still can't go.
+    fn sends_kept(&mut self) -> bool {
+        if self.kept_len == 0 {
+            return true;
+        }
+        if self.until_ready(self.now()) > 0 {
+            return false;
+        }
+        let answer = self
+            .socket
+            .send(self.kept.get(..self.kept_len).unwrap_or(&[]));
+        let answer = self.has_gone(answer);
+        if let Ok(false) = answer {
+            return false;
+        }
+        self.kept_len = 0;
+        answer.is_ok()
+    }
+
+    /// Keeps a frame that there was no room for. It fits, since all frames are as long.
+    fn keep(&mut self, frame: &[u8]) {
+        if frame.len() <= self.kept.len() {
+            self.kept[..frame.len()].copy_from_slice(frame);
+            self.kept_len = frame.len();
+        }
+    }
+
+    /// Tells the peer how this station is set up, where the peer seems to be set up otherwise and
+    /// wasn't told within a second.
+    fn tell_peer(&mut self) {
+        if !self.exchange.differs.get() {
+            return;
+        }
         let now = self.now();
-        let wait = if now < self.busy_until {
-            self.busy_until - now
-        } else if self.rests {
-            SECOND - now % SECOND
-        } else {
-            LEAST_WAIT
-        };
-        wait.max(LEAST_WAIT)
+        if let Some(before) = self.beacon_sent
+            && now.saturating_sub(before) < SECOND
+        {
+            return;
+        }
+        self.exchange.differs.set(false);
+        self.beacon_sent = Some(now);
+        let answer = self.socket.send(self.beacon.as_slice());
+        let _ = self.has_gone(answer);
     }
 
-    /// Notes that a frame came.
-    fn hears(&mut self) {
-        self.heard = self.now();
-        self.rests = false;
-        self.silent = false;
+    /// Whether enough was taken in this turn.
+    fn has_enough(&self) -> bool {
+        self.came >= MOST_IN_TURN
+            || self.came > 0 && self.now().saturating_sub(self.came_first) >= MOST_TURN_TIME
     }
 
-    /// Notes that nothing has come for as long as it waited.
-    fn hears_nothing(&mut self) {
-        self.rests = true;
-        let quiet = self.now().saturating_sub(self.heard);
-        self.silent = match self.patience {
-            Some(most) => quiet >= most,
-            None => false,
-        };
+    /// Notes that one frame more leaves. False where that can't be noted: then none leaves for a
+    /// second.
+    fn covers_next(&mut self, now: u64) -> bool {
+        let is_covered = self.reservation.covers_next();
+        self.exchange.is_stopped.set(!is_covered);
+        if !is_covered {
+            self.blocked_until = now.saturating_add(SECOND);
+        }
+        is_covered
+    }
+
+    /// Notes that a datagram came, or was told to be lost.
+    fn counts(&mut self) {
+        if self.came == 0 {
+            self.came_first = self.now();
+        }
+        self.came = self.came.saturating_add(1);
+    }
+
+    /// Nothing waits in the socket, or enough was taken in this turn: the next one begins.
+    fn ends_turn(&mut self) {
+        self.came = 0;
+        self.has_sent = false;
+        self.tell_peer();
+    }
+
+    /// Waits until a datagram comes, a frame that waits may leave, or the second is over.
+    fn rests(&mut self) {
+        let now = self.now();
+        let mut wait = SECOND - now % SECOND;
+        let mut events = POLLIN;
+        let until_ready = self.until_ready(now);
+        if until_ready > 0 {
+            wait = wait.min(until_ready);
+        } else if self.kept_len > 0 {
+            events |= POLLOUT;
+        } else if self.is_held {
+            wait = 0;
+        }
+        let mut asked = [pollfd {
+            fd: self.socket.as_raw_fd(),
+            events,
+            revents: 0,
+        }];
+        let milliseconds = i32::try_from(wait.div_ceil(MILLISECOND)).unwrap_or(1);
+        if net::poll(&mut asked, milliseconds) < 0 {
+            self.pauses();
+        }
+    }
+
+    /// The system gave no datagram, for this cause. Where nothing waits in the socket and nothing was
+    /// sent or came in this turn, it waits before it is asked once more.
+    ///
+    /// # Errors
+    ///
+    /// `WireFault` where it is to be asked once more.
+    fn receives_none(&mut self, kind: ErrorKind) -> Result<(), WireFault> {
+        if kind == ErrorKind::ConnectionRefused {
+            self.counts();
+            self.fails(kind);
+            return Err(WireFault);
+        }
+        if kind != ErrorKind::WouldBlock {
+            self.fails(kind);
+            self.pauses();
+            self.ends_turn();
+            return Ok(());
+        }
+        self.exchange.drained.set(self.now());
+        if self.has_sent || self.came > 0 {
+            self.ends_turn();
+            return Ok(());
+        }
+        self.tell_peer();
+        if self.kept_len == 0 || !self.sends_kept() {
+            self.rests();
+        }
+        self.has_sent = true;
+        Err(WireFault)
+    }
+
+    /// Leaves the socket alone for a while.
+    fn pauses(&self) {
+        let _ = thread::sleep(self.rt, Duration::from_millis(AFTER_FAILURE));
+    }
+
+    /// How long it is until a frame may leave; 0 where one may now.
+    fn until_ready(&self, now: u64) -> u64 {
+        self.pacer
+            .wait(now)
+            .max(self.blocked_until.saturating_sub(now))
+    }
+
+    /// What came of a datagram of so many octets: whether it is for the station. A beacon isn't.
+    fn hears(&mut self, datagram: &[u8]) -> bool {
+        if let Some(beacon) = Beacon::read(datagram) {
+            self.exchange.beacon.set(Some(beacon));
+            return false;
+        }
+        if is_of_link(datagram, &self.pace.up) {
+            self.quiet_since = self.now();
+        }
+        true
     }
 }
 
-/// Why a socket can't be used.
-#[derive(Drop)]
-pub enum Unusable {
-    /// Something stands against its own address, as that it is in use.
-    Own(io::Error),
-    /// The peer's address can't be found.
-    Peer(io::Error),
+/// The time in nanoseconds since the start; the last one where the clock can't be read.
+fn nanoseconds(rt: &HostRuntime, start: Instant, last: u64) -> u64 {
+    match start.elapsed(rt) {
+        Ok(since) => u64::try_from(since.as_nanos()).unwrap_or(u64::MAX),
+        Err(_) => last,
+    }
 }
 
-/// So many seconds in microseconds, none for 0.
-fn patience(idle: u64) -> Option<u64> {
-    if idle == 0 {
-        None
+/// The octets of each frame of a link.
+pub fn frame_len(link: &LinkConfig) -> usize {
+    8 + usize::from(link.zone)
+}
+
+/// Whether a datagram looks like a frame that carries packets of the link: it has the length and one
+/// of both channels.
+fn is_of_link(datagram: &[u8], link: &LinkConfig) -> bool {
+    match datagram.get(1) {
+        Some(octet) => {
+            let channel = octet & 63;
+            datagram.len() == frame_len(link)
+                && (channel == link.channel || channel == link.data_channel)
+        }
+        None => false,
+    }
+}
+
+/// Asks the system for room in the socket, for what may come before it is taken: a second's frames
+/// at the rate, or 4 MiB. It gives what it has.
+fn ask_for_room(socket: &UdpSocket, pace: &Pace) {
+    let frames = if pace.rate == 0 {
+        u64::MAX
     } else {
-        Some(idle.saturating_mul(SECOND))
-    }
+        pace.rate.max(64)
+    };
+    let octets = frames
+        .saturating_mul(DATAGRAM_COST + u64::from(pace.up.zone))
+        .min(4 << 20);
+    let mut value = [0u8; 16];
+    value[..4].copy_from_slice(&(octets as u32).to_ne_bytes());
+    let fd = socket.as_raw_fd();
+    let _ = unsafe { net::setsockopt(fd, SOL_SOCKET, SO_RCVBUF, &value, 4) };
+    let _ = unsafe { net::setsockopt(fd, SOL_SOCKET, SO_SNDBUF, &value, 4) };
 }
 
 /// The first address of these words.
@@ -157,36 +394,30 @@ fn peer_address(rt: &HostRuntime, to: &str) -> io::Result<SocketAddr> {
 
 impl Wire for PeerSocket<'_> {
     fn send(&mut self, frame: &[u8]) -> Result<(), WireFault> {
-        self.rests = false;
-        self.busy_until = self
-            .busy_until
-            .max(self.now())
-            .saturating_add(self.frame_time);
-        match self.socket.send_to(frame, self.peer) {
-            Ok(len) if len == frame.len() => Ok(()),
-            _ => Err(WireFault),
+        self.has_sent = true;
+        let answer = self.socket.send(frame);
+        if !self.has_gone(answer)? {
+            self.keep(frame);
         }
+        Ok(())
     }
 
     fn receive(&mut self, buffer: &mut [u8]) -> Result<Option<usize>, WireFault> {
-        let wait = Duration::from_micros(self.wait());
-        if self.socket.set_read_timeout(Some(wait)).is_err() {
-            return Err(WireFault);
+        if self.has_enough() {
+            self.ends_turn();
+            return Ok(None);
         }
-        match self.socket.recv_from(buffer) {
-            Ok((len, from)) => {
-                if from == self.peer {
-                    self.hears();
-                    return Ok(Some(len));
+        match self.socket.recv(buffer) {
+            Ok(len) => {
+                self.counts();
+                if self.hears(&buffer[..len]) {
+                    Ok(Some(len))
+                } else {
+                    Err(WireFault)
                 }
-                self.strangers.set(self.strangers.get().saturating_add(1));
-                Err(WireFault)
             }
             Err(error) => {
-                if error.kind() != ErrorKind::WouldBlock {
-                    let _ = thread::sleep(self.rt, Duration::from_millis(AFTER_FAILURE));
-                }
-                self.hears_nothing();
+                self.receives_none(error.kind())?;
                 Ok(None)
             }
         }
@@ -194,26 +425,45 @@ impl Wire for PeerSocket<'_> {
 }
 
 impl PeerWire for PeerSocket<'_> {
-    ghost silent = { λ wire. wire.silent };
+    fn is_ready(&mut self) -> bool {
+        let now = self.now();
+        let may_leave = self.sends_kept() && self.until_ready(now) == 0 && self.covers_next(now);
+        self.is_held = !may_leave;
+        if may_leave {
+            self.pacer.passes(now);
+        }
+        may_leave
+    }
 
-    fn is_silent(&self) -> bool {
-        self.silent
+    fn is_silent(&mut self, is_open: bool) -> bool {
+        if is_open {
+            self.quiet_since = self.now();
+            return false;
+        }
+        let quiet = self.now().saturating_sub(self.quiet_since);
+        self.pace.idle > 0 && quiet >= self.pace.idle.saturating_mul(SECOND)
     }
 }
 
-/// A clock that tells the whole seconds since it began. Where it can't be read it stands still.
+/// A clock that tells the whole seconds since it began. While datagrams wait in the socket it tells
+/// the time at which none did, at most two seconds late. Where it can't be read it stands still.
 #[derive(Drop)]
 pub struct SteadyClock<'a> {
     rt: &'a HostRuntime,
     start: Instant,
+    exchange: &'a Exchange,
     last: u64,
 }
 
 impl Clock for SteadyClock<'_> {
     fn now(&mut self) -> u64 {
-        if let Ok(since) = self.start.elapsed(self.rt) {
-            self.last = since.as_secs();
-        }
+        let now = nanoseconds(self.rt, self.start, self.last.saturating_mul(SECOND));
+        let told = self
+            .exchange
+            .drained
+            .get()
+            .max(now.saturating_sub(MOST_LAG));
+        self.last = self.last.max(told / SECOND);
         self.last
     }
 }

@@ -1,6 +1,7 @@
 //! One turn of a station over a wire.
-ghost use Rattle.std.specs.Prelude.{◌≡◌, ◌==◌, ◌↔◌, IsTrue, length, OnErr, OnOk};
-ghost use Rattle.cfdp_node.specs.Wire.Turn.{HearsAll, IsMore, PollsInPart, PollsOut, Sends, SendsInPart, SendsWhole, FitsFrames, KeepsLanes, next_left};
+ghost use Rattle.std.specs.Prelude.{◌≡◌, ◌==◌, ◌<◌, ◌↔◌, IsTrue, None, false, true, length, OnErr, OnOk};
+ghost use Rattle.link_stack.specs.Downward.{frame_lane};
+ghost use Rattle.cfdp_node.specs.Wire.Turn.{HearsAll, IsMore, PollsInPart, PollsOut, Sends, SendsFrame, SendsInPart, SendsWhole, FitsFrames, KeepsLanes, all_waiting, next_left};
 
 use crate::watch::lookout::{Lookout, Passed};
 use crate::wire::Wire;
@@ -103,7 +104,7 @@ fn poll_out<O: Outbox, I: Inbox, L: Lookout>(
 }
 
 /// Whether more may be due behind a poll that answered so.
-fn is_more(answer: Polled) -> bool
+pub fn is_more(answer: Polled) -> bool
     ensures { IsTrue result ↔ IsMore answer }
 {
     match answer {
@@ -128,18 +129,45 @@ fn send_whole<O: Outbox, I: Inbox, W: Wire, L: Lookout>(
     ensures every { losses.new.every ≡ losses.old.every }
     ensures link { KeepsLanes station.old.down station.new.down }
 {
-    while let Some(lane) = station.next_frame(frame) {
-        let is_sent = !losses.is_next_lost() && wire.send(frame).is_ok();
-        lookout.sees(
-            side,
-            Passed::Left {
-                lane,
-                frame,
-                is_sent,
-            },
-            station,
-        );
-    }
+    while send_one(station, wire, losses, frame, side, lookout) {}
+}
+
+/// Sends the whole frame of a station that leaves next, unless it is to be lost. False where none
+/// waits.
+pub fn send_one<O: Outbox, I: Inbox, W: Wire, L: Lookout>(
+    station: &mut Station<O, I>,
+    wire: &mut W,
+    losses: &mut Losses,
+    frame: &mut [u8],
+    side: Side,
+    lookout: &mut L,
+) -> bool
+    requires { FitsFrames (length frame.old) station.old }
+    ensures sent { result ≡ true → SendsFrame W.steps losses.old.every
+        (record { station = station.old; wire = wire.old; left = losses.old.left })
+        (record { station = station.new; wire = wire.new; left = losses.new.left }) }
+    ensures none { result ≡ false → (frame_lane station.old.down ≡ None)
+        × (station.new ≡ station.old) × (wire.new ≡ wire.old) × (losses.new ≡ losses.old) }
+    ensures whole { (result ≡ false) ↔ (frame_lane station.old.down ≡ None) }
+    ensures less { result ≡ true → all_waiting station.new.down < all_waiting station.old.down }
+    ensures every { losses.new.every ≡ losses.old.every }
+    ensures link { KeepsLanes station.old.down station.new.down }
+    ensures fits { FitsFrames (length frame.new) station.new }
+{
+    let Some(lane) = station.next_frame(frame) else {
+        return false;
+    };
+    let is_sent = !losses.is_next_lost() && wire.send(frame).is_ok();
+    lookout.sees(
+        side,
+        Passed::Left {
+            lane,
+            frame,
+            is_sent,
+        },
+        station,
+    );
+    true
 }
 
 /// Gives a station what came over a wire, until nothing does; asks at most 4,096 times. A failure

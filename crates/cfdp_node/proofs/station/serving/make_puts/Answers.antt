@@ -1,4 +1,4 @@
-use Rattle.std.proofs.Common.{◌≡◌, ◌≤◌, ◌+◌, ◌++◌, ◌∙◌, ◌||◌, Some, arith, refl, slice_get, subst, vec_capacity, vec_len, length}
+use Rattle.std.proofs.Common.{◌≡◌, ◌+◌, ◌++◌, ◌∙◌, ◌||◌, Some, arith, refl, slice_get, subst, length}
 use Rattle.std.proofs.KnownBytes.{Appends-trans}
 use Rattle.std.proofs.lemmas.Option.{slice_get_read}
 use Rattle.cfdp_node.specs.Report.Lines.{answer_text}
@@ -11,8 +11,8 @@ loop-place-preserved g c =
     let before = c.loop-place.invariant.0 in
     let line = answer_text (c.loop-place.place + 1) c.make_put-made.result.answer in
     let next : MakesNext c.args.options.now.puts.items c.loop-place.place
-    (record { station = c.loop-place.station; ids = c.loop-place.ids.items; lines = before.0; short = c.loop-place.short })
-    (record { station = c.make_put-made.new.station; ids = c.make_put-made.new.ids.items; lines = before.0 ++ line; short = c.loop-place.short || c.make_put-made.result.short }) =
+    (record { station = c.loop-place.station; lines = before.0; short = c.loop-place.short })
+    (record { station = c.make_put-made.new.station; lines = before.0 ++ line; short = c.loop-place.short || c.make_put-made.result.short }) =
     record {
       names = c.index-puts-place.result;
       is = subst (λ xs. slice_get xs c.loop-place.place ≡ Some c.index-puts-place.result) c.as_slice-puts.ensures.value
@@ -23,17 +23,11 @@ loop-place-preserved g c =
       makes = c.make_put-made.ensures.makes;
       lines = refl;
       wants = refl;
-    } in
-    let few : vec_len c.loop-place.ids ≤ c.loop-place.place = c.loop-place.invariant.1 in
-    let more : vec_len c.make_put-made.new.ids ≤ vec_len c.loop-place.ids + 1 = c.make_put-made.ensures.more in
-    let room : length c.args.options.now.puts.items ≤ vec_capacity c.loop-place.ids = c.loop-place.invariant.2 in
-    let roomy : vec_capacity c.loop-place.ids ≤ vec_capacity c.make_put-made.new.ids = c.make_put-made.ensures.room in (
+    } in (
       (
         before.0 ++ line,
         made-more _ c.loop-place.place _ _ _ before.1 next,
         Appends-trans _ _ _ before.0 line before.2 c.in_ok-write_answer.ensures,
       ),
-      omega (arith, few, more),
-      omega (arith, room, roomy),
-      c.make_put-made.ensures.down ∙ c.loop-place.invariant.3,
+      c.make_put-made.ensures.down ∙ c.loop-place.invariant.1,
     )

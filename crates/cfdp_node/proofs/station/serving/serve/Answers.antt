@@ -1,10 +1,8 @@
 use Rattle.std.proofs.Common.{◌++◌, List, count_by, drop, length, refl, subst}
 use Rattle.std.specs.Io.KnownBytes.{Appends}
 use Rattle.std.specs.List.{flat_map}
-use Rattle.cfdp_header.specs.declared.value.TransactionId.{TransactionId}
 use Rattle.cfdp_directives.specs.declared.user.indication.Indication.{Indication}
 use Rattle.cfdp_node.specs.Report.Lines.{count_line, indication_line, is_own_completion}
-use Rattle.cfdp_node.specs.Station.Serving.{TakesTurns}
 use Rattle.cfdp_node.proofs.ServingLemmas.{written-last}
 use Rattle.cfdp_node.proofs.station.serving.serve.Goals as goal
 
@@ -21,15 +19,11 @@ returns-clause-serves g c =
     c.indications.ensures c.in_ok-complete.ensures.written in
     record {
       station = c.make_puts.new.station;
-      ids = c.make_puts.new.ids.items;
       refusals = made.0;
       refused = c.in_ok-refused.refused;
       halted = c.in_ok-halted.halted;
       made = made.1;
-      turns = subst (λ (ids : List TransactionId). TakesTurns g.W.Wire.steps g.W.PeerWire.silent ids c.args.turning.now.losses.every c.in_ok-halted.halted
-          (record { station = c.make_puts.new.station; wire = c.args.wire.now; left = c.args.turning.now.losses.left })
-          (record { station = c.take_turns.new.station; wire = c.take_turns.new.wire; left = c.take_turns.new.turning.losses.left }))
-          c.deref.ensures.value c.in_ok-halted.ensures.turns;
+      turns = c.in_ok-halted.ensures.turns;
       written = written-last own c.take_turns.new.count made.0 _ _ _ _ _ _ made.2 c.in_ok-halted.ensures.written last;
       wants = refl;
     }

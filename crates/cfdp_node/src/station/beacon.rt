@@ -1,0 +1,137 @@
+//! What stations tell each other of how they are set up, so that both can say where they differ.
+//!
+//! It stands in a frame of the virtual channel 63, whose octets mean nothing to a link (CCSDS
+//! 732.0-B-4, 4.1.2.3): other software drops it as it drops each idle frame.
+ghost use Rattle.std.specs.Prelude.{◌+◌, ◌≤◌, length};
+
+use cfdp_station::{LinkConfig, StationConfig};
+
+/// Octets of a beacon; more may stand behind them, which mean nothing.
+pub const BEACON_LEN: usize = 40;
+
+/// The octets behind the header of a beacon's frame, by which it is known: the first header pointer
+/// that tells of idle data only, and a word.
+const MARK: [u8; 8] = [0x07, 0xfe, b'C', b'F', b'D', b'P', b'b', 1];
+
+/// How a station is set up: who it is, and the frames that it sends and takes.
+#[derive(Clone, Copy)]
+pub struct Beacon {
+    /// The id of its entity, and that of its peer's.
+    pub id: u64,
+    pub peer: u64,
+    /// The frames that it sends, and those that it takes.
+    pub down: LinkConfig,
+    pub up: LinkConfig,
+}
+
+impl Beacon {
+    /// How a station with this configuration is set up.
+    pub fn of(config: &StationConfig) -> Beacon {
+        Beacon {
+            id: config.entity.entity,
+            peer: config.entity.peer,
+            down: config.down,
+            up: config.up,
+        }
+    }
+
+    /// What there is to agree on, in words, with this beacon's value and that of the other station.
+    pub fn beside(&self, other: &Beacon) -> [(&'static str, u64, u64); 10] {
+        let (from, here) = (numbers(&self.down), numbers(&other.up));
+        let (to, there) = (numbers(&other.down), numbers(&self.up));
+        [
+            ("the zone", from[0], here[0]),
+            ("the spacecraft", from[1], here[1]),
+            ("the channel of directives from the peer", from[2], here[2]),
+            ("the channel of file data from the peer", from[3], here[3]),
+            ("the APID from the peer", from[4], here[4]),
+            ("the channel of directives to the peer", there[2], to[2]),
+            ("the channel of file data to the peer", there[3], to[3]),
+            ("the APID to the peer", there[4], to[4]),
+            ("the peer's id", self.id, other.peer),
+            ("this station's id", self.peer, other.id),
+        ]
+    }
+
+    /// Whether two stations that are set up so understand each other.
+    pub fn fits(&self, other: &Beacon) -> bool {
+        self.beside(other)
+            .iter()
+            .all(|(_, theirs, ours)| theirs == ours)
+    }
+
+    /// The octets of its frame: the header, of version 1 and channel 63, the mark, and the numbers.
+    pub fn octets(&self) -> [u8; BEACON_LEN] {
+        let mut octets = [0u8; BEACON_LEN];
+        octets[0] = 0x40 | self.down.spacecraft >> 2;
+        octets[1] = (self.down.spacecraft & 3) << 6 | 63;
+        octets[6..14].copy_from_slice(&MARK);
+        octets[14..22].copy_from_slice(&self.id.to_be_bytes());
+        octets[22..30].copy_from_slice(&self.peer.to_be_bytes());
+        octets[30..32].copy_from_slice(&self.down.zone.to_be_bytes());
+        octets[32] = self.down.channel;
+        octets[33] = self.down.data_channel;
+        octets[34..36].copy_from_slice(&self.down.apid.to_be_bytes());
+        octets[36] = self.up.channel;
+        octets[37] = self.up.data_channel;
+        octets[38..40].copy_from_slice(&self.up.apid.to_be_bytes());
+        octets
+    }
+
+    /// What the octets of a datagram tell, where they are those of a beacon.
+    pub fn read(datagram: &[u8]) -> Option<Beacon> {
+        if datagram.len() < BEACON_LEN
+            || datagram[1] & 63 != 63
+            || &datagram[6..14] != MARK.as_slice()
+        {
+            return None;
+        }
+        let down = LinkConfig {
+            spacecraft: datagram[0] << 2 | datagram[1] >> 6,
+            channel: datagram[32],
+            data_channel: datagram[33],
+            zone: short(datagram, 30),
+            apid: short(datagram, 34),
+        };
+        let up = LinkConfig {
+            channel: datagram[36],
+            data_channel: datagram[37],
+            apid: short(datagram, 38),
+            ..down
+        };
+        Some(Beacon {
+            id: long(datagram, 14),
+            peer: long(datagram, 22),
+            down,
+            up,
+        })
+    }
+}
+
+/// The numbers of a direction: its zone, spacecraft, channels of directives and of file data, and
+/// APID.
+fn numbers(link: &LinkConfig) -> [u64; 5] {
+    [
+        u64::from(link.zone),
+        u64::from(link.spacecraft),
+        u64::from(link.channel),
+        u64::from(link.data_channel),
+        u64::from(link.apid),
+    ]
+}
+
+/// The number of two octets at this place.
+fn short(octets: &[u8], place: usize) -> u16
+    requires { place + 2 ≤ length octets.now }
+{
+    u16::from_be_bytes([octets[place], octets[place + 1]])
+}
+
+/// The number of eight octets at this place.
+fn long(octets: &[u8], place: usize) -> u64
+    requires { place + 8 ≤ length octets.now }
+{
+    let mut number = [0u8; 8];
+    number.copy_from_slice(&octets[place..place + 8]);
+    u64::from_be_bytes(number)
+}

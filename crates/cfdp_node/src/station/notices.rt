@@ -1,0 +1,355 @@
+//! What an operator is told on standard error while a station runs.
+use crate::looping::folders::LoopLookout;
+use crate::station::beacon::Beacon;
+use crate::station::exchange::Exchange;
+use crate::watch::lookout::{Lookout, Passed};
+use crate::wire::peer_socket::frame_len;
+use cfdp_directives::{Indication, Phase};
+use cfdp_header::TransactionId;
+use cfdp_station::{EntityDrop, FrameError, LinkDrop, Station, StationConfig};
+use cfdp_store::{Inbox, Outbox};
+use link_sim::Side;
+use std::io::ErrorKind;
+use std::time::Instant;
+
+/// For so many seconds a thing that was told isn't told again.
+const PAUSE: u64 = 60;
+
+/// After so many seconds in which nothing came it is told what is waited for.
+const QUIET: u64 = 10;
+
+/// How often something was dropped for a cause.
+#[derive(Clone, Copy)]
+struct Tally {
+    /// As of the last look, and as of the last time that it was told.
+    seen: u64,
+    told: u64,
+    /// When it was told last.
+    at: Option<u64>,
+}
+
+impl Tally {
+    const NONE: Tally = Tally {
+        seen: 0,
+        told: 0,
+        at: None,
+    };
+
+    /// Whether it is more now than as of the last look.
+    fn grows(&mut self, count: u64) -> bool {
+        let grows = count != self.seen;
+        self.seen = count;
+        grows
+    }
+
+    /// How often since it was told last, where it is to be told at this time.
+    fn news(&mut self, now: u64) -> Option<u64> {
+        let news = self.seen.saturating_sub(self.told);
+        if news == 0 || !is_over(&mut self.at, now) {
+            return None;
+        }
+        self.told = self.seen;
+        Some(news)
+    }
+}
+
+/// Whether what was told at some time may be told again now. If so it is taken to be.
+fn is_over(at: &mut Option<u64>, now: u64) -> bool {
+    if let Some(before) = *at
+        && now < before.saturating_add(PAUSE)
+    {
+        return false;
+    }
+    *at = Some(now);
+    true
+}
+
+/// What frames had that came last and are not of this link.
+#[derive(Clone, Copy)]
+struct Foreign {
+    len: usize,
+    spacecraft: u8,
+    channel: u8,
+}
+
+/// One who looks on at a station, and tells its operator on standard error what is wrong with the
+/// link: each thing at once, and then once a minute at most.
+#[derive(Drop)]
+pub struct Notices<'a> {
+    pub lookout: LoopLookout<'a>,
+    rt: &'a HostRuntime,
+    exchange: &'a Exchange,
+    config: StationConfig,
+    to: &'a str,
+    start: Option<Instant>,
+    foreign: Foreign,
+    link: [Tally; 11],
+    pdus: [Tally; 17],
+    // When something of the link came last, when it was looked what is waited for, and when what was
+    // told last.
+    heard: u64,
+    looked: u64,
+    beacon_at: Option<u64>,
+    failure_at: Option<u64>,
+    stopped_at: Option<u64>,
+    waits_at: Option<u64>,
+}
+
+impl<'a> Notices<'a> {
+    /// Before the first turn of a station whose peer has this address.
+    pub fn new(
+        rt: &'a HostRuntime,
+        lookout: LoopLookout<'a>,
+        exchange: &'a Exchange,
+        config: StationConfig,
+        to: &'a str,
+    ) -> Notices<'a> {
+        Notices {
+            lookout,
+            rt,
+            exchange,
+            config,
+            to,
+            start: Instant::now(rt).ok(),
+            foreign: Foreign {
+                len: 0,
+                spacecraft: 0,
+                channel: 0,
+            },
+            link: [Tally::NONE; 11],
+            pdus: [Tally::NONE; 17],
+            heard: 0,
+            looked: 0,
+            beacon_at: None,
+            failure_at: None,
+            stopped_at: None,
+            waits_at: None,
+        }
+    }
+
+    /// The seconds since the start.
+    fn now(&self) -> u64 {
+        match self.start {
+            Some(start) => match start.elapsed(self.rt) {
+                Ok(since) => since.as_secs(),
+                Err(_) => 0,
+            },
+            None => 0,
+        }
+    }
+
+    /// Looks at the header of a datagram that came.
+    fn looks_at(&mut self, datagram: &[u8]) {
+        let up = self.config.up;
+        let [first, second, ..] = datagram else {
+            self.foreign.len = datagram.len();
+            return;
+        };
+        let (spacecraft, channel) = (*first << 2 | *second >> 6, *second & 63);
+        if datagram.len() != frame_len(&up) {
+            self.foreign.len = datagram.len();
+        } else if spacecraft != up.spacecraft {
+            self.foreign.spacecraft = spacecraft;
+        } else if channel == up.channel || channel == up.data_channel {
+            self.heard = self.now();
+        } else if channel != 63 {
+            self.foreign.channel = channel;
+        }
+    }
+
+    /// Tells what was dropped.
+    fn tell_drops<O: Outbox, I: Inbox>(&mut self, now: u64, station: &Station<O, I>) {
+        for (place, by) in LinkDrop::ALL.iter().enumerate() {
+            if self.link[place].grows(station.link_drops(by.number())) && is_misfit(*by) {
+                self.exchange.differs.set(true);
+            }
+            if is_wrong(*by)
+                && let Some(count) = self.link[place].news(now)
+            {
+                self.tell_link_drop(*by, count);
+            }
+        }
+        self.tell_pdu_drops(now, station);
+    }
+
+    fn tell_pdu_drops<O: Outbox, I: Inbox>(&mut self, now: u64, station: &Station<O, I>) {
+        for (place, by) in EntityDrop::ALL.iter().enumerate() {
+            if self.pdus[place].grows(station.drops(by.number())) && *by == EntityDrop::NotForUs {
+                self.exchange.differs.set(true);
+            }
+            if *by != EntityDrop::Unknown
+                && let Some(count) = self.pdus[place].news(now)
+            {
+                self.tell_pdu_drop(*by, count);
+            }
+        }
+    }
+
+    fn tell_link_drop(&self, by: LinkDrop, count: u64) {
+        let (up, foreign) = (self.config.up, self.foreign);
+        self.lookout.progress.yields();
+        let _ = match by {
+            LinkDrop::Frame(FrameError::Length) => eprintln!(self.rt;
+                "note: {count} dropped: a frame has {} octets, and here {}, as the zone is {}",
+                foreign.len,
+                frame_len(&up),
+                up.zone
+            ),
+            LinkDrop::Frame(FrameError::OtherSpacecraft) => eprintln!(self.rt;
+                "note: {count} dropped: a frame is of spacecraft {}, and here they are of {}",
+                foreign.spacecraft, up.spacecraft
+            ),
+            LinkDrop::Frame(FrameError::OtherChannel) => eprintln!(self.rt;
+                "note: {count} dropped: a frame is of channel {}, and here {} and {} are taken",
+                foreign.channel, up.channel, up.data_channel
+            ),
+            LinkDrop::OtherApid => eprintln!(self.rt;
+                "note: {count} dropped: a packet is of another APID, and here {} is taken",
+                up.apid
+            ),
+            _ => eprintln!(self.rt; "note: {count} dropped: {by}"),
+        };
+    }
+
+    fn tell_pdu_drop(&self, by: EntityDrop, count: u64) {
+        let entity = self.config.entity;
+        self.lookout.progress.yields();
+        let _ = match by {
+            EntityDrop::NotForUs => eprintln!(self.rt;
+                "note: {count} dropped: a PDU is of other ids, and here {} is the peer's id, {} ours",
+                entity.peer, entity.entity
+            ),
+            EntityDrop::TableFull => eprintln!(self.rt;
+                "note: {count} dropped: the table is full: a station takes 4096 transactions, and \
+                 no more until it is started anew"
+            ),
+            _ => eprintln!(self.rt; "note: {count} dropped: {by}"),
+        };
+    }
+
+    /// Tells in what the peer is set up otherwise, where its beacon came.
+    fn tell_beacon(&mut self, now: u64) {
+        let Some(beacon) = self.exchange.beacon.take() else {
+            return;
+        };
+        let own = Beacon::of(&self.config);
+        if beacon.fits(&own) || !is_over(&mut self.beacon_at, now) {
+            return;
+        }
+        self.exchange.differs.set(true);
+        self.lookout.progress.yields();
+        for (what, theirs, ours) in beacon.beside(&own) {
+            if theirs != ours {
+                let _ = eprintln!(self.rt; "note: {what} is {theirs} at the peer, and {ours} here");
+            }
+        }
+    }
+
+    /// Tells why the system failed to send, where it did.
+    fn tell_failure(&mut self, now: u64) {
+        let Some(kind) = self.exchange.failed.take() else {
+            return;
+        };
+        if !is_over(&mut self.failure_at, now) {
+            return;
+        }
+        self.lookout.progress.yields();
+        let _ = match kind {
+            ErrorKind::ConnectionRefused => eprintln!(self.rt;
+                "note: nobody listens at {}",
+                self.to
+            ),
+            _ => eprintln!(self.rt; "note: the socket failed: {kind}"),
+        };
+    }
+
+    /// Tells that nothing leaves, where the counts of frames can't be noted.
+    fn tell_stop(&mut self, now: u64) {
+        if self.exchange.is_stopped.get() && is_over(&mut self.stopped_at, now) {
+            self.lookout.progress.yields();
+            let _ = eprintln!(self.rt;
+                "note: nothing is sent, since the file of --state can't be written"
+            );
+        }
+    }
+
+    /// Tells which file the peer doesn't tell to be finished, where nothing has come for a while.
+    fn tell_waiting<O: Outbox, I: Inbox>(&mut self, now: u64, station: &Station<O, I>) {
+        if now == self.looked || now < self.heard.saturating_add(QUIET) {
+            return;
+        }
+        self.looked = now;
+        let Some(id) = first_waiting(station) else {
+            return;
+        };
+        if is_over(&mut self.waits_at, now) {
+            let quiet = now.saturating_sub(self.heard);
+            self.lookout.progress.yields();
+            let _ = eprintln!(self.rt;
+                "note: {}:{} waits for the peer's Finished, and nothing has come for {quiet} seconds",
+                id.source, id.number
+            );
+        }
+    }
+}
+
+/// The first open transaction whose EOF was sent.
+fn first_waiting<O: Outbox, I: Inbox>(station: &Station<O, I>) -> Option<TransactionId> {
+    for told in station.indications() {
+        if let Indication::EofSent(id) = told
+            && station.phase(*id) == Some(Phase::Sending)
+        {
+            return Some(*id);
+        }
+    }
+    None
+}
+
+/// Whether a peer that is set up otherwise may be the cause.
+fn is_misfit(by: LinkDrop) -> bool {
+    match by {
+        LinkDrop::Frame(FrameError::Length | FrameError::OtherSpacecraft | FrameError::OtherChannel)
+        | LinkDrop::OtherApid => true,
+        _ => false,
+    }
+}
+
+/// Whether it is more than a link does by itself, which loses frames and sends idle ones.
+fn is_wrong(by: LinkDrop) -> bool {
+    !matches!(by, LinkDrop::Resync | LinkDrop::Frame(FrameError::OnlyIdle))
+}
+
+impl Lookout for Notices<'_> {
+    fn begins(&mut self, turn: u64) {
+        self.lookout.begins(turn);
+    }
+
+    fn sees<O: Outbox, I: Inbox>(
+        &mut self,
+        side: Side,
+        passed: Passed<'_>,
+        station: &Station<O, I>,
+    ) {
+        match passed {
+            Passed::Took(datagram) => self.looks_at(datagram),
+            Passed::Ticked(_) => {
+                let now = self.now();
+                self.tell_drops(now, station);
+                self.tell_beacon(now);
+                self.tell_failure(now);
+                self.tell_stop(now);
+                self.tell_waiting(now, station);
+            }
+            Passed::Put | Passed::Polled(_) | Passed::Left { .. } => {}
+        }
+        self.lookout.sees(side, passed, station);
+    }
+
+    fn yields(&mut self) {
+        self.lookout.yields();
+    }
+
+    fn ends(&mut self) {
+        self.lookout.ends();
+    }
+}

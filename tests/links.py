@@ -1,0 +1,823 @@
+"""Stations over a link that does what links do: it holds frames back, loses them, and brings some
+that nobody sent. Stations are killed and started anew, flooded, misfit, and left at rest."""
+import bisect
+import contextlib
+import os
+import random
+import re
+import select
+import signal
+import socket
+import struct
+import subprocess
+import sys
+import tempfile
+import threading
+import time
+
+import stations
+from stations import PATIENT, SECONDS
+
+HERE = os.path.dirname(os.path.abspath(__file__))
+
+# What a busy machine may take beyond a rule of time, in seconds.
+SLACK = 1.0
+
+# The option of a socket by which the kernel tells when each datagram came.
+SO_TIMESTAMPNS = 35
+
+# The channels of what station 1 sends, and how long a packet zone is, if nothing else is set.
+DIRECTIVES, FILE_DATA, ONLY_IDLE, ZONE = 5, 7, 63, 256
+
+
+class Relay:
+    """A link between stations 1 and 2: each has one of its sockets for its peer. What comes from a
+    station goes on to the other one where `passes`, a function of that station and the frame, says
+    so; while it `holds`, all waits. `came` has when each frame came, from whom, and the frame."""
+
+    def __init__(self, passes=lambda own, frame: True):
+        ports = stations.free_ports(4)
+        self.listens = dict(zip((1, 2), ports[:2]))
+        self.faces = dict(zip((1, 2), ports[2:]))
+        self.passes, self.holds, self.is_over = passes, False, False
+        self.came, self.held, self.lock = [], [], threading.Lock()
+        self.sockets = {own: bound(self.faces[own]) for own in (1, 2)}
+        self.thread = threading.Thread(target=self.run, daemon=True)
+        self.thread.start()
+
+    def ports_of(self, own):
+        """The ports that a station is told: its own, and that of its peer."""
+        return {own: self.listens[own], 3 - own: self.faces[own]}
+
+    def run(self):
+        owns = {it: own for own, it in self.sockets.items()}
+        while not self.is_over:
+            for it in select.select(list(owns), [], [], 0.1)[0]:
+                self.take(owns[it])
+
+    def take(self, own):
+        """Takes all that came from a station."""
+        while not self.is_over:
+            try:
+                frame, more, _, _ = self.sockets[own].recvmsg(65536, 64)
+            except BlockingIOError:
+                return
+            self.came.append((time_of(more), own, frame))
+            with self.lock:
+                if self.holds:
+                    self.held.append((own, frame))
+                elif self.passes(own, frame):
+                    self.give(3 - own, frame)
+
+    def give(self, own, frame):
+        """Gives a station a frame, as from its peer."""
+        self.sockets[own].sendto(frame, ("127.0.0.1", self.listens[own]))
+
+    def release(self):
+        """Gives on what was held back, and holds no more."""
+        with self.lock:
+            self.holds = False
+            for own, frame in self.held:
+                self.give(3 - own, frame)
+
+    def first(self, since=0.0):
+        """When the first frame came since then, or None."""
+        return next((when for when, _, _ in list(self.came) if when >= since), None)
+
+    def close(self):
+        self.is_over = True
+        self.thread.join()
+        for it in self.sockets.values():
+            it.close()
+
+
+def bound(port):
+    """A socket at this port that doesn't wait, holds much, and tells when each datagram came."""
+    it = socket.socket(socket.AF_INET, socket.SOCK_DGRAM)
+    it.setsockopt(socket.SOL_SOCKET, socket.SO_RCVBUF, 4 << 20)
+    it.setsockopt(socket.SOL_SOCKET, SO_TIMESTAMPNS, 1)
+    it.setblocking(False)
+    it.bind(("127.0.0.1", port))
+    return it
+
+
+def time_of(messages):
+    """When a datagram came, as the kernel tells it."""
+    for level, kind, octets in messages:
+        if (level, kind) == (socket.SOL_SOCKET, SO_TIMESTAMPNS):
+            seconds, parts = struct.unpack("qq", octets[:16])
+            return seconds + parts / 1e9
+    return time.time()
+
+
+class Watched(stations.Station):
+    """A station of which it is noted when each line of both outputs came."""
+
+    def __init__(self, *those, **ways):
+        super().__init__(*those, **ways)
+        self.lines, self.news = [], threading.Condition()
+        reads = [threading.Thread(target=self.read, args=(it,)) for it in ("stdout", "stderr")]
+        self.readers = reads
+        for it in reads:
+            it.daemon = True
+            it.start()
+
+    def read(self, output):
+        for line in getattr(self.process, output):
+            with self.news:
+                self.lines.append((time.time(), output, line.decode()))
+                self.news.notify_all()
+
+    def comes_to(self, pattern, seconds=SECONDS):
+        """When the first line came that has this pattern, or None if none comes in time."""
+        end, seen = time.monotonic() + seconds, 0
+        with self.news:
+            while True:
+                is_over = not any(it.is_alive() for it in self.readers)
+                for when, _, line in self.lines[seen:]:
+                    if re.search(pattern, line):
+                        return when
+                seen, left = len(self.lines), end - time.monotonic()
+                if left <= 0 or is_over:
+                    return None
+                self.news.wait(min(left, 0.2))
+
+    def text(self, output):
+        """All that it told on this output."""
+        return "".join(line for _, it, line in list(self.lines) if it == output)
+
+    def ended(self, seconds=SECONDS):
+        """Its exit status, and both outputs, once it has ended; it is killed after a time."""
+        try:
+            self.process.wait(seconds)
+        except subprocess.TimeoutExpired:
+            self.process.kill()
+        self.process.wait()
+        for it in self.readers:
+            it.join()
+        return self.process.returncode, self.text("stdout"), self.text("stderr")
+
+    def killed(self):
+        """Kills it at once; gives what it told."""
+        self.process.send_signal(signal.SIGKILL)
+        return self.ended()[1]
+
+
+class Link:
+    """A folder in which stations run, one at each end of a relay, or without one with sockets of
+    their own alone. At the end all of them are killed."""
+
+    def __init__(self, program, relay=None):
+        self.program, self.relay, self.started = program, relay, []
+        self.ports = None if relay else dict(zip((1, 2), stations.free_ports(2)))
+
+    def __enter__(self):
+        self.room = tempfile.TemporaryDirectory(dir=self.program.room)
+        self.folder = self.room.name
+        return self
+
+    def __exit__(self, *_):
+        for it in self.started:
+            it.killed()
+        if self.relay:
+            self.relay.close()
+        self.room.cleanup()
+
+    def starts(self, end, words, settings=None, ids=None, waits=True, faults="", **ways):
+        """Starts a station at an end of the link, 1 or 2, which is its id if no other is said; and
+        waits until it has its socket."""
+        ports = self.ports or self.relay.ports_of(end)
+        own, peer = ids or (end, 3 - end)
+        named = {own: ports[end], peer: ports[3 - end]}
+        if faults:
+            ways["env"] = {"PATH": "/usr/bin:/bin", **self.program.faulty(faults)}
+        it = Watched(self.program, self.folder, own, peer, named, words, settings or {}, **ways)
+        self.started.append(it)
+        if waits:
+            it.comes_up()
+        return it
+
+    def puts(self, end, files):
+        """Puts files to send into a station's folder; gives the words for them."""
+        for name, octets in files.items():
+            stations.put(self.folder, end, name, octets)
+        return ["--outbox", "from", *(it for name in files for it in ("--put", name, name))]
+
+
+def frame_of(channel, count, zone, spacecraft=42):
+    """An AOS frame with this packet zone, in which a packet begins at its first octet."""
+    first = 1 << 14 | spacecraft << 6 | channel
+    return struct.pack(">HIBH", first, count << 8, 0, 0)[:5] + b"\x40\x00\x00" + zone
+
+
+def idle_frame(count):
+    """A frame of nothing but idle data."""
+    return frame_of(ONLY_IDLE, count, bytes(ZONE))
+
+
+def zones_of(pdus, apid=100):
+    """Packet zones with these PDUs of at most 200 octets, in packets of which none is cut."""
+    zone = b""
+    for number, pdu in enumerate(pdus):
+        packet = struct.pack(">HHH", apid, 0xC000 | number % 16384, len(pdu) - 1) + pdu
+        if len(zone) + len(packet) + 7 > ZONE:
+            yield filled(zone)
+            zone = b""
+        zone += packet
+    yield filled(zone)
+
+
+def filled(zone):
+    """A packet zone filled up with an idle packet."""
+    spare = ZONE - len(zone)
+    return zone + struct.pack(">HHH", 2047, 0xC000, spare - 7) + bytes(spare - 6)
+
+
+def eof(number):
+    """The EOF of a transaction of station 1, with a file of four octets."""
+    return struct.pack(">BHBHIHBBII", 0x20, 10, 0x13, 1, number, 2, 4, 0, 7, 4)
+
+
+def piece(number):
+    """An octet of that file."""
+    return struct.pack(">BHBHIHIB", 0x30, 5, 0x13, 1, number, 2, 0, 65)
+
+
+class Flood:
+    """A datagram that is sent so many times a second while a block runs, by a process of its own:
+    from each of these sockets to the port beside it."""
+
+    def __init__(self, octets, rate, ways):
+        self.fds = [it.fileno() for it, _ in ways]
+        pairs = [f"{fd}:{port}" for fd, (_, port) in zip(self.fds, ways)]
+        self.words = [sys.executable, f"{HERE}/flood.py", str(rate), octets.hex(), *pairs]
+
+    def __enter__(self):
+        with stations.ALONE:
+            self.process = subprocess.Popen(self.words, pass_fds=self.fds)
+
+    def __exit__(self, *_):
+        self.process.kill()
+        self.process.wait()
+
+
+def note_mistakes(station, pattern, since, seconds):
+    """What is wrong where a station is to tell of something within some seconds of a time."""
+    end = since + seconds + SLACK
+    when = station.comes_to(f"^note: {pattern}", max(0.0, end - time.time()))
+    if when is None or when > end:
+        told = station.text("stderr")
+        yield f"station {station.own} tells no note of {pattern} within {seconds} s, but {told!r}"
+
+
+# ---- numbers
+
+
+def content_of(name):
+    """What is sent under this name: it tells the name, and is as long as that of each other."""
+    return f"{name}\n".encode() * 270
+
+
+def named_files(run, count):
+    """So many files, by the names under which they are sent."""
+    names = (f"r{run:03}.f{number:02}" for number in range(count))
+    return {name: content_of(name) for name in names}
+
+
+def numbers_mistakes(program, kills):
+    """What is wrong where senders are killed soon after they began, and started anew with the clock
+    set back, while the receiver stays: a number that comes back shows as a file of another. Each
+    second one finds the clock as it was when the one before began."""
+    chance, puts, began, ids = random.Random(39), min(30, 4000 // (kills + 1)), 1_700_000_000, []
+    last = named_files(kills, puts)
+    with Link(program) as link:
+        slow = {"inactivity_time": 100, "nak_time": 2, "nak_limit": 255, "finished_time": 2}
+        receiver = link.starts(2, ["--inbox", "to", "--rate", "0"], slow)
+        for run in range(kills):
+            words = link.puts(1, named_files(run, puts)) + ["--rate", "1000"]
+            clock = f"clock=at:{began - run // 2 * 3600}"
+            sender = link.starts(1, words, PATIENT, waits=False, faults=clock)
+            time.sleep(chance.uniform(0, 0.6))
+            ids += re.findall(r"transaction (\S+)", sender.killed())
+        words = link.puts(1, last) + ["--idle", "3"]
+        status, out, err = link.starts(1, words, PATIENT, faults=f"clock=at:{began}").ended()
+        ids += re.findall(r"transaction (\S+)", out)
+        if status or stations.unheard(err) or not out.endswith(f"complete {puts} of {puts}\n"):
+            yield f"the last sender: status {status}, {out[-300:]!r}, {err[-300:]!r}"
+        receiver.killed()
+        came = stations.files_at(link.folder, 2)
+    yield from named_mistakes(came, last)
+    twice = {it for it in ids if ids.count(it) > 1}
+    if twice:
+        yield f"{len(twice)} numbers came again, of {len(set(ids))}: {sorted(twice)[:3]}"
+    if len(ids) < 2 * puts:
+        yield f"the senders told of {len(ids)} transactions only"
+
+
+def named_mistakes(came, last):
+    """What is wrong with the files that came: each is to have its own content; those of the last
+    sender are to be there, and some of those that were killed."""
+    whole = {name: octets for name, octets in came.items() if not name.startswith(".")}
+    wrong = [it for it in whole if whole[it] != content_of(it)]
+    for it in sorted(wrong)[:3]:
+        yield f"{it}, of {len(wrong)} wrong ones, has {whole[it][:20]!r}.. of {len(whole[it])}"
+    if not last.keys() <= whole.keys():
+        yield f"of the last sender's files {sorted(last.keys() - whole.keys())[:3]}.. didn't come"
+    if whole.keys() <= last.keys():
+        yield "no file of a killed sender came"
+
+
+def refused_mistakes(station, pattern):
+    """What is wrong with a station that is to end at once, with an error of this pattern."""
+    status, out, err = station.ended(10)
+    if status != 3 or not re.fullmatch(rf"error: [^\n]*({pattern})[^\n]*\n", err):
+        yield f"it ended with status {status} and not with 3, {out!r}, {err!r}"
+    if "transaction" in out:
+        yield f"it made a put: {out!r}"
+
+
+def damages(octets):
+    """What is no file that a station wrote, though it is near one."""
+    cut = (octets[:-1], octets[: len(octets) // 2], octets[1:])
+    return (b"garbage\n", bytes(100), *cut, octets + octets, b" " + octets)
+
+
+def state_mistakes(program):
+    """What is wrong with a file of numbers that can't be had: nothing is sent then."""
+    with Link(program) as link:
+        path, once = f"{link.folder}/1/from.state", {"eof_time": 1, "eof_limit": 0}
+        words = link.puts(1, {"a": b"hello"}) + ["--idle", "1"]
+        missing = ["--state", "nowhere/numbers", *words]
+        yield from refused_mistakes(link.starts(1, missing, once), "nowhere/numbers")
+        for fault in ("disk=0", "no-sync", "denied=from.state"):
+            station = link.starts(1, words, once, faults=fault)
+            yield from (f"{fault}: {it}" for it in refused_mistakes(station, "from.state"))
+        station = link.starts(1, words, once)
+        if station.comes_to("transaction", 10) is None or not os.path.exists(path):
+            yield f"it keeps no numbers: {station.ended(10)}"
+            return
+        station.killed()
+        with open(path, "rb") as it:
+            whole = it.read()
+        for octets in damages(whole):
+            stations.put(link.folder, 1, "../from.state", octets)
+            yield from refused_mistakes(link.starts(1, words, once), "from.state")
+            with open(path, "rb") as it:
+                if it.read() != octets:
+                    yield f"the damaged file {octets!r} isn't as it was"
+
+
+def idle_mistakes(station):
+    """What is wrong with a station without puts that hears nothing, and is to end so."""
+    status, out, err = station.ended(20)
+    if (status, out, err) != (0, "complete 0 of 0\n", ""):
+        yield f"without a put: status {status}, {out!r}, {err!r}"
+
+
+def place_mistakes(program):
+    """What is wrong with where numbers are kept, if nothing is said, and if it can't be there."""
+    with Link(program) as link:
+        folder, once = f"{link.folder}/1", {"eof_time": 1, "eof_limit": 0}
+        words = link.puts(1, {"a": b"hello"}) + ["--idle", "1"]
+        left = lambda: sorted(set(os.listdir(folder)) - {"from", "to"})
+        link.starts(1, ["--first-number", "7", *words], once).ended(20)
+        if left():
+            yield f"with --first-number 7 it left {left()}"
+        ended = link.starts(1, ["--inbox", "to", *words], once).ended(20)
+        if ended[0] != 1 or stations.unheard(ended[2]) or left() != ["from.state"]:
+            yield f"it left {left()} beside the folders, {ended}"
+        plain = ["--inbox", "to", "--idle", "1"]
+        yield from idle_mistakes(link.starts(1, plain, faults="denied=to.state"))
+        yield from idle_mistakes(link.starts(1, plain, faults="disk=0"))
+        with contextlib.suppress(FileNotFoundError):
+            os.remove(f"{folder}/to.state")
+        os.mkdir(f"{folder}/to.state")
+        yield from idle_mistakes(link.starts(1, plain))
+
+
+def numbers_of(station):
+    """The number of the one transaction of a station, which is killed then."""
+    station.comes_to("transaction", 10)
+    return [int(it) for it in re.findall(r"transaction \d+:(\d+)", station.killed())]
+
+
+def clock_mistakes(program):
+    """What is wrong with numbers that begin at the clock in microseconds, where that goes on, and
+    behind those that were used, where it goes back."""
+    with Link(program) as link:
+        words = link.puts(1, {"a": b"hello"})
+        runs = []
+        for clock in (1_700_000_000, 1_700_000_000, 1_600_000_000, 1_800_000_000, 1_700_000_000):
+            found = numbers_of(link.starts(1, words, faults=f"clock=at:{clock}"))
+            runs += [(clock, it) for it in found]
+        numbers = [it for _, it in runs]
+        if len(numbers) != 5 or numbers != sorted(set(numbers)):
+            yield f"with the clocks the numbers were {runs}"
+        if any(not 0 <= number - clock * 10**6 < 10**7 for clock, number in runs[:4:3]):
+            yield f"they don't begin at the clock: {runs}"
+
+
+def shared_mistakes(program):
+    """What is wrong where two stations have one file of numbers: the second is refused, until the
+    first is gone; and its numbers begin behind those of the first."""
+    with Link(program) as first, Link(program) as second:
+        files, state = {"a": b"hello"}, ["--state", f"{first.folder}/numbers"]
+        words = [*state, *first.puts(1, files)]
+        second.puts(1, files)
+        begun = first.starts(1, words)
+        if begun.comes_to("transaction", 10) is None:
+            yield f"the first never began: {begun.text('stderr')!r}"
+        yield from refused_mistakes(second.starts(1, words), "in use|another station runs")
+        before = numbers_of(begun)
+        after = numbers_of(second.starts(1, words, faults="clock=-86400"))
+        if not before or not after or min(after) <= max(before):
+            yield f"behind the numbers {before} came {after}"
+
+
+def behind_mistakes(program):
+    """What is wrong where a station is killed and started anew: the peer may await the count behind
+    the last one that was reserved, so the first frame of the new one is to have a later one."""
+    with Link(program, Relay()) as link:
+        words, came = link.puts(1, {"a": b"hello"}), link.relay.came
+        link.starts(1, words).comes_to("eof-sent", 10)
+        time.sleep(0.3)
+        link.started[0].killed()
+        with open(f"{link.folder}/1/from.state", encoding="ascii") as it:
+            reserved = int(re.search(r"frames (\d+)\n", it.read())[1]) % (1 << 24)
+        before = len(came)
+        link.starts(1, words).comes_to("eof-sent", 10)
+        time.sleep(0.5)
+        first = {int.from_bytes(frame[2:5], "big") for _, _, frame in came[before : before + 1]}
+        if not before or first != {(reserved + 1) % (1 << 24)}:
+            yield f"behind {before} frames, and {reserved} as reserved, came the count {first}"
+
+
+def stop_mistakes(program):
+    """What is wrong where no more counts of frames can be reserved: none may leave then."""
+    with Link(program, Relay()) as link:
+        text = f"cfdp_node station 1\nnumbers 1\nframes {(1 << 64) - 2}\n"
+        words = link.puts(1, {"a": b"hello"})
+        stations.put(link.folder, 1, "../from.state", text.encode())
+        # There is room for what is written at the start alone.
+        station = link.starts(1, words, faults="disk=100")
+        yield from note_mistakes(station, "nothing is sent", time.time(), 2)
+        if link.relay.came:
+            yield f"{len(link.relay.came)} frames left whose counts aren't reserved"
+
+
+# ---- floods
+
+
+def flooded(program, flood, seconds):
+    """How long a file of 1 MB takes, at any rate, while a flood reaches both stations; None where
+    it isn't complete in so many seconds, and what both told."""
+    with Link(program, Relay()) as link, bound(stations.free_ports(1)[0]) as stranger:
+        listens, sockets = link.relay.listens.values(), link.relay.sockets.values()
+        floods = {
+            "idle": lambda: Flood(idle_frame(0), 1000, list(zip(sockets, listens))),
+            "strange": lambda: Flood(b"x", 1000, [(stranger, port) for port in listens]),
+            "no": contextlib.nullcontext,
+        }
+        words = link.puts(1, {"a": random.Random(40).randbytes(1_000_000)})
+        receiver = link.starts(2, ["--inbox", "to", "--rate", "0"], PATIENT)
+        with floods[flood]():
+            time.sleep(0.2)
+            start = time.time()
+            sender = link.starts(1, [*words, "--rate", "0"], PATIENT)
+            ended = sender.comes_to("finished .* 0 complete retained", seconds)
+        took = None if ended is None else ended - start
+        return took, [it.text("stdout") for it in (sender, receiver)]
+
+
+def flood_mistakes(program):
+    """What is wrong where 1,000 datagrams a second come that carry nothing."""
+    plain, told = flooded(program, "no", 30)
+    if plain is None:
+        yield f"without a flood the file doesn't come: {told}"
+        return
+    most = 2 * plain + 2
+    for flood in ("idle", "strange"):
+        took, told = flooded(program, flood, most)
+        if took is None:
+            yield f"in a flood ({flood}) no file in {most:.1f} s, and {plain:.1f} without: {told}"
+
+
+def burst_mistakes(program):
+    """What is wrong where 256 EOFs wait at once: a station takes at most 64 datagrams before it
+    sends, so that its ACKs (code 6) leave by 64 at most, with NAKs (code 8) between."""
+    with Link(program, Relay()) as link:
+        receiver = link.starts(2, ["--inbox", "to", "--rate", "0"])
+        receiver.process.send_signal(signal.SIGSTOP)
+        for count in range(256):
+            zone = next(zones_of([eof(count)]))
+            link.relay.give(2, frame_of(DIRECTIVES, count, zone))
+        receiver.process.send_signal(signal.SIGCONT)
+        time.sleep(1)
+        zones = b"".join(frame[8:] for _, _, frame in list(link.relay.came))
+    codes = b"".join(re.findall(rb"(?s)\x13\x00\x01....\x00\x02([\x06\x08])", zones))
+    runs = [len(it) for it in re.findall(b"\x06+", codes)]
+    if sum(runs) < 256 or max(runs, default=0) > 64:
+        yield f"of 256 EOFs {runs} were acknowledged at once"
+
+
+# ---- what nobody sent
+
+
+def full_mistakes(program):
+    """What is wrong where so many transactions are forged that a receiver's table is full."""
+    is_full = "table is full|no room"
+    with Link(program, Relay()) as link:
+        receiver = link.starts(2, ["--inbox", "to"])
+        ends = [eof(number) for number in range(1, 5001)]
+        rest = [piece(number) for number in range(5001, 6001)]
+        counts = {DIRECTIVES: 0, FILE_DATA: 0}
+
+        def forge(channel, pdus):
+            for zone in zones_of(pdus):
+                link.relay.give(2, frame_of(channel, counts[channel], zone))
+                counts[channel] += 1
+                time.sleep(0.005)
+
+        begun = lambda: len(re.findall("eof-recv", receiver.text("stdout")))
+        stop = time.monotonic() + 60
+        while begun() < 4096 and time.monotonic() < stop:
+            forge(DIRECTIVES, ends)
+            time.sleep(1)
+        if begun() != 4096:
+            yield f"it has {begun()} transactions, and not 4096"
+            return
+        since = time.time()
+        forge(FILE_DATA, rest)
+        yield from note_mistakes(receiver, f".*({is_full})", since, 2)
+        forge(DIRECTIVES, ends[4096:])
+        time.sleep(3)
+        count = len(re.findall(f"note: .*({is_full})", receiver.text("stderr")))
+        if count > 1:
+            yield f"it told {count} times that its table is full: {receiver.text('stderr')!r}"
+
+
+def misfit_mistakes(program, key, values, word):
+    """What is wrong where a value of one end is not that of the other: both have to tell of it."""
+    ids, settings = {}, {}
+    if key == "id":
+        ids = {"ids": (values[1], 1)}
+    elif key == "zone":
+        settings = {1: {"zone": values[0]}, 2: {"zone": values[1]}}
+    else:
+        settings = {1: {}, 2: {key: values[1]}}
+    with Link(program, Relay()) as link:
+        words = link.puts(1, {"a": bytes(3000)})
+        receiver = link.starts(2, ["--inbox", "to"], settings.get(2), **ids)
+        since = time.time()
+        sender = link.starts(1, words, settings.get(1))
+        while link.relay.first(since) is None and time.time() < since + 5:
+            time.sleep(0.01)
+        first = link.relay.first(since) or since
+        wanted = rf"(?=.*\b{word}\b)" + "".join(rf"(?=.*\b{it}\b)" for it in values)
+        for it in (sender, receiver):
+            yield from note_mistakes(it, wanted, first, 2)
+
+
+# A key, its value at one end and at the other, and the word by which both tell of it.
+MISFITS = (
+    ("zone", (256, 512), "zone"),
+    ("spacecraft", (42, 43), "spacecraft"),
+    ("peer_channel", (5, 9), "channel"),
+    ("peer_data_channel", (7, 11), "channel"),
+    ("peer_apid", (100, 77), "APID"),
+    ("channel", (6, 10), "channel"),
+    ("apid", (101, 66), "APID"),
+    ("id", (2, 3), "id"),
+)
+
+
+# ---- paces
+
+
+def crowd_mistakes(times, rate):
+    """What is wrong where more frames lie in some second than the rate and a few. At a high rate
+    some more may: between its look at the clock and its send a station may have to wait."""
+    for at, start in enumerate(times):
+        count = bisect.bisect_left(times, start + 1) - at
+        if count > rate + 8 + rate // 200:
+            yield f"{count} frames in a second, {start - times[0]:.2f} s after the first"
+            return
+
+
+def silence_mistakes(times, rate):
+    """What is wrong where nothing is sent for too long."""
+    gaps = [(next_one - it, it - times[0]) for it, next_one in zip(times, times[1:])]
+    longest, at = max(gaps, default=(0, 0))
+    if longest > 3 / rate + 0.6:
+        yield f"nothing is sent for {longest:.2f} s, {at:.2f} s after the first frame"
+
+
+def rate_mistakes(program, rate):
+    """What is wrong where both stations send at most so many frames a second, for some 5 s."""
+    sizes = [2500] if rate == 1 else [rate * 250] * 5
+    files = {f"f{it}": random.Random(it).randbytes(size) for it, size in enumerate(sizes)}
+    with Link(program, Relay()) as link:
+        both = ["--idle", "20", "--rate", str(rate)]
+        receiver = link.starts(2, ["--inbox", "to", *both])
+        sender = link.starts(1, link.puts(1, files) + both)
+        ends = {1: sender.ended(), 2: receiver.ended(30)}
+        whole = {1: f"complete {len(files)} of {len(files)}\n", 2: "complete 0 of 0\n"}
+        for own, (status, out, err) in ends.items():
+            if status or err or not out.endswith(whole[own]) or re.search("abandoned|fault", out):
+                yield f"station {own}: status {status}, {out[-300:]!r}, {err[-300:]!r}"
+        most = 5 / rate + 1 + SLACK
+        begun = receiver.comes_to("metadata", 0)
+        if begun is None or begun > link.relay.first() + most:
+            yield f"no Metadata came within {most:.1f} s of the first frame"
+        done = len(re.findall(r"finished \S+ 0 complete retained", ends[2][1]))
+        if done != len(files) or stations.files_at(link.folder, 2) != files:
+            yield f"the receiver told of {done} complete files of {len(files)}"
+        sent = [(when, frame) for when, own, frame in link.relay.came if own == 1]
+    times = sorted(when for when, _ in sent)
+    yield from crowd_mistakes(times, rate)
+    data = [when for when, frame in sent if frame[1] & 63 == FILE_DATA]
+    yield from silence_mistakes([it for it in times if it <= max(data, default=0)], rate)
+
+
+def held_mistakes(program):
+    """What is wrong where nothing comes for 5 s in the middle of a file, at a station that may end
+    after 2 s: it has to stay."""
+    with Link(program, Relay()) as link:
+        octets = random.Random(41).randbytes(20_000)
+        receiver = link.starts(2, ["--inbox", "to", "--idle", "2"])
+        sender = link.starts(1, link.puts(1, {"a": octets}) + ["--rate", "30", "--idle", "8"])
+        while len(link.relay.came) < 20 and sender.process.poll() is None:
+            time.sleep(0.01)
+        link.relay.holds = True
+        time.sleep(5)
+        link.relay.release()
+        status, out, err = receiver.ended(60)
+        if status or err or not re.search(r"finished \S+ 0 complete retained", out):
+            yield f"the receiver: status {status}, {out!r}, {err!r}"
+        if stations.files_at(link.folder, 2) != {"a": octets}:
+            yield "the file didn't come"
+        status, out, err = sender.ended(30)
+        if status or err or not out.endswith("complete 1 of 1\n"):
+            yield f"the sender: status {status}, {out!r}, {err!r}"
+
+
+def unended_mistakes(program):
+    """What is wrong where idle frames alone come to a station that may end after 2 s."""
+    with Link(program, Relay()) as link:
+        station = link.starts(2, ["--inbox", "to", "--idle", "2"])
+        with Flood(idle_frame(0), 10, [(link.relay.sockets[2], link.relay.listens[2])]):
+            status, out, err = station.ended(10)
+        if (status, out, err) != (0, "complete 0 of 0\n", ""):
+            yield f"status {status}, {out!r}, {err!r}"
+
+
+def linger_mistakes(program):
+    """What is wrong where a put is given up: its station has to stay for 2 s from then on."""
+    with Link(program) as link:
+        words = link.puts(1, {"a": b"hello"}) + ["--idle", "2"]
+        station = link.starts(1, words, {"eof_time": 1, "eof_limit": 0})
+        given_up = station.comes_to("abandoned", 10) or 0
+        status, out, err = station.ended(10)
+        stayed = time.time() - given_up
+        if status != 1 or not 1.8 < stayed < 3 + SLACK:
+            yield f"it stayed for {stayed:.2f} s: status {status}, {out!r}, {err!r}"
+
+
+def late_mistakes(program):
+    """What is wrong where a sender stands still while its answer waits behind idle frames: it came
+    in time, so that no timer may expire for want of it."""
+    answers = []
+    with Link(program, Relay(lambda own, frame: own == 1 or answers.append(frame))) as link:
+        link.starts(2, ["--inbox", "to"], PATIENT)
+        began, once = time.time(), {"eof_time": 2, "eof_limit": 0}
+        sender = link.starts(1, link.puts(1, {"a": b"hello"}), once, waits=False)
+        while not answers and time.time() < began + 10:
+            time.sleep(0.01)
+        time.sleep(max(0.1, began + 0.5 - time.time()))
+        sender.process.send_signal(signal.SIGSTOP)
+        for frame in [*(idle_frame(count) for count in range(150)), *answers]:
+            link.relay.give(1, frame)
+        link.relay.passes = lambda own, frame: True
+        time.sleep(1.8)
+        sender.process.send_signal(signal.SIGCONT)
+        is_there = sender.comes_to("finished .* 0 complete retained", 5)
+        if is_there is None or "fault" in sender.text("stdout"):
+            yield f"{len(answers)} answers waited, and it told {sender.text('stdout')!r}"
+
+
+def kept_mistakes(program):
+    """What is wrong where the system refuses to send a frame: it has to leave once more."""
+    with Link(program, Relay()) as link:
+        link.starts(2, ["--inbox", "to"])
+        sender = link.starts(1, link.puts(1, {"a": bytes(3000)}), faults="send=4")
+        if sender.comes_to("finished", 5) is None:
+            yield f"the file didn't come in time: {sender.text('stdout')!r}"
+        frames = [frame for _, own, frame in list(link.relay.came) if own == 1]
+        for channel in (DIRECTIVES, FILE_DATA):
+            counts = [int.from_bytes(it[2:5], "big") for it in frames if it[1] & 63 == channel]
+            if any((after - it) % (1 << 24) != 1 for it, after in zip(counts, counts[1:])):
+                yield f"a frame of channel {channel} never left: the counts were {counts}"
+
+
+def wakes_of(station):
+    """How often a station has waited."""
+    with open(f"/proc/{station.process.pid}/status", encoding="ascii") as it:
+        return int(re.search(r"(?m)^voluntary_ctxt_switches:\s*(\d+)", it.read())[1])
+
+
+def processor_seconds(station):
+    """How long a station has had a processor."""
+    with open(f"/proc/{station.process.pid}/stat", encoding="ascii") as it:
+        user, system = it.read().rsplit(")", 1)[1].split()[11:13]
+    return (int(user) + int(system)) / os.sysconf("SC_CLK_TCK")
+
+
+def rests(program):
+    """How often stations wake in a second that have nothing to do, or a put whose peer isn't there,
+    for how long they have a processor in 5 s, and which station it is."""
+    with Link(program) as link, Link(program) as other:
+        three = [link.starts(own, ["--inbox", "to"]) for own in (1, 2)]
+        three += [other.starts(1, other.puts(1, {"a": b"hello"}), PATIENT)]
+        time.sleep(2)
+        before = [(wakes_of(it), processor_seconds(it)) for it in three]
+        time.sleep(5)
+        now = [(wakes_of(it), processor_seconds(it)) for it in three]
+        names = ("station 1 at rest", "station 2 at rest", "a station whose peer isn't there")
+        return [((b[0] - a[0]) / 5, b[1] - a[1], it) for a, b, it in zip(before, now, names)]
+
+
+def rest_mistakes(program):
+    """What is wrong where stations that have nothing to do wake often, or need a processor."""
+    for wakes, spent, whose in rests(program):
+        if wakes >= 20 or spent > 0.5:
+            yield f"{whose} wakes {wakes} times a second, and runs for {spent:.2f} of 5 s"
+
+
+# ---- ends of transfers
+
+
+def waiting_mistakes(program):
+    """What is wrong where a receiver is killed that has acknowledged the EOF and lacks data: the
+    sender waits for an answer that the new one doesn't have, and says so."""
+    is_lossy = lambda own, frame: own == 2 or frame[1] & 63 != FILE_DATA
+    with Link(program, Relay(is_lossy)) as link:
+        receiver = link.starts(2, ["--inbox", "to"])
+        sender = link.starts(1, link.puts(1, {"a": bytes(5000)}))
+        if receiver.comes_to("eof-recv", 20) is None:
+            yield f"the receiver got no EOF: {receiver.text('stdout')!r}"
+            return
+        time.sleep(1)
+        receiver.killed()
+        since = time.time()
+        time.sleep(1)
+        link.starts(2, ["--inbox", "to"])
+        link.relay.passes = lambda own, frame: True
+        name = re.search(r"transaction (\S+)", sender.text("stdout"))
+        yield from note_mistakes(sender, rf"(?=.*\bFinished\b)(?=.*\b{name[1]}\b)", since, 15)
+
+
+def publish_mistakes(program):
+    """What is wrong with the order in which a file that came is made to last: it is flushed, it
+    gets its name, and then the folder is flushed."""
+    with Link(program) as link:
+        receiver = link.starts(2, ["--inbox", "to"], faults="order")
+        link.starts(1, link.puts(1, {"a": b"hello"}))
+        if receiver.comes_to("finished", 20) is None:
+            yield f"the file didn't come: {receiver.text('stdout')!r}"
+        receiver.killed()
+        with open(f"{link.folder}/2/order", encoding="ascii") as it:
+            order = it.read()
+        calls = ("fsync .*/[.]part-.*", "rename .*/[.]part-.* .*/a", "fsync .*/to")
+        if not re.search("(?m)^" + r"\n(.*\n)*".join(calls) + "$", order):
+            yield f"the calls were {order!r}"
+
+
+def lone_mistakes(program):
+    """What is tried with nothing beside it, since what it shows depends on milliseconds."""
+    yield "floods of what carries nothing", flood_mistakes(program)
+
+
+def all_mistakes(program, kills):
+    """What is tried, with what is wrong in it."""
+    for rate in (1, 10, 100, 1000):
+        yield f"a rate of {rate} frames a second", rate_mistakes(program, rate)
+    yield f"senders killed {kills} times, their clock set back", numbers_mistakes(program, kills)
+    yield "a receiver killed behind the EOF", waiting_mistakes(program)
+    yield "a table filled with what nobody sent", full_mistakes(program)
+    yield "nothing comes for 5 s", held_mistakes(program)
+    yield "idle frames alone", unended_mistakes(program)
+    yield "stations at rest", rest_mistakes(program)
+    for key, values, word in MISFITS:
+        title = f"{key} {values[0]} at one end and {values[1]} at the other"
+        yield title, misfit_mistakes(program, key, values, word)
+    yield "a file of numbers that can't be had", state_mistakes(program)
+    yield "where numbers are kept", place_mistakes(program)
+    yield "numbers by the clock", clock_mistakes(program)
+    yield "two stations with one file of numbers", shared_mistakes(program)
+    yield "the count of a new station's first frame", behind_mistakes(program)
+    yield "counts of frames that can't be reserved", stop_mistakes(program)
+    yield "256 EOFs at once", burst_mistakes(program)
+    yield "a put that is given up", linger_mistakes(program)
+    yield "an answer that waits behind idle frames", late_mistakes(program)
+    yield "a frame that the system refuses to send", kept_mistakes(program)
+    yield "the folder of a file that came", publish_mistakes(program)
