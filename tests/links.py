@@ -2,6 +2,7 @@
 that nobody sent. Stations are killed and started anew, flooded, misfit, and left at rest."""
 import bisect
 import contextlib
+import itertools
 import os
 import random
 import re
@@ -28,6 +29,9 @@ SO_TIMESTAMPNS = 35
 
 # The channels of what station 1 sends, and how long a packet zone is, if nothing else is set.
 DIRECTIVES, FILE_DATA, ONLY_IDLE, ZONE = 5, 7, 63, 256
+
+# The channel of the directives that station 2 sends.
+PEER_DIRECTIVES = 6
 
 
 class Relay:
@@ -243,6 +247,11 @@ def piece(number):
     return struct.pack(">BHBHIHIB", 0x30, 5, 0x13, 1, number, 2, 0, 65)
 
 
+def finished(number):
+    """What station 2 answers to the EOF of a transaction of station 1 that it has whole."""
+    return struct.pack(">BHBHIHBB", 0x28, 2, 0x13, 1, number, 2, 5, 2)
+
+
 class Flood:
     """A datagram that is sent so many times a second while a block runs, by a process of its own:
     from each of these sockets to the port beside it."""
@@ -444,9 +453,11 @@ def behind_mistakes(program):
         link.started[0].killed()
         with open(f"{link.folder}/1/from.state", encoding="ascii") as it:
             reserved = int(re.search(r"frames (\d+)\n", it.read())[1]) % (1 << 24)
-        before = len(came)
-        link.starts(1, words).comes_to("eof-sent", 10)
-        time.sleep(0.5)
+        time.sleep(0.3)
+        before, stop = len(came), time.monotonic() + 10
+        link.starts(1, words)
+        while len(came) == before and time.monotonic() < stop:
+            time.sleep(0.05)
         first = {int.from_bytes(frame[2:5], "big") for _, _, frame in came[before : before + 1]}
         if not before or first != {(reserved + 1) % (1 << 24)}:
             yield f"behind {before} frames, and {reserved} as reserved, came the count {first}"
@@ -512,10 +523,12 @@ def burst_mistakes(program):
             zone = next(zones_of([eof(count)]))
             link.relay.give(2, frame_of(DIRECTIVES, count, zone))
         receiver.process.send_signal(signal.SIGCONT)
-        time.sleep(1)
-        zones = b"".join(frame[8:] for _, _, frame in list(link.relay.came))
-    codes = b"".join(re.findall(rb"(?s)\x13\x00\x01....\x00\x02([\x06\x08])", zones))
-    runs = [len(it) for it in re.findall(b"\x06+", codes)]
+        runs, stop = [], time.monotonic() + 10
+        while sum(runs) < 256 and time.monotonic() < stop:
+            time.sleep(0.2)
+            zones = b"".join(frame[8:] for _, _, frame in list(link.relay.came))
+            codes = re.findall(rb"(?s)\x13\x00\x01....\x00\x02([\x06\x08])", zones)
+            runs = [len(it) for it in re.findall(b"\x06+", b"".join(codes))]
     if sum(runs) < 256 or max(runs, default=0) > 64:
         yield f"of 256 EOFs {runs} were acknowledged at once"
 
@@ -554,6 +567,37 @@ def full_mistakes(program):
         count = len(re.findall(f"note: .*({is_full})", receiver.text("stderr")))
         if count > 1:
             yield f"it told {count} times that its table is full: {receiver.text('stderr')!r}"
+
+
+def answered(relay):
+    """The transactions of whose Finisheds station 1 sent an ACK."""
+    octets = b"".join(frame[8:] for _, own, frame in list(relay.came) if own == 1)
+    found = re.findall(rb"(?s)\x13\x00\x01(....)\x00\x02\x06\x51", octets)
+    return {int.from_bytes(it, "big") for it in found}
+
+
+def strange_mistakes(program):
+    """What is wrong where 100 Finisheds wait at once of transactions that a sender doesn't know, as
+    those of its life before: it has at most 64 answers wait, and drops the rest, which its peer
+    sends once more. But its table has room, so that it tells of no full one."""
+    with Link(program, Relay()) as link:
+        sender = link.starts(1, link.puts(1, {"a": b"hello"}), PATIENT)
+        if sender.comes_to("eof-sent", 20) is None:
+            yield f"it sent no file: {sender.text('stderr')!r}"
+        sender.process.send_signal(signal.SIGSTOP)
+        counts = itertools.count()
+        for numbers, count in ((range(1, 101), 64), (range(65, 101), 100)):
+            for zone in zones_of([finished(number) for number in numbers], 101):
+                link.relay.give(1, frame_of(PEER_DIRECTIVES, next(counts), zone))
+            sender.process.send_signal(signal.SIGCONT)
+            stop = time.monotonic() + 10
+            while len(answered(link.relay)) < count and time.monotonic() < stop:
+                time.sleep(0.05)
+        missing = set(range(1, 101)) - answered(link.relay)
+        if missing:
+            yield f"it never answered to the Finisheds of {sorted(missing)}"
+        if "full" in sender.text("stderr"):
+            yield f"it told {sender.text('stderr')!r}"
 
 
 def misfit_mistakes(program, key, values, word):
@@ -679,7 +723,7 @@ def linger_mistakes(program):
         given_up = station.comes_to("abandoned", 10) or 0
         status, out, err = station.ended(10)
         stayed = time.time() - given_up
-        if status != 1 or not 1.8 < stayed < 3 + SLACK:
+        if status != 1 or not 1.5 < stayed < 3 + SLACK:
             yield f"it stayed for {stayed:.2f} s: status {status}, {out!r}, {err!r}"
 
 
@@ -807,6 +851,7 @@ def all_mistakes(program, kills):
     yield "nothing comes for 5 s", held_mistakes(program)
     yield "idle frames alone", unended_mistakes(program)
     yield "stations at rest", rest_mistakes(program)
+    yield "100 Finisheds of unknown transactions at once", strange_mistakes(program)
     for key, values, word in MISFITS:
         title = f"{key} {values[0]} at one end and {values[1]} at the other"
         yield title, misfit_mistakes(program, key, values, word)

@@ -144,6 +144,7 @@ def restart_mistakes(program):
         put(folder, 1, "second", second)
         words = ["--inbox", "to", "--idle", "15"]
         receiver = Station(program, folder, 2, 1, ports, words, settings)
+        receiver.comes_up()
         words = ["--outbox", "from", "--rate", "100", "--put", "first", "first"]
         sender = Station(program, folder, 1, 2, ports, words, settings)
         if not receiver.comes_to(b"metadata"):
@@ -172,7 +173,7 @@ def stranger_mistakes(program):
         station = Station(program, folder, 2, 1, ports, ["--inbox", "to", "--idle", "3"], {})
         with socket.socket(socket.AF_INET, socket.SOCK_DGRAM) as stranger:
             stranger.bind(("127.0.0.1", ports[3]))
-            time.sleep(1)
+            station.comes_up()
             for _ in range(7):
                 stranger.sendto(bytes(264), ("127.0.0.1", ports[2]))
             status, out, err = station.ended()

@@ -42,6 +42,11 @@ impl Tally {
         grows
     }
 
+    /// Takes what there is so far as told.
+    fn passes_over(&mut self) {
+        self.told = self.seen;
+    }
+
     /// How often since it was told last, where it is to be told at this time.
     fn news(&mut self, now: u64) -> Option<u64> {
         let news = self.seen.saturating_sub(self.told);
@@ -85,8 +90,8 @@ pub struct Notices<'a> {
     foreign: Foreign,
     link: [Tally; 11],
     pdus: [Tally; 17],
-    // When something of the link came last, when it was looked what is waited for, and when what was
-    // told last.
+    // When something of the link came last, when it was looked what is waited for, and when what
+    // was told last.
     heard: u64,
     looked: u64,
     beacon_at: Option<u64>,
@@ -173,13 +178,14 @@ impl<'a> Notices<'a> {
     }
 
     fn tell_pdu_drops<O: Outbox, I: Inbox>(&mut self, now: u64, station: &Station<O, I>) {
+        let is_full = station.records_left() == 0;
         for (place, by) in EntityDrop::ALL.iter().enumerate() {
             if self.pdus[place].grows(station.drops(by.number())) && *by == EntityDrop::NotForUs {
                 self.exchange.differs.set(true);
             }
-            if *by != EntityDrop::Unknown
-                && let Some(count) = self.pdus[place].news(now)
-            {
+            if !is_told(*by, is_full) {
+                self.pdus[place].passes_over();
+            } else if let Some(count) = self.pdus[place].news(now) {
                 self.tell_pdu_drop(*by, count);
             }
         }
@@ -311,6 +317,17 @@ fn is_misfit(by: LinkDrop) -> bool {
         LinkDrop::Frame(FrameError::Length | FrameError::OtherSpacecraft | FrameError::OtherChannel)
         | LinkDrop::OtherApid => true,
         _ => false,
+    }
+}
+
+/// Whether a PDU that was dropped for this is told of, where the table of transactions is full or
+/// isn't. Where it isn't, `TableFull` says that too many answers to PDUs of unknown transactions
+/// wait, and the peer sends such a PDU once more.
+fn is_told(by: EntityDrop, is_full: bool) -> bool {
+    match by {
+        EntityDrop::Unknown => false,
+        EntityDrop::TableFull => is_full,
+        _ => true,
     }
 }
 
