@@ -1,4 +1,4 @@
 mod FileLemmas
 mod Octets
 mod PieceLemmas
-pub mod FolderLemmas
+pub mod DiskLemmas

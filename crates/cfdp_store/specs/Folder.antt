@@ -1,12 +1,11 @@
--- Files in folders: their names, the one that is loaded, those that were received.
-use Rattle.std.specs.Prelude.{◌≡◌, ◌≢◌, ◌⊎◌, ◌↔◌, ◌≤◌, ℕ, List, [], ◌∷◌, All, Err, IsOk, IsOkUnless, length}
+-- Files in folders: their names, and the one that is loaded.
+use Rattle.std.specs.Prelude.{◌≡◌, ◌≢◌, ◌⊎◌, ◌↔◌, ◌≤◌, ℕ, List, [], ◌∷◌, All, Err, length}
 use Rattle.std.specs.FinMap.{empty, insert}
 use Rattle.std.specs.declared.io.ErrorKind.TheVariants.{OutOfMemory}
 use Rattle.cfdp_header.specs.Files.{FileMap}
 use Rattle.cfdp_store.specs.Calls.{InboxCall, Begin, Write, Publish, Discard}
 use Rattle.cfdp_store.specs.declared.error.StoreError.{StoreError}
 use Rattle.cfdp_store.specs.declared.error.StoreError.TheVariants as refusal
-use Rattle.cfdp_store.specs.declared.folder.Received.{Received}
 use Rattle.cfdp_store.specs.declared.folder_error.FolderError.{FolderError}
 use Rattle.cfdp_store.specs.declared.folder_error.FolderError.TheVariants.{Name, System}
 
@@ -34,14 +33,13 @@ refusal_of Name = refusal.Name
 refusal_of (System OutOfMemory) = refusal.NoMemory
 refusal_of _ = refusal.Device
 
--- The call failed for a name exactly where a file in a folder can't have that name. Octets are
--- staged in memory.
+-- Of these calls only a publish fails for a name, exactly where a file in a folder can't have it.
 abbrev pub AnswersNames : InboxCall → Type 0
-AnswersNames (Begin id answer) = IsOkUnless answer refusal.NoMemory
-AnswersNames (Write id offset octets answer) = IsOkUnless answer refusal.NoMemory
+AnswersNames (Begin id answer) = answer ≢ Err refusal.Name
+AnswersNames (Write id offset octets answer) = answer ≢ Err refusal.Name
 AnswersNames (Publish id name size answer) =
     (answer ≡ Err refusal.Name) ↔ (IsFolderName name → ⊥)
-AnswersNames (Discard id answer) = IsOk answer
+AnswersNames (Discard id answer) = answer ≢ Err refusal.Name
 
 -- ---- files
 
@@ -49,11 +47,3 @@ AnswersNames (Discard id answer) = IsOk answer
 abbrev pub HasAtMost : List ℕ → ℕ → FileMap → Type 0
 HasAtMost name most files = (files ≡ empty)
     ⊎ ((octets : List ℕ) × (length octets ≤ most) × (files ≡ insert empty name octets))
-
--- the files once these were received, in turn
-unfoldable pub after_received : FileMap → List Received → FileMap
-after_received files [] = files
-after_received files (r ∷ rs) = after_received (insert files r.name.items r.octets.items) rs
-
-abbrev pub published_of : List Received → FileMap
-published_of rs = after_received empty rs

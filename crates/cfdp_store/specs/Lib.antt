@@ -1,5 +1,6 @@
 pub mod Calls
 pub mod Chains
+pub mod Disk
 pub mod Files
 pub mod Folder
 pub mod Fuse

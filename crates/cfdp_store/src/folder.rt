@@ -1,17 +1,18 @@
 //! Files in folders of the system: one to be sent, and those that were received.
 ghost use Rattle.std.specs.FinMap as map;
-ghost use Rattle.std.specs.Prelude.{◌≡◌, ◌≢◌, ◌⊎◌, ◌<◌, ◌≤◌, ◌++◌, ◌∷◌, ◌↔◌, [], None, IsTrue, is_ok, length, Err, IfErr, IfOk, IfSome, OnErr, OnOk, vec_capacity, vec_len};
-ghost use Rattle.cfdp_store.specs.Folder.{AnswersNames, HasAtMost, IsFolderName, IsNameOctet, published_of};
+ghost use Rattle.std.specs.Prelude.{◌≡◌, ◌≢◌, ◌⊎◌, ◌≤◌, ◌↔◌, None, IsSome, IsTrue, is_ok, length, Err, IfErr, IfOk, IfSome, OnErr, OnOk};
+ghost use Rattle.cfdp_store.specs.Disk.{published_by, staged_by};
+ghost use Rattle.cfdp_store.specs.Folder.{AnswersNames, HasAtMost, IsFolderName, IsNameOctet};
 ghost use Rattle.cfdp_store.specs.Stores.{failures_after};
 ghost use Rattle.cfdp_store.specs.Staged.{OthersKeep, front, staged_for};
 
 use crate::folder_error::FolderError;
-use crate::{Inbox, MemoryInbox, MemoryOutbox, Outbox, StoreError};
+use crate::parts::{Parts, path_in};
+use crate::{Inbox, MemoryOutbox, Outbox, StoreError};
 use cfdp_header::TransactionId;
 use std::alloc::{AllocError, Global};
-use std::fs::{File, Files, OpenFile};
-use std::io::{ErrorKind, Read, Write};
-use std::{fs, io};
+use std::fs::{self, File, Files};
+use std::io::{ErrorKind, Read};
 
 /// The most octets of a file that an outbox loads.
 const MOST_LOADED: u64 = 1_048_576;
@@ -31,16 +32,6 @@ fn is_name_octet(octet: u8) -> bool
     ensures { IsTrue result ↔ IsNameOctet octet }
 {
     octet.is_ascii_alphanumeric() || octet == b'.' || octet == b'_' || octet == b'-'
-}
-
-/// The path of a file in a folder.
-fn path_in(alloc: Global, folder: &str, name: &[u8]) -> Result<String, FolderError>
-    ensures { IfErr result (λ error. error ≢ FolderError.Name) }
-{
-    match str::from_utf8(name) {
-        Ok(name) => Ok(format!(in alloc; "{folder}/{name}")?),
-        Err(_) => Err(FolderError::System(ErrorKind::InvalidFilename)),
-    }
 }
 
 /// A file that can be sent, as it was when it was loaded: what the folder holds later is not looked
@@ -159,35 +150,15 @@ impl Outbox for FolderOutbox {
     }
 }
 
-/// A file that was received.
-#[derive(Drop)]
-pub struct Received {
-    name: Vec<u8>,
-    octets: Vec<u8>,
-}
-
-/// Notes a file that was received, for which there is room.
-fn note(received: &mut Vec<Received>, file: Received)
-    requires { vec_len received.old < vec_capacity received.old }
-    ensures { received.new.items ≡ received.old.items ++ file ∷ [] }
-{
-    let _ = received.push(file);
-}
-
-/// Received files, each written to a folder as it is published, and kept in the order in which they
-/// were.
+/// Received files in a folder. What was staged or published lies there, and takes no memory here.
 ///
-/// A file is published whole or not at all. It is written under a name of its own that begins with
-/// a point, which no published file has, and flushed to the device; only then is it given its name,
-/// in one step, in the place of what has it. What a publish leaves that failed is removed if it can
-/// be.
+/// A file is published whole or not at all. Its octets are written as they come, under a name of
+/// its own that begins with a point, which no published file has, and flushed to the device; only
+/// then is it given its name, in one step, in the place of what has it. What a call leaves that
+/// failed is removed if it can be. At most 16 of these files are open at once.
 #[derive(Drop)]
 pub struct FolderInbox<F: Files + Drop> {
-    files: F,
-    alloc: Global,
-    folder: String,
-    received: Vec<Received>,
-    store: MemoryInbox,
+    parts: Parts<F>,
     failed: u64,
     fault: Option<FolderError>,
 }
@@ -199,140 +170,85 @@ impl<F: Files + Drop> FolderInbox<F> {
     ///
     /// `AllocError` where there is no memory for the folder's name.
     pub fn new(files: F, alloc: Global, folder: &str) -> Result<Self, AllocError>
-        ensures published { IfOk result (λ i. published_of i.received.items ≡ map.empty) }
+        ensures published { IfOk result (λ i. published_by i.parts.done ≡ map.empty) }
         ensures failures { IfOk result (λ i. i.failed ≡ 0) }
     {
         Ok(FolderInbox {
-            files,
-            alloc,
-            folder: String::from_str(alloc, folder)?,
-            received: Vec::new(alloc),
-            store: MemoryInbox::new(alloc),
+            parts: Parts::new(files, alloc, String::from_str(alloc, folder)?),
             failed: 0,
             fault: None,
         })
     }
 
-    /// Why the last publish failed that did.
+    /// Why the last call failed that did.
     pub fn fault(&self) -> Option<FolderError> {
         self.fault
     }
 
-    /// Counts a call that failed.
-    fn counted(&mut self, answer: Result<(), StoreError>) -> Result<(), StoreError>
-        ensures answer { result ≡ answer }
-        ensures counted { self.new ≡ record self.old {
-          failed = failures_after self.old.failed (is_ok answer);
-        } }
+    /// Counts a call that failed, and keeps why.
+    fn answer(&mut self, done: Result<(), FolderError>) -> Result<(), StoreError>
+        ensures ok { is_ok result ≡ is_ok done }
+        ensures name { (result ≡ Err StoreError.Name) ↔ (done ≡ Err FolderError.Name) }
+        ensures parts { self.new.parts ≡ self.old.parts }
+        ensures failed { self.new.failed ≡ failures_after self.old.failed (is_ok done) }
     {
-        if answer.is_err() {
-            self.failed = self.failed.saturating_add(1);
-        }
-        answer
-    }
-
-    /// Keeps why a publish failed.
-    fn explained(&mut self, error: FolderError) -> StoreError
-        ensures name { (result ≡ StoreError.Name) ↔ (error ≡ FolderError.Name) }
-        ensures kept { (self.new.received ≡ self.old.received) × (self.new.store ≡ self.old.store)
-            × (self.new.failed ≡ self.old.failed) }
-    {
-        self.fault = Some(error);
-        StoreError::from(error)
-    }
-
-    /// Writes a file under a name that begins with a point, and gives it its own.
-    fn put_file(&self, id: TransactionId, path: &str, octets: &[u8]) -> Result<(), FolderError>
-        ensures { IfErr result (λ error. error ≢ FolderError.Name) }
-    {
-        let folder = self.folder.as_str();
-        let part = format!(in self.alloc; "{folder}/.part-{}-{}", id.source, id.number)?;
-        match move_in(&self.files, folder, part.as_str(), path, octets) {
+        match done {
             Ok(()) => Ok(()),
             Err(error) => {
-                let _ = fs::remove_file(&self.files, part.as_str());
-                Err(FolderError::from(error))
+                self.failed = self.failed.saturating_add(1);
+                self.fault = Some(error);
+                Err(StoreError::from(error))
             }
         }
     }
 
-    /// What can fail is done first, but for the flush of the folder: so a file that lies in the
-    /// folder under its own name is one that was published, or whose name the device failed to keep.
     fn try_publish(&mut self, id: TransactionId, name: &[u8], size: u64) -> Result<(), FolderError>
-        ensures ok { OnOk result (published_of self.new.received.items
-            ≡ map.insert (published_of self.old.received.items) name.now
-            (front (staged_for (⟦<MemoryInbox as Inbox>⟧.staged self.old.store) id) size)) }
-        ensures err { OnErr result (self.new.received.items ≡ self.old.received.items) }
-        ensures named { OnOk result (IsFolderName name.now) }
+        requires { IsSome (staged_by self.old.parts.done id) }
+        ensures ok { OnOk result (published_by self.new.parts.done
+            ≡ map.insert (published_by self.old.parts.done) name.now
+            (front (staged_for (staged_by self.old.parts.done) id) size)) }
+        ensures err { OnErr result (published_by self.new.parts.done
+            ≡ published_by self.old.parts.done) }
         ensures name { (result ≡ Err FolderError.Name) ↔ (IsFolderName name.now → ⊥) }
-        ensures staged { OnOk result (⟦<MemoryInbox as Inbox>⟧.staged self.new.store id ≡ None) }
-        ensures others { OthersKeep id (⟦<MemoryInbox as Inbox>⟧.staged self.old.store)
-            (⟦<MemoryInbox as Inbox>⟧.staged self.new.store) }
+        ensures staged { OnOk result (staged_by self.new.parts.done id ≡ None) }
+        ensures others { OthersKeep id (staged_by self.old.parts.done)
+            (staged_by self.new.parts.done) }
         ensures failed { self.new.failed ≡ self.old.failed }
     {
         if !is_folder_name(name) {
             return Err(FolderError::Name);
         }
-        let path = path_in(self.alloc, self.folder.as_str(), name)?;
-        let octets = self.store.take_front(id, size)?;
-        let name = Vec::from_slice(self.alloc, name)?;
-        self.received.reserve(1)?;
-        self.put_file(id, path.as_str(), octets.as_slice())?;
-        note(&mut self.received, Received { name, octets });
-        Ok(())
+        self.parts.publish(id, name, size)
     }
 }
 
-/// Writes a file at one path of a folder, flushes it to the device, moves it to another path, and
-/// flushes the folder, so that the file keeps its name. What lay at the first path is gone; nothing
-/// at all lies there before the file is made. Where the folder can't be flushed at the end, the file
-/// may lie at the other path.
-fn move_in<F: Files>(
-    files: &F,
-    folder: &str,
-    part: &str,
-    path: &str,
-    octets: &[u8],
-) -> io::Result<()> {
-    let _ = fs::remove_file(files, part);
-    let names = File::open(files, folder)?;
-    let mut file = File::create_new(files, part)?;
-    file.write_all(octets)?;
-    file.sync_all()?;
-    fs::rename(files, part, path)?;
-    names.sync_all()
-}
-
 impl<F: Files + Drop> Inbox for FolderInbox<F> {
-    ghost published = { λ i. published_of i.received.items };
+    ghost published = { λ i. published_by i.parts.done };
 
-    ghost staged = { λ i. ⟦<MemoryInbox as Inbox>⟧.staged i.store };
+    ghost staged = { λ i. staged_by i.parts.done };
 
     ghost failures = { λ i. i.failed };
 
     ghost steps = { λ _ call _. AnswersNames call };
 
     fn begin(&mut self, id: TransactionId) -> Result<(), StoreError> {
-        let answer = self.store.begin(id);
-        self.counted(answer)
+        let done = self.parts.make(id);
+        self.answer(done)
     }
 
     fn write(&mut self, id: TransactionId, offset: u64, octets: &[u8]) -> Result<(), StoreError> {
-        let answer = self.store.write(id, offset, octets);
-        self.counted(answer)
+        let done = self.parts.write(id, offset, octets);
+        self.answer(done)
     }
 
     fn publish(&mut self, id: TransactionId, name: &[u8], size: u64) -> Result<(), StoreError> {
-        let answer = match self.try_publish(id, name, size) {
-            Ok(()) => Ok(()),
-            Err(error) => Err(self.explained(error)),
-        };
-        self.counted(answer)
+        let done = self.try_publish(id, name, size);
+        self.answer(done)
     }
 
     fn discard(&mut self, id: TransactionId) -> Result<(), StoreError> {
-        let answer = self.store.discard(id);
-        self.counted(answer)
+        let done = self.parts.remove(id);
+        self.answer(done)
     }
 
     fn failures(&self) -> u64 {

@@ -23,6 +23,7 @@ mod inbox;
 mod laws;
 mod memory;
 mod outbox;
+mod parts;
 mod pieces;
 mod stored;
 

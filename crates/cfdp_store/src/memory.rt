@@ -142,20 +142,6 @@ impl MemoryInbox {
         StoreError::NoMemory
     }
 
-    /// Takes out the first `size` octets staged for a transaction, and lets the others go.
-    pub(crate) fn take_front(&mut self, id: TransactionId, size: u64) -> Result<Vec<u8>, AllocError>
-        ensures octets { IfOk result (λ octets. octets.items
-            ≡ front (staged_for (octets_for self.old.staged) id) size) }
-        ensures staged { octets_for self.new.staged id ≡ None }
-        ensures others { OthersKeep id (octets_for self.old.staged) (octets_for self.new.staged) }
-        ensures rest { (self.new.files ≡ self.old.files) × (self.new.failed ≡ self.old.failed) }
-    {
-        match self.staged.remove(&id) {
-            Some(pieces) => pieces.into_front(size),
-            None => Pieces::new(self.alloc).into_front(size),
-        }
-    }
-
     fn try_publish(&mut self, id: TransactionId, name: &[u8], size: u64) -> Result<(), AllocError>
         ensures ok { OnOk result (self.new.files ≡ map.insert self.old.files name.now
             (front (staged_for (octets_for self.old.staged) id) size)) }

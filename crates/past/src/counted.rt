@@ -1,0 +1,58 @@
+ghost use Rattle.std.specs.Prelude.{◌≡◌, ◌+◌, ◌<◌, ◌^◌, [], ◌∷◌, ◌++◌, length};
+
+use crate::Past;
+use std::marker::Model;
+
+/// What was put on a list, the latest last. The program keeps how many there were, and no more.
+#[derive(Drop)]
+pub struct Counted<T> {
+    past: Past<T>,
+    count: u64,
+}
+
+impl<T> Model for Counted<T> {
+    ghost use Rattle.std.specs.Prelude.{◌≡◌, List, length};
+
+    ghost Value = { List T };
+
+    ghost view = { λ c. c.past };
+
+    ghost invariant = { λ c. c.count ≡ length c.past };
+}
+
+impl<T> Counted<T> {
+    /// Nothing was put on it.
+    pub fn new() -> Self
+        ensures { result ≡ [] }
+    {
+        Counted {
+            past: Past::new(),
+            count: 0,
+        }
+    }
+
+    /// How many there were.
+    pub fn count(&self) -> u64
+        ensures { result ≡ length self.now }
+    {
+        self.count
+    }
+
+    /// Puts values on it, in turn, which 64 bits can count together with those before.
+    pub fn put_all(&mut self, values: &[T])
+        requires { length self.old + length values.now < 2 ^ 64 }
+        ensures { self.new ≡ self.old ++ values.now }
+    {
+        self.past.put_all(values);
+        self.count += values.len() as u64;
+    }
+
+    /// Puts a value on it.
+    pub fn put(&mut self, value: &T)
+        requires { length self.old + 1 < 2 ^ 64 }
+        ensures { self.new ≡ self.old ++ value.now ∷ [] }
+    {
+        self.past.put(value);
+        self.count += 1;
+    }
+}
