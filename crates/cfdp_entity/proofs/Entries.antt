@@ -5,7 +5,7 @@ use Rattle.std.specs.declared.alloc.Global.{Global}
 use Rattle.std.specs.FinMap.{empty, get}
 use Rattle.std.specs.List.{IsDistinct, AllByRecursion}
 use Rattle.std.specs.Map.{keys_of, values_of, lookup}
-use Rattle.std.proofs.lemmas.List.{map-append}
+use Rattle.std.proofs.lemmas.List.{map-append, append_assoc}
 use Rattle.std.specs.FinSet as set
 use Rattle.std.proofs.lemmas.Bool.{eq-eqb}
 use Rattle.std.proofs.lemmas.Map.Keys.{IsDistinct-head, IsDistinct-tail}
@@ -171,16 +171,20 @@ no_entry staged [] i none = refl
 no_entry staged (e ∷ es) zero none = absurd (cc)
 no_entry staged (e ∷ es) (suc n) none = no_entry staged es n none
 
+-- what is told stands behind what was let go, too
+told-behind : (past before told now : List Indication) → now ≡ before ++ told → past ++ now ≡ (past ++ before) ++ told
+told-behind past before told now is = ap (λ l. past ++ l) is ∙ sym (append_assoc past before told)
+
 -- ---- a step of the record at a place
-module _ (old : DeskState) (es : List (TransactionId × Record)) (flags : List Bool) (place : ℕ) where
+module _ (past : List Indication) (old : DeskState) (es : List (TransactionId × Record)) (flags : List Bool) (place : ℕ) where
   -- none is there
   pub state-nowhere : (step : DeskState → Seen → After) → None ≡ slice_get (values_of es) place
-      → state_of old es ≡ step_of (λ e. step old e.1) place (slice_get (entries_seen old.staged es) place) (state_of old es)
-  state-nowhere step none = ap (λ o. step_of (λ e. step old e.1) place o (state_of old es)) (sym (no_entry old.staged es place none))
+      → state_of past old es ≡ step_of (λ e. step old e.1) place (slice_get (entries_seen old.staged es) place) (state_of past old es)
+  state-nowhere step none = ap (λ o. step_of (λ e. step old e.1) place o (state_of past old es)) (sym (no_entry old.staged es place none))
 
   pub steps-nowhere : (step : DeskState → Seen → After) (Asks : (r s : ReceiverState) → (old new : ℕ) → Type 0) → None ≡ slice_get (values_of es) place
-      → Steps (step_of (λ e. step old e.1) place (slice_get (entries_seen old.staged es) place) (state_of old es)) (Counts Done)
-      (AsksOf Raises Asks (λ e. step old e.1) (slice_get (entries_seen old.staged es) place)) (roomy_of old es) (roomy_of old es)
+      → Steps (step_of (λ e. step old e.1) place (slice_get (entries_seen old.staged es) place) (state_of past old es)) (Counts Done)
+      (AsksOf Raises Asks (λ e. step old e.1) (slice_get (entries_seen old.staged es) place)) (roomy_of past old es) (roomy_of past old es)
   steps-nowhere step Asks none =
       let at : slice_get (entries_seen old.staged es) place ≡ None = no_entry old.staged es place none in
       record {
@@ -229,7 +233,7 @@ module _ (old : DeskState) (es : List (TransactionId × Record)) (flags : List B
 
       -- it is the table before, stepped there
       pub state-step : (step : DeskState → Seen → After) → Made step r r_now old new →
-          state_of new fs ≡ step_of (λ e. step old e.1) place (slice_get (entries_seen old.staged es) place) (state_of old es)
+          state_of past new fs ≡ step_of (λ e. step old e.1) place (slice_get (entries_seen old.staged es) place) (state_of past old es)
       state-step step does =
           let entries : entries_seen new.staged fs ≡ set_value_at (entries_seen old.staged es) place (step old (seen_as r r old)).seen =
           entries-become ∙ ap (set_value_at (entries_seen old.staged es) place) does.state in
@@ -237,16 +241,17 @@ module _ (old : DeskState) (es : List (TransactionId × Record)) (flags : List B
             records = entries i;
             now = (does.timers i).time;
             armed = (does.timers i).armed;
-            told = does.tells i;
+            told = told-behind past old.effects.told.items (step old (seen_as r r old)).told new.effects.told.items does.tells i;
+            gone = length past;
             files = does.files i;
             sources = stays.sources i;
             policy = stays.policy i;
           })
-          ∙ ap (λ o. step_of (λ e. step old e.1) place o (state_of old es)) (sym here)
+          ∙ ap (λ o. step_of (λ e. step old e.1) place o (state_of past old es)) (sym here)
 
       pub steps-there : (stored : Stored) (step : DeskState → Seen → After) (Asks : (r s : ReceiverState) → (old new : ℕ) → Type 0) → Made step r r_now old new → Asked stored Asks r r_now old new
-          → Steps (step_of (λ e. step old e.1) place (slice_get (entries_seen old.staged es) place) (state_of old es)) (Counts stored)
-          (AsksOf Raises Asks (λ e. step old e.1) (slice_get (entries_seen old.staged es) place)) (roomy_of old es) (roomy_of new fs)
+          → Steps (step_of (λ e. step old e.1) place (slice_get (entries_seen old.staged es) place) (state_of past old es)) (Counts stored)
+          (AsksOf Raises Asks (λ e. step old e.1) (slice_get (entries_seen old.staged es) place)) (roomy_of past old es) (roomy_of past new fs)
       steps-there stored step Asks does asked = record {
         state = state-step step does;
         counts = asked.counts;
@@ -256,7 +261,7 @@ module _ (old : DeskState) (es : List (TransactionId × Record)) (flags : List B
       }
 
       -- where a PDU found no memory, only its record may have changed
-      pub lacks-there : (v : Content) → Keeps v r r_now old new → LacksMemory place v (roomy_of old es) (roomy_of new fs)
+      pub lacks-there : (v : Content) → Keeps v r r_now old new → LacksMemory place v (roomy_of past old es) (roomy_of past new fs)
       lacks-there v keeps = record {
         spoiled = record {
           seen = seen_as r r_now new;
@@ -265,7 +270,8 @@ module _ (old : DeskState) (es : List (TransactionId × Record)) (flags : List B
             records = entries-become i;
             now = (keeps.timers i).time;
             armed = (keeps.timers i).armed;
-            told = keeps.tells i;
+            told = past ++ keeps.tells i;
+            gone = length past;
             files = keeps.files i;
             sources = stays.sources i;
             policy = stays.policy i;
@@ -281,20 +287,20 @@ module _ (old : DeskState) (es : List (TransactionId × Record)) (flags : List B
       -- the same by what a call answered
       module _ {E : Type 0} (answer : Result Stored E) (v : Content) (step : Stored → DeskState → Seen → After) (Asks : Stored → (r s : ReceiverState) → (old new : ℕ) → Type 0)
           (does : IfOk answer (λ s. Made (step s) r r_now old new)) (asked : IfOk answer (λ s. Asked s (Asks s) r r_now old new)) (keeps : OnErr answer (Keeps v r r_now old new)) where
-        pub answered : IfOk answer (λ s. Steps (step_of (λ e. step s old e.1) place (slice_get (entries_seen old.staged es) place) (state_of old es)) (Counts s)
-            (AsksOf Raises (Asks s) (λ e. step s old e.1) (slice_get (entries_seen old.staged es) place)) (roomy_of old es) (roomy_of new fs))
+        pub answered : IfOk answer (λ s. Steps (step_of (λ e. step s old e.1) place (slice_get (entries_seen old.staged es) place) (state_of past old es)) (Counts s)
+            (AsksOf Raises (Asks s) (λ e. step s old e.1) (slice_get (entries_seen old.staged es) place)) (roomy_of past old es) (roomy_of past new fs))
         answered = by answer does asked
           where
             by : (a : Result Stored E) → IfOk a (λ s. Made (step s) r r_now old new) → IfOk a (λ s. Asked s (Asks s) r r_now old new) →
-                IfOk a (λ s. Steps (step_of (λ e. step s old e.1) place (slice_get (entries_seen old.staged es) place) (state_of old es)) (Counts s)
-                (AsksOf Raises (Asks s) (λ e. step s old e.1) (slice_get (entries_seen old.staged es) place)) (roomy_of old es) (roomy_of new fs))
+                IfOk a (λ s. Steps (step_of (λ e. step s old e.1) place (slice_get (entries_seen old.staged es) place) (state_of past old es)) (Counts s)
+                (AsksOf Raises (Asks s) (λ e. step s old e.1) (slice_get (entries_seen old.staged es) place)) (roomy_of past old es) (roomy_of past new fs))
             by (Ok s) h k = steps-there s (step s) (Asks s) h k
             by (Err e) h k = tt
 
-        pub failed : OnErr answer (LacksMemory place v (roomy_of old es) (roomy_of new fs))
+        pub failed : OnErr answer (LacksMemory place v (roomy_of past old es) (roomy_of past new fs))
         failed = by answer keeps
           where
-            by : (a : Result Stored E) → OnErr a (Keeps v r r_now old new) → OnErr a (LacksMemory place v (roomy_of old es) (roomy_of new fs))
+            by : (a : Result Stored E) → OnErr a (Keeps v r r_now old new) → OnErr a (LacksMemory place v (roomy_of past old es) (roomy_of past new fs))
             by (Ok s) h = tt
             by (Err e) h = lacks-there v h
 
@@ -328,7 +334,7 @@ absent-apart (e ∷ es) id none =
       | false ↦ λ t n. (t, absent-apart es id n)
     ] refl none
 
-module _ (old new : DeskState) (es fs : List (TransactionId × Record)) (flags : List Bool) (id : TransactionId) (whole : IsWhole old es flags) (absent : lookup (same_id id) es ≡ None) (same : fs ≡ es)
+module _ (past : List Indication) (old new : DeskState) (es fs : List (TransactionId × Record)) (flags : List Bool) (id : TransactionId) (whole : IsWhole old es flags) (absent : lookup (same_id id) es ≡ None) (same : fs ≡ es)
     (widens : Widens id old new) where
   seen-kept : entries_seen new.staged fs ≡ entries_seen old.staged es
   seen-kept = ap (entries_seen new.staged) same ∙ seen-others old.staged new.staged old.sources id widens.others es (absent-apart es id absent)
@@ -347,13 +353,14 @@ module _ (old new : DeskState) (es fs : List (TransactionId × Record)) (flags :
     few = whole.few;
   })
 
-  pub becomes-kept : OpensNone old new → Becomes (state_of old es) (roomy_of old es) (roomy_of new fs)
+  pub becomes-kept : OpensNone old new → Becomes (state_of past old es) (roomy_of past old es) (roomy_of past new fs)
   becomes-kept none = record {
     state = λ i. record {
       records = seen-kept i;
       now = (none.timers i).time;
       armed = (none.timers i).armed;
-      told = none.tells i;
+      told = past ++ none.tells i;
+      gone = length past;
       files = none.files i;
       sources = widens.sources i;
       policy = widens.policy i;
@@ -378,38 +385,39 @@ module _ (old new : DeskState) (es fs : List (TransactionId × Record)) (flags :
       few = (let l = ap length added ∙ length-append fs ((id, r) ∷ []) in let m = ap length same in omega (arith, l, m));
     }
 
-    pub state-added : state_of new gs ≡ with_record id after (state_of old es)
+    pub state-added : state_of past new gs ≡ with_record id after (state_of past old es)
     state-added =
         let entries : entries_seen new.staged gs ≡ entries_seen old.staged es ++ (id, after.seen) ∷ [] = seen-added ∙ ap (λ s. entries_seen old.staged es ++ (id, s) ∷ []) opens.does.state in
         λ i. record {
           records = entries i;
           now = (opens.does.timers i).time;
           armed = (opens.does.timers i).armed;
-          told = opens.does.tells i;
+          told = told-behind past old.effects.told.items after.told new.effects.told.items opens.does.tells i;
+          gone = length past;
           files = opens.does.files i;
           sources = widens.sources i;
           policy = widens.policy i;
         }
 
 -- ---- room was made for what a step tells
-module _ (desk : DeskState) (told : Vec Indication Global) (same : told.items ≡ desk.effects.told.items) (es : List (TransactionId × Record)) where
+module _ (past : List Indication) (desk : DeskState) (told : Vec Indication Global) (same : told.items ≡ desk.effects.told.items) (es : List (TransactionId × Record)) where
   abbrev pub roomed : DeskState
   roomed = record desk { effects = record desk.effects { told = told } }
 
   pub whole-roomed : (flags : List Bool) → IsWhole desk es flags → IsWhole roomed es flags
   whole-roomed flags whole = record { distinct = whole.distinct; ready = whole.ready; flagged = whole.flagged; few = whole.few }
 
-  pub becomes-roomed : (after : TableState → TableState) (v w : Roomy) → roomy_of desk es ≡ v → Becomes (after (state_of roomed es)) (roomy_of roomed es) w → Becomes (after v.state) v w
+  pub becomes-roomed : (after : TableState → TableState) (v w : Roomy) → roomy_of past desk es ≡ v → Becomes (after (state_of past roomed es)) (roomy_of past roomed es) w → Becomes (after v.state) v w
   becomes-roomed after v w is becomes = subst (λ (v : Roomy). Becomes (after v.state) v w) is
-      (record { state = becomes.state ∙ ap (λ l. after (record (state_of desk es) { told = l })) same; inbox = becomes.inbox; outbox = becomes.outbox })
+      (record { state = becomes.state ∙ ap (λ l. after (record (state_of past desk es) { told = past ++ l })) same; inbox = becomes.inbox; outbox = becomes.outbox })
 
-  pub steps-roomed : (after : TableState → TableState) (Counted : (before after : ℕ) → Type 0) (Asks : TableState → (before after : ℕ) → Type 0) (v w : Roomy) → roomy_of desk es ≡ v →
-      Steps (after (state_of roomed es)) Counted (Asks (state_of roomed es)) (roomy_of roomed es) w → Steps (after v.state) Counted (Asks v.state) v w
+  pub steps-roomed : (after : TableState → TableState) (Counted : (before after : ℕ) → Type 0) (Asks : TableState → (before after : ℕ) → Type 0) (v w : Roomy) → roomy_of past desk es ≡ v →
+      Steps (after (state_of past roomed es)) Counted (Asks (state_of past roomed es)) (roomy_of past roomed es) w → Steps (after v.state) Counted (Asks v.state) v w
   steps-roomed after Counted Asks v w is steps = subst (λ (v : Roomy). Steps (after v.state) Counted (Asks v.state) v w) is
       (record {
-        state = steps.state ∙ ap (λ l. after (record (state_of desk es) { told = l })) same;
+        state = steps.state ∙ ap (λ l. after (record (state_of past desk es) { told = past ++ l })) same;
         counts = steps.counts;
-        raises = subst (λ l. Asks (record (state_of desk es) { told = l }) desk.inbox_failures w.inbox_failures) same steps.raises;
+        raises = subst (λ l. Asks (record (state_of past desk es) { told = past ++ l }) desk.inbox_failures w.inbox_failures) same steps.raises;
         outbox = steps.outbox;
       })
 

@@ -1,12 +1,12 @@
 -- Flags of places as bits of words.
-use Rattle.std.proofs.Common.{◌≡◌, ℕ, zero, suc, ◌+◌, ◌*◌, ◌/◌, ◌%◌, ◌<◌, ◌≤◌, ◌==◌, ◌++◌, ◌∷◌, [], drop, Bool, true, false, cond, not, List, length, get_or, position, Some, None, refl, sym, ap, subst, ◌∙◌, arith, ⊎_elim}
+use Rattle.std.proofs.Common.{◌≡◌, ℕ, zero, suc, ◌+◌, ◌*◌, ◌/◌, ◌%◌, ◌<◌, ◌≤◌, ◌==◌, ◌++◌, ◌∷◌, [], take, drop, inl, inr, Bool, true, false, cond, not, List, length, get_or, position, Some, None, refl, sym, ap, subst, ◌∙◌, arith, ⊎_elim}
 use Rattle.std.proofs.lemmas.Bool.Decides.{nat_tests}
 use Rattle.std.specs.Prelude.{slice_set}
 use Rattle.std.specs.Int.{bit_at}
 use Rattle.std.specs.Option.{option_map}
 use Rattle.std.proofs.Math.ListN.{replicate}
 use Rattle.std.proofs.lemmas.Bool.{cases_lt, cases_order, cases_eq}
-use Rattle.std.proofs.lemmas.List.{get_or_past, get_or-replicate, get_or-set_same, get_or-set_other, length-set, length-replicate, ext_get_or, set_at}
+use Rattle.std.proofs.lemmas.List.{get_or_past, take-append-le, take_all, get_or-replicate, get_or-set_same, get_or-set_other, length-set, length-replicate, ext_get_or, set_at}
 use Rattle.std.proofs.lemmas.List.FromFn.{length-map-range_with_len, get_or-map-range_with_len, map-range_with_len_more}
 use Rattle.std.proofs.lemmas.Nat.Bits.{bit_at-zero}
 use Rattle.cfdp_entity.specs.Ready.{is_set, flags_in, IsIndexed}
@@ -189,3 +189,30 @@ module _ (n : ℕ) (words : List ℕ) (some : ℕ) (is : IsIndexed n words some)
         ∙ sym (ap (λ i. get_or (slice_set (flags_in n words) place due) i false) same ∙ get_or-set_same (flags_in n words) place due false (omega arith)))
         (λ apart. flag-is n after marks set-indexed k ∙ other-set k apart ∙ sym (get_or-set_other (flags_in n words) place k due false apart ∙ flag-is n words some is k))
         (cases_eq k place))
+
+-- ---- one place less
+pub shorter-flags : (n : ℕ) (words : List ℕ) → flags_in (n + 1) words ≡ flags_in n words ++ is_set words n ∷ []
+unfolding flags_in
+shorter-flags n words = map-range_with_len_more (is_set words) 0 n n (omega arith)
+
+pub taken-flags : (n m : ℕ) (words : List ℕ) → n ≡ m + 1 → flags_in m words ≡ take m (flags_in n words)
+taken-flags n m words is =
+    let len = length-flags m words in
+    sym (ap (λ k. take m (flags_in k words)) is ∙ ap (take m) (shorter-flags m words) ∙ take-append-le m (flags_in m words) (is_set words m ∷ []) (omega (arith, len)) ∙ take_all m (flags_in m words) (omega (arith, len)))
+
+pub shorter-indexed : (n m : ℕ) (words : List ℕ) (some : ℕ) → n ≡ m + 1 → IsIndexed n words some → is_set words m ≡ false → IsIndexed m words some
+shorter-indexed n m words some is indexed clear =
+    let few = indexed.few in
+    record {
+      few = omega (arith, few, is);
+      whole = indexed.whole;
+      rest = λ k l. elim (cases_lt m k) [
+        | inl past ↦ indexed.rest k (omega (arith, past, is))
+        | inr at ↦ ap (is_set words) (same k m l at) ∙ clear
+      ];
+      marked = indexed.marked;
+      skipped = indexed.skipped;
+    }
+  where
+    same : (k m : ℕ) → m ≤ k → k ≤ m → k ≡ m
+    same k m l at = omega (arith, l, at)

@@ -1,5 +1,5 @@
 -- Exported: what every step of a table keeps.
-use Rattle.std.proofs.Common.{◌≡◌, ◌≢◌, ℕ, zero, suc, ◌+◌, ◌<◌, ◌≤◌, Bool, true, false, not, cond, List, [], ◌∷◌, ◌++◌, take, length, slice_get, Option, Some, None, refl, sym, ap, subst, ◌∙◌, arith}
+use Rattle.std.proofs.Common.{◌≡◌, ◌≢◌, ℕ, zero, suc, ◌+◌, ◌<◌, ◌≤◌, Bool, true, false, not, cond, ◌||◌, List, [], ◌∷◌, ◌++◌, take, length, remove, slice_get, Option, Some, None, refl, sym, ap, subst, ◌∙◌, arith}
 use Rattle.std.specs.FinMap.{empty}
 use Rattle.std.specs.List.{IsDistinct, AllByRecursion, position_or_len}
 use Rattle.std.proofs.lemmas.List.{append-nil}
@@ -44,7 +44,7 @@ use Rattle.cfdp_entity.specs.Steps.{After, by_sender, by_receiver, no_step, hear
 use Rattle.cfdp_entity.specs.Steps as steps
 use Rattle.cfdp_entity.specs.Opening.{puts, opens, opens_by, begins, closing}
 use Rattle.cfdp_entity.specs.Table.{Entry, TableState, place_of, record_of, step_of, step_at, with_record, expired_in, expired, all_expired, at_time, Ticks, SpoiledAt}
-use Rattle.cfdp_entity.specs.History.{TableStep, Hears, Spoils, Expires, Calls, Takes, Puts, Opens, Tells, Fires, table_step, table_run, MayHappen, MayRun, Leads, GoesOn, KeepsRecords, sender_open_count, open_in, open_of, FinishesOnce}
+use Rattle.cfdp_entity.specs.History.{TableStep, Hears, Spoils, Expires, Calls, Takes, Puts, Opens, Tells, Fires, table_step, table_run, MayHappen, MayRun, Leads, GoesOn, KeepsRecords, OpensOther, sender_open_count, open_in, open_of, may_finish, also, none_gone, FinishesOnce}
 use Rattle.cfdp_entity.proofs.Entries.{keys_set}
 use Rattle.cfdp_entity.proofs.Places.{position-none}
 use Rattle.cfdp_entity.proofs.CallerLemmas.{same_id-true, same_id-symm, step-own, step-other, push-own, push-other}
@@ -281,12 +281,31 @@ distinct-push [] id s apart none = (tt, tt)
 distinct-push (x ∷ xs) id s apart none = (all-push id x.0 s xs apart.0 (same_id-symm id x.0 none.0), distinct-push xs id s apart.1 none.1)
 
 -- ---- the invariant over one step
-module _ (xs : List Entry) (told : List Indication) (place : ℕ) (e : Entry) (at : slice_get xs place ≡ Some e) (a : After) (b : Behaves e.1 a) (was : FinishesOnce xs told) where
-  set-once : FinishesOnce (set_value_at xs place a.seen) (told ++ a.told)
+-- no more may be told of a transaction than its record lets be told
+may-same : (gone : TransactionId → Bool) (id : TransactionId) (xs ys : List Entry) → open_of (record_of id ys) ≡ open_of (record_of id xs) → may_finish gone id ys ≡ may_finish gone id xs
+may-same gone id xs ys same = ap (λ n. cond (gone id) 0 n) same
+
+may-known : (gone : TransactionId → Bool) (id : TransactionId) (xs : List Entry) → gone id ≡ false → may_finish gone id xs ≡ open_of (record_of id xs)
+may-known gone id xs unknown = ap (λ b. cond b 0 (open_of (record_of id xs))) unknown
+
+-- a transaction that has a record wasn't let go
+known-at : (gone : TransactionId → Bool) (xs : List Entry) (id : TransactionId) (s : Seen) → ((q : TransactionId) → gone q ≡ true → record_of q xs ≡ None) → record_of id xs ≡ Some s → gone id ≡ false
+known-at gone xs id s apart there = by (gone id) refl
+  where
+    by : (b : Bool) → gone id ≡ b → gone id ≡ false
+    by true is = let none = apart id is in absurd (cc (sym there ∙ none))
+    by false is = is
+
+module _ (gone : TransactionId → Bool) (xs : List Entry) (told : List Indication) (place : ℕ) (e : Entry) (at : slice_get xs place ≡ Some e) (a : After) (b : Behaves e.1 a) (was : FinishesOnce gone xs told) where
+  set-once : FinishesOnce gone (set_value_at xs place a.seen) (told ++ a.told)
   set-once = record {
     distinct = subst (IsDistinct same_id) (sym (keys_set xs place a.seen)) was.distinct;
     own = own-set xs place e a.seen at (same-id e.1 a.seen b.goes_on ∙ was.own place e at) was.own;
-    once = λ id. elim (same_id id e.0) as (λ t. same_id id e.0 ≡ t → finished_count id (told ++ a.told) + open_of (record_of id (set_value_at xs place a.seen)) ≤ 1) [
+    apart = λ id is. elim (same_id id e.0) as (λ t. same_id id e.0 ≡ t → record_of id (set_value_at xs place a.seen) ≡ None) [
+      | true ↦ λ t. absurd (cc (sym is ∙ ap gone (same_id-true id e.0 t) ∙ known))
+      | false ↦ λ t. step-other xs place e.0 id a.seen key t ∙ was.apart id is
+    ] refl;
+    once = λ id. elim (same_id id e.0) as (λ t. same_id id e.0 ≡ t → finished_count id (told ++ a.told) + may_finish gone id (set_value_at xs place a.seen) ≤ 1) [
       | true ↦ λ t. mine id (same_id-true id e.0 t)
       | false ↦ λ t. other id t
     ] refl;
@@ -301,79 +320,161 @@ module _ (xs : List Entry) (told : List Indication) (place : ℕ) (e : Entry) (a
       old : record_of e.0 xs ≡ Some e.1
       old = ap (record_of e.0) (sym (set-itself xs place e at)) ∙ step-own xs place e e.1 was.distinct key
 
-      mine-here : finished_count e.0 (told ++ a.told) + open_of (record_of e.0 (set_value_at xs place a.seen)) ≤ 1
+      known : gone e.0 ≡ false
+      known = known-at gone xs e.0 e.1 was.apart old
+
+      mine-here : finished_count e.0 (told ++ a.told) + may_finish gone e.0 (set_value_at xs place a.seen) ≤ 1
       mine-here =
           let split : finished_count e.0 (told ++ a.told) ≡ finished_count e.0 told + finished_count e.0 a.told = finished-append e.0 told a.told in
-          let now : open_of (record_of e.0 (set_value_at xs place a.seen)) ≡ open_in a.seen = ap open_of (step-own xs place e a.seen was.distinct key) in
-          let before : open_of (record_of e.0 xs) ≡ open_in e.1 = ap open_of old in
+          let now : may_finish gone e.0 (set_value_at xs place a.seen) ≡ open_in a.seen = may-known gone e.0 (set_value_at xs place a.seen) known ∙ ap open_of (step-own xs place e a.seen was.distinct key) in
+          let before : may_finish gone e.0 xs ≡ open_in e.1 = may-known gone e.0 xs known ∙ ap open_of old in
           let step : finished_count e.0 a.told + open_in a.seen ≤ open_in e.1 = subst (λ id. finished_count id a.told + open_in a.seen ≤ open_in e.1) own_id b.once in
           let all = was.once e.0 in
           omega (arith, split, now, before, step, all)
 
-      mine : (id : TransactionId) → id ≡ e.0 → finished_count id (told ++ a.told) + open_of (record_of id (set_value_at xs place a.seen)) ≤ 1
-      mine id is = subst (λ q. finished_count q (told ++ a.told) + open_of (record_of q (set_value_at xs place a.seen)) ≤ 1) (sym is) mine-here
+      mine : (id : TransactionId) → id ≡ e.0 → finished_count id (told ++ a.told) + may_finish gone id (set_value_at xs place a.seen) ≤ 1
+      mine id is = subst (λ q. finished_count q (told ++ a.told) + may_finish gone q (set_value_at xs place a.seen) ≤ 1) (sym is) mine-here
 
-      other : (id : TransactionId) → same_id id e.0 ≡ false → finished_count id (told ++ a.told) + open_of (record_of id (set_value_at xs place a.seen)) ≤ 1
+      other : (id : TransactionId) → same_id id e.0 ≡ false → finished_count id (told ++ a.told) + may_finish gone id (set_value_at xs place a.seen) ≤ 1
       other id apart =
           let split : finished_count id (told ++ a.told) ≡ finished_count id told + finished_count id a.told = finished-append id told a.told in
           let none : finished_count id a.told ≡ 0 = b.own id (ap (λ (k : TransactionId). same_id k id) own_id ∙ same_id-symm id e.0 apart) in
-          let now : open_of (record_of id (set_value_at xs place a.seen)) ≡ open_of (record_of id xs) = ap open_of (step-other xs place e.0 id a.seen key apart) in
+          let now : may_finish gone id (set_value_at xs place a.seen) ≡ may_finish gone id xs = may-same gone id xs (set_value_at xs place a.seen) (ap open_of (step-other xs place e.0 id a.seen key apart)) in
           let all = was.once id in
           omega (arith, split, none, now, all)
 
-module _ (xs : List Entry) (told : List Indication) (id : TransactionId) (a : After) (none : place_of id xs ≡ None) (is : (addressing_of a.seen).id ≡ id)
+module _ (gone : TransactionId → Bool) (xs : List Entry) (told : List Indication) (id : TransactionId) (a : After) (none : place_of id xs ≡ None) (unknown : gone id ≡ false) (is : (addressing_of a.seen).id ≡ id)
     (once_only : finished_count id a.told + open_in a.seen ≤ 1)
-    (own_only : (other : TransactionId) → same_id id other ≡ false → finished_count other a.told ≡ 0) (was : FinishesOnce xs told) where
-  push-once : FinishesOnce (xs ++ (id, a.seen) ∷ []) (told ++ a.told)
+    (own_only : (other : TransactionId) → same_id id other ≡ false → finished_count other a.told ≡ 0) (was : FinishesOnce gone xs told) where
+  push-once : FinishesOnce gone (xs ++ (id, a.seen) ∷ []) (told ++ a.told)
   push-once = record {
     distinct = distinct-push xs id a.seen was.distinct (no-record xs id none).1;
     own = own-push xs id a.seen is was.own;
-    once = λ q. elim (same_id q id) as (λ t. same_id q id ≡ t → finished_count q (told ++ a.told) + open_of (record_of q (xs ++ (id, a.seen) ∷ [])) ≤ 1) [
+    apart = λ q there. elim (same_id q id) as (λ t. same_id q id ≡ t → record_of q (xs ++ (id, a.seen) ∷ []) ≡ None) [
+      | true ↦ λ t. absurd (cc (sym there ∙ ap gone (same_id-true q id t) ∙ unknown))
+      | false ↦ λ t. push-other xs id q a.seen t ∙ was.apart q there
+    ] refl;
+    once = λ q. elim (same_id q id) as (λ t. same_id q id ≡ t → finished_count q (told ++ a.told) + may_finish gone q (xs ++ (id, a.seen) ∷ []) ≤ 1) [
       | true ↦ λ t. mine q (same_id-true q id t)
       | false ↦ λ t. other q t
     ] refl;
   }
     where
-      mine-here : finished_count id (told ++ a.told) + open_of (record_of id (xs ++ (id, a.seen) ∷ [])) ≤ 1
+      mine-here : finished_count id (told ++ a.told) + may_finish gone id (xs ++ (id, a.seen) ∷ []) ≤ 1
       mine-here =
           let split : finished_count id (told ++ a.told) ≡ finished_count id told + finished_count id a.told = finished-append id told a.told in
-          let now : open_of (record_of id (xs ++ (id, a.seen) ∷ [])) ≡ open_in a.seen = ap open_of (push-own xs id a.seen (no-record xs id none).0) in
-          let before : open_of (record_of id xs) ≡ 1 = ap open_of (no-record xs id none).0 in
+          let now : may_finish gone id (xs ++ (id, a.seen) ∷ []) ≡ open_in a.seen = may-known gone id (xs ++ (id, a.seen) ∷ []) unknown ∙ ap open_of (push-own xs id a.seen (no-record xs id none).0) in
+          let before : may_finish gone id xs ≡ 1 = may-known gone id xs unknown ∙ ap open_of (no-record xs id none).0 in
           let all = was.once id in
           omega (arith, split, now, before, once_only, all)
 
-      mine : (q : TransactionId) → q ≡ id → finished_count q (told ++ a.told) + open_of (record_of q (xs ++ (id, a.seen) ∷ [])) ≤ 1
-      mine q same = subst (λ k. finished_count k (told ++ a.told) + open_of (record_of k (xs ++ (id, a.seen) ∷ [])) ≤ 1) (sym same) mine-here
+      mine : (q : TransactionId) → q ≡ id → finished_count q (told ++ a.told) + may_finish gone q (xs ++ (id, a.seen) ∷ []) ≤ 1
+      mine q same = subst (λ k. finished_count k (told ++ a.told) + may_finish gone k (xs ++ (id, a.seen) ∷ []) ≤ 1) (sym same) mine-here
 
-      other : (q : TransactionId) → same_id q id ≡ false → finished_count q (told ++ a.told) + open_of (record_of q (xs ++ (id, a.seen) ∷ [])) ≤ 1
+      other : (q : TransactionId) → same_id q id ≡ false → finished_count q (told ++ a.told) + may_finish gone q (xs ++ (id, a.seen) ∷ []) ≤ 1
       other q apart =
           let split : finished_count q (told ++ a.told) ≡ finished_count q told + finished_count q a.told = finished-append q told a.told in
           let nothing : finished_count q a.told ≡ 0 = own_only q (same_id-symm q id apart) in
-          let now : open_of (record_of q (xs ++ (id, a.seen) ∷ [])) ≡ open_of (record_of q xs) = ap open_of (push-other xs id q a.seen apart) in
+          let now : may_finish gone q (xs ++ (id, a.seen) ∷ []) ≡ may_finish gone q xs = may-same gone q xs (xs ++ (id, a.seen) ∷ []) (ap open_of (push-other xs id q a.seen apart)) in
           let all = was.once q in
           omega (arith, split, nothing, now, all)
 
--- ---- steps
--- what a step comes to, with what it keeps
-pub record Kept (old new : TableState) : Type 0 where
-  pub records : KeepsRecords old.records new.records
-  pub once : FinishesOnce old.records old.told → FinishesOnce new.records new.told
+-- ---- a record that is let go
+all-left : (P : TransactionId → Type 0) (xs : List Entry) (place : ℕ) → AllByRecursion P (keys_of xs) → AllByRecursion P (keys_of (remove xs place))
+all-left P [] zero all = all
+all-left P [] (suc n) all = all
+all-left P (x ∷ xs) zero all = all.1
+all-left P (x ∷ xs) (suc n) all = (all.0, all-left P xs n all.1)
 
-pub kept-then : (s t u : TableState) → Kept s t → Kept t u → Kept s u
-kept-then s t u a b = record { records = keeps-then s.records t.records u.records a.records b.records; once = λ w. b.once (a.once w) }
+distinct-left : (xs : List Entry) (place : ℕ) → IsDistinct same_id (keys_of xs) → IsDistinct same_id (keys_of (remove xs place))
+unfolding IsDistinct
+distinct-left [] zero d = d
+distinct-left [] (suc n) d = d
+distinct-left (x ∷ xs) zero d = d.1
+distinct-left (x ∷ xs) (suc n) d = (all-left (λ y. same_id x.0 y ≡ false) xs n d.0, distinct-left xs n d.1)
 
-pub kept-itself : (s : TableState) → Kept s s
-kept-itself s = record { records = keeps-all s.records; once = λ w. w }
+-- each record that is left was there
+pub was-there : (xs : List Entry) (place p : ℕ) (d : Entry) → slice_get (remove xs place) p ≡ Some d → (q : ℕ) × (slice_get xs q ≡ Some d)
+was-there [] zero p d at = absurd cc
+was-there [] (suc n) p d at = absurd cc
+was-there (x ∷ xs) zero p d at = (suc p, at)
+was-there (x ∷ xs) (suc n) zero d at = (zero, at)
+was-there (x ∷ xs) (suc n) (suc p) d at = let rest = was-there xs n p d at in (suc rest.0, rest.1)
 
-module _ (f : Entry → After) (behaves : (e : Entry) → Behaves e.1 (f e)) (place : ℕ) (st : TableState) where
-  kept-of : (o : Option Entry) → slice_get st.records place ≡ o → Kept st (step_of f place o st)
-  kept-of None at = kept-itself st
-  kept-of (Some e) at = record {
-    records = keeps-set st.records place e (f e).seen at (behaves e).goes_on;
-    once = set-once st.records st.told place e at (f e) (behaves e);
+key-among : (P : TransactionId → Type 0) (xs : List Entry) (place : ℕ) (e : Entry) → AllByRecursion P (keys_of xs) → slice_get xs place ≡ Some e → P e.0
+key-among P [] place e all at = absurd cc
+key-among P (x ∷ xs) zero e all at = let is : x ≡ e = cc in subst (λ (y : Entry). P y.0) is all.0
+key-among P (x ∷ xs) (suc n) e all at = key-among P xs n e all.1 at
+
+none-among : (id : TransactionId) (xs : List Entry) → AllByRecursion (λ y. same_id id y ≡ false) (keys_of xs) → record_of id xs ≡ None
+none-among id [] all = refl
+none-among id (x ∷ xs) all = ap (λ b. cond b (Some x.1) (record_of id xs)) all.0 ∙ none-among id xs all.1
+
+pub left-own : (xs : List Entry) (place : ℕ) (e : Entry) → IsDistinct same_id (keys_of xs) → slice_get xs place ≡ Some e → record_of e.0 (remove xs place) ≡ None
+unfolding IsDistinct
+left-own [] place e d at = absurd cc
+left-own (x ∷ xs) zero e d at =
+    let is : x ≡ e = cc in
+    none-among e.0 xs (subst (λ (y : Entry). AllByRecursion (λ z. same_id y.0 z ≡ false) (keys_of xs)) is d.0)
+left-own (x ∷ xs) (suc n) e d at =
+    let other : same_id e.0 x.0 ≡ false = same_id-symm x.0 e.0 (key-among (λ y. same_id x.0 y ≡ false) xs n e d.0 at) in
+    ap (λ b. cond b (Some x.1) (record_of e.0 (remove xs n))) other ∙ left-own xs n e d.1 at
+
+pub left-other : (xs : List Entry) (place : ℕ) (e : Entry) (q : TransactionId) → slice_get xs place ≡ Some e → same_id q e.0 ≡ false → record_of q (remove xs place) ≡ record_of q xs
+left-other [] place e q at apart = absurd cc
+left-other (x ∷ xs) zero e q at apart =
+    let is : x ≡ e = cc in
+    sym (ap (λ b. cond b (Some x.1) (record_of q xs)) (ap (λ (y : Entry). same_id q y.0) is ∙ apart))
+left-other (x ∷ xs) (suc n) e q at apart = ap (cond (same_id q x.0) (Some x.1)) (left-other xs n e q at apart)
+
+module _ (gone : TransactionId → Bool) (xs : List Entry) (told : List Indication) (place : ℕ) (e : Entry) (at : slice_get xs place ≡ Some e) (over : open_in e.1 ≡ 0) (was : FinishesOnce gone xs told) where
+  left-apart : (q : TransactionId) → also e.0 gone q ≡ true → record_of q (remove xs place) ≡ None
+  left-apart q there = elim (same_id q e.0) as (λ t. same_id q e.0 ≡ t → record_of q (remove xs place) ≡ None) [
+    | true ↦ λ t. subst (λ k. record_of k (remove xs place) ≡ None) (sym (same_id-true q e.0 t)) (left-own xs place e was.distinct at)
+    | false ↦ λ t. left-other xs place e q at t ∙ was.apart q (sym (ap (λ b. b || gone q) t) ∙ there)
+  ] refl
+
+  left-once : (q : TransactionId) → finished_count q told + may_finish (also e.0 gone) q (remove xs place) ≤ 1
+  left-once q = elim (same_id q e.0) as (λ t. same_id q e.0 ≡ t → finished_count q told + may_finish (also e.0 gone) q (remove xs place) ≤ 1) [
+    | true ↦ λ t. (
+        let now : may_finish (also e.0 gone) q (remove xs place) ≡ 0 = ap (λ b. cond (b || gone q) 0 (open_of (record_of q (remove xs place)))) t in
+        let all = was.once q in
+        omega (arith, now, all))
+    | false ↦ λ t. (
+        let now : may_finish (also e.0 gone) q (remove xs place) ≡ may_finish gone q xs = λ i. cond (t i || gone q) 0 (open_of (left-other xs place e q at t i)) in
+        let all = was.once q in
+        omega (arith, now, all))
+  ] refl
+
+  pub let-go : FinishesOnce (also e.0 gone) (remove xs place) told
+  let-go = record {
+    distinct = distinct-left xs place was.distinct;
+    own = λ p d h. (let before = was-there xs place p d h in was.own before.0 d before.1);
+    apart = left-apart;
+    once = left-once;
   }
 
-  kept-at : Kept st (step_at f place st)
+-- ---- steps
+-- what a step comes to, with what it keeps
+pub record Kept (gone : TransactionId → Bool) (old new : TableState) : Type 0 where
+  pub records : KeepsRecords old.records new.records
+  pub once : FinishesOnce gone old.records old.told → FinishesOnce gone new.records new.told
+
+pub kept-then : (gone : TransactionId → Bool) (s t u : TableState) → Kept gone s t → Kept gone t u → Kept gone s u
+kept-then gone s t u a b = record { records = keeps-then s.records t.records u.records a.records b.records; once = λ w. b.once (a.once w) }
+
+pub kept-itself : (gone : TransactionId → Bool) (s : TableState) → Kept gone s s
+kept-itself gone s = record { records = keeps-all s.records; once = λ w. w }
+
+module _ (gone : TransactionId → Bool) (f : Entry → After) (behaves : (e : Entry) → Behaves e.1 (f e)) (place : ℕ) (st : TableState) where
+  kept-of : (o : Option Entry) → slice_get st.records place ≡ o → Kept gone st (step_of f place o st)
+  kept-of None at = kept-itself gone st
+  kept-of (Some e) at = record {
+    records = keeps-set st.records place e (f e).seen at (behaves e).goes_on;
+    once = set-once gone st.records st.told place e at (f e) (behaves e);
+  }
+
+  kept-at : Kept gone st (step_at f place st)
   kept-at = kept-of (slice_get st.records place) refl
 
 -- a place without a record takes none
@@ -411,55 +512,68 @@ module _ (laws : Machines) (openings : Openings) (policy : Policy) (files : File
   pub opens-so : (begun stored : Stored) (large : Bool) (v : Content) → OpensOnce a (opens begun stored policy.times files large v a)
   opens-so begun stored large v = opens-once (closing v) begun stored large v
 
-kept-push : (a : Addressing) (after : After) (st : TableState) → place_of a.id st.records ≡ None → OpensOnce a after → Kept st (with_record a.id after st)
-kept-push a after st none o = record {
+kept-push : (gone : TransactionId → Bool) (a : Addressing) (after : After) (st : TableState) → place_of a.id st.records ≡ None → gone a.id ≡ false → OpensOnce a after → Kept gone st (with_record a.id after st)
+kept-push gone a after st none unknown o = record {
   records = keeps-push st.records ((a.id, after.seen) ∷ []);
-  once = push-once st.records st.told a.id after none o.is o.once o.own;
+  once = push-once gone st.records st.told a.id after none unknown o.is o.once o.own;
 }
 
-module _ (laws : Machines) (openings : Openings) where
-  kept-expired : (t : Timer) (st : TableState) → Kept st (expired t st)
+module _ (laws : Machines) (openings : Openings) (gone : TransactionId → Bool) where
+  kept-expired : (t : Timer) (st : TableState) → Kept gone st (expired t st)
   kept-expired t st = by (place_of t.0 st.records)
     where
-      by : (o : Option ℕ) → Kept st (expired_in o t.1 st)
-      by None = kept-itself st
-      by (Some place) = kept-at (λ e. expires st.policy st.files t.1 e.1) (λ e. expires-so laws st.policy st.files t.1 e.1) place st
+      by : (o : Option ℕ) → Kept gone st (expired_in o t.1 st)
+      by None = kept-itself gone st
+      by (Some place) = kept-at gone (λ e. expires st.policy st.files t.1 e.1) (λ e. expires-so laws st.policy st.files t.1 e.1) place st
 
-  kept-fired : (timers : List Timer) (st : TableState) → Kept st (all_expired timers st)
+  kept-fired : (timers : List Timer) (st : TableState) → Kept gone st (all_expired timers st)
   unfolding all_expired
-  kept-fired [] st = kept-itself st
-  kept-fired (t ∷ timers) st = kept-then st (expired t st) (all_expired timers (expired t st)) (kept-expired t st) (kept-fired timers (expired t st))
+  kept-fired [] st = kept-itself gone st
+  kept-fired (t ∷ timers) st = kept-then gone st (expired t st) (all_expired timers (expired t st)) (kept-expired t st) (kept-fired timers (expired t st))
 
   kept-spoiled : (place : ℕ) (v : Content) (noted : Seen) (st : TableState) → ((e : Entry) → slice_get st.records place ≡ Some e → steps.Spoils v e.1 noted) →
-      Kept st (record st { records = set_value_at st.records place noted })
+      Kept gone st (record st { records = set_value_at st.records place noted })
   kept-spoiled place v noted st may = by (slice_get st.records place) refl
     where
-      by : (o : Option Entry) → slice_get st.records place ≡ o → Kept st (record st { records = set_value_at st.records place noted })
+      by : (o : Option Entry) → slice_get st.records place ≡ o → Kept gone st (record st { records = set_value_at st.records place noted })
       by None none = let same : set_value_at st.records place noted ≡ st.records = set-nowhere st.records place noted none in
-          subst (λ (l : List Entry). Kept st (record st { records = l })) (sym same) (kept-itself st)
+          subst (λ (l : List Entry). Kept gone st (record st { records = l })) (sym same) (kept-itself gone st)
       by (Some e) at =
           let b : Behaves e.1 (no_step st.files noted) = spoils-so laws st.policy st.files v e.1 noted (may e at) in
           record {
             records = keeps-set st.records place e noted at b.goes_on;
-            once = λ w. subst (λ (l : List Indication). FinishesOnce (set_value_at st.records place noted) l) (append-nil st.told)
-                (set-once st.records st.told place e at (no_step st.files noted) b w);
+            once = λ w. subst (λ (l : List Indication). FinishesOnce gone (set_value_at st.records place noted) l) (append-nil st.told)
+                (set-once gone st.records st.told place e at (no_step st.files noted) b w);
           }
 
-  pub kept-step : (s : TableStep) (st : TableState) → MayHappen s st → Kept st (table_step s st)
-  kept-step (Hears stored place large v) st may = kept-at (λ e. hears stored st.policy.times st.files large v e.1) (λ e. hears-so laws st.policy st.files stored large v e.1) place st
-  kept-step (Spoils place v noted) st may = kept-spoiled place v noted st may
-  kept-step (Expires place k) st may = kept-at (λ e. expires st.policy st.files k e.1) (λ e. expires-so laws st.policy st.files k e.1) place st
-  kept-step (Calls place c) st may = kept-at (λ e. calls st.policy.times st.files c e.1) (λ e. calls-so laws st.policy st.files c e.1) place st
-  kept-step (Takes stored place) st may = kept-at (λ e. takes stored st.policy.times st.sources st.files e.1) (λ e. takes-so laws st.policy st.files stored st.sources e.1) place st
-  kept-step (Puts t) st may = kept-push t.addressing (puts st.files t) st may (puts-once st.files t)
-  kept-step (Opens begun stored a large v) st may = kept-push a (opens begun stored st.policy.times st.files large v a) st may (opens-so laws openings st.policy st.files a begun stored large v)
-  kept-step (Tells now) st may = record { records = keeps-all st.records; once = λ w. w }
-  kept-step (Fires timers) st may = kept-fired timers st
+  pub kept-step : (s : TableStep) (st : TableState) → MayHappen s st → OpensOther gone s → Kept gone st (table_step s st)
+  kept-step (Hears stored place large v) st may other = kept-at gone (λ e. hears stored st.policy.times st.files large v e.1) (λ e. hears-so laws st.policy st.files stored large v e.1) place st
+  kept-step (Spoils place v noted) st may other = kept-spoiled place v noted st may
+  kept-step (Expires place k) st may other = kept-at gone (λ e. expires st.policy st.files k e.1) (λ e. expires-so laws st.policy st.files k e.1) place st
+  kept-step (Calls place c) st may other = kept-at gone (λ e. calls st.policy.times st.files c e.1) (λ e. calls-so laws st.policy st.files c e.1) place st
+  kept-step (Takes stored place) st may other = kept-at gone (λ e. takes stored st.policy.times st.sources st.files e.1) (λ e. takes-so laws st.policy st.files stored st.sources e.1) place st
+  kept-step (Puts t) st may other = kept-push gone t.addressing (puts st.files t) st may other (puts-once st.files t)
+  kept-step (Opens begun stored a large v) st may other = kept-push gone a (opens begun stored st.policy.times st.files large v a) st may other (opens-so laws openings st.policy st.files a begun stored large v)
+  kept-step (Tells now) st may other = record { records = keeps-all st.records; once = λ w. w }
+  kept-step (Fires timers) st may other = kept-fired timers st
 
-  pub kept-run : (rest : List TableStep) (st : TableState) → MayRun rest st → Kept st (table_run rest st)
+-- nothing opens what was let go, where nothing was
+pub opens-any : (s : TableStep) → OpensOther none_gone s
+opens-any (Hears stored place large v) = tt
+opens-any (Spoils place v noted) = tt
+opens-any (Expires place k) = tt
+opens-any (Calls place c) = tt
+opens-any (Takes stored place) = tt
+opens-any (Puts t) = refl
+opens-any (Opens begun stored a large v) = refl
+opens-any (Tells now) = tt
+opens-any (Fires timers) = tt
+
+module _ (laws : Machines) (openings : Openings) where
+  pub kept-run : (rest : List TableStep) (st : TableState) → MayRun rest st → Kept none_gone st (table_run rest st)
   unfolding table_run MayRun
-  kept-run [] st may = kept-itself st
-  kept-run (s ∷ rest) st may = kept-then st (table_step s st) (table_run rest (table_step s st)) (kept-step s st may.0) (kept-run rest (table_step s st) may.1)
+  kept-run [] st may = kept-itself none_gone st
+  kept-run (s ∷ rest) st may = kept-then none_gone st (table_step s st) (table_run rest (table_step s st)) (kept-step laws openings none_gone s st may.0 (opens-any s)) (kept-run rest (table_step s st) may.1)
 
 -- ---- steps that follow one another
 run-append : (xs ys : List TableStep) (st : TableState) → table_run (xs ++ ys) st ≡ table_run ys (table_run xs st)
@@ -494,15 +608,15 @@ pub leads-ticked : (now : ℕ) (old new : TableState) → Ticks now old new → 
 leads-ticked now old new h =
     subst (Leads old) (sym h.ticked) (leads-more old (at_time now old) (all_expired h.fired (at_time now old)) (leads-one (Tells now) old tt) (leads-one (Fires h.fired) (at_time now old) tt))
 
-pub kept-leads : Machines → Openings → (old new : TableState) → Leads old new → Kept old new
-kept-leads laws openings old new l = subst (Kept old) (sym l.ends) (kept-run laws openings l.steps old l.may)
+pub kept-leads : Machines → Openings → (old new : TableState) → Leads old new → Kept none_gone old new
+kept-leads laws openings old new l = subst (Kept none_gone old) (sym l.ends) (kept-run laws openings l.steps old l.may)
 
-pub first-once : (records : List Entry) (told : List Indication) → records ≡ [] → told ≡ [] → FinishesOnce records told
+pub first-once : (records : List Entry) (told : List Indication) → records ≡ [] → told ≡ [] → FinishesOnce none_gone records told
 unfolding IsDistinct
-first-once records told none nothing = subst (λ (l : List Entry). FinishesOnce l told) (sym none)
-    (subst (λ (l : List Indication). FinishesOnce [] l) (sym nothing) (record { distinct = tt; own = λ p e h. absurd cc; once = λ id. omega arith }))
+first-once records told none nothing = subst (λ (l : List Entry). FinishesOnce none_gone l told) (sym none)
+    (subst (λ (l : List Indication). FinishesOnce none_gone [] l) (sym nothing) (record { distinct = tt; own = λ p e h. absurd cc; apart = λ id h. refl; once = λ id. omega arith }))
 
-pub once-only : (id : TransactionId) (st : TableState) → FinishesOnce st.records st.told → finished_count id st.told ≤ 1
+pub once-only : (id : TransactionId) (st : TableState) → FinishesOnce none_gone st.records st.told → finished_count id st.told ≤ 1
 once-only id st w = let all = w.once id in omega (arith, all)
 
 -- ---- other records

@@ -10,6 +10,9 @@ pub mod Tellings
 pub mod Timing
 pub mod Sounds
 pub mod Growing
+pub mod Letting
+pub mod LettingGo
+pub mod Left
 pub mod Speaking
 pub mod Masked
 pub mod Records

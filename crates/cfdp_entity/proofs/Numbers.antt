@@ -14,7 +14,10 @@ use Rattle.cfdp_directives.specs.declared.pdu.addressing.Addressing.{Addressing}
 use Rattle.cfdp_directives.specs.Pdu.Content.{Content}
 use Rattle.cfdp_store.specs.declared.stored.Stored.{Stored}
 use Rattle.cfdp_entity.specs.declared.call.Call.{Call}
-use Rattle.cfdp_entity.specs.Entity.{AreFree, own_id, next_of}
+use Rattle.std.specs.FinSet as finset
+use Rattle.cfdp_header.specs.Ids.{id_cmp}
+use Rattle.cfdp_forgotten.specs.Forgotten.{IdSet}
+use Rattle.cfdp_entity.specs.Entity.{AreFree, AreUnforgotten, own_id, next_of}
 use Rattle.cfdp_entity.specs.Opening.{puts, opens}
 use Rattle.cfdp_entity.specs.Steps.{After, hears, expires, calls, takes}
 use Rattle.cfdp_entity.specs.Table.{Entry, TableState, place_of, step_of, expired, expired_in, all_expired, Ticks, at_time, SpoiledAt, heard_at, called_at, taken_at, put_in, opened_by, first_table}
@@ -51,7 +54,7 @@ len-push p (y ∷ ys) x off all =
       | false ↦ λ h. (let less : position_or_len p ys ≡ length ys = omega (arith, h) in let more = len-push p ys x off less in omega (arith, more))
     ] all
 
-none-past : {X : Type 0} (p : X → Bool) (xs : List X) → position_or_len p xs ≡ length xs → position p xs ≡ None
+pub none-past : {X : Type 0} (p : X → Bool) (xs : List X) → position_or_len p xs ≡ length xs → position p xs ≡ None
 none-past p xs all = rw all (rw (le-ltb (length xs) (length xs) (omega arith)) refl)
 
 pub place-push : (xs : List Entry) (e : Entry) (id : TransactionId) → place_of id xs ≡ None → same_id id e.0 ≡ false → place_of id (xs ++ e ∷ []) ≡ None
@@ -131,3 +134,16 @@ past_width (suc (suc (suc (suc (suc (suc zero)))))) l = refl
 past_width (suc (suc (suc (suc (suc (suc (suc zero))))))) l = refl
 past_width (suc (suc (suc (suc (suc (suc (suc (suc zero)))))))) l = refl
 past_width (suc (suc (suc (suc (suc (suc (suc (suc (suc n))))))))) l = absurd (omega (arith, l))
+
+-- ---- numbers of which none was let go
+pub unforgotten-first : (entity next : ℕ) (forgotten : IdSet) → forgotten ≡ finset.empty → AreUnforgotten entity next forgotten
+unfolding AreUnforgotten
+unforgotten-first entity next forgotten is = λ n l. ap (λ (s : IdSet). finset.contains s (own_id entity n)) is ∙ finset.contains-empty id_cmp (own_id entity n)
+
+pub unforgotten-at : (entity next : ℕ) (forgotten : IdSet) → AreUnforgotten entity next forgotten → finset.contains forgotten (own_id entity next) ≡ false
+unfolding AreUnforgotten
+unforgotten-at entity next forgotten none = none next (omega arith)
+
+pub unforgotten-behind : (entity next : ℕ) (forgotten : IdSet) (o : Option ℕ) → next_of o ≡ next + 1 → AreUnforgotten entity next forgotten → AreUnforgotten entity (next_of o) forgotten
+unfolding AreUnforgotten
+unforgotten-behind entity next forgotten o risen none = λ n l. none n (omega (arith, l, risen))

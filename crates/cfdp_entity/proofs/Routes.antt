@@ -1,17 +1,16 @@
 -- A PDU that opens a record comes from the peer.
-use Rattle.std.proofs.Common.{◌≡◌, ℕ, nat_lt, length, Bool, true, false, not, ◌==◌, ◌&&◌, if◌then◌else◌, Option, Some, None, refl}
+use Rattle.std.proofs.Common.{◌≡◌, ℕ, nat_lt, length, Bool, true, false, not, ◌==◌, ◌&&◌, if◌then◌else◌, Option, Some, None, refl, true≢false}
 use Rattle.std.specs.Bool.{beq}
 use Rattle.std.proofs.lemmas.Bool.{eqb-true}
 use Rattle.cfdp_header.specs.declared.value.Header.{Header}
-use Rattle.cfdp_directives.specs.declared.pdu.codes.Acknowledged.TheVariants as acknowledged
 use Rattle.cfdp_directives.specs.Pdu.Content.{Content, FileData, Metadata, Eof, Finished, Ack, Nak, Prompt, KeepAlive}
 use Rattle.cfdp_directives.specs.Pdu.Direction.{goes_toward_sender, direction_fits, is_for}
 use Rattle.cfdp_entity.specs.declared.error.EntityDrop.{EntityDrop}
 use Rattle.cfdp_entity.specs.declared.error.EntityDrop.TheVariants as drops
 use Rattle.cfdp_entity.specs.declared.route.Route.{Route}
 use Rattle.cfdp_entity.specs.declared.route.Route.TheVariants.{Drops, Opens, Queues}
-use Rattle.cfdp_entity.specs.Entity.{EntityState}
-use Rattle.cfdp_entity.specs.Hearing.{route, route_by, queues, names_no_file}
+use Rattle.cfdp_entity.specs.Entity.{EntityState, is_forgotten}
+use Rattle.cfdp_entity.specs.Hearing.{route, route_by, route_unplaced, queues, names_no_file}
 use Rattle.cfdp_entity.specs.Strays.{StrayAck, most_strays}
 use Rattle.cfdp_entity.specs.Table.{place_of}
 
@@ -25,17 +24,31 @@ queues-none s e is = elim (nat_lt (length e.strays) most_strays) as (λ b. (if b
   | false ↦ λ h. absurd (cc)
 ] is
 
+opens-unplaced : (b : Bool) (h : Header) (v : Content) (e : EntityState) → is_forgotten e h.id ≡ b → route_unplaced b h v e ≡ Opens → (goes_toward_sender v ≡ false) × (is_forgotten e h.id ≡ false)
+opens-unplaced true h (FileData offset bytes) e gone is = absurd (cc)
+opens-unplaced true h (Metadata kind size source destination options) e gone is = absurd (cc)
+opens-unplaced true h (Eof condition checksum size tlvs) e gone is = absurd (true≢false (queues-none _ e is))
+opens-unplaced true h (Finished condition delivery status tlvs) e gone is = absurd (true≢false (queues-none _ e is))
+opens-unplaced true h (Ack of condition status) e gone is = absurd (cc)
+opens-unplaced true h (Nak start end pairs) e gone is = absurd (cc)
+opens-unplaced true h (Prompt keep_alive) e gone is = absurd (cc)
+opens-unplaced true h (KeepAlive progress) e gone is = absurd (cc)
+opens-unplaced false h (FileData offset bytes) e gone is = (refl, gone)
+opens-unplaced false h (Metadata kind size source destination options) e gone is = (refl, gone)
+opens-unplaced false h (Eof condition checksum size tlvs) e gone is = (refl, gone)
+opens-unplaced false h (Finished condition delivery status tlvs) e gone is = absurd (true≢false (queues-none _ e is))
+opens-unplaced false h (Ack of condition status) e gone is = absurd (cc)
+opens-unplaced false h (Nak start end pairs) e gone is = absurd (cc)
+opens-unplaced false h (Prompt keep_alive) e gone is = absurd (cc)
+opens-unplaced false h (KeepAlive progress) e gone is = absurd (cc)
+
+opens-known : (o : Option ℕ) (h : Header) (v : Content) (e : EntityState) → route_by o h v e ≡ Opens → is_forgotten e h.id ≡ false
+opens-known (Some place) h v e is = absurd (cc)
+opens-known None h v e is = (opens-unplaced (is_forgotten e h.id) h v e refl is).1
+
 opens-down : (o : Option ℕ) (h : Header) (v : Content) (e : EntityState) → route_by o h v e ≡ Opens → goes_toward_sender v ≡ false
 opens-down (Some place) h v e is = absurd (cc)
-opens-down None h (FileData offset bytes) e is = refl
-opens-down None h (Metadata kind size source destination options) e is = refl
-opens-down None h (Eof condition checksum size tlvs) e is = refl
-opens-down None h (Finished condition delivery status tlvs) e is = queues-none _ e is
-opens-down None h (Ack acknowledged.Eof condition status) e is = absurd (cc)
-opens-down None h (Ack acknowledged.Finished condition status) e is = refl
-opens-down None h (Nak start end pairs) e is = absurd (cc)
-opens-down None h (Prompt keep_alive) e is = refl
-opens-down None h (KeepAlive progress) e is = absurd (cc)
+opens-down None h v e is = (opens-unplaced (is_forgotten e h.id) h v e refl is).0
 
 not-sender : (b down : Bool) → down ≡ false → not (beq b down) ≡ false → b ≡ false
 not-sender true true d fits = absurd (cc)
@@ -58,3 +71,10 @@ opens-peer h v e is =
     let named = opens-past (names_no_file v) drops.NoFile _ for_us.1 in
     let down = opens-down (place_of h.id e.table.records) h v e named.1 in
     from-peer h.toward_sender h.id.source e.config.peer h.destination e.config.entity (not-sender h.toward_sender (goes_toward_sender v) down fits.0) for_us.0
+
+pub opens-unforgotten : (h : Header) (v : Content) (e : EntityState) → route h v e ≡ Opens → is_forgotten e h.id ≡ false
+opens-unforgotten h v e is =
+    let fits = opens-past (not (direction_fits h v)) drops.WrongDirection _ is in
+    let for_us = opens-past (not (is_for e.config.entity e.config.peer h)) drops.NotForUs _ fits.1 in
+    let named = opens-past (names_no_file v) drops.NoFile _ for_us.1 in
+    opens-known (place_of h.id e.table.records) h v e named.1

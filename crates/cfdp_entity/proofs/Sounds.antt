@@ -22,9 +22,13 @@ use Rattle.cfdp_entity.specs.declared.route.Route.TheVariants as routes
 use Rattle.cfdp_entity.specs.Calling.{called_in}
 use Rattle.cfdp_entity.specs.Calls.{IsCalled, after_call}
 use Rattle.cfdp_entity.specs.Config.{IsConfig}
-use Rattle.cfdp_entity.specs.Entity.{EntityState, Counted, with_table}
-use Rattle.cfdp_entity.specs.Hearing.{Takes as TakesPdu, DropsBy, HearsOctets, DropsOctets, OpensOne, names_no_file, route, route_by}
-use Rattle.cfdp_entity.specs.History.{TableStep, Hears, Spoils, Calls, Takes, Puts, Opens, Tells, Fires, table_step, MayHappen, FinishesOnce}
+use Rattle.cfdp_entity.specs.Entity.{EntityState, Counted, is_forgotten, with_table}
+use Rattle.cfdp_forgotten.specs.Forgotten.{IdSet}
+use Rattle.std.specs.FinSet as finset
+use Rattle.cfdp_directives.specs.declared.pdu.codes.Acknowledged.TheVariants as acknowledged
+use Rattle.cfdp_entity.specs.Strays.{StrayAck, over_ack, unknown_ack}
+use Rattle.cfdp_entity.specs.Hearing.{queues, Takes as TakesPdu, DropsBy, HearsOctets, DropsOctets, OpensOne, names_no_file, route, route_by, route_unplaced}
+use Rattle.cfdp_entity.specs.History.{TableStep, Hears, Spoils, Calls, Takes, Puts, Opens, Tells, Fires, table_step, MayHappen, OpensOther, FinishesOnce}
 use Rattle.cfdp_entity.specs.Polling.{Turn, Stray, Place, Rests, served}
 use Rattle.cfdp_entity.specs.Putting.{Accepts, next_id, next_transfer}
 use Rattle.cfdp_entity.specs.Sending.{SendsTruth, FindsPut}
@@ -37,7 +41,7 @@ use Rattle.cfdp_entity.proofs.Timing.{policy-step, IsForReceiver, key-there, ste
 
 -- the laws of a table's steps
 pub record TableLaws : Type 0 where
-  pub once : (s : TableStep) (st : TableState) → MayHappen s st → FinishesOnce st.records st.told → FinishesOnce (table_step s st).records (table_step s st).told
+  pub once : (gone : TransactionId → Bool) (s : TableStep) (st : TableState) → MayHappen s st → OpensOther gone s → FinishesOnce gone st.records st.told → FinishesOnce gone (table_step s st).records (table_step s st).told
   pub knows : (own : ℕ) (put_of : TransactionId → Option Put) (heard : List (List ℕ)) (first : FileMap) (s : TableStep) (st : TableState) → MayHappen s st → TellsTruth own put_of heard s st
       → IsTrueTable own put_of heard first st → IsTrueTable own put_of heard first (table_step s st)
   pub sends : (put_of : TransactionId → Option Put) (s : TableStep) (st : TableState) → MayHappen s st → FindsPut put_of s st → SendsTruth put_of st → SendsTruth put_of (table_step s st)
@@ -59,13 +63,14 @@ taken-if false d r h v old new t = absurd t
 
 module _ (put_of : TransactionId → Option Put) (heard : List (List ℕ)) (first : FileMap) where
   -- only the table and the configuration matter
-  pub sound-like : (old new : EntityState) → new.config ≡ old.config → new.table ≡ old.table → IsSound put_of heard first old → IsSound put_of heard first new
-  sound-like old new config table s =
+  pub sound-like : (old new : EntityState) → new.config ≡ old.config → new.table ≡ old.table → new.forgotten ≡ old.forgotten → IsSound put_of heard first old → IsSound put_of heard first new
+  sound-like old new config table forgotten s =
       let c = sym config in
       let t = sym table in
+      let f = sym forgotten in
       record {
         config = subst IsConfig c s.config;
-        once = subst (λ (st : TableState). FinishesOnce st.records st.told) t s.once;
+        once = subst (λ (p : TableState × IdSet). FinishesOnce (finset.contains p.1) p.0.records p.0.told) (λ i. (t i, f i)) s.once;
         knows = subst (λ (p : EntityConfig × TableState). IsTrueTable p.0.entity put_of heard first p.1) (λ i. (c i, t i)) s.knows;
         sends = subst (SendsTruth put_of) t s.sends;
         tells = subst (λ (p : EntityConfig × TableState). TellsNoMore p.0.entity heard p.1) (λ i. (c i, t i)) s.tells;
@@ -94,11 +99,11 @@ module _ (put_of : TransactionId → Option Put) (heard : List (List ℕ)) (firs
     true-of (KeepAlive progress) s t = λ put is. (tt, tt)
 
   module _ (laws : TableLaws) where
-    sound-step : (e : EntityState) (s : TableStep) → MayHappen s e.table → TellsTruth e.config.entity put_of heard s e.table → FindsPut put_of s e.table → HearsDelivered heard s e.table
+    sound-step : (e : EntityState) (s : TableStep) → MayHappen s e.table → OpensOther (is_forgotten e) s → TellsTruth e.config.entity put_of heard s e.table → FindsPut put_of s e.table → HearsDelivered heard s e.table
         → AreTimed (table_step s e.table) → IsSound put_of heard first e → IsSound put_of heard first (with_table e (table_step s e.table))
-    sound-step e s may truth finds d timed k = record {
+    sound-step e s may other truth finds d timed k = record {
       config = k.config;
-      once = laws.once s e.table may k.once;
+      once = laws.once (is_forgotten e) s e.table may other k.once;
       knows = laws.knows e.config.entity put_of heard first s e.table may truth k.knows;
       sends = laws.sends put_of s e.table may finds k.sends;
       tells = laws.tells e.config.entity put_of heard first s e.table may truth d k.knows k.tells;
@@ -112,16 +117,17 @@ module _ (put_of : TransactionId → Option Put) (heard : List (List ℕ)) (firs
         let t : Transfer = next_transfer source destination (length (octets_in old.table.sources source)) old in
         let fresh : place_of (next_id old) old.table.records ≡ None = subst (λ i. place_of i old.table.records ≡ None) a.is_next a.fresh in
         let named : put_of (next_id old) ≡ Some (next_put source destination old) = subst (λ i. put_of i ≡ Some (next_put source destination old)) a.is_next finds in
-        sound-like (with_table old (put_in t old.table)) new (ap (λ (e : EntityState). e.config) a.opened) (ap (λ (e : EntityState). e.table) a.opened)
-        (sound-step old (Puts t) fresh refl (k.config.sending.some, refl, named) tt (push-timed t.addressing.id _ old.table fresh (puts-set old.table.files t) k.timed) k)
+        let unknown : is_forgotten old (next_id old) ≡ false = subst (λ i. is_forgotten old i ≡ false) a.is_next a.unforgotten in
+        sound-like (with_table old (put_in t old.table)) new (ap (λ (e : EntityState). e.config) a.opened) (ap (λ (e : EntityState). e.table) a.opened) (ap (λ (e : EntityState). e.forgotten) a.opened)
+        (sound-step old (Puts t) fresh unknown refl (k.config.sending.some, refl, named) tt (push-timed t.addressing.id _ old.table fresh (puts-set old.table.files t) k.timed) k)
 
     pub sound-called : (c : Call) (id : TransactionId) (old new : EntityState) → IsCalled c id old new → IsSound put_of heard first old → IsSound put_of heard first new
     sound-called c id old new h k =
-        sound-like (with_table old (after_call c id old.table)) new (ap (λ (e : EntityState). e.config) h.called) (ap (λ (e : EntityState). e.table) h.called) (by (place_of id old.table.records))
+        sound-like (with_table old (after_call c id old.table)) new (ap (λ (e : EntityState). e.config) h.called) (ap (λ (e : EntityState). e.table) h.called) (ap (λ (e : EntityState). e.forgotten) h.called) (by (place_of id old.table.records))
       where
         by : (o : Option ℕ) → IsSound put_of heard first (with_table old (called_in c o old.table))
         by None = k
-        by (Some place) = sound-step old (Calls place c) tt tt tt tt
+        by (Some place) = sound-step old (Calls place c) tt tt tt tt tt
             (step-timed _ place old.table k.once.distinct (λ e at. calls-set old.table.policy.times old.table.files c e.1) k.timed) k
 
     pub sound-ticked : (now : ℕ) (old new : EntityState) → Ticks now old.table new.table → new ≡ with_table old new.table → IsSound put_of heard first old → IsSound put_of heard first new
@@ -130,9 +136,9 @@ module _ (put_of : TransactionId → Option Put) (heard : List (List ℕ)) (firs
         let fired : TableState = all_expired t.fired told.table in
         let own : ℕ = old.config.entity in
         let knows : IsTrueTable own put_of heard first told.table = laws.knows own put_of heard first (Tells now) old.table tt tt k.knows in
-        sound-like (with_table told fired) new (ap (λ (e : EntityState). e.config) same) t.ticked (record {
+        sound-like (with_table told fired) new (ap (λ (e : EntityState). e.config) same) t.ticked (ap (λ (e : EntityState). e.forgotten) same) (record {
           config = k.config;
-          once = laws.once (Fires t.fired) told.table tt (laws.once (Tells now) old.table tt k.once);
+          once = laws.once (is_forgotten old) (Fires t.fired) told.table tt tt (laws.once (is_forgotten old) (Tells now) old.table tt tt k.once);
           knows = laws.knows own put_of heard first (Fires t.fired) told.table tt tt knows;
           sends = laws.sends put_of (Fires t.fired) told.table tt tt (laws.sends put_of (Tells now) old.table tt tt k.sends);
           tells = laws.tells own put_of heard first (Fires t.fired) told.table tt tt tt knows (laws.tells own put_of heard first (Tells now) old.table tt tt tt k.knows k.tells);
@@ -141,8 +147,8 @@ module _ (put_of : TransactionId → Option Put) (heard : List (List ℕ)) (firs
         })
 
     pub sound-served : (stored : Stored) (t : Turn) (e : EntityState) → IsSound put_of heard first e → IsSound put_of heard first (served stored t e)
-    sound-served stored (Stray s strays) e k = sound-like e (served stored (Stray s strays) e) refl refl k
-    sound-served stored (Place place) e k = sound-like (with_table e (taken_at stored place e.table)) (served stored (Place place) e) refl refl (sound-step e (Takes stored place) tt tt tt tt
+    sound-served stored (Stray s strays) e k = sound-like e (served stored (Stray s strays) e) refl refl refl k
+    sound-served stored (Place place) e k = sound-like (with_table e (taken_at stored place e.table)) (served stored (Place place) e) refl refl refl (sound-step e (Takes stored place) tt tt tt tt tt
         (step-timed _ place e.table k.once.distinct (λ d at. takes-set stored e.table.policy.times e.table.sources e.table.files d.1) k.timed) k)
     sound-served stored Rests e k = k
 
@@ -151,36 +157,54 @@ module _ (put_of : TransactionId → Option Put) (heard : List (List ℕ)) (firs
       stepped : (place : ℕ) (v : Content) → SpellsPdu h v pdu → place_of h.id old.state.table.records ≡ Some place → TakesPdu (routes.Steps place) h v old new → IsSound put_of heard first new.state
       stepped place v s is t =
           let truth : IsTrueOf put_of heard h.id v = true-of by_id old.state.config.peer pdu comes.among h v s (comes.says h v s) in
-          sound-like (with_table old.state (heard_at t.stored place h.large v old.state.table)) new.state (ap (λ (e : EntityState). e.config) t.steps) (ap (λ (e : EntityState). e.table) t.steps)
-          (sound-step old.state (Hears t.stored place h.large v) tt (λ e at. subst (λ i. IsTrueOf put_of heard i v) (key-there h.id old.state.table.records place e is at) truth) tt
+          sound-like (with_table old.state (heard_at t.stored place h.large v old.state.table)) new.state (ap (λ (e : EntityState). e.config) t.steps) (ap (λ (e : EntityState). e.table) t.steps) (ap (λ (e : EntityState). e.forgotten) t.steps)
+          (sound-step old.state (Hears t.stored place h.large v) tt tt (λ e at. subst (λ i. IsTrueOf put_of heard i v) (key-there h.id old.state.table.records place e is at) truth) tt
           (λ e at tlvs says. some-pdu by_id old.state.config.peer pdu comes.among h (SaysComplete e.0) v s (key-there h.id old.state.table.records place e is at, (tlvs, says)))
           (step-timed _ place old.state.table k.once.distinct (λ e at. hears-set t.stored old.state.table.policy.times old.state.table.files h.large v e.1) k.timed) k)
 
-      opened : (v : Content) → IsForReceiver v → SpellsPdu h v pdu → place_of h.id old.state.table.records ≡ None → IsOfPut old.state.config.peer put_of h.id v →
+      opened : (v : Content) → IsForReceiver v → SpellsPdu h v pdu → place_of h.id old.state.table.records ≡ None → is_forgotten old.state h.id ≡ false → IsOfPut old.state.config.peer put_of h.id v →
           TakesPdu (if nat_lt (length old.state.table.records) most_records then routes.Opens else routes.Drops drops.TableFull) h v old new → IsSound put_of heard first new.state
-      opened v for_it s none put taken =
+      opened v for_it s none unknown put taken =
           let o : OpensOne (addressing_of h) h.large v old new = taken-if (nat_lt (length old.state.table.records) most_records) drops.TableFull routes.Opens h v old new taken in
           let truth : IsTrueOf put_of heard h.id v = true-of by_id old.state.config.peer pdu comes.among h v s (comes.says h v s) in
           let some : IsSome (put_of h.id) = subst IsSome (sym put.1.1) refl in
           let not_own : h.id.source ≡ old.state.config.entity → ⊥ = λ own. k.config.ids.apart (sym own ∙ put.1.0) in
           sound-like (with_table old.state (opened_by o.begun o.stored (addressing_of h) h.large v old.state.table)) new.state (ap (λ (e : EntityState). e.config) o.opens)
-          (ap (λ (e : EntityState). e.table) o.opens)
-          (sound-step old.state (Opens o.begun o.stored (addressing_of h) h.large v) none (not_own, (some, truth)) tt tt
+          (ap (λ (e : EntityState). e.table) o.opens) (ap (λ (e : EntityState). e.forgotten) o.opens)
+          (sound-step old.state (Opens o.begun o.stored (addressing_of h) h.large v) none unknown (not_own, (some, truth)) tt tt
           (push-timed h.id _ old.state.table none (opens-set o.begun o.stored old.state.table.policy.times old.state.table.files h.large v (addressing_of h) for_it) k.timed) k)
+
+      answered : (a : StrayAck) (v : Content) → TakesPdu (queues a old.state) h v old new → IsSound put_of heard first new.state
+      answered a v t =
+          let q = taken-if _ drops.TableFull (routes.Queues a) h v old new t in
+          sound-like old.state new.state (ap (λ (c : Counted). c.state.config) q) (ap (λ (c : Counted). c.state.table) q) (ap (λ (c : Counted). c.state.forgotten) q) k
+
+      passed : new ≡ old → IsSound put_of heard first new.state
+      passed is = subst (λ (c : Counted). IsSound put_of heard first c.state) (sym is) k
+
+      unplaced : (b : Bool) (v : Content) → SpellsPdu h v pdu → place_of h.id old.state.table.records ≡ None → is_forgotten old.state h.id ≡ b → TakesPdu (route_unplaced b h v old.state) h v old new →
+          IsSound put_of heard first new.state
+      unplaced true (FileData offset bytes) s is gone t = passed t
+      unplaced true (Metadata kind size source destination options) s is gone t = passed t
+      unplaced true (Eof condition checksum size tlvs) s is gone t = answered (over_ack h acknowledged.Eof condition) (Eof condition checksum size tlvs) t
+      unplaced true (Finished condition delivery status tlvs) s is gone t = answered (over_ack h acknowledged.Finished condition) (Finished condition delivery status tlvs) t
+      unplaced true (Ack of condition status) s is gone t = passed t
+      unplaced true (Nak start end pairs) s is gone t = passed t
+      unplaced true (Prompt keep_alive) s is gone t = passed t
+      unplaced true (KeepAlive progress) s is gone t = passed t
+      unplaced false (FileData offset bytes) s is gone t = opened (FileData offset bytes) tt s is gone (comes.says h (FileData offset bytes) s) t
+      unplaced false (Metadata kind size source destination options) s is gone t =
+          opened (Metadata kind size source destination options) tt s is gone (comes.says h (Metadata kind size source destination options) s) t
+      unplaced false (Eof condition checksum size tlvs) s is gone t = opened (Eof condition checksum size tlvs) tt s is gone (comes.says h (Eof condition checksum size tlvs) s) t
+      unplaced false (Finished condition delivery status tlvs) s is gone t = answered (unknown_ack h condition) (Finished condition delivery status tlvs) t
+      unplaced false (Ack of condition status) s is gone t = absurd t
+      unplaced false (Nak start end pairs) s is gone t = absurd t
+      unplaced false (Prompt keep_alive) s is gone t = absurd t
+      unplaced false (KeepAlive progress) s is gone t = absurd t
 
       by-place : (o : Option ℕ) (v : Content) → SpellsPdu h v pdu → place_of h.id old.state.table.records ≡ o → TakesPdu (route_by o h v old.state) h v old new → IsSound put_of heard first new.state
       by-place (Some place) v s is t = stepped place v s is t
-      by-place None (FileData offset bytes) s is t = opened (FileData offset bytes) tt s is (comes.says h (FileData offset bytes) s) t
-      by-place None (Metadata kind size source destination options) s is t =
-          opened (Metadata kind size source destination options) tt s is (comes.says h (Metadata kind size source destination options) s) t
-      by-place None (Eof condition checksum size tlvs) s is t = opened (Eof condition checksum size tlvs) tt s is (comes.says h (Eof condition checksum size tlvs) s) t
-      by-place None (Finished condition delivery status tlvs) s is t =
-          let q = taken-if _ drops.TableFull (routes.Queues (record { addressing = addressing_of h; large = h.large; condition = condition })) h (Finished condition delivery status tlvs) old new t in
-          sound-like old.state new.state (ap (λ (c : Counted). c.state.config) q) (ap (λ (c : Counted). c.state.table) q) k
-      by-place None (Ack of condition status) s is t = absurd t
-      by-place None (Nak start end pairs) s is t = absurd t
-      by-place None (Prompt keep_alive) s is t = absurd t
-      by-place None (KeepAlive progress) s is t = absurd t
+      by-place None v s is t = unplaced (is_forgotten old.state h.id) v s is refl t
 
     pub sound-heard : (by_id : FindsById put_of) (pdu : List ℕ) (old new : Counted) → ComesTrue old.state.config.peer put_of heard pdu → HearsOctets pdu old new →
         IsSound put_of heard first old.state → IsSound put_of heard first new.state
@@ -198,14 +222,15 @@ module _ (put_of : TransactionId → Option Put) (heard : List (List ℕ)) (firs
 
     -- ---- a PDU that is dropped
     dropped-by : (r : Route) (by : EntityDrop) (v : Content) (old new : Counted) → DropsBy r by v old new → IsSound put_of heard first old.state → IsSound put_of heard first new.state
-    dropped-by (routes.Drops d) by v old new t k = sound-like old.state new.state (ap (λ (c : Counted). c.state.config) t.1) (ap (λ (c : Counted). c.state.table) t.1) k
+    dropped-by (routes.Drops d) by v old new t k = sound-like old.state new.state (ap (λ (c : Counted). c.state.config) t.1) (ap (λ (c : Counted). c.state.table) t.1) (ap (λ (c : Counted). c.state.forgotten) t.1) k
     dropped-by (routes.Steps place) by v old new t k =
         let f = t.1 in
-        sound-like (with_table old.state (table_step (Spoils place v f.spoiled.seen) old.state.table)) new.state (ap (λ (e : EntityState). e.config) f.counted) f.spoiled.table
-        (sound-step old.state (Spoils place v f.spoiled.seen) f.spoiled.spoils tt tt tt
+        sound-like (with_table old.state (table_step (Spoils place v f.spoiled.seen) old.state.table)) new.state (ap (λ (e : EntityState). e.config) f.counted) f.spoiled.table (ap (λ (e : EntityState). e.forgotten) f.counted)
+        (sound-step old.state (Spoils place v f.spoiled.seen) f.spoiled.spoils tt tt tt tt
         (spoiled-timed place v f.spoiled.seen old.state.table k.once.distinct f.spoiled.spoils k.timed) k)
-    dropped-by routes.Opens by v old new t k = sound-like old.state new.state (ap (λ (c : Counted). c.state.config) t.1) (ap (λ (c : Counted). c.state.table) t.1) k
+    dropped-by routes.Opens by v old new t k = sound-like old.state new.state (ap (λ (c : Counted). c.state.config) t.1) (ap (λ (c : Counted). c.state.table) t.1) (ap (λ (c : Counted). c.state.forgotten) t.1) k
     dropped-by (routes.Queues s) by v old new t k = absurd t
+    dropped-by routes.Passes by v old new t k = absurd t
 
     pub sound-dropped : (o : Option PduError) (pdu : List ℕ) (by : EntityDrop) (old new : Counted) → DropsOctets o pdu by old new → IsSound put_of heard first old.state →
         IsSound put_of heard first new.state

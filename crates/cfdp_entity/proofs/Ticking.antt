@@ -1,6 +1,7 @@
 -- Timers that fire, one after another.
 use Rattle.std.proofs.Common.{◌≡◌, ℕ, suc, ◌+◌, ◌<◌, List, [], length, get_or, drop, drop-cons, add-one, Result, Ok, Err, OnOk, IfOk, refl, sym, ap, subst, ◌∙◌, max}
 use Rattle.cfdp_header.specs.declared.value.TransactionId.{TransactionId}
+use Rattle.cfdp_directives.specs.declared.user.indication.Indication.{Indication}
 use Rattle.cfdp_timers.specs.Order.{Timer}
 use Rattle.cfdp_timers.specs.Armed.{Armed, TimersState}
 use Rattle.cfdp_timers.specs.Due.{due_count, still_armed}
@@ -12,14 +13,14 @@ use Rattle.cfdp_entity.specs.Desk.{DeskState}
 use Rattle.cfdp_entity.specs.Roomy.{Roomy, Becomes}
 use Rattle.cfdp_entity.specs.Whole.{state_of, roomy_of}
 
-pub becomes-fired : {X E : Type 0} (r : Result X E) (desk : DeskState) (timers : TimersState) (es : List (TransactionId × Record)) (now : ℕ)
-    → OnOk r (timers.time ≡ max desk.effects.timers.time now) → OnOk r (timers.armed ≡ still_armed timers.time desk.effects.timers.armed) → (old : Roomy) → roomy_of desk es ≡ old
-    → OnOk r (Becomes (at_time now old.state) old (roomy_of (record desk { effects = record desk.effects { timers = timers } }) es))
-becomes-fired (Ok x) desk timers es now time left old is =
+pub becomes-fired : {X E : Type 0} (r : Result X E) (past : List Indication) (desk : DeskState) (timers : TimersState) (es : List (TransactionId × Record)) (now : ℕ)
+    → OnOk r (timers.time ≡ max desk.effects.timers.time now) → OnOk r (timers.armed ≡ still_armed timers.time desk.effects.timers.armed) → (old : Roomy) → roomy_of past desk es ≡ old
+    → OnOk r (Becomes (at_time now old.state) old (roomy_of past (record desk { effects = record desk.effects { timers = timers } }) es))
+becomes-fired (Ok x) past desk timers es now time left old is =
     let armed : timers.armed ≡ still_armed (max desk.effects.timers.time now) desk.effects.timers.armed = left ∙ ap (λ t. still_armed t desk.effects.timers.armed) time in
-    subst (λ (v : Roomy). Becomes (at_time now v.state) v (roomy_of (record desk { effects = record desk.effects { timers = timers } }) es)) is
-    (record { state = λ i. record (state_of desk es) { now = time i; armed = armed i }; inbox = refl; outbox = refl })
-becomes-fired (Err e) desk timers es now time left old is = tt
+    subst (λ (v : Roomy). Becomes (at_time now v.state) v (roomy_of past (record desk { effects = record desk.effects { timers = timers } }) es)) is
+    (record { state = λ i. record (state_of past desk es) { now = time i; armed = armed i }; inbox = refl; outbox = refl })
+becomes-fired (Err e) past desk timers es now time left old is = tt
 
 pub count-fired : {X E : Type 0} (r : Result X E) (f : X → List Timer) (armed armed_now : Armed) (now time at : ℕ) → OnOk r (at ≡ max time now) → IfOk r (λ x. length (f x) ≡ due_count armed at)
     → armed ≡ armed_now → (time_now : ℕ) → time ≡ time_now → IfOk r (λ x. length (f x) ≡ due_count armed_now (max time_now now))

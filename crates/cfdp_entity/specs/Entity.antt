@@ -1,9 +1,11 @@
 -- The state of an entity, and how it is kept.
-use Rattle.std.specs.Prelude.{◌≡◌, ◌≤◌, ℕ, ◌^◌, List, [], replicate, get_or, slice_get, slice_set, Option, Some, None}
+use Rattle.std.specs.Prelude.{◌≡◌, ◌≤◌, ℕ, ◌^◌, Bool, false, List, [], replicate, get_or, slice_get, slice_set, Option, Some, None}
+use Rattle.std.specs.FinSet as set
 use Rattle.cfd_bits.specs.Counting.{raised}
 use Rattle.cfdp_header.specs.Files.{FileMap}
 use Rattle.cfdp_header.specs.declared.value.TransactionId.{TransactionId}
 use Rattle.cfdp_directives.specs.declared.user.phase.Phase.{Phase}
+use Rattle.cfdp_forgotten.specs.Forgotten.{IdSet}
 use Rattle.cfdp_entity.specs.declared.config.EntityConfig.{EntityConfig}
 use Rattle.cfdp_entity.specs.declared.error.EntityDrop.{EntityDrop}
 use Rattle.cfdp_entity.specs.Errors.{drop_number}
@@ -12,7 +14,8 @@ use Rattle.cfdp_entity.specs.Table.{Entry, TableState, place_of, first_table, ph
 
 -- The table, the stray acknowledgements in their order, the place behind the record served last,
 -- the
--- number of the next put, the counts of drops by their number, and how it is set up.
+-- number of the next put, the counts of drops by their number, how it is set up, and the
+-- transactions that were let go.
 pub record EntityState : Type 0 where
   pub table : TableState
   pub strays : List StrayAck
@@ -20,6 +23,11 @@ pub record EntityState : Type 0 where
   pub next : ℕ
   pub drops : List ℕ
   pub config : EntityConfig
+  pub forgotten : IdSet
+
+-- whether a transaction was let go
+abbrev pub is_forgotten : EntityState → TransactionId → Bool
+is_forgotten e id = set.contains e.forgotten id
 
 -- an entity, and how many calls of each store failed
 pub record Counted : Type 0 where
@@ -35,6 +43,7 @@ first_entity sources files config = record {
   next = config.first_number;
   drops = replicate 18 0;
   config = config;
+  forgotten = set.empty;
 }
 
 abbrev pub with_table : EntityState → TableState → EntityState
@@ -48,6 +57,11 @@ own_id entity number = record { source = entity; number = number }
 -- No record has the number of the next put, or one behind it: so no number comes twice.
 unfoldable pub AreFree : ℕ → ℕ → List Entry → Type 0
 AreFree entity next records = (n : ℕ) → next ≤ n → place_of (own_id entity n) records ≡ None
+
+-- None of these was let go.
+unfoldable pub AreUnforgotten : ℕ → ℕ → IdSet → Type 0
+AreUnforgotten entity next forgotten =
+    (n : ℕ) → next ≤ n → set.contains forgotten (own_id entity n) ≡ false
 
 -- the number of the next put; where all are used it is one behind the last of eight octets
 abbrev pub next_of : Option ℕ → ℕ

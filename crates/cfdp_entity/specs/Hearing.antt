@@ -1,6 +1,7 @@
 -- What a PDU does that an entity hears.
-use Rattle.std.specs.Prelude.{◌≡◌, ◌<◌, ◌==◌, ◌||◌, ℕ, nat_lt, not, Bool, false, List, [], ◌∷◌, ◌++◌, length, Option, Some, None, if◌then◌else◌}
+use Rattle.std.specs.Prelude.{◌≡◌, ◌<◌, ◌==◌, ◌||◌, ℕ, nat_lt, not, Bool, true, false, List, [], ◌∷◌, ◌++◌, length, Option, Some, None, if◌then◌else◌}
 use Rattle.cfdp_header.specs.declared.value.Header.{Header}
+use Rattle.cfdp_directives.specs.declared.pdu.codes.Acknowledged.TheVariants as acknowledged
 use Rattle.cfdp_directives.specs.declared.pdu.error.PduError.{PduError}
 use Rattle.cfdp_directives.specs.declared.pdu.addressing.Addressing.{Addressing}
 use Rattle.cfdp_directives.specs.Pdu.Addressing.{addressing_of, FitsAddressing}
@@ -13,11 +14,11 @@ use Rattle.cfdp_store.specs.Stores.{Counts}
 use Rattle.cfdp_entity.specs.declared.error.EntityDrop.{EntityDrop}
 use Rattle.cfdp_entity.specs.declared.error.EntityDrop.TheVariants as drops
 use Rattle.cfdp_entity.specs.declared.route.Route.{Route}
-use Rattle.cfdp_entity.specs.declared.route.Route.TheVariants.{Drops, Steps, Opens, Queues}
-use Rattle.cfdp_entity.specs.Entity.{EntityState, Counted, dropped, with_table}
+use Rattle.cfdp_entity.specs.declared.route.Route.TheVariants.{Drops, Steps, Opens, Queues, Passes}
+use Rattle.cfdp_entity.specs.Entity.{EntityState, Counted, dropped, is_forgotten, with_table}
 use Rattle.cfdp_entity.specs.Opening.{CountsBoth}
 use Rattle.cfdp_entity.specs.Storing.{AsksToHear, AsksToOpen}
-use Rattle.cfdp_entity.specs.Strays.{StrayAck, most_strays}
+use Rattle.cfdp_entity.specs.Strays.{StrayAck, most_strays, over_ack, unknown_ack}
 use Rattle.cfdp_entity.specs.Table.{place_of, heard_at, opened_by, SpoiledAt, most_records}
 
 -- whether a PDU is Metadata with an empty name
@@ -40,12 +41,25 @@ route_new h (Metadata kind size source destination options) e = opens_record e
 route_new h (FileData offset bytes) e = opens_record e
 route_new h (Eof condition checksum size tlvs) e = opens_record e
 route_new h (Finished condition delivery status tlvs) e =
-    queues (record { addressing = addressing_of h; large = h.large; condition = condition }) e
+    queues (unknown_ack h condition) e
 route_new h _ e = Drops drops.Unknown
+
+-- a PDU of a transaction that was let go: an EOF and a Finished are acknowledged, and all else is
+-- passed over
+abbrev pub route_over : Header → Content → EntityState → Route
+route_over h (Eof condition checksum size tlvs) e = queues (over_ack h acknowledged.Eof condition) e
+route_over h (Finished condition delivery status tlvs) e =
+    queues (over_ack h acknowledged.Finished condition) e
+route_over h _ e = Passes
+
+-- a PDU of no record, by whether its transaction was let go
+abbrev pub route_unplaced : Bool → Header → Content → EntityState → Route
+route_unplaced true h v e = route_over h v e
+route_unplaced false h v e = route_new h v e
 
 abbrev pub route_by : Option ℕ → Header → Content → EntityState → Route
 route_by (Some place) h v e = Steps place
-route_by None h v e = route_new h v e
+route_by None h v e = route_unplaced (is_forgotten e h.id) h v e
 
 -- the refusals in their order, and else the record of its transaction, a record that it opens, or a
 -- stray acknowledgement
@@ -71,6 +85,7 @@ pub record MayOpen (a : Addressing) (e : EntityState) : Type 0 where
   pub fits : FitsAddressing a
   pub from_peer : a.id.source ≡ e.config.peer
   pub absent : place_of a.id e.table.records ≡ None
+  pub unforgotten : is_forgotten e a.id ≡ false
   pub not_full : length e.table.records < most_records
 
 -- A record was opened and made its step, by what the inbox answered to each.
@@ -92,6 +107,7 @@ Takes (Drops d) h v old new = ⊥
 Takes (Steps place) h v old new = StepsAt place h.large v old new
 Takes Opens h v old new = OpensOne (addressing_of h) h.large v old new
 Takes (Queues s) h v old new = new ≡ record old { state = queued s old.state }
+Takes Passes h v old new = new ≡ old
 
 -- ---- what is dropped
 -- The record at a place found no memory for a PDU: it is as `SpoiledAt` says, and nothing else
@@ -118,6 +134,7 @@ DropsBy (Steps place) by v old new = (by ≡ drops.NoMemory) × FindsNoMemory pl
 DropsBy Opens by v old new =
     (by ≡ drops.NoMemory) × (new ≡ record old { state = dropped drops.NoMemory old.state })
 DropsBy (Queues s) by v old new = ⊥
+DropsBy Passes by v old new = ⊥
 
 -- ---- octets
 -- The octets are a PDU, and it was taken.

@@ -1,5 +1,5 @@
 -- All that may happen to a table, as one step, and what every step keeps.
-use Rattle.std.specs.Prelude.{◌≡◌, ℕ, ◌+◌, ◌≤◌, Bool, List, [], ◌∷◌, slice_get, Option, Some, None}
+use Rattle.std.specs.Prelude.{◌≡◌, ℕ, ◌+◌, ◌≤◌, ◌||◌, Bool, true, false, List, [], ◌∷◌, slice_get, Option, Some, None, if◌then◌else◌}
 use Rattle.std.specs.List.{IsDistinct}
 use Rattle.std.specs.Map.{keys_of}
 use Rattle.indexmap.specs.IndexMap.{set_value_at}
@@ -104,10 +104,30 @@ abbrev pub open_of : Option Seen → ℕ
 open_of (Some s) = open_in s
 open_of None = 1
 
--- Each record stands under its transaction, no two under the same. Each transaction is indicated
--- finished at most once, and not yet while it may still be.
-pub record FinishesOnce (records : List Entry) (told : List Indication) : Type 0 where
+-- of a transaction; never again of one that was let go
+abbrev pub may_finish : (gone : TransactionId → Bool) → TransactionId → List Entry → ℕ
+may_finish gone id records = if gone id then 0 else open_of (record_of id records)
+
+-- A step opens no record of a transaction that was let go.
+abbrev pub OpensOther : (gone : TransactionId → Bool) → TableStep → Type 0
+OpensOther gone (Puts t) = gone t.addressing.id ≡ false
+OpensOther gone (Opens begun stored a large v) = gone a.id ≡ false
+OpensOther gone _ = Unit {0}
+
+-- with one more that was let go
+abbrev pub also : TransactionId → (TransactionId → Bool) → TransactionId → Bool
+also id gone other = same_id other id || gone other
+
+-- where none was let go
+abbrev pub none_gone : TransactionId → Bool
+none_gone id = false
+
+-- Each record stands under its transaction, no two under the same, and none under one that was let
+-- go. Each transaction is indicated finished at most once, and not yet while it may still be.
+pub record FinishesOnce (gone : TransactionId → Bool) (records : List Entry)
+    (told : List Indication) : Type 0 where
   pub distinct : IsDistinct same_id (keys_of records)
   pub own : (place : ℕ) (e : Entry) → slice_get records place ≡ Some e
       → (addressing_of e.1).id ≡ e.0
-  pub once : (id : TransactionId) → finished_count id told + open_of (record_of id records) ≤ 1
+  pub apart : (id : TransactionId) → gone id ≡ true → record_of id records ≡ None
+  pub once : (id : TransactionId) → finished_count id told + may_finish gone id records ≤ 1

@@ -20,6 +20,8 @@ pub mod Strays
 pub mod Entity
 pub mod Calls
 pub mod Hearing
+pub mod Closed
+pub mod Forgetting
 pub mod Polling
 pub mod Putting
 pub mod Adding

@@ -12,7 +12,7 @@ use Rattle.cfdp_store.specs.Files.{octets_in}
 use Rattle.cfdp_sender.specs.declared.transfer.Transfer.{Transfer}
 use Rattle.cfdp_entity.specs.declared.error.PutError.{PutError}
 use Rattle.cfdp_entity.specs.declared.error.PutError.TheVariants.{Name, TableFull, NumbersSpent, SourceFault, NoSuchFile, TooLarge, NoMemory}
-use Rattle.cfdp_entity.specs.Entity.{EntityState, own_id}
+use Rattle.cfdp_entity.specs.Entity.{EntityState, is_forgotten, own_id}
 use Rattle.cfdp_entity.specs.Table.{place_of, put_in, most_records}
 
 -- the transaction that the next put opens
@@ -102,6 +102,7 @@ with_put t e = record e { table = put_in t e.table; next = e.next + 1 }
 pub record Accepts (source destination : List ℕ) (id : TransactionId)
     (old new : EntityState) : Type 0 where
   pub fresh : place_of id old.table.records ≡ None
+  pub unforgotten : is_forgotten old id ≡ false
   pub is_next : id ≡ next_id old
   pub allowed : put_refusal Done source destination old ≡ None
   pub opened : new ≡ with_put (next_transfer source destination

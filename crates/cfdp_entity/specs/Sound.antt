@@ -17,7 +17,7 @@ use Rattle.cfdp_directives.specs.User.Put.{Put, SaysTruth}
 use Rattle.cfdp_directives.specs.Pdu.Tlv.{Tlv}
 use Rattle.cfdp_store.specs.Files.{octets_in}
 use Rattle.cfdp_entity.specs.Config.{IsConfig}
-use Rattle.cfdp_entity.specs.Entity.{EntityState}
+use Rattle.cfdp_entity.specs.Entity.{EntityState, is_forgotten}
 use Rattle.cfdp_entity.specs.History.{FinishesOnce}
 use Rattle.cfdp_entity.specs.Polling.{Turn, Stray, Place, Rests}
 use Rattle.cfdp_entity.specs.Putting.{next_id}
@@ -36,7 +36,7 @@ use Rattle.cfdp_entity.specs.Truth.{IsTrueTable}
 pub record IsSound (put_of : TransactionId → Option Put) (heard : List (List ℕ)) (first : FileMap)
     (e : EntityState) : Type 0 where
   pub config : IsConfig e.config
-  pub once : FinishesOnce e.table.records e.table.told
+  pub once : FinishesOnce (is_forgotten e) e.table.records e.table.told
   pub knows : IsTrueTable e.config.entity put_of heard first e.table
   pub sends : SendsTruth put_of e.table
   pub tells : TellsNoMore e.config.entity heard e.table
@@ -96,11 +96,12 @@ abbrev pub longest_pdu : ℕ
 longest_pdu = 4132
 
 -- ---- what stays
--- What was indicated stays, and more is added behind; the files to send and the configuration stay,
--- and no number comes back.
+-- What was indicated stays, none of it is let go, and more is added behind; the files to send and
+-- the configuration stay, and no number comes back.
 pub record GoesOn (old new : EntityState) : Type 0 where
   pub gained : List Indication
   pub told : new.table.told ≡ old.table.told ++ gained
+  pub gone : new.table.gone ≡ old.table.gone
   pub sources : new.table.sources ≡ old.table.sources
   pub config : new.config ≡ old.config
   pub next : old.next ≤ new.next

@@ -1,21 +1,46 @@
 -- The ACK of a Finished whose transaction has no record.
 use Rattle.std.specs.Prelude.{ℕ, Bool, List, [], ◌∷◌, Some}
 use Rattle.cfdp_directives.specs.declared.pdu.addressing.Addressing.{Addressing}
+use Rattle.cfdp_directives.specs.declared.pdu.codes.Acknowledged.{Acknowledged}
 use Rattle.cfdp_directives.specs.declared.pdu.codes.Acknowledged.TheVariants as acknowledged
-use Rattle.cfdp_directives.specs.declared.pdu.codes.TransactionStatus.TheVariants.{Unrecognized}
+use Rattle.cfdp_directives.specs.declared.pdu.codes.TransactionStatus.{TransactionStatus}
+use Rattle.cfdp_directives.specs.declared.pdu.codes.TransactionStatus.TheVariants.{Terminated, Unrecognized}
+use Rattle.cfdp_header.specs.declared.value.Header.{Header}
+use Rattle.cfdp_directives.specs.Pdu.Addressing.{addressing_of}
 use Rattle.cfdp_directives.specs.Pdu.Content.{Content, Ack}
 use Rattle.cfdp_entity.specs.Seen.{octets_of, len_of}
 
--- what the Finished's header has in common with its answer, its large file flag too, and the
--- condition that it told
+-- what the header of a Finished or an EOF has in common with its answer, its large file flag too,
+-- which of both is acknowledged, the condition that it told, and what is known of the transaction
 pub record StrayAck : Type 0 where
   pub addressing : Addressing
   pub large : Bool
+  pub of : Acknowledged
   pub condition : ℕ
+  pub status : TransactionStatus
 
--- it says that the transaction isn't known here
+-- to a Finished of a transaction that isn't known here
+abbrev pub unknown_ack : Header → ℕ → StrayAck
+unknown_ack h condition = record {
+  addressing = addressing_of h;
+  large = h.large;
+  of = acknowledged.Finished;
+  condition = condition;
+  status = Unrecognized;
+}
+
+-- to a Finished or an EOF of one that was let go: it is over
+abbrev pub over_ack : Header → Acknowledged → ℕ → StrayAck
+over_ack h of condition = record {
+  addressing = addressing_of h;
+  large = h.large;
+  of = of;
+  condition = condition;
+  status = Terminated;
+}
+
 abbrev pub stray_says : StrayAck → Content
-stray_says s = Ack acknowledged.Finished s.condition Unrecognized
+stray_says s = Ack s.of s.condition s.status
 
 abbrev pub stray_octets : StrayAck → List ℕ
 stray_octets s = octets_of s.large s.addressing (Some (stray_says s))

@@ -1,5 +1,5 @@
 -- A table of records with their timers: which one is served next, and one step of one record.
-use Rattle.std.specs.Prelude.{◌≡◌, ℕ, ◌+◌, Bool, false, List, [], ◌∷◌, ◌++◌, drop, position, slice_get, max, Option, Some, None}
+use Rattle.std.specs.Prelude.{◌≡◌, ℕ, ◌+◌, ◌-◌, ◌^◌, nat_lt, min, Bool, false, List, [], ◌∷◌, ◌++◌, drop, length, position, slice_get, max, Option, Some, None, if◌then◌else◌}
 use Rattle.std.specs.Option.{option_or, option_map}
 use Rattle.std.specs.Map.{lookup}
 use Rattle.std.specs.FinMap as finmap
@@ -26,13 +26,15 @@ use Rattle.cfdp_entity.specs.Opening.{puts, opens}
 abbrev pub Entry : Type 0
 Entry = TransactionId × Seen
 
--- the records in order of opening, the latest time told, the armed timers, what was indicated, the
--- published files, the files of the outbox, and how long and how often answers are waited for
+-- the records in order of opening, the latest time told, the armed timers, what was indicated,
+-- how many of that were let go, the published files, the files of the outbox, and how long and how
+-- often answers are waited for
 pub record TableState : Type 0 where
   pub records : List Entry
   pub now : ℕ
   pub armed : Armed
   pub told : List Indication
+  pub gone : ℕ
   pub files : FileMap
   pub sources : FileMap
   pub policy : Policy
@@ -141,6 +143,7 @@ first_table sources files policy = record {
   now = 0;
   armed = finmap.empty;
   told = [];
+  gone = 0;
   files = files;
   sources = sources;
   policy = policy;
@@ -169,6 +172,20 @@ pub record Ticks (now : ℕ) (old new : TableState) : Type 0 where
   pub fired : List Timer
   pub are : AreDue old.armed (max old.now now) fired
   pub ticked : new ≡ all_expired fired (at_time now old)
+
+-- ---- indications that are let go
+-- how many are gone once so many more of those that are left go: as far as 64 bits count
+abbrev pub gone_after : ℕ → TableState → ℕ
+gone_after count st =
+    let gone = st.gone + min count (length st.told - st.gone) in
+    if nat_lt gone (2 ^ 64) then gone else st.gone
+
+abbrev pub without_told : ℕ → TableState → TableState
+without_told count st = record st { gone = gone_after count st }
+
+-- the first one that is left, as far as it can be counted once it goes, too
+abbrev pub next_told : TableState → Option Indication
+next_told st = if nat_lt (st.gone + 1) (2 ^ 64) then slice_get st.told st.gone else None
 
 -- ---- want of memory
 -- a record at a place found no memory for a PDU, and nothing else changed

@@ -1,11 +1,12 @@
 -- How a table is kept.
-use Rattle.std.specs.Prelude.{◌≡◌, ◌≤◌, Bool, true, List, [], ◌∷◌, map, length}
+use Rattle.std.specs.Prelude.{◌≡◌, ◌≤◌, Bool, true, List, [], ◌∷◌, ◌++◌, map, length}
 use Rattle.std.specs.List.{IsDistinct}
 use Rattle.std.specs.Map.{keys_of}
 use Rattle.std.specs.FinSet as set
 use Rattle.cfdp_header.specs.declared.value.TransactionId.{TransactionId}
 use Rattle.cfdp_header.specs.Ids.{id_cmp, same_id}
 use Rattle.cfdp_header.specs.Files.{FileMap}
+use Rattle.cfdp_directives.specs.declared.user.indication.Indication.{Indication}
 use Rattle.cfdp_timers.specs.Effects.{HasRoom}
 use Rattle.cfdp_receiver.specs.State.{IsReady}
 use Rattle.cfdp_sender.specs.Does.{HasFile}
@@ -22,21 +23,22 @@ entry_seen staged e = (e.0, seen (staged e.0) e.1)
 unfoldable pub entries_seen : Staged → List (TransactionId × Record) → List Entry
 entries_seen staged es = map (entry_seen staged) es
 
--- the table of these records, over a desk
-abbrev pub state_of : DeskState → List (TransactionId × Record) → TableState
-state_of desk es = record {
+-- the table of these records, over a desk; these indications were let go
+abbrev pub state_of : List Indication → DeskState → List (TransactionId × Record) → TableState
+state_of gone desk es = record {
   records = entries_seen desk.staged es;
   now = desk.effects.timers.time;
   armed = desk.effects.timers.armed;
-  told = desk.effects.told.items;
+  told = gone ++ desk.effects.told.items;
+  gone = length gone;
   files = desk.files;
   sources = desk.sources;
   policy = desk.policy;
 }
 
-abbrev pub roomy_of : DeskState → List (TransactionId × Record) → Roomy
-roomy_of desk es = record {
-  state = state_of desk es;
+abbrev pub roomy_of : List Indication → DeskState → List (TransactionId × Record) → Roomy
+roomy_of gone desk es = record {
+  state = state_of gone desk es;
   spare = spare desk;
   inbox_failures = desk.inbox_failures;
   outbox_failures = desk.outbox_failures;

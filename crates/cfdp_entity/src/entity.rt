@@ -1,4 +1,4 @@
-ghost use Rattle.std.specs.Prelude.{◌≡◌, length, get_or, IfOk, MatchOption, None};
+ghost use Rattle.std.specs.Prelude.{◌≡◌, drop, length, get_or, IfOk, MatchOption, None};
 ghost use Rattle.cfdp_timers.specs.ButInactivity.{OnlyInactivity, IsLeastOther};
 ghost use Rattle.cfdp_entity.specs.Config.{IsConfig};
 ghost use Rattle.cfdp_entity.specs.Entity.{first_entity, phase_told, dropped};
@@ -12,6 +12,7 @@ use cfdp_directives::{Indication, Phase};
 use cfdp_header::TransactionId;
 use cfdp_store::{Inbox, Outbox};
 use circular_buffer::HeapCircularBuffer;
+use cfdp_forgotten::Forgotten;
 use std::alloc::{AllocError, Global};
 use std::marker::Model;
 
@@ -21,9 +22,9 @@ pub(crate) const MOST_STRAYS: usize = 64;
 /// An entity of CFDP, class 2 (CCSDS 727.0-B-5): it sends files of its outbox to its peer, and
 /// publishes in its inbox the files that its peer sends.
 ///
-/// Its records stay for good, closed ones too, at most 4,096. PDUs are given to it by `hear` and
-/// taken from it by `poll`; the time is told to it by `tick`. What it tells its user is a list that
-/// only grows.
+/// PDUs are given to it by `hear` and taken from it by `poll`; the time is told to it by `tick`. It
+/// has room for 4,096 records, and keeps closed ones, and all that it told its user, until its user
+/// lets them go: by `forget`, `forget_closed`, `next_indication` and `forget_indications`.
 #[derive(Drop)]
 pub struct Entity<O: Outbox, I: Inbox> {
     pub(crate) alloc: Global,
@@ -36,13 +37,15 @@ pub struct Entity<O: Outbox, I: Inbox> {
     pub(crate) next: Option<u64>,
     // By their number, of 1 to 17.
     drops: [u64; 18],
+    // The transactions that were let go.
+    pub(crate) forgotten: Forgotten,
 }
 
 impl<O: Outbox, I: Inbox> Model for Entity<O, I> {
     ghost use Rattle.std.specs.Prelude.{◌≡◌};
     ghost use Rattle.cfdp_entity.specs.Coded.{state_codes};
     ghost use Rattle.cfdp_entity.specs.Config.{IsConfig};
-    ghost use Rattle.cfdp_entity.specs.Entity.{Counted, AreFree, next_of};
+    ghost use Rattle.cfdp_entity.specs.Entity.{Counted, AreFree, AreUnforgotten, next_of};
 
     ghost Value = { Counted };
 
@@ -56,13 +59,15 @@ impl<O: Outbox, I: Inbox> Model for Entity<O, I> {
         next = next_of e.next;
         drops = e.drops;
         config = e.config;
+        forgotten = e.forgotten;
       };
       inbox_failures = e.table.inbox_failures;
       outbox_failures = e.table.outbox_failures;
     } };
 
     ghost invariant = { λ e. IsConfig e.config × (e.strays.capacity ≡ 64)
-        × AreFree e.config.entity (next_of e.next) e.table.state.records };
+        × AreFree e.config.entity (next_of e.next) e.table.state.records
+        × AreUnforgotten e.config.entity (next_of e.next) e.forgotten };
 }
 
 impl<O: Outbox, I: Inbox> Entity<O, I> {
@@ -89,6 +94,7 @@ impl<O: Outbox, I: Inbox> Entity<O, I> {
             cursor: 0,
             next,
             drops: [0; 18],
+            forgotten: Forgotten::new(alloc),
         })
     }
 
@@ -123,9 +129,9 @@ impl<O: Outbox, I: Inbox> Entity<O, I> {
         self.table.next_deadline()
     }
 
-    /// What was indicated, in order, from the first indication on.
+    /// What was indicated, in order, but for the first ones that were let go.
     pub fn indications(&self) -> &[Indication]
-        ensures { result.now ≡ self.now.state.table.told }
+        ensures { result.now ≡ drop self.now.state.table.gone self.now.state.table.told }
     {
         self.table.told()
     }

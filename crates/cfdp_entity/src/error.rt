@@ -234,6 +234,23 @@ impl CallError {
     }
 }
 
+/// Why a record isn't let go: the first cause that holds, in the order in which they are told.
+#[derive(Clone, Copy, Debug, PartialEq, Eq, Error)]
+pub enum ForgetError {
+    /// The transaction has no record here. Told first.
+    #[error("the transaction is not known")]
+    Unknown,
+    /// The transaction isn't closed.
+    #[error("the transaction is not over")]
+    StillOpen,
+    /// It has an acknowledgement due, which a poll sends.
+    #[error("an acknowledgement is due")]
+    AnswerDue,
+    /// There is no memory to keep that it is over. Told last.
+    #[error("there is no memory for it")]
+    NoMemory,
+}
+
 /// Why a file isn't added to an outbox in memory.
 #[derive(Clone, Copy, Debug, PartialEq, Eq, Error)]
 pub enum AddError {

@@ -14,7 +14,7 @@ use crate::route::Route;
 use crate::stray::Stray;
 use crate::table::MOST_RECORDS;
 use cfdp_directives::{
-    Addressing, Pdu, a_pdu_read_can_be_answered, decode, direction_fits, is_for,
+    Acknowledged, Addressing, Pdu, a_pdu_read_can_be_answered, decode, direction_fits, is_for,
 };
 use cfdp_header::Header;
 use cfdp_store::{Inbox, Outbox};
@@ -84,6 +84,7 @@ impl<O: Outbox, I: Inbox> Entity<O, I> {
                 self.queue(stray);
                 Ok(())
             }
+            Route::Passes => Ok(()),
         }
     }
 
@@ -103,7 +104,29 @@ impl<O: Outbox, I: Inbox> Entity<O, I> {
         }
         match self.table.place_of(header.id) {
             Some(place) => Route::Steps(place),
-            None => self.route_new(header, pdu),
+            None => {
+                if self.forgotten.contains(header.id) {
+                    self.route_over(header, pdu)
+                } else {
+                    self.route_new(header, pdu)
+                }
+            }
+        }
+    }
+
+    // Where a PDU of a transaction goes that was let go.
+    fn route_over(&self, header: &Header, pdu: &Pdu<'_>) -> Route
+        requires { FitsAddressing (addressing_of header.now) }
+        ensures { result ≡ hearings.route_over header.now (view pdu.now) self.now.state }
+    {
+        match pdu {
+            Pdu::Eof { condition, .. } => {
+                self.route_stray(Stray::over(header, Acknowledged::Eof, *condition))
+            }
+            Pdu::Finished { condition, .. } => {
+                self.route_stray(Stray::over(header, Acknowledged::Finished, *condition))
+            }
+            _ => Route::Passes,
         }
     }
 

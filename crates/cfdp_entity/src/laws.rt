@@ -1,6 +1,6 @@
 //! Laws of a table's steps, each the contract of a function that does nothing. `table_step` is one
 //! function for every step, which computes to the one that a call's contract names.
-ghost use Rattle.std.specs.Prelude.{◌≡◌, ◌≢◌, ◌++◌, ℕ, ◌≤◌, false, List, slice_get, Option, Some, Contains};
+ghost use Rattle.std.specs.Prelude.{◌≡◌, ◌≢◌, ◌++◌, ℕ, ◌≤◌, Bool, false, List, remove, slice_get, Option, Some, Contains};
 ghost use Rattle.cfdp_header.specs.declared.value.TransactionId.{TransactionId};
 ghost use Rattle.cfdp_header.specs.Files.{FileMap};
 ghost use Rattle.cfdp_header.specs.Ids.{same_id};
@@ -17,14 +17,15 @@ ghost use Rattle.cfdp_entity.specs.declared.config.EntityConfig.{EntityConfig};
 ghost use Rattle.cfdp_entity.specs.declared.error.EntityDrop.{EntityDrop};
 ghost use Rattle.cfdp_entity.specs.Config.{IsConfig};
 ghost use Rattle.cfdp_entity.specs.Steps.{After};
-ghost use Rattle.cfdp_entity.specs.Table.{Entry, TableState, Ticks, SpoiledAt, record_of, step_at, with_record, first_table};
-ghost use Rattle.cfdp_entity.specs.History.{TableStep, table_step, MayHappen, Leads, KeepsRecords, FinishesOnce};
+ghost use Rattle.cfdp_entity.specs.Table.{Entry, TableState, Ticks, SpoiledAt, without_told, record_of, step_at, with_record, first_table};
+ghost use Rattle.cfdp_entity.specs.History.{TableStep, table_step, MayHappen, OpensOther, Leads, KeepsRecords, FinishesOnce, also, none_gone, open_in};
 ghost use Rattle.cfdp_entity.specs.Truth.{TellsTruth, IsTrueTable};
 ghost use Rattle.cfdp_entity.specs.Seen.{due_content};
 ghost use Rattle.cfdp_entity.specs.Sending.{FindsPut, SendsTruth};
 ghost use Rattle.cfdp_entity.specs.Telling.{HearsDelivered, TellsNoMore};
 ghost use Rattle.cfdp_entity.specs.Entity.{EntityState, Counted, first_entity, with_table};
 ghost use Rattle.cfdp_entity.specs.Calls.{IsCalled};
+ghost use Rattle.cfdp_entity.specs.Forgetting.{Forgets, ForgetsSome};
 ghost use Rattle.cfdp_entity.specs.Hearing.{HearsOctets, DropsOctets};
 ghost use Rattle.cfdp_entity.specs.Polling.{turn, turn_octets, served};
 ghost use Rattle.cfdp_entity.specs.Putting.{Accepts};
@@ -85,13 +86,18 @@ pub fn records_stay_for_good()
 /// A transaction is indicated finished at most once, whatever happens to its table.
 pub fn a_table_finishes_a_transaction_once()
     ensures first { (sources files : FileMap) (policy : Policy) →
-        FinishesOnce (first_table sources files policy).records
+        FinishesOnce none_gone (first_table sources files policy).records
         (first_table sources files policy).told }
-    ensures step { (s : TableStep) (st : TableState) → MayHappen s st
-        → FinishesOnce st.records st.told
-        → FinishesOnce (table_step s st).records (table_step s st).told }
-    ensures steps { (old new : TableState) → Leads old new → FinishesOnce old.records old.told
-        → FinishesOnce new.records new.told }
+    ensures step { (gone : TransactionId → Bool) (s : TableStep) (st : TableState) →
+        MayHappen s st → OpensOther gone s → FinishesOnce gone st.records st.told
+        → FinishesOnce gone (table_step s st).records (table_step s st).told }
+    ensures steps { (old new : TableState) → Leads old new
+        → FinishesOnce none_gone old.records old.told
+        → FinishesOnce none_gone new.records new.told }
+    ensures forgets { (gone : TransactionId → Bool) (place : ℕ) (e : Entry) (st : TableState) →
+        slice_get st.records place ≡ Some e → open_in e.1 ≡ 0
+        → FinishesOnce gone st.records st.told
+        → FinishesOnce (also e.0 gone) (remove st.records place) st.told }
     ensures once { (sources files : FileMap) (policy : Policy) (st : TableState)
         (id : TransactionId) → Leads (first_table sources files policy) st
         → finished_count id st.told ≤ 1 }
@@ -235,6 +241,22 @@ pub fn an_entity_goes_on()
     ensures dropped { (pdu : List ℕ) (by : EntityDrop) (old new : Counted) →
         DropsOctets (pdu_fault pdu) pdu by old new → GoesOn old.state new.state }
     ensures served { (stored : Stored) (e : EntityState) → GoesOn e (served stored (turn e) e) }
+{}
+
+/// An entity that lets records and indications go stays sound: what it indicated is what it was, and
+/// so is its inbox, and a transaction that was let go is finished no second time.
+pub fn an_entity_may_forget()
+    ensures sound { (put_of : TransactionId → Option Put) (heard : List (List ℕ))
+        (first : FileMap) (id : TransactionId) (old new : EntityState) → Forgets id old new
+        → IsSound put_of heard first old → IsSound put_of heard first new }
+    ensures goes_on { (id : TransactionId) (old new : EntityState) → Forgets id old new
+        → GoesOn old new }
+    ensures some { (put_of : TransactionId → Option Put) (heard : List (List ℕ))
+        (first : FileMap) (old new : EntityState) → ForgetsSome old new
+        → IsSound put_of heard first old → IsSound put_of heard first new }
+    ensures told { (put_of : TransactionId → Option Put) (heard : List (List ℕ))
+        (first : FileMap) (count : ℕ) (e : EntityState) → IsSound put_of heard first e
+        → IsSound put_of heard first (with_table e (without_told count e.table)) }
 {}
 
 /// An entity sends the truth of its own puts, and tells its peer that a file was delivered only of

@@ -7,10 +7,12 @@ mod adding;
 mod amiss;
 mod call;
 mod calls;
+mod closed;
 mod config;
 mod desk;
 mod entity;
 mod error;
+mod forgetting;
 mod hearing;
 mod laws;
 mod looking;
@@ -33,13 +35,14 @@ pub use cfdp_directives::{
 };
 pub use cfdp_header::{HeaderError, TransactionId};
 pub use cfdp_store::{Inbox, Outbox, StoreError};
+pub use closed::{a_closed_receiver_acknowledges, a_closed_sender_acknowledges};
 pub use config::EntityConfig;
 pub use entity::Entity;
-pub use error::{AddError, CallError, EntityDrop, PutError};
+pub use error::{AddError, CallError, EntityDrop, ForgetError, PutError};
 pub use laws::{
     a_table_finishes_a_transaction_once, a_table_keeps_the_truth, a_table_sends_the_truth,
-    a_table_tells_no_more, an_entity_goes_on, an_entity_keeps_the_truth, an_entity_sends_the_truth,
-    calls_are_steps, other_records_stay, records_stay_for_good,
+    a_table_tells_no_more, an_entity_goes_on, an_entity_keeps_the_truth, an_entity_may_forget,
+    an_entity_sends_the_truth, calls_are_steps, other_records_stay, records_stay_for_good,
 };
 pub use polled::{EntityPolled, Rooms};
 pub use transactions::Transactions;

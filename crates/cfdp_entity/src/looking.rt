@@ -1,5 +1,5 @@
 // What a user can look at, beside what every driver asks for.
-ghost use Rattle.std.specs.Prelude.{◌≡◌, ◌+◌, drop, length, MatchOption};
+ghost use Rattle.std.specs.Prelude.{◌≡◌, ◌+◌, ◌<◌, drop, length, MatchOption};
 ghost use Rattle.std.specs.FinMap as map;
 ghost use Rattle.cfdp_timers.specs.Due.{IsLeast};
 ghost use Rattle.cfdp_entity.specs.Walking.{phases_of};
@@ -21,7 +21,7 @@ impl<O: Outbox, I: Inbox> Entity<O, I> {
     }
 
     /// How many more transactions there is room for: each has one of 4,096 records, which it keeps
-    /// for good.
+    /// until it is forgotten.
     pub fn records_left(&self) -> usize
         ensures { result + length self.now.state.table.records ≡ 4096 }
     {
@@ -38,12 +38,22 @@ impl<O: Outbox, I: Inbox> Entity<O, I> {
         self.table.next_expiry()
     }
 
-    /// What was indicated behind the first so many indications, in order; none where there are no
-    /// more. Who adds up how many it has been given takes out each one once.
-    pub fn indications_since(&self, mark: usize) -> &[Indication]
-        ensures { result.now ≡ drop mark self.now.state.table.told }
+    /// What was indicated behind the first so many indications, in order: none where there are no
+    /// more, and `None` where some of it was let go. Who adds up how many it has been given takes
+    /// out each one once.
+    pub fn indications_since(&self, mark: u64) -> Option<&[Indication]>
+        ensures { MatchOption result (mark < self.now.state.table.gone)
+            (λ rest. rest.now ≡ drop mark self.now.state.table.told) }
     {
-        behind(self.table.told(), mark)
+        let at = mark.checked_sub(self.table.gone())?;
+        Some(behind(self.table.told(), at as usize))
+    }
+
+    /// How many indications were let go: the mark of the first one that is left.
+    pub fn indications_gone(&self) -> u64
+        ensures { result ≡ self.now.state.table.gone }
+    {
+        self.table.gone()
     }
 }
 

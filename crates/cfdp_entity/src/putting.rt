@@ -1,5 +1,5 @@
 // Files that an entity is asked to send.
-ghost use Rattle.std.specs.Prelude.{◌≡◌, ◌<◌, ◌≤◌, ◌^◌, nat_lt, true, None, Some, is_some, IfSome, IfErr, IfOk, OnOk, OnErr};
+ghost use Rattle.std.specs.Prelude.{◌≡◌, ◌<◌, ◌≤◌, ◌^◌, nat_lt, true, false, None, Some, is_some, IfSome, IfErr, IfOk, OnOk, OnErr};
 ghost use Rattle.std.specs.FinMap as map;
 ghost use Rattle.std.specs.Result.{result_err};
 ghost use Rattle.cfdp_header.specs.Header.{IsWidth};
@@ -8,7 +8,7 @@ ghost use Rattle.cfdp_store.specs.declared.stored.Stored.TheVariants as storeds;
 ghost use Rattle.cfdp_store.specs.Stores.{failures_after};
 ghost use Rattle.cfdp_sender.specs.Does.{HasFile};
 ghost use Rattle.cfdp_sender.specs.State.{IsSendable};
-ghost use Rattle.cfdp_entity.specs.Entity.{next_of};
+ghost use Rattle.cfdp_entity.specs.Entity.{is_forgotten, next_of};
 ghost use Rattle.cfdp_entity.specs.Putting.{Accepts, MayPutAs, IsPutRefusal, early_refusal, put_refusal, stored_by_error, was_answered, asked, next_id, next_transfer, with_put};
 ghost use Rattle.cfdp_entity.specs.Table.{place_of};
 
@@ -137,6 +137,8 @@ impl<O: Outbox, I: Inbox> Entity<O, I> {
         ensures id { IfOk result (λ id. id ≡ next_id self.old.state) }
         ensures fresh { OnOk result (place_of (next_id self.old.state)
             self.old.state.table.records ≡ None) }
+        ensures unforgotten { OnOk result (is_forgotten self.old.state (next_id self.old.state)
+            ≡ false) }
         ensures err { OnErr result (self.new ≡ self.old) }
     {
         let transfer = self.transfer(number, source, destination, size)?;

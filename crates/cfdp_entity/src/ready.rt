@@ -1,4 +1,4 @@
-ghost use Rattle.std.specs.Prelude.{◌≡◌, ◌≢◌, ◌+◌, ◌++◌, ◌∷◌, ◌<◌, ◌≤◌, ℕ, [], None, cond, drop, length, position, IfSome, IfOk, slice_set};
+ghost use Rattle.std.specs.Prelude.{◌≡◌, ◌≢◌, ◌+◌, ◌-◌, ◌++◌, ◌∷◌, ◌<◌, ◌≤◌, ℕ, [], None, cond, drop, false, get_or, length, position, remove, take, IfSome, IfOk, slice_set};
 ghost use Rattle.std.specs.Int.{bit_at};
 ghost use Rattle.std.specs.Option.{option_map};
 ghost use Rattle.cfdp_entity.specs.Ready.{next_true};
@@ -58,6 +58,47 @@ impl Ready {
         let flags = with_bit(self.words[word], place % BITS, due);
         self.words[word] = flags;
         self.some = with_bit(self.some, word, flags != 0);
+    }
+
+    fn len(&self) -> usize
+        ensures len { result ≡ length self.now }
+        ensures few { result ≤ 4096 }
+    {
+        self.len
+    }
+
+    /// Removes a place: those behind it move up.
+    pub fn remove(&mut self, place: usize)
+        requires within { place < length self.old }
+        ensures { self.new ≡ remove self.old place }
+    {
+        let last = self.len() - 1;
+        for to in place..last {
+            let due = self.is_set(to + 1);
+            self.set(to, due);
+        }
+        self.set(last, false);
+        self.shorten();
+    }
+
+    // Whether a place has something due.
+    fn is_set(&self, place: usize) -> bool
+        requires within { place < length self.now }
+        ensures { result ≡ get_or self.now place false }
+    {
+        match first_bit(self.words[place / BITS], place % BITS) {
+            Some(bit) => bit == place % BITS,
+            None => false,
+        }
+    }
+
+    // Removes the last place, which has nothing due.
+    fn shorten(&mut self)
+        requires some { 0 < length self.old }
+        requires clear { get_or self.old (length self.old - 1) false ≡ false }
+        ensures { self.new ≡ take (length self.old - 1) self.old }
+    {
+        self.len -= 1;
     }
 
     /// The first place from one on that has something due, and else the first of all.

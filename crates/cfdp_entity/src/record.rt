@@ -10,6 +10,7 @@ ghost use Rattle.cfdp_receiver.specs.Does.{KeptAlone, MakesIn, at};
 ghost use Rattle.cfdp_receiver.specs.Due.{receiver_due};
 ghost use Rattle.cfdp_entity.specs.Calling as calling;
 ghost use Rattle.cfdp_entity.specs.Desk.{Staged};
+ghost use Rattle.cfdp_entity.specs.Forgetting as forgetting;
 ghost use Rattle.cfdp_entity.specs.Seen as seens;
 ghost use Rattle.cfdp_entity.specs.Seen.{seen, is_due};
 ghost use Rattle.cfdp_entity.specs.Steps.{sender_after, receiver_after, called_sender, called_receiver};
@@ -20,7 +21,7 @@ ghost use Rattle.cfdp_entity.specs.Storing.{AsksCalled, AsksHeard};
 ghost use Rattle.cfdp_entity.specs.Whole.{IsReadyRecord};
 
 use crate::call::Call;
-use crate::error::CallError;
+use crate::error::{CallError, ForgetError};
 use cfdp_directives::{Acknowledged, Outcome, Pdu, Phase, Policy};
 use cfdp_receiver::{Ending, Metadata, Receiver};
 use cfdp_sender::Sender;
@@ -91,6 +92,20 @@ impl Record {
             Record::Sends(sender) => sender.phase(),
             Record::Receives(receiver) => receiver.phase(),
         }
+    }
+
+    /// Why it can't be let go, if it can't.
+    pub(crate) fn forget_refusal(&self) -> Option<ForgetError>
+        ensures { (staged : Option OctetMap) → result
+            ≡ forgetting.refusal (seen staged self.now) }
+    {
+        if self.phase() != Phase::Closed {
+            return Some(ForgetError::StillOpen);
+        }
+        if self.is_due() {
+            return Some(ForgetError::AnswerDue);
+        }
+        None
     }
 
     /// Why a call is refused, if it is.

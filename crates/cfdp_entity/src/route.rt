@@ -12,4 +12,6 @@ pub(crate) enum Route {
     Opens,
     /// It is answered, and no record is opened.
     Queues(Stray),
+    /// Nowhere: its transaction is over, and it wants no answer.
+    Passes,
 }

@@ -5,19 +5,21 @@ ghost use Rattle.cfdp_directives.specs.Pdu.Content.{view};
 ghost use Rattle.cfdp_entity.specs.Gives.{Writes};
 ghost use Rattle.cfdp_entity.specs.Sound.{longest_pdu};
 ghost use Rattle.cfdp_entity.specs.Spelled.{StrayIsSpelled};
-ghost use Rattle.cfdp_entity.specs.Strays.{stray_says, stray_octets, stray_len};
+ghost use Rattle.cfdp_entity.specs.Strays.{over_ack, unknown_ack, stray_says, stray_octets, stray_len};
 
 use cfdp_directives::{Acknowledged, Addressing, Condition, Pdu, TransactionStatus};
 use cfdp_header::Header;
 use std::marker::Model;
 
-/// The ACK of a Finished whose transaction has no record here.
+/// The ACK of a Finished, or of an EOF, whose transaction has no record here.
 #[derive(Drop)]
 pub struct Stray {
     addressing: Addressing,
-    // The Finished's large file flag.
+    // The large file flag of what is acknowledged.
     large: bool,
+    of: Acknowledged,
     condition: Condition,
+    status: TransactionStatus,
 }
 
 impl Model for Stray {
@@ -29,7 +31,9 @@ impl Model for Stray {
     ghost view = { λ s. record {
       addressing = s.addressing;
       large = s.large;
+      of = s.of;
       condition = s.condition;
+      status = s.status;
     } };
 
     ghost invariant = { λ s. FitsAddressing s.addressing };
@@ -40,16 +44,42 @@ impl Stray {
     /// flag.
     pub(crate) fn of(header: &Header, condition: Condition) -> Self
         requires { FitsAddressing (addressing_of header.now) }
+        ensures { result ≡ unknown_ack header.now condition }
+    {
+        let status = TransactionStatus::Unrecognized;
+        Stray::answer(header, Acknowledged::Finished, condition, status)
+    }
+
+    /// The answer to a Finished or an EOF with this header and condition, of a transaction that is
+    /// over.
+    pub(crate) fn over(header: &Header, of: Acknowledged, condition: Condition) -> Self
+        requires { FitsAddressing (addressing_of header.now) }
+        ensures { result ≡ over_ack header.now of condition }
+    {
+        Stray::answer(header, of, condition, TransactionStatus::Terminated)
+    }
+
+    fn answer(
+        header: &Header,
+        of: Acknowledged,
+        condition: Condition,
+        status: TransactionStatus,
+    ) -> Self
+        requires { FitsAddressing (addressing_of header.now) }
         ensures { result ≡ record {
           addressing = addressing_of header.now;
           large = header.now.large;
+          of = of;
           condition = condition;
+          status = status;
         } }
     {
         Stray {
             addressing: Addressing::of(header),
             large: header.large,
+            of,
             condition,
+            status,
         }
     }
 
@@ -57,9 +87,9 @@ impl Stray {
         ensures { view result ≡ stray_says self.now }
     {
         Pdu::Ack {
-            of: Acknowledged::Finished,
+            of: self.of,
             condition: self.condition,
-            status: TransactionStatus::Unrecognized,
+            status: self.status,
         }
     }
 

@@ -1,5 +1,5 @@
 // Records, and the desk that their steps work on.
-ghost use Rattle.std.specs.Prelude.{◌≡◌, ◌+◌, ◌≤◌, ◌<◌, ◌++◌, ◌∷◌, ◌*◌, max, true, None, Option, [], length, slice_get, IfErr, IfOk, IfSome, MatchOption, OnOk, OnErr, is_ok};
+ghost use Rattle.std.specs.Prelude.{◌≡◌, ◌+◌, ◌≤◌, ◌<◌, ◌++◌, ◌∷◌, ◌*◌, drop, max, true, None, Some, Option, [], length, slice_get, IfErr, IfOk, IfSome, MatchOption, OnOk, OnErr, is_ok};
 ghost use Rattle.std.specs.FinMap as map;
 ghost use Rattle.std.specs.Option.{option_map};
 ghost use Rattle.std.specs.List.{IsDistinct};
@@ -16,6 +16,8 @@ ghost use Rattle.cfdp_sender.specs.State.{IsSendable};
 ghost use Rattle.cfdp_sender.specs.Does.{HasFile};
 ghost use Rattle.cfdp_entity.specs.Adding.{AddsSource, RefusesToAdd, with_source};
 ghost use Rattle.cfdp_entity.specs.Calling as calling;
+ghost use Rattle.cfdp_entity.specs.Forgetting as forgetting;
+ghost use Rattle.cfdp_entity.specs.Forgetting.{left_at, over_in};
 ghost use Rattle.cfdp_entity.specs.Opening.{closing, AsksInOrder, CountsBoth};
 ghost use Rattle.cfdp_entity.specs.Roomy.{Becomes, LacksMemory, MayAdd, SendsFrom, Steps};
 ghost use Rattle.cfdp_entity.specs.Sound.{longest_pdu};
@@ -23,11 +25,11 @@ ghost use Rattle.cfdp_entity.specs.Spelled.{EntryIsSpelled};
 ghost use Rattle.cfdp_entity.specs.Storing.{AsksToHear, AsksToCall, AsksToExpire, AsksByTimer, AsksToFire, AsksToTick, AsksToOpen};
 ghost use Rattle.cfdp_entity.specs.Walking.{phases_of};
 ghost use Rattle.cfdp_entity.specs.Table as tables;
-ghost use Rattle.cfdp_entity.specs.Table.{heard_at, expired_at, called_at, data_at, len_at, put_in, opened_by, next_due, first_table, all_expired, at_time, Ticks, phase_in};
+ghost use Rattle.cfdp_entity.specs.Table.{next_told, without_told, heard_at, expired_at, called_at, data_at, len_at, put_in, opened_by, next_due, first_table, all_expired, at_time, Ticks, phase_in};
 
 use crate::call::Call;
 use crate::desk::Desk;
-use crate::error::{AddError, CallError};
+use crate::error::{AddError, CallError, ForgetError};
 use crate::opening::{MOST_TOLD, Opened};
 use crate::ready::Ready;
 use crate::record::{Gave, Record};
@@ -38,6 +40,7 @@ use cfdp_sender::Transfer;
 use cfdp_store::{Inbox, MemoryOutbox, Outbox, StoreError, Stored};
 use cfdp_timers::{Effects, Kind};
 use indexmap::IndexMap;
+use past::Counted;
 use std::alloc::{AllocError, Global};
 use std::marker::Model;
 
@@ -50,6 +53,8 @@ pub struct Table<O: Outbox, I: Inbox> {
     alloc: Global,
     records: IndexMap<TransactionId, Record>,
     ready: Ready,
+    // The indications that were let go: those that are left stand on the desk.
+    gone: Counted<Indication>,
     desk: Desk<O, I>,
 }
 
@@ -63,7 +68,7 @@ impl<O: Outbox, I: Inbox> Model for Table<O, I> {
 
     ghost coded = { Prim.hlevel (state_codes) };
 
-    ghost view = { λ t. roomy_of (on_desk O.Outbox I.Inbox t.desk) t.records.entries };
+    ghost view = { λ t. roomy_of t.gone (on_desk O.Outbox I.Inbox t.desk) t.records.entries };
 
     ghost invariant = { λ t. IsWhole (on_desk O.Outbox I.Inbox t.desk) t.records.entries t.ready };
 }
@@ -88,6 +93,7 @@ impl<O: Outbox, I: Inbox> Table<O, I> {
             alloc,
             records: IndexMap::new(alloc),
             ready,
+            gone: Counted::new(),
             desk,
         })
     }
@@ -101,11 +107,46 @@ impl<O: Outbox, I: Inbox> Table<O, I> {
         self.records.len()
     }
 
-    /// What was indicated.
+    /// What was indicated, but for what was let go.
     pub fn told(&self) -> &[Indication]
-        ensures { result.now ≡ self.now.state.told }
+        ensures { result.now ≡ drop self.now.state.gone self.now.state.told }
     {
         self.desk.effects.told.as_slice()
+    }
+
+    /// How many indications were let go.
+    pub fn gone(&self) -> u64
+        ensures { result ≡ self.now.state.gone }
+    {
+        self.gone.count()
+    }
+
+    /// Lets the first so many go of the indications that are left.
+    pub fn forget_told(&mut self, count: usize)
+        ensures { Becomes (without_told count self.old.state) self.old self.new }
+    {
+        let told = &mut self.desk.effects.told;
+        let count = count.min(told.len());
+        if self.gone.count().checked_add(count as u64).is_none() {
+            return;
+        }
+        self.gone.put_all(&told[..count]);
+        told.rotate_left(count);
+        told.truncate(told.len() - count);
+    }
+
+    /// Takes the first of the indications that are left.
+    pub fn take_told(&mut self) -> Option<Indication>
+        ensures told { result ≡ next_told self.old.state }
+        ensures state { Becomes (without_told 1 self.old.state) self.old self.new }
+    {
+        let told = &mut self.desk.effects.told;
+        if told.is_empty() || self.gone.count() == u64::MAX {
+            return None;
+        }
+        let next = told.remove(0);
+        self.gone.put(&next);
+        Some(next)
     }
 
     /// Where the record of a transaction is.
@@ -171,6 +212,37 @@ impl<O: Outbox, I: Inbox> Table<O, I> {
             Some((_, held)) => held.refusal(call),
             None => Some(CallError::Unknown),
         }
+    }
+
+    /// Why the record at a place can't be let go, if it can't.
+    pub fn forget_refusal_at(&self, place: usize) -> Option<ForgetError>
+        ensures { result ≡ forgetting.refusal_of (slice_get self.now.state.records place) }
+    {
+        match self.records.get_index(place) {
+            Some((_, held)) => held.forget_refusal(),
+            None => Some(ForgetError::Unknown),
+        }
+    }
+
+    /// The transaction of the record at a place, if that may be let go.
+    pub fn over_at(&self, place: usize) -> Option<TransactionId>
+        ensures { result ≡ over_in (slice_get self.now.state.records place) }
+    {
+        match self.records.get_index(place) {
+            Some((id, held)) => unless_refused(held.forget_refusal(), *id),
+            None => None,
+        }
+    }
+
+    /// Lets go of the record at a place: those behind it move up, and no timer of its transaction
+    /// is armed.
+    pub fn forget(&mut self, place: usize, id: TransactionId)
+        requires at { slice_get (keys_of self.old.state.records) place ≡ Some id }
+        ensures { Becomes (left_at place id self.old.state) self.old self.new }
+    {
+        let _ = self.records.shift_remove_index(place);
+        self.ready.remove(place);
+        self.desk.effects.timers.let_go(id);
     }
 
     /// Octets of a file of the outbox.
@@ -378,6 +450,16 @@ impl<O: Outbox, I: Inbox> Table<O, I> {
         if let Some(place) = self.place_of(id) {
             self.expire(place, kind);
         }
+    }
+}
+
+// A transaction, where its record isn't refused to go.
+fn unless_refused(refusal: Option<ForgetError>, id: TransactionId) -> Option<TransactionId>
+    ensures { result ≡ forgetting.unless_refused refusal id }
+{
+    match refusal {
+        None => Some(id),
+        Some(_) => None,
     }
 }
 

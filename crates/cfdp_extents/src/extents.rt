@@ -84,6 +84,8 @@ impl Extents {
         ensures empty { start ≡ end → IsOk result }
         ensures held { set.is_subset (range start end) self.old ≡ true →
             IsOk result × (self.new ≡ self.old) }
+        // Nor does what follows the last part.
+        ensures next { 0 < start → start ≡ end_of self.old → IsOk result }
     {
         if start == end {
             return Ok(());

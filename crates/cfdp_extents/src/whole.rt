@@ -1,6 +1,6 @@
 // Steps on ranges of which the greatest stands beside the map of the others, so that a range put in
 // at the end, as most are, changes that one alone.
-ghost use Rattle.std.specs.Prelude.{◌≡◌, ◌<◌, [], None, Some, OnOk, OnErr, drop, set};
+ghost use Rattle.std.specs.Prelude.{◌≡◌, ◌<◌, ◌≤◌, ℕ, [], None, Some, IsOk, OnOk, OnErr, drop, set};
 ghost use Rattle.cfdp_extents.specs.Offsets.{AreApart};
 ghost use Rattle.cfdp_extents.specs.Ranges.{turned, with_last, first_from, first_behind, with_range, Untouched};
 
@@ -75,6 +75,8 @@ pub(crate) fn join(
     // It fails only where no range touches the end.
     ensures touched { OnErr result
         (Untouched end (first_from end (with_last (turned ranges.old.entries) last.old))) }
+    // What follows the greatest range takes no memory.
+    ensures next { (low : ℕ) → last.old ≡ Some (low, start) → low ≤ start → IsOk result }
     ensures none { last.new ≡ None → ranges.new.entries ≡ [] }
 {
     let Some((low, high)) = *last else {

@@ -36,6 +36,7 @@
 
 mod amiss;
 mod config;
+mod forgetting;
 mod looking;
 mod moving;
 mod polled;
@@ -48,7 +49,8 @@ pub use cfdp_directives::{
     PduError, Phase, Policy, Times,
 };
 pub use cfdp_entity::{
-    AddError, CallError, EntityConfig, EntityDrop, EntityField, PutError, Transactions,
+    AddError, CallError, EntityConfig, EntityDrop, EntityField, ForgetError, PutError,
+    Transactions,
 };
 pub use cfdp_header::{HeaderError, TransactionId};
 pub use cfdp_store::{Inbox, Outbox, StoreError};

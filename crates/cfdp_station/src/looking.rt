@@ -1,5 +1,5 @@
 // What a user can look at, beside what every driver asks for.
-ghost use Rattle.std.specs.Prelude.{◌≡◌, ◌+◌, drop, length, MatchOption};
+ghost use Rattle.std.specs.Prelude.{◌≡◌, ◌+◌, ◌<◌, drop, length, MatchOption};
 ghost use Rattle.std.specs.FinMap as map;
 ghost use Rattle.cfdp_timers.specs.Due.{IsLeast};
 ghost use Rattle.cfdp_entity.specs.Walking.{phases_of};
@@ -21,7 +21,7 @@ impl<O: Outbox, I: Inbox> Station<O, I> {
     }
 
     /// How many more transactions there is room for: each has one of 4,096 records, which it keeps
-    /// for good.
+    /// until it is forgotten.
     pub fn records_left(&self) -> usize
         ensures { result + length self.now.entity.state.table.records ≡ 4096 }
     {
@@ -38,20 +38,28 @@ impl<O: Outbox, I: Inbox> Station<O, I> {
         self.entity.next_expiry()
     }
 
-    /// What was indicated behind the first so many indications, in order; none where there are no
-    /// more. Who adds up how many it has been given takes out each one once.
+    /// What was indicated behind the first so many indications, in order: none where there are no
+    /// more, and `None` where some of it was let go. Who adds up how many it has been given takes
+    /// out each one once.
     ///
     /// ```
-    /// let news = station.indications_since(seen);
-    /// for told in news {
+    /// for told in station.indications_since(seen).unwrap_or(&[]) {
     ///     // What became of a transaction.
+    ///     seen += 1;
     /// }
-    /// seen += news.len();
     /// ```
-    pub fn indications_since(&self, mark: usize) -> &[Indication]
-        ensures { result.now ≡ drop mark self.now.entity.state.table.told }
+    pub fn indications_since(&self, mark: u64) -> Option<&[Indication]>
+        ensures { MatchOption result (mark < self.now.entity.state.table.gone)
+            (λ rest. rest.now ≡ drop mark self.now.entity.state.table.told) }
     {
         self.entity.indications_since(mark)
+    }
+
+    /// How many indications were let go: the mark of the first one that is left.
+    pub fn indications_gone(&self) -> u64
+        ensures { result ≡ self.now.entity.state.table.gone }
+    {
+        self.entity.indications_gone()
     }
 }
 

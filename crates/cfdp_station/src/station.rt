@@ -1,5 +1,5 @@
 //! An entity over both directions of a link.
-ghost use Rattle.std.specs.Prelude.{◌≡◌, ℕ, ◌+◌, ◌*◌, ◌<◌, ◌≤◌, ◌↔◌, Bool, List, [], true, false, length, max, get_or, IfOk, IfErr, MatchOption, None, IfSome, OnOk, OnErr};
+ghost use Rattle.std.specs.Prelude.{◌≡◌, ℕ, ◌+◌, ◌*◌, ◌<◌, ◌≤◌, ◌↔◌, Bool, List, [], true, false, drop, length, max, get_or, IfOk, IfErr, MatchOption, None, IfSome, OnOk, OnErr};
 ghost use Rattle.mpdu.specs.Stream.{ArePackets};
 ghost use Rattle.aos_frame.specs.Frame.{lane_link, other_lane};
 ghost use Rattle.link_stack.specs.Downward.{Flushes, IsDown, KeepsLanes, MakesFrame, both_counted_from, first_down, frame_lane, idle_zones, lane_down};
@@ -266,9 +266,10 @@ impl<O: Outbox, I: Inbox> Station<O, I> {
         self.entity.next_deadline()
     }
 
-    /// What was indicated, in order, from the first indication on.
+    /// What was indicated, in order, but for the first ones that were let go.
     pub fn indications(&self) -> &[Indication]
-        ensures { result.now ≡ self.now.entity.state.table.told }
+        ensures { result.now ≡ drop self.now.entity.state.table.gone
+            self.now.entity.state.table.told }
     {
         self.entity.indications()
     }

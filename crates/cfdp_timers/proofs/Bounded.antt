@@ -15,7 +15,7 @@ use Rattle.cfdp_timers.specs.Entries.{no_deadlines, deadline_at, deadlines_in, w
 use Rattle.cfdp_timers.proofs.Written.{written}
 
 -- ---- the deadlines at a place
-none-armed : (kind : Kind) (at : ℕ) → deadline_at no_deadlines kind ≡ Some at → ⊥
+pub none-armed : (kind : Kind) (at : ℕ) → deadline_at no_deadlines kind ≡ Some at → ⊥
 none-armed EofAck at h = none-some at h
 none-armed Nak at h = none-some at h
 none-armed FinishedAck at h = none-some at h
@@ -67,14 +67,14 @@ bounds-pushed es id bounds are room =
 -- ---- a bound that is set
 
 -- ---- a deadline that is set
-length-lowered : (bounds : List ℕ) (block : ℕ) (o : Option ℕ) → length (lowered bounds block o) ≡ length bounds
+pub length-lowered : (bounds : List ℕ) (block : ℕ) (o : Option ℕ) → length (lowered bounds block o) ≡ length bounds
 length-lowered bounds block None = refl
 length-lowered bounds block (Some at) = length-set bounds block (min (get_or bounds block 0) at)
 
-lowered-at : (bounds : List ℕ) (block at : ℕ) → block < length bounds → get_or (lowered bounds block (Some at)) block 0 ≤ at
+pub lowered-at : (bounds : List ℕ) (block at : ℕ) → block < length bounds → get_or (lowered bounds block (Some at)) block 0 ≤ at
 lowered-at bounds block at within = let e = get_or-set_same bounds block (min (get_or bounds block 0) at) 0 within in omega (arith, e)
 
-lowered-le : (bounds : List ℕ) (block : ℕ) (o : Option ℕ) (k : ℕ) → block < length bounds → get_or (lowered bounds block o) k 0 ≤ get_or bounds k 0
+pub lowered-le : (bounds : List ℕ) (block : ℕ) (o : Option ℕ) (k : ℕ) → block < length bounds → get_or (lowered bounds block o) k 0 ≤ get_or bounds k 0
 lowered-le bounds block None k within = omega arith
 lowered-le bounds block (Some at) k within =
     let low : ℕ = min (get_or bounds block 0) at in

@@ -12,3 +12,4 @@ pub mod Firsts
 pub mod Replaced
 pub mod Bounded
 pub mod Skipped
+pub mod LetGo

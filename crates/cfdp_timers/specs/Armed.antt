@@ -6,6 +6,7 @@ use Rattle.std.specs.FinSet as set
 use Rattle.cfdp_header.specs.declared.value.TransactionId.{TransactionId}
 use Rattle.cfdp_header.specs.contracts.value.TransactionId as id
 use Rattle.cfdp_timers.specs.declared.kind.Kind.{Kind}
+use Rattle.cfdp_timers.specs.declared.kind.Kind.TheVariants.{EofAck, Nak, FinishedAck, Inactivity}
 use Rattle.cfdp_timers.specs.contracts.kind.Kind as kind
 use Rattle.cfdp_timers.specs.Order.{Timer, timer_cmp}
 use Rattle.cfdp_header.specs.Ids.{id_cmp}
@@ -42,3 +43,9 @@ deadline_of timers id kind = map.get timers.armed (id, kind)
 abbrev pub with_timer : Armed → Timer → Option ℕ → Armed
 with_timer armed t None = map.remove armed t
 with_timer armed t (Some at) = map.insert armed t at
+
+-- without the timers of a transaction
+abbrev pub cleared : Armed → TransactionId → Armed
+cleared armed id =
+    map.remove (map.remove (map.remove (map.remove armed (id, EofAck)) (id, Nak)) (id, FinishedAck))
+    (id, Inactivity)

@@ -1,5 +1,5 @@
 // Deadlines by place, and the earliest of each block of them.
-ghost use Rattle.std.specs.Prelude.{◌≡◌, ◌+◌, ◌*◌, ◌/◌, ◌≤◌, ◌<◌, ◌++◌, [], ◌∷◌, None, length, take, drop, slice_set, OnOk, OnErr};
+ghost use Rattle.std.specs.Prelude.{◌≡◌, ◌+◌, ◌*◌, ◌/◌, ◌≤◌, ◌<◌, ◌++◌, [], ◌∷◌, None, ◌-◌, length, take, drop, get_or, slice_set, swap_remove, OnOk, OnErr};
 ghost use Rattle.cfdp_timers.specs.Entries as kept;
 ghost use Rattle.cfdp_timers.specs.Entries.{AreFirsts};
 
@@ -58,6 +58,27 @@ impl Blocks {
         let old = self.each[place];
         self.each[place] = deadline;
         put(&self.each, &mut self.firsts, place, old);
+    }
+
+    /// Removes a place. The last one takes it.
+    pub(crate) fn swap_remove(&mut self, place: usize)
+        requires within { place < length self.old }
+        ensures { self.new ≡ swap_remove self.old place None }
+    {
+        let last = self.each.len() - 1;
+        let moved = self.each[last];
+        self.set(place, moved);
+        self.set(last, None);
+        self.pop();
+    }
+
+    // Removes the last place, which has no deadline.
+    fn pop(&mut self)
+        requires some { 0 < length self.old }
+        requires none { get_or self.old (length self.old - 1) None ≡ None }
+        ensures { self.new ≡ take (length self.old - 1) self.old }
+    {
+        let _ = self.each.pop();
     }
 
     /// The earliest of all.

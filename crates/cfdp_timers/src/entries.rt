@@ -1,8 +1,8 @@
 // The deadlines of each transaction; beside them, by place, the earliest but Inactivity's, and, by
 // block, the bounds.
-ghost use Rattle.std.specs.Prelude.{◌≡◌, ◌*◌, ◌/◌, ◌<◌, ◌++◌, [], ◌∷◌, true, None, IsSome, OnOk, OnErr, length, get_or, slice_set};
+ghost use Rattle.std.specs.Prelude.{◌≡◌, ◌*◌, ◌/◌, ◌<◌, ◌≤◌, ◌++◌, [], ◌∷◌, true, None, IsSome, OnOk, OnErr, cond, length, get_or, slice_set};
 ghost use Rattle.std.specs.List.{IsDistinct};
-ghost use Rattle.std.specs.Map.{keys_of};
+ghost use Rattle.std.specs.Map.{keys_of, lookup};
 ghost use Rattle.std.specs.FinSet as set;
 ghost use Rattle.std.specs.Ordering.{eq_by_cmp};
 ghost use Rattle.indexmap.specs.IndexMap.{get, spare, set_value_at};
@@ -15,6 +15,7 @@ use crate::Kind;
 use crate::blocks::{BLOCK, Blocks};
 use crate::bounds::Bounds;
 use crate::deadlines::Deadlines;
+use crate::walk::earliest_at;
 use cfdp_header::TransactionId;
 use indexmap::IndexMap;
 use std::alloc::AllocError;
@@ -127,4 +128,30 @@ fn set_other(others: &mut Blocks, place: usize, kind: Kind, deadlines: &Deadline
         Kind::EofAck | Kind::Nak | Kind::FinishedAck => others.set(place, deadlines.other()),
         Kind::Inactivity => {}
     }
+}
+
+/// Removes a transaction, if it has an entry. The last one takes its place.
+pub(crate) fn take_out(
+    entries: &mut IndexMap<TransactionId, Deadlines>,
+    others: &mut Blocks,
+    bounds: &mut Bounds,
+    id: TransactionId,
+)
+    requires distinct { IsDistinct (eq_by_cmp id_cmp) (keys_of entries.old.entries) }
+    requires others { others.old ≡ others_of entries.old.entries }
+    requires bounds { AreBounds entries.old.entries bounds.old }
+    ensures found { (q : TransactionId) → lookup (eq_by_cmp id_cmp q) entries.new.entries
+        ≡ cond (eq_by_cmp id_cmp q id) None (lookup (eq_by_cmp id_cmp q) entries.old.entries) }
+    ensures distinct { IsDistinct (eq_by_cmp id_cmp) (keys_of entries.new.entries) }
+    ensures few { length entries.new.entries ≤ length entries.old.entries }
+    ensures others { others.new ≡ others_of entries.new.entries }
+    ensures bounds { AreBounds entries.new.entries bounds.new }
+{
+    let Some(place) = entries.get_index_of(&id) else {
+        return;
+    };
+    let moved = earliest_at(entries, entries.len() - 1);
+    let _ = entries.swap_remove_index(place);
+    others.swap_remove(place);
+    bounds.lower(place / BLOCK, moved);
 }

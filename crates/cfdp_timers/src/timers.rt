@@ -7,7 +7,7 @@ ghost use Rattle.std.specs.Ordering.{eq_by_cmp};
 ghost use Rattle.cfdp_header.specs.declared.value.TransactionId.{TransactionId};
 ghost use Rattle.cfdp_timers.specs.declared.kind.Kind.{Kind};
 ghost use Rattle.cfdp_timers.specs.Order.{Timer, timer_cmp};
-ghost use Rattle.cfdp_timers.specs.Armed.{deadline_of, with_timer};
+ghost use Rattle.cfdp_timers.specs.Armed.{cleared, deadline_of, with_timer};
 ghost use Rattle.cfdp_timers.specs.Due.{AreDue, IsLeast, due_count, still_armed};
 ghost use Rattle.cfdp_timers.specs.ButInactivity.{OnlyInactivity, IsLeastOther};
 ghost use Rattle.cfdp_timers.specs.Entries.{timer_of, deadline_at};
@@ -227,6 +227,27 @@ impl Timers {
         self.set_one(id, Kind::Nak, waits.nak, old.nak);
         self.set_one(id, Kind::FinishedAck, waits.finished_ack, old.finished_ack);
         self.set_one(id, Kind::Inactivity, waits.inactivity, old.inactivity);
+    }
+
+    /// Clears the timers of a transaction, and takes its room back. Takes no memory.
+    pub fn let_go(&mut self, id: TransactionId)
+        ensures time { self.new.time ≡ self.old.time }
+        ensures roomy { self.new.roomy ≡ set.remove self.old.roomy id }
+        ensures armed { self.new.armed ≡ cleared self.old.armed id }
+    {
+        self.clear(id, Kind::EofAck);
+        self.clear(id, Kind::Nak);
+        self.clear(id, Kind::FinishedAck);
+        self.clear(id, Kind::Inactivity);
+        self.take_out(id);
+    }
+
+    // Takes the room of a transaction back, none of whose timers is armed.
+    fn take_out(&mut self, id: TransactionId)
+        requires none { (kind : Kind) → deadline_of self.old id kind ≡ None }
+        ensures { self.new ≡ record self.old { roomy = set.remove self.old.roomy id } }
+    {
+        entries::take_out(&mut self.entries, &mut self.others, &mut self.bounds, id);
     }
 
     // The deadlines of a transaction; none where it has no room.

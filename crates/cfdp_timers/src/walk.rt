@@ -190,8 +190,8 @@ fn push_at(
     }
 }
 
-// The earliest deadline of the transaction at a place.
-fn earliest_at(entries: &IndexMap<TransactionId, Deadlines>, place: usize) -> Option<u64>
+/// The earliest deadline of the transaction at a place.
+pub(crate) fn earliest_at(entries: &IndexMap<TransactionId, Deadlines>, place: usize) -> Option<u64>
     ensures { result ≡ next_of (deadlines_in entries.now.entries place) }
 {
     let (_id, deadlines) = entries.get_index(place)?;

@@ -2,6 +2,7 @@
 -- transaction, `mine` is an entity, `theirs` the other one, `forth` the PDUs on their way from the
 -- first one.
 use Rattle.std.specs.Prelude.{◌≡◌, ◌≢◌, ◌⊎◌, ℕ, ◌≤◌, ◌==◌, ◌||◌, true, false, List, [], length, slice_get, Option, Some, IsSome}
+use Rattle.std.specs.FinSet as set
 use Rattle.cfdp_header.specs.declared.value.TransactionId.{TransactionId}
 use Rattle.cfdp_directives.specs.Pdu.Codes.{is_large}
 use Rattle.cfdp_directives.specs.Pdu.Direction.{direction_fits, goes_toward_sender, is_for}
@@ -39,8 +40,8 @@ IsWithPeer c (Receives r m) = (r.addressing.id.source ≡ c.peer)
     × (r.addressing.destination ≡ c.entity)
 
 -- Each put of the entity has its record, each record is one with the peer, there are no more than a
--- table may have, no acknowledgement waits that is of a transaction without a record, and each PDU
--- on its way is for the other entity, and of an accepted put.
+-- table may have, no acknowledgement waits that is of a transaction without a record, no record was
+-- let go, and each PDU on its way is for the other entity, and of an accepted put.
 pub record IsKnown (put_of : TransactionId → Option Put) (mine theirs : EntityState)
     (forth : List Pdu) : Type 0 where
   pub sends : (id : TransactionId) → IsSome (put_of id) → id.source ≡ mine.config.entity
@@ -49,6 +50,7 @@ pub record IsKnown (put_of : TransactionId → Option Put) (mine theirs : Entity
       → IsWithPeer mine.config e.1
   pub few : length mine.table.records ≤ most_records
   pub none_stray : mine.strays ≡ []
+  pub none_forgotten : mine.forgotten ≡ set.empty
   pub directed : AllTrue (IsDirected put_of theirs) forth
 
 -- Both ways: `back` are the PDUs on their way to the first entity.

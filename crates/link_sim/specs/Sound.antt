@@ -22,10 +22,12 @@ SentTruly s w text = (h : Header) (v : Content) → SpellsPdu h v text →
     SaysTruth e.config.entity (put_of (seen w)) h.id v
     × SaysDelivered e.config.entity e.table.told h.id v
 
--- What holds of one station, both lanes on which it sends, and what it heard.
+-- What holds of one station, both lanes on which it sends, and what it heard. No indication of it
+-- was let go.
 pub record IsSoundAt (s : Side) (w : WorldState) : Type 0 where
   pub ways : AreWays s w
   pub first : FileMap
+  pub all_kept : (entity_at s w).table.gone ≡ 0
   pub entity : IsSoundEntity (put_of (seen w)) (delivered_from (other s) w) first (entity_at s w)
   pub sent : (text : List ℕ) → Contains (sent_from s w) text → SentTruly s w text
   pub peer : (entity_at s w).config.peer ≡ (entity_at (other s) w).config.entity

@@ -115,7 +115,7 @@ impl<O: Outbox, I: Inbox, W: Witness> World<O, I, W> {
         self.stations.ticks()
     }
 
-    /// What a station told its user, in order.
+    /// What a station told its user, in order. A world lets go of nothing.
     pub fn indications(&self, side: Side) -> &[Indication]
         ensures { result.now ≡ (entity_at side self.now).table.told }
     {

@@ -94,6 +94,7 @@ module _ (c : WorldConfig) (outboxes inboxes : FileMap × FileMap) (w : WorldSta
       record {
         ways = are_ways s;
         first = files_at s inboxes;
+        all_kept = ap (λ (x : EntityState). x.table.gone) e;
         entity = subst (λ (x : EntityState). IsSoundEntity (put_of (seen w)) (delivered_from (other s) w) (files_at s inboxes) x) (sym e)
             (law (put_of (seen w)) (delivered_from (other s) w) (files_at s outboxes) (files_at s inboxes) (config-at s c).entity (config-first s));
         sent = λ text k. absurd (none-in text (subst (λ (l : List (List ℕ)). Contains l text) (ways s).0 k));

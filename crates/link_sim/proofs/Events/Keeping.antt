@@ -1,6 +1,6 @@
 -- What every event keeps of two stations, and the promises that follow: from the laws of an entity,
 -- and from what the steps do to the two directions.
-use Rattle.std.proofs.Common.{◌≡◌, ℕ, zero, suc, ◌+◌, ◌<◌, ◌≤◌, List, [], ◌∷◌, ◌++◌, ◌⊎◌, length, Option, refl, sym, ap, subst, ◌∙◌, inl, inr, arith}
+use Rattle.std.proofs.Common.{◌≡◌, ℕ, zero, suc, ◌<◌, ◌≤◌, List, [], ◌∷◌, ◌++◌, ◌⊎◌, length, Option, refl, sym, ap, subst, ◌∙◌, inl, inr, arith}
 use Rattle.std.specs.Prelude.{Contains, count_by}
 use Rattle.cfdp_header.specs.declared.value.Header.{Header}
 use Rattle.cfdp_header.specs.declared.value.TransactionId.{TransactionId}
@@ -13,8 +13,6 @@ use Rattle.cfdp_directives.specs.User.Put.{Put, SaysTruth, IsOfPut, SaysComplete
 use Rattle.cfdp_directives.proofs.Puts.{completions-append, inbox_after-append, Contains-append_left, Contains-append_right}
 use Rattle.mpdu.specs.Parts.{IsPartOf}
 use Rattle.cfdp_entity.specs.Entity.{EntityState}
-use Rattle.cfdp_entity.specs.History.{open_of}
-use Rattle.cfdp_entity.specs.Table.{record_of}
 use Rattle.cfdp_entity.specs.Sound.{IsSound as IsSoundEntity, FindsMore, ComesTrue, SaysDelivered, GoesOn}
 use Rattle.link_sim.specs.declared.side.Side.{Side}
 use Rattle.link_sim.specs.declared.side.Side.TheVariants.{One, Two}
@@ -181,6 +179,7 @@ module _ (grounds : Grounds) where
     sound-next within t = record {
       ways = (moves t).ways;
       first = (sound t).first;
+      all_kept = (moves t).goes.gone ∙ (sound t).all_kept;
       entity = grounds.among (put_of (seen new)) (delivered_from (other t) old ++ (moves t).more) (delivered_from (other t) new) (sound t).first (entity_at t new)
           (swapped-among (delivered_from (other t) old ++ (moves t).more) (delivered_from (other t) new) (moves t).delivered) (entity-now t);
       sent = sent-truly t;
@@ -249,7 +248,7 @@ module _ (grounds : Grounds) where
 
     pub holds : (s : Side) → HoldsAt s (seen w)
     holds s = record {
-      once = λ id. (let o : count_by (is_finished id) (entity_at s w).table.told + open_of (record_of id (entity_at s w).table.records) ≤ 1 = (sound s).entity.once.once id in
+      once = λ id. (let o = (sound s).entity.once.once id in
           let same = at-told s w in subst (λ (l : List Indication). count_by (is_finished id) l ≤ 1) (sym same) (omega (arith, o)));
       caused = caused s;
       told = told s;

@@ -148,8 +148,8 @@ module _ (c : WorldConfig) (outboxes inboxes : FileMap × FileMap) (w : WorldSta
         spelled_one = subst (λ l. AreSpelled l []) (sym (none-on-way c.one c.two w.one w.two w.from_one is.one.down is.two.up is.from_one)) tt;
         spelled_two = subst (λ l. AreSpelled l []) (sym (none-on-way c.two c.one w.two w.one w.from_two is.two.down is.one.up is.from_two)) tt;
         known = (
-          first-known (put_of (seen w)) (entity_at One w) (entity_at Two w) none-some (ap (λ (e : EntityState). e.table.records) is.one.entity) (ap (λ (e : EntityState). e.strays) is.one.entity),
-          first-known (put_of (seen w)) (entity_at Two w) (entity_at One w) none-some (ap (λ (e : EntityState). e.table.records) is.two.entity) (ap (λ (e : EntityState). e.strays) is.two.entity),
+          first-known (put_of (seen w)) (entity_at One w) (entity_at Two w) none-some (ap (λ (e : EntityState). e.table.records) is.one.entity) (ap (λ (e : EntityState). e.strays) is.one.entity) (ap (λ (e : EntityState). e.forgotten) is.one.entity),
+          first-known (put_of (seen w)) (entity_at Two w) (entity_at One w) none-some (ap (λ (e : EntityState). e.table.records) is.two.entity) (ap (λ (e : EntityState). e.strays) is.two.entity) (ap (λ (e : EntityState). e.forgotten) is.two.entity),
         );
         kinds = each (λ t. length (entity_at t w).drops ≡ 18) (ap (λ (e : EntityState). length e.drops) is.one.entity) (ap (λ (e : EntityState). length e.drops) is.two.entity);
         puts_of_one = λ put found. absurd (let there : None ≡ Some put = sym (none-found put.id) ∙ found in cc);

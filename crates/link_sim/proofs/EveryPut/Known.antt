@@ -1,6 +1,7 @@
 -- What is known of a transaction stays so, whatever happens to the entities and to what is on its
 -- way between them.
 use Rattle.std.proofs.Common.{◌≡◌, ℕ, zero, suc, ◌+◌, ◌<◌, ◌≤◌, ◌^◌, ◌==◌, ◌&&◌, ◌||◌, not, cond, Bool, true, false, List, [], ◌∷◌, ◌++◌, length, slice_get, Option, Some, None, ◌⊎◌, inl, inr, refl, sym, ap, subst, ◌∙◌, arith, length-append}
+use Rattle.std.specs.FinSet as set
 use Rattle.std.specs.Prelude.{IsSome, nat_lt, nat_le, if◌then◌else◌}
 use Rattle.std.specs.FinMap.{empty, get}
 use Rattle.std.specs.Option.{option_or}
@@ -188,17 +189,19 @@ directed-so put_of puts_then old new more same pdus all = all-so (IsDirected put
     }
 
 -- ---- an entity that went on
--- What is known stays where an entity keeps its configuration and its strays, and its records go on.
+-- What is known stays where an entity keeps its configuration and its strays, its records go on, and
+-- none is let go.
 pub record Continues (old new : EntityState) : Type 0 where
   pub config : new.config ≡ old.config
   pub strays : new.strays ≡ old.strays
+  pub forgotten : new.forgotten ≡ old.forgotten
   pub records : KeepsAll old.table.records new.table.records
 
 pub continues-none : (e : EntityState) → Continues e e
-continues-none e = record { config = refl; strays = refl; records = keeps-none e.table.records }
+continues-none e = record { config = refl; strays = refl; forgotten = refl; records = keeps-none e.table.records }
 
 pub continues-to : (old new : EntityState) (t : TableState) → new ≡ with_table old t → KeepsAll old.table.records t.records → Continues old new
-continues-to old new t is k = subst (Continues old) (sym is) (record { config = refl; strays = refl; records = k })
+continues-to old new t is k = subst (Continues old) (sym is) (record { config = refl; strays = refl; forgotten = refl; records = k })
 
 module _ (put_of : TransactionId → Option Put) (old new theirs : EntityState) (forth back : List Pdu) where
   pub known-on : Continues old new → IsKnown put_of old theirs forth → IsKnown put_of new theirs forth
@@ -207,6 +210,7 @@ module _ (put_of : TransactionId → Option Put) (old new theirs : EntityState) 
     with_peer = subst (λ g. AllWithPeer g new.table.records) (sym c.config) (peers-kept old.config old.table.records new.table.records c.records k.with_peer);
     few = subst (λ n. n ≤ most_records) (sym c.records.long) k.few;
     none_stray = c.strays ∙ k.none_stray;
+    none_forgotten = c.forgotten ∙ k.none_forgotten;
     directed = k.directed;
   }
 
@@ -216,6 +220,7 @@ module _ (put_of : TransactionId → Option Put) (old new theirs : EntityState) 
     with_peer = k.with_peer;
     few = k.few;
     none_stray = k.none_stray;
+    none_forgotten = k.none_forgotten;
     directed = directed-so put_of put_of old new (λ id put is. is) same back k.directed;
   }
 
@@ -225,7 +230,7 @@ module _ (put_of : TransactionId → Option Put) (old new theirs : EntityState) 
 -- ---- what is on its way
 module _ (put_of : TransactionId → Option Put) (mine theirs : EntityState) where
   pub known-with : (forth pdus : List Pdu) → AllTrue (IsDirected put_of theirs) pdus → IsKnown put_of mine theirs forth → IsKnown put_of mine theirs pdus
-  known-with forth pdus d k = record { sends = k.sends; with_peer = k.with_peer; few = k.few; none_stray = k.none_stray; directed = d }
+  known-with forth pdus d k = record { sends = k.sends; with_peer = k.with_peer; few = k.few; none_stray = k.none_stray; none_forgotten = k.none_forgotten; directed = d }
 
   -- one is lost, or a front of them is, or all but a part of a front
   pub lost-known : (before : List Pdu) (p : Pdu) (after back : List Pdu) → AreKnown put_of mine theirs (before ++ p ∷ after) back → AreKnown put_of mine theirs (before ++ after) back
@@ -238,12 +243,13 @@ module _ (put_of : TransactionId → Option Put) (mine theirs : EntityState) whe
   part-known part pdus rest back is k = all-lost (λ l. AreKnown put_of mine theirs l back) (λ before p after. lost-known before p after back) part pdus rest is k
 
   -- at first
-  pub first-known : ((id : TransactionId) → IsSome (put_of id) → ⊥) → mine.table.records ≡ [] → mine.strays ≡ [] → IsKnown put_of mine theirs []
-  first-known none empty_ strays = record {
+  pub first-known : ((id : TransactionId) → IsSome (put_of id) → ⊥) → mine.table.records ≡ [] → mine.strays ≡ [] → mine.forgotten ≡ set.empty → IsKnown put_of mine theirs []
+  first-known none empty_ strays forgotten = record {
     sends = λ id some own. absurd (none id some);
     with_peer = subst (AllWithPeer mine.config) (sym empty_) (λ place e at. absurd cc);
     few = subst (λ (xs : List Entry). length xs ≤ most_records) (sym empty_) (omega arith);
     none_stray = strays;
+    none_forgotten = forgotten;
     directed = tt;
   }
 
@@ -432,14 +438,15 @@ put-room source destination e allowed =
 
 -- ---- a record more
 module _ (put_of puts_then : TransactionId → Option Put) (more : FindsMore put_of puts_then) (old new theirs : EntityState) (forth : List Pdu) (id : TransactionId) (s : Seen) where
-  known-more : new.config ≡ old.config → new.strays ≡ old.strays → new.table.records ≡ old.table.records ++ (id, s) ∷ [] → length old.table.records < most_records → IsWithPeer old.config s
+  known-more : new.config ≡ old.config → new.strays ≡ old.strays → new.forgotten ≡ old.forgotten → new.table.records ≡ old.table.records ++ (id, s) ∷ [] → length old.table.records < most_records → IsWithPeer old.config s
       → ((q : TransactionId) → IsSome (puts_then q) → q.source ≡ old.config.entity → IsSending (record_of q (old.table.records ++ (id, s) ∷ []))) → IsKnown put_of old theirs forth →
       IsKnown puts_then new theirs forth
-  known-more config strays records room peer sends k = record {
+  known-more config strays forgotten records room peer sends k = record {
     sends = λ q some own. subst (λ xs. IsSending (record_of q xs)) (sym records) (sends q some (own ∙ ap (λ (g : EntityConfig). g.entity) config));
     with_peer = subst (λ g. AllWithPeer g new.table.records) (sym config) (subst (AllWithPeer old.config) (sym records) (peers-push old.config old.table.records id s k.with_peer peer));
     few = (let l : length new.table.records ≡ length old.table.records + 1 = ap length records ∙ length-append old.table.records ((id, s) ∷ []) in omega (arith, l, room));
     none_stray = strays ∙ k.none_stray;
+    none_forgotten = forgotten ∙ k.none_forgotten;
     directed = directed-so put_of puts_then theirs theirs more refl forth k.directed;
   }
 
@@ -470,13 +477,14 @@ module _ (put_of puts_then : TransactionId → Option Put) (source destination :
     with_peer = k.with_peer;
     few = k.few;
     none_stray = k.none_stray;
+    none_forgotten = k.none_forgotten;
     directed = directed-so put_of puts_then old new adds.more (ap (λ (e : EntityState). e.config) a.opened) back k.directed;
   }
 
   pub puts-known : AreKnown put_of old theirs forth back → AreKnown puts_then new theirs forth back
   puts-known k =
       let t : Transfer = next_transfer source destination (length (octets_in old.table.sources source)) old in (
-        known-more put_of puts_then adds.more old new theirs forth (next_id old) (Sends (opened_sender t)) (ap (λ (e : EntityState). e.config) a.opened) (ap (λ (e : EntityState). e.strays) a.opened)
+        known-more put_of puts_then adds.more old new theirs forth (next_id old) (Sends (opened_sender t)) (ap (λ (e : EntityState). e.config) a.opened) (ap (λ (e : EntityState). e.strays) a.opened) (ap (λ (e : EntityState). e.forgotten) a.opened)
             (ap (λ (e : EntityState). e.table.records) a.opened) (put-room source destination old a.allowed) (refl, put-named source destination old a.allowed) (put-sends k.0) k.0,
         put-there k.1,
       )
@@ -515,6 +523,7 @@ module _ (stays : (old new : TableState) → Leads old new → KeepsRecords old.
       by (Some place) = record {
         config = refl;
         strays = refl;
+        forgotten = refl;
         records = step-keeps (Takes stored place) e.table tt (step-long (λ d. takes stored e.table.policy.times e.table.sources e.table.files d.1) place e.table);
       }
 
@@ -570,7 +579,7 @@ module _ (stays : (old new : TableState) → Leads old new → KeepsRecords old.
         (step-keeps (Hears stored s.place h.large v) old.state.table tt (step-long (λ e. hears stored old.state.table.policy.times old.state.table.files h.large v e.1) s.place old.state.table))
 
     dropped-on : DropsNew h v old new → Continues old.state new.state
-    dropped-on d = subst (Continues old.state) (sym d.is) (record { config = refl; strays = refl; records = keeps-none old.state.table.records })
+    dropped-on d = subst (Continues old.state) (sym d.is) (record { config = refl; strays = refl; forgotten = refl; records = keeps-none old.state.table.records })
 
     pub spoiled-on : SpoilsRecord h v old new → Continues old.state new.state
     spoiled-on s =
@@ -578,6 +587,7 @@ module _ (stays : (old new : TableState) → Leads old new → KeepsRecords old.
         record {
           config = ap (λ (e : EntityState). e.config) f.counted;
           strays = ap (λ (e : EntityState). e.strays) f.counted;
+          forgotten = ap (λ (e : EntityState). e.forgotten) f.counted;
           records = record {
             kept = stays old.state.table new.state.table (leads-spoiled s.place v old.state.table new.state.table f.spoiled);
             long = ap (λ (st : TableState). length st.records) f.spoiled.table ∙ length_set old.state.table.records s.place f.spoiled.seen;
@@ -593,7 +603,7 @@ module _ (stays : (old new : TableState) → Leads old new → KeepsRecords old.
         let s : Seen = (opens begun stored old.state.table.policy.times old.state.table.files h.large v a).seen in
         let is : new.state ≡ with_table old.state t = o.opens.opens in
         let peer = directed-peer put_of old.state h v d o.down in
-        known-more put_of put_of (λ id put found. found) old.state new.state theirs forth a.id s (ap (λ (e : EntityState). e.config) is) (ap (λ (e : EntityState). e.strays) is)
+        known-more put_of put_of (λ id put found. found) old.state new.state theirs forth a.id s (ap (λ (e : EntityState). e.config) is) (ap (λ (e : EntityState). e.strays) is) (ap (λ (e : EntityState). e.forgotten) is)
         (ap (λ (e : EntityState). e.table.records) is) o.room
         (receiver-peer old.state.config a s (opened-of begun stored h.large v a old.state.table) peer.0 peer.1)
         (λ q some own. sending-kept q old.state.table.records (old.state.table.records ++ (a.id, s) ∷ []) (keeps-push old.state.table.records ((a.id, s) ∷ [])) (k.sends q some own)) k
@@ -632,5 +642,6 @@ same-known put_of puts_then mine theirs forth back more fewer k = (one mine thei
       with_peer = known.with_peer;
       few = known.few;
       none_stray = known.none_stray;
+      none_forgotten = known.none_forgotten;
       directed = directed-so put_of puts_then b b more refl pdus known.directed;
     }

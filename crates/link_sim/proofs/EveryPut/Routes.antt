@@ -3,9 +3,12 @@
 use Rattle.std.proofs.Common.{◌≡◌, ◌≢◌, ℕ, ◌<◌, ◌≤◌, ◌==◌, ◌&&◌, Bool, true, false, List, length, Option, Some, None, ◌⊎◌, inl, inr, refl, ap, subst, ◌∙◌, arith}
 use Rattle.std.specs.Prelude.{nat_lt, if◌then◌else◌}
 use Rattle.std.specs.Bool.{beq}
+use Rattle.std.specs.FinSet as set
 use Rattle.std.proofs.lemmas.Bool.{eqb-true, ltb-true, ltb-false}
 use Rattle.cfdp_header.specs.declared.value.Header.{Header}
 use Rattle.cfdp_header.specs.declared.value.TransactionId.{TransactionId}
+use Rattle.cfdp_header.specs.Ids.{id_cmp}
+use Rattle.cfdp_forgotten.specs.Forgotten.{IdSet}
 use Rattle.cfdp_directives.specs.declared.pdu.codes.Acknowledged.TheVariants as acknowledged
 use Rattle.cfdp_directives.specs.Pdu.Addressing.{addressing_of as addressing_in}
 use Rattle.cfdp_directives.specs.Pdu.Content.{Content, FileData, Metadata, Eof, Finished, Ack, Nak, Prompt, KeepAlive}
@@ -13,9 +16,9 @@ use Rattle.cfdp_directives.specs.Pdu.Direction.{goes_toward_sender}
 use Rattle.cfdp_directives.specs.User.Put.{Put}
 use Rattle.cfdp_entity.specs.declared.error.EntityDrop.{EntityDrop}
 use Rattle.cfdp_entity.specs.declared.error.EntityDrop.TheVariants as drops
-use Rattle.cfdp_entity.specs.Entity.{EntityState, Counted, dropped}
+use Rattle.cfdp_entity.specs.Entity.{EntityState, Counted, dropped, is_forgotten}
 use Rattle.cfdp_entity.specs.Errors.{drop_number}
-use Rattle.cfdp_entity.specs.Hearing.{opens_record, route, route_by, Takes, DropsBy, StepsAt, OpensOne, FindsNoMemory}
+use Rattle.cfdp_entity.specs.Hearing.{opens_record, route, route_by, route_new, route_unplaced, Takes, DropsBy, StepsAt, OpensOne, FindsNoMemory}
 use Rattle.cfdp_entity.specs.Table.{place_of, most_records}
 use Rattle.cfdp_entity.proofs.Histories.{no-record}
 use Rattle.link_sim.specs.Between.{Pdu}
@@ -130,7 +133,7 @@ module _ (h : Header) (old new : Counted) (none : place_of h.id old.state.table.
   lost-heard v opening (inr d) = unheard v drops.Unknown (omega arith) (inl opening) (inl refl) (λ h. omega (arith, h)) (ap (λ (c : Counted). c.state) d.1.1)
       (same-inbox (dropped drops.Unknown old.state) d.1.1)
 
-  pub new-heard : (v : Content) → (goes_toward_sender v ≡ true → ⊥) → Takes (route_by None h v old.state) h v old new ⊎ ((by : EntityDrop) × DropsBy (route_by None h v old.state) by v old new) →
+  pub new-heard : (v : Content) → (goes_toward_sender v ≡ true → ⊥) → Takes (route_new h v old.state) h v old new ⊎ ((by : EntityDrop) × DropsBy (route_new h v old.state) by v old new) →
       HeardSo h v old new
   new-heard (FileData offset bytes) own t = open-heard (FileData offset bytes) (λ e. omega (arith, e)) refl t
   new-heard (Metadata kind size source destination options) own t = open-heard (Metadata kind size source destination options) (λ e. omega (arith, e)) refl t
@@ -154,7 +157,10 @@ module _ (put_of : TransactionId → Option Put) (theirs : EntityState) (forth :
       HeardSo h v old new
   by-place (Some place) is (inl t) = inl (record { place = place; at = is; steps = t })
   by-place (Some place) is (inr t) = inr (inr (inr (record { place = place; at = is; finds = t.1.1 })))
-  by-place None is t = new-heard h old new is v (has-record is) t
+  by-place None is t =
+      let none : is_forgotten old.state h.id ≡ false = ap (λ (f : IdSet). set.contains f h.id) own.none_forgotten ∙ set.contains-empty id_cmp h.id in
+      new-heard h old new is v (has-record is)
+      (subst (λ b. Takes (route_unplaced b h v old.state) h v old new ⊎ ((by : EntityDrop) × DropsBy (route_unplaced b h v old.state) by v old new)) none t)
 
   pub heard-so : HearsOne h v old new → HeardSo h v old new
   heard-so t = by-place (place_of h.id old.state.table.records) refl (subst (λ r. Takes r h v old new ⊎ ((by : EntityDrop) × DropsBy r by v old new)) (directed-route put_of old.state h v d) t)

@@ -45,7 +45,7 @@ use Rattle.cfdp_station.specs.Taking.{HearsPdu, HearsAll}
 use Rattle.mpdu.specs.Parts.{IsPartOf}
 use Rattle.link_sim.proofs.EveryPut.Pdus.{text-work}
 use Rattle.link_sim.proofs.Work.Receives.{receiver-falls, receiver-after-works, opens-hearing-works, opened-closed-works}
-use Rattle.link_sim.proofs.Work.Routes.{IsFinished, Taken, Steps, Opens, Queues, Dropped, Counts, is-taken, is-dropped}
+use Rattle.link_sim.proofs.Work.Routes.{EndsOne, Taken, Steps, Opens, Queues, Passes, Dropped, Counts, is-taken, is-dropped}
 use Rattle.link_sim.proofs.Work.Routes as routes
 use Rattle.link_sim.proofs.Work.Sends.{Falls, sender-falls, sender-hears-works, nak-works}
 use Rattle.link_sim.proofs.Work.Within.{written, within-at, within-heard, within-dropped}
@@ -327,22 +327,27 @@ module _ (most : ℕ) (v : Content) where
       let h : seen_work most s ≤ content_work most v = opens-works most (closing v) begun stored e.table.policy.times e.table.files large v a may in
       subst (EntityLeaves e) (sym is) (omega (arith, sum, h))
 
-  finished-work : (w : Content) → IsFinished w → 3 ≤ content_work most w
-  finished-work (Finished condition delivery status tlvs) h = omega arith
-  finished-work (FileData offset bytes) h = absurd h
-  finished-work (Metadata kind size source destination options) h = absurd h
-  finished-work (Eof condition checksum size tlvs) h = absurd h
-  finished-work (Ack of condition status) h = absurd h
-  finished-work (Nak start end pairs) h = absurd h
-  finished-work (Prompt keep_alive) h = absurd h
-  finished-work (KeepAlive progress) h = absurd h
+  end-work : (w : Content) → EndsOne w → 3 ≤ content_work most w
+  end-work (Finished condition delivery status tlvs) h = omega arith
+  end-work (FileData offset bytes) h = absurd h
+  end-work (Metadata kind size source destination options) h = absurd h
+  end-work (Eof condition checksum size tlvs) h = omega arith
+  end-work (Ack of condition status) h = absurd h
+  end-work (Nak start end pairs) h = absurd h
+  end-work (Prompt keep_alive) h = absurd h
+  end-work (KeepAlive progress) h = absurd h
 
-  stray-queued : (e new : EntityState) (s : StrayAck) → IsFinished v → new ≡ record e { strays = e.strays ++ s ∷ [] } → EntityLeaves e new
+  stray-queued : (e new : EntityState) (s : StrayAck) → EndsOne v → new ≡ record e { strays = e.strays ++ s ∷ [] } → EntityLeaves e new
   unfolding entity_work
   stray-queued e new s of_end is =
       let more : length (e.strays ++ s ∷ []) ≡ length e.strays + 1 = length-append e.strays (s ∷ []) in
-      let h : 3 ≤ content_work most v = finished-work v of_end in
+      let h : 3 ≤ content_work most v = end-work v of_end in
       subst (EntityLeaves e) (sym is) (omega (arith, more, h))
+
+  -- nothing was done
+  none-done : (e new : EntityState) → new ≡ e → EntityLeaves e new
+  unfolding entity_work
+  none-done e new is = subst (EntityLeaves e) (sym is) (omega arith)
 
   -- only a drop was counted
   only-dropped : (e new : EntityState) (d : EntityDrop) → new ≡ dropped d e → EntityLeaves e new
@@ -375,6 +380,7 @@ module _ (most : ℕ) (v : Content) where
   taken-works h old new within (Steps place t) = place-heard old.state new.state h.large place t.stored (slice_get old.state.table.records place) within refl t.steps
   taken-works h old new within (Opens a may t) = record-opened old.state new.state t.begun t.stored a h.large may t.opens
   taken-works h old new within (Queues s of_end is) = stray-queued old.state new.state s of_end is
+  taken-works h old new within (Passes is) = none-done old.state new.state (ap (λ (c : Counted). c.state) is)
 
   dropped-works : (old new : Counted) → AreWithin most old.state.table.records → Dropped v old new → EntityLeaves old.state new.state
   dropped-works old new within (Counts d is) = only-dropped old.state new.state d is

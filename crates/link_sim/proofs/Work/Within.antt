@@ -70,7 +70,7 @@ use Rattle.cfdp_entity.specs.Seen.{Seen, Sends, Receives}
 use Rattle.cfdp_entity.specs.Steps.{After, Spoils, no_step, hears, expires, calls, takes, sender_takes, receiver_takes}
 use Rattle.cfdp_entity.specs.Table.{Entry, TableState, place_of, stepped, step_of, heard_at, taken_at, opened_by, expired_in, expired, all_expired, at_time, Ticks, SpoiledAt}
 use Rattle.cfdp_entity.proofs.Sparing.{spoils-receives}
-use Rattle.link_sim.proofs.Work.Routes.{Taken, Steps, Opens, Queues, Dropped, Counts, is-taken, is-dropped}
+use Rattle.link_sim.proofs.Work.Routes.{Taken, Steps, Opens, Queues, Passes, Dropped, Counts, is-taken, is-dropped}
 use Rattle.link_sim.proofs.Work.Routes as routes
 use Rattle.link_sim.specs.Work.{IsReceiverWithin, IsSenderWithin, IsSeenWithin, AreWithin}
 
@@ -469,6 +469,8 @@ module _ (most : ℕ) (limit : size_limit true ≤ most) where
   taken-route-within h v old new (Steps place t) w = subst (λ (e : EntityState). AreWithin most e.table.records) (sym t.steps) (table-heard t.stored place h.large v old.state.table w)
   taken-route-within h v old new (Opens a may t) w = subst (λ (e : EntityState). AreWithin most e.table.records) (sym t.opens) (table-opened t.begun t.stored a h.large v old.state.table w)
   taken-route-within h v old new (Queues s of_end t) w = subst (λ (e : EntityState). AreWithin most e.table.records) (sym t) w
+
+  taken-route-within h v old new (Passes is) w = subst (λ (c : Counted). AreWithin most c.state.table.records) (sym is) w
 
   pub within-heard : (octets : List ℕ) (old new : Counted) → HearsOctets octets old new → AreWithin most old.state.table.records → AreWithin most new.state.table.records
   within-heard octets old new h w = taken-route-within h.header h.content old new (is-taken h.header old new h.content h.takes) w

@@ -38,7 +38,7 @@ use Rattle.link_sim.specs.FrameLink.{most_struck}
 use Rattle.link_sim.specs.AtStation.{KeepsFailures, KeepsOutbox, CountsPut}
 use Rattle.link_sim.specs.OneWay.{SendsMore, SendsNone, HearsMore}
 use Rattle.link_sim.specs.Stations.{other}
-use Rattle.link_sim.specs.World.State.{LinkState, WorldState, entity_at, lane_from, link_from, on_lane, station_at, way_from}
+use Rattle.link_sim.specs.World.State.{LinkState, WorldState, entity_at, lane_from, link_from, station_at, way_from}
 
 -- ---- what stays
 -- The other station, and what it sent, are as they were.

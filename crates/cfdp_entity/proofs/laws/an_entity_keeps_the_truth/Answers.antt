@@ -1,3 +1,9 @@
+use Rattle.std.proofs.Common.{[]}
+use Rattle.std.specs.FinSet as set
+use Rattle.cfdp_header.specs.Ids.{id_cmp}
+use Rattle.cfdp_entity.specs.Entity.{first_entity, is_forgotten}
+use Rattle.cfdp_entity.specs.History.{none_gone}
+use Rattle.cfdp_entity.proofs.LettingGo.{once-as}
 use Rattle.cfdp_directives.specs.Pdu.Faults.{pdu_fault}
 use Rattle.cfdp_entity.specs.Polling.{turn}
 use Rattle.cfdp_entity.proofs.Sounds.{TableLaws, sound-put, sound-called, sound-ticked, sound-heard, sound-dropped, sound-served}
@@ -7,7 +13,7 @@ use Rattle.cfdp_entity.proofs.laws.an_entity_keeps_the_truth.Goals as goal
 pub returns-clause-first : goal.returns-clause-first
 returns-clause-first c put_of heard sources files config is = record {
   config = is;
-  once = c.a_table_finishes_a_transaction_once.ensures.first sources files config.policy;
+  once = once-as none_gone (is_forgotten (first_entity sources files config)) [] [] (λ q. set.contains-empty id_cmp q) (c.a_table_finishes_a_transaction_once.ensures.first sources files config.policy);
   knows = c.a_table_keeps_the_truth.ensures.first config.entity put_of heard sources files config.policy;
   sends = c.a_table_sends_the_truth.ensures.first put_of sources files config.policy;
   tells = c.a_table_tells_no_more.ensures.first config.entity heard sources files config.policy;

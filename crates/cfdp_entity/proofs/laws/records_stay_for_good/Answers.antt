@@ -1,4 +1,5 @@
-use Rattle.cfdp_entity.proofs.Histories.{Machines, Openings, kept-step, kept-leads}
+use Rattle.cfdp_entity.specs.History.{none_gone}
+use Rattle.cfdp_entity.proofs.Histories.{Machines, Openings, kept-step, kept-leads, opens-any}
 use Rattle.cfdp_entity.proofs.laws.records_stay_for_good.Goals as goal
 
 pub returns-clause-step : goal.returns-clause-step
@@ -14,7 +15,7 @@ returns-clause-step c s st may =
       sender_once = c.a_sender_finishes_once.ensures;
     } in
     let openings : Openings = record { once = c.an_opening_may_finish.ensures.once; own = c.an_opening_may_finish.ensures.own } in
-    (kept-step laws openings s st may).records
+    (kept-step laws openings none_gone s st may (opens-any s)).records
 
 pub returns-clause-steps : goal.returns-clause-steps
 returns-clause-steps c old new leads =

@@ -8,4 +8,5 @@ invariant_of-self-2 g c = (
   c.self.invariant.1,
   free-called c.self.inside.config.entity (next_of c.self.inside.next) c.self.inside.table.state c.reserve.new.self.state c.call.new.self.state c.reserve.ensures.stays.state c.self.invariant.2
       c.args.place c.args.call c.call.ensures.state,
+  c.self.invariant.3,
 )

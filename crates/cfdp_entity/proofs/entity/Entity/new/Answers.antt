@@ -2,7 +2,7 @@ use Rattle.std.proofs.Common.{ap}
 use Rattle.circular_buffer.specs.Buffer.{Buffer}
 use Rattle.cfdp_entity.specs.Roomy.{Roomy}
 use Rattle.cfdp_entity.specs.Strays.{StrayAck}
-use Rattle.cfdp_entity.proofs.Numbers.{free-first}
+use Rattle.cfdp_entity.proofs.Numbers.{free-first, unforgotten-first}
 use Rattle.cfdp_entity.proofs.entity.Entity.new.Goals as goal
 
 pub invariant_of-result : goal.invariant_of-result
@@ -10,4 +10,5 @@ invariant_of-result g c = (
   c.requires,
   ap (λ (b : Buffer StrayAck). b.capacity) c.in_ok-strays.ensures,
   free-first c.args.config.entity c.args.config.first_number c.in_ok-table.table.state _ _ _ (ap (λ (v : Roomy). v.state) c.in_ok-table.ensures),
+  unforgotten-first c.args.config.entity c.args.config.first_number _ c.new-2.ensures,
 )

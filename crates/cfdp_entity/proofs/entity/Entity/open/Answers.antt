@@ -12,4 +12,5 @@ invariant_of-self-2 g c =
       c.self.invariant.1,
       free-opened c.self.inside.config.entity (next_of c.self.inside.next) c.self.inside.table.state c.self.inside.table.state c.open.new.self.state refl c.self.invariant.2
           c.in_ok-open.field-0.begun c.in_ok-open.field-0.stored c.args.addressing c.args.large (view c.args.pdu.now) c.in_ok-open.ensures.opened.state other,
+      c.self.invariant.3,
     )

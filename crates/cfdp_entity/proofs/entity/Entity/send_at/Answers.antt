@@ -9,4 +9,5 @@ invariant_of-self-2 g c = (
   c.self.invariant.1,
   free-taken c.self.inside.config.entity (next_of c.self.inside.next) c.self.inside.table.state c.reserve.new.self.state c.send-gave.new.self.state c.reserve.ensures.stays.state c.self.invariant.2
       (stored_by_gave c.send-gave.result) c.args.place c.send-gave.ensures.state,
+  c.self.invariant.3,
 )

@@ -21,6 +21,7 @@ invariant_of-self-in_err-hear g c = (
   c.self.invariant.1,
   free-spoiled c.self.inside.config.entity (next_of c.self.inside.next) c.self.inside.table.state c.reserve.new.self.state c.hear.new.self.state c.reserve.ensures.stays.state c.self.invariant.2
       c.args.place (view c.args.pdu.now) c.in_err-hear.ensures.err.spoiled,
+  c.self.invariant.3,
 )
 
 pub invariant_of-self-2 : goal.invariant_of-self-2
@@ -29,4 +30,5 @@ invariant_of-self-2 g c = (
   c.self.invariant.1,
   free-heard c.self.inside.config.entity (next_of c.self.inside.next) c.self.inside.table.state c.reserve.new.self.state c.hear.new.self.state c.reserve.ensures.stays.state c.self.invariant.2
       c.in_ok-hear.field-0 c.args.place c.args.large (view c.args.pdu.now) c.in_ok-hear.ensures.heard.state,
+  c.self.invariant.3,
 )

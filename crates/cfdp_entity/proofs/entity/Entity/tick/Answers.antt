@@ -15,4 +15,5 @@ invariant_of-self g c = (
   free-ticked c.self.inside.config.entity (next_of c.self.inside.next) c.self.inside.table.state c.self.inside.table.state c.tick.new.self.state refl c.self.invariant.2
       c.tick.result c.args.now c.tick.ensures.ticked
       (on_err c.tick.result (λ (kept : Becomes c.self.inside.table.state c.self.inside.table c.tick.new.self). kept.state) c.tick.ensures.err),
+  c.self.invariant.3,
 )

@@ -14,31 +14,31 @@ use Rattle.cfdp_entity.proofs.Entries.{may-step, within, whole-step, steps-there
 use Rattle.cfdp_entity.proofs.table.Table.call.Goals as goal
 
 pub call-requires : goal.call-requires
-call-requires g c = may-step (on_desk g.O.Outbox g.I.Inbox c.self.inside.desk) c.self.inside.records.entries c.self.inside.ready c.args.place c.self.invariant c.in-Some.held.now
+call-requires g c = may-step c.self.inside.gone (on_desk g.O.Outbox g.I.Inbox c.self.inside.desk) c.self.inside.records.entries c.self.inside.ready c.args.place c.self.invariant c.in-Some.held.now
     (sym c.in-Some.ensures.value)
     (subst (λ (v : Roomy). 3 ≤ v.spare) (sym c.self.view_is) c.requires.room)
 
 pub set-requires : goal.set-requires
 set-requires g c = record {
-  within = within (on_desk g.O.Outbox g.I.Inbox c.self.inside.desk) c.self.inside.records.entries c.self.inside.ready c.args.place c.self.invariant c.in-Some.held.now
+  within = within c.self.inside.gone (on_desk g.O.Outbox g.I.Inbox c.self.inside.desk) c.self.inside.records.entries c.self.inside.ready c.args.place c.self.invariant c.in-Some.held.now
       (sym c.in-Some.ensures.value);
 }
 
 pub invariant_of-self : goal.invariant_of-self
-invariant_of-self g c = whole-step (on_desk g.O.Outbox g.I.Inbox c.self.inside.desk) c.self.inside.records.entries c.self.inside.ready c.args.place c.self.invariant c.in-Some.held.now
+invariant_of-self g c = whole-step c.self.inside.gone (on_desk g.O.Outbox g.I.Inbox c.self.inside.desk) c.self.inside.records.entries c.self.inside.ready c.args.place c.self.invariant c.in-Some.held.now
     (sym c.in-Some.ensures.value) (on_desk g.O.Outbox g.I.Inbox c.call.new.self) _ c.call.new.held refl c.call.ensures.stays
     (ap (λ (t : TimersState). t.roomy) c.call.ensures.called.timers)
     c.is_due.result (c.is_due.ensures (g.I.Inbox.staged c.call.new.self.inbox (id_of c.in-Some.held.now))) c.set.new.self c.set.ensures
 
 pub returns-in-Some : goal.returns-in-Some
 returns-in-Some g c = subst (λ (v : Roomy). Steps (called_at c.args.place c.args.call v.state) (Counts Done) (AsksToCall Raises c.args.call c.args.place v.state) v
-    (roomy_of (on_desk g.O.Outbox g.I.Inbox c.call.new.self) (set_value_at c.self.inside.records.entries c.args.place c.call.new.held))) c.self.view_is
-    (steps-there (on_desk g.O.Outbox g.I.Inbox c.self.inside.desk) c.self.inside.records.entries c.self.inside.ready c.args.place c.self.invariant c.in-Some.held.now (sym c.in-Some.ensures.value)
+    (roomy_of c.self.inside.gone (on_desk g.O.Outbox g.I.Inbox c.call.new.self) (set_value_at c.self.inside.records.entries c.args.place c.call.new.held))) c.self.view_is
+    (steps-there c.self.inside.gone (on_desk g.O.Outbox g.I.Inbox c.self.inside.desk) c.self.inside.records.entries c.self.inside.ready c.args.place c.self.invariant c.in-Some.held.now (sym c.in-Some.ensures.value)
     (on_desk g.O.Outbox g.I.Inbox c.call.new.self) _ c.call.new.held refl c.call.ensures.stays
     Done (calling c.args.call) (AsksCalled Raises c.args.call) c.call.ensures.called c.call.ensures.asks)
 
 pub returns-in-None : goal.returns-in-None
 returns-in-None g c = subst (λ (v : Roomy). Steps (called_at c.args.place c.args.call v.state) (Counts Done) (AsksToCall Raises c.args.call c.args.place v.state) v
-    (roomy_of (on_desk g.O.Outbox g.I.Inbox c.self.inside.desk) c.self.inside.records.entries)) c.self.view_is
-    (steps-nowhere (on_desk g.O.Outbox g.I.Inbox c.self.inside.desk) c.self.inside.records.entries c.self.inside.ready c.args.place (calling c.args.call) (AsksCalled Raises c.args.call)
+    (roomy_of c.self.inside.gone (on_desk g.O.Outbox g.I.Inbox c.self.inside.desk) c.self.inside.records.entries)) c.self.view_is
+    (steps-nowhere c.self.inside.gone (on_desk g.O.Outbox g.I.Inbox c.self.inside.desk) c.self.inside.records.entries c.self.inside.ready c.args.place (calling c.args.call) (AsksCalled Raises c.args.call)
     c.in-None.ensures.value)

@@ -6,7 +6,7 @@ use Rattle.cfdp_entity.proofs.table.Table.fire.Goals as goal
 
 pub returns-clause-state : goal.returns-clause-state
 returns-clause-state g c =
-    becomes-fired c.fire.result (on_desk g.O.Outbox g.I.Inbox c.self.inside.desk) c.fire.new.self c.self.inside.records.entries c.args.now c.fire.ensures.time c.fire.ensures.left
+    becomes-fired c.fire.result c.self.inside.gone (on_desk g.O.Outbox g.I.Inbox c.self.inside.desk) c.fire.new.self c.self.inside.records.entries c.args.now c.fire.ensures.time c.fire.ensures.left
     c.args.self.now c.self.view_is
 
 pub returns-clause-count : goal.returns-clause-count

@@ -19,9 +19,9 @@ on_err (Ok x) h = tt
 on_err (Err e) h = h
 
 pub invariant_of-self-in_err-held : goal.invariant_of-self-in_err-held
-invariant_of-self-in_err-held g c = whole-kept (roomed (on_desk g.O.Outbox g.I.Inbox c.self.inside.desk) c.reserve.new.self c.reserve.ensures.items c.self.inside.records.entries)
+invariant_of-self-in_err-held g c = whole-kept c.self.inside.gone (roomed c.self.inside.gone (on_desk g.O.Outbox g.I.Inbox c.self.inside.desk) c.reserve.new.self c.reserve.ensures.items c.self.inside.records.entries)
     (on_desk g.O.Outbox g.I.Inbox c.open.new.self) c.self.inside.records.entries c.reserve-2.new.self.entries c.self.inside.ready c.args.addressing.id
-    (whole-roomed (on_desk g.O.Outbox g.I.Inbox c.self.inside.desk) c.reserve.new.self c.reserve.ensures.items c.self.inside.records.entries c.self.inside.ready c.self.invariant)
+    (whole-roomed c.self.inside.gone (on_desk g.O.Outbox g.I.Inbox c.self.inside.desk) c.reserve.new.self c.reserve.ensures.items c.self.inside.records.entries c.self.inside.ready c.self.invariant)
     (absent-seen (g.I.Inbox.staged c.self.inside.desk.inbox) c.self.inside.records.entries c.args.addressing.id
     (ap (λ (v : Roomy). place_of c.args.addressing.id v.state.records) c.self.view_is ∙ c.requires.may_add.absent)) c.reserve-2.ensures.entries c.open.ensures.widens
 
@@ -34,9 +34,9 @@ pub invariant_of-self-2 : goal.invariant_of-self-2
 invariant_of-self-2 g c =
     let l = length_entries (g.I.Inbox.staged c.self.inside.desk.inbox) c.self.inside.records.entries in
     let v = ap (λ (v : Roomy). length v.state.records) c.self.view_is in
-    whole-added (roomed (on_desk g.O.Outbox g.I.Inbox c.self.inside.desk) c.reserve.new.self c.reserve.ensures.items c.self.inside.records.entries) (on_desk g.O.Outbox g.I.Inbox c.open.new.self)
+    whole-added c.self.inside.gone (roomed c.self.inside.gone (on_desk g.O.Outbox g.I.Inbox c.self.inside.desk) c.reserve.new.self c.reserve.ensures.items c.self.inside.records.entries) (on_desk g.O.Outbox g.I.Inbox c.open.new.self)
     c.self.inside.records.entries c.reserve-2.new.self.entries c.self.inside.ready c.args.addressing.id
-    (whole-roomed (on_desk g.O.Outbox g.I.Inbox c.self.inside.desk) c.reserve.new.self c.reserve.ensures.items c.self.inside.records.entries c.self.inside.ready c.self.invariant)
+    (whole-roomed c.self.inside.gone (on_desk g.O.Outbox g.I.Inbox c.self.inside.desk) c.reserve.new.self c.reserve.ensures.items c.self.inside.records.entries c.self.inside.ready c.self.invariant)
     (absent-seen (g.I.Inbox.staged c.self.inside.desk.inbox) c.self.inside.records.entries c.args.addressing.id
     (ap (λ (v : Roomy). place_of c.args.addressing.id v.state.records) c.self.view_is ∙ c.requires.may_add.absent)) c.reserve-2.ensures.entries c.open.ensures.widens
     c.in_ok-held.held c.push_record.new.records.entries c.push_record.ensures.added
@@ -47,24 +47,24 @@ invariant_of-self-2 g c =
 
 pub returns-in_err-held-clause-err : goal.returns-in_err-held-clause-err
 returns-in_err-held-clause-err g c = on_err c.from_residual-in_err-held.result
-    (becomes-roomed (on_desk g.O.Outbox g.I.Inbox c.self.inside.desk) c.reserve.new.self c.reserve.ensures.items c.self.inside.records.entries (λ st. st) c.args.self.now
-    (roomy_of (on_desk g.O.Outbox g.I.Inbox c.open.new.self) c.reserve-2.new.self.entries) c.self.view_is
-    (becomes-kept (roomed (on_desk g.O.Outbox g.I.Inbox c.self.inside.desk) c.reserve.new.self c.reserve.ensures.items c.self.inside.records.entries)
+    (becomes-roomed c.self.inside.gone (on_desk g.O.Outbox g.I.Inbox c.self.inside.desk) c.reserve.new.self c.reserve.ensures.items c.self.inside.records.entries (λ st. st) c.args.self.now
+    (roomy_of c.self.inside.gone (on_desk g.O.Outbox g.I.Inbox c.open.new.self) c.reserve-2.new.self.entries) c.self.view_is
+    (becomes-kept c.self.inside.gone (roomed c.self.inside.gone (on_desk g.O.Outbox g.I.Inbox c.self.inside.desk) c.reserve.new.self c.reserve.ensures.items c.self.inside.records.entries)
     (on_desk g.O.Outbox g.I.Inbox c.open.new.self) c.self.inside.records.entries c.reserve-2.new.self.entries c.self.inside.ready c.args.addressing.id
-    (whole-roomed (on_desk g.O.Outbox g.I.Inbox c.self.inside.desk) c.reserve.new.self c.reserve.ensures.items c.self.inside.records.entries c.self.inside.ready c.self.invariant)
+    (whole-roomed c.self.inside.gone (on_desk g.O.Outbox g.I.Inbox c.self.inside.desk) c.reserve.new.self c.reserve.ensures.items c.self.inside.records.entries c.self.inside.ready c.self.invariant)
     (absent-seen (g.I.Inbox.staged c.self.inside.desk.inbox) c.self.inside.records.entries c.args.addressing.id
     (ap (λ (v : Roomy). place_of c.args.addressing.id v.state.records) c.self.view_is ∙ c.requires.may_add.absent)) c.reserve-2.ensures.entries c.open.ensures.widens
     c.in_err-held.ensures.err))
 
 pub returns-clause-opened : goal.returns-clause-opened
-returns-clause-opened g c = steps-roomed (on_desk g.O.Outbox g.I.Inbox c.self.inside.desk) c.reserve.new.self c.reserve.ensures.items c.self.inside.records.entries
+returns-clause-opened g c = steps-roomed c.self.inside.gone (on_desk g.O.Outbox g.I.Inbox c.self.inside.desk) c.reserve.new.self c.reserve.ensures.items c.self.inside.records.entries
     (opened_by c.in_ok-held.opened.begun c.in_ok-held.opened.stored c.args.addressing c.args.large (view c.args.pdu.now)) (CountsBoth c.in_ok-held.opened.begun c.in_ok-held.opened.stored)
     (AsksToOpen Raises c.in_ok-held.opened.begun c.in_ok-held.opened.stored c.args.addressing c.args.large (view c.args.pdu.now)) c.args.self.now
-    (roomy_of (on_desk g.O.Outbox g.I.Inbox c.open.new.self) c.push_record.new.records.entries) c.self.view_is
+    (roomy_of c.self.inside.gone (on_desk g.O.Outbox g.I.Inbox c.open.new.self) c.push_record.new.records.entries) c.self.view_is
     (record {
-      state = state-added (roomed (on_desk g.O.Outbox g.I.Inbox c.self.inside.desk) c.reserve.new.self c.reserve.ensures.items c.self.inside.records.entries)
+      state = state-added c.self.inside.gone (roomed c.self.inside.gone (on_desk g.O.Outbox g.I.Inbox c.self.inside.desk) c.reserve.new.self c.reserve.ensures.items c.self.inside.records.entries)
           (on_desk g.O.Outbox g.I.Inbox c.open.new.self) c.self.inside.records.entries c.reserve-2.new.self.entries c.self.inside.ready c.args.addressing.id
-          (whole-roomed (on_desk g.O.Outbox g.I.Inbox c.self.inside.desk) c.reserve.new.self c.reserve.ensures.items c.self.inside.records.entries c.self.inside.ready c.self.invariant)
+          (whole-roomed c.self.inside.gone (on_desk g.O.Outbox g.I.Inbox c.self.inside.desk) c.reserve.new.self c.reserve.ensures.items c.self.inside.records.entries c.self.inside.ready c.self.invariant)
           (absent-seen (g.I.Inbox.staged c.self.inside.desk.inbox) c.self.inside.records.entries c.args.addressing.id
           (ap (λ (v : Roomy). place_of c.args.addressing.id v.state.records) c.self.view_is ∙ c.requires.may_add.absent)) c.reserve-2.ensures.entries c.open.ensures.widens
           c.in_ok-held.held c.push_record.new.records.entries c.push_record.ensures.added

@@ -11,9 +11,9 @@ use Rattle.cfdp_entity.proofs.Places.{absent-seen, length_entries}
 use Rattle.cfdp_entity.proofs.table.Table.put.Goals as goal
 
 pub invariant_of-self-in_err-held : goal.invariant_of-self-in_err-held
-invariant_of-self-in_err-held g c = whole-kept (roomed (on_desk g.O.Outbox g.I.Inbox c.self.inside.desk) c.reserve.new.self c.reserve.ensures.items c.self.inside.records.entries)
+invariant_of-self-in_err-held g c = whole-kept c.self.inside.gone (roomed c.self.inside.gone (on_desk g.O.Outbox g.I.Inbox c.self.inside.desk) c.reserve.new.self c.reserve.ensures.items c.self.inside.records.entries)
     (on_desk g.O.Outbox g.I.Inbox c.put.new.self) c.self.inside.records.entries c.reserve-2.new.self.entries c.self.inside.ready c.args.transfer.addressing.id
-    (whole-roomed (on_desk g.O.Outbox g.I.Inbox c.self.inside.desk) c.reserve.new.self c.reserve.ensures.items c.self.inside.records.entries c.self.inside.ready c.self.invariant)
+    (whole-roomed c.self.inside.gone (on_desk g.O.Outbox g.I.Inbox c.self.inside.desk) c.reserve.new.self c.reserve.ensures.items c.self.inside.records.entries c.self.inside.ready c.self.invariant)
     (absent-seen (g.I.Inbox.staged c.self.inside.desk.inbox) c.self.inside.records.entries c.args.transfer.addressing.id
     (ap (λ (v : Roomy). place_of c.args.transfer.addressing.id v.state.records) c.self.view_is ∙ c.requires.may_add.absent)) c.reserve-2.ensures.entries c.put.ensures.widens
 
@@ -26,9 +26,9 @@ pub invariant_of-self-2 : goal.invariant_of-self-2
 invariant_of-self-2 g c =
     let l = length_entries (g.I.Inbox.staged c.self.inside.desk.inbox) c.self.inside.records.entries in
     let v = ap (λ (v : Roomy). length v.state.records) c.self.view_is in
-    whole-added (roomed (on_desk g.O.Outbox g.I.Inbox c.self.inside.desk) c.reserve.new.self c.reserve.ensures.items c.self.inside.records.entries) (on_desk g.O.Outbox g.I.Inbox c.put.new.self)
+    whole-added c.self.inside.gone (roomed c.self.inside.gone (on_desk g.O.Outbox g.I.Inbox c.self.inside.desk) c.reserve.new.self c.reserve.ensures.items c.self.inside.records.entries) (on_desk g.O.Outbox g.I.Inbox c.put.new.self)
     c.self.inside.records.entries c.reserve-2.new.self.entries c.self.inside.ready c.args.transfer.addressing.id
-    (whole-roomed (on_desk g.O.Outbox g.I.Inbox c.self.inside.desk) c.reserve.new.self c.reserve.ensures.items c.self.inside.records.entries c.self.inside.ready c.self.invariant)
+    (whole-roomed c.self.inside.gone (on_desk g.O.Outbox g.I.Inbox c.self.inside.desk) c.reserve.new.self c.reserve.ensures.items c.self.inside.records.entries c.self.inside.ready c.self.invariant)
     (absent-seen (g.I.Inbox.staged c.self.inside.desk.inbox) c.self.inside.records.entries c.args.transfer.addressing.id
     (ap (λ (v : Roomy). place_of c.args.transfer.addressing.id v.state.records) c.self.view_is ∙ c.requires.may_add.absent)) c.reserve-2.ensures.entries c.put.ensures.widens
     c.in_ok-held.held c.push_record.new.records.entries c.push_record.ensures.added
@@ -37,12 +37,12 @@ invariant_of-self-2 g c =
     c.push_record.ensures.unique
 
 pub returns-clause-put : goal.returns-clause-put
-returns-clause-put g c = becomes-roomed (on_desk g.O.Outbox g.I.Inbox c.self.inside.desk) c.reserve.new.self c.reserve.ensures.items c.self.inside.records.entries (put_in c.args.transfer)
-    c.args.self.now (roomy_of (on_desk g.O.Outbox g.I.Inbox c.put.new.self) c.push_record.new.records.entries) c.self.view_is
+returns-clause-put g c = becomes-roomed c.self.inside.gone (on_desk g.O.Outbox g.I.Inbox c.self.inside.desk) c.reserve.new.self c.reserve.ensures.items c.self.inside.records.entries (put_in c.args.transfer)
+    c.args.self.now (roomy_of c.self.inside.gone (on_desk g.O.Outbox g.I.Inbox c.put.new.self) c.push_record.new.records.entries) c.self.view_is
     (record {
-      state = state-added (roomed (on_desk g.O.Outbox g.I.Inbox c.self.inside.desk) c.reserve.new.self c.reserve.ensures.items c.self.inside.records.entries)
+      state = state-added c.self.inside.gone (roomed c.self.inside.gone (on_desk g.O.Outbox g.I.Inbox c.self.inside.desk) c.reserve.new.self c.reserve.ensures.items c.self.inside.records.entries)
           (on_desk g.O.Outbox g.I.Inbox c.put.new.self) c.self.inside.records.entries c.reserve-2.new.self.entries c.self.inside.ready c.args.transfer.addressing.id
-          (whole-roomed (on_desk g.O.Outbox g.I.Inbox c.self.inside.desk) c.reserve.new.self c.reserve.ensures.items c.self.inside.records.entries c.self.inside.ready c.self.invariant)
+          (whole-roomed c.self.inside.gone (on_desk g.O.Outbox g.I.Inbox c.self.inside.desk) c.reserve.new.self c.reserve.ensures.items c.self.inside.records.entries c.self.inside.ready c.self.invariant)
           (absent-seen (g.I.Inbox.staged c.self.inside.desk.inbox) c.self.inside.records.entries c.args.transfer.addressing.id
           (ap (λ (v : Roomy). place_of c.args.transfer.addressing.id v.state.records) c.self.view_is ∙ c.requires.may_add.absent)) c.reserve-2.ensures.entries c.put.ensures.widens
           c.in_ok-held.held c.push_record.new.records.entries c.push_record.ensures.added

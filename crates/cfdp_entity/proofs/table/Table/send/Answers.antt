@@ -12,18 +12,18 @@ use Rattle.cfdp_entity.proofs.Entries.{may-step, within, whole-step, state-step,
 use Rattle.cfdp_entity.proofs.table.Table.send.Goals as goal
 
 pub send-gave-requires-clause-ready : goal.send-gave-requires-clause-ready
-send-gave-requires-clause-ready g c = may-step (on_desk g.O.Outbox g.I.Inbox c.self.inside.desk) c.self.inside.records.entries c.self.inside.ready c.args.place c.self.invariant c.in-Some.held.now
+send-gave-requires-clause-ready g c = may-step c.self.inside.gone (on_desk g.O.Outbox g.I.Inbox c.self.inside.desk) c.self.inside.records.entries c.self.inside.ready c.args.place c.self.invariant c.in-Some.held.now
     (sym c.in-Some.ensures.value)
     (subst (λ (v : Roomy). 3 ≤ v.spare) (sym c.self.view_is) c.requires.room)
 
 pub set-requires : goal.set-requires
 set-requires g c = record {
-  within = within (on_desk g.O.Outbox g.I.Inbox c.self.inside.desk) c.self.inside.records.entries c.self.inside.ready c.args.place c.self.invariant c.in-Some.held.now
+  within = within c.self.inside.gone (on_desk g.O.Outbox g.I.Inbox c.self.inside.desk) c.self.inside.records.entries c.self.inside.ready c.args.place c.self.invariant c.in-Some.held.now
       (sym c.in-Some.ensures.value);
 }
 
 pub invariant_of-self : goal.invariant_of-self
-invariant_of-self g c = whole-step (on_desk g.O.Outbox g.I.Inbox c.self.inside.desk) c.self.inside.records.entries c.self.inside.ready c.args.place c.self.invariant c.in-Some.held.now
+invariant_of-self g c = whole-step c.self.inside.gone (on_desk g.O.Outbox g.I.Inbox c.self.inside.desk) c.self.inside.records.entries c.self.inside.ready c.args.place c.self.invariant c.in-Some.held.now
     (sym c.in-Some.ensures.value) (on_desk g.O.Outbox g.I.Inbox c.send-gave.new.self) _ c.send-gave.new.held refl c.send-gave.ensures.stays
     (ap (λ (t : TimersState). t.roomy) c.send-gave.ensures.sent.made.timers)
     c.is_due.result (c.is_due.ensures (g.I.Inbox.staged c.send-gave.new.self.inbox (id_of c.in-Some.held.now))) c.set.new.self c.set.ensures
@@ -31,20 +31,20 @@ invariant_of-self g c = whole-step (on_desk g.O.Outbox g.I.Inbox c.self.inside.d
 pub send-gave-requires-clause-fits : goal.send-gave-requires-clause-fits
 send-gave-requires-clause-fits g c = subst (λ n. n ≤ length c.args.out.now)
     (ap (λ (v : Roomy). len_at c.args.place v.state) (sym c.self.view_is) ∙ ap (len_due (g.O.Outbox.files c.self.inside.desk.outbox))
-    (here (on_desk g.O.Outbox g.I.Inbox c.self.inside.desk) c.self.inside.records.entries c.self.inside.ready c.args.place c.self.invariant c.in-Some.held.now (sym c.in-Some.ensures.value)))
+    (here c.self.inside.gone (on_desk g.O.Outbox g.I.Inbox c.self.inside.desk) c.self.inside.records.entries c.self.inside.ready c.args.place c.self.invariant c.in-Some.held.now (sym c.in-Some.ensures.value)))
     c.requires.fits
 
 pub returns-in-Some : goal.returns-in-Some
 returns-in-Some g c = record {
-  state = state-step (on_desk g.O.Outbox g.I.Inbox c.self.inside.desk) c.self.inside.records.entries c.self.inside.ready c.args.place c.self.invariant c.in-Some.held.now
+  state = state-step c.self.inside.gone (on_desk g.O.Outbox g.I.Inbox c.self.inside.desk) c.self.inside.records.entries c.self.inside.ready c.args.place c.self.invariant c.in-Some.held.now
       (sym c.in-Some.ensures.value) (on_desk g.O.Outbox g.I.Inbox c.send-gave.new.self) _ c.send-gave.new.held refl c.send-gave.ensures.stays
       (taking (stored_by_gave c.send-gave.result)) c.send-gave.ensures.sent.made ∙ ap (λ (v : Roomy). taken_at (stored_by_gave c.send-gave.result) c.args.place v.state) c.self.view_is;
   gives = subst (λ (v : Roomy). Gives (due_at c.args.place v.state) (len_at c.args.place v.state) c.send-gave.result c.args.out.now c.send-gave.new.out) c.self.view_is
       (subst (λ e. Gives (octets_due (g.O.Outbox.files c.self.inside.desk.outbox) e) (len_due (g.O.Outbox.files c.self.inside.desk.outbox) e) c.send-gave.result c.args.out.now c.send-gave.new.out)
-      (sym (here (on_desk g.O.Outbox g.I.Inbox c.self.inside.desk) c.self.inside.records.entries c.self.inside.ready c.args.place c.self.invariant c.in-Some.held.now
+      (sym (here c.self.inside.gone (on_desk g.O.Outbox g.I.Inbox c.self.inside.desk) c.self.inside.records.entries c.self.inside.ready c.args.place c.self.invariant c.in-Some.held.now
       (sym c.in-Some.ensures.value))) c.send-gave.ensures.sent.gives);
   carries = λ failed. ap (λ (v : Roomy). data_at c.args.place v.state) (sym c.self.view_is) ∙ ap data_due
-      (here (on_desk g.O.Outbox g.I.Inbox c.self.inside.desk) c.self.inside.records.entries c.self.inside.ready c.args.place c.self.invariant c.in-Some.held.now (sym c.in-Some.ensures.value)) ∙
+      (here c.self.inside.gone (on_desk g.O.Outbox g.I.Inbox c.self.inside.desk) c.self.inside.records.entries c.self.inside.ready c.args.place c.self.invariant c.in-Some.held.now (sym c.in-Some.ensures.value)) ∙
       c.send-gave.ensures.sent.carries failed;
   counts = subst (λ (v : Roomy). CountsOutbox (stored_by_gave c.send-gave.result) v.outbox_failures (g.O.Outbox.failures c.send-gave.new.self.outbox)) c.self.view_is c.send-gave.ensures.sent.counts;
   inbox = c.send-gave.ensures.sent.inbox ∙ ap (λ (v : Roomy). v.inbox_failures) c.self.view_is;
@@ -52,7 +52,7 @@ returns-in-Some g c = record {
 
 pub returns-in-None : goal.returns-in-None
 returns-in-None g c = record {
-  state = state-nowhere (on_desk g.O.Outbox g.I.Inbox c.self.inside.desk) c.self.inside.records.entries c.self.inside.ready c.args.place (taking Done) c.in-None.ensures.value ∙ ap
+  state = state-nowhere c.self.inside.gone (on_desk g.O.Outbox g.I.Inbox c.self.inside.desk) c.self.inside.records.entries c.self.inside.ready c.args.place (taking Done) c.in-None.ensures.value ∙ ap
       (λ (v : Roomy). taken_at Done c.args.place v.state) c.self.view_is;
   gives = subst (λ (v : Roomy). Gives (due_at c.args.place v.state) (len_at c.args.place v.state) (Octets 0) c.args.out.now c.args.out.now) c.self.view_is
       (subst (λ e. Gives (octets_due (g.O.Outbox.files c.self.inside.desk.outbox) e) (len_due (g.O.Outbox.files c.self.inside.desk.outbox) e) (Octets 0) c.args.out.now c.args.out.now)

@@ -1,0 +1,99 @@
+-- Records that are let go, to make room for others: those that are closed and have nothing due.
+use Rattle.std.specs.Prelude.{◌≡◌, ℕ, ◌-◌, nat_lt, not, Bool, true, false, List, [], ◌∷◌, Option, Some, None, remove, slice_get, if◌then◌else◌}
+use Rattle.std.specs.FinSet as set
+use Rattle.cfdp_header.specs.declared.value.TransactionId.{TransactionId}
+use Rattle.cfdp_directives.specs.declared.user.phase.Phase.{Phase}
+use Rattle.cfdp_directives.specs.declared.user.phase.Phase.TheVariants as phases
+use Rattle.cfdp_timers.specs.Armed.{cleared}
+use Rattle.cfdp_entity.specs.declared.error.ForgetError.{ForgetError}
+use Rattle.cfdp_entity.specs.declared.error.ForgetError.TheVariants.{Unknown, StillOpen, AnswerDue, NoMemory}
+use Rattle.cfdp_entity.specs.Entity.{EntityState}
+use Rattle.cfdp_entity.specs.Seen.{Seen, is_due, phase_of}
+use Rattle.cfdp_entity.specs.Table.{Entry, TableState, place_of}
+
+-- ---- which records may be
+abbrev pub is_closed : Phase → Bool
+is_closed phases.Closed = true
+is_closed _ = false
+
+-- why a record can't be let go, if it can't
+abbrev pub refusal : Seen → Option ForgetError
+refusal s =
+    if not (is_closed (phase_of s)) then Some StillOpen
+    else if is_due s then Some AnswerDue
+    else None
+
+-- of a transaction that may have none
+abbrev pub refusal_of : Option Entry → Option ForgetError
+refusal_of (Some e) = refusal e.1
+refusal_of None = Some Unknown
+
+abbrev pub refusal_in : Option ℕ → TableState → Option ForgetError
+refusal_in (Some place) st = refusal_of (slice_get st.records place)
+refusal_in None st = Some Unknown
+
+abbrev pub forget_refusal : TransactionId → TableState → Option ForgetError
+forget_refusal id st = refusal_in (place_of id st.records) st
+
+-- the transaction of a record, if it may go
+abbrev pub unless_refused : Option ForgetError → TransactionId → Option TransactionId
+unless_refused None id = Some id
+unless_refused (Some by) id = None
+
+abbrev pub over_in : Option Entry → Option TransactionId
+over_in (Some e) = unless_refused (refusal e.1) e.0
+over_in None = None
+
+-- No record is left that may go.
+abbrev pub HasNoneOver : TableState → Type 0
+HasNoneOver st = (place : ℕ) → over_in (slice_get st.records place) ≡ None
+
+-- A record isn't let go by this cause, or for want of memory.
+abbrev pub IsForgetRefusal : Option ForgetError → ForgetError → Type 0
+IsForgetRefusal (Some e) by = by ≡ e
+IsForgetRefusal None by = by ≡ NoMemory
+
+-- ---- what is left
+-- those behind it move up, and no timer of its transaction is armed
+abbrev pub left_at : ℕ → TransactionId → TableState → TableState
+left_at place id st = record st {
+  records = remove st.records place;
+  armed = cleared st.armed id;
+}
+
+-- where a place is once another one is taken out
+abbrev pub moved : (out place : ℕ) → ℕ
+moved out place = if nat_lt out place then place - 1 else place
+
+abbrev pub without_record : ℕ → TransactionId → EntityState → EntityState
+without_record place id e = record e {
+  table = left_at place id e.table;
+  cursor = moved place e.cursor;
+  forgotten = set.insert e.forgotten id;
+}
+
+-- The record of a transaction was let go: its transaction is known to be over.
+pub record Forgets (id : TransactionId) (old new : EntityState) : Type 0 where
+  pub place : ℕ
+  pub seen : Seen
+  pub at : slice_get old.table.records place ≡ Some (id, seen)
+  pub allowed : refusal seen ≡ None
+  pub forgot : new ≡ without_record place id old
+
+-- The records of these transactions were let go, one after another.
+unfoldable pub ForgetsEach : List TransactionId → (old new : EntityState) → Type 0
+ForgetsEach [] old new = new ≡ old
+ForgetsEach (id ∷ ids) old new = (mid : EntityState) × (Forgets id old mid × ForgetsEach ids mid new)
+
+pub record ForgetsSome (old new : EntityState) : Type 0 where
+  pub ids : List TransactionId
+  pub forgets : ForgetsEach ids old new
+
+-- The record at a place was let go if it may be, and nothing else changed.
+pub record GoesAt (place : ℕ) (id : TransactionId) (old new : EntityState) : Type 0 where
+  pub forgets : Forgets id old new
+  pub records : new.table.records ≡ remove old.table.records place
+
+abbrev pub GoesIfOver : Option TransactionId → ℕ → (old new : EntityState) → Type 0
+GoesIfOver (Some id) place old new = GoesAt place id old new
+GoesIfOver None place old new = new ≡ old

@@ -1,0 +1,16 @@
+//! Transactions that an entity let go: which they are, and nothing else of them.
+//!
+//! ```rust
+//! let mut forgotten = Forgotten::new(alloc);
+//! forgotten.insert(id)?;
+//! assert!(forgotten.contains(id));
+//! ```
+#![tactic(auto)]
+
+mod forgotten;
+mod laws;
+mod numbers;
+
+pub use forgotten::Forgotten;
+pub use laws::ranges_are_few;
+pub use numbers::Numbers;

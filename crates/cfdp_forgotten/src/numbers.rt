@@ -1,0 +1,73 @@
+// Numbers of transactions of one source.
+ghost use Rattle.std.specs.Prelude.{◌≡◌, ◌<◌, ◌-◌, ℕ, true, OnOk, OnErr, IsOk};
+ghost use Rattle.std.specs.FinSet as set;
+
+use cfdp_extents::Extents;
+use std::alloc::{AllocError, Global};
+use std::marker::Model;
+
+/// A set of numbers of transactions, kept as ranges: numbers that follow one another are one range.
+#[derive(Debug, Drop)]
+pub struct Numbers {
+    // All but the greatest there is: no range ends behind that.
+    ranges: Extents,
+    greatest: bool,
+}
+
+impl Model for Numbers {
+    ghost use Rattle.std.specs.Prelude.{◌≡◌, ◌<◌, ◌-◌, ◌^◌, ℕ, true};
+    ghost use Rattle.std.specs.Coded.{coded_ℕ};
+    ghost use Rattle.std.specs.FinSet as set;
+    ghost use Rattle.cfdp_forgotten.specs.Forgotten.{NumberSet, with_greatest};
+
+    ghost Value = { NumberSet };
+
+    ghost coded = { set.code coded_ℕ };
+
+    ghost view = { λ n. with_greatest n.greatest n.ranges };
+
+    ghost invariant = { λ n. (k : ℕ) → set.contains n.ranges k ≡ true → k < 2 ^ 64 - 1 };
+}
+
+impl Numbers {
+    /// No numbers.
+    pub fn new(alloc: Global) -> Self
+        ensures { result ≡ set.empty }
+    {
+        Numbers {
+            ranges: Extents::new(alloc),
+            greatest: false,
+        }
+    }
+
+    /// Whether a number is in it.
+    pub fn contains(&self, number: u64) -> bool
+        ensures { result ≡ set.contains self.now number }
+    {
+        match number.checked_add(1) {
+            Some(behind) => self.ranges.covers(number, behind),
+            None => self.greatest,
+        }
+    }
+
+    /// Adds a number.
+    ///
+    /// # Errors
+    ///
+    /// Where there is no memory for one more range. The set is then unchanged.
+    pub fn insert(&mut self, number: u64) -> Result<(), AllocError>
+        ensures ok { OnOk result (self.new ≡ set.insert self.old number) }
+        ensures err { OnErr result (self.new ≡ self.old) }
+        // A number that is in it takes no memory.
+        ensures held { set.contains self.old number ≡ true → IsOk result }
+        // Nor does one that follows the greatest of them.
+        ensures next { ((k : ℕ) → set.contains self.old k ≡ true → k < number)
+            → set.contains self.old (number - 1) ≡ true → IsOk result }
+    {
+        match number.checked_add(1) {
+            Some(behind) => self.ranges.insert(number, behind)?,
+            None => self.greatest = true,
+        }
+        Ok(())
+    }
+}

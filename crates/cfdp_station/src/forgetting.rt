@@ -1,0 +1,87 @@
+//! What a user lets go, so that a station can stay up: its memory then follows what is open.
+ghost use Rattle.std.specs.Prelude.{◌≡◌, IfErr, OnOk, OnErr};
+ghost use Rattle.cfdp_entity.specs.Entity as entities;
+ghost use Rattle.cfdp_entity.specs.Entity.{with_table};
+ghost use Rattle.cfdp_entity.specs.Forgetting.{Forgets, ForgetsSome, HasNoneOver, IsForgetRefusal, forget_refusal};
+ghost use Rattle.cfdp_entity.specs.Table.{next_told, without_told};
+ghost use Rattle.cfdp_station.specs.Station.{KeepsLink};
+
+use crate::station::Station;
+use cfdp_directives::Indication;
+use cfdp_entity::ForgetError;
+use cfdp_header::TransactionId;
+use cfdp_store::{Inbox, Outbox};
+use std::alloc::AllocError;
+
+impl<O: Outbox, I: Inbox> Station<O, I> {
+    /// Lets go of the record of a transaction that is over, so that there is room for another. It
+    /// is never opened again: an EOF or a Finished that still comes of it is acknowledged by what
+    /// it says, and anything else is passed over.
+    ///
+    /// # Errors
+    ///
+    /// The first cause that holds, in the order of [`ForgetError`]; nothing changed then.
+    pub fn forget(&mut self, id: TransactionId) -> Result<(), ForgetError>
+        ensures forgot { OnOk result (Forgets id self.old.entity.state self.new.entity.state) }
+        ensures refused { IfErr result (IsForgetRefusal (forget_refusal id
+            self.old.entity.state.table)) }
+        ensures err { OnErr result (self.new ≡ self.old) }
+        ensures inbox { self.new.entity.inbox_failures ≡ self.old.entity.inbox_failures }
+        ensures outbox { self.new.entity.outbox_failures ≡ self.old.entity.outbox_failures }
+        ensures link { KeepsLink self.old self.new }
+    {
+        self.entity.forget(id)
+    }
+
+    /// Whether the record of a transaction was let go.
+    pub fn was_forgotten(&self, id: TransactionId) -> bool
+        ensures { result ≡ entities.is_forgotten self.now.entity.state id }
+    {
+        self.entity.was_forgotten(id)
+    }
+
+    /// Lets go of the records of all transactions that are over and owe no acknowledgement.
+    ///
+    /// # Errors
+    ///
+    /// `AllocError` where there was no memory to note that one of them is over. Some others may
+    /// have gone by then.
+    pub fn forget_closed(&mut self) -> Result<(), AllocError>
+        ensures some { ForgetsSome self.old.entity.state self.new.entity.state }
+        ensures all { OnOk result (HasNoneOver self.new.entity.state.table) }
+        ensures inbox { self.new.entity.inbox_failures ≡ self.old.entity.inbox_failures }
+        ensures outbox { self.new.entity.outbox_failures ≡ self.old.entity.outbox_failures }
+        ensures link { KeepsLink self.old self.new }
+    {
+        self.entity.forget_closed()
+    }
+
+    /// Lets the first so many indications go of those that are left, or all where there are fewer.
+    /// 2^64 - 1 indications can go in all: more stay.
+    pub fn forget_indications(&mut self, count: usize)
+        ensures gone { self.new.entity ≡ record self.old.entity {
+          state = with_table self.old.entity.state
+              (without_told count self.old.entity.state.table);
+        } }
+        ensures link { KeepsLink self.old self.new }
+    {
+        self.entity.forget_indications(count);
+    }
+
+    /// Takes the first indication that is left, and lets it go.
+    ///
+    /// ```
+    /// while let Some(told) = station.next_indication() {
+    ///     // What became of a transaction.
+    /// }
+    /// ```
+    pub fn next_indication(&mut self) -> Option<Indication>
+        ensures told { result ≡ next_told self.old.entity.state.table }
+        ensures gone { self.new.entity ≡ record self.old.entity {
+          state = with_table self.old.entity.state (without_told 1 self.old.entity.state.table);
+        } }
+        ensures link { KeepsLink self.old self.new }
+    {
+        self.entity.next_indication()
+    }
+}
