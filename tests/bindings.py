@@ -8,9 +8,9 @@
     tests/bindings.py --figures             tells what the archive takes (docs/GATE.md), and no more
 
 Compares cfdp.h and ffi.rs with the crate's sources, and the archive's names with them; compiles the
-header, the examples and calls.c without warnings; runs them, also under AddressSanitizer and
-valgrind. Where a machine hasn't one of the compilers or checkers, a line says so. The last line is
-'N passed, M failed'.
+header, the examples, calls.c and what stands in bindings/*/tests without warnings; runs them, also
+under AddressSanitizer and valgrind. Where a machine hasn't one of the compilers or checkers, a line
+says so. The last line is 'N passed, M failed'.
 """
 import os
 import re
@@ -177,11 +177,11 @@ def name_mistakes(archive):
 
 
 def uncalled_mistakes():
-    """Exports that calls.c doesn't call."""
-    text = text_of(f"{HERE}/calls.c")
+    """Exports that neither calls.c nor forgetting.c calls."""
+    text = text_of(f"{HERE}/calls.c") + text_of(f"{C}/tests/forgetting.c")
     for name in in_header(0)[0]:
         if not re.search(rf"\b{name}\(", text):
-            yield f"calls.c doesn't call {name}"
+            yield f"no test in C calls {name}"
 
 
 # ---- compiling and running
@@ -238,14 +238,18 @@ class Bindings:
     def c_runs(self):
         """Each program in C, by each compiler and checker."""
         example = [f"{C}/examples/transfer.c", f"{C}/heap.c"]
+        forgetting = [f"{C}/tests/forgetting.c"]
         for name, flags, front in checkers(self.room):
             for octets in ("0", "1", "100000"):
                 what = f"transfer.c, {octets} octets{name}"
                 yield what, self.c_mistakes(C99, example, flags, front, [octets])
             yield f"calls.c{name}", self.c_mistakes(C99, [f"{HERE}/calls.c"], flags, front, [])
+            rounds = ["20"] if front else []
+            yield f"forgetting.c{name}", self.c_mistakes(C99, forgetting, flags, front, rounds)
         yield "a file of 1 MiB", self.c_mistakes(C99, example, [], [], ["1048576"])
         if shutil.which("c++"):
             yield "transfer.c as C++", self.c_mistakes(CPP, example, [], [], [])
+            yield "forgetting.c as C++", self.c_mistakes(CPP, forgetting, [], [], [])
         else:
             print("no c++: nothing is compiled as C++")
 
@@ -255,22 +259,28 @@ class Bindings:
             if shutil.which(words[0]):
                 yield f"cfdp.h as {what}", run_mistakes([*words, "-fsyntax-only", f"{C}/cfdp.h"])
 
-    def rust_program(self):
-        """The commands that build the example in Rust, and where it then lies."""
+    def rust_program(self, source, made, *flags):
+        """The commands that build a program in Rust, and where it then lies."""
         rustc = ["rustc", "--edition", "2024", "-O", "-D", "warnings"]
-        library, made = f"{self.room}/libcfdp.rlib", f"{self.room}/transfer_rs"
+        library, made = f"{self.room}/libcfdp.rlib", f"{self.room}/{made}"
         folder = os.path.dirname(self.archive)
         wrapper = ["--crate-type", "rlib", "--crate-name", "cfdp", f"{RUST}/src/lib.rs"]
         one = [*rustc, *wrapper, "-L", f"native={folder}", "-o", library]
-        example = ["--extern", f"cfdp={library}", f"{RUST}/examples/transfer.rs"]
-        return [one, [*rustc, *example, "-L", f"native={folder}", "-o", made]], made
+        program = [*flags, "--extern", f"cfdp={library}", f"{RUST}/{source}"]
+        return [one, [*rustc, *program, "-L", f"native={folder}", "-o", made]], made
+
+    def rust_example(self):
+        """The same of the example."""
+        return self.rust_program("examples/transfer.rs", "transfer_rs")
 
     def rust_runs(self):
-        """The example in Rust, as it is and under valgrind."""
+        """The tests in Rust, and the example, as it is and under valgrind."""
         if not shutil.which("rustc"):
-            print("no rustc: the wrapper and its example aren't compiled")
+            print("no rustc: the wrapper, its tests and its example aren't compiled")
             return
-        builds, made = self.rust_program()
+        builds, made = self.rust_program("tests/forgetting.rs", "forgetting_rs", "--test")
+        yield "forgetting.rs", run_mistakes(*builds, [made])
+        builds, made = self.rust_example()
         yield "transfer.rs", run_mistakes(*builds, [made], [made, "0"])
         if shutil.which("valgrind"):
             words = ["valgrind", "-q", "--leak-check=full", "--error-exitcode=9"]
@@ -302,7 +312,7 @@ class Bindings:
         if not [*run_mistakes([*C99, *example, "-o", made])]:
             yield "transfer.c over UDP", self.udp_mistakes(made)
         if shutil.which("rustc"):
-            builds, made = self.rust_program()
+            builds, made = self.rust_example()
             if not [*run_mistakes(*builds)]:
                 yield "transfer.rs over UDP", self.udp_mistakes(made)
 
@@ -310,7 +320,7 @@ class Bindings:
         yield "the header, ffi.rs and the crate", declaration_mistakes()
         yield "the numbers of the answers", number_mistakes()
         yield "the archive's names", name_mistakes(self.archive)
-        yield "calls.c calls every export", uncalled_mistakes()
+        yield "every export is called in C", uncalled_mistakes()
         yield from self.header_runs()
         if shutil.which("cc"):
             yield from self.c_runs()

@@ -46,7 +46,7 @@ enum {
     CFDP_NO_SUCH_FILE = 21,  /* the outbox has no file of that name */
     CFDP_BAD_NAME = 22,      /* a name hasn't 1 to 255 octets */
     CFDP_TOO_LARGE = 23,     /* the file has more than 2^48 octets */
-    CFDP_TABLE_FULL = 24,    /* the station has had 4,096 transactions */
+    CFDP_TABLE_FULL = 24,    /* the station has 4,096 records; some have to be forgotten */
     CFDP_NUMBERS_SPENT = 25, /* the next number doesn't fit number_width */
     CFDP_SOURCE_FAULT = 26,  /* the outbox failed; one in memory never does */
 
@@ -55,6 +55,10 @@ enum {
     CFDP_ALREADY_CLOSED = 32, /* it is over */
     CFDP_WRONG_SIDE = 33,     /* cfdp_prompt: only the file's sender can */
     CFDP_ALREADY_SO = 34,     /* suspended already, not suspended, or a Prompt is due */
+
+    /* cfdp_forget, which may answer CFDP_UNKNOWN too */
+    CFDP_STILL_OPEN = 35, /* the transaction isn't over */
+    CFDP_ANSWER_DUE = 36, /* a poll has yet to send an acknowledgement of it */
 
     CFDP_FULL = 41, /* cfdp_poll: the PDU doesn't fit until frames were taken off */
 
@@ -153,6 +157,23 @@ cfdp_answer cfdp_resume(cfdp_station *station, const cfdp_id *id);
  * NAK. */
 cfdp_answer cfdp_prompt(cfdp_station *station, const cfdp_id *id, bool keep_alive);
 
+/* ---- What it lets go. A station has room for 4,096 records of transactions at once. A transaction
+ * that is over keeps its record until it is forgotten. */
+
+/* Lets go of the record of a transaction that is over. It is never opened again: an EOF or a
+ * Finished that still comes of it is acknowledged, and anything else is passed over. CFDP_OK,
+ * CFDP_CLOSED, CFDP_UNKNOWN, CFDP_STILL_OPEN, CFDP_ANSWER_DUE or CFDP_NO_MEMORY, the first that
+ * holds; but for CFDP_OK nothing has changed. */
+cfdp_answer cfdp_forget(cfdp_station *station, const cfdp_id *id);
+
+/* Lets go of the records of all transactions that are over, but for those with an acknowledgement
+ * due. CFDP_OK, CFDP_CLOSED, or CFDP_NO_MEMORY: some of them may be gone then. */
+cfdp_answer cfdp_forget_closed(cfdp_station *station);
+
+/* Tells whether the record of a transaction was let go: *was is 1 where it was, else 0. CFDP_OK or
+ * CFDP_CLOSED. */
+cfdp_answer cfdp_was_forgotten(cfdp_station *station, const cfdp_id *id, uint8_t *was);
+
 /* ---- Down. */
 
 /* Moves the PDU whose turn it is into the frames of its lane. CFDP_OK where one was moved: poll
@@ -227,9 +248,9 @@ typedef struct cfdp_indication {
 /* Octets that suffice for the names of every indication, and for the name of every file. */
 enum { CFDP_NAMES = 510, CFDP_NAME = 255 };
 
-/* Tells the next indication; names gets the name at the sender, and behind it that at the
- * receiver. CFDP_OK, CFDP_CLOSED, CFDP_NOTHING where all were told, or CFDP_NO_ROOM: it stays the
- * next then. */
+/* Tells the next indication, which the station lets go then; names gets the name at the sender, and
+ * behind it that at the receiver. CFDP_OK, CFDP_CLOSED, CFDP_NOTHING where all were told, or
+ * CFDP_NO_ROOM: it stays the next then. */
 cfdp_answer cfdp_next_indication(cfdp_station *station, cfdp_indication *out, uint8_t *names,
                                  size_t room);
 

@@ -16,7 +16,7 @@ pub enum Error {
     BadName,
     /// The file has more than 2^48 octets.
     TooLarge,
-    /// The station has had 4,096 transactions.
+    /// The station has 4,096 records: some have to be forgotten.
     TableFull,
     /// The next sequence number doesn't fit its width.
     NumbersSpent,
@@ -30,6 +30,10 @@ pub enum Error {
     WrongSide,
     /// It is suspended already, or isn't, or a Prompt is due.
     AlreadySo,
+    /// The transaction isn't over.
+    StillOpen,
+    /// A poll has yet to send an acknowledgement of it.
+    AnswerDue,
     /// The octets are no PDU: the number of the refusal, 1 to 11.
     BadPdu(u8),
     /// An answer that isn't known.
@@ -53,6 +57,8 @@ impl Error {
             32 => Error::AlreadyClosed,
             33 => Error::WrongSide,
             34 => Error::AlreadySo,
+            35 => Error::StillOpen,
+            36 => Error::AnswerDue,
             51..=61 => Error::BadPdu((answer - 50) as u8),
             other => Error::Other(other),
         }
@@ -79,6 +85,8 @@ impl fmt::Display for Error {
             Error::AlreadyClosed => "the transaction is over",
             Error::WrongSide => "only the file's sender can prompt",
             Error::AlreadySo => "it is so already",
+            Error::StillOpen => "the transaction is not over",
+            Error::AnswerDue => "an acknowledgement is due",
             Error::BadPdu(number) => return write!(f, "no PDU: refusal {number}"),
             Error::Other(answer) => return write!(f, "answer {answer}"),
         })

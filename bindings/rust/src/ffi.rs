@@ -124,6 +124,9 @@ unsafe extern "C" {
     safe fn cfdp_suspend(station: &mut Handle, id: &Id) -> u32;
     safe fn cfdp_resume(station: &mut Handle, id: &Id) -> u32;
     safe fn cfdp_prompt(station: &mut Handle, id: &Id, keep_alive: bool) -> u32;
+    safe fn cfdp_forget(station: &mut Handle, id: &Id) -> u32;
+    safe fn cfdp_forget_closed(station: &mut Handle) -> u32;
+    safe fn cfdp_was_forgotten(station: &mut Handle, id: &Id, was: &mut u8) -> u32;
     safe fn cfdp_poll(station: &mut Handle) -> u32;
     safe fn cfdp_flush(station: &mut Handle) -> u32;
     safe fn cfdp_frame_len(station: &mut Handle) -> usize;
@@ -194,6 +197,18 @@ impl Handle {
 
     pub fn prompt(&mut self, id: Id, keep_alive: bool) -> u32 {
         cfdp_prompt(self, &id, keep_alive)
+    }
+
+    pub fn forget(&mut self, id: Id) -> u32 {
+        cfdp_forget(self, &id)
+    }
+
+    pub fn forget_closed(&mut self) -> u32 {
+        cfdp_forget_closed(self)
+    }
+
+    pub fn was_forgotten(&mut self, id: Id, was: &mut u8) -> u32 {
+        cfdp_was_forgotten(self, &id, was)
     }
 
     pub fn poll(&mut self) -> u32 {

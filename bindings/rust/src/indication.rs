@@ -54,7 +54,7 @@ impl Indication {
     }
 }
 
-/// The indications that weren't read yet. One that is read isn't told again.
+/// The indications that weren't read yet. The station lets go of one that is read.
 pub struct Indications<'a> {
     handle: &'a mut Handle,
 }

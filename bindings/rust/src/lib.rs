@@ -99,6 +99,25 @@ impl Station {
         Error::check(self.handle.prompt(id, keep_alive))
     }
 
+    /// Lets go of the record of a transaction that is over, so that there is room for another: a
+    /// station has 4,096 at once. It is never opened again: an EOF or a Finished that still comes
+    /// of it is acknowledged, and anything else is passed over.
+    pub fn forget(&mut self, id: Id) -> Result<(), Error> {
+        Error::check(self.handle.forget(id))
+    }
+
+    /// Lets go of the records of all transactions that are over, but for those with an
+    /// acknowledgement due. Where there is no memory for it, some of them may be gone.
+    pub fn forget_closed(&mut self) -> Result<(), Error> {
+        Error::check(self.handle.forget_closed())
+    }
+
+    /// Whether the record of a transaction was let go.
+    pub fn was_forgotten(&mut self, id: Id) -> bool {
+        let mut was = 0;
+        self.handle.was_forgotten(id, &mut was) == ffi::OK && was == 1
+    }
+
     /// Moves the PDU whose turn it is into the frames of its lane: file data into those of
     /// [`Link::data_channel`], all other PDUs, the directives, into those of [`Link::channel`].
     pub fn poll(&mut self) -> Result<Polled, Error> {
@@ -166,7 +185,8 @@ impl Station {
         (self.handle.next_deadline(&mut deadline) == ffi::OK).then_some(deadline)
     }
 
-    /// What it tells its user, from the first indication on that wasn't read yet.
+    /// What it tells its user, from the first indication on that wasn't read yet. It lets go of
+    /// each one that is read.
     pub fn indications(&mut self) -> Indications<'_> {
         Indications::of(&mut self.handle)
     }

@@ -13,13 +13,15 @@ use Rattle.cfdp_entity.specs.Calls.{IsCalled, call_refusal}
 use Rattle.cfdp_entity.specs.declared.call.Call.{Call}
 use Rattle.cfdp_entity.specs.declared.error.AddError.{AddError}
 use Rattle.cfdp_entity.specs.declared.error.CallError.{CallError}
+use Rattle.cfdp_entity.specs.declared.error.ForgetError.{ForgetError}
 use Rattle.cfdp_entity.specs.declared.error.PutError.{PutError}
 use Rattle.cfdp_entity.specs.Entity.{first_entity, with_table}
+use Rattle.cfdp_entity.specs.Forgetting.{Forgets, ForgetsSome, HasNoneOver, IsForgetRefusal, forget_refusal}
 use Rattle.cfdp_entity.specs.Putting.{Accepts, put_refusal, IsPutRefusal, stored_by_error}
 use Rattle.cfdp_entity.specs.Table.{Ticks}
 use Rattle.cfdp_station.specs.Station.{StationState, KeepsLink}
 use Rattle.cfdp_station.specs.declared.config.StationConfig.{StationConfig}
-use Rattle.cfdp_c.specs.Codes.{add_answer, put_answer, call_answer, memory_answer}
+use Rattle.cfdp_c.specs.Codes.{add_answer, put_answer, call_answer, forget_answer, memory_answer}
 use Rattle.cfdp_c.specs.declared.calls.CfdpId.{CfdpId}
 
 -- a transaction, as a caller writes it
@@ -61,6 +63,23 @@ pub record Calls (call : Call) (id : TransactionId) (answer : ℕ) (old new : St
   pub called : OnOk told (IsCalled call id old.entity.state new.entity.state)
   pub refused : IfErr told (IsRefusal (call_refusal call id old.entity.state.table))
   pub err : OnErr told (new ≡ old)
+  pub link : KeepsLink old new
+
+-- The record of a transaction was let go, or this is why not.
+pub record ForgetsOne (id : TransactionId) (answer : ℕ) (old new : StationState) : Type 0 where
+  pub told : Result (Unit {0}) ForgetError
+  pub code : answer ≡ forget_answer told
+  pub forgot : OnOk told (Forgets id old.entity.state new.entity.state)
+  pub refused : IfErr told (IsForgetRefusal (forget_refusal id old.entity.state.table))
+  pub err : OnErr told (new ≡ old)
+  pub link : KeepsLink old new
+
+-- The records that may go were let go, or only some of them where there was no memory for more.
+pub record ForgetsClosed (answer : ℕ) (old new : StationState) : Type 0 where
+  pub told : Result (Unit {0}) AllocError
+  pub code : answer ≡ memory_answer told
+  pub some : ForgetsSome old.entity.state new.entity.state
+  pub all : OnOk told (HasNoneOver new.entity.state.table)
   pub link : KeepsLink old new
 
 -- The time was told, or there was no memory for what is due.

@@ -6,6 +6,8 @@ use Rattle.cfdp_entity.specs.declared.error.AddError.{AddError}
 use Rattle.cfdp_entity.specs.declared.error.AddError.TheVariants as adds
 use Rattle.cfdp_entity.specs.declared.error.CallError.{CallError}
 use Rattle.cfdp_entity.specs.declared.error.CallError.TheVariants as calls
+use Rattle.cfdp_entity.specs.declared.error.ForgetError.{ForgetError}
+use Rattle.cfdp_entity.specs.declared.error.ForgetError.TheVariants as forgets
 use Rattle.cfdp_entity.specs.declared.error.PutError.{PutError}
 use Rattle.cfdp_entity.specs.declared.error.PutError.TheVariants as puts
 use Rattle.cfdp_station.specs.declared.polled.Polled.{Polled}
@@ -53,6 +55,12 @@ call_code calls.WrongSide = 33
 call_code calls.AlreadySo = 34
 call_code calls.NoMemory = no_memory
 
+abbrev pub forget_code : ForgetError → ℕ
+forget_code forgets.Unknown = 31
+forget_code forgets.StillOpen = 35
+forget_code forgets.AnswerDue = 36
+forget_code forgets.NoMemory = no_memory
+
 abbrev pub poll_code : Polled → ℕ
 poll_code polls.Moved = ok
 poll_code polls.Nothing = nothing
@@ -71,6 +79,10 @@ put_answer (Err by) = put_code by
 abbrev pub call_answer : {T : Type 0} → Result T CallError → ℕ
 call_answer (Ok value) = ok
 call_answer (Err by) = call_code by
+
+abbrev pub forget_answer : {T : Type 0} → Result T ForgetError → ℕ
+forget_answer (Ok value) = ok
+forget_answer (Err by) = forget_code by
 
 abbrev pub poll_answer : {E : Type 0} → Result Polled E → ℕ
 poll_answer (Ok polled) = poll_code polled

@@ -6,6 +6,9 @@ use Rattle.cfdp_directives.specs.Pdu.Codes.{delivery_code, file_status_code, tra
 use Rattle.cfdp_directives.specs.Pdu.Content.{Content, FileData, Metadata, Eof, Finished, Ack, Nak, Prompt, KeepAlive}
 use Rattle.cfdp_directives.specs.declared.user.indication.Indication.{Indication}
 use Rattle.cfdp_directives.specs.declared.user.indication.Indication.TheVariants as told
+use Rattle.cfdp_entity.specs.Entity.{with_table}
+use Rattle.cfdp_entity.specs.Table.{without_told}
+use Rattle.cfdp_station.specs.Station.{StationState, KeepsLink}
 use Rattle.cfdp_c.specs.Codes.{ok, no_room, nothing}
 use Rattle.cfdp_c.specs.declared.calls.CfdpId.{CfdpId}
 use Rattle.cfdp_c.specs.declared.indications.CfdpIndication.{CfdpIndication}
@@ -67,6 +70,13 @@ Tells None answer out_before out_now names_before names_now =
 Tells (Some i) answer out_before out_now names_before names_now =
     TellsIf (nat_le (length (names_of i)) (length names_before)) i answer out_before out_now
     names_before names_now
+
+-- The first indication that is left was let go, and nothing else changed.
+pub record LetsOneGo (old new : StationState) : Type 0 where
+  pub entity : new.entity ≡ record old.entity {
+    state = with_table old.entity.state (without_told 1 old.entity.state.table);
+  }
+  pub link : KeepsLink old new
 
 -- ---- PDUs
 abbrev pub bit : Bool → ℕ

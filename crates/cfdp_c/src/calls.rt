@@ -5,7 +5,7 @@ ghost use Rattle.cfdp_c.specs.Calls.{id_of, Adds, Puts, Calls, TellsTime, IsDead
 ghost use Rattle.cfdp_c.specs.Codes as codes;
 ghost use Rattle.cfdp_c.specs.Handles.{Becomes};
 
-use crate::codes::{CLOSED, NOTHING, OK, of_add, of_call, of_put, of_tick};
+use crate::codes::{CLOSED, NOTHING, OK, of_add, of_call, of_memory, of_put};
 use crate::handle::CfdpStation;
 use crate::held::Held;
 use cfdp_header::TransactionId;
@@ -29,7 +29,7 @@ impl CfdpId {
         }
     }
 
-    fn id(&self) -> TransactionId
+    pub(crate) fn id(&self) -> TransactionId
         ensures { result ≡ id_of self.now }
     {
         TransactionId {
@@ -42,7 +42,6 @@ impl CfdpId {
 impl Held {
     fn add(&mut self, name: &[u8], octets: &[u8]) -> u32
         ensures adds { Adds name.now octets.now result self.old.station self.new.station }
-        ensures told { self.new.told ≡ self.old.told }
     {
         of_add(self.station.add_source(name, octets))
     }
@@ -51,7 +50,6 @@ impl Held {
         ensures puts { Puts source.now destination.now result id.new self.old.station
             self.new.station }
         ensures kept { result ≢ codes.ok → id.new ≡ id.old }
-        ensures told { self.new.told ≡ self.old.told }
     {
         let answer = self.station.put(source, destination);
         if let Ok(opened) = answer {
@@ -62,21 +60,18 @@ impl Held {
 
     fn cancel(&mut self, id: TransactionId) -> u32
         ensures calls { Calls calls.Cancel id result self.old.station self.new.station }
-        ensures told { self.new.told ≡ self.old.told }
     {
         of_call(self.station.cancel(id))
     }
 
     fn suspend(&mut self, id: TransactionId) -> u32
         ensures calls { Calls calls.Suspend id result self.old.station self.new.station }
-        ensures told { self.new.told ≡ self.old.told }
     {
         of_call(self.station.suspend(id))
     }
 
     fn resume(&mut self, id: TransactionId) -> u32
         ensures calls { Calls calls.Resume id result self.old.station self.new.station }
-        ensures told { self.new.told ≡ self.old.told }
     {
         of_call(self.station.resume(id))
     }
@@ -84,16 +79,14 @@ impl Held {
     fn prompt(&mut self, id: TransactionId, keep_alive: bool) -> u32
         ensures calls { Calls (calls.Prompt keep_alive) id result self.old.station
             self.new.station }
-        ensures told { self.new.told ≡ self.old.told }
     {
         of_call(self.station.prompt(id, keep_alive))
     }
 
     fn tick(&mut self, now: u64) -> u32
         ensures tells { TellsTime now result self.old.station self.new.station }
-        ensures told { self.new.told ≡ self.old.told }
     {
-        of_tick(self.station.tick(now))
+        of_memory(self.station.tick(now))
     }
 
     fn next_deadline(&self, deadline: &mut u64) -> u32
@@ -123,7 +116,7 @@ pub extern "C" fn cfdp_add(
     ensures open { station.new.is_open ≡ station.old.is_open }
     ensures closed { station.old.is_open ≡ false → result ≡ codes.closed }
     ensures adds { Becomes station.old station.new (λ x y.
-        Adds name.now octets.now result x.station y.station × (y.told ≡ x.told)) }
+        Adds name.now octets.now result x.station y.station) }
 {
     let Some(mut held) = station.lift(alloc) else {
         return CLOSED;
@@ -147,8 +140,7 @@ pub extern "C" fn cfdp_put(
     ensures closed { station.old.is_open ≡ false → result ≡ codes.closed }
     ensures kept { result ≢ codes.ok → id.new ≡ id.old }
     ensures puts { Becomes station.old station.new (λ x y.
-        Puts source.now destination.now result id.new x.station y.station
-        × (y.told ≡ x.told)) }
+        Puts source.now destination.now result id.new x.station y.station) }
 {
     let Some(mut held) = station.lift(alloc) else {
         return CLOSED;
@@ -164,7 +156,7 @@ pub extern "C" fn cfdp_cancel(alloc: Global, station: &mut CfdpStation, id: &Cfd
     ensures open { station.new.is_open ≡ station.old.is_open }
     ensures closed { station.old.is_open ≡ false → result ≡ codes.closed }
     ensures calls { Becomes station.old station.new (λ x y.
-        Calls calls.Cancel (id_of id.now) result x.station y.station × (y.told ≡ x.told)) }
+        Calls calls.Cancel (id_of id.now) result x.station y.station) }
 {
     let Some(mut held) = station.lift(alloc) else {
         return CLOSED;
@@ -180,7 +172,7 @@ pub extern "C" fn cfdp_suspend(alloc: Global, station: &mut CfdpStation, id: &Cf
     ensures open { station.new.is_open ≡ station.old.is_open }
     ensures closed { station.old.is_open ≡ false → result ≡ codes.closed }
     ensures calls { Becomes station.old station.new (λ x y.
-        Calls calls.Suspend (id_of id.now) result x.station y.station × (y.told ≡ x.told)) }
+        Calls calls.Suspend (id_of id.now) result x.station y.station) }
 {
     let Some(mut held) = station.lift(alloc) else {
         return CLOSED;
@@ -196,7 +188,7 @@ pub extern "C" fn cfdp_resume(alloc: Global, station: &mut CfdpStation, id: &Cfd
     ensures open { station.new.is_open ≡ station.old.is_open }
     ensures closed { station.old.is_open ≡ false → result ≡ codes.closed }
     ensures calls { Becomes station.old station.new (λ x y.
-        Calls calls.Resume (id_of id.now) result x.station y.station × (y.told ≡ x.told)) }
+        Calls calls.Resume (id_of id.now) result x.station y.station) }
 {
     let Some(mut held) = station.lift(alloc) else {
         return CLOSED;
@@ -218,8 +210,7 @@ pub extern "C" fn cfdp_prompt(
     ensures open { station.new.is_open ≡ station.old.is_open }
     ensures closed { station.old.is_open ≡ false → result ≡ codes.closed }
     ensures calls { Becomes station.old station.new (λ x y.
-        Calls (calls.Prompt keep_alive) (id_of id.now) result x.station y.station
-        × (y.told ≡ x.told)) }
+        Calls (calls.Prompt keep_alive) (id_of id.now) result x.station y.station) }
 {
     let Some(mut held) = station.lift(alloc) else {
         return CLOSED;
@@ -236,7 +227,7 @@ pub extern "C" fn cfdp_tick(alloc: Global, station: &mut CfdpStation, now: u64) 
     ensures open { station.new.is_open ≡ station.old.is_open }
     ensures closed { station.old.is_open ≡ false → result ≡ codes.closed }
     ensures tells { Becomes station.old station.new (λ x y.
-        TellsTime now result x.station y.station × (y.told ≡ x.told)) }
+        TellsTime now result x.station y.station) }
 {
     let Some(mut held) = station.lift(alloc) else {
         return CLOSED;

@@ -1,9 +1,9 @@
 // What a call answers to C: a number, of which 0 is that all went well.
 ghost use Rattle.std.specs.Prelude.{◌≡◌};
-ghost use Rattle.cfdp_c.specs.Codes.{add_answer, call_answer, put_answer, poll_answer, memory_answer};
+ghost use Rattle.cfdp_c.specs.Codes.{add_answer, call_answer, forget_answer, put_answer, poll_answer, memory_answer};
 
 use cfdp_header::TransactionId;
-use cfdp_station::{AddError, CallError, Polled, PutError};
+use cfdp_station::{AddError, CallError, ForgetError, Polled, PutError};
 use std::alloc::AllocError;
 
 /// The call did what it says.
@@ -22,6 +22,8 @@ pub(crate) const NO_ROOM: u32 = 5;
 pub(crate) const NOTHING: u32 = 6;
 /// The outbox failed to give octets of a file.
 const SOURCE_FAULT: u32 = 26;
+/// The transaction has no record here.
+const UNKNOWN: u32 = 31;
 
 /// What a caller is told of a file that it adds.
 pub(crate) fn of_add(answer: Result<(), AddError>) -> u32
@@ -56,11 +58,24 @@ pub(crate) fn of_call(answer: Result<(), CallError>) -> u32
 {
     match answer {
         Ok(()) => OK,
-        Err(CallError::Unknown) => 31,
+        Err(CallError::Unknown) => UNKNOWN,
         Err(CallError::AlreadyClosed) => 32,
         Err(CallError::WrongSide) => 33,
         Err(CallError::AlreadySo) => 34,
         Err(CallError::NoMemory) => NO_MEMORY,
+    }
+}
+
+/// What a caller is told of a record that it lets go.
+pub(crate) fn of_forget(answer: Result<(), ForgetError>) -> u32
+    ensures { result ≡ forget_answer answer }
+{
+    match answer {
+        Ok(()) => OK,
+        Err(ForgetError::Unknown) => UNKNOWN,
+        Err(ForgetError::StillOpen) => 35,
+        Err(ForgetError::AnswerDue) => 36,
+        Err(ForgetError::NoMemory) => NO_MEMORY,
     }
 }
 
@@ -77,8 +92,8 @@ pub(crate) fn of_poll(answer: Result<Polled, AllocError>) -> u32
     }
 }
 
-/// What a caller is told of a tick.
-pub(crate) fn of_tick(answer: Result<(), AllocError>) -> u32
+/// What a caller is told of a call that only a want of memory stops.
+pub(crate) fn of_memory(answer: Result<(), AllocError>) -> u32
     ensures { result ≡ memory_answer answer }
 {
     match answer {

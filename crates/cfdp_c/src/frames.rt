@@ -17,14 +17,12 @@ use std::alloc::Global;
 impl Held {
     fn poll(&mut self) -> u32
         ensures polls { PollsOne result self.old.station self.new.station }
-        ensures told { self.new.told ≡ self.old.told }
     {
         of_poll(self.station.poll())
     }
 
     fn flush(&mut self)
         ensures fills { FillsFrames self.old.station self.new.station }
-        ensures told { self.new.told ≡ self.old.told }
     {
         self.station.flush();
     }
@@ -45,7 +43,6 @@ impl Held {
 
     fn next_frame(&mut self, out: &mut [u8]) -> u32
         ensures gives { GivesFrame result out.old out.new self.old.station self.new.station }
-        ensures told { self.new.told ≡ self.old.told }
     {
         if out.len() != self.frame_len() {
             return NO_ROOM;
@@ -65,7 +62,7 @@ pub extern "C" fn cfdp_poll(alloc: Global, station: &mut CfdpStation) -> u32
     ensures open { station.new.is_open ≡ station.old.is_open }
     ensures closed { station.old.is_open ≡ false → result ≡ codes.closed }
     ensures polls { Becomes station.old station.new (λ x y.
-        PollsOne result x.station y.station × (y.told ≡ x.told)) }
+        PollsOne result x.station y.station) }
 {
     let Some(mut held) = station.lift(alloc) else {
         return CLOSED;
@@ -82,7 +79,7 @@ pub extern "C" fn cfdp_flush(alloc: Global, station: &mut CfdpStation) -> u32
     ensures open { station.new.is_open ≡ station.old.is_open }
     ensures closed { station.old.is_open ≡ false → result ≡ codes.closed }
     ensures fills { Becomes station.old station.new (λ x y. (result ≡ codes.ok)
-        × FillsFrames x.station y.station × (y.told ≡ x.told)) }
+        × FillsFrames x.station y.station) }
 {
     let Some(mut held) = station.lift(alloc) else {
         return CLOSED;
@@ -134,7 +131,7 @@ pub extern "C" fn cfdp_next_frame(alloc: Global, station: &mut CfdpStation, fram
     ensures closed { station.old.is_open ≡ false → result ≡ codes.closed }
     ensures kept { result ≢ codes.ok → frame.new ≡ frame.old }
     ensures gives { Becomes station.old station.new (λ x y.
-        GivesFrame result frame.old frame.new x.station y.station × (y.told ≡ x.told)) }
+        GivesFrame result frame.old frame.new x.station y.station) }
 {
     let Some(mut held) = station.lift(alloc) else {
         return CLOSED;
@@ -151,7 +148,7 @@ pub extern "C" fn cfdp_take(alloc: Global, station: &mut CfdpStation, frame: &[u
     ensures open { station.new.is_open ≡ station.old.is_open }
     ensures closed { station.old.is_open ≡ false → result ≡ codes.closed }
     ensures takes { Becomes station.old station.new (λ x y. (result ≡ codes.ok)
-        × TakesFrame frame.now x.station y.station × (y.told ≡ x.told)) }
+        × TakesFrame frame.now x.station y.station) }
 {
     let Some(mut held) = station.lift(alloc) else {
         return CLOSED;

@@ -72,7 +72,7 @@ pub extern "C" fn cfdp_open(alloc: Global, station: &mut CfdpStation, config: &C
         ((result ≢ codes.bad_argument) ↔ IsUsable config.now) }
     ensures opened { result ≡ codes.ok → (station.new.is_open ≡ true)
         × IsSomeAnd station.new.slot.value
-        (λ held. IsFirst (config_of config.now) held.station × (held.told ≡ 0)) }
+        (λ held. IsFirst (config_of config.now) held.station) }
     ensures refused { result ≢ codes.ok → station.new ≡ station.old }
 {
     if station.is_open {
@@ -100,8 +100,7 @@ pub extern "C" fn cfdp_close(alloc: Global, station: &mut CfdpStation)
 
 fn boxed(alloc: Global, config: StationConfig) -> Result<Box<Held>, AllocError>
     requires { IsStationConfig config }
-    ensures { IfOk result (λ held. IsFirst config held.value.station
-        × (held.value.told ≡ 0)) }
+    ensures { IfOk result (λ held. IsFirst config held.value.station) }
 {
     match Box::new(alloc, Held::new(alloc, config)?) {
         Ok(held) => Ok(held),

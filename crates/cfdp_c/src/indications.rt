@@ -1,9 +1,9 @@
 //! What a station tells its user.
-ghost use Rattle.std.specs.Prelude.{◌≡◌, ◌≢◌, ◌+◌, false, length, nat_le, slice_get};
+ghost use Rattle.std.specs.Prelude.{◌≡◌, ◌≢◌, false, length, nat_le, slice_get};
 ghost use Rattle.std.specs.Bool.{OnTrue, OnFalse};
 ghost use Rattle.cfdp_c.specs.Codes as codes;
 ghost use Rattle.cfdp_c.specs.Handles.{Becomes};
-ghost use Rattle.cfdp_c.specs.Told.{Tells, told_of, names_of, of_kind, over};
+ghost use Rattle.cfdp_c.specs.Told.{Tells, LetsOneGo, told_of, names_of, of_kind, over};
 
 use crate::calls::CfdpId;
 use crate::codes::{CLOSED, NO_ROOM, NOTHING, OK};
@@ -130,28 +130,27 @@ fn copy_names(told: &Indication, room: &mut [u8]) -> bool
 
 impl Held {
     fn next_indication(&mut self, out: &mut CfdpIndication, names: &mut [u8]) -> u32
-        ensures tells { Tells (slice_get self.old.station.entity.state.table.told self.old.told)
-            result out.old out.new names.old names.new }
-        ensures station { self.new.station ≡ self.old.station }
-        ensures moves { result ≡ codes.ok → self.new.told ≡ self.old.told + 1 }
-        ensures rests { result ≢ codes.ok → self.new.told ≡ self.old.told }
+        ensures tells { Tells (slice_get self.old.station.entity.state.table.told
+            self.old.station.entity.state.table.gone) result out.old out.new names.old names.new }
+        ensures moves { result ≡ codes.ok → LetsOneGo self.old.station self.new.station }
+        ensures rests { result ≢ codes.ok → self.new ≡ self.old }
         ensures kept { result ≢ codes.ok → (out.new ≡ out.old) × (names.new ≡ names.old) }
     {
-        let Some(told) = self.station.indications().get(self.told) else {
+        let Some(told) = self.station.indications().first() else {
             return NOTHING;
         };
         if !copy_names(told, names) {
             return NO_ROOM;
         }
         *out = CfdpIndication::of(told);
-        self.told += 1;
+        self.station.forget_indications(1);
         OK
     }
 }
 
 /// Tells the next indication, and copies its names, that at the sender first, into lent room of 510
-/// octets or less. Answers 0, `CLOSED`, `NOTHING` where all were told, or `NO_ROOM` where the names
-/// don't fit: then it stays the next.
+/// octets or less; the station lets it go then. Answers 0, `CLOSED`, `NOTHING` where all were told,
+/// or `NO_ROOM` where the names don't fit: then it stays the next.
 #[unsafe(no_mangle)]
 pub extern "C" fn cfdp_next_indication(
     alloc: Global,
@@ -163,12 +162,11 @@ pub extern "C" fn cfdp_next_indication(
     ensures closed { station.old.is_open ≡ false → result ≡ codes.closed }
     ensures kept { result ≢ codes.ok → (out.new ≡ out.old) × (names.new ≡ names.old) }
     ensures tells { Becomes station.old station.new (λ x y.
-        Tells (slice_get x.station.entity.state.table.told x.told) result out.old out.new
-        names.old names.new
-        × (y.station ≡ x.station)) }
+        Tells (slice_get x.station.entity.state.table.told x.station.entity.state.table.gone)
+        result out.old out.new names.old names.new) }
     ensures moves { Becomes station.old station.new (λ x y.
-        (result ≡ codes.ok → y.told ≡ x.told + 1)
-        × (result ≢ codes.ok → y.told ≡ x.told)) }
+        (result ≡ codes.ok → LetsOneGo x.station y.station)
+        × (result ≢ codes.ok → y ≡ x)) }
 {
     let Some(mut held) = station.lift(alloc) else {
         return CLOSED;

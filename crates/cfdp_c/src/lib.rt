@@ -11,6 +11,7 @@ mod codes;
 mod config;
 mod decoding;
 mod files;
+mod forgetting;
 mod frames;
 mod handle;
 mod held;
@@ -26,6 +27,7 @@ pub use calls::{
 pub use config::{CfdpConfig, CfdpLink, cfdp_defaults};
 pub use decoding::{CfdpPdu, cfdp_decode};
 pub use files::{CfdpFile, cfdp_file, cfdp_file_count, cfdp_read_file};
+pub use forgetting::{cfdp_forget, cfdp_forget_closed, cfdp_was_forgotten};
 pub use frames::{
     cfdp_drops, cfdp_flush, cfdp_frame_len, cfdp_frames_ahead, cfdp_link_drops, cfdp_next_frame,
     cfdp_poll, cfdp_take,

@@ -1,0 +1,95 @@
+//! Records of transactions that are over: to let them go, and which ones were.
+ghost use Rattle.std.specs.Prelude.{◌≡◌, ◌≢◌, false};
+ghost use Rattle.cfdp_entity.specs.Entity.{is_forgotten};
+ghost use Rattle.cfdp_c.specs.Calls.{id_of, ForgetsOne, ForgetsClosed};
+ghost use Rattle.cfdp_c.specs.Codes as codes;
+ghost use Rattle.cfdp_c.specs.Handles.{Becomes};
+ghost use Rattle.cfdp_c.specs.Told.{bit};
+
+use crate::calls::CfdpId;
+use crate::codes::{CLOSED, OK, of_forget, of_memory};
+use crate::handle::CfdpStation;
+use crate::held::Held;
+use cfdp_header::TransactionId;
+use std::alloc::Global;
+
+impl Held {
+    fn forget(&mut self, id: TransactionId) -> u32
+        ensures { ForgetsOne id result self.old.station self.new.station }
+    {
+        of_forget(self.station.forget(id))
+    }
+
+    fn forget_closed(&mut self) -> u32
+        ensures { ForgetsClosed result self.old.station self.new.station }
+    {
+        of_memory(self.station.forget_closed())
+    }
+
+    fn was_forgotten(&self, id: TransactionId) -> u8
+        ensures { result ≡ bit (is_forgotten self.now.station.entity.state id) }
+    {
+        u8::from(self.station.was_forgotten(id))
+    }
+}
+
+/// Lets go of the record of a transaction that is over, which makes room for another one. It is
+/// never opened again: an EOF or a Finished that still comes of it is acknowledged.
+///
+/// Answers 0, `CLOSED`, `UNKNOWN` where it has no record here, `STILL_OPEN` where it isn't over,
+/// `ANSWER_DUE` where a poll has yet to send an acknowledgement of it, or `NO_MEMORY`: the first
+/// that holds. But for 0 nothing changed.
+#[unsafe(no_mangle)]
+pub extern "C" fn cfdp_forget(alloc: Global, station: &mut CfdpStation, id: &CfdpId) -> u32
+    ensures open { station.new.is_open ≡ station.old.is_open }
+    ensures closed { station.old.is_open ≡ false → result ≡ codes.closed }
+    ensures forgets { Becomes station.old station.new (λ x y.
+        ForgetsOne (id_of id.now) result x.station y.station) }
+{
+    let Some(mut held) = station.lift(alloc) else {
+        return CLOSED;
+    };
+    let answer = held.forget(id.id());
+    *station = CfdpStation::holding(held);
+    answer
+}
+
+/// Lets go of the records of all transactions that are over and have no acknowledgement due, as
+/// `cfdp_forget` does of one. Answers 0, `CLOSED`, or `NO_MEMORY`: some of them may be gone then.
+#[unsafe(no_mangle)]
+pub extern "C" fn cfdp_forget_closed(alloc: Global, station: &mut CfdpStation) -> u32
+    ensures open { station.new.is_open ≡ station.old.is_open }
+    ensures closed { station.old.is_open ≡ false → result ≡ codes.closed }
+    ensures forgets { Becomes station.old station.new (λ x y.
+        ForgetsClosed result x.station y.station) }
+{
+    let Some(mut held) = station.lift(alloc) else {
+        return CLOSED;
+    };
+    let answer = held.forget_closed();
+    *station = CfdpStation::holding(held);
+    answer
+}
+
+/// Tells whether the record of a transaction was let go: 1 where it was, else 0. Answers 0 or
+/// `CLOSED`.
+#[unsafe(no_mangle)]
+pub extern "C" fn cfdp_was_forgotten(
+    alloc: Global,
+    station: &mut CfdpStation,
+    id: &CfdpId,
+    was: &mut u8,
+) -> u32
+    ensures open { station.new.is_open ≡ station.old.is_open }
+    ensures closed { station.old.is_open ≡ false → result ≡ codes.closed }
+    ensures kept { result ≢ codes.ok → was.new ≡ was.old }
+    ensures told { Becomes station.old station.new (λ x y. (y ≡ x) × (result ≡ codes.ok)
+        × (was.new ≡ bit (is_forgotten x.station.entity.state (id_of id.now)))) }
+{
+    let Some(held) = station.lift(alloc) else {
+        return CLOSED;
+    };
+    *was = held.was_forgotten(id.id());
+    *station = CfdpStation::holding(held);
+    OK
+}
