@@ -1,14 +1,17 @@
--- The lines of a chart, and the whole of it.
-use Rattle.std.proofs.Common.{◌≡◌, ℕ, List, [], ◌∷◌, ◌++◌, Option, Some, Result, Ok, Err, codes, decimal, length, take, ap, append_assoc, refl, subst, sym, ◌∙◌}
-use Rattle.std.proofs.KnownBytes.{Appends-trans}
+-- The lines of a chart, and a chart that goes on to its end.
+use Rattle.std.proofs.Common.{◌≡◌, ◌+◌, ◌-◌, ◌^◌, ℕ, zero, suc, min, List, [], ◌∷◌, ◌++◌, Option, Some, Result, Ok, Err, codes, decimal, length, length-append, take, ap, append-nil, append_assoc, arith, refl, subst, sym, ◌∙◌}
+use Rattle.std.proofs.KnownBytes.{Appends-kept, Appends-trans}
 use Rattle.std.proofs.lemmas.Grind.{flat_map-append}
-use Rattle.std.specs.Io.KnownBytes.{Appends}
+use Rattle.std.specs.Io.KnownBytes.{Appends, Keeps}
 use Rattle.std.specs.List.{AllZip, flat_map}
 use Rattle.std.specs.Result.{OnOk}
-use Rattle.cfdp_node.specs.Watch.Chart.{Charts, ChartsSighting, arrow, drawn_octet, head_text, most_lines, rest_text}
+use Rattle.cfdp_node.specs.Watch.Chart.{ChartsSighting, ChartsSoFar, EndsChart, arrow, counted, drawn_octet, head_text, most_lines, rest_text}
+use Rattle.cfdp_node.specs.Watch.Continues.{Continues}
 use Rattle.cfdp_node.specs.Dump.Lines.{WritesLine, WritesLines, as_line}
 use Rattle.cfdp_node.specs.Watch.Trace.{TellsDeed}
+use Rattle.cfdp_node.specs.declared.watch.chart.ChartWriter.{ChartWriter}
 use Rattle.cfdp_node.specs.declared.watch.sighting.Sighting.{Sighting}
+use Rattle.cfdp_node.proofs.TextLines.{AllZip-joined}
 
 -- what stands before what a sighting tells
 abbrev pub front_of : Sighting → List ℕ
@@ -44,14 +47,56 @@ arrow_written (Ok x) zone s old mid new line told front drawn =
     }
 arrow_written (Err e) zone s old mid new line told front drawn = tt
 
--- head, lines and rest are the chart
-pub charted : {E : Type 0} (r : Result (Unit {0}) E) (zone : ℕ) (all shown : List Sighting) (old a b c : Option (List ℕ)) → shown ≡ take most_lines all
-    → Appends old a head_text → WritesLines (ChartsSighting zone) shown a b → OnOk r (Appends b c (rest_text (length all)))
-    → OnOk r (Charts zone all old c)
-charted (Ok x) zone all shown old a b c is head lines rest = record {
-  texts = lines.texts;
-  each = subst (λ xs. AllZip (ChartsSighting zone) xs lines.texts) is lines.each;
-  written = Appends-trans old b c (head_text ++ flat_map as_line lines.texts) (rest_text (length all))
-      (Appends-trans old a b head_text (flat_map as_line lines.texts) head lines.written) rest;
+-- before the first line there is the head alone
+pub chart_begun : {E : Type 0} (r : Result (Unit {0}) E) (writer : ChartWriter) (old mid new : Option (List ℕ))
+    → writer.lines ≡ 0 → Appends old mid head_text → Keeps mid new → OnOk r (ChartsSoFar writer [] old new)
+chart_begun (Ok x) writer old mid new none head kept = record {
+  count = none;
+  texts = [];
+  each = tt;
+  written = subst (Appends old new) (sym (append-nil head_text)) (Appends-kept old mid new head_text head kept);
 }
-charted (Err e) zone all shown old a b c is head lines rest = tt
+chart_begun (Err e) writer old mid new none head kept = tt
+
+-- the first of two lists, one behind the other
+take-joined : {A : Type 0} (n : ℕ) (xs ys : List A) → take n (xs ++ ys) ≡ take n xs ++ take (n - length xs) ys
+take-joined zero [] ys = refl
+take-joined zero (x ∷ xs) ys =
+    let none : 0 ≡ 0 - length (x ∷ xs) = omega arith in
+    ap (λ n. take n ys) none
+take-joined (suc n) [] ys =
+    let all : suc n ≡ suc n - 0 = omega arith in
+    ap (λ k. take k ys) all
+take-joined (suc n) (x ∷ xs) ys =
+    let less : n - length xs ≡ suc n - suc (length xs) = omega arith in
+    ap (λ rest. x ∷ rest) (take-joined n xs ys ∙ ap (λ k. take n xs ++ take k ys) less)
+
+-- behind the lines of what was seen before stand those of the first of these
+pub chart_goes_on : {E : Type 0} (r : Result (Unit {0}) E) (was is : ChartWriter) (room : ℕ) (more first : List Sighting) (old mid new : Option (List ℕ))
+    → is.zone ≡ was.zone → room ≡ most_lines - was.lines → is.lines ≡ min (was.lines + length more) (2 ^ 64 - 1) → first ≡ take room more
+    → WritesLines (ChartsSighting was.zone) first old mid → Keeps mid new → OnOk r (Continues (ChartsSoFar was) (ChartsSoFar is) more old new)
+chart_goes_on (Ok x) was is room more first old mid new zone has_room count firsts wrote kept = λ seen start before.
+    let room_is : room ≡ most_lines - length seen = (let counted_is = before.count in omega (arith, has_room, counted_is)) in
+    let shown : take most_lines seen ++ first ≡ take most_lines (seen ++ more) =
+        ap (λ l. take most_lines seen ++ l) (firsts ∙ ap (λ n. take n more) room_is) ∙ sym (take-joined most_lines seen more) in
+    record {
+      count = (let counted_is = before.count in let both = length-append seen more in omega (arith, count, counted_is, both));
+      texts = before.texts ++ wrote.texts;
+      each = subst (λ z. AllZip (ChartsSighting z) (take most_lines (seen ++ more)) (before.texts ++ wrote.texts)) (sym zone)
+          (subst (λ xs. AllZip (ChartsSighting was.zone) xs (before.texts ++ wrote.texts)) shown
+          (AllZip-joined (ChartsSighting was.zone) (take most_lines seen) first before.texts wrote.texts before.each wrote.each));
+      written = subst (Appends start new) (append_assoc head_text (flat_map as_line before.texts) (flat_map as_line wrote.texts) ∙ sym (ap (λ t. head_text ++ t) (flat_map-append as_line before.texts wrote.texts)))
+          (Appends-trans start old new (head_text ++ flat_map as_line before.texts) (flat_map as_line wrote.texts) before.written (Appends-kept old mid new (flat_map as_line wrote.texts) wrote.written kept));
+    }
+chart_goes_on (Err e) was is room more first old mid new zone has_room count firsts wrote kept = tt
+
+-- with how many are left out the chart is whole
+pub chart_ended : {E : Type 0} (r : Result (Unit {0}) E) (writer : ChartWriter) (old mid new : Option (List ℕ))
+    → Appends old mid (rest_text writer.lines) → Keeps mid new → OnOk r (EndsChart writer old new)
+chart_ended (Ok x) writer old mid new rest kept = λ seen start before. record {
+  texts = before.texts;
+  each = before.each;
+  written = Appends-trans start old new (head_text ++ flat_map as_line before.texts) (rest_text (counted seen)) before.written
+      (subst (λ n. Appends old new (rest_text n)) before.count (Appends-kept old mid new (rest_text writer.lines) rest kept));
+}
+chart_ended (Err e) writer old mid new rest kept = tt

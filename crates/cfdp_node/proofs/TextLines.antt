@@ -6,6 +6,7 @@ use Rattle.std.specs.Result.{OnOk}
 use Rattle.std.specs.Io.KnownBytes.{Appends, Keeps}
 use Rattle.std.proofs.KnownBytes.{Appends-kept, Appends-nil, Appends-trans}
 use Rattle.std.proofs.lemmas.List.Elements.{All-head, All-tail}
+use Rattle.std.proofs.lemmas.Grind.{flat_map-append}
 use Rattle.std.proofs.lemmas.List.{flat_map_more}
 use Rattle.std.proofs.lemmas.Bool.{ne_eqb}
 use Rattle.cfdp_node.specs.Dump.Lines.{lines, as_line, WritesLine, WritesLines}
@@ -69,6 +70,21 @@ module _ {A : Type 0} (P : A → List ℕ → Type 0) where
         (Appends-trans old mid new (flat_map as_line before.texts) (as_line one.text) before.written one.written);
   }
 
+  pub AllZip-joined : (xs zs : List A) (ys ws : List (List ℕ)) → AllZip P xs ys → AllZip P zs ws → AllZip P (xs ++ zs) (ys ++ ws)
+  AllZip-joined [] zs [] ws all more = more
+  AllZip-joined [] zs (b ∷ ys) ws all more = absurd all
+  AllZip-joined (a ∷ xs) zs [] ws all more = absurd all
+  AllZip-joined (a ∷ xs) zs (b ∷ ys) ws all more = (all.0, AllZip-joined xs zs ys ws all.1 more)
+
+  -- behind lines that were written others are
+  pub lines_joined : (xs zs : List A) (old mid new : Option (List ℕ)) → WritesLines P xs old mid → WritesLines P zs mid new → WritesLines P (xs ++ zs) old new
+  lines_joined xs zs old mid new before more = record {
+    texts = before.texts ++ more.texts;
+    each = AllZip-joined xs zs before.texts more.texts before.each more.each;
+    written = subst (Appends old new) (sym (flat_map-append as_line before.texts more.texts))
+        (Appends-trans old mid new (flat_map as_line before.texts) (flat_map as_line more.texts) before.written more.written);
+  }
+
   -- lines that were written stay so where what the writer holds is kept
   pub lines_kept : (xs : List A) (old mid new : Option (List ℕ)) → WritesLines P xs old mid → Keeps mid new → WritesLines P xs old new
   lines_kept xs old mid new all kept = record {
@@ -122,3 +138,8 @@ line_behind P Q (Err e) front old mid new such before line = tt
 pub appends_behind : {E : Type 0} (r : Result (Unit {0}) E) (a b c : Option (List ℕ)) (bs cs : List ℕ) → Appends a b bs → OnOk r (Appends b c cs) → OnOk r (Appends a c (bs ++ cs))
 appends_behind (Ok x) a b c bs cs p q = Appends-trans a b c bs cs p q
 appends_behind (Err e) a b c bs cs p q = tt
+
+-- what was written stays so where what the writer holds is kept
+pub appends_flushed : {E : Type 0} (r : Result (Unit {0}) E) (a b c : Option (List ℕ)) (bs : List ℕ) → Appends a b bs → Keeps b c → OnOk r (Appends a c bs)
+appends_flushed (Ok x) a b c bs wrote kept = Appends-kept a b c bs wrote kept
+appends_flushed (Err e) a b c bs wrote kept = tt

@@ -11,6 +11,7 @@ ghost use Rattle.cfdp_station.specs.Config.{IsStationConfig};
 ghost use Rattle.link_sim.specs.Stations.{IsWorldConfig};
 
 pub mod folders;
+pub mod held_folder;
 pub mod request;
 
 use crate::dropping::let_go;

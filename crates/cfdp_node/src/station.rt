@@ -15,6 +15,7 @@ pub mod turning;
 use crate::exit::{Exit, Fault};
 use crate::input::Input;
 use crate::looping::folders::{LoopLookout, TellingInbox, check_name, folder};
+use crate::looping::held_folder::HeldFolder;
 use crate::report::name::Name;
 use crate::script::number::parse_number;
 use crate::script::sim::Ran;
@@ -28,6 +29,7 @@ use crate::station::state_file::{Reservation, StateError};
 use crate::watch::lookout::Lookout;
 use crate::watch::onlooker::Onlooker;
 use crate::watch::progress::Progress;
+use crate::watch::recorder::Screen;
 use crate::watch::show::shown_status;
 use crate::wire::peer_socket::{Pace, PeerSocket, Unusable};
 use cfdp_station::StationConfig;
@@ -44,6 +46,16 @@ const MISTAKE: u8 = 2;
 
 /// The exit status where a folder, a file, a socket or memory failed.
 const DEVICE: u8 = 3;
+
+/// What a station has before it opens its socket.
+#[derive(Drop)]
+struct Prepared<'a> {
+    config: WorldConfig,
+    outbox: MemoryOutbox,
+    reservation: Reservation<'a>,
+    /// The folder of its inbox, if it has one.
+    held: Option<HeldFolder>,
+}
 
 /// What a station needs to run.
 #[derive(Drop)]
@@ -65,7 +77,14 @@ pub fn station_status(rt: &HostRuntime, request: &StationRequest) -> u8 {
         Err(status) => return status,
     };
     match begun(rt, request, &setup) {
-        Ok((config, outbox, reservation)) => {
+        Ok(
+            Prepared {
+                config,
+                outbox,
+                reservation,
+                held: _held,
+            },
+        ) => {
             let exchange = Exchange::new();
             match parts(rt, request, &config, outbox, reservation, &exchange) {
                 Ok(parts) => ran_status(rt, request, &config, parts, &exchange),
@@ -76,8 +95,8 @@ pub fn station_status(rt: &HostRuntime, request: &StationRequest) -> u8 {
     }
 }
 
-/// Looks at what is set, at names and folders, reads the files that are to be sent, and reserves
-/// numbers.
+/// Looks at what is set, at names and folders, takes that of the inbox, reads the files that are to
+/// be sent, and reserves numbers.
 ///
 /// # Errors
 ///
@@ -86,15 +105,21 @@ fn begun<'a>(
     rt: &'a HostRuntime,
     request: &StationRequest,
     setup: &StationSetup,
-) -> Result<(WorldConfig, MemoryOutbox, Reservation<'a>), u8>
-    ensures { IfOk result (λ begun. IsWorldConfig begun.0) }
+) -> Result<Prepared<'a>, u8>
+    ensures { IfOk result (λ begun. IsWorldConfig begun.config) }
 {
     let _ = configuration(rt, request, setup)?;
-    let outbox = stored(rt, request)?;
+    let held = held_inbox(rt, request)?;
+    let outbox = filled_outbox(rt, request)?;
     let reservation = reserved(rt, request, setup)?;
     let setup = setup.beginning_at(reservation.number());
     let config = configuration(rt, request, &setup)?;
-    Ok((config, outbox, reservation))
+    Ok(Prepared {
+        config,
+        outbox,
+        reservation,
+        held,
+    })
 }
 
 /// How the station and its peer are set up.
@@ -181,8 +206,9 @@ fn reserved<'a>(
 ) -> Result<Reservation<'a>, u8> {
     let (number, width) = (setup.first_number(), setup.number_width());
     let said = if number == 0 { None } else { Some(number) };
+    let puts = request.puts.len() as u64;
     if let Some(path) = &request.state {
-        return match Reservation::take(rt, path.as_str(), said, width) {
+        return match Reservation::take(rt, path.as_str(), said, width, puts) {
             Ok(reservation) => Ok(reservation),
             Err(error) => Err(tell_state(rt, path.as_str(), &error)),
         };
@@ -192,7 +218,7 @@ fn reserved<'a>(
     }
     match (&request.outbox, &request.inbox) {
         (Some(folder), _) | (None, Some(folder)) => {
-            reserved_beside(rt, folder.as_str(), request.puts.is_empty(), width)
+            reserved_beside(rt, folder.as_str(), puts, width)
         }
         (None, None) => Ok(Reservation::by_clock(rt, None)),
     }
@@ -207,16 +233,16 @@ fn reserved<'a>(
 fn reserved_beside<'a>(
     rt: &'a HostRuntime,
     folder: &str,
-    puts_nothing: bool,
+    puts: u64,
     width: u64,
 ) -> Result<Reservation<'a>, u8> {
     let path = match beside(rt, folder) {
         Ok(path) => path,
         Err(error) => return Err(tell_state(rt, folder, &StateError::System(error))),
     };
-    match Reservation::take(rt, path.as_str(), None, width) {
+    match Reservation::take(rt, path.as_str(), None, width, puts) {
         Ok(reservation) => Ok(reservation),
-        Err(StateError::System(_)) if puts_nothing => Ok(Reservation::by_clock(rt, None)),
+        Err(StateError::System(_)) if puts == 0 => Ok(Reservation::by_clock(rt, None)),
         Err(error) => Err(tell_state(rt, path.as_str(), &error)),
     }
 }
@@ -236,19 +262,23 @@ fn beside(rt: &HostRuntime, folder: &str) -> io::Result<String> {
     Ok(format!(in rt.alloc(); "{}.state", path.display())?)
 }
 
-/// Looks at names and folders, and reads the files that are to be sent.
+/// Looks at the names of files that are to be sent, and takes the folder of the inbox, if there is
+/// one.
 ///
 /// # Errors
 ///
 /// The exit status, where something is wrong, which was told on standard error.
-fn stored(rt: &HostRuntime, request: &StationRequest) -> Result<MemoryOutbox, u8> {
+fn held_inbox(rt: &HostRuntime, request: &StationRequest) -> Result<Option<HeldFolder>, u8> {
     for put in 0..request.puts.len() / 2 {
         check_name(rt, request.puts[2 * put].as_str())?;
     }
-    if let Some(inbox) = &request.inbox {
-        let _ = folder(rt, inbox.as_str())?;
+    match &request.inbox {
+        Some(path) => {
+            let _ = folder(rt, path.as_str())?;
+            Ok(Some(HeldFolder::take(rt, path.as_str())?))
+        }
+        None => Ok(None),
     }
-    filled_outbox(rt, request)
 }
 
 /// Opens the socket, which notes the counts of its frames.
@@ -344,7 +374,7 @@ fn socket<'a>(
     }
 }
 
-/// Runs the station, shows what was seen of that, and answers the exit status.
+/// Runs the station, shows what is seen of that, and answers the exit status.
 fn ran_status(
     rt: &HostRuntime,
     request: &StationRequest,
@@ -433,7 +463,11 @@ fn ran_over<I: Inbox>(
         exchange,
         progress,
     } = context;
-    match Onlooker::new(rt.alloc(), *config, request.shown.is_watched()) {
+    let screen = Screen {
+        rt,
+        progress: Some(progress),
+    };
+    match Onlooker::new(screen, *config, &request.shown) {
         Ok(onlooker) => {
             let own = config_at(side_of(request), config);
             let lookout = LoopLookout { onlooker, progress };
@@ -441,7 +475,7 @@ fn ran_over<I: Inbox>(
             let exit = reported(rt, request, config, parts, inbox, &mut notices);
             Ran {
                 exit,
-                seen: notices.lookout.onlooker.into_seen(),
+                seen: notices.lookout.onlooker.into_summary(),
             }
         }
         Err(AllocError) => Ran::unseen(Exit::Device(Fault::NoMemoryAtStart)),

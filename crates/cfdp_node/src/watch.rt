@@ -7,6 +7,7 @@ pub mod frames;
 pub mod lookout;
 pub mod onlooker;
 pub mod progress;
+pub mod recorder;
 pub mod show;
 pub mod shown;
 pub mod sighting;

@@ -1,5 +1,5 @@
 -- How a file goes from one station to another in turns, over two wires, and what is told of it.
-use Rattle.std.specs.Prelude.{◌≡◌, ◌⊎◌, ◌<◌, ◌≤◌, ℕ, zero, suc, ◌+◌, ◌==◌, ◌||◌, not, Bool, true, false, List, ◌++◌, count_by, Option, Some, None, Result, Ok, Err, ⊤, if◌then◌else◌}
+use Rattle.std.specs.Prelude.{◌≡◌, ◌⊎◌, ◌<◌, ◌≤◌, ℕ, zero, suc, ◌+◌, ◌==◌, ◌||◌, not, Bool, true, false, List, ◌++◌, count_by, drop, Option, Some, None, Result, Ok, Err, ⊤, if◌then◌else◌}
 use Rattle.std.specs.FinMap.{empty}
 use Rattle.std.specs.Io.KnownBytes.{Appends, Keeps}
 use Rattle.std.specs.List.{flat_map}
@@ -38,9 +38,9 @@ pub record LoopState (W : Type 0) : Type 0 where
   pub wire_two : W
   pub left : ℕ
 
--- what a station told its user
+-- what a station told its user: no step of a turn lets any of that go
 abbrev pub told : StationState → List Indication
-told s = s.entity.state.table.told
+told s = drop s.entity.state.table.gone s.entity.state.table.told
 
 -- ---- the put
 -- The first station accepted the put, or refused it by this cause and nothing else changed.

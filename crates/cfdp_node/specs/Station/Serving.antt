@@ -1,5 +1,5 @@
 -- How a station sends its files over a wire and takes those of its peer, and what is told of it.
-use Rattle.std.specs.Prelude.{◌≡◌, ◌⊎◌, ◌≤◌, ℕ, zero, suc, ◌+◌, ◌==◌, Bool, true, false, not, ◌&&◌, ◌||◌, List, [], ◌++◌, count_by, length, slice_get, take, Option, Some, Result, Ok, Err, if◌then◌else◌}
+use Rattle.std.specs.Prelude.{◌≡◌, ◌⊎◌, ◌≤◌, ℕ, ◌+◌, ◌^◌, ◌==◌, nat_lt, Bool, true, false, not, ◌&&◌, ◌||◌, List, [], ◌∷◌, ◌++◌, count_by, drop, length, map, slice_get, take, Option, Some, Result, Ok, Err, if◌then◌else◌}
 use Rattle.std.specs.Io.KnownBytes.{Appends, Keeps}
 use Rattle.std.specs.List.{flat_map, list_all}
 use Rattle.cfdp_header.specs.declared.value.TransactionId.{TransactionId}
@@ -7,13 +7,16 @@ use Rattle.cfdp_header.specs.Files.{FileMap}
 use Rattle.cfdp_directives.specs.declared.user.indication.Indication.{Indication}
 use Rattle.cfdp_directives.specs.declared.user.phase.Phase.{Phase}
 use Rattle.cfdp_directives.specs.declared.user.phase.Phase.TheVariants.{Closed}
+use Rattle.cfdp_entity.specs.Entity.{with_table}
+use Rattle.cfdp_entity.specs.Forgetting.{ForgetsSome}
+use Rattle.cfdp_entity.specs.Table.{TableState, most_records}
 use Rattle.cfdp_entity.specs.Walking.{phases_of}
 use Rattle.cfdp_entity.specs.declared.error.PutError.{PutError}
 use Rattle.link_stack.specs.Downward.{both_counted_from}
-use Rattle.cfdp_station.specs.Station.{StationState}
+use Rattle.cfdp_station.specs.Station.{StationState, KeepsLink}
 use Rattle.cfdp_station.specs.declared.config.StationConfig.{StationConfig}
 use Rattle.link_sim.specs.World.State.{IsFirstAt}
-use Rattle.cfdp_node.specs.Looping.Turns.{Puts, is_no_memory, more_failures, put_answer, told}
+use Rattle.cfdp_node.specs.Looping.Turns.{Puts, is_no_memory, more_failures, put_answer}
 use Rattle.cfdp_node.specs.Report.Lines.{answer_text, count_line, indication_line, is_own_completion}
 use Rattle.cfdp_node.specs.Station.Turning.{TakesInPart, TakesOne}
 use Rattle.cfdp_node.specs.Wire.Turn.{Sending, Times}
@@ -23,6 +26,40 @@ use Rattle.cfdp_node.specs.declared.exit.Exit.{Exit}
 use Rattle.cfdp_node.specs.declared.exit.Exit.TheVariants.{Complete, Incomplete, Device}
 use Rattle.cfdp_node.specs.declared.exit.Fault.TheVariants.{NoMemoryAtStart, NoMemory}
 use Rattle.cfdp_node.specs.declared.station.serving.PutNames.{PutNames}
+
+-- ---- what is told
+-- the table of a station
+abbrev pub table_of : StationState → TableState
+table_of s = s.entity.state.table
+
+-- More was indicated, behind what was, and none of it was let go.
+pub record Gains (old new : TableState) : Type 0 where
+  pub gained : List Indication
+  pub told : new.told ≡ old.told ++ gained
+  pub gone : new.gone ≡ old.gone
+
+-- a line of the report: how a put was answered, by its number from 1 on, or what the station told
+-- its user
+pub data Line : Type 0 where
+  Answers : (number : ℕ) → Option Answer → Line
+  Tells : Indication → Line
+
+abbrev pub line_text : (own : ℕ) → Line → List ℕ
+line_text own (Answers number answer) = answer_text number answer
+line_text own (Tells indication) = indication_line own indication
+
+-- what the station told its user, by these lines
+abbrev pub told_in : Line → List Indication
+told_in (Answers number answer) = []
+told_in (Tells indication) = indication ∷ []
+
+abbrev pub told_by : List Line → List Indication
+told_by lines = flat_map told_in lines
+
+-- These lines tell each indication that was let go, in order, and no other.
+pub record TellsGone (lines : List Line) (table : TableState) : Type 0 where
+  pub few : table.gone ≤ length table.told
+  pub told : told_by lines ≡ take table.gone table.told
 
 -- ---- the puts
 -- whether a put that answered so was refused for want of memory
@@ -38,28 +75,65 @@ pub record MakesPut (source destination : List ℕ) (told : Option Answer) (shor
   pub tells : told ≡ put_answer answer
   pub wants : short ≡ put_short answer
 
--- a station, the lines of the puts that were refused, and whether one of these was refused for want
--- of memory
+-- a station, how many of its puts were made, and whether one of them was refused for want of memory
 pub record Putting : Type 0 where
   pub station : StationState
-  pub lines : List ℕ
+  pub made : ℕ
   pub short : Bool
 
--- The put of this place was made. Its line has the number of the put, from 1 on.
-pub record MakesNext (puts : List PutNames) (place : ℕ) (old new : Putting) : Type 0 where
+-- The next put was made, and this line says how it was answered.
+pub record MakesNext (puts : List PutNames) (line : Line) (old new : Putting) : Type 0 where
   pub names : PutNames
-  pub is : slice_get puts place ≡ Some names
+  pub is : slice_get puts old.made ≡ Some names
   pub told : Option Answer
   pub short : Bool
   pub makes : MakesPut names.source.items names.destination.items told short old.station new.station
-  pub lines : new.lines ≡ old.lines ++ answer_text (place + 1) told
+  pub made : new.made ≡ old.made + 1
   pub wants : new.short ≡ (old.short || short)
+  pub says : line ≡ Answers new.made told
 
--- So many of these puts were made, in their order.
-abbrev pub MakesPuts : List PutNames → ℕ → (old new : Putting) → Type 0
-MakesPuts puts zero old new = new ≡ old
-MakesPuts puts (suc count) old new =
-    (mid : Putting) × MakesPuts puts count old mid × MakesNext puts count mid new
+-- Puts were made, in their order, and these lines say how they were answered.
+unfoldable pub MakesEach : List PutNames → List Line → (old new : Putting) → Type 0
+MakesEach puts [] old new = new ≡ old
+MakesEach puts (line ∷ lines) old new =
+    (mid : Putting) × (MakesNext puts line old mid × MakesEach puts lines mid new)
+
+-- That went on until all were made or the station has no room for another.
+pub record MakesMore (puts : List PutNames) (lines : List Line) (old new : Putting) : Type 0 where
+  pub each : MakesEach puts lines old new
+  pub ends : (length puts ≤ new.made) ⊎ (length (table_of new.station).records ≡ most_records)
+
+-- ---- what is let go between turns
+-- what is left of what a station told its user; nothing where 64 bits don't count it any more
+abbrev pub said_by : TableState → List Indication
+said_by t = if nat_lt (length t.told) (2 ^ 64) then drop t.gone t.told else []
+
+-- the same table once that is let go
+abbrev pub once_said : TableState → TableState
+once_said t = record t { gone = if nat_lt (length t.told) (2 ^ 64) then length t.told else t.gone }
+
+abbrev pub once_told : StationState → StationState
+once_told s = record s {
+  entity = record s.entity { state = with_table s.entity.state (once_said (table_of s)) };
+}
+
+-- Transactions that are over were forgotten, and nothing else changed.
+pub record LetsGo (old new : StationState) : Type 0 where
+  pub forgets : ForgetsSome old.entity.state new.entity.state
+  pub inbox : new.entity.inbox_failures ≡ old.entity.inbox_failures
+  pub outbox : new.entity.outbox_failures ≡ old.entity.outbox_failures
+  pub link : KeepsLink old new
+
+-- Between two turns puts are made, what the station told its user is told, and that is let go, and
+-- so are transactions that are over. These lines are written.
+pub record Prepares (puts : List PutNames) (lines : List Line) (old new : Putting) : Type 0 where
+  pub answers : List Line
+  pub put : Putting
+  pub makes : MakesMore puts answers old put
+  pub lets_go : LetsGo (once_told put.station) new.station
+  pub made : new.made ≡ put.made
+  pub short : new.short ≡ put.short
+  pub says : lines ≡ answers ++ map Tells (said_by (table_of put.station))
 
 -- ---- the turns
 -- the most turns: those of more than 300 years, if one takes ten microseconds
@@ -74,55 +148,91 @@ is_closed _ = false
 abbrev pub all_closed : StationState → Bool
 all_closed s = list_all (λ known. is_closed known.1) (phases_of s.entity.state.table)
 
-module _ {W : Type 0} (Steps : W → WireCall → W → Type 0) where
-  -- The wire was told whether a transaction is open, and asked whether it has been silent for long
-  -- enough. It is over where it has, and none is open.
-  pub record AsksToEnd (over : Bool) (old new : Sending W) : Type 0 where
+-- whether so many puts were made, and all transactions are closed
+abbrev pub is_done : ℕ → Putting → Bool
+is_done asked p = (p.made == asked) && all_closed p.station
+
+-- a run: its station and puts, the wire, how many frames it is to the next one that isn't sent, and
+-- the lines of the report so far
+pub record Run (W : Type 0) : Type 0 where
+  pub putting : Putting
+  pub wire : W
+  pub left : ℕ
+  pub lines : List Line
+
+abbrev pub sending_of : {W : Type 0} → Run W → Sending W
+sending_of r = record { station = r.putting.station; wire = r.wire; left = r.left }
+
+-- The station became another one, over its wire, and nothing else of the run changed.
+abbrev pub with_sending : {W : Type 0} → Sending W → Run W → Run W
+with_sending to r = record r {
+  putting = record r.putting { station = to.station };
+  wire = to.wire;
+  left = to.left;
+}
+
+module _ {W : Type 0} (Steps : W → WireCall → W → Type 0) (puts : List PutNames) where
+  -- The wire was told whether something is to be done, and asked whether it has been silent for
+  -- long enough. It is over where it has, and all is done.
+  pub record AsksToEnd (over : Bool) (old new : Run W) : Type 0 where
     pub answer : Bool
-    pub asked : Steps old.wire (Rested (not (all_closed old.station)) answer) new.wire
-    pub is : over ≡ (answer && all_closed old.station)
-    pub station : new.station ≡ old.station
-    pub left : new.left ≡ old.left
+    pub asked : Steps old.wire (Rested (not (is_done (length puts) old.putting)) answer) new.wire
+    pub is : over ≡ (answer && is_done (length puts) old.putting)
+    pub rest : new ≡ record old { wire = new.wire }
+
+  -- What is to be done between two turns was done.
+  pub record GetsReady (old new : Run W) : Type 0 where
+    pub lines : List Line
+    pub prepares : Prepares puts lines old.putting new.putting
+    pub rest : new ≡ record old { putting = new.putting; lines = old.lines ++ lines }
 
   module _ (every : ℕ) where
+    -- A turn was taken.
+    pub record TakesATurn (old new : Run W) : Type 0 where
+      pub now : ℕ
+      pub to : Sending W
+      pub turn : TakesOne Steps every now (sending_of old) to
+      pub is : new ≡ with_sending to old
+
+    -- There was no memory for part of a turn.
+    pub record TakesPart (old new : Run W) : Type 0 where
+      pub now : ℕ
+      pub to : Sending W
+      pub part : TakesInPart Steps every now (sending_of old) to
+      pub is : new ≡ with_sending to old
+
     -- It wasn't over, and one turn more was taken.
-    abbrev pub GoesOnce : (old new : Sending W) → Type 0
-    GoesOnce old new = (mid : Sending W) × AsksToEnd false old mid
-        × ((now : ℕ) × TakesOne Steps every now mid new)
+    pub record GoesOnce (old new : Run W) : Type 0 where
+      pub ready : Run W
+      pub asked : Run W
+      pub prepares : GetsReady old ready
+      pub asks : AsksToEnd false ready asked
+      pub turn : TakesATurn asked new
 
     -- how turns end, and whether that was for want of memory
-    abbrev pub EndsTurns : Bool → ℕ → (last new : Sending W) → Type 0
-    EndsTurns false count last new = AsksToEnd true last new ⊎ ((count ≡ most_turns) × (new ≡ last))
-    EndsTurns true count last new = (mid : Sending W) × AsksToEnd false last mid
-        × ((now : ℕ) × TakesInPart Steps every now mid new)
+    abbrev pub EndsTurns : Bool → ℕ → (last new : Run W) → Type 0
+    EndsTurns false count last new =
+        ((ready : Run W) × GetsReady last ready × AsksToEnd true ready new)
+        ⊎ ((count ≡ most_turns) × (new ≡ last))
+    EndsTurns true count last new = (ready : Run W) × GetsReady last ready
+        × ((asked : Run W) × AsksToEnd false ready asked × TakesPart asked new)
 
     -- Turns were taken until it was over, or memory was wanting.
-    pub record TakesTurns (short : Bool) (old new : Sending W) : Type 0 where
+    pub record TakesTurns (short : Bool) (old new : Run W) : Type 0 where
       pub count : ℕ
-      pub last : Sending W
+      pub last : Run W
       pub turns : Times GoesOnce count old last
       pub ends : EndsTurns short count last new
 
--- ---- what is told
--- more was indicated, behind what was
-abbrev pub Longer : (old new : List Indication) → Type 0
-Longer old new = (gained : List Indication) × (new ≡ old ++ gained)
+-- ---- the whole
+-- how many puts a station was told complete, by these lines
+abbrev pub completed : (own : ℕ) → List Line → ℕ
+completed own lines = count_by (is_own_completion own) (told_by lines)
 
--- The first so many indications of a station are written, and nothing else.
-pub record IsWritten (own count : ℕ) (all : List Indication) (old new : Option (List ℕ)) : Type 0
-  where
-    pub few : count ≤ length all
-    pub written : Appends old new (flat_map (indication_line own) (take count all))
-
--- how many of its puts a station was told complete
-abbrev pub completed : ℕ → StationState → ℕ
-completed own s = count_by (is_own_completion own) (told s)
-
--- The puts were refused as these lines say; then what the station told its user; and how many of so
--- many puts were completed.
-abbrev pub station_text : (refusals : List ℕ) (own asked : ℕ) → StationState → List ℕ
-station_text refusals own asked s = refusals ++ flat_map (indication_line own) (told s)
-    ++ count_line (completed own s) asked
+-- the lines, and how many of so many puts were completed
+abbrev pub station_text : (own asked : ℕ) → List Line → List ℕ
+station_text own asked lines = flat_map (line_text own) lines
+    ++ count_line (completed own lines) asked
 
 -- the exit, by whether memory was wanting, whether a store failed, and how many of how many puts
 -- were completed
@@ -131,32 +241,58 @@ station_exit short failed complete asked = if short then Device NoMemory
     else if failed then Device NoMemory
     else if complete == asked then Complete else Incomplete
 
--- ---- the whole
+-- A report so far: its lines are written; they tell each indication that was let go, in order, and
+-- no other; and so many puts are told complete.
+pub record IsReport (own count : ℕ) (lines : List Line) (table : TableState)
+    (old new : Option (List ℕ)) : Type 0 where
+  pub written : Appends old new (flat_map (line_text own) lines)
+  pub tells : TellsGone lines table
+  pub complete : count ≡ completed own lines
+
+-- These lines were written behind a report, and tell what was let go since; so many puts are told
+-- complete then.
+pub record AddsTo (own count count_now : ℕ) (lines : List Line) (table table_now : TableState)
+    (old new : Option (List ℕ)) : Type 0 where
+  pub written : Appends old new (flat_map (line_text own) lines)
+  pub few : table_now.gone ≤ length table_now.told
+  pub told : take table_now.gone table_now.told ≡ take table.gone table.told ++ told_by lines
+  pub complete : count_now ≡ count + completed own lines
+
+-- a run in which nothing was done yet
+abbrev pub starts : {W : Type 0} → Sending W → Run W
+starts s = record {
+  putting = record { station = s.station; made = 0; short = false };
+  wire = s.wire;
+  left = s.left;
+  lines = [];
+}
+
 module _ {W : Type 0} (Steps : W → WireCall → W → Type 0) (own every : ℕ) (puts : List PutNames)
   where
-    -- The puts were made, turns followed, and what was written tells of both. Memory was wanting
-    -- where it was for a put or for a turn.
-    pub record Serves (short : Bool) (first last : Sending W) (old new : Option (List ℕ)) : Type 0
-      where
-        pub station : StationState
-        pub refusals : List ℕ
-        pub refused : Bool
-        pub halted : Bool
-        pub made : MakesPuts puts (length puts)
-            (record { station = first.station; lines = []; short = false })
-            (record { station = station; lines = refusals; short = refused })
-        pub turns : TakesTurns Steps every halted (record first { station = station }) last
-        pub written : Appends old new (station_text refusals own (length puts) last.station)
-        pub wants : short ≡ (refused || halted)
+    -- Turns were taken, and what was left to tell was told; that is what was written. So the report
+    -- tells each indication that the station let go, in order, between the answers of puts. Memory
+    -- was wanting where it was for a put or for a turn.
+    pub record Serves (short : Bool) (lines : List Line) (first last : Sending W)
+        (old new : Option (List ℕ)) : Type 0 where
+      pub run : Run W
+      pub halted : Bool
+      pub turns : TakesTurns Steps puts every halted (starts first) run
+      pub station : last.station ≡ once_told run.putting.station
+      pub rest : last ≡ record (sending_of run) { station = last.station }
+      pub says : lines ≡ run.lines ++ map Tells (said_by (table_of run.putting.station))
+      pub all : TellsGone lines (table_of last.station)
+      pub written : Appends old new (station_text own (length puts) lines)
+      pub wants : short ≡ (run.putting.short || halted)
 
     -- That happened, and so the run ended.
     pub record ServesTo (exit : Exit) (first last : Sending W) (old new : Option (List ℕ)) : Type 0
       where
         pub short : Bool
-        pub serves : Serves short first last old new
+        pub lines : List Line
+        pub serves : Serves short lines first last old new
         pub ends : exit ≡ station_exit short (more_failures first.station.entity.outbox_failures
             first.station.entity.inbox_failures last.station last.station)
-            (completed own last.station) (length puts)
+            (completed own lines) (length puts)
 
     -- It happened from this state; or there was no memory to begin, and nothing is written.
     abbrev pub EndsFrom : Exit → Sending W → (old new : Option (List ℕ)) → Type 0

@@ -2,8 +2,9 @@
 -- numbers with the highest octet first. It is a row of blocks (3.1 there). Each has its kind in
 -- front, its length in octets behind that and again at its end, and is padded to a multiple of four
 -- octets.
-use Rattle.std.specs.Prelude.{ℕ, ◌+◌, ◌-◌, ◌*◌, ◌^◌, ◌%◌, List, [], ◌++◌, codes, length, replicate, take}
+use Rattle.std.specs.Prelude.{ℕ, ◌+◌, ◌-◌, ◌*◌, ◌^◌, ◌%◌, List, [], ◌++◌, codes, length, replicate, take, Option}
 use Rattle.std.specs.Int.{to_be_bytes, w16, w32, w64}
+use Rattle.std.specs.Io.KnownBytes.{Appends}
 use Rattle.std.specs.List.{flat_map}
 use Rattle.aos_frame.specs.declared.config.Lane.{Lane}
 use Rattle.aos_frame.specs.declared.config.Lane.TheVariants.{Directives, Data}
@@ -66,3 +67,7 @@ record_octets s = record_of s.deed s.event s.place s.octets.items
 
 abbrev pub capture_octets : List Sighting → List ℕ
 capture_octets sightings = header_octets ++ flat_map record_octets sightings
+
+-- What was written from some start on is the capture of those seen so far.
+abbrev pub CapturesSoFar : List Sighting → (start now : Option (List ℕ)) → Type 0
+CapturesSoFar seen start now = Appends start now (capture_octets seen)

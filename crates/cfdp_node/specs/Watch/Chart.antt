@@ -1,5 +1,5 @@
 -- A trace as a sequence diagram, in the text that Mermaid draws.
-use Rattle.std.specs.Prelude.{◌≡◌, ◌-◌, ◌==◌, ◌||◌, ℕ, Bool, List, [], ◌∷◌, ◌++◌, codes, decimal, if◌then◌else◌, length, nat_le, take, Option}
+use Rattle.std.specs.Prelude.{◌≡◌, ◌-◌, ◌^◌, ◌==◌, ◌||◌, ℕ, Bool, List, [], ◌∷◌, ◌++◌, codes, decimal, if◌then◌else◌, length, min, nat_le, take, Option}
 use Rattle.std.specs.Char.{is_ascii_alphanumeric}
 use Rattle.std.specs.Io.KnownBytes.{Appends}
 use Rattle.std.specs.List.{AllZip, flat_map, list_any}
@@ -7,6 +7,7 @@ use Rattle.link_sim.specs.declared.side.Side.{Side}
 use Rattle.link_sim.specs.declared.side.Side.TheVariants.{One, Two}
 use Rattle.cfdp_node.specs.Dump.Lines.{as_line}
 use Rattle.cfdp_node.specs.Watch.Trace.{TellsDeed}
+use Rattle.cfdp_node.specs.declared.watch.chart.ChartWriter.{ChartWriter}
 use Rattle.cfdp_node.specs.declared.watch.sighting.Deed.{Deed}
 use Rattle.cfdp_node.specs.declared.watch.sighting.Deed.TheVariants.{SendsFrame, SendsPdu, TakesFrame, HearsPdu, LosesFrame, Ticks, Drops, Tells}
 use Rattle.cfdp_node.specs.declared.watch.sighting.Sighting.{Sighting}
@@ -62,9 +63,27 @@ rest_text lines =
     else codes "Note over S1,S2: " ++
     (decimal (lines - most_lines) ++ codes " lines of the trace are left out\n")
 
+-- how many were seen, as far as a writer counts
+abbrev pub counted : List Sighting → ℕ
+counted seen = min (length seen) (2 ^ 64 - 1)
+
+-- What was written from some start on is the chart of those seen so far, but for how many are left
+-- out: its head, and one line for each of the first ones in their order. The writer has counted all.
+pub record ChartsSoFar (writer : ChartWriter) (seen : List Sighting)
+    (start now : Option (List ℕ)) : Type 0 where
+  pub count : writer.lines ≡ counted seen
+  pub texts : List (List ℕ)
+  pub each : AllZip (ChartsSighting writer.zone) (take most_lines seen) texts
+  pub written : Appends start now (head_text ++ flat_map as_line texts)
+
 -- What was written is the chart of these: its head, one line for each of the first ones in their
 -- order, and how many are left out.
 pub record Charts (zone : ℕ) (all : List Sighting) (old new : Option (List ℕ)) : Type 0 where
   pub texts : List (List ℕ)
   pub each : AllZip (ChartsSighting zone) (take most_lines all) texts
-  pub written : Appends old new (head_text ++ flat_map as_line texts ++ rest_text (length all))
+  pub written : Appends old new (head_text ++ flat_map as_line texts ++ rest_text (counted all))
+
+-- the end that makes the chart of whatever was seen whole
+abbrev pub EndsChart : ChartWriter → (old new : Option (List ℕ)) → Type 0
+EndsChart writer old new = (seen : List Sighting) → (start : Option (List ℕ))
+    → ChartsSoFar writer seen start old → Charts writer.zone seen start new

@@ -32,3 +32,9 @@ pub record IsCutShort (old new : Log) : Type 0 where
 -- What a station did was noted, or there was no memory for it.
 abbrev pub Notes : Side → Deed → List ℕ → (old new : Log) → Type 0
 Notes station deed octets old new = NotesOne station deed octets old new ⊎ IsCutShort old new
+
+-- What was seen is let go, and all else stays.
+pub record Forgets (old new : Log) : Type 0 where
+  pub items : new.sightings.items ≡ []
+  pub kept : (new.step ≡ old.step) × (new.event ≡ old.event) × (new.place ≡ old.place)
+      × (new.is_short ≡ old.is_short)

@@ -1,8 +1,8 @@
 -- What a trace says of what was seen at two stations.
-use Rattle.std.specs.Prelude.{◌≡◌, ℕ, false, List, ◌++◌, codes, decimal}
+use Rattle.std.specs.Prelude.{◌≡◌, ℕ, false, List, ◌++◌, codes, decimal, Option}
 use Rattle.aos_frame.specs.declared.config.Lane.TheVariants.{Directives, Data}
 use Rattle.link_sim.specs.Stations.{entity_of}
-use Rattle.cfdp_node.specs.Dump.Lines.{TellsAsFrame, TellsAsPdu}
+use Rattle.cfdp_node.specs.Dump.Lines.{TellsAsFrame, TellsAsPdu, WritesLines}
 use Rattle.cfdp_node.specs.declared.watch.sighting.Deed.{Deed}
 use Rattle.cfdp_node.specs.declared.watch.sighting.Deed.TheVariants.{SendsFrame, SendsPdu, TakesFrame, HearsPdu, LosesFrame, Ticks, Drops, Tells}
 use Rattle.cfdp_node.specs.declared.watch.sighting.Sighting.{Sighting}
@@ -49,3 +49,7 @@ pub record TellsSighting (zone : ℕ) (s : Sighting) (text : List ℕ) : Type 0 
   pub deed : List ℕ
   pub tells : TellsDeed zone s deed
   pub whole : text ≡ sighting_front s ++ deed
+
+-- What was written from some start on is a line for each of those seen so far, in their order.
+abbrev pub TracesSoFar : (zone : ℕ) → List Sighting → (start now : Option (List ℕ)) → Type 0
+TracesSoFar zone seen start now = WritesLines (TellsSighting zone) seen start now

@@ -1,6 +1,7 @@
 //! A file sent from one folder into another, by two stations over two sockets of this machine.
 use crate::exit::{Exit, Fault};
 use crate::input::Input;
+use crate::looping::held_folder::HeldFolder;
 use crate::looping::request::LoopRequest;
 use crate::looping::{LoopOptions, loop_config, run_loop};
 use crate::report::name::Name;
@@ -8,6 +9,7 @@ use crate::script::sim::Ran;
 use crate::watch::lookout::{Lookout, Passed};
 use crate::watch::onlooker::Onlooker;
 use crate::watch::progress::{Progress, Reception};
+use crate::watch::recorder::Screen;
 use crate::watch::show::shown_status;
 use crate::wire::Wire;
 use crate::wire::udp::UdpWire;
@@ -35,12 +37,12 @@ const DEVICE: u8 = 3;
 /// sent, the other folder, the sockets.
 pub fn loop_status(rt: &HostRuntime, request: &LoopRequest) -> u8 {
     match prepared(rt, request) {
-        Ok((outbox, wires)) => sent_status(rt, request, outbox, wires),
+        Ok((outbox, wires, _held)) => sent_status(rt, request, outbox, wires),
         Err(status) => status,
     }
 }
 
-/// What is needed to send the file.
+/// What is needed to send the file, and the folder that it goes into.
 ///
 /// # Errors
 ///
@@ -48,7 +50,7 @@ pub fn loop_status(rt: &HostRuntime, request: &LoopRequest) -> u8 {
 fn prepared(
     rt: &HostRuntime,
     request: &LoopRequest,
-) -> Result<(FolderOutbox, (UdpWire, UdpWire)), u8> {
+) -> Result<(FolderOutbox, (UdpWire, UdpWire), HeldFolder), u8> {
     check_name(rt, request.source.as_str())?;
     check_name(rt, request.destination.as_str())?;
     let from = folder(rt, request.from.as_str())?;
@@ -58,8 +60,9 @@ fn prepared(
         let _ = eprintln!(rt; "error: {} and {} are one folder", request.from, request.to);
         return Err(MISTAKE);
     }
+    let held = HeldFolder::take(rt, request.to.as_str())?;
     match UdpWire::pair(rt) {
-        Ok(wires) => Ok((outbox, wires)),
+        Ok(wires) => Ok((outbox, wires, held)),
         Err(error) => {
             let _ = eprintln!(rt; "error: a socket of 127.0.0.1: {error}");
             Err(DEVICE)
@@ -113,7 +116,7 @@ fn loaded(rt: &HostRuntime, request: &LoopRequest) -> Result<FolderOutbox, u8> {
     }
 }
 
-/// Sends the file, shows what was seen of that, and answers the exit status.
+/// Sends the file, shows what is seen of that, and answers the exit status.
 fn sent_status<O: Outbox, W: Wire>(
     rt: &HostRuntime,
     request: &LoopRequest,
@@ -160,13 +163,17 @@ fn sent_over<O: Outbox, I: Inbox, W: Wire>(
     wires: (W, W),
     progress: &Progress<'_>,
 ) -> Ran {
-    match Onlooker::new(rt.alloc(), loop_config(), request.shown.is_watched()) {
+    let screen = Screen {
+        rt,
+        progress: Some(progress),
+    };
+    match Onlooker::new(screen, loop_config(), &request.shown) {
         Ok(onlooker) => {
             let mut lookout = LoopLookout { onlooker, progress };
             let exit = reported(rt, request, outbox, inbox, wires, &mut lookout);
             Ran {
                 exit,
-                seen: lookout.onlooker.into_seen(),
+                seen: lookout.onlooker.into_summary(),
             }
         }
         Err(AllocError) => Ran::unseen(Exit::Device(Fault::NoMemoryAtStart)),
@@ -209,7 +216,7 @@ fn options(alloc: Global, request: &LoopRequest) -> Result<LoopOptions, AllocErr
 /// One who looks on at the turns, and says how far the transfer is.
 #[derive(Drop)]
 pub struct LoopLookout<'a> {
-    pub onlooker: Onlooker,
+    pub onlooker: Onlooker<'a>,
     pub progress: &'a Progress<'a>,
 }
 
@@ -241,7 +248,7 @@ impl Lookout for LoopLookout<'_> {
     }
 }
 
-/// An inbox over a folder, which says on standard error why a file could not be put there.
+/// An inbox over a folder, which says on standard error why a call of it failed.
 #[derive(Drop)]
 pub struct TellingInbox<'a> {
     rt: &'a HostRuntime,
@@ -275,12 +282,29 @@ impl<'a> TellingInbox<'a> {
         })
     }
 
-    fn tell(&self, name: &[u8]) {
-        if let Some(fault) = self.inbox.fault() {
-            self.told.set(true);
-            self.progress.ends();
+    /// Says why a call failed, if it did, of a file that has no name yet.
+    fn tell_unnamed(&self, answer: Result<(), StoreError>) {
+        if answer.is_err()
+            && let Some(fault) = self.inbox.fault()
+        {
+            self.begins_to_tell();
+            let _ = eprintln!(self.rt; "error: {}: {fault}", self.folder);
+        }
+    }
+
+    /// Says why a file could not be published, if that is so.
+    fn tell(&self, answer: Result<(), StoreError>, name: &[u8]) {
+        if answer.is_err()
+            && let Some(fault) = self.inbox.fault()
+        {
+            self.begins_to_tell();
             let _ = eprintln!(self.rt; "error: {}/{}: {fault}", self.folder, Name(name));
         }
+    }
+
+    fn begins_to_tell(&self) {
+        self.told.set(true);
+        self.progress.ends();
     }
 }
 
@@ -291,26 +315,33 @@ impl<'a> Inbox for TellingInbox<'a> {
 
     ghost failures = { λ i. ⟦<FolderInbox<&'a HostRuntime> as Inbox>⟧.failures i.inbox };
 
+    ghost steps = { λ i call j. ⟦<FolderInbox<&'a HostRuntime> as Inbox>⟧.steps i.inbox call
+        j.inbox };
+
     fn begin(&mut self, id: TransactionId) -> Result<(), StoreError> {
         self.reception.begins(id);
-        self.inbox.begin(id)
+        let answer = self.inbox.begin(id);
+        self.tell_unnamed(answer);
+        answer
     }
 
     fn write(&mut self, id: TransactionId, offset: u64, octets: &[u8]) -> Result<(), StoreError> {
         self.reception.notes(id, offset, octets.len());
-        self.inbox.write(id, offset, octets)
+        let answer = self.inbox.write(id, offset, octets);
+        self.tell_unnamed(answer);
+        answer
     }
 
     fn publish(&mut self, id: TransactionId, name: &[u8], size: u64) -> Result<(), StoreError> {
         let answer = self.inbox.publish(id, name, size);
-        if answer.is_err() {
-            self.tell(name);
-        }
+        self.tell(answer, name);
         answer
     }
 
     fn discard(&mut self, id: TransactionId) -> Result<(), StoreError> {
-        self.inbox.discard(id)
+        let answer = self.inbox.discard(id);
+        self.tell_unnamed(answer);
+        answer
     }
 
     fn failures(&self) -> u64 {

@@ -16,7 +16,9 @@ use crate::script::command::FileLine;
 use crate::script::outboxes::outboxes;
 use crate::script::run::run_steps;
 use crate::script::{Script, Step};
-use crate::watch::onlooker::{Onlooker, Seen};
+use crate::watch::onlooker::{Onlooker, Summary};
+use crate::watch::recorder::Screen;
+use crate::watch::shown::Shown;
 use link_sim::{MemoryWorld, WorldConfig, worlds_keep_the_promises};
 use std::alloc::{AllocError, Global};
 use std::io::{BufWriter, Read, Write};
@@ -26,8 +28,8 @@ use std::io::{BufWriter, Read, Write};
 pub struct Ran {
     /// How it ended.
     pub exit: Exit,
-    /// What was seen; `None` where nobody looked on, or nothing was done.
-    pub seen: Option<Seen>,
+    /// What is known of it by one who looked on; `None` where nobody did, or nothing was done.
+    pub seen: Option<Summary>,
 }
 
 impl Ran {
@@ -40,15 +42,15 @@ impl Ran {
 }
 
 /// Reads a script, runs it and writes its report, which has left the buffer then. Somebody looks on
-/// if the run is to be watched.
+/// if something is to be shown, and shows it as it passes.
 ///
 /// Nothing is written unless the whole script was read, is good, and there is memory for all that
 /// stands before its first command. From then on a command that answers NoMemory or StoreFailed
 /// stands in the report, and the answer is `Device` too. A report that can't be written to its end
 /// is not begun again.
 pub fn run_sim<R: Read + Drop, W: Write + Drop>(
-    alloc: Global,
-    is_watched: bool,
+    rt: &HostRuntime,
+    shown: &Shown,
     reader: R,
     out: &mut BufWriter<W>,
 ) -> Ran
@@ -58,7 +60,7 @@ pub fn run_sim<R: Read + Drop, W: Write + Drop>(
         (writer_contents W.contents out.new) }
     ensures flushed { IsFlushedAt result.exit (writer_buffer out.new) }
 {
-    let Ran { exit, seen } = run_script(alloc, is_watched, reader, out);
+    let Ran { exit, seen } = run_script(rt, shown, reader, out);
     Ran {
         exit: exit.flushed(out),
         seen,
@@ -67,8 +69,8 @@ pub fn run_sim<R: Read + Drop, W: Write + Drop>(
 
 /// Reads a script, runs it and writes its report. The writer isn't flushed.
 fn run_script<R: Read + Drop, W: Write>(
-    alloc: Global,
-    is_watched: bool,
+    rt: &HostRuntime,
+    shown: &Shown,
     reader: R,
     out: &mut W,
 ) -> Ran
@@ -76,26 +78,26 @@ fn run_script<R: Read + Drop, W: Write>(
         (λ text. EndsScript result.exit text (W.contents out.old) (W.contents out.new)) }
     ensures silent { IsSilentAt result.exit (W.contents out.old) (W.contents out.new) }
 {
-    match read_script(alloc, reader) {
-        Ok(text) => run_text(alloc, is_watched, text.as_slice(), out),
+    match read_script(rt.alloc(), reader) {
+        Ok(text) => run_text(rt, shown, text.as_slice(), out),
         Err(fault) => Ran::unseen(Exit::Device(fault)),
     }
 }
 
 /// Runs the script that this text is, and writes its report.
-fn run_text<W: Write>(alloc: Global, is_watched: bool, text: &[u8], out: &mut W) -> Ran
+fn run_text<W: Write>(rt: &HostRuntime, shown: &Shown, text: &[u8], out: &mut W) -> Ran
     requires { length text.now ≤ MAX_SCRIPT }
     ensures script { EndsText result.exit text.now (W.contents out.old) (W.contents out.new) }
     ensures silent { IsSilentAt result.exit (W.contents out.old) (W.contents out.new) }
 {
     worlds_keep_the_promises();
-    let Ok(script) = Script::parse(alloc, text) else {
+    let Ok(script) = Script::parse(rt.alloc(), text) else {
         return Ran::unseen(Exit::Device(Fault::NoMemoryAtStart));
     };
     match script.config() {
         Ok(config) => {
             let (files, steps) = (script.files.as_slice(), script.steps.as_slice());
-            run_commands(alloc, is_watched, config, files, steps, out)
+            run_commands(rt, shown, config, files, steps, out)
         }
         Err(bad) => Ran::unseen(Exit::BadScript(bad)),
     }
@@ -103,8 +105,8 @@ fn run_text<W: Write>(alloc: Global, is_watched: bool, text: &[u8], out: &mut W)
 
 /// Does these commands at two stations with these files, and writes the report.
 fn run_commands<W: Write>(
-    alloc: Global,
-    is_watched: bool,
+    rt: &HostRuntime,
+    shown: &Shown,
     config: WorldConfig,
     files: &[FileLine],
     steps: &[Step],
@@ -114,8 +116,8 @@ fn run_commands<W: Write>(
     ensures { EndsFrom result.exit config files.now steps.now
         (W.contents out.old) (W.contents out.new) }
 {
-    match first_world(alloc, is_watched, config, files) {
-        Ok(world) => run_world(alloc, world, steps, out),
+    match first_world(rt, shown, config, files) {
+        Ok(world) => run_world(rt.alloc(), world, steps, out),
         Err(AllocError) => Ran::unseen(Exit::Device(Fault::NoMemoryAtStart)),
     }
 }
@@ -125,37 +127,40 @@ fn run_commands<W: Write>(
 /// # Errors
 ///
 /// `AllocError` where there is no memory for them, or for who looks on.
-fn first_world(
-    alloc: Global,
-    is_watched: bool,
+fn first_world<'a>(
+    rt: &'a HostRuntime,
+    shown: &'a Shown,
     config: WorldConfig,
     files: &[FileLine],
-) -> Result<MemoryWorld<Onlooker>, AllocError>
+) -> Result<MemoryWorld<Onlooker<'a>>, AllocError>
     requires { IsWorldConfig config }
     ensures { IfOk result (IsFirst config
         (outbox_of sides.One files.now, outbox_of sides.Two files.now) (map.empty, map.empty)) }
 {
+    let alloc = rt.alloc();
     let outboxes = outboxes(alloc, files)?;
+    let screen = Screen { rt, progress: None };
     MemoryWorld::new(
         alloc,
         config,
         outboxes,
-        Onlooker::new(alloc, config, is_watched)?,
+        Onlooker::new(screen, config, shown)?,
     )
 }
 
-/// Does these commands in a world, writes the report, and gives what was seen in it.
+/// Does these commands in a world, writes the report, and gives what is known of it then.
 fn run_world<W: Write>(
     alloc: Global,
-    mut world: MemoryWorld<Onlooker>,
+    mut world: MemoryWorld<Onlooker<'_>>,
     steps: &[Step],
     out: &mut W,
 ) -> Ran
-    ensures { EndsRun result.exit steps.now world (W.contents out.old) (W.contents out.new) }
+    ensures { EndsRun result.exit steps.now world.entry
+        (W.contents out.old) (W.contents out.new) }
 {
     let exit = run_steps(alloc, &mut world, steps, out);
     Ran {
         exit,
-        seen: world.into_witness().into_seen(),
+        seen: world.into_witness().into_summary(),
     }
 }

@@ -15,6 +15,10 @@ use std::time::Instant;
 /// For so many seconds a thing that was told isn't told again.
 const PAUSE: u64 = 60;
 
+/// Of so many transactions whose EOF was sent those that are over are let go: more than can be open
+/// at once.
+const MOST_ENDED: usize = 8192;
+
 /// After so many seconds in which nothing came it is told what is waited for.
 const QUIET: u64 = 10;
 
@@ -98,6 +102,9 @@ pub struct Notices<'a> {
     failure_at: Option<u64>,
     stopped_at: Option<u64>,
     waits_at: Option<u64>,
+    // How many indications were looked at, and whose EOF was sent, as far as they may be open.
+    told: u64,
+    ended: Vec<TransactionId>,
 }
 
 impl<'a> Notices<'a> {
@@ -129,6 +136,8 @@ impl<'a> Notices<'a> {
             failure_at: None,
             stopped_at: None,
             waits_at: None,
+            told: 0,
+            ended: Vec::new(rt.alloc()),
         }
     }
 
@@ -226,8 +235,8 @@ impl<'a> Notices<'a> {
                 entity.peer, entity.entity
             ),
             EntityDrop::TableFull => eprintln!(self.rt;
-                "note: {count} dropped: the table is full: a station takes 4096 transactions, and \
-                 no more until it is started anew"
+                "note: {count} dropped: the table is full: 4096 transactions are open, and no more \
+                 can be before one of them is over"
             ),
             _ => eprintln!(self.rt; "note: {count} dropped: {by}"),
         };
@@ -279,13 +288,28 @@ impl<'a> Notices<'a> {
         }
     }
 
+    /// Keeps in mind whose EOF was sent. As many are kept as may be open at once, and some that are
+    /// over.
+    fn note_ended<O: Outbox, I: Inbox>(&mut self, station: &Station<O, I>) {
+        for told in station.indications_since(self.told).unwrap_or(&[]) {
+            self.told = self.told.saturating_add(1);
+            if let Indication::EofSent(id) = told {
+                let _ = self.ended.push(*id);
+            }
+        }
+        if self.ended.len() > MOST_ENDED {
+            self.ended.retain(|id| is_sending(station, *id));
+        }
+    }
+
     /// Tells which file the peer doesn't tell to be finished, where nothing has come for a while.
     fn tell_waiting<O: Outbox, I: Inbox>(&mut self, now: u64, station: &Station<O, I>) {
         if now == self.looked || now < self.heard.saturating_add(QUIET) {
             return;
         }
         self.looked = now;
-        let Some(id) = first_waiting(station) else {
+        self.ended.retain(|id| is_sending(station, *id));
+        let Some(id) = self.ended.first().copied() else {
             return;
         };
         if is_over(&mut self.waits_at, now) {
@@ -299,16 +323,9 @@ impl<'a> Notices<'a> {
     }
 }
 
-/// The first open transaction whose EOF was sent.
-fn first_waiting<O: Outbox, I: Inbox>(station: &Station<O, I>) -> Option<TransactionId> {
-    for told in station.indications() {
-        if let Indication::EofSent(id) = told
-            && station.phase(*id) == Some(Phase::Sending)
-        {
-            return Some(*id);
-        }
-    }
-    None
+/// Whether a transaction is open at its sender.
+fn is_sending<O: Outbox, I: Inbox>(station: &Station<O, I>, id: TransactionId) -> bool {
+    station.phase(id) == Some(Phase::Sending)
 }
 
 /// Whether a peer that is set up otherwise may be the cause.
@@ -347,6 +364,7 @@ impl Lookout for Notices<'_> {
         passed: Passed<'_>,
         station: &Station<O, I>,
     ) {
+        self.note_ended(station);
         match passed {
             Passed::Took(datagram) => self.looks_at(datagram),
             Passed::Ticked(_) => {

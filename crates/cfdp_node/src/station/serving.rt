@@ -2,11 +2,12 @@
 ghost use Rattle.std.specs.Io.Buffered.{writer_buffer, writer_contents};
 ghost use Rattle.std.specs.Io.KnownBytes.{Appends};
 ghost use Rattle.std.specs.List.{flat_map};
-ghost use Rattle.std.specs.Prelude.{◌≡◌, ◌≤◌, ◌++◌, ◌&&◌, ℕ, Bool, List, [], count_by, drop, false, length, not, IfOk, OnOk};
+ghost use Rattle.std.specs.Prelude.{◌≡◌, ◌+◌, ◌<◌, ◌≤◌, ◌==◌, ◌&&◌, Bool, List, [], Option, count_by, false, length, not, IfOk, OnOk};
 ghost use Rattle.cfdp_node.specs.Exit.{IsFlushedAt};
-ghost use Rattle.cfdp_node.specs.Looping.Turns.{IsTold, told};
-ghost use Rattle.cfdp_node.specs.Report.Lines.{count_line, indication_line, is_own_completion};
-ghost use Rattle.cfdp_node.specs.Station.Serving.{EndsFrom, EndsStation, IsWritten, MakesPut, MakesPuts, Serves, ServesTo, TakesTurns, all_closed, completed, station_exit};
+ghost use Rattle.cfdp_node.specs.Looping.Turns.{IsTold};
+ghost use Rattle.cfdp_node.specs.Report.Lines.{answer_text, indication_line, is_own_completion};
+ghost use Rattle.cfdp_node.specs.declared.report.answer.Answer.{Answer};
+ghost use Rattle.cfdp_node.specs.Station.Serving.{AddsTo, Answers, EndsFrom, EndsStation, Gains, IsReport, Line, MakesMore, MakesNext, MakesPut, Prepares, Serves, ServesTo, TakesTurns, all_closed, completed, line_text, once_told, said_by, starts, station_exit, table_of, told_by};
 ghost use Rattle.cfdp_node.specs.Station.Serving as spec;
 ghost use Rattle.cfdp_node.specs.Wire.Calls.{Rested};
 ghost use Rattle.cfdp_node.specs.Wire.Turn.{FitsFrames, HasZones};
@@ -20,7 +21,8 @@ use crate::report::{own_completions, write_answer, write_indications};
 use crate::station::turning::take_turn;
 use crate::watch::lookout::{Lookout, Passed};
 use crate::wire::PeerWire;
-use cfdp_directives::{Indication, Phase};
+use cfdp_directives::Phase;
+use cfdp_entity::an_entity_goes_on;
 use cfdp_station::{Station, StationConfig};
 use cfdp_store::{Inbox, Outbox};
 use link_sim::Side;
@@ -58,12 +60,14 @@ pub trait Clock: Drop {
     fn now(&mut self) -> u64;
 }
 
-/// How a station's turns ended.
+/// What was done of a run.
 #[derive(Clone, Copy)]
 struct Served {
-    /// Whether memory was wanting.
+    /// How many puts were made.
+    made: usize,
+    /// Whether memory was wanting: for a put, and at the end for a turn too.
     short: bool,
-    /// How many of its puts it was told complete.
+    /// How many puts are told complete.
     complete: usize,
 }
 
@@ -73,9 +77,10 @@ const MOST_TURNS: u64 = 1_000_000_000_000_000;
 /// Runs a station over a wire: makes its puts, takes turns, and writes the report, each line of
 /// which has left the buffer once its turn is over.
 ///
-/// In a turn the station takes what came, is told the time, and sends. What it told its user is
-/// written then. Turns end once all transactions of the station are closed and the wire is silent; a
-/// wire that is never silent lets them go on.
+/// In a turn the station takes what came, is told the time, and sends. Before each turn those puts
+/// are made for which the station has room, what it told its user is written and let go, and so are
+/// the transactions that are over. Turns end once all puts are made, all transactions of the station
+/// are closed, and the wire is silent; a wire that is never silent lets them go on.
 ///
 /// A want of memory ends it, and is told as `Device` with the report; so is a store that failed.
 /// Where there is none for the station, nothing is written. Of a report that can't be written to
@@ -137,7 +142,8 @@ fn run_on<O: Outbox, I: Inbox, W: PeerWire, C: Clock, V: Write, L: Lookout>(
     out: &mut V,
     lookout: &mut L,
 ) -> Exit
-    requires { HasZones station.old.down }
+    requires zones { HasZones station.old.down }
+    requires none { (table_of station.old).gone ≡ 0 }
     ensures { IsTold result (EndsFrom W.steps options.now.config.entity.entity
         options.now.drop_every options.now.puts.items result
         (record { station = station.old; wire = wire; left = options.now.drop_every })
@@ -172,6 +178,7 @@ pub fn run_all<O: Outbox, I: Inbox, W: PeerWire, C: Clock, V: Write, L: Lookout>
     lookout: &mut L,
 ) -> Exit
     requires fits { FitsFrames (length turning.old.frame.items) station.old }
+    requires none { (table_of station.old).gone ≡ 0 }
     ensures { IsTold result (ServesTo W.steps options.now.config.entity.entity
         turning.old.losses.every options.now.puts.items result
         (record { station = station.old; wire = wire.old; left = turning.old.losses.left })
@@ -196,7 +203,7 @@ pub fn run_all<O: Outbox, I: Inbox, W: PeerWire, C: Clock, V: Write, L: Lookout>
     }
 }
 
-/// Makes the puts, takes turns, and writes the report.
+/// Takes turns, and writes the report.
 ///
 /// # Errors
 ///
@@ -211,30 +218,124 @@ fn serve<O: Outbox, I: Inbox, W: PeerWire, C: Clock, V: Write, L: Lookout>(
     lookout: &mut L,
 ) -> io::Result<Served>
     requires fits { FitsFrames (length turning.old.frame.items) station.old }
-    ensures serves { IfOk result (λ served. Serves W.steps
-        options.now.config.entity.entity turning.old.losses.every options.now.puts.items
-        served.short
+    requires none { (table_of station.old).gone ≡ 0 }
+    ensures { IfOk result (λ served. (lines : List Line)
+        × Serves W.steps options.now.config.entity.entity turning.old.losses.every
+        options.now.puts.items served.short lines
         (record { station = station.old; wire = wire.old; left = turning.old.losses.left })
         (record { station = station.new; wire = wire.new; left = turning.new.losses.left })
-        (V.contents out.old) (V.contents out.new)) }
-    ensures complete { IfOk result (λ served. served.complete
-        ≡ completed options.now.config.entity.entity station.new) }
+        (V.contents out.old) (V.contents out.new)
+        × (served.complete ≡ completed options.now.config.entity.entity lines)) }
 {
-    let refused = make_puts(options, station, out, lookout)?;
-    let mut count = 0;
+    let mut served = Served {
+        made: 0,
+        short: false,
+        complete: 0,
+    };
     let halted = take_turns(
-        options, station, wire, clock, turning, &mut count, out, lookout,
+        options,
+        station,
+        wire,
+        clock,
+        turning,
+        &mut served,
+        out,
+        lookout,
     )?;
-    lookout.yields();
-    let complete = tell_last(options, station.indications(), count, out)?;
-    Ok(Served {
-        short: refused | halted,
-        complete,
-    })
+    let own = options.config.entity.entity;
+    tell(own, station, &mut served.complete, out, lookout)?;
+    write_count(out, served.complete, options.puts.as_slice().len())?;
+    served.short |= halted;
+    Ok(served)
 }
 
-/// Makes all puts, and writes a line for each that is refused. Answers whether one was refused for
-/// want of memory.
+/// Takes turns until all puts are made, all transactions of the station are closed, and the wire is
+/// silent. Answers whether memory was wanting for a turn.
+///
+/// # Errors
+///
+/// That of the writer.
+fn take_turns<O: Outbox, I: Inbox, W: PeerWire, C: Clock, V: Write, L: Lookout>(
+    options: &StationOptions,
+    station: &mut Station<O, I>,
+    wire: &mut W,
+    clock: &mut C,
+    turning: &mut Turning,
+    served: &mut Served,
+    out: &mut V,
+    lookout: &mut L,
+) -> io::Result<bool>
+    requires fits { FitsFrames (length turning.old.frame.items) station.old }
+    requires none { (table_of station.old).gone ≡ 0 }
+    requires begins { (served.old.made ≡ 0) × (served.old.short ≡ false)
+        × (served.old.complete ≡ 0) }
+    ensures { IfOk result (λ halted. (lines : List Line)
+        × TakesTurns W.steps options.now.puts.items turning.old.losses.every halted
+        (starts (record {
+          station = station.old;
+          wire = wire.old;
+          left = turning.old.losses.left;
+        }))
+        (record {
+          putting = record {
+            station = station.new;
+            made = served.new.made;
+            short = served.new.short;
+          };
+          wire = wire.new;
+          left = turning.new.losses.left;
+          lines = lines;
+        })
+        × IsReport options.now.config.entity.entity served.new.complete lines
+        (table_of station.new) (V.contents out.old) (V.contents out.new)) }
+{
+    for before in 0..MOST_TURNS {
+        prepare(options, station, served, out, lookout)?;
+        if is_over(station, are_all_made(options, served), wire) {
+            return Ok(false);
+        }
+        lookout.begins(before + 1);
+        match take_turn(options.side, station, wire, turning, clock, lookout) {
+            Ok(()) => {}
+            Err(AllocError) => return Ok(true),
+        }
+    }
+    Ok(false)
+}
+
+/// Makes the puts for which there is room, tells what the station told its user, and lets go of
+/// that and of the transactions that are over.
+///
+/// # Errors
+///
+/// That of the writer.
+fn prepare<O: Outbox, I: Inbox, V: Write, L: Lookout>(
+    options: &StationOptions,
+    station: &mut Station<O, I>,
+    served: &mut Served,
+    out: &mut V,
+    lookout: &mut L,
+) -> io::Result<()>
+    requires few { (table_of station.old).gone ≤ length (table_of station.old).told }
+    requires low { served.old.complete ≤ (table_of station.old).gone }
+    ensures prepares { OnOk result ((lines : List Line)
+        × Prepares options.now.puts.items lines
+        (record { station = station.old; made = served.old.made; short = served.old.short })
+        (record { station = station.new; made = served.new.made; short = served.new.short })
+        × AddsTo options.now.config.entity.entity served.old.complete served.new.complete lines
+        (table_of station.old) (table_of station.new) (V.contents out.old) (V.contents out.new)) }
+    ensures down { OnOk result (station.new.down ≡ station.old.down) }
+{
+    make_puts(options, station, served, out, lookout)?;
+    let own = options.config.entity.entity;
+    tell(own, station, &mut served.complete, out, lookout)?;
+    // Where there is no memory to note that one is over, its record stays.
+    let _ = station.forget_closed();
+    Ok(())
+}
+
+/// Makes puts, in their order, until all are made or the station has no room for another, and
+/// writes a line for each that is refused.
 ///
 /// # Errors
 ///
@@ -242,30 +343,63 @@ fn serve<O: Outbox, I: Inbox, W: PeerWire, C: Clock, V: Write, L: Lookout>(
 fn make_puts<O: Outbox, I: Inbox, V: Write, L: Lookout>(
     options: &StationOptions,
     station: &mut Station<O, I>,
+    served: &mut Served,
     out: &mut V,
     lookout: &mut L,
-) -> io::Result<bool>
-    ensures made { IfOk result (λ short. (lines : List ℕ)
-        × MakesPuts options.now.puts.items (length options.now.puts.items)
-        (record { station = station.old; lines = []; short = false })
-        (record { station = station.new; lines = lines; short = short })
-        × Appends (V.contents out.old) (V.contents out.new) lines) }
+) -> io::Result<()>
+    ensures made { OnOk result ((lines : List Line)
+        × MakesMore options.now.puts.items lines
+        (record { station = station.old; made = served.old.made; short = served.old.short })
+        (record { station = station.new; made = served.new.made; short = served.new.short })
+        × (told_by lines ≡ [])
+        × Appends (V.contents out.old) (V.contents out.new)
+        (flat_map (line_text options.now.config.entity.entity) lines)) }
+    ensures gains { Gains (table_of station.old) (table_of station.new) }
+    ensures complete { served.new.complete ≡ served.old.complete }
     ensures down { station.new.down ≡ station.old.down }
 {
     let puts = options.puts.as_slice();
-    let mut short = false;
-    for place in 0..puts.len() {
-        let made = make_put(options.side, station, &puts[place], lookout);
-        write_answer(
-            out,
-            Answered {
-                line: place + 1,
-                answer: made.answer,
-            },
-        )?;
-        short |= made.short;
+    while served.made < puts.len() && station.records_left() > 0 {
+        make_next(options.side, station, puts, served, out, lookout)?;
     }
-    Ok(short)
+    Ok(())
+}
+
+/// Makes the next put, and writes a line where it is refused.
+///
+/// # Errors
+///
+/// That of the writer.
+fn make_next<O: Outbox, I: Inbox, V: Write, L: Lookout>(
+    side: Side,
+    station: &mut Station<O, I>,
+    puts: &[PutNames],
+    served: &mut Served,
+    out: &mut V,
+    lookout: &mut L,
+) -> io::Result<()>
+    requires { served.old.made < length puts.now }
+    ensures makes { OnOk result ((told : Option Answer)
+        × MakesNext puts.now (Answers (served.old.made + 1) told)
+        (record { station = station.old; made = served.old.made; short = served.old.short })
+        (record { station = station.new; made = served.new.made; short = served.new.short })
+        × Appends (V.contents out.old) (V.contents out.new)
+        (answer_text (served.old.made + 1) told)) }
+    ensures made { served.new.made ≡ served.old.made + 1 }
+    ensures complete { served.new.complete ≡ served.old.complete }
+    ensures gains { Gains (table_of station.old) (table_of station.new) }
+    ensures down { station.new.down ≡ station.old.down }
+{
+    let made = make_put(side, station, &puts[served.made], lookout);
+    served.made += 1;
+    served.short |= made.short;
+    write_answer(
+        out,
+        Answered {
+            line: served.made,
+            answer: made.answer,
+        },
+    )
 }
 
 /// Makes a put, and answers why it was refused, if it was.
@@ -277,8 +411,10 @@ fn make_put<O: Outbox, I: Inbox, L: Lookout>(
 ) -> Ended
     ensures makes { MakesPut names.now.source.items names.now.destination.items result.answer
         result.short station.old station.new }
+    ensures gains { Gains (table_of station.old) (table_of station.new) }
     ensures down { station.new.down ≡ station.old.down }
 {
+    an_entity_goes_on();
     match station.put(names.source.as_slice(), names.destination.as_slice()) {
         Ok(_) => {
             lookout.sees(side, Passed::Put, station);
@@ -294,58 +430,26 @@ fn make_put<O: Outbox, I: Inbox, L: Lookout>(
     }
 }
 
-/// Takes turns until all transactions of the station are closed and the wire is silent, and writes
-/// what the station told its user before each. Answers whether memory was wanting.
-///
-/// # Errors
-///
-/// That of the writer.
-fn take_turns<O: Outbox, I: Inbox, W: PeerWire, C: Clock, V: Write, L: Lookout>(
-    options: &StationOptions,
-    station: &mut Station<O, I>,
-    wire: &mut W,
-    clock: &mut C,
-    turning: &mut Turning,
-    count: &mut usize,
-    out: &mut V,
-    lookout: &mut L,
-) -> io::Result<bool>
-    requires fits { FitsFrames (length turning.old.frame.items) station.old }
-    requires none { count.old ≡ 0 }
-    ensures turns { IfOk result (λ short. TakesTurns W.steps turning.old.losses.every short
-        (record { station = station.old; wire = wire.old; left = turning.old.losses.left })
-        (record { station = station.new; wire = wire.new; left = turning.new.losses.left })) }
-    ensures written { OnOk result (IsWritten options.now.config.entity.entity count.new
-        (told station.new) (V.contents out.old) (V.contents out.new)) }
+/// Whether all puts were made.
+fn are_all_made(options: &StationOptions, served: &Served) -> bool
+    ensures { result ≡ (served.now.made == length options.now.puts.items) }
 {
-    for before in 0..MOST_TURNS {
-        tell(
-            options.config.entity.entity,
-            station.indications(),
-            count,
-            out,
-            lookout,
-        )?;
-        if is_over(station, wire) {
-            return Ok(false);
-        }
-        lookout.begins(before + 1);
-        match take_turn(options.side, station, wire, turning, clock, lookout) {
-            Ok(()) => {}
-            Err(AllocError) => return Ok(true),
-        }
-    }
-    Ok(false)
+    served.made == options.puts.len()
 }
 
-/// Whether all transactions of a station are closed, and the wire has been silent for long enough.
-fn is_over<O: Outbox, I: Inbox, W: PeerWire>(station: &Station<O, I>, wire: &mut W) -> bool
+/// Whether all puts were made, all transactions of a station are closed, and the wire has been
+/// silent for long enough.
+fn is_over<O: Outbox, I: Inbox, W: PeerWire>(
+    station: &Station<O, I>,
+    are_made: bool,
+    wire: &mut W,
+) -> bool
     ensures { (answer : Bool)
-        × W.steps wire.old (Rested (not (all_closed station.now)) answer) wire.new
-        × (result ≡ (answer && all_closed station.now)) }
+        × W.steps wire.old (Rested (not (are_made && all_closed station.now)) answer) wire.new
+        × (result ≡ (answer && (are_made && all_closed station.now))) }
 {
-    let are_closed = are_all_closed(station);
-    wire.is_silent(!are_closed) && are_closed
+    let is_done = are_made && are_all_closed(station);
+    wire.is_silent(!is_done) && is_done
 }
 
 /// Whether all transactions of a station are closed.
@@ -365,57 +469,42 @@ fn is_closed(phase: Phase) -> bool
     }
 }
 
-/// Writes what a station told its user behind the first so many indications, and lets it leave the
-/// buffer. All are counted then. Who looks on gives way before that, where there is something.
+/// Writes what a station told its user, lets it leave the buffer, and lets it go; and counts the
+/// puts of which it tells that they are complete. Who looks on gives way before that, where there is
+/// something. Where 64 bits don't count what was told any more, nothing more is told.
 ///
 /// # Errors
 ///
 /// That of the writer.
-fn tell<V: Write, L: Lookout>(
+fn tell<O: Outbox, I: Inbox, V: Write, L: Lookout>(
     own: u64,
-    all: &[Indication],
-    count: &mut usize,
+    station: &mut Station<O, I>,
+    complete: &mut usize,
     out: &mut V,
     lookout: &mut L,
 ) -> io::Result<()>
-    requires { count.old ≤ length all.now }
+    requires few { (table_of station.old).gone ≤ length (table_of station.old).told }
+    requires low { complete.old ≤ (table_of station.old).gone }
+    ensures station { OnOk result (station.new ≡ once_told station.old) }
+    ensures complete { OnOk result (complete.new ≡ complete.old
+        + count_by (is_own_completion own) (said_by (table_of station.old))) }
     ensures written { OnOk result (Appends (V.contents out.old) (V.contents out.new)
-        (flat_map (indication_line own) (drop count.old all.now))) }
-    ensures count { OnOk result (count.new ≡ length all.now) }
+        (flat_map (indication_line own) (said_by (table_of station.old)))) }
 {
-    if *count < all.len() {
+    let all = station.indications();
+    let count = all.len();
+    let gone = station.indications_gone();
+    if gone.checked_add(count as u64).is_none() {
+        return Ok(());
+    }
+    if count > 0 {
         lookout.yields();
     }
-    write_indications(out, own, &all[*count..])?;
+    write_indications(out, own, all)?;
     out.flush()?;
-    *count = all.len();
+    *complete += own_completions(own, all);
+    station.forget_indications(count);
     Ok(())
-}
-
-/// Writes the rest of the report, and answers how many puts it tells complete.
-///
-/// # Errors
-///
-/// That of the writer.
-fn tell_last<V: Write>(
-    options: &StationOptions,
-    all: &[Indication],
-    count: usize,
-    out: &mut V,
-) -> io::Result<usize>
-    requires { count ≤ length all.now }
-    ensures written { OnOk result (Appends (V.contents out.old) (V.contents out.new)
-        (flat_map (indication_line options.now.config.entity.entity) (drop count all.now)
-        ++ count_line (count_by (is_own_completion options.now.config.entity.entity) all.now)
-        (length options.now.puts.items))) }
-    ensures complete { IfOk result (λ complete. complete
-        ≡ count_by (is_own_completion options.now.config.entity.entity) all.now) }
-{
-    let own = options.config.entity.entity;
-    write_indications(out, own, &all[count..])?;
-    let complete = own_completions(own, all);
-    write_count(out, complete, options.puts.len())?;
-    Ok(complete)
 }
 
 /// How a run ended, by whether memory was wanting, whether a store failed, and how many of how many

@@ -1,9 +1,10 @@
 //! The numbers that a station has reserved, in a small file, so that none comes back when it is
 //! killed and started anew.
+use crate::lock::{LockError, lock};
 use crate::script::number::parse_number;
 use aos_frame::FRAME_COUNTS;
 use std::alloc::AllocError;
-use std::fs::{File, TryLockError};
+use std::fs::File;
 use std::io::{ErrorKind, Read, Write};
 use std::os::unix::fs::MetadataExt;
 use std::time::{SystemTime, UNIX_EPOCH};
@@ -15,8 +16,8 @@ const TITLE: &str = "cfdp_node station 1";
 /// The most octets of the file that are read: more than it has.
 const MOST_OCTETS: u64 = 4096;
 
-/// How many transaction numbers are reserved at a start: a station takes no more.
-const NUMBERS: u64 = 4096;
+/// How many transaction numbers are reserved at a start at least.
+const LEAST_NUMBERS: u64 = 4096;
 
 /// How many frame counts are reserved at a time.
 const FRAMES: u64 = 1 << 20;
@@ -71,6 +72,15 @@ impl From<io::Error> for StateError {
     }
 }
 
+impl From<LockError> for StateError {
+    fn from(error: LockError) -> StateError {
+        match error {
+            LockError::InUse => StateError::InUse,
+            LockError::System(error) => StateError::System(error),
+        }
+    }
+}
+
 impl From<AllocError> for StateError {
     fn from(error: AllocError) -> StateError {
         StateError::System(io::Error::from(error))
@@ -87,9 +97,9 @@ pub struct StateFile<'a> {
 }
 
 impl<'a> StateFile<'a> {
-    /// Takes the file at this path, which is made where there is none, and reserves numbers: from
-    /// the one on that is said, or else behind all that were reserved before and, where that is
-    /// more and fits a number of so many octets, the microseconds since 1970.
+    /// Takes the file at this path, which is made where there is none, and reserves numbers, for so
+    /// many puts or more: from the one on that is said, or else behind all that were reserved before
+    /// and, where that is more and fits a number of so many octets, the microseconds since 1970.
     ///
     /// # Errors
     ///
@@ -99,6 +109,7 @@ impl<'a> StateFile<'a> {
         path: &str,
         said: Option<u64>,
         width: u64,
+        puts: u64,
     ) -> Result<(StateFile<'a>, Beginning), StateError> {
         let file = locked(rt, path)?;
         let before = read(rt, &file)?;
@@ -110,7 +121,7 @@ impl<'a> StateFile<'a> {
         };
         let behind = beginning
             .number
-            .checked_add(NUMBERS)
+            .checked_add(puts.max(LEAST_NUMBERS))
             .ok_or(StateError::Spent)?;
         let reserved = Reserved {
             numbers: behind.max(before.numbers),
@@ -178,14 +189,6 @@ fn locked(rt: &HostRuntime, path: &str) -> Result<File, StateError> {
         Ok(file)
     } else {
         Err(StateError::InUse)
-    }
-}
-
-fn lock(file: &File) -> Result<(), StateError> {
-    match file.try_lock() {
-        Ok(()) => Ok(()),
-        Err(TryLockError::WouldBlock) => Err(StateError::InUse),
-        Err(TryLockError::Error(error)) => Err(StateError::System(error)),
     }
 }
 
@@ -270,8 +273,9 @@ impl<'a> Reservation<'a> {
         path: &str,
         said: Option<u64>,
         width: u64,
+        puts: u64,
     ) -> Result<Reservation<'a>, StateError> {
-        let (file, beginning) = StateFile::take(rt, path, said, width)?;
+        let (file, beginning) = StateFile::take(rt, path, said, width, puts)?;
         Ok(Reservation {
             file: Some(file),
             beginning,

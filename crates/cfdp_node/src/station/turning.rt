@@ -1,8 +1,7 @@
 //! One turn of a station over a wire that says when a frame may leave.
 ghost use Rattle.std.specs.Prelude.{◌≡◌, ◌≢◌, ◌⊎◌, ℕ, length, false, true, None, IfOk, OnErr, OnOk};
 ghost use Rattle.link_stack.specs.Downward.{frame_lane};
-ghost use Rattle.cfdp_node.specs.Looping.Turns.{told};
-ghost use Rattle.cfdp_node.specs.Station.Serving.{Longer};
+ghost use Rattle.cfdp_node.specs.Station.Serving.{Gains, table_of};
 ghost use Rattle.cfdp_node.specs.Station.Turning.{PollsDry, Pulls, PullsInPart, SendsSome, SendsSomeInPart, TakesInPart, TakesOne};
 ghost use Rattle.cfdp_node.specs.Wire.Calls.{Readied};
 ghost use Rattle.cfdp_node.specs.Wire.Turn.{FitsFrames, KeepsLanes, SendsFrame};
@@ -44,7 +43,7 @@ pub fn take_turn<O: Outbox, I: Inbox, W: PeerWire, C: Clock, L: Lookout>(
     ensures err { OnErr result ((now : ℕ) × TakesInPart W.steps turning.old.losses.every now
         (record { station = station.old; wire = wire.old; left = turning.old.losses.left })
         (record { station = station.new; wire = wire.new; left = turning.new.losses.left })) }
-    ensures tells { Longer (told station.old) (told station.new) }
+    ensures tells { Gains (table_of station.old) (table_of station.new) }
     ensures every { turning.new.losses.every ≡ turning.old.losses.every }
     ensures fits { FitsFrames (length turning.new.frame.items) station.new }
 {

@@ -1,14 +1,16 @@
 //! Captures of PDUs, as Wireshark reads them.
-ghost use Rattle.std.specs.Prelude.{◌≡◌, ◌+◌, ◌*◌, ◌<◌, OnOk};
+ghost use Rattle.std.specs.Prelude.{◌≡◌, ◌+◌, ◌*◌, ◌<◌, [], OnOk};
 ghost use Rattle.std.specs.Int.{to_be_bytes, w32};
+ghost use Rattle.std.specs.Io.Buffered.{writer_buffer, writer_contents};
 ghost use Rattle.std.specs.Io.KnownBytes.{Appends};
 ghost use Rattle.std.specs.List.{flat_map};
-ghost use Rattle.cfdp_node.specs.Watch.Capture.{capture_octets, interface_of, packet_octets, record_octets};
+ghost use Rattle.cfdp_node.specs.Watch.Capture.{CapturesSoFar, interface_of, packet_octets, record_octets};
+ghost use Rattle.cfdp_node.specs.Watch.Continues.{Continues};
 
 use crate::watch::sighting::{Deed, Sighting};
 use link_sim::Lane;
 use std::io;
-use std::io::{ErrorKind, Write};
+use std::io::{BufWriter, ErrorKind, Write};
 
 /// The header of a capture: version 1.0, and an interface for each lane, with its name, records of
 /// at most 65,535 octets, and link type 147, the first of those that stand for what a user says.
@@ -27,19 +29,38 @@ const PACKET: u32 = 6;
 /// The octets of such a block around the packet.
 const AROUND: u32 = 32;
 
-/// Writes the PDUs that were sent, in order, as a capture in the pcapng format, in which each lane
-/// is an interface. The time of each is the number of its event in seconds, and its place in it in
+/// Begins a capture in the pcapng format, in which each lane is an interface. Its header has left the
+/// buffer then.
+///
+/// # Errors
+///
+/// That of the writer.
+pub fn begin_capture<V: Write + Drop>(out: &mut BufWriter<V>) -> io::Result<()>
+    ensures begun { OnOk result (CapturesSoFar [] (writer_contents V.contents out.old)
+        (writer_contents V.contents out.new)) }
+    ensures flushed { OnOk result (writer_buffer out.new ≡ []) }
+{
+    out.write_all(&HEADER)?;
+    out.flush()
+}
+
+/// Writes the PDUs that were sent, in order, behind those of a capture that was begun. They have left
+/// the buffer then. The time of each is the number of its event in seconds, and its place in it in
 /// microseconds.
 ///
 /// # Errors
 ///
 /// That of the writer, and `InvalidInput` for a PDU of more than 65,535 octets.
-pub fn write_capture<W: Write>(out: &mut W, sightings: &[Sighting]) -> io::Result<()>
-    ensures { OnOk result (Appends (W.contents out.old) (W.contents out.new)
-        (capture_octets sightings.now)) }
+pub fn write_capture<V: Write + Drop>(
+    out: &mut BufWriter<V>,
+    sightings: &[Sighting],
+) -> io::Result<()>
+    ensures goes_on { OnOk result (Continues CapturesSoFar CapturesSoFar sightings.now
+        (writer_contents V.contents out.old) (writer_contents V.contents out.new)) }
+    ensures flushed { OnOk result (writer_buffer out.new ≡ []) }
 {
-    out.write_all(&HEADER)?;
-    write_records(out, sightings)
+    write_records(out, sightings)?;
+    out.flush()
 }
 
 /// Writes the PDUs that were sent, in order.

@@ -1,47 +1,105 @@
 //! What passes at two stations as a sequence diagram, in the text that Mermaid draws.
+ghost use Rattle.std.specs.Io.Buffered.{writer_buffer, writer_contents};
 ghost use Rattle.std.specs.Io.KnownBytes.{Appends};
 ghost use Rattle.std.specs.List.{flat_map};
-ghost use Rattle.std.specs.Prelude.{◌≡◌, Some, OnOk, take};
+ghost use Rattle.std.specs.Prelude.{◌≡◌, ◌-◌, [], Some, OnOk, take};
 ghost use Rattle.cfdp_node.specs.Watch.Chart as charts;
-ghost use Rattle.cfdp_node.specs.Watch.Chart.{Charts, ChartsSighting, drawn_octet, rest_text};
+ghost use Rattle.cfdp_node.specs.Watch.Chart.{ChartsSighting, ChartsSoFar, EndsChart, rest_text};
+ghost use Rattle.cfdp_node.specs.Watch.Continues.{Continues};
 ghost use Rattle.cfdp_node.specs.Dump.Lines.{WritesLine, WritesLines};
 
 use crate::watch::sighting::{Deed, Sighting};
 use crate::watch::trace::write_deed;
 use link_sim::Side;
 use std::alloc::Global;
-use std::io::Write;
+use std::io::{BufWriter, Write};
 use std::{fmt, io};
 
 /// How many lines of a trace a chart shows.
 const MOST_LINES: usize = 400;
 
-/// Writes a sequence diagram of what stations did, a line for each line of a trace: an arrow for
-/// each frame and PDU that leaves or arrives, a cross for a frame that is lost, and a note for
-/// anything else. Of more than 400 the others are left out, and a last line says how many.
-///
-/// # Errors
-///
-/// That of the writer, or `OutOfMemory`.
-pub fn write_chart<W: Write>(
-    alloc: Global,
-    out: &mut W,
+/// Writes a sequence diagram of what stations did, as it is seen: a line for each line of a trace, an
+/// arrow for each frame and PDU that leaves or arrives, a cross for a frame that is lost, and a note
+/// for anything else. Of more than 400 the others are left out, and a last line says how many.
+#[derive(Clone, Copy)]
+pub struct ChartWriter {
+    /// The octets of a frame's packet zone.
     zone: u16,
-    sightings: &[Sighting],
-) -> io::Result<()>
-    ensures { OnOk result (Charts zone sightings.now (W.contents out.old) (W.contents out.new)) }
-{
-    out.write_all(b"sequenceDiagram\nparticipant S1 as station 1\nparticipant S2 as station 2\n")?;
-    write_lines(alloc, out, zone, first_of(sightings))?;
-    write_rest(out, sightings.len())
+    /// How many lines the trace has so far.
+    lines: usize,
 }
 
-/// The first of these, as many as a chart shows.
-fn first_of(sightings: &[Sighting]) -> &[Sighting]
-    ensures { result.now ≡ take charts.most_lines sightings.now }
+impl ChartWriter {
+    /// Before anything was seen, of frames with packet zones of so many octets.
+    pub fn new(zone: u16) -> ChartWriter
+        ensures { (result.zone ≡ zone) × (result.lines ≡ 0) }
+    {
+        ChartWriter { zone, lines: 0 }
+    }
+
+    /// Begins a chart, whose head has left the buffer then.
+    ///
+    /// # Errors
+    ///
+    /// That of the writer.
+    pub fn begin<V: Write + Drop>(&mut self, out: &mut BufWriter<V>) -> io::Result<()>
+        ensures begun { OnOk result (ChartsSoFar self.new [] (writer_contents V.contents out.old)
+            (writer_contents V.contents out.new)) }
+        ensures zone { self.new.zone ≡ self.old.zone }
+        ensures flushed { OnOk result (writer_buffer out.new ≡ []) }
+    {
+        self.lines = 0;
+        out.write_all(
+            b"sequenceDiagram\nparticipant S1 as station 1\nparticipant S2 as station 2\n",
+        )?;
+        out.flush()
+    }
+
+    /// Writes the lines of these behind those of what was seen before. They have left the buffer
+    /// then.
+    ///
+    /// # Errors
+    ///
+    /// That of the writer, or `OutOfMemory`.
+    pub fn write<V: Write + Drop>(
+        &mut self,
+        alloc: Global,
+        out: &mut BufWriter<V>,
+        sightings: &[Sighting],
+    ) -> io::Result<()>
+        ensures goes_on { OnOk result (Continues (ChartsSoFar self.old) (ChartsSoFar self.new)
+            sightings.now (writer_contents V.contents out.old)
+            (writer_contents V.contents out.new)) }
+        ensures zone { self.new.zone ≡ self.old.zone }
+        ensures flushed { OnOk result (writer_buffer out.new ≡ []) }
+    {
+        let room = MOST_LINES.saturating_sub(self.lines);
+        self.lines = self.lines.saturating_add(sightings.len());
+        write_lines(alloc, out, self.zone, first_of(room, sightings))?;
+        out.flush()
+    }
+
+    /// Writes how many lines of the trace are left out, if some are, which has left the buffer then.
+    ///
+    /// # Errors
+    ///
+    /// That of the writer.
+    pub fn end<V: Write + Drop>(&self, out: &mut BufWriter<V>) -> io::Result<()>
+        ensures whole { OnOk result (EndsChart self.now (writer_contents V.contents out.old)
+            (writer_contents V.contents out.new)) }
+        ensures flushed { OnOk result (writer_buffer out.new ≡ []) }
+    {
+        write_rest(out, self.lines)?;
+        out.flush()
+    }
+}
+
+/// The first of these, so many at the most.
+fn first_of(most: usize, sightings: &[Sighting]) -> &[Sighting]
+    ensures { result.now ≡ take most sightings.now }
 {
-    if sightings.len() > MOST_LINES {
-        &sightings[..MOST_LINES]
+    if sightings.len() > most {
+        &sightings[..most]
     } else {
         sightings
     }

@@ -5,6 +5,8 @@ use crate::report::condition::Conditions;
 use crate::watch::dropped::Dropped;
 use crate::watch::frames::Watch;
 use crate::watch::lookout::{Lookout, Passed};
+use crate::watch::recorder::{Recorder, Screen, Showing};
+use crate::watch::shown::Shown;
 use crate::watch::sighting::{Deed, Log};
 use cfdp_station::Station;
 use cfdp_store::{Inbox, Outbox};
@@ -13,40 +15,45 @@ use std::alloc::{AllocError, Global};
 
 /// One who looks on at a run, or nobody.
 #[derive(Drop)]
-pub enum Onlooker {
+pub enum Onlooker<'a> {
     /// Nobody: nothing is seen.
     Nobody,
     /// One who sees all that passes.
-    Somebody(Seen),
+    Somebody(Seen<'a>),
 }
 
-impl Onlooker {
-    /// Before the first event of two stations with these settings.
+impl<'a> Onlooker<'a> {
+    /// Before the first event of two stations with these settings. Somebody looks on if something is
+    /// to be shown.
     ///
     /// # Errors
     ///
     /// `AllocError` where there is no memory.
-    pub fn new(alloc: Global, config: WorldConfig, is_watched: bool) -> Result<Onlooker, AllocError>
+    pub fn new(
+        screen: Screen<'a>,
+        config: WorldConfig,
+        shown: &'a Shown,
+    ) -> Result<Onlooker<'a>, AllocError>
         requires { IsWorldConfig config }
     {
-        if is_watched {
-            Ok(Onlooker::Somebody(Seen::new(alloc, config)?))
+        if shown.is_watched() {
+            Ok(Onlooker::Somebody(Seen::new(screen, config, shown)?))
         } else {
             Ok(Onlooker::Nobody)
         }
     }
 
-    /// What was seen; `None` where nobody looked on.
-    pub fn into_seen(self) -> Option<Seen> {
+    /// Hears that no more passes, and tells what is known then; `None` where nobody looked on.
+    pub fn into_summary(self) -> Option<Summary> {
         match self {
             Onlooker::Nobody => None,
-            Onlooker::Somebody(seen) => Some(seen),
+            Onlooker::Somebody(seen) => Some(seen.into_summary()),
         }
     }
 }
 
 /// The steps of a script are lines of it.
-impl Witness for Onlooker {
+impl Witness for Onlooker<'_> {
     fn saw<O: Outbox, I: Inbox>(
         &mut self,
         event: &Event,
@@ -68,7 +75,7 @@ impl Witness for Onlooker {
 }
 
 /// The steps are turns.
-impl Lookout for Onlooker {
+impl Lookout for Onlooker<'_> {
     fn begins(&mut self, turn: u64) {
         match self {
             Onlooker::Nobody => {}
@@ -93,36 +100,69 @@ impl Lookout for Onlooker {
     fn ends(&mut self) {}
 }
 
-/// What was seen so far of a run.
+/// What is known of a run that is over by one who looked on.
 #[derive(Drop)]
-pub struct Seen {
-    /// The octets of a frame's packet zone.
-    pub zone: u16,
-    /// What the stations did, event by event.
-    pub log: Log,
-    /// Which conditions they told their users.
+pub struct Summary {
+    /// Which conditions the stations told their users.
     pub conditions: Conditions,
-    /// Either station.
-    pub one: SeenStation,
-    pub two: SeenStation,
+    /// What either station dropped.
+    pub one: Dropped,
+    pub two: Dropped,
+    /// What became of what was to be shown as it was seen.
+    pub showing: Showing,
 }
 
-impl Seen {
+/// What was seen so far of a run. What stations did is kept until the end of its event alone.
+#[derive(Drop)]
+pub struct Seen<'a> {
+    // What the stations did in this event, and where it is written.
+    log: Log,
+    recorder: Recorder<'a>,
+    // Which conditions they told their users.
+    conditions: Conditions,
+    // Either station.
+    one: SeenStation,
+    two: SeenStation,
+}
+
+impl<'a> Seen<'a> {
     /// Before the first event of two stations with these settings.
     ///
     /// # Errors
     ///
     /// `AllocError` where there is no memory.
-    fn new(alloc: Global, config: WorldConfig) -> Result<Seen, AllocError>
+    fn new(
+        screen: Screen<'a>,
+        config: WorldConfig,
+        shown: &'a Shown,
+    ) -> Result<Seen<'a>, AllocError>
         requires { IsWorldConfig config }
     {
+        let alloc = screen.rt.alloc();
         Ok(Seen {
-            zone: config.one.down.zone,
             log: Log::new(alloc),
             conditions: Conditions::new(),
             one: SeenStation::new(Side::One, Watch::new(alloc, Side::One, config.one.down)?),
             two: SeenStation::new(Side::Two, Watch::new(alloc, Side::Two, config.two.down)?),
+            recorder: Recorder::new(screen, shown, config.one.down.zone),
         })
+    }
+
+    /// What is known now that no more passes.
+    fn into_summary(self) -> Summary {
+        let Seen {
+            log: _,
+            mut recorder,
+            conditions,
+            one,
+            two,
+        } = self;
+        Summary {
+            conditions,
+            one: one.dropped,
+            two: two.dropped,
+            showing: recorder.ends(),
+        }
     }
 
     /// Notes what passed in an event of a script: the time that was told, frames and the PDUs in
@@ -142,6 +182,7 @@ impl Seen {
         self.two.frames.look(frames.1, log);
         self.one.look(stations.0, conditions, log);
         self.two.look(stations.1, conditions, log);
+        self.recorder.record(log);
     }
 
     /// Notes the same of what passed at a station in a turn.
@@ -166,6 +207,7 @@ impl Seen {
                 two.look(station, &mut self.conditions, log);
             }
         }
+        self.recorder.record(log);
     }
 }
 
@@ -190,12 +232,12 @@ fn note_frame(passed: Passed<'_>, own: &mut Watch, other: &mut Watch, log: &mut 
 
 /// What was seen so far of a station.
 #[derive(Drop)]
-pub struct SeenStation {
+struct SeenStation {
     side: Side,
-    /// What it dropped.
-    pub dropped: Dropped,
+    // What it dropped.
+    dropped: Dropped,
     // How many of its indications were seen.
-    told: usize,
+    told: u64,
     // The frames that it sends.
     frames: Watch,
 }
@@ -219,11 +261,10 @@ impl SeenStation {
         log: &mut Log,
     ) {
         self.dropped.look(station, log);
-        let all = station.indications();
-        for indication in all.get(self.told..).unwrap_or(&[]) {
+        for indication in station.indications_since(self.told).unwrap_or(&[]) {
             log.note_told(self.side, indication);
             conditions.note(indication);
+            self.told = self.told.saturating_add(1);
         }
-        self.told = all.len();
     }
 }

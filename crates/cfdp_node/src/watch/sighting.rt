@@ -1,6 +1,6 @@
 //! What is seen by one who looks on at all that passes at two stations.
 ghost use Rattle.std.specs.Prelude.{◌≡◌, ◌+◌, ◌-◌, ◌^◌, ◌↔◌, [], min, true, IfOk, IsErr, OnErr, OnOk};
-ghost use Rattle.cfdp_node.specs.Watch.Sighting.{Notes, NotesNone, NotesOne};
+ghost use Rattle.cfdp_node.specs.Watch.Sighting.{Forgets, Notes, NotesNone, NotesOne};
 ghost use Rattle.cfdp_node.specs.Report.Lines.{told_text};
 ghost use Rattle.cfdp_node.specs.declared.watch.sighting.Deed.TheVariants as deeds;
 
@@ -46,7 +46,7 @@ pub struct Sighting {
     pub octets: Vec<u8>,
 }
 
-/// What was seen so far, in order.
+/// What was seen and isn't let go yet, in order.
 #[derive(Drop)]
 pub struct Log {
     alloc: Global,
@@ -147,11 +147,11 @@ impl Log {
         self.is_short = true;
     }
 
-    /// All that was seen so far.
+    /// All that was seen since it was let go last.
     ///
     /// # Errors
     ///
-    /// `AllocError` where there was no memory for some of it.
+    /// `AllocError` where there was no memory for some of what was ever seen.
     pub fn sightings(&self) -> Result<&[Sighting], AllocError>
         ensures all { IfOk result (λ all. all.now ≡ self.now.sightings.items) }
         ensures short { IsErr result ↔ (self.now.is_short ≡ true) }
@@ -161,5 +161,11 @@ impl Log {
         } else {
             Ok(self.sightings.as_slice())
         }
+    }
+    /// Lets go what was seen so far. Steps, events and places go on.
+    pub fn forget(&mut self)
+        ensures { Forgets self.old self.new }
+    {
+        self.sightings.clear();
     }
 }

@@ -1,13 +1,15 @@
 //! What passes at two stations, in words.
-ghost use Rattle.std.specs.Prelude.{◌≡◌, OnOk};
+ghost use Rattle.std.specs.Io.Buffered.{writer_buffer, writer_contents};
+ghost use Rattle.std.specs.Prelude.{◌≡◌, [], OnOk};
 ghost use Rattle.cfdp_node.specs.Dump.Lines.{WritesLine, WritesLines};
-ghost use Rattle.cfdp_node.specs.Watch.Trace.{TellsDeed, TellsSighting, TellsWords, deed_word};
+ghost use Rattle.cfdp_node.specs.Watch.Continues.{Continues};
+ghost use Rattle.cfdp_node.specs.Watch.Trace.{TellsDeed, TellsSighting, TellsWords, TracesSoFar, deed_word};
 
 use crate::dump::{write_frame, write_pdu};
 use crate::watch::sighting::{Deed, Sighting};
 use link_sim::Lane;
 use std::io;
-use std::io::Write;
+use std::io::{BufWriter, Write};
 
 impl Deed {
     /// The word for it, with the lane of a frame.
@@ -30,14 +32,28 @@ impl Deed {
     }
 }
 
-/// Writes a line for each thing that a station did, in order: the line of the script and the number
-/// of the event, with a point between, the station, and what it did. Frames have packet zones of
-/// `zone` octets.
+/// Writes a line for each thing that a station did, in order, behind those of what was seen before:
+/// the line of the script and the number of the event, with a point between, the station, and what it
+/// did. They have left the buffer then. Frames have packet zones of `zone` octets.
 ///
 /// # Errors
 ///
 /// That of the writer.
-pub fn write_trace<W: Write>(out: &mut W, zone: u16, sightings: &[Sighting]) -> io::Result<()>
+pub fn write_trace<V: Write + Drop>(
+    out: &mut BufWriter<V>,
+    zone: u16,
+    sightings: &[Sighting],
+) -> io::Result<()>
+    ensures goes_on { OnOk result (Continues (TracesSoFar zone) (TracesSoFar zone) sightings.now
+        (writer_contents V.contents out.old) (writer_contents V.contents out.new)) }
+    ensures flushed { OnOk result (writer_buffer out.new ≡ []) }
+{
+    write_sightings(out, zone, sightings)?;
+    out.flush()
+}
+
+/// Writes a line for each of these.
+fn write_sightings<W: Write>(out: &mut W, zone: u16, sightings: &[Sighting]) -> io::Result<()>
     ensures { OnOk result (WritesLines (TellsSighting zone) sightings.now
         (W.contents out.old) (W.contents out.new)) }
 {

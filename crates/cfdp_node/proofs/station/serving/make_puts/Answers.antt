@@ -1,33 +1,29 @@
-use Rattle.std.proofs.Common.{◌≡◌, ◌+◌, ◌++◌, ◌∙◌, ◌||◌, Some, arith, refl, slice_get, subst, length}
-use Rattle.std.proofs.KnownBytes.{Appends-trans}
-use Rattle.std.proofs.lemmas.Option.{slice_get_read}
-use Rattle.cfdp_node.specs.Report.Lines.{answer_text}
-use Rattle.cfdp_node.specs.Station.Serving.{MakesNext}
-use Rattle.cfdp_node.proofs.ServingLemmas.{made-more}
+use Rattle.std.proofs.Common.{◌+◌, ◌++◌, ◌∷◌, ◌∙◌, [], refl, subst}
+use Rattle.std.proofs.KnownBytes.{Appends-nil}
+use Rattle.cfdp_node.specs.Station.Serving.{Answers, MakesNext}
+use Rattle.cfdp_node.proofs.ServingLemmas.{gains-both, gains-same}
+use Rattle.cfdp_node.proofs.StationReports.{each-none, each-then, none-more, text-more}
 use Rattle.cfdp_node.proofs.station.serving.make_puts.Goals as goal
 
-pub loop-place-preserved : goal.loop-place-preserved
-loop-place-preserved g c =
-    let before = c.loop-place.invariant.0 in
-    let line = answer_text (c.loop-place.place + 1) c.make_put-made.result.answer in
-    let next : MakesNext c.args.options.now.puts.items c.loop-place.place
-    (record { station = c.loop-place.station; lines = before.0; short = c.loop-place.short })
-    (record { station = c.make_put-made.new.station; lines = before.0 ++ line; short = c.loop-place.short || c.make_put-made.result.short }) =
-    record {
-      names = c.index-puts-place.result;
-      is = subst (λ xs. slice_get xs c.loop-place.place ≡ Some c.index-puts-place.result) c.as_slice-puts.ensures.value
-          (slice_get_read c.as_slice-puts.result.now (length c.as_slice-puts.result.now) c.loop-place.place c.index-puts-place.result refl
-          (omega (arith, c.loop-place-test.true)) c.index-puts-place.is);
-      told = c.make_put-made.result.answer;
-      short = c.make_put-made.result.short;
-      makes = c.make_put-made.ensures.makes;
-      lines = refl;
-      wants = refl;
-    } in (
+pub loop-served-init : goal.loop-served-init
+loop-served-init g c = (([], each-none _ _, refl, Appends-nil _), gains-same _ _ refl, refl, refl)
+
+pub loop-served-preserved : goal.loop-served-preserved
+loop-served-preserved g c =
+    let before = c.loop-served.invariant.0 in
+    let number = c.loop-served.served.made + 1 in
+    let next = c.in_ok-make_next.ensures.makes in
+    let line = Answers number next.0 in
+    let makes = subst (λ xs. MakesNext xs line
+    (record { station = c.loop-served.station; made = c.loop-served.served.made; short = c.loop-served.served.short })
+    (record { station = c.make_next.new.station; made = c.make_next.new.served.made; short = c.make_next.new.served.short })) c.as_slice-puts.ensures.value next.1 in (
       (
-        before.0 ++ line,
-        made-more _ c.loop-place.place _ _ _ before.1 next,
-        Appends-trans _ _ _ before.0 line before.2 c.in_ok-write_answer.ensures,
+        before.0 ++ line ∷ [],
+        each-then c.args.options.now.puts.items before.0 line _ _ _ before.1 makes,
+        none-more before.0 number next.0 before.2,
+        text-more c.args.options.now.config.entity.entity before.0 number next.0 _ _ _ before.3 next.2,
       ),
-      c.make_put-made.ensures.down ∙ c.loop-place.invariant.1,
+      gains-both _ _ _ c.loop-served.invariant.1 c.make_next.ensures.gains,
+      c.make_next.ensures.complete ∙ c.loop-served.invariant.2,
+      c.make_next.ensures.down ∙ c.loop-served.invariant.3,
     )

@@ -13,6 +13,7 @@ returns-in-Ok g c =
     let asked = ap length c.as_slice.ensures.value in
     is_told c.exit.result _ (record {
       short = c.in-Ok.served.short;
-      serves = c.in-Ok.ensures.serves;
-      ends = c.exit.ensures ∙ same-exit c.in-Ok.served.short _ _ _ _ _ _ failed c.in-Ok.ensures.complete asked;
+      lines = c.in-Ok.ensures.0;
+      serves = c.in-Ok.ensures.1;
+      ends = c.exit.ensures ∙ same-exit c.in-Ok.served.short _ _ _ _ _ _ failed c.in-Ok.ensures.2 asked;
     })

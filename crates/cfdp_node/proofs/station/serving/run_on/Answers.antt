@@ -12,4 +12,4 @@ returns-in-Ok g c =
     c.in-Ok.ensures.losses.0 c.in-Ok.ensures.losses.1 c.run_all.ensures
 
 pub run_all-requires : goal.run_all-requires
-run_all-requires g c = record { fits = (c.requires, c.in-Ok.ensures.frame ∙ c.frame_len.ensures Directives) }
+run_all-requires g c = record { fits = (c.requires.zones, c.in-Ok.ensures.frame ∙ c.frame_len.ensures Directives); none = c.requires.none }

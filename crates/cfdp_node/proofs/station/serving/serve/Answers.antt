@@ -1,29 +1,40 @@
-use Rattle.std.proofs.Common.{◌++◌, List, count_by, drop, length, refl, subst}
-use Rattle.std.specs.Io.KnownBytes.{Appends}
-use Rattle.std.specs.List.{flat_map}
-use Rattle.cfdp_directives.specs.declared.user.indication.Indication.{Indication}
-use Rattle.cfdp_node.specs.Report.Lines.{count_line, indication_line, is_own_completion}
-use Rattle.cfdp_node.proofs.ServingLemmas.{written-last}
+use Rattle.std.proofs.Common.{◌++◌, ap, length, map, refl}
+use Rattle.cfdp_node.specs.Station.Serving.{IsReport, Tells, said_by, table_of}
+use Rattle.cfdp_node.proofs.StationReports.{report-low, report-more, tells-rest, text-end}
 use Rattle.cfdp_node.proofs.station.serving.serve.Goals as goal
 
-pub returns-clause-serves : goal.returns-clause-serves
-returns-clause-serves g c =
+pub tell-requires : goal.tell-requires
+tell-requires g c =
+    let report = c.in_ok-halted.ensures.2 in
+    record { few = report.tells.few; low = report-low _ _ _ _ _ _ report }
+
+pub returns : goal.returns
+returns g c =
     let own = c.args.options.now.config.entity.entity in
-    let asked = length c.args.options.now.puts.items in
-    let made = c.in_ok-refused.ensures.made in
-    let last : Appends (g.V.Write.contents c.take_turns.new.out) (g.V.Write.contents c.tell_last.new.out)
-    (flat_map (indication_line own) (drop c.take_turns.new.count c.take_turns.new.station.entity.state.table.told)
-    ++ count_line (count_by (is_own_completion own) c.take_turns.new.station.entity.state.table.told) asked) =
-    subst (λ (all : List Indication). Appends (g.V.Write.contents c.take_turns.new.out) (g.V.Write.contents c.tell_last.new.out)
-    (flat_map (indication_line own) (drop c.take_turns.new.count all) ++ count_line (count_by (is_own_completion own) all) asked))
-    c.indications.ensures c.in_ok-complete.ensures.written in
-    record {
-      station = c.make_puts.new.station;
-      refusals = made.0;
-      refused = c.in_ok-refused.refused;
-      halted = c.in_ok-halted.halted;
-      made = made.1;
-      turns = c.in_ok-halted.ensures.turns;
-      written = written-last own c.take_turns.new.count made.0 _ _ _ _ _ _ made.2 c.in_ok-halted.ensures.written last;
-      wants = refl;
-    }
+    let puts = c.args.options.now.puts.items in
+    let turns = c.in_ok-halted.ensures in
+    let before = table_of c.take_turns.new.station in
+    let last = table_of c.tell.new.station in
+    let lines = turns.0 ++ map Tells (said_by before) in
+    let adds = tells-rest own c.take_turns.new.served.complete c.tell.new.complete before last _ _ turns.2.tells.few c.in_ok-tell.ensures.written c.in_ok-tell.ensures.complete
+    (ap table_of c.in_ok-tell.ensures.station) in
+    let report : IsReport own c.tell.new.complete lines last (g.V.Write.contents c.args.out.now) (g.V.Write.contents c.tell.new.out) = report-more own _ _ turns.0 _ before last _ _ _ turns.2 adds in (
+      lines,
+      record {
+        run = record {
+          putting = record { station = c.take_turns.new.station; made = c.take_turns.new.served.made; short = c.take_turns.new.served.short };
+          wire = c.take_turns.new.wire;
+          left = c.take_turns.new.turning.losses.left;
+          lines = turns.0;
+        };
+        halted = c.in_ok-halted.halted;
+        turns = turns.1;
+        station = c.in_ok-tell.ensures.station;
+        rest = refl;
+        says = refl;
+        all = report.tells;
+        written = text-end own c.tell.new.complete _ (length puts) lines _ _ _ report.written c.in_ok-write_count.ensures report.complete (ap length c.as_slice.ensures.value);
+        wants = refl;
+      },
+      report.complete,
+    )

@@ -1,10 +1,9 @@
 use Rattle.std.proofs.Common.{ℕ, ap, inl, inr, refl}
 use Rattle.cfdp_station.specs.Station.{StationState}
-use Rattle.cfdp_node.specs.Looping.Turns.{told}
-use Rattle.cfdp_node.specs.Station.Serving.{Longer}
+use Rattle.cfdp_node.specs.Station.Serving.{Gains, table_of}
 use Rattle.cfdp_node.specs.Station.Turning.{Hears, SendsSome, SendsSomeInPart, TakesInPart, TakesOne}
 use Rattle.cfdp_node.specs.Wire.Turn.{Sending, TellsTime}
-use Rattle.cfdp_node.proofs.ServingLemmas.{GoesOnLaws, part-longer, turn-longer}
+use Rattle.cfdp_node.proofs.ServingLemmas.{GoesOnLaws, part-gains, turn-gains}
 use Rattle.cfdp_node.proofs.TurnLemmas.{err-map, ok-map, on_both, on_err}
 use Rattle.cfdp_node.proofs.station.turning.take_turn.Goals as goal
 
@@ -32,7 +31,7 @@ returns-in_err-tick-clause-tells g c =
       hears = record { hears = c.receive_turn.ensures.hears; left = refl };
       ends = inl (ap (λ (s : StationState). record { station = s; wire = c.receive_turn.new.wire; left = left }) c.in_err-tick.ensures.err);
     } in
-    part-longer laws g.W.Wire.steps c.args.turning.now.losses.every c.now-now.result old new part
+    part-gains laws g.W.Wire.steps c.args.turning.now.losses.every c.now-now.result old new part
 
 pub returns-clause-ok : goal.returns-clause-ok
 returns-clause-ok g c =
@@ -78,5 +77,5 @@ returns-clause-tells g c =
     let old : Sending g.row.W.Denot = record { station = c.args.station.now; wire = c.args.wire.now; left = c.args.turning.now.losses.left } in
     let new : Sending g.row.W.Denot = record { station = c.send_some.new.station; wire = c.send_some.new.wire; left = c.send_some.new.losses.left } in
     on_both c.send_some.result ((now : ℕ) × TakesOne g.W.Wire.steps every now old new) ((now : ℕ) × TakesInPart g.W.Wire.steps every now old new)
-    (Longer (told c.args.station.now) (told c.send_some.new.station)) (returns-clause-ok g c) (returns-clause-err g c)
-    (λ turn. turn-longer laws g.W.Wire.steps every turn.0 old new turn.1) (λ part. part-longer laws g.W.Wire.steps every part.0 old new part.1)
+    (Gains (table_of c.args.station.now) (table_of c.send_some.new.station)) (returns-clause-ok g c) (returns-clause-err g c)
+    (λ turn. turn-gains laws g.W.Wire.steps every turn.0 old new turn.1) (λ part. part-gains laws g.W.Wire.steps every part.0 old new part.1)

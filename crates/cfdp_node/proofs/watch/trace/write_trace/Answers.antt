@@ -1,12 +1,6 @@
-use Rattle.std.proofs.lemmas.List.{take_more}
-use Rattle.cfdp_node.specs.Watch.Trace.{TellsSighting}
-use Rattle.cfdp_node.proofs.TextLines.{lines-none, lines-more}
+use Rattle.cfdp_node.proofs.Traces.{trace_goes_on}
 use Rattle.cfdp_node.proofs.watch.trace.write_trace.Goals as goal
 
-pub loop-sighting-init : goal.loop-sighting-init
-loop-sighting-init g c = lines-none (TellsSighting c.args.zone) _
-
-pub loop-sighting-preserved : goal.loop-sighting-preserved
-loop-sighting-preserved g c =
-    rw (take_more c.args.sightings.now c.loop-sighting.sighting-index c.sighting-item.result c.loop-sighting-test.true, ← c.sighting-item.is)
-    (lines-more (TellsSighting c.args.zone) _ c.sighting-item.result _ _ _ c.loop-sighting.invariant c.in_ok-write_sighting.ensures)
+pub returns-clause-goes_on : goal.returns-clause-goes_on
+returns-clause-goes_on g c =
+    trace_goes_on _ c.args.zone c.args.sightings.now _ _ _ c.in_ok-write_sightings.ensures c.flush.ensures.bytes
