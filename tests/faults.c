@@ -12,10 +12,15 @@
  *   full-once       the first write finds the disk full, and later ones don't
  *   disk=N          files take N octets in all, and then the disk is full
  *   file-size=N     the system lets no file have more than N octets
+ *   no-seek         the place in a file at which is written can't be changed
+ *   no-cut          no file can be cut to a length
  *   no-sync         no file can be flushed to its device
+ *   no-folder-sync  no folder can be
  *   no-rename       no file can be renamed
  *   no-unlink       no file can be removed
  *   denied=WORD     no file can be opened whose path ends so
+ *   locked          all that can be locked is, by another process
+ *   no-lock         the system locks nothing
  *   no-socket       no socket can be made
  *   send=K          the Kth datagram isn't sent, or with 0 none is
  *   receive=K       the Kth datagram that came is lost, or with 0 each is
@@ -36,6 +41,7 @@
 #include <stdio.h>
 #include <stdlib.h>
 #include <string.h>
+#include <sys/file.h>
 #include <sys/resource.h>
 #include <sys/socket.h>
 #include <sys/stat.h>
@@ -198,11 +204,34 @@ static int noted(int status, const char *call, const char *path, const char *to)
     return status;
 }
 
+off_t lseek(int fd, off_t offset, int whence)
+{
+    off_t (*next)(int, off_t, int) = NEXT("lseek");
+    return failing("no-seek", EIO) ? -1 : next(fd, offset, whence);
+}
+
+int ftruncate(int fd, off_t length)
+{
+    int (*next)(int, off_t) = NEXT("ftruncate");
+    return failing("no-cut", EIO) ? -1 : next(fd, length);
+}
+
+int flock(int fd, int operation)
+{
+    int (*next)(int, int) = NEXT("flock");
+    if (failing("locked", EWOULDBLOCK) || failing("no-lock", ENOLCK))
+        return -1;
+    return next(fd, operation);
+}
+
 int fsync(int fd)
 {
     int (*next)(int) = NEXT("fsync");
     char link[64], path[4096] = "";
+    struct stat it;
     if (failing("no-sync", EIO))
+        return -1;
+    if (fstat(fd, &it) == 0 && S_ISDIR(it.st_mode) && failing("no-folder-sync", EIO))
         return -1;
     if (fault("order")) {
         snprintf(link, sizeof link, "/proc/self/fd/%d", fd);

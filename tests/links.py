@@ -443,6 +443,30 @@ def shared_mistakes(program):
             yield f"behind the numbers {before} came {after}"
 
 
+def inbox_mistakes(program):
+    """What is wrong where two processes have one folder for what they receive: the second is
+    refused, and lets all stay as it is, until the first is gone, however it ended."""
+    with Link(program) as first, Link(program) as second:
+        inbox, part = f"{first.folder}/2/to", f"{first.folder}/2/to/.part-1-7"
+        begun = first.starts(2, ["--inbox", "to"])
+        for path in (part, f"{first.folder}/2/from/a"):
+            with open(path, "wb") as it:
+                it.write(b"hello")
+        words = ["--inbox", inbox, "--idle", "1"]
+        in_use = "another station or loop receives into this folder"
+        yield from refused_mistakes(second.starts(2, words), in_use)
+        how = {"cwd": f"{first.folder}/2", "capture_output": True, "timeout": SECONDS}
+        ran = subprocess.run([program.path, "loop", "from", "to", "a", "b"], **how)
+        if (ran.returncode, ran.stderr) != (3, f"error: to: {in_use}\n".encode()):
+            yield f"a loop: status {ran.returncode}, {ran.stdout!r}, {ran.stderr!r}"
+        if os.listdir(inbox) != [".part-1-7"]:
+            yield f"in the folder lies {os.listdir(inbox)}"
+        begun.killed()
+        yield from idle_mistakes(second.starts(2, words))
+        if os.listdir(inbox):
+            yield f"in the folder is left {os.listdir(inbox)}"
+
+
 def behind_mistakes(program):
     """What is wrong where a station is killed and started anew: the peer may await the count behind
     the last one that was reserved, so the first frame of the new one is to have a later one."""
@@ -836,9 +860,28 @@ def publish_mistakes(program):
             yield f"the calls were {order!r}"
 
 
+def large_mistakes(program):
+    """What is wrong with a file of 64 MiB: what comes of it is written at once, so that its
+    receiver has less than 16 MB of memory at any time."""
+    with Link(program) as link:
+        settings, octets = {**PATIENT, "zone": 2040, "segment": 4096}, bytes(range(256)) * (1 << 18)
+        receiver = link.starts(2, ["--inbox", "to", "--rate", "0"], settings)
+        link.starts(1, [*link.puts(1, {"a": octets}), "--rate", "0"], settings)
+        if receiver.comes_to("finished .* 0 complete retained", 60) is None:
+            yield f"it didn't come: {receiver.text('stdout')!r}"
+        with open(f"/proc/{receiver.process.pid}/status", encoding="ascii") as it:
+            most = int(re.search(r"(?m)^VmHWM:\s*(\d+) kB", it.read())[1])
+        if most >= 16_000:
+            yield f"the receiver had {most} kB of memory"
+        if stations.files_at(link.folder, 2) != {"a": octets}:
+            yield "what came isn't what was sent"
+
+
 def lone_mistakes(program):
-    """What is tried with nothing beside it, since what it shows depends on milliseconds."""
+    """What is tried with nothing beside it, since what it shows depends on milliseconds, or since
+    it leaves no processor to others."""
     yield "floods of what carries nothing", flood_mistakes(program)
+    yield "a file of 64 MiB", large_mistakes(program)
 
 
 def all_mistakes(program, kills):
@@ -859,6 +902,7 @@ def all_mistakes(program, kills):
     yield "where numbers are kept", place_mistakes(program)
     yield "numbers by the clock", clock_mistakes(program)
     yield "two stations with one file of numbers", shared_mistakes(program)
+    yield "two processes with one inbox", inbox_mistakes(program)
     yield "the count of a new station's first frame", behind_mistakes(program)
     yield "counts of frames that can't be reserved", stop_mistakes(program)
     yield "256 EOFs at once", burst_mistakes(program)

@@ -7,6 +7,7 @@ import re
 import select
 import signal
 import socket
+import struct
 import subprocess
 import tempfile
 import threading
@@ -192,21 +193,23 @@ def address_mistakes(program):
             yield f"with status {status} it wrote {out!r} and {err!r}"
 
 
-def refused_mistakes(program):
-    """What is wrong where a file comes to a station that has no folder for it."""
+def refused_mistakes(program, inbox, name, wanted):
+    """What is wrong where a file comes under this name to a station with these words for its inbox,
+    which can't take it, and is to tell that on standard error."""
     with tempfile.TemporaryDirectory(dir=program.room) as folder:
         ports = dict(zip((1, 2), free_ports(2)))
         put(folder, 1, "a", b"hello")
         settings = {"eof_time": 1, "nak_time": 1, "finished_time": 1}
-        receiver = Station(program, folder, 2, 1, ports, ["--idle", "4"], settings)
-        words = ["--outbox", "from", "--put", "a", "b", "--idle", "3"]
+        receiver = Station(program, folder, 2, 1, ports, [*inbox, "--idle", "4"], settings)
+        words = ["--outbox", "from", "--put", "a", name, "--idle", "3"]
         status, out, err = Station(program, folder, 1, 2, ports, words, settings).ended()
         if status != 1 or unheard(err) or not out.endswith("complete 0 of 1\n"):
             yield f"the sender: status {status}, {out!r}, {err!r}"
         status, out, err = receiver.ended()
-        wanted = "error: a file came and there is no --inbox, or there is not enough memory\n"
         if status != 3 or unheard(err) != wanted or not re.search(r"2 fault 1:\d+ 4\n", out):
             yield f"the receiver: status {status}, {out!r}, {err!r}"
+        if files_at(folder, 2):
+            yield f"it left {sorted(files_at(folder, 2))}"
 
 
 def shown_on(reading):
@@ -272,12 +275,127 @@ def memory_mistakes(program):
         yield f"no growth of memory was one of the put, of {growth}"
 
 
+def packets_of(octets):
+    """The packets of a capture: the event of each, and the PDU. The last may be cut short."""
+    at, packets = 0, []
+    while at + 8 <= len(octets):
+        kind, length = struct.unpack_from(">II", octets, at)
+        if length < 12 or at + length > len(octets):
+            break
+        if octets[at + length - 4 : at + length] != octets[at + 4 : at + 8]:
+            raise ValueError(f"a block of {length} octets has another length at its end")
+        if kind == 6:
+            time_of_it, size = struct.unpack_from(">QI", octets, at + 12)
+            packets.append((time_of_it // 1_000_000, octets[at + 28 : at + 28 + size]))
+        at += length
+    return packets
+
+
+def events_of(trace, pattern):
+    """The event of each line of a trace that has this pattern behind its station."""
+    return [int(it) for it in re.findall(rf"(?m)^\d+\.(\d+) [12] {pattern}", trace)]
+
+
+def read(path):
+    """What a file holds; nothing where there is none."""
+    if not os.path.exists(path):
+        return b""
+    with open(path, "rb") as it:
+        return it.read()
+
+
+def watched_as_killed(program, folder):
+    """Kills a station as it sends and then its peer, both of which show what passes. Returns the
+    traces of both, and the capture and the chart of the first."""
+    ports = dict(zip((1, 2), free_ports(2)))
+    put(folder, 1, "a", random.Random(41).randbytes(300_000))
+    started = []
+    for own, words in ((2, ["--inbox", "to"]), (1, ["--outbox", "from", "--put", "a", "b"])):
+        os.makedirs(f"{folder}/{own}", exist_ok=True)
+        words += ["--rate", "400", "--trace", "--pcap", "p.pcap", "--chart", "c.mmd", "--explain"]
+        with open(f"{folder}/{own}/trace", "wb") as trace:
+            station = Station(program, folder, own, 3 - own, ports, words, PATIENT, stderr=trace)
+        station.comes_up()
+        started.append(station)
+    end = time.monotonic() + 10
+    while len(read(f"{folder}/1/p.pcap")) < 60_000 and time.monotonic() < end:
+        time.sleep(0.01)
+    for station in reversed(started):
+        station.process.kill()
+        station.process.communicate()
+        time.sleep(0.3)
+    left = [read(f"{folder}/{it}") for it in ("1/trace", "2/trace", "1/p.pcap", "1/c.mmd")]
+    return left[0].decode(), left[1].decode(), left[2], left[3].decode()
+
+
+def killed_watched_mistakes(program):
+    """What is wrong with what a station leaves that is killed as it sends: its trace has each PDU
+    that its peer heard, but for what its last frame had; its capture has those of the trace, and its
+    chart the first lines, but for those of the last event."""
+    with tempfile.TemporaryDirectory(dir=program.room) as folder:
+        sent, heard, capture, chart = watched_as_killed(program, folder)
+    told = lambda text, verb: re.findall(rf"(?m) {verb} (data \d+:\d+ \d+ \d+)$", text)
+    missing = set(told(heard, "hears")) - set(told(sent, "sends"))
+    if len(missing) > 1 or len(told(heard, "hears")) < 40:
+        yield f"its trace lacks {sorted(missing)} of {len(told(heard, 'hears'))} that were heard"
+    traced = events_of(sent, "sends (?!dir frame|data frame)")
+    packets = packets_of(capture)
+    captured = [event for event, _ in packets]
+    if captured != traced[: len(captured)] or len(set(traced[len(captured) :])) > 1:
+        yield f"its capture has PDUs of the events {captured}, and its trace of {traced}"
+    data = b"".join(pdu[-1024:] for _, pdu in packets if pdu[0] & 0x10)
+    if data != random.Random(41).randbytes(300_000)[: len(data)] or len(data) < 40_000:
+        yield f"the {len(data)} octets of file data in its capture aren't those of the file"
+    events = events_of(sent, "")
+    lines = chart.split("\n")[3:-1]
+    charted = [int(re.search(r"\d+\.(\d+) ", it)[1]) for it in lines]
+    if charted != events[: len(charted)] or len(charted) < min(400, len(set(events)) - 1):
+        yield f"its chart has {len(charted)} lines, and its trace {len(events)}"
+
+
+def peak_of(process):
+    """The most memory that a process has had so far, in octets."""
+    with open(f"/proc/{process.pid}/status", encoding="ascii") as it:
+        return 1024 * int(re.search(r"VmHWM:\s+(\d+) kB", it.read())[1])
+
+
+def watched_peak(program, more):
+    """The most memory of a station that sends a file of 8 MB, with these words too."""
+    with tempfile.TemporaryDirectory(dir=program.room) as folder:
+        ports = dict(zip((1, 2), free_ports(2)))
+        put(folder, 1, "a", bytes(8_000_000))
+        words = ["--inbox", "to", "--rate", "0", "--idle", "6"]
+        receiver = Station(program, folder, 2, 1, ports, words, PATIENT)
+        receiver.comes_up()
+        words = ["--outbox", "from", "--put", "a", "b", "--rate", "0", *more]
+        with open(os.devnull, "wb") as nothing:
+            sender = Station(program, folder, 1, 2, ports, words, PATIENT, stderr=nothing)
+        came = sender.comes_to(b"0 complete retained")
+        peak = peak_of(sender.process)
+        for station in (sender, receiver):
+            station.process.kill()
+            station.process.communicate()
+        return peak if came else None
+
+
+def watched_memory_mistakes(program):
+    """What is wrong where it costs memory for long to look on: what was seen is let go."""
+    peaks = watched_peak(program, []), watched_peak(program, ["--trace", "--pcap", "p.pcap"])
+    if None in peaks or peaks[1] > peaks[0] + 2_000_000:
+        yield f"a station that sends 8 MB has {peaks[0]} octets, and {peaks[1]} where one looks on"
+
+
 def all_mistakes(program):
     """What is tried, with what is wrong in it."""
     yield "20 files each way between two processes", exchange_mistakes(program)
     yield "a station killed and started anew", restart_mistakes(program)
     yield "datagrams of a stranger", stranger_mistakes(program)
     yield "an address in use", address_mistakes(program)
-    yield "a file for which there is no folder", refused_mistakes(program)
+    no_inbox = "error: a file came and there is no --inbox, or there is not enough memory\n"
+    yield "a file for which there is no folder", refused_mistakes(program, [], "b", no_inbox)
+    inbox, no_name = ["--inbox", "to"], "error: to/a/b: a file can't have that name here\n"
+    yield "a name that no folder takes", refused_mistakes(program, inbox, "a/b", no_name)
     yield "a report and a line on one terminal", terminal_mistakes(program)
     yield "a put that finds no memory", memory_mistakes(program)
+    yield "a station killed while one looks on", killed_watched_mistakes(program)
+    yield "the memory of one who looks on", watched_memory_mistakes(program)

@@ -1,6 +1,7 @@
 //! Entities over stores in memory.
 //!
 //!     put NAME [AS] to send that file, to be published under the second name, or as `b.txt`
+//!     puts N NAME   to send that file N times, as `b.txt`: how often it is put, and why no more
 //!     hear PDU      to hear these octets
 //!     series FIRST STEP COUNT FRONT BEHIND
 //!                   to hear so many PDUs, in which a number of 8 digits stands between two texts
@@ -12,21 +13,25 @@
 //!     ask WORD      of the transaction 1:1: cancel, suspend, resume, nak, keep
 //!     deadline      to tell the earliest deadline but those of inactivity
 //!     phase         to tell how far the transaction 1:1 has come
+//!     phases        to tell how far each transaction has come
+//!     left          to say how many more transactions there is room for
 //!     told          to tell all that was indicated
 //!     drops         to tell how much was dropped, by number
 //!     inbox         to tell each published file
 //!     sum           to tell how many of the transactions 1:1 to 1:10 and 2:1 to 2:10 are closed,
 //!                   and how many are told to be complete
 //!     prefixes PDU, replaced PDU    as in `strangers`
+//!     forget .., forgotten S:N, first, gone, since N    as in `letting_go`
 //!     pass          of two that are joined: to send all that is due, and to give it to the other
 use crate::bench::{Bench, played, unknown};
 use crate::joined::{Joined, Losses, Side};
+use crate::letting_go::{self, Keeper};
 use crate::setup::{EntitySetup, first_entity, second_entity};
 use crate::strangers::{self, Fate, Target};
 use crate::telling::tell;
 use crate::words::{number, octets, pair, tell_octets};
 use cfdp_directives::{Delivery, FileStatus, Indication, Phase};
-use cfdp_entity::{CallError, Entity, EntityConfig, EntityPolled, PutError, Rooms};
+use cfdp_entity::{CallError, Entity, EntityConfig, EntityPolled, ForgetError, PutError, Rooms};
 use cfdp_header::TransactionId;
 use cfdp_store::{FuseInbox, FuseOutbox, Inbox, MemoryInbox, MemoryOutbox};
 use std::alloc::{AllocError, Global};
@@ -125,6 +130,7 @@ impl Bench for EntityBench {
     fn does(&mut self, verb: &str, words: &str, out: &mut String) -> Result<(), AllocError> {
         match verb {
             "put" => self.puts(words, out),
+            "puts" => self.puts_many(words, out),
             "hear" => self.hears(words, out),
             "series" => self.hears_series(words, out),
             "poll" => self.polls(words, out),
@@ -132,8 +138,41 @@ impl Bench for EntityBench {
             "tick" => self.entity.tick(number(words)),
             "ask" => self.calls(words, out),
             "prefixes" | "replaced" => strangers::asks(self.alloc, self, verb, words, out),
+            "forget" | "forgotten" | "first" | "gone" | "since" => {
+                letting_go::asks(self, verb, words, out)
+            }
             _ => self.says(verb, out),
         }
+    }
+}
+
+impl Keeper for EntityBench {
+    fn forget(&mut self, id: TransactionId) -> Result<(), ForgetError> {
+        self.entity.forget(id)
+    }
+
+    fn forget_closed(&mut self) -> Result<(), AllocError> {
+        self.entity.forget_closed()
+    }
+
+    fn forget_told(&mut self, count: usize) {
+        self.entity.forget_indications(count);
+    }
+
+    fn first_told(&mut self) -> Option<Indication> {
+        self.entity.next_indication()
+    }
+
+    fn was_forgotten(&self, id: TransactionId) -> bool {
+        self.entity.was_forgotten(id)
+    }
+
+    fn told_gone(&self) -> u64 {
+        self.entity.indications_gone()
+    }
+
+    fn told_since(&self, mark: u64) -> Option<&[Indication]> {
+        self.entity.indications_since(mark)
     }
 }
 
@@ -247,12 +286,21 @@ impl EntityBench {
         match verb {
             "deadline" => self.tells_deadline(out),
             "phase" => write!(out, " {:?}\n", self.entity.phase(FIRST)),
+            "phases" => self.tells_phases(out),
+            "left" => write!(out, " {}\n", self.entity.records_left()),
             "told" => self.tells(out),
             "drops" => self.tells_drops(out),
             "inbox" => self.tells_inbox(out),
             "sum" => self.sums_up(out),
             _ => unknown(out),
         }
+    }
+
+    fn tells_phases(&self, out: &mut String) -> Result<(), AllocError> {
+        for (id, phase) in self.entity.transactions() {
+            write!(out, " {}:{} {phase:?}\n", id.source, id.number)?;
+        }
+        Ok(())
     }
 
     fn puts(&mut self, words: &str, out: &mut String) -> Result<(), AllocError> {
@@ -269,6 +317,19 @@ impl EntityBench {
         } else {
             self.entity.put(source.as_bytes(), destination.as_bytes())
         }
+    }
+
+    fn puts_many(&mut self, words: &str, out: &mut String) -> Result<(), AllocError> {
+        let (count, name) = pair(words);
+        let mut done = 0u64;
+        for _ in 0..number(count) {
+            if let Err(e) = self.put(name, "") {
+                write!(out, " {}\n", e.name())?;
+                break;
+            }
+            done = done.saturating_add(1);
+        }
+        write!(out, " put {done}\n")
     }
 
     fn hears(&mut self, text: &str, out: &mut String) -> Result<(), AllocError> {

@@ -17,6 +17,7 @@ mod frames;
 mod fuses;
 mod joined;
 mod large;
+mod letting_go;
 mod link;
 mod machines;
 mod own_link;

@@ -2,6 +2,7 @@
 //! begins with 1 or 2, and what else a line may ask stands in `joined`.
 //!
 //!     put NAME    to send that file, to be published as `b.txt`
+//!     puts N NAME the same N times: how often it is put, and why no more
 //!     poll        to send one PDU
 //!     again N     to send N more, and to tell nothing
 //!     burst       to send all that is due, and to say how many PDUs, and why no more
@@ -17,7 +18,7 @@
 //!     tick TIME   to take note of the time
 //!     told        to tell all that was indicated
 //!     of S:N      the same, of one transaction
-//!     since N     to tell what was indicated behind the first N
+//!     forget .., forgotten S:N, first, gone, since N    as in `letting_go`
 //!     phases      to tell how far each transaction has come
 //!     left        to say how many more transactions there is room for
 //!     next        to say when the next timer expires: of those but Inactivity's, and of all
@@ -34,14 +35,17 @@
 //!     alike COUNT LINES    to tell how long these are, in place of them
 use crate::bench::{Bench, played, unknown};
 use crate::joined::{Joined, Losses, Side};
+use crate::letting_go::{self, Keeper};
 use crate::own_link::{self, Link};
 use crate::setup::{first_station, second_station};
 use crate::strangers::{self, Fate, Target};
 use crate::telling::{id_of, tell};
-use crate::words::{count, id, lane, narrow, number, octets, pair, tell_octets};
-use cfdp_directives::Checksum;
+use crate::words::{id, lane, narrow, number, octets, pair, tell_octets};
+use cfdp_directives::{Checksum, Indication};
 use cfdp_header::TransactionId;
-use cfdp_station::{EntityDrop, Lane, LinkDrop, Polled, Station, StationConfig};
+use cfdp_station::{
+    EntityDrop, ForgetError, Lane, LinkDrop, Polled, PutError, Station, StationConfig,
+};
 use cfdp_store::{Files, Inbox, MemoryInbox, MemoryOutbox};
 use link_stack::Up;
 use std::alloc::{AllocError, Global};
@@ -296,6 +300,7 @@ impl Bench for StationBench {
     fn does(&mut self, verb: &str, words: &str, out: &mut String) -> Result<(), AllocError> {
         match verb {
             "put" => self.puts(words, out),
+            "puts" => self.puts_many(words, out),
             "poll" => write!(out, " {:?}\n", self.station.poll()?),
             "again" => self.polls(number(words)),
             "burst" => self.bursts(out),
@@ -303,13 +308,45 @@ impl Bench for StationBench {
             "count" => Ok(self.station.count_frames_from(narrow(words))),
             "take" => Ok(self.take(&octets(self.alloc, words)?)),
             "of" => self.tells_of(id(words), out),
-            "since" => self.tells_since(count(words), out),
             "tick" => self.station.tick(number(words)),
             "prefixes" | "replaced" | "storm" => {
                 strangers::asks(self.alloc, self, verb, words, out)
             }
+            "forget" | "forgotten" | "first" | "gone" | "since" => {
+                letting_go::asks(self, verb, words, out)
+            }
             _ => self.says(verb, out),
         }
+    }
+}
+
+impl Keeper for StationBench {
+    fn forget(&mut self, id: TransactionId) -> Result<(), ForgetError> {
+        self.station.forget(id)
+    }
+
+    fn forget_closed(&mut self) -> Result<(), AllocError> {
+        self.station.forget_closed()
+    }
+
+    fn forget_told(&mut self, count: usize) {
+        self.station.forget_indications(count);
+    }
+
+    fn first_told(&mut self) -> Option<Indication> {
+        self.station.next_indication()
+    }
+
+    fn was_forgotten(&self, id: TransactionId) -> bool {
+        self.station.was_forgotten(id)
+    }
+
+    fn told_gone(&self) -> u64 {
+        self.station.indications_gone()
+    }
+
+    fn told_since(&self, mark: u64) -> Option<&[Indication]> {
+        self.station.indications_since(mark)
     }
 }
 
@@ -495,13 +532,6 @@ impl StationBench {
         write!(out, " {deadline:?} {expiry:?}\n")
     }
 
-    fn tells_since(&self, mark: usize, out: &mut String) -> Result<(), AllocError> {
-        for told in self.station.indications_since(mark) {
-            tell(told, out)?;
-        }
-        Ok(())
-    }
-
     fn tells_why(&self, out: &mut String) -> Result<(), AllocError> {
         for number in 0..=u8::MAX {
             if let Some(by) = LinkDrop::from_number(number) {
@@ -515,10 +545,27 @@ impl StationBench {
     }
 
     fn puts(&mut self, source: &str, out: &mut String) -> Result<(), AllocError> {
-        match self.station.put(source.as_bytes(), b"b.txt") {
+        match self.put(source) {
             Ok(id) => write!(out, " {}:{}\n", id.source, id.number),
             Err(e) => write!(out, " {}\n", e.name()),
         }
+    }
+
+    fn put(&mut self, source: &str) -> Result<TransactionId, PutError> {
+        self.station.put(source.as_bytes(), b"b.txt")
+    }
+
+    fn puts_many(&mut self, words: &str, out: &mut String) -> Result<(), AllocError> {
+        let (count, name) = pair(words);
+        let mut done = 0u64;
+        for _ in 0..number(count) {
+            if let Err(e) = self.put(name) {
+                write!(out, " {}\n", e.name())?;
+                break;
+            }
+            done = done.saturating_add(1);
+        }
+        write!(out, " put {done}\n")
     }
 
     fn bursts(&mut self, out: &mut String) -> Result<(), AllocError> {
