@@ -29,7 +29,8 @@ class Counted(stations.Station):
         """Reads what there is of its output; answers whether it still has one."""
         octets = os.read(self.process.stdout.fileno(), 1 << 16)
         *lines, self.rest = (self.rest + octets).split(b"\n")
-        self.over += sum(b" finished " in it and it.endswith(b" 0 complete retained") for it in lines)
+        ends = b" 0 complete retained"
+        self.over += sum(b" finished " in it and it.endswith(ends) for it in lines)
         self.tail = (self.tail + octets)[-1000:]
         return bool(octets)
 

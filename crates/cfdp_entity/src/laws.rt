@@ -243,8 +243,8 @@ pub fn an_entity_goes_on()
     ensures served { (stored : Stored) (e : EntityState) → GoesOn e (served stored (turn e) e) }
 {}
 
-/// An entity that lets records and indications go stays sound: what it indicated is what it was, and
-/// so is its inbox, and a transaction that was let go is finished no second time.
+/// An entity that lets records and indications go stays sound: what it indicated is what it was,
+/// and so is its inbox, and a transaction that was let go is finished no second time.
 pub fn an_entity_may_forget()
     ensures sound { (put_of : TransactionId → Option Put) (heard : List (List ℕ))
         (first : FileMap) (id : TransactionId) (old new : EntityState) → Forgets id old new

@@ -256,8 +256,8 @@ impl<O: Outbox, I: Inbox> Station<O, I> {
         self.up.drops(number)
     }
 
-    /// The earliest deadline of the armed timers but those of kind Inactivity, in units of the clock
-    /// that [`tick`](Self::tick) is told; `None` where no other is armed.
+    /// The earliest deadline of the armed timers but those of kind Inactivity, in units of the
+    /// clock that [`tick`](Self::tick) is told; `None` where no other is armed.
     /// [`next_expiry`](Self::next_expiry) tells that of all.
     pub fn next_deadline(&self) -> Option<u64>
         ensures { MatchOption result (OnlyInactivity self.now.entity.state.table.armed)
@@ -335,8 +335,8 @@ impl<O: Outbox, I: Inbox> Station<O, I> {
         self.down.flush(Lane::Data);
     }
 
-    /// Does the same in one lane, and leaves the other one as it is: so a directive need not wait for
-    /// the file data behind it, whose begun frame goes on being filled.
+    /// Does the same in one lane, and leaves the other one as it is: so a directive need not wait
+    /// for the file data behind it, whose begun frame goes on being filled.
     pub fn flush_lane(&mut self, lane: Lane)
         ensures flushed { Flushes (lane_down lane self.old.down) (lane_down lane self.new.down) }
         ensures other { lane_down (other_lane lane) self.new.down

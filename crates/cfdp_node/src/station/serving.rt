@@ -79,8 +79,8 @@ const MOST_TURNS: u64 = 1_000_000_000_000_000;
 ///
 /// In a turn the station takes what came, is told the time, and sends. Before each turn those puts
 /// are made for which the station has room, what it told its user is written and let go, and so are
-/// the transactions that are over. Turns end once all puts are made, all transactions of the station
-/// are closed, and the wire is silent; a wire that is never silent lets them go on.
+/// the transactions that are over. Turns end once all puts are made, all transactions of the
+/// station are closed, and the wire is silent; a wire that is never silent lets them go on.
 ///
 /// A want of memory ends it, and is told as `Device` with the report; so is a store that failed.
 /// Where there is none for the station, nothing is written. Of a report that can't be written to
@@ -119,7 +119,8 @@ fn run_new<O: Outbox, I: Inbox, W: PeerWire, C: Clock, V: Write, L: Lookout>(
     requires { IsStationConfig options.now.config }
     ensures { IsTold result (EndsStation W.steps options.now.config.entity.entity
         options.now.drop_every options.now.puts.items options.now.frame_count result
-        options.now.config (O.files outbox) (I.published inbox) wire (V.contents out.old) (V.contents out.new)) }
+        options.now.config (O.files outbox) (I.published inbox) wire
+        (V.contents out.old) (V.contents out.new)) }
 {
     match Station::new(alloc, options.config, outbox, inbox) {
         Ok(mut station) => {
@@ -470,8 +471,8 @@ fn is_closed(phase: Phase) -> bool
 }
 
 /// Writes what a station told its user, lets it leave the buffer, and lets it go; and counts the
-/// puts of which it tells that they are complete. Who looks on gives way before that, where there is
-/// something. Where 64 bits don't count what was told any more, nothing more is told.
+/// puts of which it tells that they are complete. Who looks on gives way before that, where there
+/// is something. Where 64 bits don't count what was told any more, nothing more is told.
 ///
 /// # Errors
 ///

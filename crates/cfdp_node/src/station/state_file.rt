@@ -98,8 +98,9 @@ pub struct StateFile<'a> {
 
 impl<'a> StateFile<'a> {
     /// Takes the file at this path, which is made where there is none, and reserves numbers, for so
-    /// many puts or more: from the one on that is said, or else behind all that were reserved before
-    /// and, where that is more and fits a number of so many octets, the microseconds since 1970.
+    /// many puts or more: from the one on that is said, or else behind all that were reserved
+    /// before and, where that is more and fits a number of so many octets, the microseconds since
+    /// 1970.
     ///
     /// # Errors
     ///

@@ -29,8 +29,8 @@ const PACKET: u32 = 6;
 /// The octets of such a block around the packet.
 const AROUND: u32 = 32;
 
-/// Begins a capture in the pcapng format, in which each lane is an interface. Its header has left the
-/// buffer then.
+/// Begins a capture in the pcapng format, in which each lane is an interface. Its header has left
+/// the buffer then.
 ///
 /// # Errors
 ///
@@ -44,9 +44,9 @@ pub fn begin_capture<V: Write + Drop>(out: &mut BufWriter<V>) -> io::Result<()>
     out.flush()
 }
 
-/// Writes the PDUs that were sent, in order, behind those of a capture that was begun. They have left
-/// the buffer then. The time of each is the number of its event in seconds, and its place in it in
-/// microseconds.
+/// Writes the PDUs that were sent, in order, behind those of a capture that was begun. They have
+/// left the buffer then. The time of each is the number of its event in seconds, and its place in
+/// it in microseconds.
 ///
 /// # Errors
 ///

@@ -18,9 +18,9 @@ use std::{fmt, io};
 /// How many lines of a trace a chart shows.
 const MOST_LINES: usize = 400;
 
-/// Writes a sequence diagram of what stations did, as it is seen: a line for each line of a trace, an
-/// arrow for each frame and PDU that leaves or arrives, a cross for a frame that is lost, and a note
-/// for anything else. Of more than 400 the others are left out, and a last line says how many.
+/// Writes a sequence diagram of what stations did, as it is seen: a line for each line of a trace,
+/// an arrow for each frame and PDU that leaves or arrives, a cross for a frame that is lost, and a
+/// note for anything else. Of more than 400 the others are left out, and a last line says how many.
 #[derive(Clone, Copy)]
 pub struct ChartWriter {
     /// The octets of a frame's packet zone.
@@ -79,7 +79,8 @@ impl ChartWriter {
         out.flush()
     }
 
-    /// Writes how many lines of the trace are left out, if some are, which has left the buffer then.
+    /// Writes how many lines of the trace are left out, if some are, which has left the buffer
+    /// then.
     ///
     /// # Errors
     ///

@@ -23,8 +23,8 @@ pub enum Onlooker<'a> {
 }
 
 impl<'a> Onlooker<'a> {
-    /// Before the first event of two stations with these settings. Somebody looks on if something is
-    /// to be shown.
+    /// Before the first event of two stations with these settings. Somebody looks on if something
+    /// is to be shown.
     ///
     /// # Errors
     ///

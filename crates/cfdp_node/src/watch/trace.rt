@@ -33,8 +33,8 @@ impl Deed {
 }
 
 /// Writes a line for each thing that a station did, in order, behind those of what was seen before:
-/// the line of the script and the number of the event, with a point between, the station, and what it
-/// did. They have left the buffer then. Frames have packet zones of `zone` octets.
+/// the line of the script and the number of the event, with a point between, the station, and what
+/// it did. They have left the buffer then. Frames have packet zones of `zone` octets.
 ///
 /// # Errors
 ///
