@@ -9,10 +9,10 @@ use crate::error::EntityDrop;
 use crate::stray::Stray;
 use crate::table::Table;
 use cfdp_directives::{Indication, Phase};
+use cfdp_forgotten::Forgotten;
 use cfdp_header::TransactionId;
 use cfdp_store::{Inbox, Outbox};
 use circular_buffer::HeapCircularBuffer;
-use cfdp_forgotten::Forgotten;
 use std::alloc::{AllocError, Global};
 use std::marker::Model;
 

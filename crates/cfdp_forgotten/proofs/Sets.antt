@@ -116,7 +116,7 @@ any-set q id (e ∷ es) zero s at =
     let key : e.0 ≡ id.source = cc in
     let value : e.1 ≡ s = cc in
     let more : set.contains (set.insert s id.number) q.number ≡ ((q.number == id.number) || set.contains s q.number)
-        = set.contains-insert nat_cmp_total s id.number q.number ∙ ap (λ b. b || set.contains s q.number) (unsigned_tied q.number id.number) in
+    = set.contains-insert nat_cmp_total s id.number q.number ∙ ap (λ b. b || set.contains s q.number) (unsigned_tied q.number id.number) in
     (λ i. ((q.source == key i) && more i) || list_any (is_of q) es)
     ∙ spread (q.source == id.source) (q.number == id.number) (set.contains s q.number) (list_any (is_of q) es)
     ∙ (λ i. same_id q id || (((q.source == sym key i) && set.contains (sym value i) q.number) || list_any (is_of q) es))
@@ -127,7 +127,7 @@ any-set q id (e ∷ es) (suc n) s at =
 pub any-push : (q id : TransactionId) (es : List (ℕ × NumberSet)) → list_any (is_of q) (es ++ (id.source, set.insert set.empty id.number) ∷ []) ≡ (same_id q id || list_any (is_of q) es)
 any-push q id [] =
     let one : set.contains (set.insert set.empty id.number) q.number ≡ (q.number == id.number)
-        = set.contains-insert nat_cmp_total set.empty id.number q.number ∙ (λ i. unsigned_tied q.number id.number i || set.contains-empty nat_cmp q.number i) ∙ or-nothing (q.number == id.number) in
+    = set.contains-insert nat_cmp_total set.empty id.number q.number ∙ (λ i. unsigned_tied q.number id.number i || set.contains-empty nat_cmp q.number i) ∙ or-nothing (q.number == id.number) in
     ap (λ b. ((q.source == id.source) && b) || false) one
 any-push q id (e ∷ es) = ap (λ b. is_of q e || b) (any-push q id es) ∙ or-swap (is_of q e) (same_id q id) (list_any (is_of q) es)
 

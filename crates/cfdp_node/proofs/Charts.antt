@@ -78,7 +78,7 @@ pub chart_goes_on : {E : Type 0} (r : Result (Unit {0}) E) (was is : ChartWriter
 chart_goes_on (Ok x) was is room more first old mid new zone has_room count firsts wrote kept = λ seen start before.
     let room_is : room ≡ most_lines - length seen = (let counted_is = before.count in omega (arith, has_room, counted_is)) in
     let shown : take most_lines seen ++ first ≡ take most_lines (seen ++ more) =
-        ap (λ l. take most_lines seen ++ l) (firsts ∙ ap (λ n. take n more) room_is) ∙ sym (take-joined most_lines seen more) in
+    ap (λ l. take most_lines seen ++ l) (firsts ∙ ap (λ n. take n more) room_is) ∙ sym (take-joined most_lines seen more) in
     record {
       count = (let counted_is = before.count in let both = length-append seen more in omega (arith, count, counted_is, both));
       texts = before.texts ++ wrote.texts;

@@ -49,8 +49,7 @@ pub use cfdp_directives::{
     PduError, Phase, Policy, Times,
 };
 pub use cfdp_entity::{
-    AddError, CallError, EntityConfig, EntityDrop, EntityField, ForgetError, PutError,
-    Transactions,
+    AddError, CallError, EntityConfig, EntityDrop, EntityField, ForgetError, PutError, Transactions,
 };
 pub use cfdp_header::{HeaderError, TransactionId};
 pub use cfdp_store::{Inbox, Outbox, StoreError};

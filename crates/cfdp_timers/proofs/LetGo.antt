@@ -88,7 +88,7 @@ others-swapped es i d within =
     let many = length-others es in
     let last : length (others_of es) - 1 ≡ length es - 1 = omega (arith, many) in
     let moved : get_or (others_of es) (length (others_of es) - 1) None ≡ other_of (get_or es (length es - 1) d).1
-        = ap (λ k. get_or (others_of es) k None) last ∙ others-at es (length es - 1) d (omega (arith, within)) in
+    = ap (λ k. get_or (others_of es) k None) last ∙ others-at es (length es - 1) d (omega (arith, within)) in
     (λ j. take (last j) (set (others_of es) i (moved j)))
     ∙ ap (take (length es - 1)) (sym (others-set es i (get_or es (length es - 1) d)))
     ∙ sym (others-take (length es - 1) (set es i (get_or es (length es - 1) d)))

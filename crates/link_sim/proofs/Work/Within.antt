@@ -469,7 +469,6 @@ module _ (most : ℕ) (limit : size_limit true ≤ most) where
   taken-route-within h v old new (Steps place t) w = subst (λ (e : EntityState). AreWithin most e.table.records) (sym t.steps) (table-heard t.stored place h.large v old.state.table w)
   taken-route-within h v old new (Opens a may t) w = subst (λ (e : EntityState). AreWithin most e.table.records) (sym t.opens) (table-opened t.begun t.stored a h.large v old.state.table w)
   taken-route-within h v old new (Queues s of_end t) w = subst (λ (e : EntityState). AreWithin most e.table.records) (sym t) w
-
   taken-route-within h v old new (Passes is) w = subst (λ (c : Counted). AreWithin most c.state.table.records) (sym is) w
 
   pub within-heard : (octets : List ℕ) (old new : Counted) → HearsOctets octets old new → AreWithin most old.state.table.records → AreWithin most new.state.table.records

@@ -19,5 +19,5 @@ returns-in-Some-clause-err c = on_err c.insert.result
 pub returns-in-Some-clause-held : goal.returns-in-Some-clause-held
 returns-in-Some-clause-held c = λ held.
     let read : numbers_at c.args.by_source.now.entries c.args.place ≡ c.in-Some.numbers.now
-        = get_or_from_slice_get (values_of c.args.by_source.now.entries) c.args.place c.in-Some.numbers.now set.empty (sym c.in-Some.ensures.value) in
+    = get_or_from_slice_get (values_of c.args.by_source.now.entries) c.args.place c.in-Some.numbers.now set.empty (sym c.in-Some.ensures.value) in
     c.insert.ensures.held (ap (λ (s : NumberSet). set.contains s c.args.number) (sym read) ∙ held)

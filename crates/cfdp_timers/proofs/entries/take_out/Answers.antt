@@ -55,6 +55,6 @@ returns-clause-bounds c =
     let is = if_some (λ (p : TransactionId × Deadlines). c.swap_remove_index.new.self.entries ≡ swap_remove es place p) c.swap_remove_index.result (c.args.id, deadlines_in es place) (c.swap_remove_index.ensures.entry ∙ at) c.swap_remove_index.ensures.entries in
     let below : place < length es = slice_get_within es place (c.args.id, deadlines_in es place) at in
     let bound : c.lower.new.self ≡ lowered c.args.bounds.now (place / 64) (next_of (deadlines_in es (length es - 1)))
-        = c.lower.ensures ∙ ap (lowered c.args.bounds.now (place / 64)) (c.earliest_at-moved.ensures ∙ ap (λ n. next_of (deadlines_in es (n - 1))) c.len.ensures.len) in
+    = c.lower.ensures ∙ ap (lowered c.args.bounds.now (place / 64)) (c.earliest_at-moved.ensures ∙ ap (λ n. next_of (deadlines_in es (n - 1))) c.len.ensures.len) in
     subst (λ fs. AreBounds fs c.lower.new.self) (sym is)
     (subst (λ b. AreBounds (swap_remove es place (c.args.id, deadlines_in es place)) b) (sym bound) (bounds-swapped es c.args.bounds.now place (c.args.id, deadlines_in es place) below c.requires.bounds))

@@ -9,7 +9,7 @@ pub invariant_of-self : goal.invariant_of-self
 invariant_of-self c =
     let fits = c.in-Some.ensures.0 in
     let is : c.insert.new.self ≡ set.insert c.self.inside.ranges c.args.number
-        = c.in_ok-insert-in-Some.ensures.ok ∙ range-one c.self.inside.ranges c.args.number c.in-Some.behind c.in-Some.ensures.1 in
+    = c.in_ok-insert-in-Some.ensures.ok ∙ range-one c.self.inside.ranges c.args.number c.in-Some.behind c.in-Some.ensures.1 in
     subst (λ (s : NumberSet). (k : ℕ) → set.contains s k ≡ true → k < greatest_number) (sym is)
     (below-more c.self.inside.ranges c.args.number (omega (arith, fits)) c.self.invariant)
 
@@ -17,7 +17,7 @@ pub returns-in_err-insert-in-Some-clause-held : goal.returns-in_err-insert-in-So
 returns-in_err-insert-in-Some-clause-held c = λ held.
     let fits = c.in-Some.ensures.0 in
     let there : set.contains c.self.inside.ranges c.args.number ≡ true
-        = sym (other-number c.self.inside.greatest c.self.inside.ranges c.args.number (omega (arith, fits))) ∙ ap (λ (s : NumberSet). set.contains s c.args.number) c.self.view_is ∙ held in
+    = sym (other-number c.self.inside.greatest c.self.inside.ranges c.args.number (omega (arith, fits))) ∙ ap (λ (s : NumberSet). set.contains s c.args.number) c.self.view_is ∙ held in
     absurd (true≢false (sym (c.in_err-insert-in-Some.ensures.held (subset-one c.self.inside.ranges c.args.number c.in-Some.behind c.in-Some.ensures.1 ∙ there)).0))
 
 pub returns-in_ok-insert-in-Some-clause-ok : goal.returns-in_ok-insert-in-Some-clause-ok
