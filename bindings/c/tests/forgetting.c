@@ -284,9 +284,9 @@ static void makes_room(void)
     close_both(&one, &two);
 }
 
-/* Some puts at a time, more of them than there are records where there are rounds enough: from the
- * second round on no more memory is taken. */
-static void stays_small(unsigned rounds)
+/* Some puts at a time, more of them than there are records where there are rounds enough, and each
+ * second one cancelled where that is said: from the second round on no more memory is taken. */
+static void stays_small(unsigned rounds, bool cancels)
 {
     enum { PUTS = 8 };
     cfdp_station one, two;
@@ -296,11 +296,14 @@ static void stays_small(unsigned rounds)
 
     open_both(&one, &two);
     for (round = 1; round <= rounds; round++) {
-        for (count = 0; count < PUTS; count++)
+        for (count = 0; count < PUTS; count++) {
             IS(put(&one, &id), CFDP_OK);
+            if (cancels && count % 2 == 1)
+                IS(cfdp_cancel(&one, &id), CFDP_OK);
+        }
         exchange(&one, &two);
-        IS(ended_well(&one), PUTS);
-        IS(ended_well(&two), PUTS);
+        IS(ended_well(&one), cancels ? PUTS / 2 : PUTS);
+        IS(ended_well(&two), cancels ? PUTS / 2 : PUTS);
         IS(cfdp_forget_closed(&one), CFDP_OK);
         IS(cfdp_forget_closed(&two), CFDP_OK);
         if (round == 2)
@@ -369,7 +372,8 @@ int main(int argc, char **argv)
     short_of_memory();
     if (argc == 1)
         makes_room();
-    stays_small(argc == 1 ? 600 : (unsigned)strtoul(argv[1], NULL, 10));
+    stays_small(argc == 1 ? 600 : (unsigned)strtoul(argv[1], NULL, 10), false);
+    stays_small(argc == 1 ? 2500 : (unsigned)strtoul(argv[1], NULL, 10), true);
     late_eof();
     late_finished();
     printf("%d mistakes\n", mistakes);
