@@ -98,10 +98,16 @@ MakesEach puts [] old new = new ≡ old
 MakesEach puts (line ∷ lines) old new =
     (mid : Putting) × (MakesNext puts line old mid × MakesEach puts lines mid new)
 
--- That went on until all were made or the station has no room for another.
+-- so many records are left free: for what the peer sends, and since what is over here may not be so
+-- at the peer yet, which has as many
+abbrev pub left_free : ℕ
+left_free = 1024
+
+-- That went on until all were made or no more than these records are left.
 pub record MakesMore (puts : List PutNames) (lines : List Line) (old new : Putting) : Type 0 where
   pub each : MakesEach puts lines old new
-  pub ends : (length puts ≤ new.made) ⊎ (length (table_of new.station).records ≡ most_records)
+  pub ends : (length puts ≤ new.made)
+      ⊎ (most_records ≤ length (table_of new.station).records + left_free)
 
 -- ---- what is let go between turns
 -- what is left of what a station told its user; nothing where 64 bits don't count it any more

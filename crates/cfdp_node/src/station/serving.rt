@@ -71,6 +71,10 @@ struct Served {
     complete: usize,
 }
 
+/// So many records are left free: for what the peer sends, and since what is over here may not be so
+/// at the peer yet, which has as many.
+const LEFT_FREE: usize = 1024;
+
 /// The most turns: those of more than 300 years, if one takes ten microseconds.
 const MOST_TURNS: u64 = 1_000_000_000_000_000;
 
@@ -335,8 +339,8 @@ fn prepare<O: Outbox, I: Inbox, V: Write, L: Lookout>(
     Ok(())
 }
 
-/// Makes puts, in their order, until all are made or the station has no room for another, and
-/// writes a line for each that is refused.
+/// Makes puts, in their order, until all are made or too few records are left, and writes a line
+/// for each that is refused.
 ///
 /// # Errors
 ///
@@ -360,7 +364,7 @@ fn make_puts<O: Outbox, I: Inbox, V: Write, L: Lookout>(
     ensures down { station.new.down ≡ station.old.down }
 {
     let puts = options.puts.as_slice();
-    while served.made < puts.len() && station.records_left() > 0 {
+    while served.made < puts.len() && station.records_left() > LEFT_FREE {
         make_next(options.side, station, puts, served, out, lookout)?;
     }
     Ok(())
