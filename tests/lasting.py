@@ -2,7 +2,6 @@
 that of its peer follow what is open, not what was."""
 import os
 import re
-import resource
 import select
 import tempfile
 import time
@@ -14,8 +13,8 @@ import stations
 # So many puts of one small file each, under a few names; memory is looked at once so many are over.
 PUTS, NAMES, EARLY = 100_000, 100, 5_000
 
-# What memory may grow by after that, in octets, and what all may take, in seconds: on a machine that
-# is busy many times what it takes alone.
+# What memory may grow by after that, in octets, and what all may take, in seconds: on a busy
+# machine many times what it takes alone.
 GROWTH, SECONDS = 2 << 20, 900
 
 
@@ -51,11 +50,6 @@ class Counted(stations.Station):
             return int(re.search(r"VmHWM:\s+(\d+) kB", it.read())[1]) << 10
 
 
-def many_words():
-    """Room for as many words as there are on the command line."""
-    resource.setrlimit(resource.RLIMIT_STACK, (64 << 20, 64 << 20))
-
-
 def lasting_mistakes(program, puts=PUTS):
     """What is wrong where a station sends so many files, one after another: all are complete, and
     the memory of both stations stays what it was after the first ones. Their files are in memory:
@@ -84,7 +78,7 @@ def lasting_mistakes(program, puts=PUTS):
 def started(program, link, puts):
     """A sender with so many puts, and a receiver."""
     stations.put(link.folder, 1, "f", b"hello\n")
-    ports, how = dict(zip((1, 2), stations.free_ports(2))), {"preexec_fn": many_words}
+    ports, how = dict(zip((1, 2), stations.free_ports(2))), {"preexec_fn": stations.many_words}
     words = [it for number in range(puts) for it in ("--put", "f", f"d{number % NAMES}")]
     receiver = Counted(program, link.folder, 2, 1, ports, ["--inbox", "to", "--idle", "5"], {})
     receiver.comes_up()

@@ -426,6 +426,20 @@ def clock_mistakes(program):
             yield f"they don't begin at the clock: {runs}"
 
 
+def many_mistakes(program):
+    """What is wrong with how many numbers are reserved: as many as there are puts, and no fewer
+    than the transactions that can be open at once."""
+    least = 4096
+    for count in (1, least, least + 1, 2 * least):
+        with Link(program) as link:
+            words = link.puts(1, {"a": b"hello"}) + ["--put", "a", "a"] * (count - 1)
+            begun = numbers_of(link.starts(1, words, preexec_fn=stations.many_words))
+            with open(f"{link.folder}/1/from.state", encoding="ascii") as it:
+                behind = int(re.search(r"(?m)^numbers (\d+)$", it.read())[1])
+            if not begun or behind - begun[0] != max(count, least):
+                yield f"{count} puts from number {begun[:1]} on, reserved below {behind}"
+
+
 def shared_mistakes(program):
     """What is wrong where two stations have one file of numbers: the second is refused, until the
     first is gone; and its numbers begin behind those of the first."""
@@ -901,6 +915,7 @@ def all_mistakes(program, kills):
     yield "a file of numbers that can't be had", state_mistakes(program)
     yield "where numbers are kept", place_mistakes(program)
     yield "numbers by the clock", clock_mistakes(program)
+    yield "as many numbers as there are puts", many_mistakes(program)
     yield "two stations with one file of numbers", shared_mistakes(program)
     yield "two processes with one inbox", inbox_mistakes(program)
     yield "the count of a new station's first frame", behind_mistakes(program)

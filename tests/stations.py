@@ -4,6 +4,7 @@ import os
 import pty
 import random
 import re
+import resource
 import select
 import signal
 import socket
@@ -82,6 +83,11 @@ class Station:
             self.process.kill()
             rest, err = self.process.communicate()
         return self.process.returncode, (self.told + rest).decode(), err.decode()
+
+
+def many_words():
+    """Room for a command line of as many words as a station may be given."""
+    resource.setrlimit(resource.RLIMIT_STACK, (64 << 20, 64 << 20))
 
 
 def put(folder, own, name, octets):
@@ -330,8 +336,8 @@ def watched_as_killed(program, folder):
 
 def killed_watched_mistakes(program):
     """What is wrong with what a station leaves that is killed as it sends: its trace has each PDU
-    that its peer heard, but for what its last frame had; its capture has those of the trace, and its
-    chart the first lines, but for those of the last event."""
+    that its peer heard, but for what its last frame had; its capture has those of the trace, and
+    its chart the first lines, but for those of the last event."""
     with tempfile.TemporaryDirectory(dir=program.room) as folder:
         sent, heard, capture, chart = watched_as_killed(program, folder)
     told = lambda text, verb: re.findall(rf"(?m) {verb} (data \d+:\d+ \d+ \d+)$", text)

@@ -19,7 +19,7 @@ pub record StrayAck : Type 0 where
   pub condition : ℕ
   pub status : TransactionStatus
 
--- to a Finished of a transaction that isn't known here
+-- to a Finished of a transaction that isn't known here (CCSDS 727.0-B-5, table 5-8, Unrecognized)
 abbrev pub unknown_ack : Header → ℕ → StrayAck
 unknown_ack h condition = record {
   addressing = addressing_of h;
@@ -29,7 +29,7 @@ unknown_ack h condition = record {
   status = Unrecognized;
 }
 
--- to a Finished or an EOF of one that was let go: it is over
+-- to a Finished or an EOF of one that was let go: it is over (table 5-8, Terminated)
 abbrev pub over_ack : Header → Acknowledged → ℕ → StrayAck
 over_ack h of condition = record {
   addressing = addressing_of h;

@@ -93,8 +93,8 @@ impl<O: Outbox, I: Inbox> Entity<O, I> {
         self.table.forget_told(count);
     }
 
-    /// Takes the first indication that is left, and lets it go. That moves the others up: where many
-    /// are left, read `indications` and let all go at once by `forget_indications`.
+    /// Takes the first indication that is left, and lets it go. That moves the others up: where
+    /// many are left, read `indications` and let all go at once by `forget_indications`.
     pub fn next_indication(&mut self) -> Option<Indication>
         ensures told { result ≡ next_told self.old.state.table }
         ensures gone { self.new ≡ record self.old {

@@ -206,7 +206,8 @@ fn reserved<'a>(
 ) -> Result<Reservation<'a>, u8> {
     let (number, width) = (setup.first_number(), setup.number_width());
     let said = if number == 0 { None } else { Some(number) };
-    let puts = request.puts.len() as u64;
+    // Each put is two words: its source and its destination.
+    let puts = request.puts.len() as u64 / 2;
     if let Some(path) = &request.state {
         return match Reservation::take(rt, path.as_str(), said, width, puts) {
             Ok(reservation) => Ok(reservation),

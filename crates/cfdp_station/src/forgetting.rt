@@ -68,8 +68,8 @@ impl<O: Outbox, I: Inbox> Station<O, I> {
         self.entity.forget_indications(count);
     }
 
-    /// Takes the first indication that is left, and lets it go. That moves the others up: where many
-    /// are left, read [`indications`](Self::indications) and let all go at once by
+    /// Takes the first indication that is left, and lets it go. That moves the others up: where
+    /// many are left, read [`indications`](Self::indications) and let all go at once by
     /// [`forget_indications`](Self::forget_indications).
     ///
     /// ```

@@ -9,7 +9,7 @@ pub enum Phase {
     Receiving,
     /// At the receiver: it is over, and the sender hasn't acknowledged the Finished yet.
     Finishing,
-    /// At either: it is over, and nothing is waited for. The record stays until it is forgotten, and
-    /// what still comes is answered.
+    /// At either: it is over, and nothing is waited for. The record stays until it is forgotten,
+    /// and what still comes is answered.
     Closed,
 }

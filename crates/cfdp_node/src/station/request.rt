@@ -67,13 +67,14 @@ those that come from its peer into the folder of --inbox. A datagram is one AOS
 frame. The system drops those that come from other addresses than the peer's.
 ADDR is as in 127.0.0.1:5001. The names of files in folders are 1 to 64 of
 A-Z a-z 0-9 . _ - and begin with no point. Files that are sent are read as a
-whole when the station begins, and those that came stay in its memory too.
+whole when the station begins. Those that come are written as they come.
 
-It ends once all its transactions are closed, those that it receives too, and no
-frame of the link came for as many seconds as --idle says; without --idle it
-never does. Let that be longer than all times of both stations, since so long an
-answer that was lost is waited for.
-A station has 4096 transactions, closed ones too; then it takes no more.
+It ends once all puts are made and all its transactions are closed, those that it
+receives too, and no frame of the link came for as many seconds as --idle says;
+without --idle it never does. Let that be longer than all times of both stations,
+since so long an answer that was lost is waited for.
+4096 transactions can be open at once. A put waits while only 1024 more could be:
+these are for what the peer sends. What is over is let go.
 
 Numbers of transactions are reserved in a file before they are used, so that none
 comes back when a station is killed and started anew: FOLDER.state beside the
@@ -97,11 +98,11 @@ Of the two stations that with the greater id has channels and APIDs exchanged.
 number_width is 8 here, and a unit of times is a second.
 
 Report, as it happens: what the station tells its user, as in that of sim, with
-its id in front; at first 'line N NAME' where the Nth put was refused. Last
+its id in front, and 'line N NAME' where the Nth put was refused. Last
 comes 'complete K of N'.
---trace, --chart FILE, --pcap FILE and --explain show at the end, as those of
-sim, what passed; in the place of a script's line stands the number of the turn.
-There 1 is the station with the lesser id. All of it stays in memory till then.
+--trace, --chart FILE and --pcap FILE show as it passes, and --explain at the end,
+as those of sim, what passed; in the place of a script's line stands the number of
+the turn. There 1 is the station with the lesser id.
 Where standard error is a terminal, one line on it says how far the transfer is:
 octets and gaps of the file that began to come last, and PDUs sent.
 

@@ -71,8 +71,8 @@ struct Served {
     complete: usize,
 }
 
-/// So many records are left free: for what the peer sends, and since what is over here may not be so
-/// at the peer yet, which has as many.
+/// So many records are left free: for what the peer sends, and since what is over here may not be
+/// so at the peer yet, which has as many.
 const LEFT_FREE: usize = 1024;
 
 /// The most turns: those of more than 300 years, if one takes ten microseconds.
@@ -81,10 +81,10 @@ const MOST_TURNS: u64 = 1_000_000_000_000_000;
 /// Runs a station over a wire: makes its puts, takes turns, and writes the report, each line of
 /// which has left the buffer once its turn is over.
 ///
-/// In a turn the station takes what came, is told the time, and sends. Before each turn those puts
-/// are made for which the station has room, what it told its user is written and let go, and so are
-/// the transactions that are over. Turns end once all puts are made, all transactions of the
-/// station are closed, and the wire is silent; a wire that is never silent lets them go on.
+/// In a turn the station takes what came, is told the time, and sends. Before each turn puts are
+/// made as long as more than 1,024 records are left, what it told its user is written and let go,
+/// and so are the transactions that are over. Turns end once all puts are made, all transactions of
+/// the station are closed, and the wire is silent; a wire that is never silent lets them go on.
 ///
 /// A want of memory ends it, and is told as `Device` with the report; so is a store that failed.
 /// Where there is none for the station, nothing is written. Of a report that can't be written to
