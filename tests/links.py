@@ -427,17 +427,23 @@ def clock_mistakes(program):
 
 
 def many_mistakes(program):
-    """What is wrong with how many numbers are reserved: as many as there are puts, and no fewer
-    than the transactions that can be open at once."""
-    least = 4096
-    for count in (1, least, least + 1, 2 * least):
+    """What is wrong with how many numbers are reserved, which is as many as there are puts; and
+    with short ones, which last for as many puts as there are numbers."""
+    for count in (1, 4096, 4097):
         with Link(program) as link:
             words = link.puts(1, {"a": b"hello"}) + ["--put", "a", "a"] * (count - 1)
             begun = numbers_of(link.starts(1, words, preexec_fn=stations.many_words))
             with open(f"{link.folder}/1/from.state", encoding="ascii") as it:
                 behind = int(re.search(r"(?m)^numbers (\d+)$", it.read())[1])
-            if not begun or behind - begun[0] != max(count, least):
+            if not begun or behind - begun[0] != count:
                 yield f"{count} puts from number {begun[:1]} on, reserved below {behind}"
+    with Link(program) as link:
+        once = {"number_width": 1, "eof_time": 1, "eof_limit": 0}
+        words = link.puts(1, {"a": b"hello"}) + ["--put", "a", "a"] * 84 + ["--idle", "1"]
+        texts = [link.starts(1, words, once).ended(30)[1] for _ in range(4)]
+        used = [int(it) for it in re.findall(r"transaction 1:(\d+)", "".join(texts))]
+        if used != list(range(1, 256)) or texts[3].count(" NumbersSpent\n") != 85:
+            yield f"with numbers of an octet: {len(used)} of {used[-1:]}, {texts[3][:200]!r}"
 
 
 def shared_mistakes(program):

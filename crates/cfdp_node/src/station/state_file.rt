@@ -16,9 +16,6 @@ const TITLE: &str = "cfdp_node station 1";
 /// The most octets of the file that are read: more than it has.
 const MOST_OCTETS: u64 = 4096;
 
-/// How many transaction numbers are reserved at a start at least.
-const LEAST_NUMBERS: u64 = 4096;
-
 /// How many frame counts are reserved at a time.
 const FRAMES: u64 = 1 << 20;
 
@@ -97,8 +94,8 @@ pub struct StateFile<'a> {
 }
 
 impl<'a> StateFile<'a> {
-    /// Takes the file at this path, which is made where there is none, and reserves numbers, for so
-    /// many puts or more: from the one on that is said, or else behind all that were reserved
+    /// Takes the file at this path, which is made where there is none, and reserves a number for
+    /// each of so many puts: from the one on that is said, or else behind all that were reserved
     /// before and, where that is more and fits a number of so many octets, the microseconds since
     /// 1970.
     ///
@@ -120,10 +117,7 @@ impl<'a> StateFile<'a> {
             // The peer may await the count behind the last one that was reserved.
             frames: before.frames.saturating_add(1),
         };
-        let behind = beginning
-            .number
-            .checked_add(puts.max(LEAST_NUMBERS))
-            .ok_or(StateError::Spent)?;
+        let behind = beginning.number.checked_add(puts).ok_or(StateError::Spent)?;
         let reserved = Reserved {
             numbers: behind.max(before.numbers),
             frames: beginning.frames.saturating_add(FRAMES),
