@@ -150,6 +150,7 @@ static void on_a_closed_handle(void)
     IS(cfdp_file_count(&s), 0);
     IS(cfdp_file(&s, 0, &info, room, sizeof room), CFDP_CLOSED);
     IS(cfdp_read_file(&s, 0, 0, room, sizeof room), CFDP_CLOSED);
+    IS(cfdp_remove_file(&s, room, 1), CFDP_CLOSED);
     cfdp_close(&s);
     cfdp_close(&s);
     IS(id.source, 7);
@@ -328,6 +329,26 @@ static void published_by(cfdp_station *s)
     IS(memcmp(copy, OCTETS + 7, 5), 0);
 }
 
+/* What is removed is gone with its memory, which takes none. */
+static void removed_from(cfdp_station *s)
+{
+    cfdp_file_info info;
+    uint8_t name[CFDP_NAME];
+    const long before = live, asked_before = asked;
+
+    IS(cfdp_remove_file(s, NAME_A, 1), CFDP_NOTHING);
+    IS(cfdp_remove_file(s, NAME_B, 0), CFDP_NOTHING);
+    IS(cfdp_file_count(s), 1);
+    IS(live, before);
+    IS(cfdp_remove_file(s, NAME_B, 1), CFDP_OK);
+    /* its name and its octets */
+    IS(before - live >= 2, 1);
+    IS(cfdp_remove_file(s, NAME_B, 1), CFDP_NOTHING);
+    IS(cfdp_file_count(s), 0);
+    IS(cfdp_file(s, 0, &info, name, sizeof name), CFDP_NOTHING);
+    IS(asked, asked_before);
+}
+
 static void transferred(void)
 {
     cfdp_station one = CFDP_STATION_INIT, two = CFDP_STATION_INIT;
@@ -356,6 +377,7 @@ static void transferred(void)
     told_by_sender(&one);
     told_by_receiver(&two);
     published_by(&two);
+    removed_from(&two);
     IS(cfdp_link_drops(&two, 1), 0);
     IS(cfdp_take(&two, junk, 0), CFDP_OK);
     IS(cfdp_link_drops(&two, 1), 1);

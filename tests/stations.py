@@ -140,6 +140,31 @@ def exchange_mistakes(program):
                     yield f"station {own} wrote no capture"
 
 
+def long_mistakes(program):
+    """What is wrong with a file of one octet more than 1 MiB, and one of 20 MB: nothing is cut."""
+    chance, sizes = random.Random(60), {"longer": (1 << 20) + 1, "long": 20_000_000}
+    sent = {name: chance.randbytes(size) for name, size in sizes.items()}
+    settings = {**PATIENT, "zone": 2040, "segment": 4096}
+    with tempfile.TemporaryDirectory(dir=program.room) as folder:
+        ports = dict(zip((1, 2), free_ports(2)))
+        words = ["--outbox", "from", "--idle", "6", "--rate", "20000"]
+        for name, octets in sent.items():
+            put(folder, 1, name, octets)
+            words += ["--put", name, name]
+        receiver = Station(program, folder, 2, 1, ports, ["--inbox", "to", "--idle", "6"], settings)
+        receiver.comes_up()
+        status, out, err = Station(program, folder, 1, 2, ports, words, settings).ended()
+        if status or unheard(err) or not out.endswith("complete 2 of 2\n"):
+            yield f"the sender: status {status}, {out[-300:]!r}, {err[-300:]!r}"
+        status, out, err = receiver.ended()
+        if status or unheard(err):
+            yield f"the receiver: status {status}, {out[-300:]!r}, {err[-300:]!r}"
+        came = files_at(folder, 2)
+        if came != sent:
+            lengths = {name: len(octets) for name, octets in came.items()}
+            yield f"what came isn't what was sent: {lengths}"
+
+
 def restart_mistakes(program):
     """What is wrong where a station is killed as it sends, and one is started in its place."""
     chance = random.Random(38)
@@ -394,6 +419,7 @@ def watched_memory_mistakes(program):
 def all_mistakes(program):
     """What is tried, with what is wrong in it."""
     yield "20 files each way between two processes", exchange_mistakes(program)
+    yield "a file of 1 MiB and an octet, and one of 20 MB", long_mistakes(program)
     yield "a station killed and started anew", restart_mistakes(program)
     yield "datagrams of a stranger", stranger_mistakes(program)
     yield "an address in use", address_mistakes(program)

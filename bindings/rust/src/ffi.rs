@@ -147,6 +147,7 @@ unsafe extern "C" {
         room: usize,
     ) -> u32;
     fn cfdp_read_file(s: &mut Handle, place: usize, at: usize, out: *mut u8, room: usize) -> u32;
+    fn cfdp_remove_file(station: &mut Handle, name: *const u8, n: usize) -> u32;
     fn cfdp_decode(pdu: *const u8, len: usize, out: &mut Pdu) -> u32;
 }
 
@@ -270,6 +271,11 @@ impl Handle {
     pub fn read_file(&mut self, place: usize, offset: usize, out: &mut [u8]) -> u32 {
         // SAFETY: the slice is writable for its length.
         unsafe { cfdp_read_file(self, place, offset, out.as_mut_ptr(), out.len()) }
+    }
+
+    pub fn remove_file(&mut self, name: &[u8]) -> u32 {
+        // SAFETY: the slice is readable for its length.
+        unsafe { cfdp_remove_file(self, name.as_ptr(), name.len()) }
     }
 }
 

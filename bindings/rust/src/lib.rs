@@ -207,6 +207,12 @@ impl Station {
         let answer = self.handle.read_file(place, 0, &mut octets);
         (answer == ffi::OK).then_some(File { name, octets })
     }
+
+    /// Removes the published file of a name, and tells whether there was one. The places of those
+    /// behind it are one less then.
+    pub fn remove_file(&mut self, name: &[u8]) -> bool {
+        self.handle.remove_file(name) == ffi::OK
+    }
 }
 
 /// Reads a PDU.

@@ -97,6 +97,8 @@ fn makes_room() -> Result<(), Error> {
     exchange(&mut one, &mut two)?;
     assert_eq!((ended_well(&mut one), ended_well(&mut two)), (1, 1));
     assert_eq!(two.file_count(), 1);
+    assert_eq!((two.remove_file(NAME), two.remove_file(NAME)), (true, false));
+    assert_eq!(two.file_count(), 0);
     Ok(())
 }
 

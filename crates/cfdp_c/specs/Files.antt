@@ -1,5 +1,8 @@
--- What a caller reads of the published files.
+-- What a caller reads of the published files, and which of them it lets go.
 use Rattle.std.specs.Prelude.{◌≡◌, ◌+◌, ℕ, Bool, true, false, List, length, take, drop, nat_le, Option, Some, None}
+use Rattle.cfdp_entity.specs.Entity.{with_table}
+use Rattle.cfdp_entity.specs.Forgetting.{without_file}
+use Rattle.cfdp_station.specs.Station.{StationState, KeepsLink}
 use Rattle.cfdp_c.specs.Codes.{ok, bad_argument, no_room, nothing}
 use Rattle.cfdp_c.specs.Told.{over}
 use Rattle.cfdp_c.specs.declared.files.CfdpFile.{CfdpFile}
@@ -35,3 +38,13 @@ ReadsFile None offset answer room_before room_now = (answer ≡ nothing) × (roo
 ReadsFile (Some f) offset answer room_before room_now =
     ReadsIf (nat_le (offset + length room_before) (length f.1)) f.1 offset answer
     room_before room_now
+
+-- The file of this name left the inbox, if there is one, and all else stayed.
+abbrev pub RemovesFile : Option (List ℕ) → (name : List ℕ) → (answer : ℕ)
+    → (old new : StationState) → Type 0
+RemovesFile None name answer old new = (answer ≡ nothing) × (new ≡ old)
+RemovesFile (Some octets) name answer old new = (answer ≡ ok)
+    × (new.entity ≡ record old.entity {
+      state = with_table old.entity.state (without_file name old.entity.state.table);
+    })
+    × KeepsLink old new

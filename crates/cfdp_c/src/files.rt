@@ -1,12 +1,13 @@
-//! The published files, by their places in ascending order of their names.
+//! The published files, by their places in ascending order of their names, until they are let go.
 ghost use Rattle.std.specs.Prelude.{◌≡◌, ◌≢◌, ◌+◌, false, length, nat_le, slice_get};
 ghost use Rattle.std.specs.BTreeMap.{IsOrdered};
 ghost use Rattle.std.specs.Cmp.Lexicographic.{slice_cmp};
+ghost use Rattle.std.specs.FinMap as map;
 ghost use Rattle.std.specs.FinMap.{entries};
 ghost use Rattle.std.specs.Option.{option_map};
 ghost use Rattle.std.specs.Ordering.{nat_cmp};
 ghost use Rattle.cfdp_c.specs.Codes as codes;
-ghost use Rattle.cfdp_c.specs.Files.{NamesFile, ReadsFile, ReadsIf};
+ghost use Rattle.cfdp_c.specs.Files.{NamesFile, ReadsFile, ReadsIf, RemovesFile};
 ghost use Rattle.cfdp_c.specs.Handles.{Becomes};
 
 use crate::codes::{BAD_ARGUMENT, CLOSED, NO_ROOM, NOTHING, OK};
@@ -109,6 +110,18 @@ impl Held {
             None => NOTHING,
         }
     }
+
+    fn remove_file(&mut self, name: &[u8]) -> u32
+        ensures { RemovesFile (map.get self.old.station.entity.state.table.files name.now) name.now
+            result self.old.station self.new.station }
+    {
+        // Where there is none, the clause says that nothing changed.
+        if self.station.inbox().published().get(name).is_none() {
+            return NOTHING;
+        }
+        let _ = self.station.remove_file(name);
+        OK
+    }
 }
 
 /// How many files are published; 0 of a closed handle.
@@ -174,6 +187,24 @@ pub extern "C" fn cfdp_read_file(
         return CLOSED;
     };
     let answer = held.read_file(place, offset, out);
+    *station = CfdpStation::holding(held);
+    answer
+}
+
+/// Lets go of the published file of a name: the places of those behind it are one less then.
+/// Answers 0, `CLOSED`, or `NOTHING` where there is no file of that name.
+#[unsafe(no_mangle)]
+pub extern "C" fn cfdp_remove_file(alloc: Global, station: &mut CfdpStation, name: &[u8]) -> u32
+    ensures open { station.new.is_open ≡ station.old.is_open }
+    ensures closed { station.old.is_open ≡ false → result ≡ codes.closed }
+    ensures removes { Becomes station.old station.new (λ x y. RemovesFile
+        (map.get x.station.entity.state.table.files name.now) name.now result
+        x.station y.station) }
+{
+    let Some(mut held) = station.lift(alloc) else {
+        return CLOSED;
+    };
+    let answer = held.remove_file(name);
     *station = CfdpStation::holding(held);
     answer
 }

@@ -26,7 +26,7 @@ pub use calls::{
 };
 pub use config::{CfdpConfig, CfdpLink, cfdp_defaults};
 pub use decoding::{CfdpPdu, cfdp_decode};
-pub use files::{CfdpFile, cfdp_file, cfdp_file_count, cfdp_read_file};
+pub use files::{CfdpFile, cfdp_file, cfdp_file_count, cfdp_read_file, cfdp_remove_file};
 pub use forgetting::{cfdp_forget, cfdp_forget_closed, cfdp_was_forgotten};
 pub use frames::{
     cfdp_drops, cfdp_flush, cfdp_frame_len, cfdp_frames_ahead, cfdp_link_drops, cfdp_next_frame,

@@ -12,7 +12,7 @@ use Rattle.cfdp_timers.specs.Armed.{TimersState, cleared}
 use Rattle.cfdp_entity.specs.declared.record.Record.{Record}
 use Rattle.cfdp_entity.specs.Desk.{Staged, DeskState}
 use Rattle.cfdp_entity.specs.Forgetting.{left_at}
-use Rattle.cfdp_entity.specs.Roomy.{Becomes}
+use Rattle.cfdp_entity.specs.Roomy.{Roomy, Becomes}
 use Rattle.std.proofs.lemmas.List.Quantifiers.{position-Some}
 use Rattle.std.proofs.lemmas.Option.{slice_get-get_or}
 use Rattle.cfdp_entity.specs.Seen.{Seen}
@@ -23,7 +23,7 @@ use Rattle.cfdp_entity.specs.Entity.{AreFree, AreUnforgotten, own_id}
 use Rattle.cfdp_entity.proofs.CallerLemmas.{same_id-symm}
 use Rattle.cfdp_entity.proofs.Histories.{no-record}
 use Rattle.cfdp_entity.proofs.Numbers.{none-past}
-use Rattle.cfdp_entity.proofs.Places.{position-none}
+use Rattle.cfdp_entity.proofs.Places.{keys-seen, position-none}
 
 abbrev Records : Type 0
 Records = List (TransactionId × Record)
@@ -83,6 +83,11 @@ length-left (x ∷ xs) (suc n) = let rest = length-left xs n in omega (arith, re
 pub seen-left : (staged : Staged) (es : Records) (place : ℕ) → entries_seen staged (remove es place) ≡ remove (entries_seen staged es) place
 unfolding entries_seen
 seen-left staged es place = map-left (entry_seen staged) es place
+
+-- which transaction's record is at a place, by the table that is seen
+pub at-view : (past : List Indication) (desk : DeskState) (es : Records) (place : ℕ) (id : TransactionId) (v : Roomy) → roomy_of past desk es ≡ v
+    → slice_get (keys_of v.state.records) place ≡ Some id → slice_get (keys_of es) place ≡ Some id
+at-view past desk es place id v is at = ap (λ ks. slice_get ks place) (sym (keys-seen desk.staged es)) ∙ ap (λ (w : Roomy). slice_get (keys_of w.state.records) place) is ∙ at
 
 module _ (past : List Indication) (desk new : DeskState) (es fs : Records) (flags left : List Bool) (place : ℕ) (id : TransactionId) (whole : IsWhole desk es flags) (at : slice_get (keys_of es) place ≡ Some id)
     (records : fs ≡ remove es place) (ready : left ≡ remove flags place) (timers : TimersState)

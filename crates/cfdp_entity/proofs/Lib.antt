@@ -1,5 +1,6 @@
 mod Bits
 mod Firsts
+mod FilesGone
 mod Flags
 pub mod Openings
 pub mod Histories
@@ -9,6 +10,8 @@ pub mod Sendings
 pub mod Tellings
 pub mod Timing
 pub mod Sounds
+pub mod Removing
+pub mod StillSound
 pub mod Growing
 pub mod Letting
 pub mod LettingGo

@@ -1,5 +1,6 @@
 -- Machines that are closed and have nothing due: what still happens to them.
 use Rattle.std.specs.Prelude.{◌≡◌, ℕ, false, List, [], Option, Some, None}
+use Rattle.std.specs.FinSet as set
 use Rattle.cfdp_header.specs.Files.{FileMap}
 use Rattle.cfdp_timers.specs.declared.kind.Kind.{Kind}
 use Rattle.cfdp_directives.specs.declared.pdu.codes.Acknowledged.TheVariants as acknowledged
@@ -20,10 +21,11 @@ use Rattle.cfdp_receiver.specs.Due as receives
 use Rattle.cfdp_receiver.specs.Steps.{ReceiverAfter, waits, takes}
 
 -- ---- a sender
--- It is closed, not suspended, and has no acknowledgement due.
+-- It is closed, so it isn't suspended and nothing is asked for; and it has no acknowledgement due.
 pub record RestsSender (x : SenderState) : Type 0 where
   pub closed : x.phase ≡ sending.Closed
   pub awake : x.suspended ≡ false
+  pub none_asked : x.asked ≡ set.empty
   pub none_due : x.ack_due ≡ None
 
 -- the condition that it then has to acknowledge: only a Finished makes it do so

@@ -1,6 +1,9 @@
--- Records that are let go, to make room for others: those that are closed and have nothing due.
+-- What is let go: records, to make room for others, of those that are closed and have nothing due;
+-- and received files.
 use Rattle.std.specs.Prelude.{◌≡◌, ℕ, ◌-◌, nat_lt, not, Bool, true, false, List, [], ◌∷◌, Option, Some, None, remove, slice_get, if◌then◌else◌}
+use Rattle.std.specs.FinMap as map
 use Rattle.std.specs.FinSet as set
+use Rattle.cfdp_header.specs.Files.{FileMap}
 use Rattle.cfdp_header.specs.declared.value.TransactionId.{TransactionId}
 use Rattle.cfdp_directives.specs.declared.user.phase.Phase.{Phase}
 use Rattle.cfdp_directives.specs.declared.user.phase.Phase.TheVariants as phases
@@ -97,3 +100,12 @@ pub record GoesAt (place : ℕ) (id : TransactionId) (old new : EntityState) : T
 abbrev pub GoesIfOver : Option TransactionId → ℕ → (old new : EntityState) → Type 0
 GoesIfOver (Some id) place old new = GoesAt place id old new
 GoesIfOver None place old new = new ≡ old
+
+-- ---- received files
+-- a table whose inbox has these files
+abbrev pub with_files : FileMap → TableState → TableState
+with_files files st = record st { files = files }
+
+-- the file of this name is gone from the inbox; all else stays
+abbrev pub without_file : (name : List ℕ) → TableState → TableState
+without_file name st = with_files (map.remove st.files name) st

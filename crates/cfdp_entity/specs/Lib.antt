@@ -30,5 +30,6 @@ pub mod Truth
 pub mod Sending
 pub mod Telling
 pub mod Sound
+pub mod Removing
 pub mod Spelled
 pub use Rattle.cfdp_timers.specs.Waits

@@ -1,16 +1,18 @@
-// Records and indications that are let go.
+// Records, indications and received files that are let go.
 ghost use Rattle.std.specs.Prelude.{◌≡◌, Some, IfErr, OnOk, OnErr, slice_get};
+ghost use Rattle.std.specs.FinMap as map;
 ghost use Rattle.std.specs.Map.{keys_of};
+ghost use Rattle.std.specs.Option.{option_map};
 ghost use Rattle.cfdp_entity.specs.Entity as entities;
 ghost use Rattle.cfdp_entity.specs.Entity.{with_table};
-ghost use Rattle.cfdp_entity.specs.Forgetting.{Forgets, ForgetsSome, GoesIfOver, HasNoneOver, IsForgetRefusal, forget_refusal, over_in, without_record};
+ghost use Rattle.cfdp_entity.specs.Forgetting.{Forgets, ForgetsSome, GoesIfOver, HasNoneOver, IsForgetRefusal, forget_refusal, over_in, without_file, without_record};
 ghost use Rattle.cfdp_entity.specs.Table.{next_told, without_told};
 
 use crate::entity::Entity;
 use crate::error::ForgetError;
 use cfdp_directives::Indication;
 use cfdp_header::TransactionId;
-use cfdp_store::{Inbox, Outbox};
+use cfdp_store::{Inbox, MemoryInbox, Outbox};
 use std::alloc::AllocError;
 
 impl<O: Outbox, I: Inbox> Entity<O, I> {
@@ -118,5 +120,19 @@ impl<O: Outbox, I: Inbox> Entity<O, I> {
             self.cursor -= 1;
         }
         Ok(())
+    }
+}
+
+impl<O: Outbox> Entity<O, MemoryInbox> {
+    /// Removes a published file from the inbox, if there is one of that name, and answers its
+    /// octets. Nothing else changes: not what is still received, nor what was indicated.
+    pub fn remove_file(&mut self, name: &[u8]) -> Option<Vec<u8>>
+        ensures octets { option_map (λ octets. octets.items) result
+            ≡ map.get self.old.state.table.files name.now }
+        ensures gone { self.new ≡ record self.old {
+          state = with_table self.old.state (without_file name.now self.old.state.table);
+        } }
+    {
+        self.table.remove_file(name)
     }
 }

@@ -18,24 +18,25 @@ ghost use Rattle.cfdp_entity.specs.declared.error.EntityDrop.{EntityDrop};
 ghost use Rattle.cfdp_entity.specs.Config.{IsConfig};
 ghost use Rattle.cfdp_entity.specs.Steps.{After};
 ghost use Rattle.cfdp_entity.specs.Table.{Entry, TableState, Ticks, SpoiledAt, without_told, record_of, step_at, with_record, first_table};
-ghost use Rattle.cfdp_entity.specs.History.{TableStep, table_step, MayHappen, OpensOther, Leads, KeepsRecords, FinishesOnce, also, none_gone, open_in};
+ghost use Rattle.cfdp_entity.specs.History.{TableStep, table_step, table_run, MayHappen, MayRun, OpensOther, Leads, KeepsRecords, FinishesOnce, also, none_gone, open_in};
 ghost use Rattle.cfdp_entity.specs.Truth.{TellsTruth, IsTrueTable};
 ghost use Rattle.cfdp_entity.specs.Seen.{due_content};
 ghost use Rattle.cfdp_entity.specs.Sending.{FindsPut, SendsTruth};
 ghost use Rattle.cfdp_entity.specs.Telling.{HearsDelivered, TellsNoMore};
 ghost use Rattle.cfdp_entity.specs.Entity.{EntityState, Counted, first_entity, with_table};
 ghost use Rattle.cfdp_entity.specs.Calls.{IsCalled};
-ghost use Rattle.cfdp_entity.specs.Forgetting.{Forgets, ForgetsSome};
+ghost use Rattle.cfdp_entity.specs.Forgetting.{Forgets, ForgetsSome, with_files, without_file};
 ghost use Rattle.cfdp_entity.specs.Hearing.{HearsOctets, DropsOctets};
 ghost use Rattle.cfdp_entity.specs.Polling.{turn, turn_octets, served};
 ghost use Rattle.cfdp_entity.specs.Putting.{Accepts};
 ghost use Rattle.cfdp_entity.specs.Sound.{IsSound, FindsMore, FindsById, next_put, ComesTrue, SpellsTurn, SaysDelivered, GoesOn};
+ghost use Rattle.cfdp_entity.specs.Removing.{GoesAlike, IsSoundBut, also_removed, none_removed};
 
 use cfdp_directives::no_pdu_begins_another;
 use cfdp_receiver::{
     a_completion_publishes_the_put, a_finished_says_what_was_indicated,
     a_transaction_is_finished_once, an_opening_may_finish, more_is_heard,
-    what_is_heard_true_is_kept_true,
+    published_files_change_no_step, what_is_heard_true_is_kept_true,
 };
 use cfdp_sender::{
     a_sender_finishes_once, a_sender_keeps_what_it_sends, a_sender_says_what_is_so,
@@ -271,4 +272,85 @@ pub fn an_entity_sends_the_truth()
     no_pdu_begins_another();
     a_finished_says_what_was_indicated();
     a_table_sends_the_truth();
+}
+
+/// What a table does never depends on the files that its inbox has published: with others in their
+/// place it makes the same steps, and publishes the same. So a file that was removed changes
+/// nothing else.
+pub fn removed_files_change_nothing_else()
+    ensures may { (files : FileMap) (s : TableStep) (st : TableState) → MayHappen s st
+        → MayHappen s (with_files files st) }
+    ensures step { (files : FileMap) (s : TableStep) (st : TableState) →
+        GoesAlike files st (table_step s st) (table_step s (with_files files st)) }
+    ensures steps { (files : FileMap) (steps : List TableStep) (st : TableState) →
+        MayRun steps st → MayRun steps (with_files files st)
+        × GoesAlike files st (table_run steps st) (table_run steps (with_files files st)) }
+{
+    published_files_change_no_step();
+}
+
+/// An entity is sound but for the files that were removed from its inbox, in all that keeps a sound
+/// one sound; and it sends the truth.
+pub fn an_entity_may_remove_files()
+    ensures sound { (put_of : TransactionId → Option Put) (heard : List (List ℕ))
+        (first : FileMap) (e : EntityState) → IsSound put_of heard first e
+        → IsSoundBut put_of heard first none_removed e }
+    ensures removed { (put_of : TransactionId → Option Put) (heard : List (List ℕ))
+        (first : FileMap) (removed : List ℕ → Bool) (name : List ℕ) (e : EntityState) →
+        IsSoundBut put_of heard first removed e
+        → IsSoundBut put_of heard first (also_removed name removed)
+        (with_table e (without_file name e.table)) }
+    ensures goes_on { (name : List ℕ) (e : EntityState) →
+        GoesOn e (with_table e (without_file name e.table)) }
+    ensures sends { (put_of : TransactionId → Option Put) (heard : List (List ℕ))
+        (first : FileMap) (removed : List ℕ → Bool) (e : EntityState) (h : Header) (v : Content) →
+        IsSoundBut put_of heard first removed e
+        → SpellsTurn (turn e) e → SpellsPdu h v (turn_octets (turn e) e)
+        → SaysTruth e.config.entity put_of h.id v
+        × SaysDelivered e.config.entity e.table.told h.id v }
+    ensures more { (put_of puts_then : TransactionId → Option Put) (heard more : List (List ℕ))
+        (first : FileMap) (removed : List ℕ → Bool) (e : EntityState) → FindsMore put_of puts_then
+        → IsSoundBut put_of heard first removed e → IsSoundBut puts_then (heard ++ more) first removed e }
+    ensures among { (put_of : TransactionId → Option Put) (heard others : List (List ℕ))
+        (first : FileMap) (removed : List ℕ → Bool) (e : EntityState) →
+        ((text : List ℕ) → Contains heard text → Contains others text)
+        → IsSoundBut put_of heard first removed e → IsSoundBut put_of others first removed e }
+    ensures put { (put_of : TransactionId → Option Put) (heard : List (List ℕ)) (first : FileMap) (removed : List ℕ → Bool)
+        (source destination : List ℕ) (id : TransactionId) (old new : EntityState) →
+        Accepts source destination id old new
+        → put_of id ≡ Some (next_put source destination old)
+        → IsSoundBut put_of heard first removed old → IsSoundBut put_of heard first removed new }
+    ensures called { (put_of : TransactionId → Option Put) (heard : List (List ℕ))
+        (first : FileMap) (removed : List ℕ → Bool) (c : Call) (id : TransactionId) (old new : EntityState) →
+        IsCalled c id old new → IsSoundBut put_of heard first removed old
+        → IsSoundBut put_of heard first removed new }
+    ensures ticked { (put_of : TransactionId → Option Put) (heard : List (List ℕ))
+        (first : FileMap) (removed : List ℕ → Bool) (now : ℕ) (old new : EntityState) → Ticks now old.table new.table
+        → new ≡ with_table old new.table
+        → IsSoundBut put_of heard first removed old → IsSoundBut put_of heard first removed new }
+    ensures heard { (put_of : TransactionId → Option Put) (heard : List (List ℕ))
+        (first : FileMap) (removed : List ℕ → Bool) (pdu : List ℕ) (old new : Counted) → FindsById put_of
+        → ComesTrue old.state.config.peer put_of heard pdu → HearsOctets pdu old new
+        → IsSoundBut put_of heard first removed old.state → IsSoundBut put_of heard first removed new.state }
+    ensures dropped { (put_of : TransactionId → Option Put) (heard : List (List ℕ))
+        (first : FileMap) (removed : List ℕ → Bool) (pdu : List ℕ) (by : EntityDrop) (old new : Counted) →
+        DropsOctets (pdu_fault pdu) pdu by old new
+        → IsSoundBut put_of heard first removed old.state → IsSoundBut put_of heard first removed new.state }
+    ensures served { (put_of : TransactionId → Option Put) (heard : List (List ℕ))
+        (first : FileMap) (removed : List ℕ → Bool) (stored : Stored) (e : EntityState) → IsSoundBut put_of heard first removed e
+        → IsSoundBut put_of heard first removed (served stored (turn e) e) }
+    ensures forgot { (put_of : TransactionId → Option Put) (heard : List (List ℕ))
+        (first : FileMap) (removed : List ℕ → Bool) (id : TransactionId) (old new : EntityState) → Forgets id old new
+        → IsSoundBut put_of heard first removed old → IsSoundBut put_of heard first removed new }
+    ensures some { (put_of : TransactionId → Option Put) (heard : List (List ℕ))
+        (first : FileMap) (removed : List ℕ → Bool) (old new : EntityState) → ForgetsSome old new
+        → IsSoundBut put_of heard first removed old → IsSoundBut put_of heard first removed new }
+    ensures told { (put_of : TransactionId → Option Put) (heard : List (List ℕ))
+        (first : FileMap) (removed : List ℕ → Bool) (count : ℕ) (e : EntityState) → IsSoundBut put_of heard first removed e
+        → IsSoundBut put_of heard first removed (with_table e (without_told count e.table)) }
+{
+    published_files_change_no_step();
+    an_entity_keeps_the_truth();
+    an_entity_may_forget();
+    an_entity_sends_the_truth();
 }

@@ -17,7 +17,7 @@ ghost use Rattle.cfdp_sender.specs.Does.{HasFile};
 ghost use Rattle.cfdp_entity.specs.Adding.{AddsSource, RefusesToAdd, with_source};
 ghost use Rattle.cfdp_entity.specs.Calling as calling;
 ghost use Rattle.cfdp_entity.specs.Forgetting as forgetting;
-ghost use Rattle.cfdp_entity.specs.Forgetting.{left_at, over_in};
+ghost use Rattle.cfdp_entity.specs.Forgetting.{left_at, over_in, without_file};
 ghost use Rattle.cfdp_entity.specs.Opening.{closing, AsksInOrder, CountsBoth};
 ghost use Rattle.cfdp_entity.specs.Roomy.{Becomes, LacksMemory, MayAdd, SendsFrom, Steps};
 ghost use Rattle.cfdp_entity.specs.Sound.{longest_pdu};
@@ -37,7 +37,7 @@ use crate::transactions::Transactions;
 use cfdp_directives::{Addressing, Indication, Pdu, Phase, Policy};
 use cfdp_header::TransactionId;
 use cfdp_sender::Transfer;
-use cfdp_store::{Inbox, MemoryOutbox, Outbox, StoreError, Stored};
+use cfdp_store::{Inbox, MemoryInbox, MemoryOutbox, Outbox, StoreError, Stored};
 use cfdp_timers::{Effects, Kind};
 use indexmap::IndexMap;
 use past::Counted;
@@ -520,5 +520,16 @@ impl<I: Inbox> Table<MemoryOutbox, I> {
         let name = Vec::from_slice(self.alloc, name)?;
         let octets = Vec::from_slice(self.alloc, octets)?;
         self.desk.outbox.add(name, octets)
+    }
+}
+
+impl<O: Outbox> Table<O, MemoryInbox> {
+    /// Removes a published file from the inbox, if there is one of that name.
+    pub fn remove_file(&mut self, name: &[u8]) -> Option<Vec<u8>>
+        ensures octets { option_map (λ octets. octets.items) result
+            ≡ map.get self.old.state.files name.now }
+        ensures gone { Becomes (without_file name.now self.old.state) self.old self.new }
+    {
+        self.desk.inbox.remove(name)
     }
 }

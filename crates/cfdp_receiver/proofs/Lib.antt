@@ -5,6 +5,7 @@ pub mod FactsTimers
 pub mod FactsKept
 pub mod FactsPieces
 pub mod FactsAsks
+pub mod Alike
 pub mod Sums
 pub mod SoundSteps
 pub mod SoundHears

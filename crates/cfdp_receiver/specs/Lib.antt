@@ -7,4 +7,5 @@ pub mod Steps
 pub mod Storing
 pub mod Does
 pub mod Sound
+pub mod Alike
 pub mod Asked

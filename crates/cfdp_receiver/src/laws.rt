@@ -33,6 +33,7 @@ ghost use Rattle.cfdp_receiver.specs.Pieces.{new_pieces, staged_with};
 ghost use Rattle.cfdp_receiver.specs.Steps.{opens, opened_closed, waits, with_data};
 ghost use Rattle.cfdp_receiver.specs.Does.{timers_set};
 ghost use Rattle.cfdp_receiver.specs.Sound.{ReceiverInput, receiver_step, opens_hearing, timers_opened, open_count, fault_count, held_after, brings_metadata, brings_ending, PublishesNone, Publishes, Sound, IsAmong, IsTrueInput, BeginsWithin, PublishesPut, is_file_fault, IsReceivable, is_lacking, is_tidy, owes_finished, is_bad_end, goes_well};
+ghost use Rattle.cfdp_receiver.specs.Alike.{PublishesAlike};
 
 use cfdp_directives::whole_file_has_its_checksum;
 use cfdp_extents::{
@@ -159,6 +160,17 @@ pub fn a_whole_file_is_published()
 {
     a_set_is_what_it_holds();
 }
+
+/// What a step does never depends on the files that were published before: with others in their
+/// place it publishes the same, and leaves all else the same.
+pub fn published_files_change_no_step()
+    ensures step { (stored : Stored) (input : ReceiverInput) (m : OctetMap) (files other : FileMap)
+        (r : ReceiverState) → PublishesAlike files other (receiver_step stored input m files r)
+        (receiver_step stored input m other r) }
+    ensures opened { (stored : Stored) (large : Bool) (files other : FileMap)
+        (addressing : Addressing) → PublishesAlike files other
+        (opens stored large files addressing) (opens stored large other addressing) }
+{}
 
 /// While a file comes in, something of it is missing: Metadata, the EOF, or an offset below its
 /// size.

@@ -33,8 +33,9 @@ pub use laws::{
     a_finished_says_what_was_indicated, a_nak_that_is_due_asks_for_something,
     a_rejection_has_a_refusal, a_transaction_is_finished_once, a_true_file_raises_no_fault,
     a_whole_file_is_published, an_opened_receiver_has_its_timers, an_opening_may_finish,
-    more_is_heard, octets_held_keep_their_value, timers_are_those_waited_for, what_comes_is_kept,
-    what_goes_well_ends_well, what_is_heard_true_is_kept_true,
+    more_is_heard, octets_held_keep_their_value, published_files_change_no_step,
+    timers_are_those_waited_for, what_comes_is_kept, what_goes_well_ends_well,
+    what_is_heard_true_is_kept_true,
 };
 pub use receiver::Receiver;
 pub use state::{Ending, FileInfo, ReceiverPhase};

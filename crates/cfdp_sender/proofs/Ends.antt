@@ -68,7 +68,7 @@ eof-untold Cancelling taken own id = refl
 eof-untold Closed taken own id = refl
 
 -- what carries data isn't due of a closed one
-not-closed : (x : SenderState) (start end : ℕ) → x.phase ≡ Closed → (sender_due x ≡ Some (due.AskedData start end)) ⊎ (sender_due x ≡ Some (due.NewData start end)) → ⊥
+pub not-closed : (x : SenderState) (start end : ℕ) → x.phase ≡ Closed → (sender_due x ≡ Some (due.AskedData start end)) ⊎ (sender_due x ≡ Some (due.NewData start end)) → ⊥
 not-closed x start end is h = by_suspended x.suspended refl
   where
     by_ack : (o : Option ℕ) → (ack_first o x ≡ Some (due.AskedData start end)) ⊎ (ack_first o x ≡ Some (due.NewData start end)) → ⊥
@@ -150,7 +150,7 @@ again-once x (Some count) handler open_yet = none-once x _ (λ _. refl) (λ c. c
 again-once x None handler open_yet = unacknowledged-once x x.phase handler refl open_yet
 
 -- what is closed waits for nothing
-waits-open : (kind : Kind) (x : SenderState) → sender_waits kind x ≡ true → x.phase ≡ Closed → ⊥
+pub waits-open : (kind : Kind) (x : SenderState) → sender_waits kind x ≡ true → x.phase ≡ Closed → ⊥
 waits-open EofAck x w is = let none : (not x.suspended && waits_for_eof_ack Closed x) ≡ true = ap (λ p. not x.suspended && waits_for_eof_ack p x) (sym is) ∙ w in
     false≢true (sym (and-false (not x.suspended)) ∙ none)
 waits-open Inactivity x w is = let none : (not x.suspended && waits_for_anything Closed x) ≡ true = ap (λ p. not x.suspended && waits_for_anything p x) (sym is) ∙ w in

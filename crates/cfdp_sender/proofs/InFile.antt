@@ -67,7 +67,7 @@ cancelled-in : (x : SenderState) (condition : ℕ) → 0 < condition → IsInFil
 cancelled-in x condition some s = record { some = s.some; sent = s.sent; asked = asked-none set.empty x.sent refl; cause = some }
 
 closed-in : (x : SenderState) → IsInFile x → IsInFile (closed x)
-closed-in x s = kept-in x (closed x) s (refl, refl, refl, refl, tt)
+closed-in x s = record { some = s.some; sent = s.sent; asked = asked-none set.empty x.sent refl; cause = tt }
 
 -- hearing
 ack-in : (x : SenderState) (p : SenderPhase) (condition : ℕ) → IsInFile x → IsInFile (hears_ack p condition x).sender
@@ -175,7 +175,7 @@ pub step-in : (policy : Policy) (file : List ℕ) (input : SenderInput) (x : Sen
 step-in policy file (Sends stored d) x s is = sent-in stored file x d s (due-is x d is)
 step-in policy file (HearsAck condition) x s is = ack-in x x.phase condition s
 step-in policy file (HearsNak pairs) x s is = nak-in x x.phase pairs s
-step-in policy file (HearsFinished outcome) x s is = kept-in x _ s (refl, refl, refl, refl, tt)
+step-in policy file (HearsFinished outcome) x s is = kept-in (closed x) _ (closed-in x s) (refl, refl, refl, refl, tt)
 step-in policy file (HearsKeepAlive progress) x s is = s
 step-in policy file (Expires kind) x s is = expired-in kind policy x s
 step-in policy file Cancels x s is = cancels-in x.phase x s

@@ -7,6 +7,7 @@ pub mod InFile
 pub mod Truth
 pub mod KeepsPut
 pub mod Ends
+mod Resting
 pub mod Told
 pub mod Waiting
 pub mod Rows

@@ -190,6 +190,9 @@ told_complete : sender_hears_finished delivered sent
     ≡ record { sender = record sent { phase = Closed; ack_due = Some 0 }; told = indication.Finished id 0 Complete Retained ∷ []; anew = Some Inactivity }
 told_complete = refl
 
+closed_asks_nothing : (sender_hears_finished delivered (record sent { asked = range 0 4 })).sender.asked ≡ set.empty
+closed_asks_nothing = refl
+
 finished_again : (sender_hears_finished delivered (record sent { phase = Closed })).told ≡ []
 finished_again = refl
 

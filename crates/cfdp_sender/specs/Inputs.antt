@@ -1,5 +1,6 @@
 -- All that may happen to a sender, as one step, and what it has to do with a put.
 use Rattle.std.specs.Prelude.{◌≡◌, ℕ, ◌<◌, ◌≤◌, Bool, true, false, List, take, length, Some, count_by}
+use Rattle.std.specs.FinSet as set
 use Rattle.cfdp_header.specs.declared.value.TransactionId.{TransactionId}
 use Rattle.cfdp_header.specs.Ids.{same_id}
 use Rattle.cfdp_timers.specs.declared.kind.Kind.{Kind}
@@ -51,6 +52,10 @@ sender_step policy file (Prompts keep_alive) x = sender_prompts keep_alive x
 abbrev pub MayHappen : SenderInput → SenderState → Type 0
 MayHappen (Sends stored d) x = sender_due x ≡ Some d
 MayHappen _ x = Unit {0}
+
+-- Once it is closed a sender isn't suspended, and nothing of its file is asked for.
+abbrev pub RestsOnceClosed : SenderState → Type 0
+RestsOnceClosed x = x.phase ≡ Closed → (x.asked ≡ set.empty) × (x.suspended ≡ false)
 
 -- A sender sends this put, and the checksum is that of the front of its file that was sent.
 pub record IsSenderOf (put : Put) (x : SenderState) : Type 0 where

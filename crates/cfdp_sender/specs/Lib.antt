@@ -1,4 +1,5 @@
 pub mod State
+pub mod Names
 pub mod InFile
 pub mod Inside
 pub mod Due

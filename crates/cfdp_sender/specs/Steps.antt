@@ -52,9 +52,9 @@ cancelling condition x = record x {
   count = 0;
 }
 
--- what is closed is no longer suspended
+-- what is closed is no longer suspended, and nothing is asked for
 abbrev pub closed : SenderState → SenderState
-closed x = record x { phase = Closed; suspended = false }
+closed x = record x { phase = Closed; suspended = false; asked = set.empty }
 
 -- what a cancelled transaction comes to
 abbrev pub cancelled : SenderState → Outcome

@@ -153,6 +153,7 @@ impl Sender {
 
     // The PDU that is due, but for the octets of the file that it carries.
     pub(crate) fn says(&self, due: &SenderDue) -> Pdu<'_>
+        requires { sender_due self.now ≡ Some due.now }
         ensures { view result ≡ pdu_says [] self.now due.now }
     {
         match due {
@@ -167,8 +168,8 @@ impl Sender {
             SenderDue::Metadata => Pdu::Metadata {
                 checksum_kind: self.checksum_kind,
                 size: self.size,
-                source: self.source.as_slice(),
-                destination: self.destination.as_slice(),
+                source: self.names.source(),
+                destination: self.names.destination(),
                 options: Tlvs::none(),
             },
             SenderDue::AskedData(start, _) | SenderDue::NewData(start, _) => Pdu::FileData {

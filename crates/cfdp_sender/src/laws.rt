@@ -23,7 +23,7 @@ ghost use Rattle.cfdp_sender.specs.InFile.{IsInFile};
 ghost use Rattle.cfdp_sender.specs.Due.{sender_due, sender_says};
 ghost use Rattle.cfdp_sender.specs.Steps.{sender_waits};
 ghost use Rattle.cfdp_sender.specs.Does.{AsksSome, timers_set};
-ghost use Rattle.cfdp_sender.specs.Inputs.{SenderInput, HearsFinished, MayHappen, sender_step, put_of, IsSenderOf, FinishesOnce, IsFailedRead, delivered};
+ghost use Rattle.cfdp_sender.specs.Inputs.{SenderInput, HearsFinished, MayHappen, sender_step, put_of, IsSenderOf, FinishesOnce, IsFailedRead, delivered, RestsOnceClosed};
 
 /// What a sender is to send stays the same, whatever happens to it: the transaction, its two ends,
 /// the names and the size. So its file is still there, and its timers still have room.
@@ -32,6 +32,17 @@ pub fn a_sender_keeps_what_it_sends()
         transfer_of (sender_step policy file input x).sender ≡ transfer_of x }
     ensures partly { (pairs : List (ℕ × ℕ)) (x y : SenderState) → AsksSome pairs x y
         → transfer_of y ≡ transfer_of x }
+{}
+
+/// A sender that is closed isn't suspended, and nothing of its file is asked for: whatever happens
+/// to it before and after.
+pub fn a_closed_sender_rests()
+    ensures opened { (t : Transfer) → RestsOnceClosed (opened_sender t) }
+    ensures stays { (policy : Policy) (file : List ℕ) (input : SenderInput) (x : SenderState) →
+        RestsOnceClosed x → MayHappen input x
+        → RestsOnceClosed (sender_step policy file input x).sender }
+    ensures partly { (pairs : List (ℕ × ℕ)) (x y : SenderState) → AsksSome pairs x y
+        → RestsOnceClosed y }
 {}
 
 /// What a sender has due is in its file. So it is of every sender, once it is opened, and whatever

@@ -17,6 +17,7 @@ mod due;
 mod expiry;
 mod hearing;
 mod laws;
+mod names;
 mod phase;
 mod sender;
 mod taken;
@@ -25,10 +26,10 @@ mod transfer;
 
 pub use due::SenderDue;
 pub use laws::{
-    a_sender_finishes_once, a_sender_keeps_what_it_sends, a_sender_says_what_is_so,
-    a_sender_waits_with_armed_timers, a_source_fault_comes_of_a_failed_read,
-    an_eof_has_the_checksum_of_what_was_sent, told_complete_by_a_finished_alone,
-    what_is_due_is_in_the_file,
+    a_closed_sender_rests, a_sender_finishes_once, a_sender_keeps_what_it_sends,
+    a_sender_says_what_is_so, a_sender_waits_with_armed_timers,
+    a_source_fault_comes_of_a_failed_read, an_eof_has_the_checksum_of_what_was_sent,
+    told_complete_by_a_finished_alone, what_is_due_is_in_the_file,
 };
 pub use phase::SenderPhase;
 pub use sender::Sender;

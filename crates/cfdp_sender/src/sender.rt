@@ -9,11 +9,12 @@ ghost use Rattle.cfdp_sender.specs.Steps as steps;
 ghost use Rattle.cfdp_sender.specs.Steps.{sender_waits};
 ghost use Rattle.cfdp_sender.specs.Does.{HasTimers, timers_set};
 
+use crate::names::Names;
 use crate::phase::SenderPhase;
 use crate::transfer::Transfer;
 use cfdp_directives::{
-    Addressing, Checksum, ChecksumKind, Condition, Delivery, FileStatus, Indication, Octets,
-    Outcome, Phase, Times, tell,
+    Addressing, Checksum, ChecksumKind, Condition, Delivery, FileStatus, Indication, Outcome,
+    Phase, Times, tell,
 };
 use cfdp_extents::Extents;
 use cfdp_header::TransactionId;
@@ -24,15 +25,14 @@ use std::marker::Model;
 /// The sending side of one transaction (CCSDS 727.0-B-5, 4.6.1.1): what was sent of its file, what
 /// is due, and what is waited for. The time is that of the timers.
 ///
-/// It keeps no octet of the file, but the checksum of the front that was sent. Only `open` and
-/// `on_nak` take memory.
+/// It keeps no octet of the file, but the checksum of the front that was sent. A closed one keeps
+/// neither the names nor what was asked for. Only `open` and `on_nak` take memory.
 #[derive(Debug, Drop)]
 pub struct Sender {
     pub(crate) addressing: Addressing,
     pub(crate) checksum_kind: ChecksumKind,
     pub(crate) segment: u16,
-    pub(crate) source: Octets,
-    pub(crate) destination: Octets,
+    pub(crate) names: Names,
     pub(crate) size: u64,
     pub(crate) phase: SenderPhase,
     pub(crate) suspended: bool,
@@ -53,17 +53,17 @@ impl Model for Sender {
     ghost use Rattle.std.specs.Coded.{codes, coded_ℕ};
     ghost use Rattle.std.specs.Ordering.{nat_cmp};
     ghost use Rattle.std.specs.FinSet as set;
-    ghost use Rattle.cfdp_sender.specs.State.{SenderState, IsSender};
+    ghost use Rattle.cfdp_sender.specs.State.{SenderState};
 
     ghost Value = { SenderState };
 
     ghost coded = { Prim.hlevel (codes, set.code {R = nat_cmp} coded_ℕ) };
 
-    ghost use Rattle.cfdp_sender.specs.Inside.{state_of};
+    ghost use Rattle.cfdp_sender.specs.Inside.{state_of, IsInside};
 
     ghost view = { state_of };
 
-    ghost invariant = { λ s. IsSender (state_of s) };
+    ghost invariant = { IsInside };
 }
 
 impl Sender {
@@ -102,8 +102,7 @@ impl Sender {
             addressing: transfer.addressing,
             checksum_kind: transfer.checksum_kind,
             segment: transfer.segment,
-            source: transfer.source,
-            destination: transfer.destination,
+            names: Names::new(transfer.source, transfer.destination),
             size: transfer.size,
             phase: SenderPhase::Sending,
             suspended: false,
@@ -219,12 +218,15 @@ impl Sender {
         self.count = 0;
     }
 
-    // It is over, and so is a suspension.
+    // It is over, and so is a suspension. Its record may stay for long until it is forgotten: so
+    // memory lets go of the names, and of what was asked for.
     pub(crate) fn close(&mut self)
         ensures { self.new ≡ steps.closed self.old }
     {
         self.phase = SenderPhase::Closed;
         self.suspended = false;
+        self.names.let_go();
+        self.asked.clear();
     }
 
     // What a cancelled transaction comes to.

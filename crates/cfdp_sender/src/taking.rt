@@ -10,6 +10,7 @@ ghost use Rattle.cfdp_store.specs.declared.stored.Stored.TheVariants as answers;
 ghost use Rattle.cfdp_timers.specs.Effects.{HasRoom};
 ghost use Rattle.cfdp_sender.specs.Due.{sender_due, sender_says, carries};
 ghost use Rattle.cfdp_sender.specs.declared.due.SenderDue.TheVariants as dues;
+ghost use Rattle.cfdp_sender.specs.declared.phase.SenderPhase.TheVariants as phases;
 ghost use Rattle.cfdp_sender.specs.Reading.{Reads, ReadsOnce};
 ghost use Rattle.cfdp_sender.specs.Steps as steps;
 ghost use Rattle.cfdp_sender.specs.Does.{HasFile, Leaves, Writes, Takes, was_given};
@@ -115,6 +116,7 @@ impl Sender {
         count: usize,
         out: &mut [u8],
     ) -> Result<usize, StoreError>
+        requires sending { self.now.phase ≡ phases.Sending }
         requires file { HasFile (O.files outbox.old) self.now.source self.now.size }
         requires within { start + count ≤ self.now.size }
         requires short { count ≤ 4096 }
@@ -131,7 +133,7 @@ impl Sender {
     {
         let large = self.is_large();
         let at = self.addressing.write_data_front(large, start, count, out);
-        read_to(outbox, self.source.as_slice(), start, out, at, count)?;
+        read_to(outbox, self.names.source(), start, out, at, count)?;
         Ok(at + count)
     }
 

@@ -19,7 +19,7 @@ pub struct Transfer {
     pub source: Octets,
     /// The file's name at the receiver: 1 to 255 octets.
     pub destination: Octets,
-    /// Octets of the file: below 2^32.
+    /// Octets of the file: 2^48 at most.
     pub size: u64,
 }
 

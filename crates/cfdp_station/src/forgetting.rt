@@ -1,8 +1,10 @@
 //! What a user lets go, so that a station can stay up: its memory then follows what is open.
 ghost use Rattle.std.specs.Prelude.{◌≡◌, IfErr, OnOk, OnErr};
+ghost use Rattle.std.specs.FinMap as map;
+ghost use Rattle.std.specs.Option.{option_map};
 ghost use Rattle.cfdp_entity.specs.Entity as entities;
 ghost use Rattle.cfdp_entity.specs.Entity.{with_table};
-ghost use Rattle.cfdp_entity.specs.Forgetting.{Forgets, ForgetsSome, HasNoneOver, IsForgetRefusal, forget_refusal};
+ghost use Rattle.cfdp_entity.specs.Forgetting.{Forgets, ForgetsSome, HasNoneOver, IsForgetRefusal, forget_refusal, without_file};
 ghost use Rattle.cfdp_entity.specs.Table.{next_told, without_told};
 ghost use Rattle.cfdp_station.specs.Station.{KeepsLink};
 
@@ -10,7 +12,7 @@ use crate::station::Station;
 use cfdp_directives::Indication;
 use cfdp_entity::ForgetError;
 use cfdp_header::TransactionId;
-use cfdp_store::{Inbox, Outbox};
+use cfdp_store::{Inbox, MemoryInbox, Outbox};
 use std::alloc::AllocError;
 
 impl<O: Outbox, I: Inbox> Station<O, I> {
@@ -85,5 +87,21 @@ impl<O: Outbox, I: Inbox> Station<O, I> {
         ensures link { KeepsLink self.old self.new }
     {
         self.entity.next_indication()
+    }
+}
+
+impl<O: Outbox> Station<O, MemoryInbox> {
+    /// Removes a published file from the inbox, if there is one of that name, and answers its
+    /// octets. Nothing else changes: not what is still received, nor what was indicated.
+    pub fn remove_file(&mut self, name: &[u8]) -> Option<Vec<u8>>
+        ensures octets { option_map (λ octets. octets.items) result
+            ≡ map.get self.old.entity.state.table.files name.now }
+        ensures gone { self.new.entity ≡ record self.old.entity {
+          state = with_table self.old.entity.state
+              (without_file name.now self.old.entity.state.table);
+        } }
+        ensures link { KeepsLink self.old self.new }
+    {
+        self.entity.remove_file(name)
     }
 }

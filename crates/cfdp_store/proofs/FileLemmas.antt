@@ -1,14 +1,15 @@
 -- What a map from names to octets does, seen as a `FileMap`.
-use Rattle.std.proofs.Common.{◌≡◌, ℕ, Bool, cond, List, [], ◌∷◌, Option, Some, refl, sym, ap, ◌∙◌}
+use Rattle.std.proofs.Common.{◌≡◌, ℕ, Bool, true, false, cond, List, [], ◌∷◌, Option, Some, None, refl, sym, ap, ◌∙◌}
+use Rattle.std.proofs.lemmas.Bool.{false≢true}
 use Rattle.std.specs.Prelude.{map, Vec}
 use Rattle.std.specs.Option.{option_map}
-use Rattle.std.specs.Map.{lookup}
+use Rattle.std.specs.Map.{lookup, remove_entry}
 use Rattle.std.specs.Ordering.{nat_cmp, is_eq, eq_by_cmp, match_ordering}
 use Rattle.std.specs.declared.cmp.Ordering.{Ordering}
 use Rattle.std.specs.declared.cmp.Ordering.TheVariants.{Less, Equal, Greater}
 use Rattle.std.specs.Cmp.Lexicographic.{slice_cmp, nat_list_cmp_total}
 use Rattle.std.specs.BTreeMap.{insert_entry}
-use Rattle.std.specs.FinMap.{get, insert, find, put, same_map, slice_cmp-IsAntisymmetric, nat_cmp-IsAntisymmetric, get-from_entries, get-insert}
+use Rattle.std.specs.FinMap.{get, insert, remove, find, put, same_map, slice_cmp-IsAntisymmetric, nat_cmp-IsAntisymmetric, get-from_entries, get-insert, get-remove}
 use Rattle.std.specs.FinMap.Entries.{by_order, find-put}
 use Rattle.cfdp_store.specs.Files.{files_of}
 
@@ -25,6 +26,15 @@ octets_at o = option_map (λ v. v.items) o
 shown_value : {Z : Type 0} (b : Bool) (v : Vec ℕ Z) (o : Option (Vec ℕ Z)) (p : Option (List ℕ)) → p ≡ octets_at o → cond b (Some v.items) p ≡ octets_at (cond b (Some v) o)
 shown_value Bool.true v o p e = refl
 shown_value Bool.false v o p e = e
+
+compares : (o : Ordering) → is_eq o ≡ true → o ≡ Equal
+compares Less e = absurd (false≢true e)
+compares Equal e = refl
+compares Greater e = absurd (false≢true e)
+
+-- names that compare equal are the same
+same-items : (a b : List ℕ) → eq_by_cmp R a b ≡ true → a ≡ b
+same-items a b e = slice_cmp-IsAntisymmetric nat_cmp-IsAntisymmetric a b (compares (R a b) e)
 
 module _ {Y Z : Type 0} where
   abbrev show : Vec ℕ Y × Vec ℕ Z → List ℕ × List ℕ
@@ -56,3 +66,25 @@ module _ {Y Z : Type 0} where
       ∙ find-put R nat_list_cmp_total q k.items v.items (map show es)
       ∙ ap (cond (eq_by_cmp R q k.items) (Some v.items)) (sym (get-from_entries nat_list_cmp_total (map show es) q))
       ∙ sym (get-insert nat_list_cmp_total (files_of es) k.items v.items q))
+
+  -- an entry taken out by a test leaves what a look-up finds by another
+  others-stay : (test other : Vec ℕ Y → Bool) → ((k : Vec ℕ Y) → test k ≡ true → other k ≡ false) → (es : List (Vec ℕ Y × Vec ℕ Z)) → lookup other (remove_entry test es) ≡ lookup other es
+  others-stay test other apart [] = refl
+  others-stay test other apart (e ∷ es) =
+      elim (test e.0) as (λ b. test e.0 ≡ b → lookup other (cond b es (e ∷ remove_entry test es)) ≡ cond (other e.0) (Some e.1) (lookup other es)) [
+        | true ↦ λ is. ap (λ b. cond b (Some e.1) (lookup other es)) (sym (apart e.0 is))
+        | false ↦ λ is. ap (cond (other e.0) (Some e.1)) (others-stay test other apart es)
+      ] refl
+
+  -- an entry taken out of the map is a file taken out of the files
+  pub files_of-remove : (old new : List (Vec ℕ Y × Vec ℕ Z)) (name : List ℕ) → new ≡ remove_entry (λ k. eq_by_cmp R name k.items) old → lookup (λ k. eq_by_cmp R name k.items) new ≡ None → files_of new ≡ remove (files_of old) name
+  files_of-remove old new name entries none = same_map nat_list_cmp_total (slice_cmp-IsAntisymmetric nat_cmp-IsAntisymmetric) _ _ (λ q.
+      get-files_of new q
+      ∙ elim (eq_by_cmp R q name) as (λ b. eq_by_cmp R q name ≡ b → octets_at (lookup (λ (k : Vec ℕ Y). eq_by_cmp R q k.items) new) ≡ cond b None (get (files_of old) q)) [
+        | true ↦ λ is. ap (λ n. octets_at (lookup (λ (k : Vec ℕ Y). eq_by_cmp R n k.items) new)) (same-items q name is)
+            ∙ ap octets_at none
+        | false ↦ λ is. ap (λ es. octets_at (lookup (λ (k : Vec ℕ Y). eq_by_cmp R q k.items) es)) entries
+            ∙ ap octets_at (others-stay _ (λ k. eq_by_cmp R q k.items) (λ k at. ap (eq_by_cmp R q) (sym (same-items name k.items at)) ∙ is) old)
+            ∙ sym (get-files_of old q)
+      ] refl
+      ∙ sym (get-remove nat_list_cmp_total (files_of old) name q))

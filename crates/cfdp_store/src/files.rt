@@ -94,4 +94,12 @@ impl Files {
         self.files.insert(name, octets)?;
         Ok(())
     }
+
+    /// Removes the file of that name, if there is one, and answers its octets.
+    pub fn remove(&mut self, name: &[u8]) -> Option<Vec<u8>>
+        ensures octets { option_map (λ octets. octets.items) result ≡ map.get self.old name.now }
+        ensures files { self.new ≡ map.remove self.old name.now }
+    {
+        self.files.remove(name)
+    }
 }

@@ -15,8 +15,8 @@ use cfdp_header::TransactionId;
 /// brings them. Once all of them are there, the file is published under its name, and only then do
 /// others see it. A name is a run of octets, and so is what a file has in it.
 pub trait Inbox: Drop {
-    /// The octets of each published file by its name. Only a `publish` that answers `Ok` changes
-    /// them.
+    /// The octets of each published file by its name. Of these calls only a `publish` that answers
+    /// `Ok` changes them.
     ghost published: { Self → FileMap };
 
     /// The octets staged for a transaction, by their offsets in the file. `None` where nothing may

@@ -1,5 +1,6 @@
 ghost use Rattle.std.specs.Prelude.{◌≡◌, Some, None, false, IsSome, IfOk, OnErr, OnOk};
 ghost use Rattle.std.specs.FinMap as map;
+ghost use Rattle.std.specs.Option.{option_map};
 ghost use Rattle.cfdp_header.specs.declared.value.TransactionId.{TransactionId};
 ghost use Rattle.cfdp_store.specs.Stores.{failures_after};
 ghost use Rattle.cfdp_store.specs.Staged.{OthersKeep, written, front, staged_for};
@@ -130,6 +131,21 @@ impl MemoryInbox {
         ensures { result.now ≡ ⟦<MemoryInbox as Inbox>⟧.published self.now }
     {
         &self.files
+    }
+
+    /// Removes a published file, if there is one of that name, and answers its octets. What is
+    /// staged, and the other files, stay.
+    pub fn remove(&mut self, name: &[u8]) -> Option<Vec<u8>>
+        ensures octets { option_map (λ octets. octets.items) result
+            ≡ map.get (⟦<MemoryInbox as Inbox>⟧.published self.old) name.now }
+        ensures published { ⟦<MemoryInbox as Inbox>⟧.published self.new
+            ≡ map.remove (⟦<MemoryInbox as Inbox>⟧.published self.old) name.now }
+        ensures staged { ⟦<MemoryInbox as Inbox>⟧.staged self.new
+            ≡ ⟦<MemoryInbox as Inbox>⟧.staged self.old }
+        ensures failures { ⟦<MemoryInbox as Inbox>⟧.failures self.new
+            ≡ ⟦<MemoryInbox as Inbox>⟧.failures self.old }
+    {
+        self.files.remove(name)
     }
 
     /// Counts a failure for want of memory, and names it.

@@ -11,30 +11,30 @@ use Rattle.cfdp_sender.proofs.sender.Sender.due.Goals as goal
 
 pub written_len-requires : goal.written_len-requires
 written_len-requires c =
-    let s : IsSender c.args.self.now = subst IsSender c.self.view_is c.self.invariant in
+    let s : IsSender c.args.self.now = subst IsSender c.self.view_is c.self.invariant.sender in
     let is : sender_due c.args.self.now ≡ Some c.in_ok-due.due = sym c.in_ok-due.ensures in
     rw (c.says.ensures, c.is_large-large.ensures) (fits-short c.args.self.now c.in_ok-due.due [] s is (omega arith)).1
 
 pub overflow_add-result : goal.overflow_add-result
 overflow_add-result c =
-    let s : IsSender c.args.self.now = subst IsSender c.self.view_is c.self.invariant in
+    let s : IsSender c.args.self.now = subst IsSender c.self.view_is c.self.invariant.sender in
     let is : sender_due c.args.self.now ≡ Some c.in_ok-due.due = sym c.in_ok-due.ensures in
     let fits = (fits-short c.args.self.now c.in_ok-due.due [] s is (omega arith)).1 in
     let content = ap (λ b. content_len (file_size_octets b) (view c.says.result)) c.is_large-large.ensures ∙ ap (content_len (file_size_octets (is_large c.args.self.now.size))) c.says.ensures in
-    let widths = c.self.invariant.transfer.addressing.id in
+    let widths = c.self.invariant.sender.transfer.addressing.id in
     omega (arith, c.written_len.ensures, content, fits, widths.id_width.1, widths.number_width.1, c.extent-carried.ensures.short)
 
 pub returns-clause-short : goal.returns-clause-short
 returns-clause-short c =
-    let s : IsSender c.args.self.now = subst IsSender c.self.view_is c.self.invariant in
+    let s : IsSender c.args.self.now = subst IsSender c.self.view_is c.self.invariant.sender in
     let short = content-short c.args.self.now c.in_ok-due.due _ s c.extent-carried.ensures.short c.extent-carried.ensures.some in
     let content = ap (λ b. content_len (file_size_octets b) (view c.says.result)) c.is_large-large.ensures ∙ ap (content_len (file_size_octets (is_large c.args.self.now.size))) c.says.ensures in
-    let widths = c.self.invariant.transfer.addressing.id in
+    let widths = c.self.invariant.sender.transfer.addressing.id in
     omega (arith, c.written_len.ensures, content, short, widths.id_width.1, widths.number_width.1)
 
 pub returns-clause-can_write : goal.returns-clause-can_write
 returns-clause-can_write c = λ file.
-    let s : IsSender c.args.self.now = subst IsSender c.self.view_is c.self.invariant in
+    let s : IsSender c.args.self.now = subst IsSender c.self.view_is c.self.invariant.sender in
     let is : sender_due c.args.self.now ≡ Some c.in_ok-due.due = sym c.in_ok-due.ensures in
     let Can : SenderDue → Type 0 = λ d. CanWrite (header_of c.args.self.now.addressing (is_large c.args.self.now.size) (sender_says file c.args.self.now d)) (sender_says file c.args.self.now d) in
     subst (λ (o : Option SenderDue). IfSome o Can) (sym is) (due-can_write c.args.self.now c.in_ok-due.due file s is)

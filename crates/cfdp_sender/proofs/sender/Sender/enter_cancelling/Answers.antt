@@ -3,11 +3,14 @@ use Rattle.cfdp_sender.proofs.sender.Sender.enter_cancelling.Goals as goal
 
 pub invariant_of-self : goal.invariant_of-self
 invariant_of-self c = record {
-  transfer = c.self.invariant.transfer;
-  sent = c.self.invariant.sent;
-  checksum = c.self.invariant.checksum;
-  asked = asked-none _ _ c.clear.ensures;
-  ack = c.self.invariant.ack;
-  condition = rw (← c.code-code.ensures.value) c.code-code.ensures.valid;
-  cause = c.requires;
+  sender = record {
+    transfer = c.self.invariant.sender.transfer;
+    sent = c.self.invariant.sender.sent;
+    checksum = c.self.invariant.sender.checksum;
+    asked = asked-none _ _ c.clear.ensures;
+    ack = c.self.invariant.sender.ack;
+    condition = rw (← c.code-code.ensures.value) c.code-code.ensures.valid;
+    cause = c.requires;
+  };
+  names = tt;
 }

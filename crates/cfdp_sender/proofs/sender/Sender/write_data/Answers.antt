@@ -1,7 +1,9 @@
-use Rattle.std.proofs.Common.{◌≡◌, ℕ, List, ◌+◌, ◌++◌, ap, ◌∙◌, take, drop, subst, arith}
+use Rattle.std.proofs.Common.{◌≡◌, ℕ, true, List, ◌+◌, ◌++◌, ap, ◌∙◌, take, drop, subst, arith}
 use Rattle.cfdp_directives.specs.Pdu.Content.{FileData}
 use Rattle.cfdp_store.specs.Files.{octets_in}
 use Rattle.cfdp_sender.specs.State.{SenderState, IsSender}
+use Rattle.cfdp_sender.specs.declared.phase.SenderPhase.TheVariants.{Sending}
+use Rattle.cfdp_sender.specs.Inside.{KeepsNames}
 use Rattle.cfdp_sender.specs.Does.{Writes}
 use Rattle.cfdp_sender.proofs.Writing.{data-writes}
 use Rattle.cfdp_sender.proofs.Dues.{below-fits}
@@ -10,7 +12,9 @@ use Rattle.cfdp_sender.proofs.sender.Sender.write_data.Goals as goal
 pub returns-clause-written : goal.returns-clause-written
 returns-clause-written g c =
     let file = octets_in (g.O.Outbox.files c.args.outbox.now) c.args.self.now.source in
-    let name : c.as_slice.result.now ≡ c.args.self.now.source = c.as_slice.ensures ∙ ap (λ (x : SenderState). x.source) c.self.view_is in
+    let sending : c.self.inside.phase ≡ Sending = ap (λ (x : SenderState). x.phase) c.self.view_is ∙ c.requires.sending in
+    let kept : c.self.inside.names.kept ≡ true = subst (λ p. KeepsNames p c.self.inside.names.kept) sending c.self.invariant.names in
+    let name : c.source.result.now ≡ c.args.self.now.source = c.source.ensures kept ∙ ap (λ (x : SenderState). x.source) c.self.view_is in
     let put = subst (λ (n : List ℕ). take (c.write_data_front-at.result + c.args.count) c.read_to.new.out ≡ take c.write_data_front-at.result c.write_data_front-at.new.out
     ++ take c.args.count (drop c.args.start (octets_in (g.O.Outbox.files c.args.outbox.now) n))) name c.in_ok-read_to.ensures.front in
     let bytes = take c.args.count (drop c.args.start file) in
@@ -23,5 +27,5 @@ returns-clause-written g c =
 
 pub write_data_front-at-requires-clause-offset : goal.write_data_front-at-requires-clause-offset
 write_data_front-at-requires-clause-offset g c =
-    let s : IsSender c.args.self.now = subst IsSender c.self.view_is c.self.invariant in
+    let s : IsSender c.args.self.now = subst IsSender c.self.view_is c.self.invariant.sender in
     rw c.is_large-large.ensures (below-fits c.args.self.now c.args.start s (omega (arith, c.requires.within)))

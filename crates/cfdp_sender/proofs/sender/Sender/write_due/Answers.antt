@@ -10,7 +10,7 @@ use Rattle.cfdp_sender.proofs.sender.Sender.write_due.Goals as goal
 
 pub write_pdu-requires-clause-short : goal.write_pdu-requires-clause-short
 write_pdu-requires-clause-short g c =
-    let s : IsSender c.args.self.now = subst IsSender c.self.view_is c.self.invariant in
+    let s : IsSender c.args.self.now = subst IsSender c.self.view_is c.self.invariant.sender in
     rw (c.says.ensures, c.is_large-large.ensures) (fits-short c.args.self.now c.args.due.now [] s c.requires.due (omega arith)).1
 
 pub returns-in-AskedData-clause-written : goal.returns-in-AskedData-clause-written
@@ -23,5 +23,5 @@ returns-in-AskedData-clause-written g c =
 
 pub write_pdu-requires-clause-content : goal.write_pdu-requires-clause-content
 write_pdu-requires-clause-content g c =
-    let s : IsSender c.args.self.now = subst IsSender c.self.view_is c.self.invariant in
+    let s : IsSender c.args.self.now = subst IsSender c.self.view_is c.self.invariant.sender in
     rw (c.says.ensures, c.is_large-large.ensures) (fits-short c.args.self.now c.args.due.now [] s c.requires.due (omega arith)).0
