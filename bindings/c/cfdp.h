@@ -255,8 +255,8 @@ cfdp_answer cfdp_next_indication(cfdp_station *station, cfdp_indication *out, ui
                                  size_t room);
 
 /* ---- The published files. Their places are 0, 1, .. in ascending order of their names; a file
- * that is published or removed may shift those behind it. Each stays until it is removed, another one
- * is published under its name, or the station is closed. */
+ * that is published or removed may shift those behind it. Each stays until it is removed, another
+ * one is published under its name, or the station is closed. */
 
 typedef struct cfdp_file_info {
     size_t name_len;
@@ -276,9 +276,9 @@ cfdp_answer cfdp_file(cfdp_station *station, size_t place, cfdp_file_info *out, 
 cfdp_answer cfdp_read_file(cfdp_station *station, size_t place, size_t offset, uint8_t *out,
                            size_t room);
 
-/* Removes the file of a name; the places of those behind it are one less then. Nothing else changes,
- * and a file that comes later under that name is published as ever. It needs no memory. CFDP_OK,
- * CFDP_CLOSED, or CFDP_NOTHING where there is no file of that name. */
+/* Removes the file of a name; the places of those behind it are one less then. Nothing else
+ * changes, and a file that comes later under that name is published as ever. It needs no memory.
+ * CFDP_OK, CFDP_CLOSED, or CFDP_NOTHING where there is no file of that name. */
 cfdp_answer cfdp_remove_file(cfdp_station *station, const uint8_t *name, size_t name_len);
 
 /* ---- One PDU. */

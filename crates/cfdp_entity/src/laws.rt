@@ -310,43 +310,54 @@ pub fn an_entity_may_remove_files()
         × SaysDelivered e.config.entity e.table.told h.id v }
     ensures more { (put_of puts_then : TransactionId → Option Put) (heard more : List (List ℕ))
         (first : FileMap) (removed : List ℕ → Bool) (e : EntityState) → FindsMore put_of puts_then
-        → IsSoundBut put_of heard first removed e → IsSoundBut puts_then (heard ++ more) first removed e }
+        → IsSoundBut put_of heard first removed e → IsSoundBut puts_then
+        (heard ++ more) first removed e }
     ensures among { (put_of : TransactionId → Option Put) (heard others : List (List ℕ))
         (first : FileMap) (removed : List ℕ → Bool) (e : EntityState) →
         ((text : List ℕ) → Contains heard text → Contains others text)
         → IsSoundBut put_of heard first removed e → IsSoundBut put_of others first removed e }
-    ensures put { (put_of : TransactionId → Option Put) (heard : List (List ℕ)) (first : FileMap) (removed : List ℕ → Bool)
+    ensures put { (put_of : TransactionId → Option Put) (heard : List (List ℕ)) (first : FileMap)
+        (removed : List ℕ → Bool)
         (source destination : List ℕ) (id : TransactionId) (old new : EntityState) →
         Accepts source destination id old new
         → put_of id ≡ Some (next_put source destination old)
         → IsSoundBut put_of heard first removed old → IsSoundBut put_of heard first removed new }
     ensures called { (put_of : TransactionId → Option Put) (heard : List (List ℕ))
-        (first : FileMap) (removed : List ℕ → Bool) (c : Call) (id : TransactionId) (old new : EntityState) →
+        (first : FileMap) (removed : List ℕ → Bool) (c : Call) (id : TransactionId)
+        (old new : EntityState) →
         IsCalled c id old new → IsSoundBut put_of heard first removed old
         → IsSoundBut put_of heard first removed new }
     ensures ticked { (put_of : TransactionId → Option Put) (heard : List (List ℕ))
-        (first : FileMap) (removed : List ℕ → Bool) (now : ℕ) (old new : EntityState) → Ticks now old.table new.table
+        (first : FileMap) (removed : List ℕ → Bool) (now : ℕ) (old new : EntityState)
+        → Ticks now old.table new.table
         → new ≡ with_table old new.table
         → IsSoundBut put_of heard first removed old → IsSoundBut put_of heard first removed new }
     ensures heard { (put_of : TransactionId → Option Put) (heard : List (List ℕ))
-        (first : FileMap) (removed : List ℕ → Bool) (pdu : List ℕ) (old new : Counted) → FindsById put_of
+        (first : FileMap) (removed : List ℕ → Bool) (pdu : List ℕ) (old new : Counted)
+        → FindsById put_of
         → ComesTrue old.state.config.peer put_of heard pdu → HearsOctets pdu old new
-        → IsSoundBut put_of heard first removed old.state → IsSoundBut put_of heard first removed new.state }
+        → IsSoundBut put_of heard first removed old.state
+        → IsSoundBut put_of heard first removed new.state }
     ensures dropped { (put_of : TransactionId → Option Put) (heard : List (List ℕ))
-        (first : FileMap) (removed : List ℕ → Bool) (pdu : List ℕ) (by : EntityDrop) (old new : Counted) →
+        (first : FileMap) (removed : List ℕ → Bool) (pdu : List ℕ) (by : EntityDrop)
+        (old new : Counted) →
         DropsOctets (pdu_fault pdu) pdu by old new
-        → IsSoundBut put_of heard first removed old.state → IsSoundBut put_of heard first removed new.state }
+        → IsSoundBut put_of heard first removed old.state
+        → IsSoundBut put_of heard first removed new.state }
     ensures served { (put_of : TransactionId → Option Put) (heard : List (List ℕ))
-        (first : FileMap) (removed : List ℕ → Bool) (stored : Stored) (e : EntityState) → IsSoundBut put_of heard first removed e
+        (first : FileMap) (removed : List ℕ → Bool) (stored : Stored) (e : EntityState)
+        → IsSoundBut put_of heard first removed e
         → IsSoundBut put_of heard first removed (served stored (turn e) e) }
     ensures forgot { (put_of : TransactionId → Option Put) (heard : List (List ℕ))
-        (first : FileMap) (removed : List ℕ → Bool) (id : TransactionId) (old new : EntityState) → Forgets id old new
+        (first : FileMap) (removed : List ℕ → Bool) (id : TransactionId) (old new : EntityState)
+        → Forgets id old new
         → IsSoundBut put_of heard first removed old → IsSoundBut put_of heard first removed new }
     ensures some { (put_of : TransactionId → Option Put) (heard : List (List ℕ))
         (first : FileMap) (removed : List ℕ → Bool) (old new : EntityState) → ForgetsSome old new
         → IsSoundBut put_of heard first removed old → IsSoundBut put_of heard first removed new }
     ensures told { (put_of : TransactionId → Option Put) (heard : List (List ℕ))
-        (first : FileMap) (removed : List ℕ → Bool) (count : ℕ) (e : EntityState) → IsSoundBut put_of heard first removed e
+        (first : FileMap) (removed : List ℕ → Bool) (count : ℕ) (e : EntityState)
+        → IsSoundBut put_of heard first removed e
         → IsSoundBut put_of heard first removed (with_table e (without_told count e.table)) }
 {
     published_files_change_no_step();
