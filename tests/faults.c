@@ -207,7 +207,8 @@ static int noted(int status, const char *call, const char *path, const char *to)
 off_t lseek(int fd, off_t offset, int whence)
 {
     off_t (*next)(int, off_t, int) = NEXT("lseek");
-    return failing("no-seek", EIO) ? -1 : next(fd, offset, whence);
+    int is_written = (fcntl(fd, F_GETFL) & O_ACCMODE) != O_RDONLY;
+    return is_written && failing("no-seek", EIO) ? -1 : next(fd, offset, whence);
 }
 
 int ftruncate(int fd, off_t length)

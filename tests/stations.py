@@ -26,6 +26,19 @@ PATIENT = {"eof_time": 1, "nak_time": 1, "finished_time": 1}
 PATIENT |= {"eof_limit": 255, "nak_limit": 255, "finished_limit": 255}
 
 
+# What a station with one put writes, and what it tells on standard error, where there is no memory
+# for the start, the put, a look at its file, or a read of it.
+MEMORY_ENDS = {
+    "the start": (r"", r"(error: .*out of memory.*\n)?"),
+    "the put": (r"line 1 NoMemory\ncomplete 0 of 1\n", r"error: .*not enough memory\n"),
+    "a look": (r"line 1 SourceFault\ncomplete 0 of 1\n", r"error: from/a: out of memory\n"),
+    "a read": (
+        r"1 transaction (1:\d+)\n1 fault \1 4\n(1 .*\n)*complete 0 of 1\n",
+        r"error: from/a: out of memory\n",
+    ),
+}
+
+
 def free_ports(count):
     """So many ports of 127.0.0.1 that nobody has, and that were given to nobody before."""
     ports = []
@@ -138,31 +151,6 @@ def exchange_mistakes(program):
             with open(f"{folder}/{own}/pdus.pcap", "rb") as it:
                 if it.read(4) != bytes.fromhex("0A0D0D0A"):
                     yield f"station {own} wrote no capture"
-
-
-def long_mistakes(program):
-    """What is wrong with a file of one octet more than 1 MiB, and one of 20 MB: nothing is cut."""
-    chance, sizes = random.Random(60), {"longer": (1 << 20) + 1, "long": 20_000_000}
-    sent = {name: chance.randbytes(size) for name, size in sizes.items()}
-    settings = {**PATIENT, "zone": 2040, "segment": 4096}
-    with tempfile.TemporaryDirectory(dir=program.room) as folder:
-        ports = dict(zip((1, 2), free_ports(2)))
-        words = ["--outbox", "from", "--idle", "6", "--rate", "20000"]
-        for name, octets in sent.items():
-            put(folder, 1, name, octets)
-            words += ["--put", name, name]
-        receiver = Station(program, folder, 2, 1, ports, ["--inbox", "to", "--idle", "6"], settings)
-        receiver.comes_up()
-        status, out, err = Station(program, folder, 1, 2, ports, words, settings).ended()
-        if status or unheard(err) or not out.endswith("complete 2 of 2\n"):
-            yield f"the sender: status {status}, {out[-300:]!r}, {err[-300:]!r}"
-        status, out, err = receiver.ended()
-        if status or unheard(err):
-            yield f"the receiver: status {status}, {out[-300:]!r}, {err[-300:]!r}"
-        came = files_at(folder, 2)
-        if came != sent:
-            lengths = {name: len(octets) for name, octets in came.items()}
-            yield f"what came isn't what was sent: {lengths}"
 
 
 def restart_mistakes(program):
@@ -284,9 +272,9 @@ def terminal_mistakes(program):
 
 
 def memory_mistakes(program):
-    """What is wrong where a station finds no memory for its one put, which is then the last that is
-    told of it: the first growth of memory is refused, the second, .., as long as there is one."""
-    settings, refused, is_met = {"eof_time": 1, "eof_limit": 1}, 0, True
+    """What is wrong where a station finds no memory: the first growth of it is refused, the second,
+    .., as long as there is one. Its one put is refused, or ends with fault 4."""
+    settings, refused, is_met = {"eof_time": 1, "eof_limit": 1}, set(), True
     for growth in itertools.takewhile(lambda _: is_met, itertools.count(1)):
         with tempfile.TemporaryDirectory(dir=program.room) as folder:
             ports = dict(zip((1, 2), free_ports(2)))
@@ -298,12 +286,17 @@ def memory_mistakes(program):
                 station.process.kill()
             status, out, err = station.ended()
             is_met, err = os.path.exists(f"{folder}/1/refused"), unheard(err)
-        if out.startswith("line ") or err:
-            refused += out.startswith("line ")
-            if status != 3 or out not in ("", "line 1 NoMemory\ncomplete 0 of 1\n"):
+        if "eof-sent" not in out:
+            found = [
+                kind
+                for kind, (text, told) in MEMORY_ENDS.items()
+                if re.fullmatch(text, out) and re.fullmatch(told, err)
+            ]
+            refused.update(found)
+            if status != 3 or not found:
                 yield f"with status {status} it wrote {out!r} and {err!r}"
-    if not refused:
-        yield f"no growth of memory was one of the put, of {growth}"
+    if refused != MEMORY_ENDS.keys():
+        yield f"of {growth} growths of memory were {sorted(refused)}, and not {list(MEMORY_ENDS)}"
 
 
 def packets_of(octets):
@@ -419,7 +412,6 @@ def watched_memory_mistakes(program):
 def all_mistakes(program):
     """What is tried, with what is wrong in it."""
     yield "20 files each way between two processes", exchange_mistakes(program)
-    yield "a file of 1 MiB and an octet, and one of 20 MB", long_mistakes(program)
     yield "a station killed and started anew", restart_mistakes(program)
     yield "datagrams of a stranger", stranger_mistakes(program)
     yield "an address in use", address_mistakes(program)

@@ -18,7 +18,10 @@ impl Held {
     fn poll(&mut self) -> u32
         ensures polls { PollsOne result self.old.station self.new.station }
     {
-        of_poll(self.station.poll())
+        let answer = self.station.poll();
+        // Its files are in memory, and so always stand: what was read is what they have.
+        let _ = self.station.outbox();
+        of_poll(answer)
     }
 
     fn flush(&mut self)

@@ -9,7 +9,9 @@ use Rattle.std.specs.FinSet as set
 use Rattle.cfdp_header.specs.declared.value.TransactionId.{TransactionId}
 use Rattle.cfdp_header.specs.Ids.{id_cmp}
 use Rattle.cfdp_header.specs.Files.{FileMap}
-use Rattle.cfdp_sender.specs.Does.{HasFile}
+use Rattle.cfdp_sender.specs.declared.phase.SenderPhase.{SenderPhase}
+use Rattle.cfdp_sender.specs.declared.phase.SenderPhase.TheVariants.{Sending, Cancelling, Closed}
+use Rattle.cfdp_sender.specs.Does.{HasFile, HasFileWhile}
 use Rattle.cfdp_entity.specs.declared.record.Record.{Record}
 use Rattle.cfdp_entity.specs.declared.record.Record.TheVariants as held
 use Rattle.cfdp_entity.specs.Desk.{Staged, DeskState}
@@ -34,9 +36,14 @@ module _ (sources : FileMap) (name octets : List ℕ) (free : map.get sources na
       let e = get-kept other has.there in
       record { there = subst IsSome (sym e) has.there; whole = ap (λ o. length (unwrap_or o [])) e ∙ has.whole }
 
+  while-kept : (p : SenderPhase) (other : List ℕ) (size : ℕ) → HasFileWhile p sources other size → HasFileWhile p more other size
+  while-kept Sending other size has = file-kept other size has
+  while-kept Cancelling other size has = tt
+  while-kept Closed other size has = tt
+
   record-kept : (staged : Staged) (id : TransactionId) (r : Record) → IsReadyRecord staged sources id r → IsReadyRecord staged more id r
   unfolding IsReadyRecord
-  record-kept staged id (held.Sends x) ready = (ready.0, file-kept x.source x.size ready.1)
+  record-kept staged id (held.Sends x) ready = (ready.0, while-kept x.phase x.source x.size ready.1)
   record-kept staged id (held.Receives r) ready = ready
 
   ready-kept : (staged : Staged) (roomy : set.FinSet id_cmp) (es : List (TransactionId × Record)) → AllReady staged sources roomy es → AllReady staged more roomy es

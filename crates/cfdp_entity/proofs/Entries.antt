@@ -22,7 +22,7 @@ use Rattle.cfdp_store.specs.declared.stored.Stored.TheVariants.{Done}
 use Rattle.cfdp_directives.specs.declared.user.indication.Indication.{Indication}
 use Rattle.cfdp_directives.specs.Pdu.Content.{Content}
 use Rattle.cfdp_receiver.specs.State.{ReceiverState, IsReady}
-use Rattle.cfdp_sender.specs.Does.{HasFile}
+use Rattle.cfdp_sender.specs.Does.{HasOwnFile}
 use Rattle.cfdp_sender.specs.State.{SenderState}
 use Rattle.cfdp_entity.specs.declared.record.Record.{Record}
 use Rattle.cfdp_entity.specs.declared.record.Record.TheVariants as held
@@ -245,6 +245,7 @@ module _ (past : List Indication) (old : DeskState) (es : List (TransactionId ×
             gone = length past;
             files = does.files i;
             sources = stays.sources i;
+            stands = stays.stands i;
             policy = stays.policy i;
           })
           ∙ ap (λ o. step_of (λ e. step old e.1) place o (state_of past old es)) (sym here)
@@ -274,6 +275,7 @@ module _ (past : List Indication) (old : DeskState) (es : List (TransactionId ×
             gone = length past;
             files = keeps.files i;
             sources = stays.sources i;
+            stands = stays.stands i;
             policy = stays.policy i;
           };
         };
@@ -363,6 +365,7 @@ module _ (past : List Indication) (old new : DeskState) (es fs : List (Transacti
       gone = length past;
       files = none.files i;
       sources = widens.sources i;
+      stands = widens.stands i;
       policy = widens.policy i;
     };
     inbox = none.inbox;
@@ -396,6 +399,7 @@ module _ (past : List Indication) (old new : DeskState) (es fs : List (Transacti
           gone = length past;
           files = opens.does.files i;
           sources = widens.sources i;
+          stands = widens.stands i;
           policy = widens.policy i;
         }
 
@@ -444,11 +448,11 @@ seen_nowhere staged (e ∷ es) (suc n) is = seen_nowhere staged es n is
 
 -- ---- what a record that is ready has
 pub ready-sender : (staged : Staged) (sources : FileMap) (id : TransactionId) (x : SenderState) → IsReadyRecord staged sources id (held.Sends x) → (x.addressing.id ≡ id)
-    × HasFile sources x.source x.size
+    × HasOwnFile sources x
 unfolding IsReadyRecord
 ready-sender staged sources id x is_ready = is_ready
 
-pub sender-ready : (staged : Staged) (sources : FileMap) (id : TransactionId) (x : SenderState) → (x.addressing.id ≡ id) → HasFile sources x.source x.size →
+pub sender-ready : (staged : Staged) (sources : FileMap) (id : TransactionId) (x : SenderState) → (x.addressing.id ≡ id) → HasOwnFile sources x →
     IsReadyRecord staged sources id (held.Sends x)
 unfolding IsReadyRecord
 sender-ready staged sources id x same file = (same, file)

@@ -31,9 +31,10 @@ pub record Grows (old new : TableState) : Type 0 where
   pub told : new.told ≡ old.told ++ gained
   pub gone : new.gone ≡ old.gone
   pub sources : new.sources ≡ old.sources
+  pub stands : new.stands ≡ old.stands
 
-grows-none : (old new : TableState) → new.told ≡ old.told → new.gone ≡ old.gone → new.sources ≡ old.sources → Grows old new
-grows-none old new told gone sources = record { gained = []; told = told ∙ sym (append-nil old.told); gone = gone; sources = sources }
+grows-none : (old new : TableState) → new.told ≡ old.told → new.gone ≡ old.gone → new.sources ≡ old.sources → new.stands ≡ old.stands → Grows old new
+grows-none old new told gone sources stands = record { gained = []; told = told ∙ sym (append-nil old.told); gone = gone; sources = sources; stands = stands }
 
 grows-then : (first second third : TableState) → Grows first second → Grows second third → Grows first third
 grows-then first second third a b = record {
@@ -41,30 +42,31 @@ grows-then first second third a b = record {
   told = b.told ∙ ap (λ l. l ++ b.gained) a.told ∙ append_assoc first.told a.gained b.gained;
   gone = b.gone ∙ a.gone;
   sources = b.sources ∙ a.sources;
+  stands = b.stands ∙ a.stands;
 }
 
 grows-of : (f : Entry → After) (place : ℕ) (o : Option Entry) (st : TableState) → Grows st (step_of f place o st)
-grows-of f place None st = grows-none st st refl refl refl
-grows-of f place (Some e) st = record { gained = (f e).told; told = refl; gone = refl; sources = refl }
+grows-of f place None st = grows-none st st refl refl refl refl
+grows-of f place (Some e) st = record { gained = (f e).told; told = refl; gone = refl; sources = refl; stands = refl }
 
 grows-fired : (timers : List Timer) (st : TableState) → Grows st (all_expired timers st)
 unfolding all_expired
-grows-fired [] st = grows-none st st refl refl refl
+grows-fired [] st = grows-none st st refl refl refl refl
 grows-fired (timer ∷ timers) st = grows-then st (expired timer st) (all_expired timers (expired timer st)) (by (place_of timer.0 st.records)) (grows-fired timers (expired timer st))
   where
     by : (o : Option ℕ) → Grows st (expired_in o timer.1 st)
-    by None = grows-none st st refl refl refl
+    by None = grows-none st st refl refl refl refl
     by (Some place) = grows-of (λ e. expires st.policy st.files timer.1 e.1) place (slice_get st.records place) st
 
 grows-step : (s : TableStep) (st : TableState) → Grows st (table_step s st)
 grows-step (Hears stored place large v) st = grows-of (λ e. hears stored st.policy.times st.files large v e.1) place (slice_get st.records place) st
-grows-step (Spoils place v noted) st = grows-none st _ refl refl refl
+grows-step (Spoils place v noted) st = grows-none st _ refl refl refl refl
 grows-step (Expires place kind) st = grows-of (λ e. expires st.policy st.files kind e.1) place (slice_get st.records place) st
 grows-step (Calls place c) st = grows-of (λ e. calls st.policy.times st.files c e.1) place (slice_get st.records place) st
 grows-step (Takes stored place) st = grows-of (λ e. takes stored st.policy.times st.sources st.files e.1) place (slice_get st.records place) st
-grows-step (Puts t) st = record { gained = _; told = refl; gone = refl; sources = refl }
-grows-step (Opens begun stored a large v) st = record { gained = _; told = refl; gone = refl; sources = refl }
-grows-step (Tells now) st = grows-none st _ refl refl refl
+grows-step (Puts t) st = record { gained = _; told = refl; gone = refl; sources = refl; stands = refl }
+grows-step (Opens begun stored a large v) st = record { gained = _; told = refl; gone = refl; sources = refl; stands = refl }
+grows-step (Tells now) st = grows-none st _ refl refl refl refl
 grows-step (Fires timers) st = grows-fired timers st
 
 -- ---- the entity
@@ -74,6 +76,7 @@ goes old new t g table config next = record {
   told = ap (λ (st : TableState). st.told) table ∙ g.told;
   gone = ap (λ (st : TableState). st.gone) table ∙ g.gone;
   sources = ap (λ (st : TableState). st.sources) table ∙ g.sources;
+  stands = ap (λ (st : TableState). st.stands) table ∙ g.stands;
   config = config;
   next = next;
 }
@@ -86,7 +89,7 @@ by-step s old new is =
 
 -- nothing of it changes
 stays : (old new : EntityState) → new.table ≡ old.table → new.config ≡ old.config → new.next ≡ old.next → GoesOn old new
-stays old new table config next = goes old new old.table (grows-none old.table old.table refl refl refl) table config (omega (arith, next))
+stays old new table config next = goes old new old.table (grows-none old.table old.table refl refl refl refl) table config (omega (arith, next))
 
 pub put-goes : (source destination : List ℕ) (id : TransactionId) (old new : EntityState) → Accepts source destination id old new → GoesOn old new
 put-goes source destination id old new a =
@@ -105,7 +108,7 @@ pub ticked-goes : (now : ℕ) (old new : EntityState) → Ticks now old.table ne
 ticked-goes now old new t is =
     let told : TableState = at_time now old.table in
     let next : new.next ≡ old.next = ap (λ (e : EntityState). e.next) is in
-    goes old new (all_expired t.fired told) (grows-then old.table told (all_expired t.fired told) (grows-none old.table told refl refl refl) (grows-fired t.fired told)) t.ticked
+    goes old new (all_expired t.fired told) (grows-then old.table told (all_expired t.fired told) (grows-none old.table told refl refl refl refl) (grows-fired t.fired told)) t.ticked
     (ap (λ (e : EntityState). e.config) is) (omega (arith, next))
 
 taken-goes : (r : Route) (h : Header) (v : Content) (old new : Counted) → TakesPdu r h v old new → GoesOn old.state new.state
@@ -145,5 +148,5 @@ served-goes stored Rests e = stays e e refl refl refl
 pub forgets-goes : (id : TransactionId) (old new : EntityState) → Forgets id old new → GoesOn old new
 forgets-goes id old new f =
     let next : new.next ≡ old.next = ap (λ (e : EntityState). e.next) f.forgot in
-    goes old new (left_at f.place id old.table) (grows-none old.table (left_at f.place id old.table) refl refl refl) (ap (λ (e : EntityState). e.table) f.forgot) (ap (λ (e : EntityState). e.config) f.forgot)
+    goes old new (left_at f.place id old.table) (grows-none old.table (left_at f.place id old.table) refl refl refl refl) (ap (λ (e : EntityState). e.table) f.forgot) (ap (λ (e : EntityState). e.config) f.forgot)
     (omega (arith, next))

@@ -117,6 +117,7 @@ module _ (past : List Indication) (desk new : DeskState) (es fs : Records) (flag
       gone = length past;
       files = desk.files;
       sources = desk.sources;
+      stands = desk.stands;
       policy = desk.policy;
     });
     inbox = ap (λ (d : DeskState). d.inbox_failures) desk-is;

@@ -16,6 +16,8 @@ pub mod Growing
 pub mod Letting
 pub mod LettingGo
 pub mod Left
+pub mod Lent
+mod Looked
 pub mod Speaking
 pub mod Masked
 pub mod Records

@@ -20,7 +20,7 @@ use Rattle.cfdp_forgotten.specs.Forgotten.{IdSet}
 use Rattle.cfdp_entity.specs.Entity.{AreFree, AreUnforgotten, own_id, next_of}
 use Rattle.cfdp_entity.specs.Opening.{puts, opens}
 use Rattle.cfdp_entity.specs.Steps.{After, hears, expires, calls, takes}
-use Rattle.cfdp_entity.specs.Table.{Entry, TableState, place_of, step_of, expired, expired_in, all_expired, Ticks, at_time, SpoiledAt, heard_at, called_at, taken_at, put_in, opened_by, first_table}
+use Rattle.cfdp_entity.specs.Table.{Entry, TableState, place_of, step_of, expired, expired_in, all_expired, Ticks, at_time, SpoiledAt, heard_at, called_at, taken_at, put_in, opened_by, first_table, standing}
 use Rattle.cfdp_entity.proofs.Entries.{keys_set}
 use Rattle.cfdp_entity.proofs.Places.{position-map, position-none}
 
@@ -114,9 +114,9 @@ pub free-at : (entity next : ℕ) (records : List Entry) → AreFree entity next
 unfolding AreFree
 free-at entity next records free = free next (omega arith)
 
-pub free-first : (entity next : ℕ) (t : TableState) (sources files : FileMap) (policy : Policy) → t ≡ first_table sources files policy → AreFree entity next t.records
+pub free-first : (entity next : ℕ) (t : TableState) (stands : Bool) (sources files : FileMap) (policy : Policy) → t ≡ standing stands (first_table sources files policy) → AreFree entity next t.records
 unfolding AreFree
-free-first entity next t sources files policy is = λ n l. ap (λ (t : TableState). place_of (own_id entity n) t.records) is
+free-first entity next t stands sources files policy is = λ n l. ap (λ (t : TableState). place_of (own_id entity n) t.records) is
 
 pub risen : (o : Option ℕ) (n : ℕ) → n < 2 ^ 64 → SomeIff o (n + 1 < 2 ^ 64) (n + 1) → next_of o ≡ n + 1
 risen None n low h = omega (arith, low, h)

@@ -15,7 +15,7 @@ use Rattle.cfdp_store.specs.Staged.{OthersKeep, staged_for}
 use Rattle.cfdp_timers.specs.Armed.{TimersState}
 use Rattle.cfdp_timers.specs.declared.effects.Effects.{Effects}
 use Rattle.cfdp_timers.proofs.CallerLemmas.{has_room-kept}
-use Rattle.cfdp_sender.specs.Does.{HasFile}
+use Rattle.cfdp_sender.specs.Does.{HasFile, HasOwnFile}
 use Rattle.cfdp_sender.specs.State.{SenderState, opened_sender}
 use Rattle.cfdp_sender.specs.declared.transfer.Transfer.{Transfer}
 use Rattle.cfdp_receiver.specs.Does as receiver_does
@@ -57,7 +57,7 @@ pub opens-put : (t : Transfer) (x : SenderState) (old new : DeskState) → x ≡
 opens-put t x old new is tells timers files file room = record {
   does = record { state = ap seens.Sends is; tells = tells; timers = roomed old.effects.timers new.effects.timers t.addressing.id timers; files = files };
   ready = sender-ready new.staged new.sources t.addressing.id x (ap (λ (y : SenderState). y.addressing.id) is)
-      (subst (λ (y : SenderState). HasFile new.sources y.source y.size) (sym is) file);
+      (subst (λ (y : SenderState). HasOwnFile new.sources y) (sym is) file);
   has_room = room;
 }
 

@@ -1,10 +1,10 @@
 -- What a step of a machine does to its record.
 use Rattle.std.proofs.Common.{◌≡◌, ℕ, ◌∷◌, [], Bool, true, false, ◌&&◌, ◌==◌, List, Option, Some, None, Result, Ok, Err, OnOk, OnErr, IfOk, take, arith, length, ◌≤◌, refl, sym, ap, subst, ◌∙◌, if◌then◌else◌}
-use Rattle.std.specs.Prelude.{◌+◌, ◌-◌, ◌^◌, max, unwrap_or, nat_lt, min, IsSome}
+use Rattle.std.specs.Prelude.{◌≢◌, replicate, ◌+◌, ◌-◌, ◌^◌, max, unwrap_or, nat_lt, min, IsSome}
 use Rattle.std.specs.FinMap as map
 use Rattle.std.specs.FinMap.{empty}
 use Rattle.std.specs.FinSet as set
-use Rattle.std.proofs.lemmas.List.{append-nil}
+use Rattle.std.proofs.lemmas.List.{append-nil, length-replicate}
 use Rattle.cfdp_header.specs.declared.value.TransactionId.{TransactionId}
 use Rattle.cfdp_header.specs.Files.{FileMap}
 use Rattle.cfdp_directives.specs.declared.pdu.addressing.Addressing.{Addressing}
@@ -41,6 +41,7 @@ use Rattle.cfdp_timers.specs.declared.kind.Kind.{Kind}
 use Rattle.cfdp_timers.specs.declared.kind.Kind.TheVariants as kind
 use Rattle.cfdp_sender.specs.Steps as sender
 use Rattle.cfdp_sender.specs.Does as sender_does
+use Rattle.cfdp_sender.proofs.OwnFile.{GoesOn, own-after, says-unsent, on-ack, on-asks_in, on-asks_all, never, on-cancels, on-suspends, on-resumes, on-prompts, on-expiry, on-sends}
 use Rattle.cfdp_entity.specs.declared.call.Call.{Call}
 use Rattle.cfdp_entity.specs.declared.call.Call.TheVariants as call
 use Rattle.cfdp_entity.specs.declared.record.Record.{Record}
@@ -64,7 +65,7 @@ use Rattle.std.specs.Option.{option_map}
 use Rattle.cfdp_directives.specs.Pdu.Addressing.{written_len}
 use Rattle.cfdp_receiver.specs.declared.due.Due.{Due}
 use Rattle.cfdp_receiver.specs.Due.{receiver_due}
-use Rattle.cfdp_sender.specs.Does.{HasFile}
+use Rattle.cfdp_sender.specs.Does.{HasFile, HasFileWhile, HasOwnFile}
 use Rattle.cfdp_store.specs.Files.{octets_in}
 use Rattle.cfdp_store.specs.Chains.{Raises}
 use Rattle.cfdp_store.specs.Stores.{Counts}
@@ -332,30 +333,38 @@ module _ (times : Times) (r r_now : ReceiverState) (old new : Effects) (files : 
   acked-receives large acknowledged.Finished condition status acks = alone-receives (receiver_does.flagging large receiver.hears_ack) acks (λ m. refl) (λ m. refl)
   acked-receives large acknowledged.Eof condition status acks = (refl, rests-alone acks.0 acks.1)
 
+on-called : (c : Call) (x : SenderState) → GoesOn x (called_sender c x).sender
+on-called call.Cancel x = on-cancels x
+on-called call.Suspend x = on-suspends x
+on-called call.Resume x = on-resumes x
+on-called (call.Prompt keep_alive) x = on-prompts keep_alive x
+
 -- ---- what a call of a sender leaves of its record
 -- The stores are as before, but for failures.
 pub record Alike (old new : DeskState) : Type 0 where
   pub files : new.files ≡ old.files
   pub staged : new.staged ≡ old.staged
   pub sources : new.sources ≡ old.sources
+  pub stands : new.stands ≡ old.stands
   pub policy : new.policy ≡ old.policy
 
 module _ (s : Record) (x x_now : SenderState) (is : s ≡ held.Sends x) (old new : DeskState) (alike : Alike old new) (may : MayStep s old) where
-  pub has-file : HasFile old.sources x.source x.size
+  pub has-file : HasOwnFile old.sources x
   has-file = (ready-sender old.staged old.sources x.addressing.id x (subst (λ (k : Record). MayStep k old) is may).ready).1
 
   -- what is done, and that the record stays ready
   abbrev pub Steps : (DeskState → Seen → After) → Type 0
   Steps step = Made step s (held.Sends x_now) old new × Stays s (held.Sends x_now) old new
 
-  kept-stays : (t : Transfer) → transfer_of x_now ≡ t → t ≡ transfer_of x → Stays (held.Sends x) (held.Sends x_now) old new
-  kept-stays t now kept =
+  kept-stays : (t : Transfer) → transfer_of x_now ≡ t → t ≡ transfer_of x → GoesOn x x_now → Stays (held.Sends x) (held.Sends x_now) old new
+  kept-stays t now kept on =
       let same : transfer_of x_now ≡ transfer_of x = now ∙ kept in
       record {
         ready = sender-ready new.staged new.sources x.addressing.id x_now (ap (λ (t : Transfer). t.addressing.id) same)
-            (subst (λ f. HasFile f x_now.source x_now.size) (sym alike.sources) (subst (λ (t : Transfer). HasFile old.sources t.source t.size) (sym same) has-file));
+            (subst (λ f. HasOwnFile f x_now) (sym alike.sources) (own-after old.sources x x_now same on has-file));
         others = λ other apart. ap (λ st. st other) alike.staged;
         sources = alike.sources;
+        stands = alike.stands;
         policy = alike.policy;
       }
 
@@ -363,40 +372,40 @@ module _ (s : Record) (x x_now : SenderState) (is : s ≡ held.Sends x) (old new
   of-record step does stays = subst (λ (k : Record). Made step k (held.Sends x_now) old new × Stays k (held.Sends x_now) old new) (sym is) (does, stays)
 
   stepped-so : (step : DeskState → Seen → After) (a : sender.SenderAfter) → step old (Sends x) ≡ by_sender old.policy.times old.files a → transfer_of a.sender ≡ transfer_of x →
-      sender_does.Does old.policy.times a x_now old.effects new.effects → Steps step
-  stepped-so step a is_so kept does = of-record step
+      GoesOn x a.sender → sender_does.Does old.policy.times a x_now old.effects new.effects → Steps step
+  stepped-so step a is_so kept on does = of-record step
       (subst (λ (k : After). Does x.addressing.id k (Sends x_now) old new) (sym is_so)
       (sender-does x x_now old new alike.files a (ap (λ (t : Transfer). t.addressing) kept) does))
-      (kept-stays (transfer_of a.sender) (ap transfer_of does.sender) kept)
+      (kept-stays (transfer_of a.sender) (ap transfer_of does.sender) kept (λ h. on (ap (λ (y : SenderState). y.phase) (sym does.sender) ∙ h)))
 
   rests-so : (step : DeskState → Seen → After) → step old (Sends x) ≡ no_step old.files (Sends x) → (x_now ≡ x) × (new.effects ≡ old.effects) → Steps step
   rests-so step is_so does = of-record step
       (subst (λ (k : After). Does x.addressing.id k (Sends x_now) old new) (sym is_so) (sender-rests x x_now old new alike.files does))
-      (kept-stays (transfer_of x) (ap transfer_of does.0) refl)
+      (kept-stays (transfer_of x) (ap transfer_of does.0) refl (λ h. ap (λ (y : SenderState). y.phase) (sym does.0) ∙ h))
 
   pub sender-hears : (stored : Stored) (large : Bool) (v : Content) → SenderDoes old.policy.times (sender_after v x) x x_now old.effects new.effects → Steps (hearing stored large v)
-  sender-hears stored large (Ack acknowledged.Eof condition status) does = stepped-so (hearing stored large (Ack acknowledged.Eof condition status)) _ refl (kept-ack condition x) does
+  sender-hears stored large (Ack acknowledged.Eof condition status) does = stepped-so (hearing stored large (Ack acknowledged.Eof condition status)) _ refl (kept-ack condition x) (on-ack condition x) does
   sender-hears stored large (Ack acknowledged.Finished condition status) does = rests-so (hearing stored large (Ack acknowledged.Finished condition status)) refl does
-  sender-hears stored large (Nak start end pairs) does = stepped-so (hearing stored large (Nak start end pairs)) _ refl (kept-asks_in x.phase pairs x) does
-  sender-hears stored large (Finished condition delivery status tlvs) does = stepped-so (hearing stored large (Finished condition delivery status tlvs)) _ refl refl does
-  sender-hears stored large (KeepAlive progress) does = stepped-so (hearing stored large (KeepAlive progress)) _ refl refl does
+  sender-hears stored large (Nak start end pairs) does = stepped-so (hearing stored large (Nak start end pairs)) _ refl (kept-asks_in x.phase pairs x) (on-asks_in x.phase pairs x) does
+  sender-hears stored large (Finished condition delivery status tlvs) does = stepped-so (hearing stored large (Finished condition delivery status tlvs)) _ refl refl never does
+  sender-hears stored large (KeepAlive progress) does = stepped-so (hearing stored large (KeepAlive progress)) _ refl refl (λ h. h) does
   sender-hears stored large (FileData offset bytes) does = rests-so (hearing stored large (FileData offset bytes)) refl does
   sender-hears stored large (Metadata kind size source destination options) does = rests-so (hearing stored large (Metadata kind size source destination options)) refl does
   sender-hears stored large (Eof condition checksum size tlvs) does = rests-so (hearing stored large (Eof condition checksum size tlvs)) refl does
   sender-hears stored large (Prompt keep_alive) does = rests-so (hearing stored large (Prompt keep_alive)) refl does
 
   pub sender-called : (c : Call) → sender_does.Does old.policy.times (called_sender c x) x_now old.effects new.effects → Steps (calling c)
-  sender-called c does = stepped-so (calling c) _ refl (kept-called c x) does
+  sender-called c does = stepped-so (calling c) _ refl (kept-called c x) (on-called c x) does
 
   pub sender-expired : (k : Kind) → sender_does.Does old.policy.times (sender.sender_expires k old.policy x) x_now old.effects new.effects →
       Steps (expiring k)
-  sender-expired k does = stepped-so (expiring k) _ refl (kept-expires old.policy k x) does
+  sender-expired k does = stepped-so (expiring k) _ refl (kept-expires old.policy k x) (on-expiry k old.policy x) does
 
   sender-sent : (stored : Stored) (d : SenderDue) → sender_due x ≡ Some d →
       sender_does.Does old.policy.times (sender.sender_sends stored (octets_in old.sources x.source) x d) x_now old.effects new.effects
       → Steps (taking stored)
   sender-sent stored d due_is does =
-      stepped-so (taking stored) _ (ap (sender_takes stored old.policy.times old.files (octets_in old.sources x.source) x) due_is) (kept-sends stored (octets_in old.sources x.source) x d) does
+      stepped-so (taking stored) _ (ap (sender_takes stored old.policy.times old.files (octets_in old.sources x.source) x) due_is) (kept-sends stored (octets_in old.sources x.source) x d) (on-sends stored (octets_in old.sources x.source) x d) does
 
   abbrev before : Seen
   before = seen_as s s old
@@ -454,7 +463,8 @@ module _ (s : Record) (x x_now : SenderState) (is : s ≡ held.Sends x) (old new
           inbox = inbox;
           outbox = outbox;
         },
-        kept-stays (transfer_of (sender.asks_all (take keeps.0.count pairs) x)) (ap transfer_of keeps.0.asked) (kept-asks_all (take keeps.0.count pairs) x),
+        kept-stays (transfer_of (sender.asks_all (take keeps.0.count pairs) x)) (ap transfer_of keeps.0.asked) (kept-asks_all (take keeps.0.count pairs) x)
+            (λ h. sym (on-asks_all (take keeps.0.count pairs) x) ∙ ap (λ (y : SenderState). y.phase) (sym keeps.0.asked) ∙ h),
       )
       by (Ack of condition status) keeps = absurd keeps
       by (Finished condition delivery status tlvs) keeps = absurd keeps
@@ -522,11 +532,13 @@ module _ (s : Record) (r : ReceiverState) (is : s ≡ held.Receives r) (old : De
   is-ready may = (ready-receiver old.staged old.sources r.addressing.id r (subst (λ (k : Record). MayStep k old) is may).ready).1
 
   module _ (r_now : ReceiverState) (new : DeskState) (addr : r_now.addressing ≡ r.addressing) where
-    pub receiver-stays : IsReady new.staged r_now → OthersKeep r.addressing.id old.staged new.staged → new.sources ≡ old.sources → new.policy ≡ old.policy → Stays s (held.Receives r_now) old new
-    receiver-stays ready others sources policy = subst (λ (k : Record). Stays k (held.Receives r_now) old new) (sym is) (record {
+    pub receiver-stays : IsReady new.staged r_now → OthersKeep r.addressing.id old.staged new.staged → new.sources ≡ old.sources → new.stands ≡ old.stands → new.policy ≡ old.policy →
+        Stays s (held.Receives r_now) old new
+    receiver-stays ready others sources stands policy = subst (λ (k : Record). Stays k (held.Receives r_now) old new) (sym is) (record {
       ready = receiver-ready new.staged new.sources r.addressing.id r_now (ap (λ (a : Addressing). a.id) addr) ready;
       others = others;
       sources = sources;
+      stands = stands;
       policy = policy;
     })
 
@@ -594,12 +606,30 @@ module _ (s : Record) (r : ReceiverState) (is : s ≡ held.Receives r) (old : De
     heard-failed (Err e) v h outbox = subst (λ (k : Record). Keeps v k (held.Receives r_now) old new) (sym is) (receiver-keeps r r_now old new addr v h outbox)
 
 -- ---- how long the PDU of a sender is
-pub len-of-sender : (sources : FileMap) (x : SenderState) (n : Option ℕ) → HasFile sources x.source x.size
+pub len-of-sender : (sources : FileMap) (x : SenderState) (n : Option ℕ) → HasOwnFile sources x
     → ((file : List ℕ) → length file ≡ x.size → n ≡ option_map (λ d. written_len x.addressing (is_large x.size) (sender_says file x d)) (sender_due x))
     → unwrap_or n 0 ≡ due_len sources (Sends x)
-len-of-sender sources x n file len = ap (λ o. unwrap_or o 0) (len (octets_in sources x.source) file.whole) ∙ by (sender_due x)
+len-of-sender sources x n own len = by_phase x.phase refl own
   where
-    by : (o : Option SenderDue) → unwrap_or (option_map (λ d. written_len x.addressing (is_large x.size) (sender_says (octets_in sources x.source) x d)) o) 0
-        ≡ len_of (is_large x.size) x.addressing (seens.sender_content (octets_in sources x.source) x o)
+    file : List ℕ
+    file = octets_in sources x.source
+
+    by : (o : Option SenderDue) → unwrap_or (option_map (λ d. written_len x.addressing (is_large x.size) (sender_says file x d)) o) 0
+        ≡ len_of (is_large x.size) x.addressing (seens.sender_content file x o)
     by (Some d) = refl
     by None = refl
+
+    -- what isn't file data is as long, whatever the file is
+    unsent : (other : List ℕ) → x.phase ≢ Sending → (o : Option SenderDue) → sender_due x ≡ o →
+        option_map (λ d. written_len x.addressing (is_large x.size) (sender_says other x d)) o ≡ option_map (λ d. written_len x.addressing (is_large x.size) (sender_says file x d)) o
+    unsent other apart (Some d) is = ap (λ v. Some (written_len x.addressing (is_large x.size) v)) (says-unsent x d other file is apart)
+    unsent other apart None is = refl
+
+    not_sending : x.phase ≢ Sending → unwrap_or n 0 ≡ due_len sources (Sends x)
+    not_sending apart =
+        ap (λ o. unwrap_or o 0) (len (replicate x.size 0) (length-replicate x.size 0) ∙ unsent (replicate x.size 0) apart (sender_due x) refl) ∙ by (sender_due x)
+
+    by_phase : (p : SenderPhase) → x.phase ≡ p → HasFileWhile p sources x.source x.size → unwrap_or n 0 ≡ due_len sources (Sends x)
+    by_phase Sending is has = ap (λ o. unwrap_or o 0) (len file has.whole) ∙ by (sender_due x)
+    by_phase Cancelling is has = not_sending (λ h. let bad : Cancelling ≡ Sending = sym is ∙ h in cc)
+    by_phase Closed is has = not_sending (λ h. let bad : Closed ≡ Sending = sym is ∙ h in cc)

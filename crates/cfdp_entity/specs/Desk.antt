@@ -1,5 +1,5 @@
 -- What the steps of records work on, as contracts see it.
-use Rattle.std.specs.Prelude.{ℕ, ◌-◌, Option, vec_len, vec_capacity}
+use Rattle.std.specs.Prelude.{ℕ, ◌-◌, Bool, Option, vec_len, vec_capacity}
 use Rattle.cfdp_header.specs.declared.value.TransactionId.{TransactionId}
 use Rattle.cfdp_header.specs.Files.{FileMap}
 use Rattle.cfdp_directives.specs.declared.user.policy.Policy.{Policy}
@@ -15,12 +15,14 @@ use Rattle.cfdp_entity.specs.declared.desk.Desk.{Desk}
 abbrev pub Staged : Type 0
 Staged = TransactionId → Option OctetMap
 
--- what is staged in the inbox, the files that it published, those of the outbox, which timers are
--- armed and what was indicated, the policy, and how many calls of each store failed
+-- what is staged in the inbox, the files that it published, those of the outbox, whether they stood
+-- still so far, which timers are armed and what was indicated, the policy, and how many calls of
+-- each store failed
 pub record DeskState : Type 0 where
   pub staged : Staged
   pub files : FileMap
   pub sources : FileMap
+  pub stands : Bool
   pub effects : Effects
   pub policy : Policy
   pub inbox_failures : ℕ
@@ -36,13 +38,19 @@ on_desk outbox inbox desk = record {
   staged = inbox.staged desk.inbox;
   files = inbox.published desk.inbox;
   sources = outbox.files desk.outbox;
+  stands = outbox.stands desk.outbox;
   effects = desk.effects;
   policy = desk.policy;
   inbox_failures = inbox.failures desk.inbox;
   outbox_failures = outbox.failures desk.outbox;
 }
 
--- the same, with a receiver whose record is there
+-- the desk before a step that may read a file, but that the outbox has what it has afterwards: its
+-- files as they were when they were read
+abbrev pub desk_lent : (now old : DeskState) → DeskState
+desk_lent now old = record old { sources = now.sources; stands = now.stands }
+
+-- what is on a desk, with a receiver whose record is there
 abbrev pub scene : ReceiverState → DeskState → Scene
 scene r desk = record {
   receiver = r;

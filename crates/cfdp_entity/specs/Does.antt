@@ -84,6 +84,7 @@ pub record Stays (before now : Record) (old new : DeskState) : Type 0 where
   pub ready : IsReadyRecord new.staged new.sources (id_of before) now
   pub others : OthersKeep (id_of before) old.staged new.staged
   pub sources : new.sources ≡ old.sources
+  pub stands : new.stands ≡ old.stands
   pub policy : new.policy ≡ old.policy
 
 -- The PDU that was due was taken, or the outbox failed to give its octets, and that was counted.
@@ -133,6 +134,7 @@ pub record Widens (id : TransactionId) (old new : DeskState) : Type 0 where
       → set.contains new.effects.timers.roomy other ≡ true
   pub others : OthersKeep id old.staged new.staged
   pub sources : new.sources ≡ old.sources
+  pub stands : new.stands ≡ old.stands
   pub policy : new.policy ≡ old.policy
   pub outbox : new.outbox_failures ≡ old.outbox_failures
 

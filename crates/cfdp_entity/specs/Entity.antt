@@ -10,7 +10,7 @@ use Rattle.cfdp_entity.specs.declared.config.EntityConfig.{EntityConfig}
 use Rattle.cfdp_entity.specs.declared.error.EntityDrop.{EntityDrop}
 use Rattle.cfdp_entity.specs.Errors.{drop_number}
 use Rattle.cfdp_entity.specs.Strays.{StrayAck}
-use Rattle.cfdp_entity.specs.Table.{Entry, TableState, place_of, first_table, phase_in}
+use Rattle.cfdp_entity.specs.Table.{Entry, TableState, place_of, first_table, phase_in, standing, table_lent}
 
 -- The table, the stray acknowledgements in their order, the place behind the record served last,
 -- the
@@ -45,6 +45,17 @@ first_entity sources files config = record {
   config = config;
   forgotten = set.empty;
 }
+
+-- the same, of an outbox whose files stand or don't
+abbrev pub entity_standing : Bool → EntityState → EntityState
+entity_standing stands e = record e { table = standing stands e.table }
+
+-- an entity before a step that may read a file, but that its outbox has what it has afterwards
+abbrev pub entity_lent : (now old : EntityState) → EntityState
+entity_lent now old = record old { table = table_lent now.table old.table }
+
+abbrev pub counted_lent : (now old : Counted) → Counted
+counted_lent now old = record old { state = entity_lent now.state old.state }
 
 abbrev pub with_table : EntityState → TableState → EntityState
 with_table e t = record e { table = t }

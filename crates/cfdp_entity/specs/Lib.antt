@@ -22,6 +22,7 @@ pub mod Calls
 pub mod Hearing
 pub mod Closed
 pub mod Forgetting
+pub mod Looking
 pub mod Polling
 pub mod Putting
 pub mod Adding

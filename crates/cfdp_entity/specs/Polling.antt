@@ -10,7 +10,7 @@ use Rattle.cfdp_entity.specs.declared.record.Gave.TheVariants.{Failed}
 use Rattle.cfdp_entity.specs.Entity.{EntityState, Counted}
 use Rattle.cfdp_entity.specs.Gives.{Gives, CountsOutbox, Writes, stored_by_gave}
 use Rattle.cfdp_entity.specs.Strays.{StrayAck, stray_octets, stray_len}
-use Rattle.cfdp_entity.specs.Table.{next_due, due_at, len_at, data_at, taken_at}
+use Rattle.cfdp_entity.specs.Table.{next_due, due_at, len_at, data_at, taken_at, ShowsIf}
 
 -- what has the next turn: a stray acknowledgement, with those behind it, or the record at a place
 pub data Turn : Type 0 where
@@ -106,6 +106,14 @@ Polls room Nothing old new out out' = (turn old.state ≡ Rests) × (new ≡ old
 Polls room Full old new out out' =
     (room < turn_len (turn old.state) old.state) × (new ≡ old) × (out' ≡ out)
 Polls room SourceFailed old new out out' = LosesPdu room old.state new.state
+
+-- What a poll that answered this has shown of the outbox's files: something only where it took file
+-- data, or was to take them.
+abbrev pub Shows : EntityPolled → (old new : EntityState) → Type 0
+Shows (Moved n is_data) old new = ShowsIf is_data old.table new.table
+Shows SourceFailed old new = ShowsIf true old.table new.table
+Shows Nothing old new = ShowsIf false old.table new.table
+Shows Full old new = ShowsIf false old.table new.table
 
 -- how the outbox answered
 abbrev pub stored_by_poll : EntityPolled → Stored

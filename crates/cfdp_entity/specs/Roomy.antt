@@ -5,7 +5,7 @@ use Rattle.cfdp_directives.specs.Pdu.Content.{Content}
 use Rattle.cfdp_entity.specs.declared.record.Gave.{Gave}
 use Rattle.cfdp_entity.specs.declared.record.Gave.TheVariants.{Failed}
 use Rattle.cfdp_entity.specs.Gives.{Gives, CountsOutbox, stored_by_gave}
-use Rattle.cfdp_entity.specs.Table.{TableState, place_of, most_records, SpoiledAt, taken_at, due_at, len_at, data_at}
+use Rattle.cfdp_entity.specs.Table.{TableState, place_of, most_records, SpoiledAt, taken_at, due_at, len_at, data_at, table_lent}
 
 -- how many more indications fit without memory, and how many calls of each store failed
 pub record Roomy : Type 0 where
@@ -13,6 +13,10 @@ pub record Roomy : Type 0 where
   pub spare : ℕ
   pub inbox_failures : ℕ
   pub outbox_failures : ℕ
+
+-- the table before a step that may read a file, but that the outbox has what it has afterwards
+abbrev pub roomy_lent : (now old : Roomy) → Roomy
+roomy_lent now old = record old { state = table_lent now.state old.state }
 
 -- A record of this transaction may be added.
 pub record MayAdd (id : TransactionId) (st : TableState) : Type 0 where

@@ -79,6 +79,11 @@ abbrev pub carries_data : Seen → Bool
 carries_data (Sends x) = sends.carries_by (sends.sender_due x)
 carries_data (Receives r m) = false
 
+-- whether it is sending the file that the outbox has under this name
+abbrev pub sends_file : List ℕ → Seen → Bool
+sends_file name (Sends x) = sends.sends_file name x
+sends_file name (Receives r m) = false
+
 -- how far a transaction has come
 abbrev pub phase_of : Seen → Phase
 phase_of (Sends x) = sends.phase_told x.phase

@@ -96,12 +96,13 @@ abbrev pub longest_pdu : ℕ
 longest_pdu = 4132
 
 -- ---- what stays
--- What was indicated stays, none of it is let go, and more is added behind; the files to send and
--- the configuration stay, and no number comes back.
+-- What was indicated stays, none of it is let go, and more is added behind; the files to send, and
+-- whether they stand, and the configuration stay, and no number comes back.
 pub record GoesOn (old new : EntityState) : Type 0 where
   pub gained : List Indication
   pub told : new.table.told ≡ old.table.told ++ gained
   pub gone : new.table.gone ≡ old.table.gone
   pub sources : new.table.sources ≡ old.table.sources
+  pub stands : new.table.stands ≡ old.table.stands
   pub config : new.config ≡ old.config
   pub next : old.next ≤ new.next

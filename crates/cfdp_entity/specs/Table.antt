@@ -1,5 +1,5 @@
 -- A table of records with their timers: which one is served next, and one step of one record.
-use Rattle.std.specs.Prelude.{◌≡◌, ℕ, ◌+◌, ◌-◌, ◌^◌, nat_lt, min, Bool, false, List, [], ◌∷◌, ◌++◌, drop, length, position, slice_get, max, Option, Some, None, if◌then◌else◌}
+use Rattle.std.specs.Prelude.{◌≡◌, ℕ, ◌+◌, ◌-◌, ◌^◌, nat_lt, min, Bool, true, false, List, [], ◌∷◌, ◌++◌, drop, length, position, slice_get, max, Option, Some, None, if◌then◌else◌}
 use Rattle.std.specs.Option.{option_or, option_map}
 use Rattle.std.specs.Map.{lookup}
 use Rattle.std.specs.FinMap as finmap
@@ -12,6 +12,7 @@ use Rattle.cfdp_directives.specs.declared.user.indication.Indication.{Indication
 use Rattle.cfdp_directives.specs.declared.user.phase.Phase.{Phase}
 use Rattle.cfdp_directives.specs.declared.user.policy.Policy.{Policy}
 use Rattle.cfdp_directives.specs.Pdu.Content.{Content}
+use Rattle.cfdp_store.specs.Rereading.{RereadsIf}
 use Rattle.cfdp_store.specs.declared.stored.Stored.{Stored}
 use Rattle.cfdp_timers.specs.declared.kind.Kind.{Kind}
 use Rattle.cfdp_timers.specs.Order.{Timer}
@@ -27,8 +28,8 @@ abbrev pub Entry : Type 0
 Entry = TransactionId × Seen
 
 -- the records in order of opening, the latest time told, the armed timers, what was indicated,
--- how many of that were let go, the published files, the files of the outbox, and how long and how
--- often answers are waited for
+-- how many of that were let go, the published files, the files of the outbox, whether these stood
+-- still so far, and how long and how often answers are waited for
 pub record TableState : Type 0 where
   pub records : List Entry
   pub now : ℕ
@@ -37,6 +38,7 @@ pub record TableState : Type 0 where
   pub gone : ℕ
   pub files : FileMap
   pub sources : FileMap
+  pub stands : Bool
   pub policy : Policy
 
 -- the most records of a table, closed ones included
@@ -146,8 +148,22 @@ first_table sources files policy = record {
   gone = 0;
   files = files;
   sources = sources;
+  stands = true;
   policy = policy;
 }
+
+-- the same, of an outbox whose files stand or don't
+abbrev pub standing : Bool → TableState → TableState
+standing stands st = record st { stands = stands }
+
+-- the table before a step that may read a file, but that the outbox has what it has afterwards: its
+-- files as they were when they were read
+abbrev pub table_lent : (now old : TableState) → TableState
+table_lent now old = record old { sources = now.sources; stands = now.stands }
+
+-- the table of an outbox of which such a step has shown something, where it read file data
+abbrev pub ShowsIf : (reads : Bool) → (old new : TableState) → Type 0
+ShowsIf reads old new = RereadsIf reads old.stands new.stands old.sources new.sources
 
 -- ---- timers that fired
 abbrev pub expired_in : Option ℕ → Kind → TableState → TableState

@@ -9,7 +9,7 @@ use Rattle.cfdp_header.specs.Files.{FileMap}
 use Rattle.cfdp_directives.specs.declared.user.indication.Indication.{Indication}
 use Rattle.cfdp_timers.specs.Effects.{HasRoom}
 use Rattle.cfdp_receiver.specs.State.{IsReady}
-use Rattle.cfdp_sender.specs.Does.{HasFile}
+use Rattle.cfdp_sender.specs.Does.{HasOwnFile}
 use Rattle.cfdp_entity.specs.declared.record.Record.{Record}
 use Rattle.cfdp_entity.specs.declared.record.Record.TheVariants as held
 use Rattle.cfdp_entity.specs.Desk.{Staged, DeskState, spare}
@@ -33,6 +33,7 @@ state_of gone desk es = record {
   gone = length gone;
   files = desk.files;
   sources = desk.sources;
+  stands = desk.stands;
   policy = desk.policy;
 }
 
@@ -49,11 +50,11 @@ abbrev pub id_of : Record → TransactionId
 id_of (held.Sends x) = x.addressing.id
 id_of (held.Receives r) = r.addressing.id
 
--- A record is kept under its transaction. What a sender sends is in the outbox, and while a
+-- A record is kept under its transaction. What a sender is sending is in the outbox, and while a
 -- receiver receives, its transaction is begun and what is held is staged.
 unfoldable pub IsReadyRecord : Staged → FileMap → TransactionId → Record → Type 0
 IsReadyRecord staged sources id (held.Sends x) =
-    (x.addressing.id ≡ id) × HasFile sources x.source x.size
+    (x.addressing.id ≡ id) × HasOwnFile sources x
 IsReadyRecord staged sources id (held.Receives r) = (r.addressing.id ≡ id) × IsReady staged r
 
 -- A record can make a step: it is ready, and there is room for what the step tells and arms.

@@ -1,10 +1,13 @@
-// Files that are added to an outbox in memory.
-ghost use Rattle.std.specs.Prelude.{◌≡◌, IfErr, OnOk, OnErr};
+// Files that an outbox is given, or looks for, while an entity is at work.
+ghost use Rattle.std.specs.FinMap as map;
+ghost use Rattle.std.specs.Prelude.{◌≡◌, is_ok, is_some, IfErr, IfOk, OnOk, OnErr};
+ghost use Rattle.cfdp_store.specs.Stores.{failures_after};
 ghost use Rattle.cfdp_entity.specs.Adding.{AddsFile, RefusesToAdd};
+ghost use Rattle.cfdp_entity.specs.Looking.{LooksUp};
 
 use crate::entity::Entity;
 use crate::error::AddError;
-use cfdp_store::{Inbox, MemoryOutbox};
+use cfdp_store::{Inbox, MemoryOutbox, SeekingOutbox, StoreError};
 
 impl<I: Inbox> Entity<MemoryOutbox, I> {
     /// Adds a file to the outbox, under a name that it has no file of: so no file changes that is
@@ -21,5 +24,26 @@ impl<I: Inbox> Entity<MemoryOutbox, I> {
         ensures outbox { self.new.outbox_failures ≡ self.old.outbox_failures }
     {
         self.table.add_source(name, octets)
+    }
+}
+
+impl<O: SeekingOutbox, I: Inbox> Entity<O, I> {
+    /// Looks for the file of a name, so that a put can send it as it is now: whether there is one.
+    /// Where the file of that name is being sent already, it isn't looked for: a put sends what is
+    /// sent then.
+    ///
+    /// # Errors
+    ///
+    /// That of the outbox, which is counted. Nothing else changed then.
+    pub fn look_for(&mut self, name: &[u8]) -> Result<bool, StoreError>
+        ensures has { IfOk result (λ has. has
+            ≡ is_some (map.get self.new.state.table.sources name.now)) }
+        ensures looks { OnOk result (LooksUp name.now self.old.state self.new.state) }
+        ensures err { OnErr result (self.new.state ≡ self.old.state) }
+        ensures inbox { self.new.inbox_failures ≡ self.old.inbox_failures }
+        ensures outbox { self.new.outbox_failures
+            ≡ failures_after self.old.outbox_failures (is_ok result) }
+    {
+        self.table.look_for(name)
     }
 }

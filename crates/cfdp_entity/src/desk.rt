@@ -8,12 +8,13 @@ ghost use Rattle.cfdp_receiver.specs.Storing.{Settles};
 ghost use Rattle.cfdp_sender.specs.Does.{HasFile};
 ghost use Rattle.cfdp_sender.specs.State.{IsSendable};
 ghost use Rattle.cfdp_store.specs.Chains.{Raises};
+ghost use Rattle.cfdp_store.specs.Rereading.{RereadsIf};
 ghost use Rattle.cfdp_entity.specs.declared.record.Record.TheVariants as records;
-ghost use Rattle.cfdp_entity.specs.Desk.{on_desk, spare};
+ghost use Rattle.cfdp_entity.specs.Desk.{desk_lent, on_desk, spare};
 ghost use Rattle.cfdp_entity.specs.Does.{Made, Keeps, Stays, Asked, Sent, Opens, OpensNone, Widens, hearing, expiring, calling, seen_as};
 ghost use Rattle.cfdp_entity.specs.Opening as openings;
 ghost use Rattle.cfdp_entity.specs.Opening.{begins, opens, puts, AsksInOrder, CountsBoth};
-ghost use Rattle.cfdp_entity.specs.Seen.{due_len, seen};
+ghost use Rattle.cfdp_entity.specs.Seen.{carries_data, due_len, seen};
 ghost use Rattle.cfdp_entity.specs.Storing.{AsksCalled, AsksHeard, AsksFirst, AsksToBegin};
 ghost use Rattle.cfdp_entity.specs.Whole.{MayStep};
 
@@ -112,10 +113,14 @@ impl<O: Outbox, I: Inbox> Desk<O, I> {
         requires ready { MayStep held.old (on_desk O.Outbox I.Inbox self.old) }
         requires fits { due_len (O.files self.old.outbox)
             (seen_as held.old held.old (on_desk O.Outbox I.Inbox self.old)) ≤ length out.old }
-        ensures sent { Sent result held.old held.new (on_desk O.Outbox I.Inbox self.old)
-            (on_desk O.Outbox I.Inbox self.new) out.old out.new }
-        ensures stays { Stays held.old held.new (on_desk O.Outbox I.Inbox self.old)
-            (on_desk O.Outbox I.Inbox self.new) }
+        // What was read is what the outbox has now.
+        ensures sent { let now = on_desk O.Outbox I.Inbox self.new in Sent result held.old held.new
+            (desk_lent now (on_desk O.Outbox I.Inbox self.old)) now out.old out.new }
+        ensures stays { let now = on_desk O.Outbox I.Inbox self.new in Stays held.old held.new
+            (desk_lent now (on_desk O.Outbox I.Inbox self.old)) now }
+        ensures shows { RereadsIf (carries_data (seen_as held.old held.old
+            (on_desk O.Outbox I.Inbox self.old))) (O.stands self.old.outbox)
+            (O.stands self.new.outbox) (O.files self.old.outbox) (O.files self.new.outbox) }
     {
         let effects = &mut self.effects;
         match held {

@@ -1,7 +1,7 @@
 ghost use Rattle.std.specs.Prelude.{◌≡◌, drop, length, get_or, IfOk, MatchOption, None};
 ghost use Rattle.cfdp_timers.specs.ButInactivity.{OnlyInactivity, IsLeastOther};
 ghost use Rattle.cfdp_entity.specs.Config.{IsConfig};
-ghost use Rattle.cfdp_entity.specs.Entity.{first_entity, phase_told, dropped};
+ghost use Rattle.cfdp_entity.specs.Entity.{entity_standing, first_entity, phase_told, dropped};
 
 use crate::call::Call;
 use crate::config::EntityConfig;
@@ -78,8 +78,8 @@ impl<O: Outbox, I: Inbox> Entity<O, I> {
     /// `AllocError` where there is no memory for it.
     pub fn new(alloc: Global, config: EntityConfig, outbox: O, inbox: I) -> Result<Self, AllocError>
         requires { IsConfig config }
-        ensures state { IfOk result (λ e. e.state ≡ first_entity (O.files outbox)
-            (I.published inbox) config) }
+        ensures state { IfOk result (λ e. e.state ≡ entity_standing (O.stands outbox)
+            (first_entity (O.files outbox) (I.published inbox) config)) }
         ensures inbox_failures { IfOk result (λ e. e.inbox_failures ≡ I.failures inbox) }
         ensures outbox_failures { IfOk result (λ e. e.outbox_failures ≡ O.failures outbox) }
     {
@@ -139,6 +139,7 @@ impl<O: Outbox, I: Inbox> Entity<O, I> {
     /// The outbox, lent.
     pub fn outbox(&self) -> &O
         ensures files { O.files result.now ≡ self.now.state.table.sources }
+        ensures stands { O.stands result.now ≡ self.now.state.table.stands }
         ensures failures { O.failures result.now ≡ self.now.outbox_failures }
     {
         self.table.outbox()

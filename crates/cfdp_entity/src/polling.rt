@@ -1,12 +1,13 @@
 // What an entity sends.
-ghost use Rattle.std.specs.Prelude.{◌≡◌, ◌≤◌, ◌<◌, [], true, length, IfOk, OnErr};
+ghost use Rattle.std.specs.Prelude.{◌≡◌, ◌≤◌, ◌<◌, [], true, length, IfOk, OnErr, OnOk};
 ghost use Rattle.cfdp_entity.specs.declared.polled.EntityPolled.TheVariants as answers;
+ghost use Rattle.cfdp_entity.specs.Entity.{counted_lent, entity_lent};
 ghost use Rattle.cfdp_entity.specs.Gives.{CountsOutbox};
-ghost use Rattle.cfdp_entity.specs.Polling.{Polls, SendsAt, TakesTurn, room_in, stored_by_poll, turn_room};
+ghost use Rattle.cfdp_entity.specs.Polling.{Polls, SendsAt, Shows, TakesTurn, room_in, stored_by_poll, turn_room};
 ghost use Rattle.cfdp_entity.specs.Sound.{longest_pdu};
 ghost use Rattle.cfdp_entity.specs.Spelled.{Answers, FirstIsSpelled, SpellsMoved};
 ghost use Rattle.cfdp_entity.specs.Strays.{first_stray_len};
-ghost use Rattle.cfdp_entity.specs.Table.{len_at};
+ghost use Rattle.cfdp_entity.specs.Table.{ShowsIf, data_at, len_at};
 
 use crate::entity::Entity;
 use crate::polled::{EntityPolled, Rooms};
@@ -43,10 +44,13 @@ impl<O: Outbox, I: Inbox> Entity<O, I> {
     pub fn poll(&mut self, rooms: Rooms, out: &mut [u8]) -> Result<EntityPolled, AllocError>
         requires directives { rooms.directives ≤ length out.old }
         requires file_data { rooms.file_data ≤ length out.old }
-        ensures polled { IfOk result (λ answer. Polls (turn_room rooms self.old.state) answer
-            self.old self.new out.old out.new) }
+        // What was read of a file is what the outbox has now.
+        ensures polled { let lent = counted_lent self.new self.old in IfOk result (λ answer. Polls
+            (turn_room rooms lent.state) answer lent self.new out.old out.new) }
+        ensures shows { IfOk result (λ answer. Shows answer self.old.state self.new.state) }
         // Its octets are those of what it says.
-        ensures spells { IfOk result (λ answer. SpellsMoved answer self.old.state) }
+        ensures spells { IfOk result (λ answer. SpellsMoved answer
+            (entity_lent self.new.state self.old.state)) }
         ensures roomy { IfOk result (λ answer. answer ≡ answers.Full
             → turn_room rooms self.old.state < longest_pdu) }
         ensures counts { IfOk result (λ answer. CountsOutbox (stored_by_poll answer)
@@ -66,7 +70,9 @@ impl<O: Outbox, I: Inbox> Entity<O, I> {
     fn poll_stray(&mut self, room: usize, out: &mut [u8]) -> EntityPolled
         requires fits { room ≤ length out.old }
         requires some { 1 ≤ length self.old.state.strays }
-        ensures { Answers room result self.old self.new out.old out.new }
+        ensures answers { Answers room result self.old self.new out.old out.new }
+        ensures shows { Shows result self.old.state self.new.state }
+        ensures table { self.new.state.table ≡ self.old.state.table }
     {
         let len = self.stray_len();
         if len > room {
@@ -97,8 +103,9 @@ impl<O: Outbox, I: Inbox> Entity<O, I> {
         requires directives { rooms.directives ≤ length out.old }
         requires file_data { rooms.file_data ≤ length out.old }
         requires no_stray { self.old.state.strays ≡ [] }
-        ensures answers { IfOk result (λ answer. Answers (turn_room rooms self.old.state) answer
-            self.old self.new out.old out.new) }
+        ensures answers { let lent = counted_lent self.new self.old in IfOk result (λ answer.
+            Answers (turn_room rooms lent.state) answer lent self.new out.old out.new) }
+        ensures shows { IfOk result (λ answer. Shows answer self.old.state self.new.state) }
         ensures err { OnErr result ((self.new ≡ self.old) × (out.new ≡ out.old)) }
         ensures lacks { OnErr result (TakesTurn (turn_room rooms self.old.state) self.old.state) }
     {
@@ -119,7 +126,10 @@ impl<O: Outbox, I: Inbox> Entity<O, I> {
     fn send_at(&mut self, place: usize, out: &mut [u8]) -> Result<Gave, AllocError>
         requires fits { len_at place self.old.state.table ≤ length out.old }
         requires within { place < 4096 }
-        ensures sends { IfOk result (λ gave. SendsAt place gave self.old self.new out.old out.new) }
+        ensures sends { IfOk result (λ gave. SendsAt place gave (counted_lent self.new self.old)
+            self.new out.old out.new) }
+        ensures shows { OnOk result (ShowsIf (data_at place self.old.state.table)
+            self.old.state.table self.new.state.table) }
         ensures err { OnErr result ((self.new ≡ self.old) × (out.new ≡ out.old)) }
     {
         self.table.reserve(3)?;

@@ -84,6 +84,17 @@ impl Record {
         }
     }
 
+    /// Whether it is sending the file that the outbox has under this name.
+    pub(crate) fn sends_file(&self, name: &[u8]) -> bool
+        ensures { (staged : Option OctetMap) →
+            result ≡ seens.sends_file name.now (seen staged self.now) }
+    {
+        match self {
+            Record::Sends(sender) => sender.sends_file(name),
+            Record::Receives(_) => false,
+        }
+    }
+
     /// How far the transaction has come.
     pub(crate) fn phase(&self) -> Phase
         ensures { (staged : Option OctetMap) → result ≡ seens.phase_of (seen staged self.now) }

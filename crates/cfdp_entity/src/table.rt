@@ -1,10 +1,11 @@
 // Records, and the desk that their steps work on.
-ghost use Rattle.std.specs.Prelude.{◌≡◌, ◌+◌, ◌≤◌, ◌<◌, ◌++◌, ◌∷◌, ◌*◌, drop, max, true, None, Some, Option, [], length, slice_get, IfErr, IfOk, IfSome, MatchOption, OnOk, OnErr, is_ok};
+ghost use Rattle.std.specs.Prelude.{◌≡◌, ◌+◌, ◌≤◌, ◌<◌, ◌++◌, ◌∷◌, ◌*◌, drop, max, true, None, Some, Option, [], length, slice_get, IfErr, IfOk, IfSome, MatchOption, OnOk, OnErr, is_ok, is_some, false};
 ghost use Rattle.std.specs.FinMap as map;
 ghost use Rattle.std.specs.Option.{option_map};
 ghost use Rattle.std.specs.List.{IsDistinct};
 ghost use Rattle.std.specs.Map.{keys_of};
 ghost use Rattle.indexmap.specs.IndexMap.{keys, get, spare as spare_entries};
+ghost use Rattle.cfdp_header.specs.Files.{FileMap};
 ghost use Rattle.cfdp_header.specs.Ids.{same_id};
 ghost use Rattle.cfdp_directives.specs.Pdu.Addressing.{FitsAddressing};
 ghost use Rattle.cfdp_directives.specs.Pdu.Content.{view};
@@ -18,14 +19,15 @@ ghost use Rattle.cfdp_entity.specs.Adding.{AddsSource, RefusesToAdd, with_source
 ghost use Rattle.cfdp_entity.specs.Calling as calling;
 ghost use Rattle.cfdp_entity.specs.Forgetting as forgetting;
 ghost use Rattle.cfdp_entity.specs.Forgetting.{left_at, over_in, without_file};
+ghost use Rattle.cfdp_entity.specs.Looking.{IsSent, IsUnsent, Looks, LooksAnew, sends_at};
 ghost use Rattle.cfdp_entity.specs.Opening.{closing, AsksInOrder, CountsBoth};
-ghost use Rattle.cfdp_entity.specs.Roomy.{Becomes, LacksMemory, MayAdd, SendsFrom, Steps};
+ghost use Rattle.cfdp_entity.specs.Roomy.{Becomes, LacksMemory, MayAdd, SendsFrom, Steps, roomy_lent};
 ghost use Rattle.cfdp_entity.specs.Sound.{longest_pdu};
 ghost use Rattle.cfdp_entity.specs.Spelled.{EntryIsSpelled};
 ghost use Rattle.cfdp_entity.specs.Storing.{AsksToHear, AsksToCall, AsksToExpire, AsksByTimer, AsksToFire, AsksToTick, AsksToOpen};
 ghost use Rattle.cfdp_entity.specs.Walking.{phases_of};
 ghost use Rattle.cfdp_entity.specs.Table as tables;
-ghost use Rattle.cfdp_entity.specs.Table.{next_told, without_told, heard_at, expired_at, called_at, data_at, len_at, put_in, opened_by, next_due, first_table, all_expired, at_time, Ticks, phase_in};
+ghost use Rattle.cfdp_entity.specs.Table.{next_told, without_told, heard_at, expired_at, called_at, data_at, len_at, put_in, opened_by, next_due, first_table, all_expired, at_time, Ticks, phase_in, standing, ShowsIf};
 
 use crate::call::Call;
 use crate::desk::Desk;
@@ -37,7 +39,7 @@ use crate::transactions::Transactions;
 use cfdp_directives::{Addressing, Indication, Pdu, Phase, Policy};
 use cfdp_header::TransactionId;
 use cfdp_sender::Transfer;
-use cfdp_store::{Inbox, MemoryInbox, MemoryOutbox, Outbox, StoreError, Stored};
+use cfdp_store::{Inbox, MemoryInbox, MemoryOutbox, Outbox, SeekingOutbox, StoreError, Stored};
 use cfdp_timers::{Effects, Kind};
 use indexmap::IndexMap;
 use past::Counted;
@@ -77,7 +79,8 @@ impl<O: Outbox, I: Inbox> Table<O, I> {
     /// No records.
     pub fn new(alloc: Global, outbox: O, inbox: I, policy: Policy) -> Result<Self, AllocError>
         ensures { IfOk result (λ t. t ≡ record t {
-          state = first_table (O.files outbox) (I.published inbox) policy;
+          state = standing (O.stands outbox)
+              (first_table (O.files outbox) (I.published inbox) policy);
           inbox_failures = I.failures inbox;
           outbox_failures = O.failures outbox;
         }) }
@@ -168,7 +171,7 @@ impl<O: Outbox, I: Inbox> Table<O, I> {
     pub fn due_len(&self, place: usize) -> usize
         ensures len { result ≡ len_at place self.now.state }
         ensures short { result ≤ longest_pdu }
-        ensures spelled { EntryIsSpelled self.now.state.sources
+        ensures spelled { (sources : FileMap) → EntryIsSpelled sources
             (slice_get self.now.state.records place) }
     {
         match self.records.get_index(place) {
@@ -323,7 +326,9 @@ impl<O: Outbox, I: Inbox> Table<O, I> {
     pub fn send(&mut self, place: usize, out: &mut [u8]) -> Gave
         requires room { 3 ≤ self.old.spare }
         requires fits { len_at place self.old.state ≤ length out.old }
-        ensures { SendsFrom place result self.old self.new out.old out.new }
+        ensures sends { SendsFrom place result (roomy_lent self.new self.old) self.new out.old
+            out.new }
+        ensures shows { ShowsIf (data_at place self.old.state) self.old.state self.new.state }
     {
         match self.records.get_index_mut(place) {
             Some(held) => {
@@ -477,6 +482,7 @@ impl<O: Outbox, I: Inbox> Table<O, I> {
     /// The outbox, lent.
     pub fn outbox(&self) -> &O
         ensures files { O.files result.now ≡ self.now.state.sources }
+        ensures stands { O.stands result.now ≡ self.now.state.stands }
         ensures failures { O.failures result.now ≡ self.now.outbox_failures }
     {
         &self.desk.outbox
@@ -520,6 +526,63 @@ impl<I: Inbox> Table<MemoryOutbox, I> {
         let name = Vec::from_slice(self.alloc, name)?;
         let octets = Vec::from_slice(self.alloc, octets)?;
         self.desk.outbox.add(name, octets)
+    }
+}
+
+impl<O: Outbox, I: Inbox> Table<O, I> {
+    // Whether the record at a place is sending the file of this name.
+    fn sends_at(&self, place: usize, name: &[u8]) -> bool
+        ensures { result ≡ sends_at name.now place self.now.state }
+    {
+        match self.records.get_index(place) {
+            Some((_, held)) => held.sends_file(name),
+            None => false,
+        }
+    }
+
+    // Whether a record is sending it.
+    fn is_sending(&self, name: &[u8]) -> bool
+        ensures sent { result ≡ true → IsSent name.now self.now.state }
+        ensures unsent { result ≡ false → IsUnsent name.now self.now.state }
+    {
+        for place in 0..self.len() {
+            if self.sends_at(place, name) {
+                return true;
+            }
+        }
+        false
+    }
+}
+
+impl<O: SeekingOutbox, I: Inbox> Table<O, I> {
+    /// Looks for the file of a name, unless a record is sending it: whether there is one.
+    pub fn look_for(&mut self, name: &[u8]) -> Result<bool, StoreError>
+        ensures has { IfOk result (λ has. has ≡ is_some (map.get self.new.state.sources name.now)) }
+        ensures looks { OnOk result (Looks name.now self.old.state self.new.state) }
+        ensures err { OnErr result (self.new.state ≡ self.old.state) }
+        ensures counted { self.new ≡ record self.old {
+          state = self.new.state;
+          outbox_failures = failures_after self.old.outbox_failures (is_ok result);
+        } }
+    {
+        if self.is_sending(name) {
+            return Ok(self.source_len(name)?.is_some());
+        }
+        self.look_anew(name)
+    }
+
+    // Looks for a file that no record is sending.
+    fn look_anew(&mut self, name: &[u8]) -> Result<bool, StoreError>
+        requires { IsUnsent name.now self.old.state }
+        ensures has { IfOk result (λ has. has ≡ is_some (map.get self.new.state.sources name.now)) }
+        ensures looks { LooksAnew name.now self.old.state self.new.state }
+        ensures err { OnErr result (self.new.state ≡ self.old.state) }
+        ensures counted { self.new ≡ record self.old {
+          state = self.new.state;
+          outbox_failures = failures_after self.old.outbox_failures (is_ok result);
+        } }
+    {
+        self.desk.outbox.look_for(name)
     }
 }
 

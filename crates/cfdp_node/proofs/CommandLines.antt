@@ -66,7 +66,7 @@ pdus_of_file = (refl, refl)
 
 plain_loop : (refusals (line (codes "loop" ∷ codes "a" ∷ codes "b" ∷ codes "x" ∷ codes "y" ∷ [])) ≡ [])
     × (asked_of (line (codes "loop" ∷ codes "a" ∷ codes "b" ∷ codes "x" ∷ codes "y" ∷ []))
-    ≡ Some (loop (record { from = codes "a"; to = codes "b"; source = codes "x"; destination = codes "y"; turns = 10000; drop_every = 0; shown = nothing })))
+    ≡ Some (loop (record { from = codes "a"; to = codes "b"; source = codes "x"; destination = codes "y"; turns = 1000000000000; drop_every = 0; shown = nothing })))
 unfolding clap_on_literals
 plain_loop = (refl, refl)
 
@@ -83,7 +83,7 @@ watched_loop : (refusals (line (codes "loop" ∷ codes "--trace" ∷ codes "a" �
       to = codes "b";
       source = codes "x";
       destination = codes "y";
-      turns = 10000;
+      turns = 1000000000000;
       drop_every = 0;
       shown = record { explain = false; trace = true; pcap = Some (codes "c"); chart = Some (codes "d") };
     })))

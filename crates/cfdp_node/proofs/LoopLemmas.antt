@@ -4,14 +4,14 @@ use Rattle.std.specs.Io.KnownBytes.{Keeps}
 use Rattle.std.proofs.KnownBytes.{Appends-kept, Keeps-trans}
 use Rattle.cfdp_header.specs.Files.{FileMap}
 use Rattle.std.specs.declared.alloc.AllocError.{AllocError}
-use Rattle.cfdp_entity.specs.Entity.{first_entity}
+use Rattle.cfdp_entity.specs.Entity.{entity_standing, first_entity}
 use Rattle.cfdp_entity.specs.Putting.{Accepts, IsPutRefusal, put_refusal, stored_by_error}
 use Rattle.cfdp_entity.specs.declared.error.PutError.{PutError}
 use Rattle.link_stack.specs.Downward.{first_down}
 use Rattle.link_stack.specs.Upward.{first_up}
 use Rattle.cfdp_station.specs.Station.{StationState, KeepsLink}
 use Rattle.link_sim.specs.AtStation.{CountsPut, KeepsFailures}
-use Rattle.link_sim.specs.World.State.{IsFirstAt}
+use Rattle.link_sim.specs.World.State.{IsFirstAt, IsNewAt}
 use Rattle.link_sim.specs.declared.world_config.WorldConfig.{WorldConfig}
 use Rattle.std.specs.FinMap.{empty}
 use Rattle.cfdp_node.specs.Script.Settings.{world_of}
@@ -84,20 +84,20 @@ module _ {W : Type 0} (Steps : W → WireCall → W → Type 0) (old mid new : O
   one_kept exit one config files (inl none) = inl (none.0, Keeps-trans old mid new none.1 kept)
   one_kept exit one config files (inr two) = inr (two.0, two.1, (two.2.0, all_kept _ _ exit two.2.1))
 
-  loop_kept : (exit : Exit) (sources files : FileMap)
-      → EndsLoop Steps exit sources files wire_one wire_two source destination every most old mid
-      → EndsLoop Steps exit sources files wire_one wire_two source destination every most old new
-  loop_kept exit sources files (inl none) = inl (none.0, Keeps-trans old mid new none.1 kept)
-  loop_kept exit sources files (inr one) = inr (one.0, one.1, one_kept exit one.0 _ files one.2)
+  loop_kept : (exit : Exit) (stands : Bool) (sources files : FileMap)
+      → EndsLoop Steps exit stands sources files wire_one wire_two source destination every most old mid
+      → EndsLoop Steps exit stands sources files wire_one wire_two source destination every most old new
+  loop_kept exit stands sources files (inl none) = inl (none.0, Keeps-trans old mid new none.1 kept)
+  loop_kept exit stands sources files (inr one) = inr (one.0, one.1, one_kept exit one.0 _ files one.2)
 
   -- it holds still once what waits in the buffer was written out
-  pub flushed_loop : (exit ended : Exit) (sources files : FileMap)
-      → IsTold exit (EndsLoop Steps exit sources files wire_one wire_two source destination every most old mid)
+  pub flushed_loop : (exit ended : Exit) (stands : Bool) (sources files : FileMap)
+      → IsTold exit (EndsLoop Steps exit stands sources files wire_one wire_two source destination every most old mid)
       → (ended ≡ exit) ⊎ (ended ≡ Device Unwritable)
-      → IsTold ended (EndsLoop Steps ended sources files wire_one wire_two source destination every most old new)
-  flushed_loop exit ended sources files told from =
-      let Ends : Exit → Type 0 = λ e. IsTold e (EndsLoop Steps e sources files wire_one wire_two source destination every most old new) in
-      let now : Ends exit = told_too exit _ _ (loop_kept exit sources files) told in
+      → IsTold ended (EndsLoop Steps ended stands sources files wire_one wire_two source destination every most old new)
+  flushed_loop exit ended stands sources files told from =
+      let Ends : Exit → Type 0 = λ e. IsTold e (EndsLoop Steps e stands sources files wire_one wire_two source destination every most old new) in
+      let now : Ends exit = told_too exit _ _ (loop_kept exit stands sources files) told in
       ⊎_elim (λ e. subst Ends (sym e) now) (λ e. subst Ends (sym e) tt) from
 
 -- ---- the put
@@ -133,12 +133,12 @@ follows_by Steps id every most old new (Ok u) short is whole part = subst (λ s.
 follows_by Steps id every most old new (Err e) short is whole part = subst (λ s. Follows Steps every most (Ok id) s old new) (sym is) part
 
 -- a new station, over files that are known
-pub first_over : (config : StationConfig) (sources own_sources files own_files : FileMap) (s : StationState) → own_sources ≡ sources → own_files ≡ files
-    → s.entity.state ≡ first_entity own_sources own_files config.entity → s.down ≡ first_down config.down config.capacity
-    → s.up ≡ first_up config.up → IsFirstAt config sources files s
-first_over config sources own_sources files own_files s same_sources same_files entity down up = record {
-  entity = subst (λ o. s.entity.state ≡ first_entity o files config.entity) same_sources
-      (subst (λ f. s.entity.state ≡ first_entity own_sources f config.entity) same_files entity);
+pub first_over : (config : StationConfig) (stands : Bool) (sources own_sources files own_files : FileMap) (s : StationState) → own_sources ≡ sources → own_files ≡ files
+    → s.entity.state ≡ entity_standing stands (first_entity own_sources own_files config.entity) → s.down ≡ first_down config.down config.capacity
+    → s.up ≡ first_up config.up → IsNewAt config stands sources files s
+first_over config stands sources own_sources files own_files s same_sources same_files entity down up = record {
+  entity = subst (λ o. s.entity.state ≡ entity_standing stands (first_entity o files config.entity)) same_sources
+      (subst (λ f. s.entity.state ≡ entity_standing stands (first_entity own_sources f config.entity)) same_files entity);
   down = down;
   up = up;
 }
@@ -157,12 +157,12 @@ module _ {W : Type 0} (Steps : W → WireCall → W → Type 0) (exit : Exit) (s
       told_too exit (All own_every left) (EndsFromOne Steps exit one config files wire_one wire_two source destination every most old new)
       (λ all. inr (two, first, (last, subst (λ e. All e every) same_every (subst (All own_every) same_left all)))) told
 
-  pub from_first : (one : StationState) (configs : WorldConfig) (sources files : FileMap) → configs ≡ world_of loop_settings
-      → IsFirstAt configs.one sources empty one
+  pub from_first : (one : StationState) (configs : WorldConfig) (stands : Bool) (sources files : FileMap) → configs ≡ world_of loop_settings
+      → IsNewAt configs.one stands sources empty one
       → IsTold exit (EndsFromOne Steps exit one configs.two files wire_one wire_two source destination every most old new)
-      → IsTold exit (EndsLoop Steps exit sources files wire_one wire_two source destination every most old new)
-  from_first one configs sources files same first told =
-      let Goal : Type 0 = EndsLoop Steps exit sources files wire_one wire_two source destination every most old new in
+      → IsTold exit (EndsLoop Steps exit stands sources files wire_one wire_two source destination every most old new)
+  from_first one configs stands sources files same first told =
+      let Goal : Type 0 = EndsLoop Steps exit stands sources files wire_one wire_two source destination every most old new in
       let Two : WorldConfig → Type 0 = λ c. EndsFromOne Steps exit one c.two files wire_one wire_two source destination every most old new in
       told_too exit (Two configs) Goal
-      (λ ends. inr (one, subst (λ (c : WorldConfig). IsFirstAt c.one sources empty one) same first, subst Two same ends)) told
+      (λ ends. inr (one, subst (λ (c : WorldConfig). IsNewAt c.one stands sources empty one) same first, subst Two same ends)) told

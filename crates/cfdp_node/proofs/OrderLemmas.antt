@@ -1,6 +1,7 @@
 -- Two stations that take turns over wires that keep the order of each lane are those of a world: turn by turn,
 -- and in each one event after another.
 use Rattle.std.proofs.Common.{◌≡◌, ℕ, zero, suc, ◌+◌, ◌<◌, ◌≤◌, List, [], ◌∷◌, ◌++◌, length, take, get_or, Option, Some, None, Result, Ok, Err, refl, sym, ap, subst, ◌∙◌, inl, inr, arith, length-append}
+use Rattle.std.specs.Prelude.{IsTrue}
 use Rattle.std.proofs.lemmas.List.{append-nil, append_assoc, take_all, take_more}
 use Rattle.std.proofs.Math.Seq.{take-append_seam}
 use Rattle.aos_frame.specs.Frame.{other_lane}
@@ -10,7 +11,12 @@ use Rattle.cfdp_header.specs.Files.{FileMap}
 use Rattle.cfdp_header.specs.declared.value.TransactionId.{TransactionId}
 use Rattle.link_stack.specs.Downward.{DownState}
 use Rattle.link_stack.specs.Upward.{UpState}
+use Rattle.cfdp_entity.specs.Entity.{Counted}
+use Rattle.cfdp_entity.specs.Polling.{turn}
+use Rattle.cfdp_entity.specs.Sound.{SpellsTurn}
+use Rattle.cfdp_station.specs.Polling.{Polls}
 use Rattle.cfdp_station.specs.Station.{StationState}
+use Rattle.cfdp_station.proofs.Lent.{polls-stood}
 use Rattle.link_sim.specs.declared.event.AcceptedPut.{AcceptedPut}
 use Rattle.link_sim.specs.declared.side.Side.{Side}
 use Rattle.link_sim.specs.declared.side.Side.TheVariants.{One, Two}
@@ -29,33 +35,45 @@ use Rattle.cfdp_node.specs.Looping.Turns.{LoopState, Puts, TakesTurn, Turns}
 use Rattle.cfdp_node.specs.Wire.Turn.{AsksOn, End, HearsAll, PollMoves, PollsOnce, PollsOut, SendsFrame, Sending, Sends, TakesWhat, Times}
 use Rattle.cfdp_node.specs.Wire.Calls.{WireCall}
 use Rattle.cfdp_node.specs.declared.wire.WireFault.{WireFault}
+use Rattle.cfdp_node.proofs.ServingLemmas.{GoesOnLaws, hears-gains, ticks-gains}
 
 -- the frames of each lane
 abbrev frames_in : FrameLinksState → Lane → List (List ℕ)
 frames_in k x = (lane_of_links x k).frames
 
+-- The files that a station sends stand.
+abbrev Stand : StationState → Type 0
+Stand s = IsTrue s.entity.state.table.stands
+
 -- ---- what a station sends
 module _ (s : Side) (b : StationState) (m : FrameLinksState) (puts : List AcceptedPut) where
-  -- a station went on from a first state, and polled once more
-  polled_once : (first l now : StationState) (d : DownState) (k : FrameLinksState) (ticks : ℕ) (sent : Lane → ℕ) → GoesAside s first l d b k m puts ticks sent
-      → (answer : _) → PollsOnce answer l now → GoesAside s first now d b k m puts ticks sent
-  polled_once first l now d k ticks sent g answer p =
+  -- Where its files stand, the station went on from a first state.
+  abbrev GoesOn : (first l : StationState) (d : DownState) (k : FrameLinksState) (ticks : ℕ) (sent : Lane → ℕ) → Type 0
+  GoesOn first l d k ticks sent = Stand l → GoesAside s first l d b k m puts ticks sent
+
+  -- and polled once more: what it read is what its files have
+  polled_once : (first l now : StationState) (d : DownState) (k : FrameLinksState) (ticks : ℕ) (sent : Lane → ℕ) → GoesOn first l d k ticks sent
+      → (answer : _) → PollsOnce answer l now → GoesOn first now d k ticks sent
+  polled_once first l now d k ticks sent before answer p stand =
+      let stood = polls-stood answer l now p.shows stand in
+      let g : GoesAside s first l d b k m puts ticks sent = before stood.0 in
       goes_both s first l now d b k m puts ticks sent g
-      (poll_goes s l now g.down b g.link m puts g.then_ticks sent g.is answer p.polls p.spells p.outbox p.inbox)
+      (poll_goes s l now g.down b g.link m puts g.then_ticks sent g.is answer (subst (λ (x : StationState). Polls answer x now) stood.1 p.polls)
+      (λ moved. subst (λ (x : StationState). SpellsTurn (turn x.entity.state) x.entity.state) stood.1 (p.spells moved)) p.outbox p.inbox)
 
   polled_more : (first : StationState) (d : DownState) (k : FrameLinksState) (ticks : ℕ) (sent : Lane → ℕ) (count : ℕ) (l now : StationState) → Times PollMoves count l now
-      → GoesAside s first l d b k m puts ticks sent → GoesAside s first now d b k m puts ticks sent
-  polled_more first d k ticks sent zero l now same g = subst (λ (x : StationState). GoesAside s first x d b k m puts ticks sent) (sym same) g
+      → GoesOn first l d k ticks sent → GoesOn first now d k ticks sent
+  polled_more first d k ticks sent zero l now same g = subst (λ (x : StationState). GoesOn first x d k ticks sent) (sym same) g
   polled_more first d k ticks sent (suc count) l now (mid, before, (answer, more, once)) g =
       polled_once first mid now d k ticks sent (polled_more first d k ticks sent count l mid before g) answer once
 
-  polled_out : (first l now : StationState) (d : DownState) (k : FrameLinksState) (ticks : ℕ) (sent : Lane → ℕ) → PollsOut l now → GoesAside s first l d b k m puts ticks sent →
-      GoesAside s first now d b k m puts ticks sent
+  polled_out : (first l now : StationState) (d : DownState) (k : FrameLinksState) (ticks : ℕ) (sent : Lane → ℕ) → PollsOut l now → GoesOn first l d k ticks sent →
+      GoesOn first now d k ticks sent
   polled_out first l now d k ticks sent p g =
-      let h : GoesAside s first p.last d b k m puts ticks sent = polled_more first d k ticks sent p.count l p.last p.moved g in
+      let h : GoesOn first p.last d k ticks sent = polled_more first d k ticks sent p.count l p.last p.moved g in
       elim p.ends [
         | inl rests ↦ polled_once first p.last now d k ticks sent h rests.1.0 rests.1.2
-        | inr all ↦ subst (λ (x : StationState). GoesAside s first x d b k m puts ticks sent) (sym all.1) h
+        | inr all ↦ subst (λ (x : StationState). GoesOn first x d k ticks sent) (sym all.1) h
       ]
 
 -- ---- frames that leave
@@ -122,6 +140,33 @@ module _ {W : Type 0} (Steps : W → WireCall → W → Type 0) where
         same = f.3 ∙ h.same;
       }
 
+  -- ---- where its files stand, they stood before
+  left_same : (every count : ℕ) (old now : Sending W) → Times (SendsFrame Steps every) count old now → now.station.entity ≡ old.station.entity
+  left_same every zero old now same = ap (λ (x : Sending W). x.station.entity) same
+  left_same every (suc count) old now (mid, before, step) = step.rest.0 ∙ left_same every count old mid before
+
+  polled_stood : (every now : ℕ) (old new : Sending W) (h : Sends Steps every now old new) → Stand new.station → Stand h.polled
+  polled_stood every now old new h stand =
+      let same : new.station.entity ≡ h.polled.entity = left_same every h.sends.count (record old { station = h.flushed }) new h.sends.sent ∙ h.flushes.1.0 in
+      subst (λ (e : Counted). IsTrue e.state.table.stands) same stand
+
+  moves_stood : (count : ℕ) (a b : StationState) → Times PollMoves count a b → Stand b → Stand a
+  moves_stood zero a b same stand = subst Stand same stand
+  moves_stood (suc count) a b (mid, before, (answer, more, once)) stand = moves_stood count a mid before (polls-stood answer mid b once.shows stand).0
+
+  out_stood : (a b : StationState) → PollsOut a b → Stand b → Stand a
+  out_stood a b p stand = moves_stood p.count a p.last p.moved (elim p.ends [
+    | inl rests ↦ (polls-stood rests.1.0 p.last b rests.1.2.shows stand).0
+    | inr all ↦ subst Stand all.1 stand
+  ])
+
+  sends_stood : GoesOnLaws → (every now : ℕ) (old new : Sending W) → Sends Steps every now old new → Stand new.station → Stand old.station
+  sends_stood laws every now old new h stand =
+      (ticks-gains laws now old.station h.told h.tells).stood (out_stood h.told h.polled h.polls (polled_stood every now old new h stand))
+
+  hears_stood : GoesOnLaws → (old new : End W) → HearsAll Steps old new → Stand new.station → Stand old.station
+  hears_stood laws old new h stand = (hears-gains laws Steps old new h).stood stand
+
   -- What came of a world while a station on this side sent in its turn.
   record HasSent (s : Side) (l now b : StationState) (k m : FrameLinksState) (puts : List AcceptedPut) (ticks : ℕ) (left : Lane → List (List ℕ)) : Type 0 where
     pub link : FrameLinksState
@@ -134,13 +179,14 @@ module _ {W : Type 0} (Steps : W → WireCall → W → Type 0) where
 
   has_sent : (s : Side) (every now : ℕ) (old new : Sending W) (b : StationState) (k m : FrameLinksState) (puts : List AcceptedPut) (ticks : ℕ) → AreCarried old.station.down k b.up →
       AreCarried b.down m old.station.up
-      → (h : Sends Steps every now old new) → HasSent s old.station new.station b k m puts ticks (all_left every h.sends.count _ _ h.sends.sent)
-  has_sent s every now old new b k m puts ticks forth back h =
+      → (h : Sends Steps every now old new) → Stand new.station → HasSent s old.station new.station b k m puts ticks (all_left every h.sends.count _ _ h.sends.sent)
+  has_sent s every now old new b k m puts ticks forth back h stand =
       let l : StationState = old.station in
       let sent : Lane → ℕ = all_sent k in
       let told : GoesAside s l h.told l.down b k m puts ticks sent =
       tick_goes s l h.told l.down b k m puts ticks sent (aside_none l b k m forth back) now h.tells.ticked h.tells.table h.tells.failures h.tells.raises h.tells.link in
-      let polled : GoesAside s l h.polled l.down b k m puts ticks sent = polled_out s b m puts l h.told h.polled l.down k ticks sent h.polls told in
+      let polled : GoesAside s l h.polled l.down b k m puts ticks sent =
+      polled_out s b m puts l h.told h.polled l.down k ticks sent h.polls (λ stood. told) (polled_stood every now old new h stand) in
       let g : GoesAside s l h.flushed l.down b k m puts ticks sent = goes_both s l h.polled h.flushed l.down b k m puts ticks sent polled
       (flush_on s h.polled h.flushed polled.down b polled.link m puts polled.then_ticks sent polled.is h.flushes.0 h.flushes.1) in
       let start : Sending W = record old { station = h.flushed } in
@@ -245,11 +291,18 @@ module _ {W : Type 0} (Steps : W → WireCall → W → Type 0) where
     pub from_two : (x : Lane) → frames_in m x ≡ passed.from_two x
     pub led : Reaches first (world_at One one two k m puts ticks)
 
-  takes_turn : (every now : ℕ) (old new : LoopState W) (turn : TakesTurn Steps every now old new) (before after : Passage) → PassesInOrder Steps every now old new turn before after
-      → (first : WorldState) (puts : List AcceptedPut) → AreAt first puts old.one old.two before → AreAt first puts new.one new.two after
-  takes_turn every now old new turn before after pass first puts at =
-      let one = has_sent One every now _ _ old.two at.k at.m puts at.ticks at.are.forth at.are.back turn.one_sends in
-      let two = has_sent Two every now _ _ turn.one at.m one.link puts one.then_ticks one.back one.forth turn.two_sends in
+  -- That is so where the files of both stand.
+  abbrev AreAtIf : (first : WorldState) (puts : List AcceptedPut) (one two : StationState) (passed : Passage) → Type 0
+  AreAtIf first puts one two passed = Stand one → Stand two → AreAt first puts one two passed
+
+  takes_turn : GoesOnLaws → (every now : ℕ) (old new : LoopState W) (turn : TakesTurn Steps every now old new) (before after : Passage) → PassesInOrder Steps every now old new turn before after
+      → (first : WorldState) (puts : List AcceptedPut) → AreAtIf first puts old.one old.two before → AreAtIf first puts new.one new.two after
+  takes_turn laws every now old new turn before after pass first puts earlier stand_one stand_two =
+      let mid_one : Stand turn.one = hears_stood laws _ _ turn.one_hears stand_one in
+      let mid_two : Stand turn.two = hears_stood laws _ _ turn.two_hears stand_two in
+      let at : AreAt first puts old.one old.two before = earlier (sends_stood laws every now _ _ turn.one_sends mid_one) (sends_stood laws every now _ _ turn.two_sends mid_two) in
+      let one = has_sent One every now _ _ old.two at.k at.m puts at.ticks at.are.forth at.are.back turn.one_sends mid_one in
+      let two = has_sent Two every now _ _ turn.one at.m one.link puts one.then_ticks one.back one.forth turn.two_sends mid_two in
       let left_one : Lane → List (List ℕ) = all_left every turn.one_sends.sends.count _ _ turn.one_sends.sends.sent in
       let left_two : Lane → List (List ℕ) = all_left every turn.two_sends.sends.count _ _ turn.two_sends.sends.sent in
       let from_one : (x : Lane) → frames_in one.link x ≡ after.from_one x = λ (x : Lane). one.frames x ∙ ap (λ (ys : List (List ℕ)). ys ++ left_one x) (at.from_one x) ∙ sym (pass.from_one x) in
@@ -284,23 +337,23 @@ module _ {W : Type 0} (Steps : W → WireCall → W → Type 0) where
         led = reaches_both _ _ _ at.led (reaches_both _ _ _ one.led (reaches_both _ _ _ two.led (reaches_both _ _ _ hears_one.led hears_two.led)));
       }
 
-  take_turns : (id : TransactionId) (every : ℕ) (count : ℕ) (old new : LoopState W) (turns : Turns Steps id every count old new) (passed : Passage) →
+  take_turns : GoesOnLaws → (id : TransactionId) (every : ℕ) (count : ℕ) (old new : LoopState W) (turns : Turns Steps id every count old new) (passed : Passage) →
       PassInOrder Steps id every count old new turns passed
-      → (first : WorldState) (puts : List AcceptedPut) → AreAt first puts old.one old.two nothing_passed → AreAt first puts new.one new.two passed
-  take_turns id every zero old new same passed none first puts at =
-      subst (λ (p : Passage). AreAt first puts new.one new.two p) (sym none) (subst (λ (x : LoopState W). AreAt first puts x.one x.two nothing_passed) (sym same) at)
-  take_turns id every (suc count) old new (mid, before, unclosed, turn) passed (earlier, pass, now) first puts at =
-      takes_turn every (count + 1) mid new turn earlier passed now first puts (take_turns id every count old mid before earlier pass first puts at)
+      → (first : WorldState) (puts : List AcceptedPut) → AreAtIf first puts old.one old.two nothing_passed → AreAtIf first puts new.one new.two passed
+  take_turns laws id every zero old new same passed none first puts at =
+      subst (λ (p : Passage). AreAtIf first puts new.one new.two p) (sym none) (subst (λ (x : LoopState W). AreAtIf first puts x.one x.two nothing_passed) (sym same) at)
+  take_turns laws id every (suc count) old new (mid, before, unclosed, turn) passed (earlier, pass, now) first puts at =
+      takes_turn laws every (count + 1) mid new turn earlier passed now first puts (take_turns laws id every count old mid before earlier pass first puts at)
 
   -- ---- the whole
   pub are_of_world : ((c : WorldConfig) (outboxes inboxes : FileMap × FileMap) (first now : WorldState) → IsWorldConfig c → IsFirst c outboxes inboxes first → Led first now →
       KeepsPromises inboxes now)
-      → (c : WorldConfig) (outboxes inboxes : FileMap × FileMap) (source destination : List ℕ) (id : TransactionId) (every count : ℕ) (first : LoopState W) (one : StationState) (last : LoopState W)
+      → GoesOnLaws → (c : WorldConfig) (outboxes inboxes : FileMap × FileMap) (source destination : List ℕ) (id : TransactionId) (every count : ℕ) (first : LoopState W) (one : StationState) (last : LoopState W)
       (passed : Passage)
       → IsWorldConfig c → IsFirstAt c.one outboxes.0 inboxes.0 first.one → IsFirstAt c.two outboxes.1 inboxes.1 first.two → Puts source destination (Ok id) first.one one
       → (turns : Turns Steps id every count (record first { one = one }) last) → PassInOrder Steps id every count (record first { one = one }) last turns passed
-      → AreOfWorld c outboxes inboxes (record { id = id; source = source; destination = destination }) passed last.one last.two
-  are_of_world keeps c outboxes inboxes source destination id every count first one last passed valid first_one first_two put turns pass =
+      → Stand last.one → Stand last.two → AreOfWorld c outboxes inboxes (record { id = id; source = source; destination = destination }) passed last.one last.two
+  are_of_world keeps laws c outboxes inboxes source destination id every count first one last passed valid first_one first_two put turns pass stand_one stand_two =
       let joined = first_joined c outboxes inboxes first.one first.two valid first_one first_two in
       let k : FrameLinksState = no_link first.one.down in
       let m : FrameLinksState = no_link first.two.down in
@@ -323,7 +376,7 @@ module _ {W : Type 0} (Steps : W → WireCall → W → Type 0) where
         from_two = λ (x : Lane). (no_link-none first.two.down x).0;
         led = put_reaches source destination id first.one one first.two k m [] 0 put.0 put.1 put.2;
       } in
-      let r : AreAt begun puts last.one last.two passed = take_turns id every count (record first { one = one }) last turns passed pass begun puts at in
+      let r : AreAt begun puts last.one last.two passed = take_turns laws id every count (record first { one = one }) last turns passed pass begun puts (λ a b. at) stand_one stand_two in
       record {
         first = begun;
         starts = joined.1;

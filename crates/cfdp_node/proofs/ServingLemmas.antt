@@ -13,12 +13,13 @@ use Rattle.cfdp_entity.specs.Polling.{served, turn}
 use Rattle.cfdp_entity.specs.Sound.{GoesOn}
 use Rattle.cfdp_entity.specs.Table.{TableState, Ticks}
 use Rattle.link_stack.specs.Downward.{both_counted_from}
-use Rattle.cfdp_station.specs.Station.{KeepsRest, StationState}
+use Rattle.cfdp_station.specs.Station.{KeepsRest, StationState, station_lent}
+use Rattle.cfdp_station.proofs.Lent.{polls-stood}
 use Rattle.cfdp_station.specs.Taking.{HearsAll as HearsPdus}
 use Rattle.cfdp_station.specs.declared.polled.Polled.{Polled}
 use Rattle.cfdp_station.specs.declared.polled.Polled.TheVariants.{Moved, Nothing, Full, SourceFailed}
 use Rattle.cfdp_node.specs.Looping.Turns.{IsTold}
-use Rattle.cfdp_node.specs.Station.Serving.{EndsFrom, EndsStation, Gains, ServesTo, station_exit, table_of}
+use Rattle.cfdp_node.specs.Station.Serving.{EndsFrom, EndsStation, Gains, LooksAt, ServesTo, station_exit, table_of}
 use Rattle.cfdp_node.specs.Station.Turning.{EndsPolls, FillsUp, Hears, MovesMore, Pulls, SendsNext, SendsSome, SendsSomeInPart, TakesInPart, TakesOne}
 use Rattle.cfdp_node.specs.Wire.Turn.{AsksOn, Asks, End, HearsAll, PollsOnce, Sending, TellsTime, Times}
 use Rattle.cfdp_node.specs.Wire.Calls.{WireCall}
@@ -32,18 +33,24 @@ use Rattle.cfdp_node.proofs.LoopLemmas.{told_too}
 
 -- ---- what was told stays
 pub gains-same : (a b : TableState) → b ≡ a → Gains a b
-gains-same a b same = record { gained = []; told = ap (λ (t : TableState). t.told) same ∙ sym (append-nil a.told); gone = ap (λ (t : TableState). t.gone) same }
+gains-same a b same = record {
+  gained = [];
+  told = ap (λ (t : TableState). t.told) same ∙ sym (append-nil a.told);
+  gone = ap (λ (t : TableState). t.gone) same;
+  stood = λ stand. sym (ap (λ (t : TableState). t.stands) same) ∙ stand;
+}
 
 pub gains-both : (a b c : TableState) → Gains a b → Gains b c → Gains a c
 gains-both a b c one two = record {
   gained = one.gained ++ two.gained;
   told = two.told ∙ ap (λ xs. xs ++ two.gained) one.told ∙ append_assoc a.told one.gained two.gained;
   gone = two.gone ∙ one.gone;
+  stood = λ stand. one.stood (two.stood stand);
 }
 
 -- what an entity told, over a step with which it goes on
 pub goes : (a b : EntityState) → GoesOn a b → Gains a.table b.table
-goes a b on = record { gained = on.gained; told = on.told; gone = on.gone }
+goes a b on = record { gained = on.gained; told = on.told; gone = on.gone; stood = λ stand. sym on.stands ∙ stand }
 
 -- a station with the same entity told the same
 pub same-entity : (a b : StationState) → b.entity ≡ a.entity → Gains (table_of a) (table_of b)
@@ -56,6 +63,18 @@ gains-times Step of each zero a b same = gains-same (of a) (of b) (ap of same)
 gains-times Step of each (suc count) a b (mid, before, step) =
     gains-both (of a) (of mid) (of b) (gains-times Step of each count a mid before) (each mid b step)
 
+-- a file was looked for
+pub look-gains : (source : List ℕ) (a b : StationState) → LooksAt source a b → Gains (table_of a) (table_of b)
+look-gains source a b look = elim look.looks.looks [
+  | inl sent ↦ gains-same (table_of a) (table_of b) sent.1
+  | inr anew ↦ record {
+    gained = [];
+    told = ap (λ (t : TableState). t.told) anew.table ∙ sym (append-nil (table_of a).told);
+    gone = ap (λ (t : TableState). t.gone) anew.table;
+    stood = anew.looks.stood;
+  }
+]
+
 -- the laws of an entity
 pub record GoesOnLaws : Type 0 where
   pub ticked : (now : ℕ) (old new : EntityState) → Ticks now old.table new.table → new ≡ with_table old new.table → GoesOn old new
@@ -64,17 +83,21 @@ pub record GoesOnLaws : Type 0 where
   pub served : (stored : Stored) (e : EntityState) → GoesOn e (served stored (turn e) e)
 
 module _ (laws : GoesOnLaws) where
-  ticks-gains : (now : ℕ) (a b : StationState) → TellsTime now a b → Gains (table_of a) (table_of b)
+  pub ticks-gains : (now : ℕ) (a b : StationState) → TellsTime now a b → Gains (table_of a) (table_of b)
   ticks-gains now a b tells = goes a.entity.state b.entity.state (laws.ticked now a.entity.state b.entity.state tells.ticked tells.table)
 
   serves-gains : (stored : Stored) (a b : EntityState) → b ≡ served stored (turn a) a → Gains a.table b.table
   serves-gains stored a b is = subst (λ (e : EntityState). Gains a.table e.table) (sym is) (goes a (served stored (turn a) a) (laws.served stored a))
 
-  poll-gains : (answer : Polled) (a b : StationState) → PollsOnce answer a b → Gains (table_of a) (table_of b)
-  poll-gains Moved a b once = serves-gains Done a.entity.state b.entity.state once.polls.0.served
-  poll-gains SourceFailed a b once = serves-gains Refused a.entity.state b.entity.state once.polls.0.0.served
-  poll-gains Nothing a b once = same-entity a b once.polls.0.1
-  poll-gains Full a b once = same-entity a b once.polls.0.1
+  -- what was read says nothing of what was told
+  lent-gains : (answer : Polled) (a b : StationState) → PollsOnce answer a b → Gains (table_of (station_lent b a)) (table_of b) → Gains (table_of a) (table_of b)
+  lent-gains answer a b once g = record { gained = g.gained; told = g.told; gone = g.gone; stood = λ stand. (polls-stood answer a b once.shows stand).0 }
+
+  pub poll-gains : (answer : Polled) (a b : StationState) → PollsOnce answer a b → Gains (table_of a) (table_of b)
+  poll-gains Moved a b once = lent-gains Moved a b once (serves-gains Done (station_lent b a).entity.state b.entity.state once.polls.0.served)
+  poll-gains SourceFailed a b once = lent-gains SourceFailed a b once (serves-gains Refused (station_lent b a).entity.state b.entity.state once.polls.0.0.served)
+  poll-gains Nothing a b once = lent-gains Nothing a b once (same-entity (station_lent b a) b once.polls.0.1)
+  poll-gains Full a b once = lent-gains Full a b once (same-entity (station_lent b a) b once.polls.0.1)
 
   moves-gains : (count : ℕ) (a b : StationState) → Times MovesMore count a b → Gains (table_of a) (table_of b)
   moves-gains = gains-times MovesMore table_of (λ a b more. poll-gains more.1.0 a b more.1.2)
@@ -125,7 +148,7 @@ module _ (laws : GoesOnLaws) where
     asks-gains (Ok None) a b asks = gains-same (table_of a.station) (table_of b.station) (ap table_of asks.takes)
     asks-gains (Err fault) a b asks = gains-same (table_of a.station) (table_of b.station) (ap table_of asks.takes)
 
-    hears-gains : (a b : End W) → HearsAll Steps a b → Gains (table_of a.station) (table_of b.station)
+    pub hears-gains : (a b : End W) → HearsAll Steps a b → Gains (table_of a.station) (table_of b.station)
     hears-gains a b hears =
         gains-both (table_of a.station) (table_of hears.last.station) (table_of b.station)
         (gains-times (AsksOn Steps) (λ (e : End W). table_of e.station) (λ x y on. asks-gains on.0 x y on.2) hears.count a hears.last hears.heard)
@@ -183,19 +206,19 @@ module _ {W : Type 0} (Steps : W → WireCall → W → Type 0) (own every : ℕ
   from-kept exit first old mid new kept (inl none) = inl (none.0, Keeps-trans old mid new none.1 kept)
   from-kept exit first old mid new kept (inr to) = inr (to.0, served-kept exit first to.0 old mid new kept to.1)
 
-  station-kept : (count : ℕ) (exit : Exit) (config : StationConfig) (sources files : FileMap) (wire : W) (old mid new : Option (List ℕ)) → Keeps mid new
-      → EndsStation Steps own every puts count exit config sources files wire old mid → EndsStation Steps own every puts count exit config sources files wire old new
-  station-kept count exit config sources files wire old mid new kept (inl none) = inl (none.0, Keeps-trans old mid new none.1 kept)
-  station-kept count exit config sources files wire old mid new kept (inr s) = inr (s.0, s.1, from-kept exit _ old mid new kept s.2)
+  station-kept : (count : ℕ) (exit : Exit) (config : StationConfig) (stands : Bool) (sources files : FileMap) (wire : W) (old mid new : Option (List ℕ)) → Keeps mid new
+      → EndsStation Steps own every puts count exit config stands sources files wire old mid → EndsStation Steps own every puts count exit config stands sources files wire old new
+  station-kept count exit config stands sources files wire old mid new kept (inl none) = inl (none.0, Keeps-trans old mid new none.1 kept)
+  station-kept count exit config stands sources files wire old mid new kept (inr s) = inr (s.0, s.1, from-kept exit _ old mid new kept s.2)
 
   -- it holds still once what waits in the buffer was written out
-  pub flushed-station : (count : ℕ) (exit ended : Exit) (config : StationConfig) (sources files : FileMap) (wire : W) (old mid new : Option (List ℕ)) → Keeps mid new
-      → IsTold exit (EndsStation Steps own every puts count exit config sources files wire old mid)
+  pub flushed-station : (count : ℕ) (exit ended : Exit) (config : StationConfig) (stands : Bool) (sources files : FileMap) (wire : W) (old mid new : Option (List ℕ)) → Keeps mid new
+      → IsTold exit (EndsStation Steps own every puts count exit config stands sources files wire old mid)
       → (ended ≡ exit) ⊎ (ended ≡ Device Unwritable)
-      → IsTold ended (EndsStation Steps own every puts count ended config sources files wire old new)
-  flushed-station count exit ended config sources files wire old mid new kept told from =
-      let Ends : Exit → Type 0 = λ e. IsTold e (EndsStation Steps own every puts count e config sources files wire old new) in
-      let now : Ends exit = told_too exit _ _ (station-kept count exit config sources files wire old mid new kept) told in
+      → IsTold ended (EndsStation Steps own every puts count ended config stands sources files wire old new)
+  flushed-station count exit ended config stands sources files wire old mid new kept told from =
+      let Ends : Exit → Type 0 = λ e. IsTold e (EndsStation Steps own every puts count e config stands sources files wire old new) in
+      let now : Ends exit = told_too exit _ _ (station-kept count exit config stands sources files wire old mid new kept) told in
       ⊎_elim (λ e. subst Ends (sym e) now) (λ e. subst Ends (sym e) tt) from
 
   -- a new station and its wire, with what turns need

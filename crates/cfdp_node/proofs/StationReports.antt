@@ -155,7 +155,7 @@ asks-end Steps puts over is_over are_made ready wire made asks same =
 pub tells-rest : (own c c_now : ℕ) (t last : TableState) (b d : Option (List ℕ)) → t.gone ≤ length t.told → Appends b d (flat_map (indication_line own) (said_by t))
     → c_now ≡ c + count_by (is_own_completion own) (said_by t) → last ≡ once_said t → AddsTo own c c_now (map Tells (said_by t)) t last b d
 tells-rest own c c_now t last b d few written complete is =
-    adds-both own c c_now [] t t last b b d few (record { gained = []; told = sym (append-nil t.told); gone = refl }) refl (Appends-nil b) written complete
+    adds-both own c c_now [] t t last b b d few (record { gained = []; told = sym (append-nil t.told); gone = refl; stood = λ stand. stand }) refl (Appends-nil b) written complete
     (ap (λ (s : TableState). s.told) is) (ap (λ (s : TableState). s.gone) is)
 
 -- how many are complete

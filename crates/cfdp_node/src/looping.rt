@@ -1,7 +1,7 @@
 //! A file that goes from one station to another over two wires, in turns.
 ghost use Rattle.std.specs.Io.Buffered.{writer_buffer, writer_contents};
 ghost use Rattle.std.specs.Io.KnownBytes.{Appends};
-ghost use Rattle.std.specs.Prelude.{◌≡◌, ◌↔◌, Some, length, IfOk, IsTrue, OnErr, OnOk};
+ghost use Rattle.std.specs.Prelude.{◌≡◌, ◌↔◌, ◌⊎◌, None, Some, length, IfOk, IsTrue, OnErr, OnOk};
 ghost use Rattle.cfdp_node.specs.Exit.{IsFlushedAt};
 ghost use Rattle.cfdp_node.specs.Looping.Turns.{EndsBoth, EndsFromOne, EndsLoop, IsClosed, IsTold, LoopRuns, RunsInPart, RunsTurns, TakesTurn, TurnsInPart, completed, is_no_memory, loop_exit, loop_settings, loop_text, more_failures, refusal_answer};
 ghost use Rattle.cfdp_node.specs.Script.Settings.{world_of};
@@ -69,8 +69,8 @@ const MOST_COMING: usize = 4096;
 /// the report, which has left the buffer then. The first wire is that of the first station.
 ///
 /// The put is made before the first turn. A turn tells both stations its number as the time, lets
-/// each send, the first one first, and then lets each take what came. It ends when the put is
-/// closed at both stations, or after so many turns.
+/// each send, the first one first, and then lets each take what came. The run ends when
+/// the put is closed at the first station and isn't open at the second, or after so many turns.
 ///
 /// A want of memory ends it, and is told as `Device` with the report; so is a put that isn't
 /// complete where a store failed. Where there is none for the stations, nothing is written. A
@@ -86,9 +86,10 @@ pub fn run_loop<O: Outbox, I: Inbox, W: Wire, V: Write + Drop, L: Lookout>(
     out: &mut BufWriter<V>,
     lookout: &mut L,
 ) -> Exit
-    ensures ends { IsTold result (EndsLoop W.steps result (O.files outbox) (I.published inbox)
-        wires.0 wires.1 options.source.items options.destination.items options.drop_every
-        options.turns (writer_contents V.contents out.old) (writer_contents V.contents out.new)) }
+    ensures ends { IsTold result (EndsLoop W.steps result (O.stands outbox) (O.files outbox)
+        (I.published inbox) wires.0 wires.1 options.source.items options.destination.items
+        options.drop_every options.turns (writer_contents V.contents out.old)
+        (writer_contents V.contents out.new)) }
     ensures flushed { IsFlushedAt result (writer_buffer out.new) }
 {
     run_first(alloc, &options, outbox, inbox, wires, out, lookout).flushed(out)
@@ -104,9 +105,9 @@ fn run_first<O: Outbox, I: Inbox, W: Wire, V: Write, L: Lookout>(
     out: &mut V,
     lookout: &mut L,
 ) -> Exit
-    ensures { IsTold result (EndsLoop W.steps result (O.files outbox) (I.published inbox)
-        wires.0 wires.1 options.now.source.items options.now.destination.items
-        options.now.drop_every options.now.turns (V.contents out.old) (V.contents out.new)) }
+    ensures { IsTold result (EndsLoop W.steps result (O.stands outbox) (O.files outbox)
+        (I.published inbox) wires.0 wires.1 options.now.source.items
+        options.now.destination.items options.now.drop_every options.now.turns (V.contents out.old) (V.contents out.new)) }
 {
     let config = loop_config();
     match Station::new(alloc, config.one, outbox, MemoryInbox::new(alloc)) {
@@ -250,7 +251,7 @@ pub fn have_failed<O: Outbox, I: Inbox, P: Outbox, J: Inbox>(
     reads != read || writes != written
 }
 
-/// Makes the put, and takes turns until it is closed at both stations, or so many were taken.
+/// Makes the put, and takes turns until it is over at both stations, or so many were taken.
 fn run<O: Outbox, I: Inbox, P: Outbox, J: Inbox, W: Wire, L: Lookout>(
     options: &LoopOptions,
     one: &mut Station<O, J>,
@@ -312,7 +313,7 @@ pub fn refused(error: PutError) -> Ended
     }
 }
 
-/// Takes turns until a transaction is closed at both stations, or so many were taken.
+/// Takes turns until a transaction is over at both stations, or so many were taken.
 fn take_turns<O: Outbox, I: Inbox, P: Outbox, J: Inbox, W: Wire, L: Lookout>(
     most: u64,
     id: TransactionId,
@@ -364,7 +365,8 @@ fn take_turns<O: Outbox, I: Inbox, P: Outbox, J: Inbox, W: Wire, L: Lookout>(
     Ok(())
 }
 
-/// Whether a transaction is closed at both stations.
+/// Whether a transaction is closed at the first station, and isn't open at the second: that may
+/// never have heard of it.
 fn are_closed<O: Outbox, I: Inbox, P: Outbox, J: Inbox>(
     id: TransactionId,
     one: &Station<O, J>,
@@ -372,13 +374,19 @@ fn are_closed<O: Outbox, I: Inbox, P: Outbox, J: Inbox>(
 ) -> bool
     ensures { IsTrue result ↔ IsClosed id one.now two.now }
 {
-    is_closed(one.phase(id)) && is_closed(two.phase(id))
+    is_closed(one.phase(id)) && isnt_open(two.phase(id))
 }
 
 fn is_closed(phase: Option<Phase>) -> bool
     ensures { IsTrue result ↔ (phase ≡ Some Phase.Closed) }
 {
     matches!(phase, Some(Phase::Closed))
+}
+
+fn isnt_open(phase: Option<Phase>) -> bool
+    ensures { IsTrue result ↔ ((phase ≡ None) ⊎ (phase ≡ Some Phase.Closed)) }
+{
+    matches!(phase, None | Some(Phase::Closed))
 }
 
 /// Takes one turn: the first station sends, then the second one, and then each takes what came.

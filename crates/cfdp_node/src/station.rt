@@ -14,7 +14,9 @@ pub mod turning;
 
 use crate::exit::{Exit, Fault};
 use crate::input::Input;
-use crate::looping::folders::{LoopLookout, TellingInbox, check_name, folder};
+use crate::looping::folders::{
+    LoopLookout, TellingInbox, TellingOutbox, check_file, check_name, folder, folder_outbox,
+};
 use crate::looping::held_folder::HeldFolder;
 use crate::report::name::Name;
 use crate::script::number::parse_number;
@@ -33,12 +35,11 @@ use crate::watch::recorder::Screen;
 use crate::watch::show::shown_status;
 use crate::wire::peer_socket::{Pace, PeerSocket, Unusable};
 use cfdp_station::StationConfig;
-use cfdp_store::{FuseInbox, Inbox, MemoryInbox, MemoryOutbox};
+use cfdp_store::{FuseInbox, Inbox, MemoryInbox, SeekingOutbox};
 use link_sim::{Side, WorldConfig};
 use std::alloc::{AllocError, Global};
 use std::cell::Cell;
-use std::fs::File;
-use std::io::{BufWriter, ErrorKind, Read};
+use std::io::{BufWriter, ErrorKind};
 use std::{fs, io};
 
 /// The exit status of bad arguments.
@@ -51,7 +52,6 @@ const DEVICE: u8 = 3;
 #[derive(Drop)]
 struct Prepared<'a> {
     config: WorldConfig,
-    outbox: MemoryOutbox,
     reservation: Reservation<'a>,
     /// The folder of its inbox, if it has one.
     held: Option<HeldFolder>,
@@ -60,7 +60,6 @@ struct Prepared<'a> {
 /// What a station needs to run.
 #[derive(Drop)]
 struct StationParts<'a> {
-    outbox: MemoryOutbox,
     socket: PeerSocket<'a>,
     /// The count of its first frame in either lane.
     frame_count: u32,
@@ -80,13 +79,12 @@ pub fn station_status(rt: &HostRuntime, request: &StationRequest) -> u8 {
         Ok(
             Prepared {
                 config,
-                outbox,
                 reservation,
                 held: _held,
             },
         ) => {
             let exchange = Exchange::new();
-            match parts(rt, request, &config, outbox, reservation, &exchange) {
+            match parts(rt, request, &config, reservation, &exchange) {
                 Ok(parts) => ran_status(rt, request, &config, parts, &exchange),
                 Err(status) => status,
             }
@@ -95,8 +93,8 @@ pub fn station_status(rt: &HostRuntime, request: &StationRequest) -> u8 {
     }
 }
 
-/// Looks at what is set, at names and folders, takes that of the inbox, reads the files that are to
-/// be sent, and reserves numbers.
+/// Looks at what is set, at names, folders and the files that are to be sent, takes the folder of
+/// the inbox, and reserves numbers.
 ///
 /// # Errors
 ///
@@ -110,13 +108,12 @@ fn begun<'a>(
 {
     let _ = configuration(rt, request, setup)?;
     let held = held_inbox(rt, request)?;
-    let outbox = filled_outbox(rt, request)?;
+    check_outbox(rt, request)?;
     let reservation = reserved(rt, request, setup)?;
     let setup = setup.beginning_at(reservation.number());
     let config = configuration(rt, request, &setup)?;
     Ok(Prepared {
         config,
-        outbox,
         reservation,
         held,
     })
@@ -291,7 +288,6 @@ fn parts<'a>(
     rt: &'a HostRuntime,
     request: &StationRequest,
     config: &WorldConfig,
-    outbox: MemoryOutbox,
     reservation: Reservation<'a>,
     exchange: &'a Exchange,
 ) -> Result<StationParts<'a>, u8>
@@ -300,51 +296,42 @@ fn parts<'a>(
     let frame_count = reservation.frame_count();
     let config = config_at(side_of(request), config);
     Ok(StationParts {
-        outbox,
         socket: socket(rt, request, &config, reservation, exchange)?,
         frame_count,
     })
 }
 
-/// The files that are to be sent, as far as they are there.
-fn filled_outbox(rt: &HostRuntime, request: &StationRequest) -> Result<MemoryOutbox, u8> {
-    let mut outbox = MemoryOutbox::new(rt.alloc());
+/// Looks at the folder of the outbox, and whether what has the names of files that are to be sent
+/// are files. Each is looked for again when its put is made, so it may be missing here.
+///
+/// # Errors
+///
+/// The exit status, where something is wrong, which was told on standard error.
+fn check_outbox(rt: &HostRuntime, request: &StationRequest) -> Result<(), u8> {
     let Some(path) = &request.outbox else {
         if request.puts.is_empty() {
-            return Ok(outbox);
+            return Ok(());
         }
         let _ = eprintln!(rt; "error: --put wants a folder of files, --outbox FOLDER");
         return Err(MISTAKE);
     };
     let _ = folder(rt, path.as_str())?;
-    for put in 0..request.puts.len() / 2 {
-        let name = request.puts[2 * put].as_str();
-        if let Err(error) = add_file(rt, &mut outbox, path.as_str(), name) {
-            let _ = eprintln!(rt; "error: {path}/{name}: {}", error.kind());
-            return Err(DEVICE);
-        }
-    }
-    Ok(outbox)
+    check_files(rt, path.as_str(), request.puts.as_slice())
 }
 
-/// Reads a file of a folder, if it is there. A link is not followed.
-fn add_file(
-    rt: &HostRuntime,
-    outbox: &mut MemoryOutbox,
-    folder: &str,
-    name: &str,
-) -> io::Result<()> {
-    let alloc = rt.alloc();
-    let path = format!(in alloc; "{folder}/{name}")?;
-    match fs::symlink_metadata(rt, path.as_str()) {
-        Ok(found) if found.is_file() => {}
-        Ok(_) => return Err(io::Error::from(ErrorKind::InvalidInput)),
-        Err(error) if error.kind() == ErrorKind::NotFound => return Ok(()),
-        Err(error) => return Err(error),
+/// Looks at the files of a folder that are to be sent, by pairs of words.
+///
+/// # Errors
+///
+/// The exit status, where one can't be sent, which was told on standard error.
+fn check_files(rt: &HostRuntime, path: &str, words: &[String]) -> Result<(), u8> {
+    let Ok(mut outbox) = folder_outbox(rt, path) else {
+        let _ = eprintln!(rt; "error: {path}: {}", ErrorKind::OutOfMemory);
+        return Err(DEVICE);
+    };
+    for put in 0..words.len() / 2 {
+        check_file(rt, &mut outbox, path, words[2 * put].as_str())?;
     }
-    let mut octets = Vec::new(alloc);
-    File::open(rt, path.as_str())?.read_to_end(&mut octets)?;
-    outbox.add(Vec::from_slice(alloc, name.as_bytes())?, octets)?;
     Ok(())
 }
 
@@ -427,7 +414,7 @@ struct Context<'a> {
     progress: &'a Progress<'a>,
 }
 
-/// Runs the station over the folder of its inbox; without one it takes no file.
+/// Runs the station over the folder of its outbox. Without one it has no put, and asks for no file.
 fn ran(
     context: Context<'_>,
     config: &WorldConfig,
@@ -437,23 +424,48 @@ fn ran(
     requires { IsWorldConfig config.now }
 {
     let rt = context.rt;
+    let path = match &context.request.outbox {
+        Some(path) => path.as_str(),
+        None => "",
+    };
+    match folder_outbox(rt, path) {
+        Ok(outbox) => {
+            let outbox = TellingOutbox::over(rt, path, outbox, told, context.progress);
+            ran_from(context, config, parts, outbox, told)
+        }
+        Err(AllocError) => Ran::unseen(Exit::Device(Fault::NoMemoryAtStart)),
+    }
+}
+
+/// Runs the station over this outbox and the folder of its inbox; without one it takes no file.
+fn ran_from<O: SeekingOutbox>(
+    context: Context<'_>,
+    config: &WorldConfig,
+    parts: StationParts<'_>,
+    outbox: O,
+    told: &Cell<bool>,
+) -> Ran
+    requires { IsWorldConfig config.now }
+{
+    let rt = context.rt;
     match &context.request.inbox {
         Some(path) => match TellingInbox::new(rt, path.as_str(), told, context.progress) {
-            Ok(inbox) => ran_over(context, config, parts, inbox),
+            Ok(inbox) => ran_over(context, config, parts, outbox, inbox),
             Err(AllocError) => Ran::unseen(Exit::Device(Fault::NoMemoryAtStart)),
         },
         None => {
             let inbox = FuseInbox::new(MemoryInbox::new(rt.alloc()), 1);
-            ran_over(context, config, parts, inbox)
+            ran_over(context, config, parts, outbox, inbox)
         }
     }
 }
 
-/// Runs the station over this inbox. One looks on if that is asked for.
-fn ran_over<I: Inbox>(
+/// Runs the station over these stores. One looks on if that is asked for.
+fn ran_over<O: SeekingOutbox, I: Inbox>(
     context: Context<'_>,
     config: &WorldConfig,
     parts: StationParts<'_>,
+    outbox: O,
     inbox: I,
 ) -> Ran
     requires { IsWorldConfig config.now }
@@ -473,7 +485,7 @@ fn ran_over<I: Inbox>(
             let own = config_at(side_of(request), config);
             let lookout = LoopLookout { onlooker, progress };
             let mut notices = Notices::new(rt, lookout, exchange, own, request.to.as_str());
-            let exit = reported(rt, request, config, parts, inbox, &mut notices);
+            let exit = reported(rt, request, config, parts, outbox, inbox, &mut notices);
             Ran {
                 exit,
                 seen: notices.lookout.onlooker.into_summary(),
@@ -485,11 +497,12 @@ fn ran_over<I: Inbox>(
 
 /// Runs the station, and writes the report to standard output. Its buffer is there before the first
 /// turn.
-fn reported<I: Inbox, L: Lookout>(
+fn reported<O: SeekingOutbox, I: Inbox, L: Lookout>(
     rt: &HostRuntime,
     request: &StationRequest,
     config: &WorldConfig,
     parts: StationParts<'_>,
+    outbox: O,
     inbox: I,
     lookout: &mut L,
 ) -> Exit
@@ -497,7 +510,6 @@ fn reported<I: Inbox, L: Lookout>(
 {
     let alloc = rt.alloc();
     let StationParts {
-        outbox,
         socket,
         frame_count,
     } = parts;

@@ -2,6 +2,7 @@ pub mod Invariants
 pub mod Asking
 pub mod Dues
 pub mod Failed
+pub mod OwnFile
 mod Writing
 pub mod InFile
 pub mod Truth

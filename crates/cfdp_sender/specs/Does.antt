@@ -24,7 +24,8 @@ use Rattle.cfdp_sender.specs.declared.taken.Taken.TheVariants.{Nothing, Moved, S
 use Rattle.cfdp_sender.specs.declared.due.SenderDue.{SenderDue}
 use Rattle.cfdp_sender.specs.State.{SenderState}
 use Rattle.cfdp_sender.specs.Due.{sender_says, carries}
-use Rattle.cfdp_sender.specs.declared.phase.SenderPhase.TheVariants.{Sending}
+use Rattle.cfdp_sender.specs.declared.phase.SenderPhase.{SenderPhase}
+use Rattle.cfdp_sender.specs.declared.phase.SenderPhase.TheVariants.{Sending, Cancelling, Closed}
 use Rattle.cfdp_sender.specs.Steps.{SenderAfter, sender_waits, sender_sends, asks_all}
 
 -- what a sender asks of its timers, where one of them is to be armed anew
@@ -71,6 +72,15 @@ pub record AsksSome (pairs : List (ℕ × ℕ)) (old new : SenderState) : Type 0
 pub record HasFile (files : FileMap) (name : List ℕ) (size : ℕ) : Type 0 where
   pub there : IsSome (map.get files name)
   pub whole : length (octets_in files name) ≡ size
+
+-- While a file is being sent, the outbox has it.
+abbrev pub HasFileWhile : SenderPhase → FileMap → (name : List ℕ) → (size : ℕ) → Type 0
+HasFileWhile Sending files name size = HasFile files name size
+HasFileWhile Cancelling files name size = Unit {0}
+HasFileWhile Closed files name size = Unit {0}
+
+abbrev pub HasOwnFile : FileMap → SenderState → Type 0
+HasOwnFile files x = HasFileWhile x.phase files x.source x.size
 
 -- Nothing was due, and all is as it was.
 pub record Rests (old new : SenderState) (before now : Effects)

@@ -1,5 +1,5 @@
 -- What a sender sends next, and what that PDU says (CCSDS 727.0-B-5, 4.6.1.1).
-use Rattle.std.specs.Prelude.{ℕ, ◌+◌, ◌-◌, ◌==◌, ◌||◌, not, min, Bool, true, false, nat_lt, List, [], ◌∷◌, take, drop, Option, Some, None, if◌then◌else◌}
+use Rattle.std.specs.Prelude.{ℕ, ◌+◌, ◌-◌, ◌==◌, ◌&&◌, ◌||◌, bytes_eq, not, min, Bool, true, false, nat_lt, List, [], ◌∷◌, take, drop, Option, Some, None, if◌then◌else◌}
 use Rattle.cfdp_extents.specs.Terms.{front_of}
 use Rattle.cfdp_directives.specs.declared.pdu.codes.Acknowledged.TheVariants as acknowledged
 use Rattle.cfdp_directives.specs.declared.pdu.codes.TransactionStatus.TheVariants.{Terminated}
@@ -41,6 +41,10 @@ phase_due Closed x = None
 abbrev pub ack_first : Option ℕ → SenderState → Option SenderDue
 ack_first (Some condition) x = Some (due.AckOfFinished condition)
 ack_first None x = phase_due x.phase x
+
+abbrev pub is_sending : SenderPhase → Bool
+is_sending Sending = true
+is_sending _ = false
 
 -- what is due, the first that holds: ACK of Finished, Prompt, Metadata, data that were asked for,
 -- new data, EOF; a cancelled transaction sends EOF and that ACK alone, a closed one the ACK alone,
@@ -96,6 +100,10 @@ pdu_says octets x due.Eof = eof_says x.phase x
 -- what the PDU says that is due; `file` is the octets that the outbox has under the source name
 abbrev pub sender_says : List ℕ → SenderState → SenderDue → Content
 sender_says file x d = pdu_says (carried file d) x d
+
+-- whether it is sending the file that the outbox has under this name
+abbrev pub sends_file : List ℕ → SenderState → Bool
+sends_file name x = is_sending x.phase && bytes_eq x.source name
 
 -- the phase, as an entity tells it
 abbrev pub phase_told : SenderPhase → Phase

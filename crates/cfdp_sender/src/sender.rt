@@ -138,6 +138,13 @@ impl Sender {
         self.addressing.id
     }
 
+    /// Whether it is sending the file that the outbox has under this name.
+    pub fn sends_file(&self, name: &[u8]) -> bool
+        ensures { result ≡ dues.sends_file name.now self.now }
+    {
+        self.phase == SenderPhase::Sending && self.names.source() == name
+    }
+
     /// Whether it is suspended: nothing is sent then, and nothing is waited for.
     pub fn is_suspended(&self) -> bool
         ensures { result ≡ self.now.suspended }

@@ -5,15 +5,16 @@ ghost use Rattle.cfdp_directives.specs.Pdu.Addressing.{written_len, data_front_l
 ghost use Rattle.cfdp_directives.specs.Pdu.Codes as codes;
 ghost use Rattle.cfdp_directives.specs.Pdu.Content.{FileData};
 ghost use Rattle.cfdp_store.specs.Files.{octets_in};
+ghost use Rattle.cfdp_store.specs.Rereading.{Rereads, RereadsIf};
 ghost use Rattle.cfdp_store.specs.Stores.{failures_after};
 ghost use Rattle.cfdp_store.specs.declared.stored.Stored.TheVariants as answers;
 ghost use Rattle.cfdp_timers.specs.Effects.{HasRoom};
-ghost use Rattle.cfdp_sender.specs.Due.{sender_due, sender_says, carries};
+ghost use Rattle.cfdp_sender.specs.Due.{sender_due, sender_says, carries, carries_by};
 ghost use Rattle.cfdp_sender.specs.declared.due.SenderDue.TheVariants as dues;
 ghost use Rattle.cfdp_sender.specs.declared.phase.SenderPhase.TheVariants as phases;
 ghost use Rattle.cfdp_sender.specs.Reading.{Reads, ReadsOnce};
 ghost use Rattle.cfdp_sender.specs.Steps as steps;
-ghost use Rattle.cfdp_sender.specs.Does.{HasFile, Leaves, Writes, Takes, was_given};
+ghost use Rattle.cfdp_sender.specs.Does.{HasFile, HasOwnFile, Leaves, Writes, Takes, was_given};
 
 use crate::due::SenderDue;
 use crate::phase::SenderPhase;
@@ -30,8 +31,12 @@ impl Sender {
     /// cancelled, and what `out` then holds is left open. Sending EOF for the first time is
     /// indicated. Takes no memory, what the outbox takes for itself apart.
     ///
-    /// The effects have room for a step of the transaction. The outbox has the file under the
-    /// source name, with all its octets. `out` has room for the PDU, as `due` tells.
+    /// The octets of the file are those that the outbox has once they are read: where it shows
+    /// others than before, the files stand no more.
+    ///
+    /// The effects have room for a step of the transaction. While it is sending, the outbox has
+    /// the file under the source name, with all its octets. `out` has room for the PDU, as `due`
+    /// tells.
     pub fn take_pdu<O: Outbox>(
         &mut self,
         effects: &mut Effects,
@@ -40,14 +45,15 @@ impl Sender {
         out: &mut [u8],
     ) -> Taken
         requires room { HasRoom self.old.addressing.id effects.old }
-        requires file { HasFile (O.files outbox.old) self.old.source self.old.size }
+        requires file { HasOwnFile (O.files outbox.old) self.old }
         requires fits { let file = octets_in (O.files outbox.old) self.old.source in
             IfSome (sender_due self.old)
             (λ d. written_len self.old.addressing (codes.is_large self.old.size)
             (sender_says file self.old d) ≤ length out.old) }
-        ensures takes { Takes policy.now.times (octets_in (O.files outbox.old) self.old.source)
+        ensures takes { Takes policy.now.times (octets_in (O.files outbox.new) self.old.source)
             (sender_due self.old) result self.old self.new effects.old effects.new out.old out.new }
-        ensures files { O.files outbox.new ≡ O.files outbox.old }
+        ensures rereads { RereadsIf (carries_by (sender_due self.old)) (O.stands outbox.old)
+            (O.stands outbox.new) (O.files outbox.old) (O.files outbox.new) }
         ensures failures { O.failures outbox.new
             ≡ failures_after (O.failures outbox.old) (was_given result) }
         ensures calls { Reads O.steps self.old (sender_due self.old) (was_given result)
@@ -79,15 +85,17 @@ impl Sender {
         out: &mut [u8],
     ) -> Result<usize, StoreError>
         requires due { sender_due self.now ≡ Some due.now }
-        requires file { HasFile (O.files outbox.old) self.now.source self.now.size }
+        requires file { HasOwnFile (O.files outbox.old) self.now }
         requires fits { let file = octets_in (O.files outbox.old) self.now.source in
             written_len self.now.addressing (codes.is_large self.now.size)
             (sender_says file self.now due.now) ≤ length out.old }
-        ensures written { let file = octets_in (O.files outbox.old) self.now.source in
+        ensures written { let file = octets_in (O.files outbox.new) self.now.source in
             IfOk result (λ len. Writes (codes.is_large self.now.size) self.now.addressing
             (sender_says file self.now due.now) len out.old out.new) }
         ensures refused { OnErr result (carries due.now ≡ true) }
-        ensures files { O.files outbox.new ≡ O.files outbox.old }
+        ensures room { IfOk result (λ len. len ≤ length out.old) }
+        ensures rereads { RereadsIf (carries due.now) (O.stands outbox.old) (O.stands outbox.new)
+            (O.files outbox.old) (O.files outbox.new) }
         ensures failures { O.failures outbox.new
             ≡ failures_after (O.failures outbox.old) (is_ok result) }
         ensures calls { Reads O.steps self.now (Some due.now) (is_ok result)
@@ -122,10 +130,12 @@ impl Sender {
         requires short { count ≤ 4096 }
         requires room { data_front_len self.now.addressing (codes.is_large self.now.size) + count
             ≤ length out.old }
-        ensures written { let file = octets_in (O.files outbox.old) self.now.source in
+        ensures written { let file = octets_in (O.files outbox.new) self.now.source in
             IfOk result (λ len. Writes (codes.is_large self.now.size) self.now.addressing
             (FileData start (take count (drop start file))) len out.old out.new) }
-        ensures files { O.files outbox.new ≡ O.files outbox.old }
+        ensures room { IfOk result (λ len. len ≤ length out.old) }
+        ensures rereads { Rereads (O.stands outbox.old) (O.stands outbox.new) (O.files outbox.old)
+            (O.files outbox.new) }
         ensures failures { O.failures outbox.new
             ≡ failures_after (O.failures outbox.old) (is_ok result) }
         ensures calls { ReadsOnce O.steps self.now.source start count (is_ok result)
@@ -207,9 +217,10 @@ fn read_to<O: Outbox>(
     requires within { start + count ≤ length (octets_in (O.files outbox.old) name.now) }
     requires room { at + count ≤ length out.old }
     ensures front { OnOk result (take (at + count) out.new ≡ take at out.old
-        ++ take count (drop start (octets_in (O.files outbox.old) name.now))) }
+        ++ take count (drop start (octets_in (O.files outbox.new) name.now))) }
     ensures behind { drop (at + count) out.new ≡ drop (at + count) out.old }
-    ensures files { O.files outbox.new ≡ O.files outbox.old }
+    ensures rereads { Rereads (O.stands outbox.old) (O.stands outbox.new) (O.files outbox.old)
+        (O.files outbox.new) }
     ensures failures { O.failures outbox.new
         ≡ failures_after (O.failures outbox.old) (is_ok result) }
     ensures calls { ReadsOnce O.steps name.now start count (is_ok result) outbox.old outbox.new }

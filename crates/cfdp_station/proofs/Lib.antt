@@ -1,2 +1,3 @@
 pub mod Hears
+pub mod Lent
 pub mod Takes

@@ -1,11 +1,12 @@
 -- What a poll of a station does.
-use Rattle.std.specs.Prelude.{◌≡◌, ◌<◌, ◌≤◌, ◌+◌, ◌%◌, ℕ, List, length}
+use Rattle.std.specs.Prelude.{◌≡◌, ◌<◌, ◌≤◌, ◌+◌, ◌%◌, ℕ, true, false, List, length}
 use Rattle.aos_frame.specs.Frame.{other_lane}
 use Rattle.cfdp_store.specs.declared.stored.Stored.{Stored}
 use Rattle.cfdp_store.specs.declared.stored.Stored.TheVariants.{Done, Refused}
 use Rattle.link_stack.specs.Downward.{DownState, SendsPdu, lane_down, room}
 use Rattle.cfdp_entity.specs.Entity.{EntityState, Counted}
-use Rattle.cfdp_entity.specs.Polling.{turn, Rests, turn_octets, turn_len, served, LosesPdu}
+use Rattle.cfdp_entity.specs.Polling.{turn, Rests, turn_data, turn_octets, turn_len, served, LosesPdu}
+use Rattle.cfdp_entity.specs.Table.{ShowsIf}
 use Rattle.cfdp_station.specs.declared.polled.Polled.{Polled}
 use Rattle.cfdp_station.specs.declared.polled.Polled.TheVariants.{Moved, Nothing, Full, SourceFailed}
 use Rattle.cfdp_station.specs.Link.{next_lane}
@@ -48,6 +49,14 @@ Moves SourceFailed old new down down_now =
 -- The end that receives is as it was.
 abbrev pub Polls : Polled → (old new : StationState) → Type 0
 Polls answer old new = Moves answer old.entity new.entity old.down new.down × (new.up ≡ old.up)
+
+-- What a poll that answered this has shown of the outbox's files: something only where it moved
+-- file data, or was to move them.
+abbrev pub Shows : Polled → (old new : EntityState) → Type 0
+Shows Moved old new = ShowsIf (turn_data (turn old) old) old.table new.table
+Shows SourceFailed old new = ShowsIf true old.table new.table
+Shows Nothing old new = ShowsIf false old.table new.table
+Shows Full old new = ShowsIf false old.table new.table
 
 -- how the outbox answered
 abbrev pub stored_by_poll : Polled → Stored

@@ -52,7 +52,7 @@ pub use cfdp_entity::{
     AddError, CallError, EntityConfig, EntityDrop, EntityField, ForgetError, PutError, Transactions,
 };
 pub use cfdp_header::{HeaderError, TransactionId};
-pub use cfdp_store::{Inbox, Outbox, StoreError};
+pub use cfdp_store::{Inbox, Outbox, SeekingOutbox, SteadyOutbox, StoreError};
 pub use config::StationConfig;
 pub use link_stack::{Lane, LinkConfig, LinkDrop};
 pub use polled::Polled;

@@ -4,13 +4,13 @@ ghost use Rattle.mpdu.specs.Feeding.{octets_of_each};
 ghost use Rattle.aos_frame.specs.Frame.{other_lane};
 ghost use Rattle.link_stack.specs.Downward.{IsBounded, KeepsLanes, SendsPdu, lane_down};
 ghost use Rattle.link_stack.specs.Downward as downward;
-ghost use Rattle.cfdp_entity.specs.Entity.{EntityState};
+ghost use Rattle.cfdp_entity.specs.Entity.{EntityState, counted_lent, entity_lent};
 ghost use Rattle.cfdp_entity.specs.Gives.{CountsOutbox};
 ghost use Rattle.cfdp_entity.specs.Polling.{TakesTurn, turn, turn_room};
 ghost use Rattle.cfdp_entity.specs.Sound.{SpellsTurn, longest_pdu};
 ghost use Rattle.cfdp_station.specs.declared.polled.Polled.TheVariants as answers;
 ghost use Rattle.cfdp_station.specs.Link as link;
-ghost use Rattle.cfdp_station.specs.Polling.{Moves, next_room, stored_by_poll};
+ghost use Rattle.cfdp_station.specs.Polling.{Moves, Shows, next_room, stored_by_poll};
 ghost use Rattle.cfdp_station.specs.Taking.{HearsPdu, HearsAll};
 
 use crate::polled::Polled;
@@ -66,10 +66,11 @@ pub(crate) fn move_one<O: Outbox, I: Inbox>(
 ) -> Result<Polled, AllocError>
     requires directives { down.old.directives.capacity ≤ length buffer.old }
     requires file_data { down.old.file_data.capacity ≤ length buffer.old }
-    ensures moves { IfOk result (λ answer. Moves answer entity.old entity.new
-        down.old down.new) }
-    ensures spells { IfOk result (λ answer. answer ≡ answers.Moved
-        → SpellsTurn (turn entity.old.state) entity.old.state) }
+    ensures moves { IfOk result (λ answer. Moves answer (counted_lent entity.new entity.old)
+        entity.new down.old down.new) }
+    ensures shows { IfOk result (λ answer. Shows answer entity.old.state entity.new.state) }
+    ensures spells { let lent = entity_lent entity.new.state entity.old.state in IfOk result
+        (λ answer. answer ≡ answers.Moved → SpellsTurn (turn lent) lent) }
     ensures roomy { IfOk result (λ answer. answer ≡ answers.Full
         → next_room entity.old.state down.old < longest_pdu) }
     ensures err { OnErr result ((entity.new ≡ entity.old) × (down.new ≡ down.old)) }

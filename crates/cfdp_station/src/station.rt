@@ -1,5 +1,6 @@
 //! An entity over both directions of a link.
-ghost use Rattle.std.specs.Prelude.{◌≡◌, ℕ, ◌+◌, ◌*◌, ◌<◌, ◌≤◌, ◌↔◌, Bool, List, [], true, false, drop, length, max, get_or, IfOk, IfErr, MatchOption, None, IfSome, OnOk, OnErr};
+ghost use Rattle.std.specs.Prelude.{◌≡◌, ℕ, ◌+◌, ◌*◌, ◌<◌, ◌≤◌, ◌↔◌, Bool, List, [], true, false, drop, length, max, get_or, is_ok, is_some, IfOk, IfErr, MatchOption, None, IfSome, OnOk, OnErr};
+ghost use Rattle.std.specs.FinMap as map;
 ghost use Rattle.mpdu.specs.Stream.{ArePackets};
 ghost use Rattle.aos_frame.specs.Frame.{lane_link, other_lane};
 ghost use Rattle.link_stack.specs.Downward.{Flushes, IsDown, KeepsLanes, MakesFrame, both_counted_from, first_down, frame_lane, idle_zones, lane_down};
@@ -12,8 +13,9 @@ ghost use Rattle.cfdp_store.specs.Stores.{failures_after};
 ghost use Rattle.cfdp_entity.specs.Adding.{AddsFile, RefusesToAdd};
 ghost use Rattle.cfdp_entity.specs.Calling.{IsRefusal};
 ghost use Rattle.cfdp_entity.specs.Calls.{IsCalled, asks_inbox, call_refusal};
-ghost use Rattle.cfdp_entity.specs.Entity.{first_entity, with_table, phase_told};
+ghost use Rattle.cfdp_entity.specs.Entity.{entity_lent, entity_standing, first_entity, with_table, phase_told};
 ghost use Rattle.cfdp_entity.specs.Gives.{CountsOutbox};
+ghost use Rattle.cfdp_entity.specs.Looking.{LooksUp};
 ghost use Rattle.cfdp_entity.specs.Polling.{TakesTurn, turn};
 ghost use Rattle.cfdp_entity.specs.Putting.{Accepts, put_refusal, IsPutRefusal, stored_by_error, was_answered};
 ghost use Rattle.cfdp_entity.specs.Sound.{SpellsTurn, longest_pdu};
@@ -23,8 +25,8 @@ ghost use Rattle.cfdp_entity.specs.declared.call.Call.TheVariants as calls;
 ghost use Rattle.cfdp_station.specs.declared.polled.Polled.TheVariants as answers;
 ghost use Rattle.cfdp_station.specs.Config.{IsStationConfig};
 ghost use Rattle.cfdp_station.specs.Link.{FlushesBoth, WaitAtMost, HoldsAtMost};
-ghost use Rattle.cfdp_station.specs.Polling.{Polls, next_len, next_room, stored_by_poll};
-ghost use Rattle.cfdp_station.specs.Station.{KeepsLink, KeepsRest};
+ghost use Rattle.cfdp_station.specs.Polling.{Polls, Shows, next_len, next_room, stored_by_poll};
+ghost use Rattle.cfdp_station.specs.Station.{KeepsLink, KeepsRest, station_lent};
 ghost use Rattle.cfdp_station.specs.Taking.{TakesFrame};
 
 use crate::config::StationConfig;
@@ -33,7 +35,7 @@ use crate::polled::Polled;
 use cfdp_directives::{Indication, Phase};
 use cfdp_entity::{AddError, CallError, Entity, PutError};
 use cfdp_header::TransactionId;
-use cfdp_store::{Inbox, MemoryOutbox, Outbox};
+use cfdp_store::{Inbox, MemoryOutbox, Outbox, SeekingOutbox, StoreError};
 use link_stack::{Down, Lane, Up};
 use std::alloc::{AllocError, Global};
 use std::marker::Model;
@@ -87,8 +89,8 @@ impl<O: Outbox, I: Inbox> Station<O, I> {
         inbox: I,
     ) -> Result<Self, AllocError>
         requires { IsStationConfig config }
-        ensures entity { IfOk result (λ s. s.entity.state ≡ first_entity (O.files outbox)
-            (I.published inbox) config.entity) }
+        ensures entity { IfOk result (λ s. s.entity.state ≡ entity_standing (O.stands outbox)
+            (first_entity (O.files outbox) (I.published inbox) config.entity)) }
         ensures inbox { IfOk result (λ s. s.entity.inbox_failures ≡ I.failures inbox) }
         ensures outbox { IfOk result (λ s. s.entity.outbox_failures ≡ O.failures outbox) }
         ensures down { IfOk result (λ s. s.down
@@ -277,6 +279,7 @@ impl<O: Outbox, I: Inbox> Station<O, I> {
     /// The outbox, lent.
     pub fn outbox(&self) -> &O
         ensures files { O.files result.now ≡ self.now.entity.state.table.sources }
+        ensures stands { O.stands result.now ≡ self.now.entity.state.table.stands }
         ensures failures { O.failures result.now ≡ self.now.entity.outbox_failures }
     {
         self.entity.outbox()
@@ -299,10 +302,14 @@ impl<O: Outbox, I: Inbox> Station<O, I> {
     /// `AllocError` only where a record has the turn and its PDU fits, but the memory for the
     /// step's indications was refused; nothing changed then.
     pub fn poll(&mut self) -> Result<Polled, AllocError>
-        ensures polled { IfOk result (λ answer. Polls answer self.old self.new) }
+        // What was read of a file is what the outbox has now.
+        ensures polled { IfOk result (λ answer. Polls answer (station_lent self.new self.old)
+            self.new) }
+        ensures shows { IfOk result (λ answer. Shows answer self.old.entity.state
+            self.new.entity.state) }
         // Its octets are those of what it says.
-        ensures spells { IfOk result (λ answer. answer ≡ answers.Moved
-            → SpellsTurn (turn self.old.entity.state) self.old.entity.state) }
+        ensures spells { let lent = entity_lent self.new.entity.state self.old.entity.state in
+            IfOk result (λ answer. answer ≡ answers.Moved → SpellsTurn (turn lent) lent) }
         ensures full { IfOk result (λ answer. (answer ≡ answers.Full)
             ↔ (next_room self.old.entity.state self.old.down
             < next_len self.old.entity.state)) }
@@ -450,5 +457,28 @@ impl<I: Inbox> Station<MemoryOutbox, I> {
         ensures link { KeepsLink self.old self.new }
     {
         self.entity.add_source(name, octets)
+    }
+}
+
+impl<O: SeekingOutbox, I: Inbox> Station<O, I> {
+    /// Looks for the file of a name, so that a put can send it as it is now: whether there is one.
+    /// Where the file of that name is being sent already, it isn't looked for: a put sends what is
+    /// sent then.
+    ///
+    /// # Errors
+    ///
+    /// That of the outbox, which is counted. Nothing else changed then.
+    pub fn look_for(&mut self, name: &[u8]) -> Result<bool, StoreError>
+        ensures has { IfOk result (λ has. has
+            ≡ is_some (map.get self.new.entity.state.table.sources name.now)) }
+        ensures looks { OnOk result (LooksUp name.now self.old.entity.state
+            self.new.entity.state) }
+        ensures err { OnErr result (self.new.entity.state ≡ self.old.entity.state) }
+        ensures inbox { self.new.entity.inbox_failures ≡ self.old.entity.inbox_failures }
+        ensures outbox { self.new.entity.outbox_failures
+            ≡ failures_after self.old.entity.outbox_failures (is_ok result) }
+        ensures link { KeepsLink self.old self.new }
+    {
+        self.entity.look_for(name)
     }
 }

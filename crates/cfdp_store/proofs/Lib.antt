@@ -1,4 +1,5 @@
 mod FileLemmas
 mod Octets
 mod PieceLemmas
+mod ShownLemmas
 pub mod DiskLemmas

@@ -1,8 +1,6 @@
--- Files in folders: their names, and the one that is loaded.
-use Rattle.std.specs.Prelude.{◌≡◌, ◌≢◌, ◌⊎◌, ◌↔◌, ◌≤◌, ℕ, List, [], ◌∷◌, All, Err, length}
-use Rattle.std.specs.FinMap.{empty, insert}
+-- Files in folders: their names, and what stands against them.
+use Rattle.std.specs.Prelude.{◌≡◌, ◌≢◌, ◌⊎◌, ◌↔◌, ◌≤◌, ℕ, List, [], ◌∷◌, All, Err, length, Bool, Result}
 use Rattle.std.specs.declared.io.ErrorKind.TheVariants.{OutOfMemory}
-use Rattle.cfdp_header.specs.Files.{FileMap}
 use Rattle.cfdp_store.specs.Calls.{InboxCall, Begin, Write, Publish, Discard}
 use Rattle.cfdp_store.specs.declared.error.StoreError.{StoreError}
 use Rattle.cfdp_store.specs.declared.error.StoreError.TheVariants as refusal
@@ -41,9 +39,6 @@ AnswersNames (Publish id name size answer) =
     (answer ≡ Err refusal.Name) ↔ (IsFolderName name → ⊥)
 AnswersNames (Discard id answer) = answer ≢ Err refusal.Name
 
--- ---- files
-
--- No file, or one of this name with at most so many octets.
-abbrev pub HasAtMost : List ℕ → ℕ → FileMap → Type 0
-HasAtMost name most files = (files ≡ empty)
-    ⊎ ((octets : List ℕ) × (length octets ≤ most) × (files ≡ insert empty name octets))
+-- A look for the file of a name fails for the name exactly where a file in a folder can't have it.
+abbrev pub AnswersLook : List ℕ → Result Bool StoreError → Type 0
+AnswersLook name answer = (answer ≡ Err refusal.Name) ↔ (IsFolderName name → ⊥)

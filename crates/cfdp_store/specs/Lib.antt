@@ -6,5 +6,7 @@ pub mod Folder
 pub mod Fuse
 pub mod Memory
 pub mod Pieces
+pub mod Rereading
+pub mod Shown
 pub mod Staged
 pub mod Stores

@@ -22,9 +22,9 @@ pub enum FolderError {
     /// A device, a pipe or a socket has that name.
     #[error("it is no plain file")]
     NoFile,
-    /// The file has more than 1,048,576 octets.
-    #[error("it has more than 1048576 octets")]
-    TooLong,
+    /// It was changed, or removed, after it was looked for.
+    #[error("it changed while it was sent")]
+    Changed,
     /// The system refused, or there is no memory.
     #[error("{0}")]
     System(ErrorKind),
@@ -40,7 +40,7 @@ impl From<FolderError> for StoreError {
             FolderError::Link
             | FolderError::Folder
             | FolderError::NoFile
-            | FolderError::TooLong
+            | FolderError::Changed
             | FolderError::System(_) => StoreError::Device,
         }
     }

@@ -2,7 +2,7 @@ ghost use Rattle.std.specs.Prelude.{◌≡◌, ◌-◌, ◌<◌, IsOk};
 ghost use Rattle.cfdp_store.specs.Calls.{OutboxRefuses, InboxRefuses};
 ghost use Rattle.cfdp_store.specs.Fuse.{Passes, all_failures, blown, burnt};
 
-use crate::{Inbox, Outbox, StoreError};
+use crate::{Inbox, Outbox, SeekingOutbox, SteadyOutbox, StoreError};
 use cfdp_header::TransactionId;
 
 /// How many more calls go through to a store, and how many were refused since.
@@ -83,6 +83,8 @@ impl<O: Outbox> FuseOutbox<O> {
 impl<O: Outbox> Outbox for FuseOutbox<O> {
     ghost files = { λ f. O.files f.store };
 
+    ghost stands = { λ f. O.stands f.store };
+
     ghost failures = { λ f. all_failures (O.failures f.store) f.fuse };
 
     ghost steps = { λ f call g. Passes O.steps OutboxRefuses f.store f.fuse call g.store g.fuse };
@@ -99,6 +101,17 @@ impl<O: Outbox> Outbox for FuseOutbox<O> {
 
     fn failures(&self) -> u64 {
         self.store.failures().saturating_add(self.fuse.refused)
+    }
+}
+
+impl<O: SteadyOutbox> SteadyOutbox for FuseOutbox<O> {
+    ghost steady = { λ f. O.steady f.store };
+}
+
+impl<O: SeekingOutbox> SeekingOutbox for FuseOutbox<O> {
+    fn look_for(&mut self, name: &[u8]) -> Result<bool, StoreError> {
+        self.fuse.pass()?;
+        self.store.look_for(name)
     }
 }
 

@@ -1,5 +1,7 @@
 ghost use Rattle.std.specs.Prelude.{◌≡◌, ℕ, ◌+◌, ◌-◌, ◌<◌, ◌≤◌, List, Some, length, max, slice_get, slice_index};
 ghost use Rattle.std.specs.FinMap as map;
+ghost use Rattle.cfdp_store.specs.Shown.{AreExpected, seen_by};
+ghost use Rattle.cfdp_store.specs.declared.sources.Shown.{Shown};
 ghost use Rattle.cfdp_store.specs.Staged.{OctetMap, Covers, written, front};
 
 /// A law: what is written stands from its offset on, and replaces what stood there. All else stays.
@@ -25,4 +27,12 @@ pub fn front_is_what_stands()
     ensures len { (m : OctetMap) (size : ℕ) → length (front m size) ≡ size }
     ensures octets { (m : OctetMap) (size n : ℕ) → Covers size m → n < size
         → slice_get (front m size) n ≡ map.get m n }
+{}
+
+/// A law: where all that was seen of a folder was as expected, so that the files of its outbox
+/// stand, each of them is one of the files that were expected of the looks, whole and octet by
+/// octet.
+pub fn files_that_stand_are_expected()
+    ensures { (expected : List (List ℕ)) (shown : List Shown) →
+        AreExpected expected (seen_by expected shown) }
 {}

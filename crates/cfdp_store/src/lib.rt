@@ -14,26 +14,33 @@
 //! ```
 #![tactic(auto)]
 
+mod catalog;
 mod error;
 mod files;
 mod folder;
 mod folder_error;
+mod folder_outbox;
 mod fuse;
 mod inbox;
+mod known;
 mod laws;
 mod memory;
 mod outbox;
 mod parts;
 mod pieces;
+mod sources;
 mod stored;
 
 pub use error::StoreError;
 pub use files::Files;
-pub use folder::{FolderInbox, FolderOutbox, is_folder_name};
+pub use folder::{FolderInbox, is_folder_name};
 pub use folder_error::FolderError;
+pub use folder_outbox::FolderOutbox;
 pub use fuse::{FuseInbox, FuseOutbox};
 pub use inbox::Inbox;
-pub use laws::{front_is_what_stands, written_octets_cover, written_octets_stand};
+pub use laws::{
+    files_that_stand_are_expected, front_is_what_stands, written_octets_cover, written_octets_stand,
+};
 pub use memory::{MemoryInbox, MemoryOutbox};
-pub use outbox::Outbox;
+pub use outbox::{Outbox, SeekingOutbox, SteadyOutbox};
 pub use stored::Stored;

@@ -1,4 +1,4 @@
-ghost use Rattle.std.specs.Prelude.{◌≡◌, Some, None, false, IsSome, IfOk, OnErr, OnOk};
+ghost use Rattle.std.specs.Prelude.{◌≡◌, refl, Some, None, false, IsSome, IfOk, OnErr, OnOk};
 ghost use Rattle.std.specs.FinMap as map;
 ghost use Rattle.std.specs.Option.{option_map};
 ghost use Rattle.cfdp_header.specs.declared.value.TransactionId.{TransactionId};
@@ -7,7 +7,7 @@ ghost use Rattle.cfdp_store.specs.Staged.{OthersKeep, written, front, staged_for
 ghost use Rattle.cfdp_store.specs.Memory.{octets_for, Succeeds, FailsForMemoryAlone};
 
 use crate::pieces::Pieces;
-use crate::{Files, Inbox, Outbox, StoreError};
+use crate::{Files, Inbox, Outbox, SeekingOutbox, SteadyOutbox, StoreError};
 use cfdp_header::TransactionId;
 use std::alloc::{AllocError, Global};
 use std::collections::HashMap;
@@ -85,6 +85,17 @@ impl Outbox for MemoryOutbox {
 
     fn failures(&self) -> u64 {
         0
+    }
+}
+
+impl SteadyOutbox for MemoryOutbox {
+    ghost steady = { λ _. refl };
+}
+
+/// It has the files that it was given.
+impl SeekingOutbox for MemoryOutbox {
+    fn look_for(&mut self, name: &[u8]) -> Result<bool, StoreError> {
+        Ok(self.files.get(name).is_some())
     }
 }
 

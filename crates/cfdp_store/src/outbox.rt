@@ -1,20 +1,27 @@
-ghost use Rattle.std.specs.Prelude.{◌≡◌, ℕ, ◌+◌, ◌≤◌, length, take, drop, is_ok, IsSome, IfOk, OnOk};
+ghost use Rattle.std.specs.Prelude.{◌≡◌, ℕ, ◌+◌, ◌≤◌, Bool, List, Result, true, length, take, drop, is_ok, is_some, IsSome, IsTrue, IfOk, OnErr, OnOk};
 ghost use Rattle.std.specs.FinMap as map;
 ghost use Rattle.std.specs.Option.{option_map};
 ghost use Rattle.cfdp_store.specs.Files.{octets_in};
 ghost use Rattle.cfdp_store.specs.Calls.{OutboxCall, Len, Read};
+ghost use Rattle.cfdp_store.specs.Rereading.{LooksFor, Rereads};
 ghost use Rattle.cfdp_store.specs.Stores.{failures_after};
+ghost use Rattle.cfdp_store.specs.declared.error.StoreError.{StoreError};
 ghost use Rattle.cfdp_header.specs.Files.{FileMap};
 
 use crate::StoreError;
 
 /// A place that has the files to be sent, by their names.
 ///
-/// A name is a run of octets, and so is what a file has in it. The files stay as they are: nothing
-/// here changes them.
+/// A name is a run of octets, and so is what a file has in it. Nothing here changes a file, and how
+/// long it is stays. Where others can change what is in it, as on a disk, a read may show that they
+/// did: then the files stand no more, and what rests on them is promised no more.
 pub trait Outbox: Drop {
-    /// The octets of each file by its name. No call changes them.
+    /// The octets of each file by its name. A read that shows other octets puts them here.
     ghost files: { Self → FileMap };
+
+    /// Whether the files stood still so far: all that was read is what they had from the start. No
+    /// code can tell. It never rises. The files of a store in memory always stand.
+    ghost stands: { Self → Bool } = { λ _. true };
 
     /// How many calls failed.
     ghost failures: { Self → ℕ };
@@ -35,6 +42,7 @@ pub trait Outbox: Drop {
         ensures answer { IfOk result (λ len. len
             ≡ option_map length (map.get (files self.old) name.now)) }
         ensures files { files self.new ≡ files self.old }
+        ensures stands { stands self.new ≡ stands self.old }
         ensures failures { failures self.new ≡ failures_after (failures self.old) (is_ok result) };
 
     /// Reads octets of a file, from an offset on, as many as `out` takes. The file is there and has
@@ -49,11 +57,42 @@ pub trait Outbox: Drop {
         requires within { offset + length out.old ≤ length (octets_in (files self.old) name.now) }
         ensures steps { steps self.old (Read name.now offset out.old result out.new) self.new }
         ensures octets { OnOk result (out.new
-            ≡ take (length out.old) (drop offset (octets_in (files self.old) name.now))) }
-        ensures files { files self.new ≡ files self.old }
+            ≡ take (length out.old) (drop offset (octets_in (files self.new) name.now))) }
+        ensures rereads { Rereads (stands self.old) (stands self.new) (files self.old)
+            (files self.new) }
         ensures failures { failures self.new ≡ failures_after (failures self.old) (is_ok result) };
 
     /// How many calls failed so far. The count stays at the greatest `u64`.
     fn failures(&self) -> u64
         ensures { result ≡ failures self.now };
+}
+
+/// An outbox whose files always stand still, as those in memory do: no read shows others.
+pub trait SteadyOutbox: Outbox {
+    /// Its files stand.
+    ghost steady: { (o : Self) → IsTrue (Self.stands o) };
+}
+
+/// An outbox of files that others make and change, as those in a folder. It has the file of a name
+/// once it has looked for it, as it was then.
+pub trait SeekingOutbox: Outbox {
+    /// What a look for the file of a name may answer. A store says by it what is true of this store
+    /// alone, as which names it takes, or nothing.
+    ghost answers: { List ℕ → Result Bool StoreError → Type 0 } = { λ _ _. Unit {0} };
+
+    /// Looks for the file of a name: whether there is one. It is looked for anew where the outbox
+    /// had it already, so nothing may be sending it.
+    ///
+    /// # Errors
+    ///
+    /// Any `StoreError`, at the store's will. It is counted as a failure, and nothing else changes.
+    fn look_for(&mut self, name: &[u8]) -> Result<bool, StoreError>
+        ensures answers { answers name.now result }
+        ensures has { IfOk result (λ has. has ≡ is_some (map.get (Self.files self.new) name.now)) }
+        ensures looks { LooksFor name.now (Self.stands self.old) (Self.stands self.new)
+            (Self.files self.old) (Self.files self.new) }
+        ensures err { OnErr result ((Self.files self.new ≡ Self.files self.old)
+            × (Self.stands self.new ≡ Self.stands self.old)) }
+        ensures failures { Self.failures self.new
+            ≡ failures_after (Self.failures self.old) (is_ok result) };
 }

@@ -64,14 +64,19 @@ impl<F: Files + Drop> Parts<F> {
         }
     }
 
-    /// Keeps a part file open. The one that wasn't used for the longest time is closed where there
-    /// are too many.
-    fn keep(&mut self, part: Part<F>)
+    /// Closes the part file that wasn't used for the longest time where no more may be open.
+    fn make_room(&mut self)
         ensures { self.new.done ≡ self.old.done }
     {
         if self.open.len() >= MOST_OPEN {
             let _ = self.open.remove(0);
         }
+    }
+
+    /// Keeps a part file open.
+    fn keep(&mut self, part: Part<F>)
+        ensures { self.new.done ≡ self.old.done }
+    {
         let _ = self.open.push(part);
     }
 
@@ -83,6 +88,7 @@ impl<F: Files + Drop> Parts<F> {
         if let Some(at) = self.open.iter().position(|part| part.id == id) {
             return Ok(self.open.remove(at));
         }
+        self.make_room();
         let path = self.path(id)?;
         let file = File::options()
             .write(true)
@@ -97,6 +103,7 @@ impl<F: Files + Drop> Parts<F> {
         self.close(id);
         let path = self.path(id)?;
         let _ = fs::remove_file(&self.files, path.as_str());
+        self.make_room();
         let file = File::create_new(&self.files, path.as_str())?;
         self.keep(Part { id, file });
         Ok(())

@@ -2,10 +2,10 @@
 use crate::side::Side;
 use crate::witness::Witness;
 use crate::world::World;
-use cfdp_store::{Inbox, Outbox};
+use cfdp_store::{Inbox, SteadyOutbox};
 use std::fmt;
 
-impl<O: Outbox, I: Inbox, W: Witness> fmt::Debug for World<O, I, W> {
+impl<O: SteadyOutbox, I: Inbox, W: Witness> fmt::Debug for World<O, I, W> {
     /// Both stations, how many frames each sent, how many puts were accepted, and how often a
     /// station was told the time.
     fn fmt<F: fmt::Write>(&self, f: &mut fmt::Formatter<F>) -> fmt::Result {

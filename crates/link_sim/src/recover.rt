@@ -24,12 +24,12 @@ use crate::shortages::shortage_since;
 use crate::side::Side;
 use crate::witness::Witness;
 use crate::world::World;
-use cfdp_store::{Inbox, Outbox};
+use cfdp_store::{Inbox, SteadyOutbox};
 
 /// The most rounds of a recovery: three for each record that two full tables hold.
 const MOST_ROUNDS: u32 = 24_576;
 
-impl<O: Outbox, I: Inbox, W: Witness> World<O, I, W> {
+impl<O: SteadyOutbox, I: Inbox, W: Witness> World<O, I, W> {
     /// Lets both stations make up for what was lost, without any further loss, until at neither a
     /// timer is armed but those of Inactivity.
     ///

@@ -21,9 +21,9 @@ use crate::side::Side;
 use crate::witness::Witness;
 use crate::world::World;
 use aos_frame::Lane;
-use cfdp_store::{Inbox, Outbox};
+use cfdp_store::{Inbox, SteadyOutbox};
 
-impl<O: Outbox, I: Inbox, W: Witness> World<O, I, W> {
+impl<O: SteadyOutbox, I: Inbox, W: Witness> World<O, I, W> {
     /// Lets both stations send and hear, without any loss, until nothing is due at either, no flush
     /// would make a frame, and no frame waits.
     ///

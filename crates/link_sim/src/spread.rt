@@ -15,10 +15,10 @@ use crate::event::{Applied, Event};
 use crate::side::Side;
 use crate::witness::Witness;
 use crate::world::World;
-use cfdp_store::{Inbox, Outbox};
+use cfdp_store::{Inbox, SteadyOutbox};
 use std::alloc::AllocError;
 
-impl<O: Outbox, I: Inbox, W: Witness> World<O, I, W> {
+impl<O: SteadyOutbox, I: Inbox, W: Witness> World<O, I, W> {
     /// Polls a station until nothing is due there, and flushes it after each PDU.
     ///
     /// # Errors

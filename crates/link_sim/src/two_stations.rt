@@ -1,16 +1,21 @@
 //! Two stations and the frames between them, before anything is said of puts and files.
-ghost use Rattle.std.specs.Prelude.{◌≡◌, ◌+◌, ◌*◌, ◌<◌, ◌≤◌, ◌⊎◌, true, false, length, None, IfOk, OnErr, OnOk};
+ghost use Rattle.std.specs.Prelude.{◌≡◌, ◌+◌, ◌*◌, ◌<◌, ◌≤◌, ◌⊎◌, ◌↔◌, true, false, length, None, IfOk, OnErr, OnOk};
 ghost use Rattle.cfd_bits.specs.Counting.{raised};
 ghost use Rattle.cfdp_store.specs.Chains.{Raises};
 ghost use Rattle.cfdp_entity.specs.Entity.{with_table};
+ghost use Rattle.cfdp_entity.specs.Gives.{CountsOutbox};
+ghost use Rattle.cfdp_entity.specs.Polling.{turn};
+ghost use Rattle.cfdp_entity.specs.Sound.{SpellsTurn, longest_pdu};
 ghost use Rattle.cfdp_entity.specs.Storing.{AsksToTick};
 ghost use Rattle.cfdp_entity.specs.Table.{Ticks};
 ghost use Rattle.cfdp_entity.specs.declared.call.Call.TheVariants as call_kinds;
 ghost use Rattle.aos_frame.specs.Frame.{other_lane};
 ghost use Rattle.aos_frame.specs.declared.config.Lane.{Lane};
 ghost use Rattle.cfdp_station.specs.Link.{HoldsAtMost, WaitAtMost};
+ghost use Rattle.cfdp_station.specs.Polling.{Polls, next_len, next_room, stored_by_poll};
 ghost use Rattle.cfdp_station.specs.Station.{KeepsLink, KeepsRest};
-ghost use Rattle.link_stack.specs.Downward.{frame_lane, lane_down};
+ghost use Rattle.cfdp_station.specs.declared.polled.Polled.TheVariants as answers;
+ghost use Rattle.link_stack.specs.Downward.{KeepsLanes, frame_lane, lane_down};
 ghost use Rattle.link_sim.specs.FrameLink.{lane_of_links};
 ghost use Rattle.link_sim.specs.declared.event.Applied.TheVariants as dids;
 ghost use Rattle.link_sim.specs.AtStation.{AreReady, AreSameLinks, AreSameMarks, CarryOn, FlushesAt, FrameArrivesAt, KeepsAt, KeepsOutbox, PollsAt, PullsAll, PullsOne, PutsAt, StrikesAt, answered};
@@ -32,14 +37,14 @@ use aos_frame::Lane;
 use cfdp_directives::Octets;
 use cfdp_header::TransactionId;
 use cfdp_station::{CallError, Polled, PutError, Station};
-use cfdp_store::{Inbox, Outbox};
+use cfdp_store::{Inbox, Outbox, SteadyOutbox};
 use std::alloc::{AllocError, Global};
 use std::marker::Model;
 
 /// Two stations, the frames that each sent, the puts that they accepted, and how often the time was
 /// told.
 #[derive(Drop)]
-pub(crate) struct TwoStations<O: Outbox, I: Inbox> {
+pub(crate) struct TwoStations<O: SteadyOutbox, I: Inbox> {
     alloc: Global,
     one: Station<O, I>,
     two: Station<O, I>,
@@ -49,7 +54,7 @@ pub(crate) struct TwoStations<O: Outbox, I: Inbox> {
     ticks: u64,
 }
 
-impl<O: Outbox, I: Inbox> Model for TwoStations<O, I> {
+impl<O: SteadyOutbox, I: Inbox> Model for TwoStations<O, I> {
     ghost use Rattle.std.specs.Prelude.{◌≤◌};
     ghost use Rattle.cfdp_entity.specs.Coded.{state_codes};
     ghost use Rattle.aos_frame.specs.declared.config.Lane.{Lane};
@@ -78,7 +83,7 @@ impl<O: Outbox, I: Inbox> Model for TwoStations<O, I> {
         × ((lane : Lane) → 8192 ≤ (lane_down lane w.two.down).capacity) };
 }
 
-impl<O: Outbox, I: Inbox> TwoStations<O, I> {
+impl<O: SteadyOutbox, I: Inbox> TwoStations<O, I> {
     /// Two stations over these stores, that of the first station first. Nothing was sent.
     pub(crate) fn new(
         alloc: Global,
@@ -407,8 +412,29 @@ fn make_room<O: Outbox, I: Inbox>(
     links.file_data.make_room(station.frames_ahead(Lane::Data))
 }
 
+/// A poll of a station whose outbox's files always stand: what it reads is what they have.
+fn poll<O: SteadyOutbox, I: Inbox>(station: &mut Station<O, I>) -> Result<Polled, AllocError>
+    ensures polled { IfOk result (λ answer. Polls answer station.old station.new) }
+    ensures spells { IfOk result (λ answer. answer ≡ answers.Moved
+        → SpellsTurn (turn station.old.entity.state) station.old.entity.state) }
+    ensures full { IfOk result (λ answer. (answer ≡ answers.Full)
+        ↔ (next_room station.old.entity.state station.old.down
+        < next_len station.old.entity.state)) }
+    ensures roomy { IfOk result (λ answer. answer ≡ answers.Full
+        → next_room station.old.entity.state station.old.down < longest_pdu) }
+    ensures err { OnErr result (station.new ≡ station.old) }
+    ensures counts { IfOk result (λ answer. CountsOutbox (stored_by_poll answer)
+        station.old.entity.outbox_failures station.new.entity.outbox_failures) }
+    ensures inbox { station.new.entity.inbox_failures ≡ station.old.entity.inbox_failures }
+    ensures fixed { KeepsLanes station.old.down station.new.down }
+{
+    let answer = station.poll();
+    let _ = station.outbox();
+    answer
+}
+
 /// A station sends its next PDU, and all frames that are whole then.
-fn poll_at<O: Outbox, I: Inbox>(
+fn poll_at<O: SteadyOutbox, I: Inbox>(
     station: &mut Station<O, I>,
     links: &mut FrameLinks,
 ) -> Result<Applied, AllocError>
@@ -423,7 +449,7 @@ fn poll_at<O: Outbox, I: Inbox>(
     ensures marks { AreSameMarks links.old links.new }
 {
     make_room(links, station)?;
-    match station.poll()? {
+    match poll(station)? {
         Polled::Moved => {
             pull_all(links, station);
             Ok(Applied::Applied)

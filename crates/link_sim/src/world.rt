@@ -27,7 +27,7 @@ use crate::witness::Witness;
 use crate::world_config::WorldConfig;
 use cfdp_directives::Indication;
 use cfdp_station::Station;
-use cfdp_store::{Inbox, Outbox};
+use cfdp_store::{Inbox, SteadyOutbox};
 use std::alloc::{AllocError, Global};
 use std::marker::Model;
 
@@ -41,12 +41,12 @@ use std::marker::Model;
 ///
 /// Its witness looks on: each event that happens in a call of the world is shown to it.
 #[derive(Drop)]
-pub struct World<O: Outbox, I: Inbox, W: Witness = ()> {
+pub struct World<O: SteadyOutbox, I: Inbox, W: Witness = ()> {
     pub(crate) stations: TwoStations<O, I>,
     witness: W,
 }
 
-impl<O: Outbox, I: Inbox, W: Witness> Model for World<O, I, W> {
+impl<O: SteadyOutbox, I: Inbox, W: Witness> Model for World<O, I, W> {
     ghost use Rattle.cfdp_entity.specs.Coded.{state_codes};
     ghost use Rattle.link_sim.specs.EveryPut.{KeepsPuts};
     ghost use Rattle.link_sim.specs.Sound.{IsSound};
@@ -61,7 +61,7 @@ impl<O: Outbox, I: Inbox, W: Witness> Model for World<O, I, W> {
     ghost invariant = { λ w. IsSound w.stations × KeepsPuts w.stations };
 }
 
-impl<O: Outbox, I: Inbox, W: Witness> World<O, I, W> {
+impl<O: SteadyOutbox, I: Inbox, W: Witness> World<O, I, W> {
     /// Two stations in which nothing happened yet, over these stores: those of the first station
     /// stand first. The witness sees what happens from then on; `()` is one that looks at nothing.
     ///
@@ -237,7 +237,7 @@ impl<O: Outbox, I: Inbox, W: Witness> World<O, I, W> {
 }
 
 /// Shows an event, and what it left, to a witness.
-fn show<O: Outbox, I: Inbox, W: Witness>(
+fn show<O: SteadyOutbox, I: Inbox, W: Witness>(
     stations: &TwoStations<O, I>,
     witness: &mut W,
     event: &Event,
@@ -255,7 +255,7 @@ pub(crate) fn let_go<T: Drop>(_value: T) {}
 /// # Errors
 ///
 /// `AllocError` at the first event for which the memory was refused.
-pub fn run<O: Outbox, I: Inbox>(
+pub fn run<O: SteadyOutbox, I: Inbox>(
     alloc: Global,
     config: WorldConfig,
     outboxes: (O, O),
@@ -286,7 +286,7 @@ pub fn run<O: Outbox, I: Inbox>(
 }
 
 /// Makes these events happen, in turn.
-fn apply_all<O: Outbox, I: Inbox>(
+fn apply_all<O: SteadyOutbox, I: Inbox>(
     world: &mut World<O, I>,
     events: &[Event],
 ) -> Result<(), AllocError>

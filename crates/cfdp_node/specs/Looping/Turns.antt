@@ -14,7 +14,7 @@ use Rattle.cfdp_entity.specs.declared.error.PutError.TheVariants as put_errors
 use Rattle.cfdp_station.specs.Station.{StationState, KeepsLink}
 use Rattle.cfdp_station.specs.declared.config.StationConfig.{StationConfig}
 use Rattle.link_sim.specs.AtStation.{CountsPut, KeepsFailures}
-use Rattle.link_sim.specs.World.State.{IsFirstAt}
+use Rattle.link_sim.specs.World.State.{IsFirstAt, IsNewAt}
 use Rattle.link_sim.specs.declared.event.Refusal.TheVariants.{Put}
 use Rattle.link_sim.specs.declared.recover_error.RecoverError.TheVariants.{Settle}
 use Rattle.link_sim.specs.declared.settle_error.SettleError.TheVariants as settle_errors
@@ -55,10 +55,11 @@ Puts source destination (Err by) old new =
     × KeepsLink old new
 
 -- ---- turns
--- The transaction is closed at both stations.
+-- The transaction is closed at the first station; the second has it closed, or never heard of it.
 abbrev pub IsClosed : TransactionId → (one two : StationState) → Type 0
 IsClosed id one two = (phase_told id one.entity.state.table ≡ Some Closed)
-    × (phase_told id two.entity.state.table ≡ Some Closed)
+    × ((phase_told id two.entity.state.table ≡ None)
+    ⊎ (phase_told id two.entity.state.table ≡ Some Closed))
 
 -- whether a put was refused for want of memory
 abbrev pub is_no_memory : PutError → Bool
@@ -101,7 +102,7 @@ module _ {W : Type 0} (Steps : W → WireCall → W → Type 0) where
     Turns (suc count) old new = (mid : LoopState W) × Turns count old mid
         × (IsClosed id mid.one mid.two → ⊥) × TakesTurn every (count + 1) mid new
 
-    -- Turns, until the transaction was closed at both stations, and at most so many.
+    -- Turns, until the transaction was closed so, and at most so many.
     pub record RunsTurns (most : ℕ) (old new : LoopState W) : Type 0 where
       pub count : ℕ
       pub turns : Turns count old new
@@ -217,13 +218,14 @@ EndsFromOne Steps exit one config files wire_one wire_two source destination eve
     (record { one = one; two = two; wire_one = wire_one; wire_two = wire_two; left = every })
     last exit old new))
 
--- A file went so, from two new stations, of which the first has these files to send and the second
--- published those before; or there was no memory for the stations, and nothing is written.
-abbrev pub EndsLoop : {W : Type 0} → (W → WireCall → W → Type 0) → Exit → (sources files : FileMap)
-    → (wire_one wire_two : W) → (source destination : List ℕ) → (every most : ℕ)
-    → (old new : Option (List ℕ)) → Type 0
-EndsLoop Steps exit sources files wire_one wire_two source destination every most old new =
+-- A file went so, from two new stations, of which the first has these files to send, which stand or
+-- don't, and the second published those before; or there was no memory for the stations, and
+-- nothing is written.
+abbrev pub EndsLoop : {W : Type 0} → (W → WireCall → W → Type 0) → Exit → (stands : Bool)
+    → (sources files : FileMap) → (wire_one wire_two : W) → (source destination : List ℕ)
+    → (every most : ℕ) → (old new : Option (List ℕ)) → Type 0
+EndsLoop Steps exit stands sources files wire_one wire_two source destination every most old new =
     ((exit ≡ Device NoMemoryAtStart) × Keeps old new)
-    ⊎ ((one : StationState) × IsFirstAt (world_of loop_settings).one sources empty one
+    ⊎ ((one : StationState) × IsNewAt (world_of loop_settings).one stands sources empty one
     × EndsFromOne Steps exit one (world_of loop_settings).two files wire_one wire_two source
     destination every most old new)

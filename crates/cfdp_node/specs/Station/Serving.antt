@@ -1,5 +1,5 @@
 -- How a station sends its files over a wire and takes those of its peer, and what is told of it.
-use Rattle.std.specs.Prelude.{◌≡◌, ◌⊎◌, ◌≤◌, ℕ, ◌+◌, ◌^◌, ◌==◌, nat_lt, Bool, true, false, not, ◌&&◌, ◌||◌, List, [], ◌∷◌, ◌++◌, count_by, drop, length, map, slice_get, take, Option, Some, Result, Ok, Err, if◌then◌else◌}
+use Rattle.std.specs.Prelude.{◌≡◌, ◌⊎◌, ◌≤◌, ℕ, ◌+◌, ◌^◌, ◌==◌, nat_lt, Bool, true, false, not, ◌&&◌, ◌||◌, List, [], ◌∷◌, ◌++◌, count_by, drop, length, map, slice_get, take, Option, Some, Result, Ok, Err, IsTrue, if◌then◌else◌}
 use Rattle.std.specs.Io.KnownBytes.{Appends, Keeps}
 use Rattle.std.specs.List.{flat_map, list_all}
 use Rattle.cfdp_header.specs.declared.value.TransactionId.{TransactionId}
@@ -11,11 +11,15 @@ use Rattle.cfdp_entity.specs.Entity.{with_table}
 use Rattle.cfdp_entity.specs.Forgetting.{ForgetsSome}
 use Rattle.cfdp_entity.specs.Table.{TableState, most_records}
 use Rattle.cfdp_entity.specs.Walking.{phases_of}
+use Rattle.cfdp_entity.specs.Looking.{LooksUp}
 use Rattle.cfdp_entity.specs.declared.error.PutError.{PutError}
+use Rattle.cfdp_entity.specs.declared.error.PutError.TheVariants.{SourceFault}
+use Rattle.cfdp_store.specs.Stores.{failures_after}
 use Rattle.link_stack.specs.Downward.{both_counted_from}
 use Rattle.cfdp_station.specs.Station.{StationState, KeepsLink}
 use Rattle.cfdp_station.specs.declared.config.StationConfig.{StationConfig}
-use Rattle.link_sim.specs.World.State.{IsFirstAt}
+use Rattle.link_sim.specs.AtStation.{KeepsFailures}
+use Rattle.link_sim.specs.World.State.{IsNewAt}
 use Rattle.cfdp_node.specs.Looping.Turns.{Puts, is_no_memory, more_failures, put_answer}
 use Rattle.cfdp_node.specs.Report.Lines.{answer_text, count_line, indication_line, is_own_completion}
 use Rattle.cfdp_node.specs.Station.Turning.{TakesInPart, TakesOne}
@@ -32,11 +36,13 @@ use Rattle.cfdp_node.specs.declared.station.serving.PutNames.{PutNames}
 abbrev pub table_of : StationState → TableState
 table_of s = s.entity.state.table
 
--- More was indicated, behind what was, and none of it was let go.
+-- More was indicated, behind what was, and none of it was let go. Where the files to send stand,
+-- they stood before.
 pub record Gains (old new : TableState) : Type 0 where
   pub gained : List Indication
   pub told : new.told ≡ old.told ++ gained
   pub gone : new.gone ≡ old.gone
+  pub stood : IsTrue new.stands → IsTrue old.stands
 
 -- a line of the report: how a put was answered, by its number from 1 on, or what the station told
 -- its user
@@ -67,11 +73,33 @@ abbrev pub put_short : Result TransactionId PutError → Bool
 put_short (Ok id) = false
 put_short (Err by) = is_no_memory by
 
+-- The outbox looked for a file, and nothing else changed.
+pub record LooksAt (source : List ℕ) (old new : StationState) : Type 0 where
+  pub looks : LooksUp source old.entity.state new.entity.state
+  pub failures : KeepsFailures old.entity new.entity
+  pub link : KeepsLink old new
+
+-- It failed to, which was counted, and nothing else changed.
+pub record FailsToLook (old new : StationState) : Type 0 where
+  pub same : new.entity.state ≡ old.entity.state
+  pub outbox : new.entity.outbox_failures ≡ failures_after old.entity.outbox_failures false
+  pub inbox : new.entity.inbox_failures ≡ old.entity.inbox_failures
+  pub link : KeepsLink old new
+
+-- A put was made of a file that was looked for first, and was answered so; where the outbox failed
+-- to look, it is refused for that.
+abbrev pub PutsFile : (source destination : List ℕ) → Result TransactionId PutError
+    → (old new : StationState) → Type 0
+PutsFile source destination answer old new =
+    ((looked : StationState) × LooksAt source old looked
+    × Puts source destination answer looked new)
+    ⊎ ((answer ≡ Err SourceFault) × FailsToLook old new)
+
 -- A put was made, and where it was refused this is told, and whether that was for want of memory.
 pub record MakesPut (source destination : List ℕ) (told : Option Answer) (short : Bool)
     (old new : StationState) : Type 0 where
   pub answer : Result TransactionId PutError
-  pub puts : Puts source destination answer old new
+  pub puts : PutsFile source destination answer old new
   pub tells : told ≡ put_answer answer
   pub wants : short ≡ put_short answer
 
@@ -306,13 +334,13 @@ module _ {W : Type 0} (Steps : W → WireCall → W → Type 0) (own every : ℕ
         ((exit ≡ Device NoMemoryAtStart) × Keeps old new)
         ⊎ ((last : Sending W) × ServesTo exit first last old new)
 
-    -- It happened so from a new station, which has these files to send and published those before,
-    -- and whose frames are counted from this number on.
-    abbrev pub EndsStation : (count : ℕ) → Exit → StationConfig → (sources files : FileMap) → W
-        → (old new : Option (List ℕ)) → Type 0
-    EndsStation count exit config sources files wire old new =
+    -- It happened so from a new station, which has these files to send, which stand or don't, and
+    -- published those before, and whose frames are counted from this number on.
+    abbrev pub EndsStation : (count : ℕ) → Exit → StationConfig → (stands : Bool)
+        → (sources files : FileMap) → W → (old new : Option (List ℕ)) → Type 0
+    EndsStation count exit config stands sources files wire old new =
         ((exit ≡ Device NoMemoryAtStart) × Keeps old new)
-        ⊎ ((s : StationState) × IsFirstAt config sources files s
+        ⊎ ((s : StationState) × IsNewAt config stands sources files s
         × EndsFrom exit
         (record { station = record s { down = both_counted_from count s.down }; wire = wire; left = every })
         old new)

@@ -1,7 +1,7 @@
 -- One turn of a station over a wire.
 use Rattle.std.specs.Prelude.{◌≡◌, ◌≢◌, ◌⊎◌, ◌<◌, ◌≤◌, ℕ, zero, suc, ◌+◌, ◌-◌, ◌==◌, List, length, Option, Some, None, Result, Ok, Err, ⊤, if◌then◌else◌}
 use Rattle.cfdp_store.specs.Chains.{Raises}
-use Rattle.cfdp_entity.specs.Entity.{with_table}
+use Rattle.cfdp_entity.specs.Entity.{entity_lent, with_table}
 use Rattle.cfdp_entity.specs.Gives.{CountsOutbox}
 use Rattle.cfdp_entity.specs.Polling.{turn}
 use Rattle.cfdp_entity.specs.Sound.{SpellsTurn}
@@ -11,8 +11,8 @@ use Rattle.aos_frame.specs.Frame.{other_lane}
 use Rattle.aos_frame.specs.declared.config.Lane.{Lane}
 use Rattle.link_stack.specs.Downward.{DownState, MakesFrame, frame_lane, lane_down}
 use Rattle.cfdp_station.specs.Link.{FlushesBoth}
-use Rattle.cfdp_station.specs.Polling.{Polls, stored_by_poll}
-use Rattle.cfdp_station.specs.Station.{StationState, KeepsLink, KeepsRest}
+use Rattle.cfdp_station.specs.Polling.{Polls, Shows, stored_by_poll}
+use Rattle.cfdp_station.specs.Station.{StationState, KeepsLink, KeepsRest, station_lent}
 use Rattle.cfdp_station.specs.Taking.{TakesFrame}
 use Rattle.cfdp_station.specs.declared.polled.Polled.{Polled}
 use Rattle.cfdp_station.specs.declared.polled.Polled.TheVariants.{Moved, Nothing, Full, SourceFailed}
@@ -45,9 +45,13 @@ IsMore SourceFailed = ⊤
 IsMore Nothing = ⊥
 IsMore Full = ⊥
 
+-- A station was polled, and answered this. What it read of a file is what its outbox has then; it
+-- may have shown other octets than before, and then the files stand no more.
 pub record PollsOnce (answer : Polled) (old new : StationState) : Type 0 where
-  pub polls : Polls answer old new
-  pub spells : answer ≡ Moved → SpellsTurn (turn old.entity.state) old.entity.state
+  pub polls : Polls answer (station_lent new old) new
+  pub shows : Shows answer old.entity.state new.entity.state
+  pub spells : let lent = entity_lent new.entity.state old.entity.state in answer ≡ Moved
+      → SpellsTurn (turn lent) lent
   pub outbox : CountsOutbox (stored_by_poll answer) old.entity.outbox_failures
       new.entity.outbox_failures
   pub inbox : new.entity.inbox_failures ≡ old.entity.inbox_failures

@@ -15,13 +15,18 @@ use crate::wire::Wire;
 use crate::wire::udp::UdpWire;
 use cfdp_header::TransactionId;
 use cfdp_station::{Polled, Station};
-use cfdp_store::{FolderInbox, FolderOutbox, Inbox, Outbox, StoreError, is_folder_name};
+use cfdp_store::{
+    FolderError, FolderInbox, FolderOutbox, Inbox, Outbox, SeekingOutbox, StoreError,
+    is_folder_name,
+};
 use link_sim::Side;
+use past::Past;
 use std::alloc::{AllocError, Global};
 use std::cell::Cell;
 use std::fs::Metadata;
-use std::io::BufWriter;
+use std::io::{BufWriter, ErrorKind};
 use std::os::unix::fs::MetadataExt;
+use std::snapshot::Snapshot;
 use std::{fs, io};
 
 /// The exit status of bad arguments.
@@ -36,25 +41,34 @@ const DEVICE: u8 = 3;
 /// What may be wrong is looked for in this order: both names, the folder and the file that is to be
 /// sent, the other folder, the sockets.
 pub fn loop_status(rt: &HostRuntime, request: &LoopRequest) -> u8 {
-    match prepared(rt, request) {
-        Ok((outbox, wires, _held)) => sent_status(rt, request, outbox, wires),
+    let (told, progress) = (Cell::new(false), Progress::new(rt));
+    from_folder(rt, request, &told, &progress)
+}
+
+/// Sends the file of its folder.
+fn from_folder(
+    rt: &HostRuntime,
+    request: &LoopRequest,
+    told: &Cell<bool>,
+    progress: &Progress<'_>,
+) -> u8 {
+    match found(rt, request) {
+        Ok(outbox) => {
+            let from = request.from.as_str();
+            let outbox = TellingOutbox::over(rt, from, outbox, told, progress);
+            sent_status(rt, request, outbox, told, progress)
+        }
         Err(status) => status,
     }
 }
 
-/// What is needed to send the file, and the folder that it goes into.
+/// The sockets that the file goes over, and the folder that it goes into.
 ///
 /// # Errors
 ///
 /// The exit status, where something is wrong, which was told on standard error.
-fn prepared(
-    rt: &HostRuntime,
-    request: &LoopRequest,
-) -> Result<(FolderOutbox, (UdpWire, UdpWire), HeldFolder), u8> {
-    check_name(rt, request.source.as_str())?;
-    check_name(rt, request.destination.as_str())?;
+fn way(rt: &HostRuntime, request: &LoopRequest) -> Result<((UdpWire, UdpWire), HeldFolder), u8> {
     let from = folder(rt, request.from.as_str())?;
-    let outbox = loaded(rt, request)?;
     let to = folder(rt, request.to.as_str())?;
     if from.dev() == to.dev() && from.ino() == to.ino() {
         let _ = eprintln!(rt; "error: {} and {} are one folder", request.from, request.to);
@@ -62,7 +76,7 @@ fn prepared(
     }
     let held = HeldFolder::take(rt, request.to.as_str())?;
     match UdpWire::pair(rt) {
-        Ok(wires) => Ok((outbox, wires, held)),
+        Ok(wires) => Ok((wires, held)),
         Err(error) => {
             let _ = eprintln!(rt; "error: a socket of 127.0.0.1: {error}");
             Err(DEVICE)
@@ -104,29 +118,82 @@ pub fn folder(rt: &HostRuntime, path: &str) -> Result<Metadata, u8> {
     Err(DEVICE)
 }
 
-/// The file that is to be sent, where it is there.
-fn loaded(rt: &HostRuntime, request: &LoopRequest) -> Result<FolderOutbox, u8> {
-    let (folder, name) = (request.from.as_str(), request.source.as_str());
-    match FolderOutbox::open(rt, rt.alloc(), folder, name.as_bytes()) {
-        Ok(outbox) => Ok(outbox),
-        Err(error) => {
-            let _ = eprintln!(rt; "error: {folder}/{name}: {error}");
-            Err(DEVICE)
-        }
+/// The folder of the file that is to be sent, which was looked for there, after both names.
+///
+/// # Errors
+///
+/// The exit status, where it can't be sent, which was told on standard error.
+fn found<'a>(
+    rt: &'a HostRuntime,
+    request: &LoopRequest,
+) -> Result<FolderOutbox<&'a HostRuntime>, u8> {
+    let (path, name) = (request.from.as_str(), request.source.as_str());
+    check_name(rt, name)?;
+    check_name(rt, request.destination.as_str())?;
+    folder(rt, path)?;
+    let Ok(mut outbox) = folder_outbox(rt, path) else {
+        tell_of_file(rt, path, name, FolderError::System(ErrorKind::OutOfMemory));
+        return Err(DEVICE);
+    };
+    check_file(rt, &mut outbox, path, name)?;
+    Ok(outbox)
+}
+
+/// An outbox over this folder, which is there. Nothing was looked for yet.
+///
+/// # Errors
+///
+/// `AllocError` where there is no memory for the folder's name.
+pub fn folder_outbox<'a>(
+    rt: &'a HostRuntime,
+    path: &str,
+) -> Result<FolderOutbox<&'a HostRuntime>, AllocError> {
+    // What is expected of files is for clauses alone, and none speaks of what a disk has.
+    let expected = Snapshot::of(&Past::new());
+    FolderOutbox::new(rt, rt.alloc(), path, expected)
+}
+
+/// Looks for a file in the folder of an outbox. It may be missing.
+///
+/// # Errors
+///
+/// The exit status, where it can't be sent, which was told on standard error.
+pub fn check_file(
+    rt: &HostRuntime,
+    outbox: &mut FolderOutbox<&HostRuntime>,
+    path: &str,
+    name: &str,
+) -> Result<(), u8> {
+    if outbox.look_for(name.as_bytes()).is_ok() {
+        return Ok(());
     }
+    if let Some(fault) = outbox.fault() {
+        tell_of_file(rt, path, name, fault);
+    }
+    Err(DEVICE)
+}
+
+/// Says on standard error what is wrong with a file of a folder.
+pub fn tell_of_file(rt: &HostRuntime, path: &str, name: &str, fault: FolderError) {
+    let _ = eprintln!(rt; "error: {path}/{name}: {fault}");
 }
 
 /// Sends the file, shows what is seen of that, and answers the exit status.
-fn sent_status<O: Outbox, W: Wire>(
+fn sent_status<O: Outbox>(
     rt: &HostRuntime,
     request: &LoopRequest,
     outbox: O,
-    wires: (W, W),
+    told: &Cell<bool>,
+    progress: &Progress<'_>,
 ) -> u8 {
-    let (told, progress) = (Cell::new(false), Progress::new(rt));
-    let ran = sent(rt, request, outbox, wires, &told, &progress);
-    tell_untold(rt, ran.exit, &told);
-    shown_status(rt, &request.shown, &ran)
+    match way(rt, request) {
+        Ok((wires, _held)) => {
+            let ran = sent(rt, request, outbox, wires, told, progress);
+            tell_untold(rt, ran.exit, told);
+            shown_status(rt, &request.shown, &ran)
+        }
+        Err(status) => status,
+    }
 }
 
 /// Says on standard error what failed, unless that was said.
@@ -346,5 +413,88 @@ impl<'a> Inbox for TellingInbox<'a> {
 
     fn failures(&self) -> u64 {
         self.inbox.failures()
+    }
+}
+
+/// An outbox over a folder, which says on standard error why a file of it can't be sent.
+#[derive(Drop)]
+pub struct TellingOutbox<'a> {
+    rt: &'a HostRuntime,
+    folder: &'a str,
+    outbox: FolderOutbox<&'a HostRuntime>,
+    /// Whether it said so.
+    told: &'a Cell<bool>,
+    progress: &'a Progress<'a>,
+}
+
+impl<'a> TellingOutbox<'a> {
+    /// One over this outbox of this folder. It sets `told` once it said so.
+    pub fn over(
+        rt: &'a HostRuntime,
+        folder: &'a str,
+        outbox: FolderOutbox<&'a HostRuntime>,
+        told: &'a Cell<bool>,
+        progress: &'a Progress<'a>,
+    ) -> TellingOutbox<'a> {
+        TellingOutbox {
+            rt,
+            folder,
+            outbox,
+            told,
+            progress,
+        }
+    }
+
+    /// Says why the last call failed, which was of this file.
+    fn tell(&self, name: &[u8]) {
+        if let Some(fault) = self.outbox.fault() {
+            self.told.set(true);
+            self.progress.yields();
+            let _ = eprintln!(self.rt; "error: {}/{}: {fault}", self.folder, Name(name));
+        }
+    }
+}
+
+impl<'a> Outbox for TellingOutbox<'a> {
+    ghost files = { λ o. ⟦<FolderOutbox<&'a HostRuntime> as Outbox>⟧.files o.outbox };
+
+    ghost stands = { λ o. ⟦<FolderOutbox<&'a HostRuntime> as Outbox>⟧.stands o.outbox };
+
+    ghost failures = { λ o. ⟦<FolderOutbox<&'a HostRuntime> as Outbox>⟧.failures o.outbox };
+
+    ghost steps = { λ o call p. ⟦<FolderOutbox<&'a HostRuntime> as Outbox>⟧.steps o.outbox call
+        p.outbox };
+
+    fn len(&mut self, name: &[u8]) -> Result<Option<u64>, StoreError> {
+        let answer = self.outbox.len(name);
+        if answer.is_err() {
+            self.tell(name);
+        }
+        answer
+    }
+
+    fn read(&mut self, name: &[u8], offset: u64, out: &mut [u8]) -> Result<(), StoreError> {
+        let answer = self.outbox.read(name, offset, out);
+        if answer.is_err() {
+            self.tell(name);
+        }
+        answer
+    }
+
+    fn failures(&self) -> u64 {
+        self.outbox.failures()
+    }
+}
+
+impl<'a> SeekingOutbox for TellingOutbox<'a> {
+    ghost answers = { λ name answer. ⟦<FolderOutbox<&'a HostRuntime> as SeekingOutbox>⟧.answers
+        name answer };
+
+    fn look_for(&mut self, name: &[u8]) -> Result<bool, StoreError> {
+        let answer = self.outbox.look_for(name);
+        if answer.is_err() {
+            self.tell(name);
+        }
+        answer
     }
 }

@@ -23,7 +23,7 @@ pub struct LoopRequest {
     pub source: String,
     /// Its name in the second one.
     pub destination: String,
-    /// The most turns, 1 to 1,000,000.
+    /// The most turns, 1 to 1,000,000,000,000: they carry more than the longest file.
     pub turns: u64,
     /// Each frame of that number is lost, up to 1,000,000; with 0 none is.
     pub drop_every: u64,
@@ -45,11 +45,13 @@ struct LoopWords<'a> {
 const LOOP_HELP: &str = "\
 Two stations of this process, over two UDP sockets of 127.0.0.1: the first
 sends the file SRC of the folder FROM, the second puts it into the folder TO,
-as DST. A name is 1 to 64 of A-Z a-z 0-9 . _ - and begins with no point; a file
-has at most 1,048,576 octets. DST appears whole or not at all, in the place of
-a file of that name.
+as DST. A name is 1 to 64 of A-Z a-z 0-9 . _ - and begins with no point. A file
+of up to 2^48 octets is read as it is sent. Where a read finds that it changed,
+a line on standard error says so, and nothing comes. DST appears whole or not at
+all, in the place of a file of that name.
 In a turn both stations are told its number as the time, send, and take what
-came. The run ends when the transfer is closed at both, or after N turns.
+came: 16,384 octets of the file at most. The run ends when the transfer is over
+at both, or after N turns.
 With --drop K, each Kth frame of both is not sent, and has to be asked for.
 
 Report: as that of sim, without the files.
@@ -117,9 +119,9 @@ fn turns_argument<'a>(alloc: Global) -> Arg<'a>
     Arg::new(alloc, "turns")
         .long("turns")
         .value_name("N")
-        .help("The most turns, 1 to 1000000")
-        .value_parser(value_parser!(u64).range(1..=1000000))
-        .default_value("10000")
+        .help("The most turns, 1 to 1000000000000")
+        .value_parser(value_parser!(u64).range(1..=1000000000000))
+        .default_value("1000000000000")
 }
 
 /// Which frames are lost for a trial.
@@ -180,7 +182,7 @@ fn loop_words<'a>(arguments: &ArgMatches<'a>) -> Option<LoopWords<'a>>
         to: word_of(arguments, "to")?,
         source: word_of(arguments, "source")?,
         destination: word_of(arguments, "destination")?,
-        turns: number_in(arguments, "turns", 1, 1_000_000)?,
+        turns: number_in(arguments, "turns", 1, 1_000_000_000_000)?,
         drop_every: number_in(arguments, "drop", 0, 1_000_000)?,
     })
 }

@@ -66,8 +66,10 @@ One station over a UDP socket: it sends the files that --put names, and puts
 those that come from its peer into the folder of --inbox. A datagram is one AOS
 frame. The system drops those that come from other addresses than the peer's.
 ADDR is as in 127.0.0.1:5001. The names of files in folders are 1 to 64 of
-A-Z a-z 0-9 . _ - and begin with no point. Files that are sent are read as a
-whole when the station begins. Those that come are written as they come.
+A-Z a-z 0-9 . _ - and begin with no point. Files of up to 2^48 octets are read
+as they are sent, and written as they come. One that is sent is as it was when
+its put was made: where a read finds that it changed, a line on standard error
+says so, the peer publishes nothing of it, and the other puts go on.
 
 It ends once all puts are made and all its transactions are closed, those that it
 receives too, and no frame of the link came for as many seconds as --idle says;

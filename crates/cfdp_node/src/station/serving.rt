@@ -4,10 +4,10 @@ ghost use Rattle.std.specs.Io.KnownBytes.{Appends};
 ghost use Rattle.std.specs.List.{flat_map};
 ghost use Rattle.std.specs.Prelude.{◌≡◌, ◌+◌, ◌<◌, ◌≤◌, ◌==◌, ◌&&◌, Bool, List, [], Option, count_by, false, length, not, IfOk, OnOk};
 ghost use Rattle.cfdp_node.specs.Exit.{IsFlushedAt};
-ghost use Rattle.cfdp_node.specs.Looping.Turns.{IsTold};
+ghost use Rattle.cfdp_node.specs.Looping.Turns.{IsTold, Puts};
 ghost use Rattle.cfdp_node.specs.Report.Lines.{answer_text, indication_line, is_own_completion};
 ghost use Rattle.cfdp_node.specs.declared.report.answer.Answer.{Answer};
-ghost use Rattle.cfdp_node.specs.Station.Serving.{AddsTo, Answers, EndsFrom, EndsStation, Gains, IsReport, Line, MakesMore, MakesNext, MakesPut, Prepares, Serves, ServesTo, TakesTurns, all_closed, completed, line_text, once_told, said_by, starts, station_exit, table_of, told_by};
+ghost use Rattle.cfdp_node.specs.Station.Serving.{AddsTo, Answers, EndsFrom, EndsStation, Gains, IsReport, Line, MakesMore, MakesNext, MakesPut, Prepares, PutsFile, Serves, ServesTo, TakesTurns, all_closed, completed, line_text, once_told, said_by, starts, station_exit, table_of, told_by};
 ghost use Rattle.cfdp_node.specs.Station.Serving as spec;
 ghost use Rattle.cfdp_node.specs.Wire.Calls.{Rested};
 ghost use Rattle.cfdp_node.specs.Wire.Turn.{FitsFrames, HasZones};
@@ -23,8 +23,9 @@ use crate::watch::lookout::{Lookout, Passed};
 use crate::wire::PeerWire;
 use cfdp_directives::Phase;
 use cfdp_entity::an_entity_goes_on;
-use cfdp_station::{Station, StationConfig};
-use cfdp_store::{Inbox, Outbox};
+use cfdp_header::TransactionId;
+use cfdp_station::{PutError, Station, StationConfig};
+use cfdp_store::{Inbox, Outbox, SeekingOutbox};
 use link_sim::Side;
 use std::alloc::{AllocError, Global};
 use std::io;
@@ -89,7 +90,7 @@ const MOST_TURNS: u64 = 1_000_000_000_000_000;
 /// A want of memory ends it, and is told as `Device` with the report; so is a store that failed.
 /// Where there is none for the station, nothing is written. Of a report that can't be written to
 /// its end nothing is said. Who looks on sees all that passes.
-pub fn run_station<O: Outbox, I: Inbox, W: PeerWire, C: Clock, V: Write + Drop, L: Lookout>(
+pub fn run_station<O: SeekingOutbox, I: Inbox, W: PeerWire, C: Clock, V: Write + Drop, L: Lookout>(
     alloc: Global,
     options: StationOptions,
     outbox: O,
@@ -102,7 +103,7 @@ pub fn run_station<O: Outbox, I: Inbox, W: PeerWire, C: Clock, V: Write + Drop, 
     requires { IsStationConfig options.config }
     ensures ends { IsTold result (EndsStation W.steps options.config.entity.entity
         options.drop_every options.puts.items options.frame_count result options.config
-        (O.files outbox) (I.published inbox) wire
+        (O.stands outbox) (O.files outbox) (I.published inbox) wire
         (writer_contents V.contents out.old) (writer_contents V.contents out.new)) }
     ensures flushed { IsFlushedAt result (writer_buffer out.new) }
 {
@@ -110,7 +111,7 @@ pub fn run_station<O: Outbox, I: Inbox, W: PeerWire, C: Clock, V: Write + Drop, 
 }
 
 /// Makes the station, and runs it. The writer isn't flushed at the end.
-fn run_new<O: Outbox, I: Inbox, W: PeerWire, C: Clock, V: Write, L: Lookout>(
+fn run_new<O: SeekingOutbox, I: Inbox, W: PeerWire, C: Clock, V: Write, L: Lookout>(
     alloc: Global,
     options: &StationOptions,
     outbox: O,
@@ -123,7 +124,7 @@ fn run_new<O: Outbox, I: Inbox, W: PeerWire, C: Clock, V: Write, L: Lookout>(
     requires { IsStationConfig options.now.config }
     ensures { IsTold result (EndsStation W.steps options.now.config.entity.entity
         options.now.drop_every options.now.puts.items options.now.frame_count result
-        options.now.config (O.files outbox) (I.published inbox) wire
+        options.now.config (O.stands outbox) (O.files outbox) (I.published inbox) wire
         (V.contents out.old) (V.contents out.new)) }
 {
     match Station::new(alloc, options.config, outbox, inbox) {
@@ -138,7 +139,7 @@ fn run_new<O: Outbox, I: Inbox, W: PeerWire, C: Clock, V: Write, L: Lookout>(
 }
 
 /// Makes what turns need, and runs a station that did nothing yet.
-fn run_on<O: Outbox, I: Inbox, W: PeerWire, C: Clock, V: Write, L: Lookout>(
+fn run_on<O: SeekingOutbox, I: Inbox, W: PeerWire, C: Clock, V: Write, L: Lookout>(
     alloc: Global,
     options: &StationOptions,
     station: &mut Station<O, I>,
@@ -173,7 +174,7 @@ fn run_on<O: Outbox, I: Inbox, W: PeerWire, C: Clock, V: Write, L: Lookout>(
 
 /// Runs a station that did nothing yet, and tells how that ended. The station and its wire are left
 /// as what is told left them.
-pub fn run_all<O: Outbox, I: Inbox, W: PeerWire, C: Clock, V: Write, L: Lookout>(
+pub fn run_all<O: SeekingOutbox, I: Inbox, W: PeerWire, C: Clock, V: Write, L: Lookout>(
     options: &StationOptions,
     station: &mut Station<O, I>,
     wire: &mut W,
@@ -213,7 +214,7 @@ pub fn run_all<O: Outbox, I: Inbox, W: PeerWire, C: Clock, V: Write, L: Lookout>
 /// # Errors
 ///
 /// That of the writer.
-fn serve<O: Outbox, I: Inbox, W: PeerWire, C: Clock, V: Write, L: Lookout>(
+fn serve<O: SeekingOutbox, I: Inbox, W: PeerWire, C: Clock, V: Write, L: Lookout>(
     options: &StationOptions,
     station: &mut Station<O, I>,
     wire: &mut W,
@@ -260,7 +261,7 @@ fn serve<O: Outbox, I: Inbox, W: PeerWire, C: Clock, V: Write, L: Lookout>(
 /// # Errors
 ///
 /// That of the writer.
-fn take_turns<O: Outbox, I: Inbox, W: PeerWire, C: Clock, V: Write, L: Lookout>(
+fn take_turns<O: SeekingOutbox, I: Inbox, W: PeerWire, C: Clock, V: Write, L: Lookout>(
     options: &StationOptions,
     station: &mut Station<O, I>,
     wire: &mut W,
@@ -314,7 +315,7 @@ fn take_turns<O: Outbox, I: Inbox, W: PeerWire, C: Clock, V: Write, L: Lookout>(
 /// # Errors
 ///
 /// That of the writer.
-fn prepare<O: Outbox, I: Inbox, V: Write, L: Lookout>(
+fn prepare<O: SeekingOutbox, I: Inbox, V: Write, L: Lookout>(
     options: &StationOptions,
     station: &mut Station<O, I>,
     served: &mut Served,
@@ -345,7 +346,7 @@ fn prepare<O: Outbox, I: Inbox, V: Write, L: Lookout>(
 /// # Errors
 ///
 /// That of the writer.
-fn make_puts<O: Outbox, I: Inbox, V: Write, L: Lookout>(
+fn make_puts<O: SeekingOutbox, I: Inbox, V: Write, L: Lookout>(
     options: &StationOptions,
     station: &mut Station<O, I>,
     served: &mut Served,
@@ -375,7 +376,7 @@ fn make_puts<O: Outbox, I: Inbox, V: Write, L: Lookout>(
 /// # Errors
 ///
 /// That of the writer.
-fn make_next<O: Outbox, I: Inbox, V: Write, L: Lookout>(
+fn make_next<O: SeekingOutbox, I: Inbox, V: Write, L: Lookout>(
     side: Side,
     station: &mut Station<O, I>,
     puts: &[PutNames],
@@ -407,8 +408,8 @@ fn make_next<O: Outbox, I: Inbox, V: Write, L: Lookout>(
     )
 }
 
-/// Makes a put, and answers why it was refused, if it was.
-fn make_put<O: Outbox, I: Inbox, L: Lookout>(
+/// Makes a put of the file as it is now, and answers why it was refused, if it was.
+fn make_put<O: SeekingOutbox, I: Inbox, L: Lookout>(
     side: Side,
     station: &mut Station<O, I>,
     names: &PutNames,
@@ -419,8 +420,7 @@ fn make_put<O: Outbox, I: Inbox, L: Lookout>(
     ensures gains { Gains (table_of station.old) (table_of station.new) }
     ensures down { station.new.down ≡ station.old.down }
 {
-    an_entity_goes_on();
-    match station.put(names.source.as_slice(), names.destination.as_slice()) {
+    match put_file(station, names) {
         Ok(_) => {
             lookout.sees(side, Passed::Put, station);
             Ended {
@@ -433,6 +433,36 @@ fn make_put<O: Outbox, I: Inbox, L: Lookout>(
             refused(error)
         }
     }
+}
+
+/// Looks for a file, and makes its put.
+fn put_file<O: SeekingOutbox, I: Inbox>(
+    station: &mut Station<O, I>,
+    names: &PutNames,
+) -> Result<TransactionId, PutError>
+    ensures puts { PutsFile names.now.source.items names.now.destination.items result
+        station.old station.new }
+    ensures gains { Gains (table_of station.old) (table_of station.new) }
+    ensures down { station.new.down ≡ station.old.down }
+{
+    match station.look_for(names.source.as_slice()) {
+        Ok(_) => put_found(station, names),
+        Err(_) => Err(PutError::SourceFault),
+    }
+}
+
+/// Makes the put of a file that was looked for.
+fn put_found<O: Outbox, I: Inbox>(
+    station: &mut Station<O, I>,
+    names: &PutNames,
+) -> Result<TransactionId, PutError>
+    ensures puts { Puts names.now.source.items names.now.destination.items result
+        station.old station.new }
+    ensures gains { Gains (table_of station.old) (table_of station.new) }
+    ensures down { station.new.down ≡ station.old.down }
+{
+    an_entity_goes_on();
+    station.put(names.source.as_slice(), names.destination.as_slice())
 }
 
 /// Whether all puts were made.

@@ -1,6 +1,6 @@
 //! What holds of a file's way over wires that lose frames, or bring them in order.
 ghost use Rattle.std.specs.FinMap.{get};
-ghost use Rattle.std.specs.Prelude.{◌≡◌, ℕ, List, Ok};
+ghost use Rattle.std.specs.Prelude.{◌≡◌, ℕ, List, Ok, IsTrue};
 ghost use Rattle.cfdp_directives.specs.User.Completions.{IsToldComplete};
 ghost use Rattle.cfdp_header.specs.Files.{FileMap};
 ghost use Rattle.cfdp_header.specs.declared.value.TransactionId.{TransactionId};
@@ -16,8 +16,9 @@ use crate::wire::Wire;
 
 /// Over wires that lose frames, or bring those of each lane in the order in which they were sent,
 /// two stations that take turns are those of a world in which the same frames left, and the same
-/// ones came. So all that is promised of a world holds of them, whatever was lost. `Turns` are those
-/// of `run_loop`, from its put on.
+/// ones came, if the files that they send stood still to the end: all that was read of them is what
+/// they had from the start. So all that is promised of a world holds of them, whatever was lost.
+/// `Turns` are those of `run_loop`, from its put on.
 pub fn turns_are_of_a_world<W: Wire>()
     ensures { (c : WorldConfig) (outboxes inboxes : FileMap × FileMap)
         (source destination : List ℕ) (id : TransactionId) (every count : ℕ)
@@ -27,10 +28,12 @@ pub fn turns_are_of_a_world<W: Wire>()
         → Puts source destination (Ok id) first.one one
         → (turns : Turns W.steps id every count (record first { one = one }) last)
         → PassInOrder W.steps id every count (record first { one = one }) last turns passed
+        → IsTrue last.one.entity.state.table.stands → IsTrue last.two.entity.state.table.stands
         → AreOfWorld c outboxes inboxes
         (record { id = id; source = source; destination = destination }) passed last.one last.two }
 {
     link_sim::worlds_keep_the_promises();
+    cfdp_entity::an_entity_goes_on();
 }
 
 /// A sender that is told complete over such wires can rely on it: the other station has published,

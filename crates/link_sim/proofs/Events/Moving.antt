@@ -76,7 +76,7 @@ pub record EntityLaws : Type 0 where
 
 -- ---- going on
 goes-none : (e : EntityState) → GoesOn e e
-goes-none e = record { gained = []; told = sym (append-nil e.table.told); gone = refl; sources = refl; config = refl; next = omega arith }
+goes-none e = record { gained = []; told = sym (append-nil e.table.told); gone = refl; sources = refl; stands = refl; config = refl; next = omega arith }
 
 goes-same : (old new : EntityState) → new ≡ old → GoesOn old new
 goes-same old new e = subst (λ (x : EntityState). GoesOn old x) (sym e) (goes-none old)
@@ -87,6 +87,7 @@ goes-both first second third g h = record {
   told = h.told ∙ ap (λ l. l ++ h.gained) g.told ∙ append_assoc first.table.told g.gained h.gained;
   gone = h.gone ∙ g.gone;
   sources = h.sources ∙ g.sources;
+  stands = h.stands ∙ g.stands;
   config = h.config ∙ g.config;
   next = omega (arith, g.next, h.next);
 }

@@ -1,11 +1,11 @@
 -- Two stations and the frames between them: what is seen of them.
-use Rattle.std.specs.Prelude.{◌≡◌, ℕ, Bool, List, [], ◌++◌}
+use Rattle.std.specs.Prelude.{◌≡◌, ℕ, Bool, true, List, [], ◌++◌}
 use Rattle.aos_frame.specs.declared.config.Lane.{Lane}
 use Rattle.aos_frame.specs.declared.config.Lane.TheVariants.{Directives, Data}
 use Rattle.cfdp_header.specs.Files.{FileMap}
 use Rattle.link_stack.specs.Downward.{LinkSenderState, first_down, lane_down}
 use Rattle.link_stack.specs.Upward.{LinkReceiverState, first_up, lane_up}
-use Rattle.cfdp_entity.specs.Entity.{EntityState, first_entity}
+use Rattle.cfdp_entity.specs.Entity.{EntityState, entity_standing, first_entity}
 use Rattle.cfdp_station.specs.Station.{StationState}
 use Rattle.cfdp_station.specs.declared.config.StationConfig.{StationConfig}
 use Rattle.link_sim.specs.declared.side.Side.{Side}
@@ -107,11 +107,17 @@ no_frames = record { frames = []; marks = []; run = 0 }
 abbrev pub no_lanes : LanesState
 no_lanes = record { directives = no_frames; file_data = no_frames }
 
--- A station that did nothing yet, with these files to send and these that were published before.
-pub record IsFirstAt (c : StationConfig) (sources files : FileMap) (s : StationState) : Type 0 where
-  pub entity : s.entity.state ≡ first_entity sources files c.entity
+-- A station that did nothing yet, with these files to send, which stand or don't, and these that
+-- were published before.
+pub record IsNewAt (c : StationConfig) (stands : Bool) (sources files : FileMap) (s : StationState)
+    : Type 0 where
+  pub entity : s.entity.state ≡ entity_standing stands (first_entity sources files c.entity)
   pub down : s.down ≡ first_down c.down c.capacity
   pub up : s.up ≡ first_up c.up
+
+-- One whose files stand.
+abbrev pub IsFirstAt : StationConfig → (sources files : FileMap) → StationState → Type 0
+IsFirstAt c sources files s = IsNewAt c true sources files s
 
 -- Nothing happened yet.
 pub record IsFirst (c : WorldConfig) (outboxes inboxes : FileMap × FileMap) (w : WorldState)

@@ -15,7 +15,7 @@ pub returns-clause-removed : goal.returns-clause-removed
 returns-clause-removed c = sound-without
 
 pub returns-clause-goes_on : goal.returns-clause-goes_on
-returns-clause-goes_on c name e = record { gained = []; told = sym (append-nil e.table.told); gone = refl; sources = refl; config = refl; next = omega arith }
+returns-clause-goes_on c name e = record { gained = []; told = sym (append-nil e.table.told); gone = refl; sources = refl; stands = refl; config = refl; next = omega arith }
 
 pub returns-clause-sends : goal.returns-clause-sends
 returns-clause-sends c put_of heard first removed e h v k spells says =

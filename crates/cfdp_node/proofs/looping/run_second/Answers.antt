@@ -1,4 +1,4 @@
-use Rattle.std.proofs.Common.{ap, arith, length, refl, sym, ◌+◌, ◌∙◌}
+use Rattle.std.proofs.Common.{ap, arith, length, refl, sym, true, ◌+◌, ◌∙◌}
 use Rattle.std.specs.FinMap.{empty}
 use Rattle.aos_frame.specs.declared.config.Lane.TheVariants.{Directives}
 use Rattle.cfdp_node.proofs.TurnLemmas.{first_fits}
@@ -8,7 +8,7 @@ use Rattle.cfdp_node.proofs.looping.run_second.Goals as goal
 pub returns-in-Ok-new : goal.returns-in-Ok-new
 returns-in-Ok-new g c =
     let published = g.I.Inbox.published c.args.inbox in
-    let first = first_over c.args.config empty c.new-2.result published published c.in-Ok-new.two c.new-2.ensures refl
+    let first = first_over c.args.config true empty c.new-2.result published published c.in-Ok-new.two c.new-2.ensures refl
     c.in-Ok-new.ensures.entity c.in-Ok-new.ensures.down c.in-Ok-new.ensures.up in
     from_both g.W.Wire.steps c.run_both-exit.result c.args.options.now.source.items c.args.options.now.destination.items
     c.args.options.now.drop_every c.args.options.now.turns c.args.wires.0 c.args.wires.1

@@ -19,7 +19,7 @@ use Rattle.link_sim.proofs.two_stations.poll_at.Goals as goal
 pub returns-in-Moved-clause-polls : goal.returns-in-Moved-clause-polls
 returns-in-Moved-clause-polls g c =
     let old : StationState = c.args.station.now in
-    let mid : StationState = c.poll.new.self in
+    let mid : StationState = c.poll.new.station in
     let new : StationState = c.pull_all.new.station in
     let links : FrameLinksState = c.args.links.now in
     let room : FrameLinksState = c.make_room.new.links in
@@ -53,7 +53,7 @@ returns-in-Moved-clause-polls g c =
 pub returns-in-Moved-clause-carried : goal.returns-in-Moved-clause-carried
 returns-in-Moved-clause-carried g c =
     let old : StationState = c.args.station.now in
-    let mid : StationState = c.poll.new.self in
+    let mid : StationState = c.poll.new.station in
     let new : StationState = c.pull_all.new.station in
     let links : FrameLinksState = c.args.links.now in
     let room : FrameLinksState = c.make_room.new.links in

@@ -50,6 +50,7 @@ returns-clause-widens g c = elim c.match-begun.branch [
             (g.I.Inbox.staged c.args.self.now.inbox) (g.I.Inbox.staged c.open.new.inbox) (g.I.Inbox.staged w.receiver_hears.new.inbox) c.in_ok-receiver.ensures.kept.others
             w.receiver_hears.ensures.stays.others;
         sources = refl;
+        stands = refl;
         policy = refl;
         outbox = refl;
       })
@@ -58,6 +59,7 @@ returns-clause-widens g c = elim c.match-begun.branch [
         roomier = roomier-by c.args.self.now.effects.timers c.open.new.effects.timers c.args.addressing.id (ap (λ (t : TimersState). t.roomy) c.in_ok-receiver.ensures.does.timers);
         others = c.in_ok-receiver.ensures.kept.others;
         sources = refl;
+        stands = refl;
         policy = refl;
         outbox = refl;
       })
@@ -71,6 +73,7 @@ returns-in_err-stored-in-Done-clause-widens g c = record {
       (g.I.Inbox.staged c.args.self.now.inbox) (g.I.Inbox.staged c.open.new.inbox) (g.I.Inbox.staged c.receiver_hears.new.inbox) c.in_ok-receiver.ensures.kept.others
       c.receiver_hears.ensures.stays.others;
   sources = refl;
+  stands = refl;
   policy = refl;
   outbox = refl;
 }

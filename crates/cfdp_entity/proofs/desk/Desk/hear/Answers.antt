@@ -14,12 +14,12 @@ receiver_hears-requires g c = record {
 
 pub returns-in-Sends-clause-heard : goal.returns-in-Sends-clause-heard
 returns-in-Sends-clause-heard g c = sender-answered c.args.held.now c.in-Sends.sender c.sender_hears.new.sender c.in-Sends.is _ _
-    (record { files = refl; staged = refl; sources = refl; policy = refl }) c.requires
+    (record { files = refl; staged = refl; sources = refl; stands = refl; policy = refl }) c.requires
     c.sender_hears.result c.args.large (view c.args.pdu.now) c.sender_hears.ensures.does c.sender_hears.ensures.keeps refl refl
 
 pub returns-in-Sends-clause-stays : goal.returns-in-Sends-clause-stays
 returns-in-Sends-clause-stays g c = sender-stays c.args.held.now c.in-Sends.sender c.sender_hears.new.sender c.in-Sends.is _ _
-    (record { files = refl; staged = refl; sources = refl; policy = refl }) c.requires
+    (record { files = refl; staged = refl; sources = refl; stands = refl; policy = refl }) c.requires
     c.sender_hears.result c.args.large (view c.args.pdu.now) c.sender_hears.ensures.does c.sender_hears.ensures.keeps refl refl
 
 pub returns-in-Receives-clause-asks : goal.returns-in-Receives-clause-asks
@@ -35,4 +35,4 @@ returns-in-Receives-clause-err g c = heard-failed c.args.held.now c.in-Receives.
 
 pub returns-in-Receives-clause-stays : goal.returns-in-Receives-clause-stays
 returns-in-Receives-clause-stays g c = receiver-stays c.args.held.now c.in-Receives.receiver c.in-Receives.is _ c.receiver_hears.new.receiver _ c.receiver_hears.ensures.stays.addressing
-    c.receiver_hears.ensures.stays.ready c.receiver_hears.ensures.stays.others refl refl
+    c.receiver_hears.ensures.stays.ready c.receiver_hears.ensures.stays.others refl refl refl

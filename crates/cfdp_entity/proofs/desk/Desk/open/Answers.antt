@@ -19,6 +19,7 @@ returns-in_ok-receiver-in-Some-clause-widens g c = record {
   roomier = roomier-by c.args.self.now.effects.timers c.open_closed.new.effects.timers c.args.addressing.id (ap (λ (e : Effects). e.timers.roomy) c.in_ok-receiver-in-Some.ensures.effects);
   others = λ other apart. refl;
   sources = refl;
+  stands = refl;
   policy = refl;
   outbox = refl;
 }

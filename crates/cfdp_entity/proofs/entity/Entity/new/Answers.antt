@@ -9,6 +9,6 @@ pub invariant_of-result : goal.invariant_of-result
 invariant_of-result g c = (
   c.requires,
   ap (λ (b : Buffer StrayAck). b.capacity) c.in_ok-strays.ensures,
-  free-first c.args.config.entity c.args.config.first_number c.in_ok-table.table.state _ _ _ (ap (λ (v : Roomy). v.state) c.in_ok-table.ensures),
+  free-first c.args.config.entity c.args.config.first_number c.in_ok-table.table.state _ _ _ _ (ap (λ (v : Roomy). v.state) c.in_ok-table.ensures),
   unforgotten-first c.args.config.entity c.args.config.first_number _ c.new-2.ensures,
 )

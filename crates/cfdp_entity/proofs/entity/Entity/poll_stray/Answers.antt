@@ -15,8 +15,12 @@ returns g c = elim c.match-pop_front.branch [
       let len = c.stray_len-len.ensures.len in
       let room = c.if-len-room.false in
       let fits : first_stray_len old.state.strays ≤ c.args.room = omega (arith, len, room) in
-      rw (w.result-is, w.out-is) (stray-moved c.args.room old _ w.in-Some.stray w.write.result c.args.out.now w.write.new.out first fits c.stray_len-len.ensures.spelled w.write.ensures.len w.write.ensures.writes
-      (ap (λ (b : Buffer StrayAck). record mid { state = record mid.state { strays = b.items } }) c.pop_front.ensures.items
-      ∙ ap (λ (v : Counted). record v { state = record v.state { strays = drop 1 v.state.strays } }) c.self.view_is)))
+      let is = ap (λ (b : Buffer StrayAck). record mid { state = record mid.state { strays = b.items } }) c.pop_front.ensures.items
+      ∙ ap (λ (v : Counted). record v { state = record v.state { strays = drop 1 v.state.strays } }) c.self.view_is in
+      rw (w.result-is, w.out-is) (record {
+        answers = stray-moved c.args.room old _ w.in-Some.stray w.write.result c.args.out.now w.write.new.out first fits c.stray_len-len.ensures.spelled w.write.ensures.len w.write.ensures.writes is;
+        shows = (ap (λ (v : Counted). v.state.table.stands) is, ap (λ (v : Counted). v.state.table.sources) is);
+        table = ap (λ (v : Counted). v.state.table) is;
+      }))
   | in-None w ↦ search rules
 ]

@@ -16,13 +16,13 @@ returns-in-Some-clause-len g c =
     ∙ ap (λ (v : Roomy). len_at c.args.place v.state) c.self.view_is
 
 pub returns-in-Some-clause-spelled : goal.returns-in-Some-clause-spelled
-returns-in-Some-clause-spelled g c = subst (λ (v : Roomy). EntryIsSpelled v.state.sources (slice_get v.state.records c.args.place)) c.self.view_is
-    (entry-spelled (g.I.Inbox.staged c.self.inside.desk.inbox) (g.O.Outbox.files c.self.inside.desk.outbox) c.self.inside.records.entries c.args.place _ c.in-Some.held.now c.in-Some.ensures.entry
+returns-in-Some-clause-spelled g c = λ sources. subst (λ (v : Roomy). EntryIsSpelled sources (slice_get v.state.records c.args.place)) c.self.view_is
+    (entry-spelled (g.I.Inbox.staged c.self.inside.desk.inbox) sources c.self.inside.records.entries c.args.place _ c.in-Some.held.now c.in-Some.ensures.entry
     c.due_len.ensures.spelled)
 
 pub returns-in-None-clause-spelled : goal.returns-in-None-clause-spelled
-returns-in-None-clause-spelled g c = subst (λ (v : Roomy). EntryIsSpelled v.state.sources (slice_get v.state.records c.args.place)) c.self.view_is
-    (subst (EntryIsSpelled (g.O.Outbox.files c.self.inside.desk.outbox)) (sym (seen_nowhere (g.I.Inbox.staged c.self.inside.desk.inbox) c.self.inside.records.entries c.args.place
+returns-in-None-clause-spelled g c = λ sources. subst (λ (v : Roomy). EntryIsSpelled sources (slice_get v.state.records c.args.place)) c.self.view_is
+    (subst (EntryIsSpelled sources) (sym (seen_nowhere (g.I.Inbox.staged c.self.inside.desk.inbox) c.self.inside.records.entries c.args.place
     c.in-None.ensures.entry)) tt)
 
 pub returns-in-None-clause-len : goal.returns-in-None-clause-len

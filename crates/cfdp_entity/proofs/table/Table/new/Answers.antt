@@ -21,6 +21,7 @@ returns g c =
         gone = length (c.new-4.ensures i);
         files = g.I.Inbox.published c.args.inbox;
         sources = g.O.Outbox.files c.args.outbox;
+        stands = g.O.Outbox.stands c.args.outbox;
         policy = c.args.policy;
       };
     }

@@ -11,7 +11,7 @@ returns-in-Ok g c =
     let sources = g.O.Outbox.files c.args.outbox in
     let files = g.I.Inbox.published c.args.inbox in
     let options = c.args.options.now in
-    let first = first_over options.config sources sources files files c.in-Ok.station refl refl
+    let first = first_over options.config (g.O.Outbox.stands c.args.outbox) sources sources files files c.in-Ok.station refl refl
     c.in-Ok.ensures.entity c.in-Ok.ensures.down c.in-Ok.ensures.up in
     let counted : c.count_frames_from.new.self ≡ record c.in-Ok.station { down = both_counted_from options.frame_count c.in-Ok.station.down } =
     counted-is options.frame_count c.in-Ok.station c.count_frames_from.new.self c.count_frames_from.ensures.from c.count_frames_from.ensures.rest in

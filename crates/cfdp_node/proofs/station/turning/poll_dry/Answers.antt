@@ -17,6 +17,7 @@ pub returns-then-not-is_more-clause-ok : goal.returns-then-not-is_more-clause-ok
 returns-then-not-is_more-clause-ok g c =
     let once : PollsOnce c.in_ok-answer.answer c.loop-poll.station c.poll.new.self = record {
       polls = c.in_ok-answer.ensures.polled;
+      shows = c.in_ok-answer.ensures.shows;
       spells = c.in_ok-answer.ensures.spells;
       outbox = c.in_ok-answer.ensures.counts;
       inbox = c.in_ok-answer.ensures.inbox;
@@ -34,6 +35,7 @@ pub loop-poll-preserved : goal.loop-poll-preserved
 loop-poll-preserved g c =
     let once : PollsOnce c.in_ok-answer.answer c.loop-poll.station c.poll.new.self = record {
       polls = c.in_ok-answer.ensures.polled;
+      shows = c.in_ok-answer.ensures.shows;
       spells = c.in_ok-answer.ensures.spells;
       outbox = c.in_ok-answer.ensures.counts;
       inbox = c.in_ok-answer.ensures.inbox;

@@ -7,22 +7,23 @@ use Rattle.cfdp_sender.specs.Inside.{KeepsNames}
 use Rattle.cfdp_sender.specs.Does.{Writes}
 use Rattle.cfdp_sender.proofs.Writing.{data-writes}
 use Rattle.cfdp_sender.proofs.Dues.{below-fits}
+use Rattle.cfdp_sender.proofs.OwnFile.{has-reread}
 use Rattle.cfdp_sender.proofs.sender.Sender.write_data.Goals as goal
 
 pub returns-clause-written : goal.returns-clause-written
 returns-clause-written g c =
-    let file = octets_in (g.O.Outbox.files c.args.outbox.now) c.args.self.now.source in
+    let file = octets_in (g.O.Outbox.files c.read_to.new.outbox) c.args.self.now.source in
     let sending : c.self.inside.phase ≡ Sending = ap (λ (x : SenderState). x.phase) c.self.view_is ∙ c.requires.sending in
     let kept : c.self.inside.names.kept ≡ true = subst (λ p. KeepsNames p c.self.inside.names.kept) sending c.self.invariant.names in
     let name : c.source.result.now ≡ c.args.self.now.source = c.source.ensures kept ∙ ap (λ (x : SenderState). x.source) c.self.view_is in
     let put = subst (λ (n : List ℕ). take (c.write_data_front-at.result + c.args.count) c.read_to.new.out ≡ take c.write_data_front-at.result c.write_data_front-at.new.out
-    ++ take c.args.count (drop c.args.start (octets_in (g.O.Outbox.files c.args.outbox.now) n))) name c.in_ok-read_to.ensures.front in
+    ++ take c.args.count (drop c.args.start (octets_in (g.O.Outbox.files c.read_to.new.outbox) n))) name c.in_ok-read_to.ensures.front in
     let bytes = take c.args.count (drop c.args.start file) in
     let end = c.write_data_front-at.result + c.args.count in
     subst (λ b. Writes b c.args.self.now.addressing (FileData c.args.start bytes) end c.args.out.now c.read_to.new.out) c.is_large-large.ensures
     (subst (λ (x : SenderState). Writes c.is_large-large.result x.addressing (FileData c.args.start bytes) end c.args.out.now c.read_to.new.out) c.self.view_is
     (data-writes c.is_large-large.result c.self.inside.addressing c.args.start c.args.count c.write_data_front-at.result file c.args.out.now c.write_data_front-at.new.out c.read_to.new.out
-    (omega (arith, c.requires.within, c.requires.file.whole)) c.write_data_front-at.ensures.end c.write_data_front-at.ensures.front c.write_data_front-at.ensures.behind put
+    (omega (arith, c.requires.within, (has-reread c.args.self.now.source c.args.self.now.size c.in_ok-read_to.ensures.rereads c.requires.file).whole)) c.write_data_front-at.ensures.end c.write_data_front-at.ensures.front c.write_data_front-at.ensures.behind put
     c.in_ok-read_to.ensures.behind))
 
 pub write_data_front-at-requires-clause-offset : goal.write_data_front-at-requires-clause-offset

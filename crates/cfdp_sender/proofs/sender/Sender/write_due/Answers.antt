@@ -15,7 +15,7 @@ write_pdu-requires-clause-short g c =
 
 pub returns-in-AskedData-clause-written : goal.returns-in-AskedData-clause-written
 returns-in-AskedData-clause-written g c =
-    let file = octets_in (g.O.Outbox.files c.args.outbox.now) c.args.self.now.source in
+    let file = octets_in (g.O.Outbox.files c.write_data.new.outbox) c.args.self.now.source in
     let says : sender_says file c.args.self.now c.args.due.now ≡ FileData c.extent-start.result.0 (carried file c.args.due.now) =
     c.extent-start.ensures.says (carried file c.args.due.now) (carries-data c.args.due.now c.in-AskedData.is) in
     let same = ap (FileData c.extent-start.result.0) (sym (c.extent-start.ensures.part file)) ∙ sym says in

@@ -3,6 +3,7 @@ use Rattle.aos_frame.specs.declared.config.LinkConfig.{LinkConfig}
 use Rattle.aos_frame.specs.declared.config.Lane.{Lane}
 use Rattle.link_stack.specs.Downward.{DownState, first_down, lane_down}
 use Rattle.link_stack.specs.Upward.{first_up}
+use Rattle.cfdp_entity.specs.Entity.{entity_standing, first_entity}
 use Rattle.link_sim.specs.AtStation.{AreCarried}
 use Rattle.link_sim.proofs.Events.AtStations.{first-lanes}
 use Rattle.link_sim.proofs.Events.InWorlds.{none-seen, ways-of}
@@ -37,8 +38,18 @@ returns-in-Ok-clause-first g c =
     let e = c.in_ok-one.ensures in
     let f = c.in-Ok.ensures in
     record {
-      one = record { entity = e.entity; down = e.down; up = e.up };
-      two = record { entity = f.entity; down = f.down; up = f.up };
+      one = record {
+        entity = e.entity ∙ ap (λ b. entity_standing b (first_entity (g.O.Outbox.files c.args.outboxes.0) (g.I.Inbox.published c.args.inboxes.0) c.args.config.one.entity))
+            (g.met.O.SteadyOutbox.steady c.args.outboxes.0);
+        down = e.down;
+        up = e.up;
+      };
+      two = record {
+        entity = f.entity ∙ ap (λ b. entity_standing b (first_entity (g.O.Outbox.files c.args.outboxes.1) (g.I.Inbox.published c.args.inboxes.1) c.args.config.two.entity))
+            (g.met.O.SteadyOutbox.steady c.args.outboxes.1);
+        down = f.down;
+        up = f.up;
+      };
       from_one = none-seen c.new-from_one.result c.frame_len.result c.new-from_one.ensures;
       from_two = none-seen c.new-from_two.result c.frame_len-in-Ok.result c.new-from_two.ensures;
       puts = c.new-in-Ok.ensures.items;
