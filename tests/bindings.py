@@ -48,6 +48,9 @@ STRUCTS = {"cfdp_link": ("CfdpLink", "Link"), "cfdp_config": ("CfdpConfig", "Con
 STRUCTS |= {"cfdp_station": ("CfdpStation", "Handle"), "cfdp_id": ("CfdpId", "Id")}
 STRUCTS |= {"cfdp_indication": ("CfdpIndication", "Told"), "cfdp_pdu": ("CfdpPdu", "Pdu")}
 STRUCTS |= {"cfdp_file_info": ("CfdpFile", "FileInfo")}
+STRUCTS |= {"cfdp_frame_drops": ("CfdpFrameDrops", "FrameDrops")}
+STRUCTS |= {"cfdp_pdu_drops": ("CfdpPduDrops", "PduDrops")}
+STRUCTS |= {"cfdp_counts": ("CfdpCounters", "Counters")}
 
 
 def plain(text):
@@ -73,7 +76,8 @@ def in_header(place):
     text = plain(text_of(f"{C}/cfdp.h"))
     functions = {}
     for result, name, words in re.findall(r"(\w+) (cfdp_\w+)\(([^)]*)\);", text):
-        functions[name] = ([c_type(it, place) for it in words.split(",")], TYPES[result])
+        words = [] if words == "void" else words.split(",")
+        functions[name] = ([c_type(it, place) for it in words], TYPES[result])
     structs = {}
     for name, body in re.findall(r"typedef struct (\w+) \{([^}]*)\}", text):
         fields = []

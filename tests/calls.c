@@ -126,6 +126,7 @@ static void on_a_closed_handle(void)
     cfdp_id id = {7, 8};
     cfdp_indication told;
     cfdp_file_info info = {7, 8};
+    cfdp_counts counts;
     uint64_t deadline = 9;
     uint8_t room[16] = {1};
 
@@ -136,16 +137,18 @@ static void on_a_closed_handle(void)
     IS(cfdp_suspend(&s, &id), CFDP_CLOSED);
     IS(cfdp_resume(&s, &id), CFDP_CLOSED);
     IS(cfdp_prompt(&s, &id, true), CFDP_CLOSED);
+    IS(cfdp_transmit(&s, room, sizeof room), CFDP_CLOSED);
     IS(cfdp_poll(&s), CFDP_CLOSED);
     IS(cfdp_flush(&s), CFDP_CLOSED);
     IS(cfdp_frame_len(&s), 0);
     IS(cfdp_frames_ahead(&s), 0);
     IS(cfdp_next_frame(&s, room, sizeof room), CFDP_CLOSED);
-    IS(cfdp_take(&s, room, sizeof room), CFDP_CLOSED);
-    IS(cfdp_drops(&s, 1), 0);
-    IS(cfdp_link_drops(&s, 1), 0);
+    IS(cfdp_receive(&s, room, sizeof room), CFDP_CLOSED);
+    counts.pdus.unknown = 4;
+    IS(cfdp_counters(&s, &counts), CFDP_CLOSED);
+    IS(counts.pdus.unknown, 4);
     IS(cfdp_tick(&s, 1), CFDP_CLOSED);
-    IS(cfdp_next_deadline(&s, &deadline), CFDP_CLOSED);
+    IS(cfdp_next_timeout(&s, &deadline), CFDP_CLOSED);
     IS(cfdp_next_indication(&s, &told, room, sizeof room), CFDP_CLOSED);
     IS(cfdp_file_count(&s), 0);
     IS(cfdp_file(&s, 0, &info, room, sizeof room), CFDP_CLOSED);
@@ -161,11 +164,11 @@ static void on_a_closed_handle(void)
     IS(live, 0);
 }
 
-#define REFUSES(change)                          \
+#define REFUSES(change, field)                   \
     do {                                         \
         cfdp_config c = config_of(1);            \
         change;                                  \
-        IS(cfdp_open(&s, &c), CFDP_BAD_ARGUMENT); \
+        IS(cfdp_open(&s, &c), CFDP_BAD_##field); \
     } while (0)
 
 static void opened_so(void)
@@ -173,37 +176,37 @@ static void opened_so(void)
     cfdp_station s = CFDP_STATION_INIT;
     cfdp_config c = config_of(1);
 
-    REFUSES(c.peer = 1);
-    REFUSES(c.entity = 65536);
-    REFUSES(c.peer = 65536);
-    REFUSES(c.id_width = 0);
-    REFUSES(c.id_width = 9);
-    REFUSES(c.number_width = 0);
-    REFUSES(c.number_width = 9);
-    REFUSES(c.segment = 0);
-    REFUSES(c.segment = 4097);
-    REFUSES(c.checksum = 1);
-    REFUSES(c.checksum = 16);
-    REFUSES(c.checksum = 255);
-    REFUSES(c.capacity = 8191);
-    REFUSES(c.capacity = 65537);
-    REFUSES(c.eof_time = 0);
-    REFUSES(c.nak_time = 0);
-    REFUSES(c.finished_time = 0);
-    REFUSES(c.inactivity_time = 0);
-    REFUSES(c.on_ack_limit = 4);
-    REFUSES(c.on_nak_limit = 255);
-    REFUSES(c.on_inactivity = 4);
-    REFUSES(c.down.zone = 15);
-    REFUSES(c.down.apid = 2047);
-    REFUSES(c.down.channel = 63);
-    REFUSES(c.down.data_channel = 63);
-    REFUSES(c.down.data_channel = c.down.channel);
-    REFUSES(c.up.zone = 2041);
-    REFUSES(c.up.apid = 65535);
-    REFUSES(c.up.channel = 255);
-    REFUSES(c.up.data_channel = 255);
-    REFUSES(c.up.channel = c.up.data_channel);
+    REFUSES(c.peer = 1, PEER);
+    REFUSES(c.entity = 65536, ENTITY);
+    REFUSES(c.peer = 65536, PEER);
+    REFUSES(c.id_width = 0, ID_WIDTH);
+    REFUSES(c.id_width = 9, ID_WIDTH);
+    REFUSES(c.number_width = 0, NUMBER_WIDTH);
+    REFUSES(c.number_width = 9, NUMBER_WIDTH);
+    REFUSES(c.segment = 0, SEGMENT);
+    REFUSES(c.segment = 4097, SEGMENT);
+    REFUSES(c.checksum = 1, CHECKSUM);
+    REFUSES(c.checksum = 16, CHECKSUM);
+    REFUSES(c.checksum = 255, CHECKSUM);
+    REFUSES(c.capacity = 8191, CAPACITY);
+    REFUSES(c.capacity = 65537, CAPACITY);
+    REFUSES(c.eof_time = 0, EOF_TIME);
+    REFUSES(c.nak_time = 0, NAK_TIME);
+    REFUSES(c.finished_time = 0, FINISHED_TIME);
+    REFUSES(c.inactivity_time = 0, INACTIVITY_TIME);
+    REFUSES(c.on_ack_limit = 4, ON_ACK_LIMIT);
+    REFUSES(c.on_nak_limit = 255, ON_NAK_LIMIT);
+    REFUSES(c.on_inactivity = 4, ON_INACTIVITY);
+    REFUSES(c.down.zone = 15, DOWN_ZONE);
+    REFUSES(c.down.apid = 2047, DOWN_APID);
+    REFUSES(c.down.channel = 63, DOWN_CHANNEL);
+    REFUSES(c.down.data_channel = 63, DOWN_DATA_CHANNEL);
+    REFUSES(c.down.data_channel = c.down.channel, DOWN_DATA_CHANNEL);
+    REFUSES(c.up.zone = 2041, UP_ZONE);
+    REFUSES(c.up.apid = 65535, UP_APID);
+    REFUSES(c.up.channel = 255, UP_CHANNEL);
+    REFUSES(c.up.data_channel = 255, UP_DATA_CHANNEL);
+    REFUSES(c.up.channel = c.up.data_channel, UP_DATA_CHANNEL);
     IS(cfdp_open(&s, &c), CFDP_OK);
     IS(cfdp_open(&s, &c), CFDP_ALREADY_OPEN);
     IS(cfdp_frame_len(&s), 264);
@@ -257,7 +260,7 @@ static unsigned passed(cfdp_station *from, cfdp_station *to)
     IS(cfdp_next_frame(from, frame, 263), CFDP_NO_ROOM);
     IS(cfdp_flush(from), CFDP_OK);
     while (cfdp_next_frame(from, frame, sizeof frame) == CFDP_OK) {
-        IS(cfdp_take(to, frame, sizeof frame), CFDP_OK);
+        IS(cfdp_receive(to, frame, sizeof frame), CFDP_OK);
         count++;
     }
     IS(cfdp_next_frame(from, frame, sizeof frame), CFDP_NOTHING);
@@ -349,6 +352,14 @@ static void removed_from(cfdp_station *s)
     IS(asked, asked_before);
 }
 
+static cfdp_counts counted(cfdp_station *station)
+{
+    cfdp_counts counts;
+
+    IS(cfdp_counters(station, &counts), CFDP_OK);
+    return counts;
+}
+
 static void transferred(void)
 {
     cfdp_station one = CFDP_STATION_INIT, two = CFDP_STATION_INIT;
@@ -362,10 +373,10 @@ static void transferred(void)
     IS(cfdp_open(&one, &first), CFDP_OK);
     IS(cfdp_open(&two, &second), CFDP_OK);
     IS(cfdp_tick(&one, 5), CFDP_OK);
-    IS(cfdp_next_deadline(&one, &deadline), CFDP_NOTHING);
+    IS(cfdp_next_timeout(&one, &deadline), CFDP_NOTHING);
     asked_of(&one);
     IS(passed(&one, &two) != 0, 1);
-    IS(cfdp_next_deadline(&one, &deadline), CFDP_OK);
+    IS(cfdp_next_timeout(&one, &deadline), CFDP_OK);
     IS(deadline, 15);
     IS(cfdp_prompt(&two, &id, true), CFDP_WRONG_SIDE);
     for (round = 0; round < 3; round++) {
@@ -378,15 +389,61 @@ static void transferred(void)
     told_by_receiver(&two);
     published_by(&two);
     removed_from(&two);
-    IS(cfdp_link_drops(&two, 1), 0);
-    IS(cfdp_take(&two, junk, 0), CFDP_OK);
-    IS(cfdp_link_drops(&two, 1), 1);
-    IS(cfdp_take(&two, junk, sizeof junk), CFDP_OK);
-    IS(cfdp_link_drops(&two, 0) + cfdp_link_drops(&two, 12) + cfdp_link_drops(&two, 255), 0);
-    IS(cfdp_drops(&two, 0) + cfdp_drops(&two, 1) + cfdp_drops(&two, 255), 0);
+    IS(counted(&two).frames.bad_length, 0);
+    IS(cfdp_receive(&two, junk, 0), CFDP_OK);
+    IS(counted(&two).frames.bad_length, 1);
+    IS(cfdp_receive(&two, junk, sizeof junk), CFDP_OK);
+    IS(counted(&two).frames.bad_version, 1);
+    IS(counted(&two).frames.no_memory, 0);
+    IS(counted(&two).pdus.too_short, 0);
+    IS(counted(&two).pdus.no_file, 0);
     cfdp_close(&one);
     cfdp_close(&two);
     IS(live, 0);
+}
+
+/* One call polls, fills up and gives frames, directives first, until nothing is due. */
+static void transmitted(void)
+{
+    static const uint8_t channels[] = {5, 7};
+    cfdp_station one = CFDP_STATION_INIT, two = CFDP_STATION_INIT;
+    const cfdp_config first = config_of(1), second = config_of(2);
+    uint8_t frame[264];
+    cfdp_id id;
+    size_t at;
+
+    IS(cfdp_open(&one, &first), CFDP_OK);
+    IS(cfdp_open(&two, &second), CFDP_OK);
+    IS(cfdp_transmit(&one, frame, sizeof frame), CFDP_NOTHING);
+    IS(cfdp_add(&one, NAME_A, 1, OCTETS, sizeof OCTETS), CFDP_OK);
+    IS(cfdp_put(&one, NAME_A, 1, NAME_B, 1, &id), CFDP_OK);
+    IS(cfdp_transmit(&one, frame, sizeof frame - 1), CFDP_NO_ROOM);
+    for (at = 0; at < 2; at++) {
+        IS(cfdp_transmit(&one, frame, sizeof frame), CFDP_OK);
+        IS(frame[1] & 63, channels[at]);
+        IS(cfdp_receive(&two, frame, sizeof frame), CFDP_OK);
+    }
+    IS(cfdp_transmit(&one, frame, sizeof frame), CFDP_NOTHING);
+    IS(cfdp_file_count(&two), 1);
+    cfdp_close(&one);
+    cfdp_close(&two);
+    IS(live, 0);
+}
+
+/* Each answer has words of its own, and another number has none. */
+static void put_into_words(void)
+{
+    cfdp_answer one, two;
+
+    IS(cfdp_version(), CFDP_VERSION);
+    for (one = 0; one <= CFDP_FULL; one++)
+        for (two = 0; two < one; two++)
+            IS(strcmp(cfdp_answer_text(one), cfdp_answer_text(two)) == 0,
+               strcmp(cfdp_answer_text(one), cfdp_answer_text(255)) == 0
+                   && strcmp(cfdp_answer_text(two), cfdp_answer_text(255)) == 0);
+    for (one = CFDP_BAD_ID_WIDTH; one <= CFDP_BAD_ON_INACTIVITY; one++)
+        IS(strcmp(cfdp_answer_text(one), cfdp_answer_text(255)) != 0, 1);
+    IS(strcmp(cfdp_answer_text(CFDP_BAD_PDU + 1), cfdp_answer_text(255)) != 0, 1);
 }
 
 /* Directives leave before file data, each in frames of their own channel. */
@@ -413,14 +470,14 @@ static void overtaken(void)
         IS(frames[at][1] & 63, channels[at]);
     }
     IS(cfdp_next_frame(&one, frames[0], sizeof frames[0]), CFDP_NOTHING);
-    IS(cfdp_take(&two, frames[0], sizeof frames[0]), CFDP_OK);
+    IS(cfdp_receive(&two, frames[0], sizeof frames[0]), CFDP_OK);
     IS(cfdp_file_count(&two), 0);
-    IS(cfdp_take(&two, frames[1], sizeof frames[1]), CFDP_OK);
+    IS(cfdp_receive(&two, frames[1], sizeof frames[1]), CFDP_OK);
     IS(cfdp_file_count(&two), 1);
     /* of a third channel */
     frames[1][1] = (uint8_t)((frames[1][1] & 0xC0) | 9);
-    IS(cfdp_take(&two, frames[1], sizeof frames[1]), CFDP_OK);
-    IS(cfdp_link_drops(&two, 5), 1);
+    IS(cfdp_receive(&two, frames[1], sizeof frames[1]), CFDP_OK);
+    IS(counted(&two).frames.other_channel, 1);
     cfdp_close(&one);
     cfdp_close(&two);
     IS(live, 0);
@@ -540,7 +597,7 @@ static void short_of_memory(void)
         IS(polled == CFDP_NOTHING || polled == CFDP_NO_MEMORY, 1);
         cfdp_flush(from);
         while (cfdp_next_frame(from, frame, sizeof frame) == CFDP_OK)
-            cfdp_take(to, frame, sizeof frame);
+            cfdp_receive(to, frame, sizeof frame);
         while (cfdp_next_indication(&one, &told, names, sizeof names) == CFDP_OK)
             complete += told.kind == CFDP_FINISHED && told.condition == 0;
     }
@@ -562,6 +619,8 @@ int main(void)
     on_a_closed_handle();
     opened_so();
     transferred();
+    transmitted();
+    put_into_words();
     overtaken();
     filled();
     decodes();

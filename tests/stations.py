@@ -415,7 +415,7 @@ def all_mistakes(program):
     yield "a station killed and started anew", restart_mistakes(program)
     yield "datagrams of a stranger", stranger_mistakes(program)
     yield "an address in use", address_mistakes(program)
-    no_inbox = "error: a file came and there is no --inbox, or there is not enough memory\n"
+    no_inbox = "error: a file came, and there is no --inbox\n"
     yield "a file for which there is no folder", refused_mistakes(program, [], "b", no_inbox)
     inbox, no_name = ["--inbox", "to"], "error: to/a/b: a file can't have that name here\n"
     yield "a name that no folder takes", refused_mistakes(program, inbox, "a/b", no_name)

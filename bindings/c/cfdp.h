@@ -29,14 +29,20 @@
 extern "C" {
 #endif
 
-/* What a call answers. */
+/* The number of this interface. It grows by one wherever a call, a struct or a number changes. */
+#define CFDP_VERSION 2
+
+/* That of the library that the program was linked with. */
+uint32_t cfdp_version(void);
+
+/* What a call answers; cfdp_answer_text has it in words. */
 typedef uint32_t cfdp_answer;
 
 enum {
     CFDP_OK = 0,
     CFDP_CLOSED = 1,       /* the handle is closed */
     CFDP_ALREADY_OPEN = 2, /* cfdp_open: the handle is open */
-    CFDP_BAD_ARGUMENT = 3, /* a value is out of its range */
+    CFDP_BAD_ARGUMENT = 3, /* cfdp_read_file: the file ends before */
     CFDP_NO_MEMORY = 4,    /* there is no memory for it */
     CFDP_NO_ROOM = 5,      /* the lent room has too few octets, or the wrong number */
     CFDP_NOTHING = 6,      /* there is nothing of the kind */
@@ -61,6 +67,30 @@ enum {
     CFDP_ANSWER_DUE = 36, /* a poll has yet to send an acknowledgement of it */
 
     CFDP_FULL = 41, /* cfdp_poll: the PDU doesn't fit until frames were taken off */
+
+    /* cfdp_open: the first field of the configuration that isn't in its range */
+    CFDP_BAD_ID_WIDTH = 71,
+    CFDP_BAD_ENTITY = 72, /* it doesn't fit id_width */
+    CFDP_BAD_PEER = 73,   /* nor does it, or it is the entity's own */
+    CFDP_BAD_NUMBER_WIDTH = 74,
+    CFDP_BAD_SEGMENT = 75,
+    CFDP_BAD_CHECKSUM = 76,
+    CFDP_BAD_EOF_TIME = 77,
+    CFDP_BAD_NAK_TIME = 78,
+    CFDP_BAD_FINISHED_TIME = 79,
+    CFDP_BAD_INACTIVITY_TIME = 80,
+    CFDP_BAD_CAPACITY = 81,
+    CFDP_BAD_DOWN_CHANNEL = 82,
+    CFDP_BAD_DOWN_DATA_CHANNEL = 83, /* also where it is that of directives */
+    CFDP_BAD_DOWN_ZONE = 84,
+    CFDP_BAD_DOWN_APID = 85,
+    CFDP_BAD_UP_CHANNEL = 86,
+    CFDP_BAD_UP_DATA_CHANNEL = 87,
+    CFDP_BAD_UP_ZONE = 88,
+    CFDP_BAD_UP_APID = 89,
+    CFDP_BAD_ON_ACK_LIMIT = 90,
+    CFDP_BAD_ON_NAK_LIMIT = 91,
+    CFDP_BAD_ON_INACTIVITY = 92,
 
     /* cfdp_decode: 50 and the number of the refusal (docs/FORMATS.md), 51 to 61 but 56 */
     CFDP_BAD_PDU = 50
@@ -117,8 +147,8 @@ typedef struct cfdp_station {
 #define CFDP_STATION_INIT {NULL, false}
 
 /* Opens a closed handle on a station that has no transactions and no files. CFDP_OK,
- * CFDP_ALREADY_OPEN, CFDP_BAD_ARGUMENT where a value of the configuration is out of its range, or
- * both ids or both channels of a link are the same, or CFDP_NO_MEMORY. */
+ * CFDP_ALREADY_OPEN, CFDP_NO_MEMORY, or 71 to 92: that field of the configuration isn't in its
+ * range. */
 cfdp_answer cfdp_open(cfdp_station *station, const cfdp_config *config);
 
 /* Gives back all memory of the station. The handle is closed then; a closed one stays so. */
@@ -176,6 +206,14 @@ cfdp_answer cfdp_was_forgotten(cfdp_station *station, const cfdp_id *id, uint8_t
 
 /* ---- Down. */
 
+/* Writes the next frame that is to leave: polls until a whole frame waits, or nothing is due, and
+ * fills up what is begun. Frames of directives go first; who wants to know the lane reads the
+ * virtual channel, frame[1] & 63. room is cfdp_frame_len octets, no more and no less, else
+ * CFDP_NO_ROOM. CFDP_OK, CFDP_CLOSED, CFDP_NOTHING where there is nothing to send, or
+ * CFDP_NO_MEMORY: what was polled before waits for the next call. cfdp_poll, cfdp_flush and
+ * cfdp_next_frame do the same step by step. */
+cfdp_answer cfdp_transmit(cfdp_station *station, uint8_t *frame, size_t room);
+
 /* Moves the PDU whose turn it is into the frames of its lane. CFDP_OK where one was moved: poll
  * again; CFDP_NOTHING where none is due: flush; CFDP_FULL, where its lane has no room for it: take
  * frames off first. CFDP_SOURCE_FAULT, CFDP_CLOSED, or CFDP_NO_MEMORY: nothing has changed then. */
@@ -193,21 +231,59 @@ size_t cfdp_frame_len(cfdp_station *station);
 size_t cfdp_frames_ahead(cfdp_station *station);
 
 /* Writes the next whole frame, and takes it off: the oldest one of directives, or where none of
- * them waits that of file data. Who wants to know its lane reads its virtual channel,
- * frame[1] & 63. room is cfdp_frame_len octets, no more and no less, else CFDP_NO_ROOM. CFDP_OK,
- * CFDP_CLOSED, or CFDP_NOTHING where no whole frame waits. */
+ * them waits that of file data. room is as for cfdp_transmit. CFDP_OK, CFDP_CLOSED, CFDP_NO_ROOM,
+ * or CFDP_NOTHING where no whole frame waits. */
 cfdp_answer cfdp_next_frame(cfdp_station *station, uint8_t *frame, size_t room);
 
 /* ---- Up. */
 
 /* Takes a frame of either lane, of any length and with any octets. What can't be used of it is
  * dropped and counted. CFDP_OK or CFDP_CLOSED. */
-cfdp_answer cfdp_take(cfdp_station *station, const uint8_t *frame, size_t len);
+cfdp_answer cfdp_receive(cfdp_station *station, const uint8_t *frame, size_t len);
 
-/* How often a PDU was dropped under a number, 1 to 17, and something of a frame of either lane
- * under a number, 1 to 11 (docs/FORMATS.md); 0 of any other number, and of a closed handle. */
-uint64_t cfdp_drops(cfdp_station *station, uint8_t number);
-uint64_t cfdp_link_drops(cfdp_station *station, uint8_t number);
+/* How often something of a frame of either lane was dropped, by the cause (docs/FORMATS.md). No
+ * count goes beyond the greatest of 64 bits. */
+typedef struct cfdp_frame_drops {
+    uint64_t bad_length;       /* it hasn't the octets of a frame */
+    uint64_t bad_version;      /* its transfer frame version number isn't 01 */
+    uint64_t other_profile;    /* it is replayed, or a reserved bit of its header is set */
+    uint64_t other_spacecraft; /* it is of another spacecraft */
+    uint64_t other_channel;    /* it is of another virtual channel */
+    uint64_t only_idle;        /* it holds only idle data */
+    uint64_t resync;           /* a begun packet was discarded */
+    uint64_t bad_packet;       /* a packet's version number isn't 0 */
+    uint64_t other_apid;       /* a packet is of another application process */
+    uint64_t segmented;        /* a packet is a segment, or has a secondary header */
+    uint64_t no_memory;        /* there was no memory for what the zone holds */
+} cfdp_frame_drops;
+
+/* How often a PDU was dropped, by the cause. */
+typedef struct cfdp_pdu_drops {
+    uint64_t too_short;       /* it is shorter than a header */
+    uint64_t bad_version;     /* the version of its header is another */
+    uint64_t crc_present;     /* it has a CRC */
+    uint64_t bad_length;      /* its length isn't that of its header */
+    uint64_t unacknowledged;  /* it is of class 1 */
+    uint64_t bad_directive;   /* its directive code is none */
+    uint64_t truncated;       /* its data field is too short */
+    uint64_t trailing;        /* its data field is too long */
+    uint64_t bad_tlv;         /* a TLV of it isn't whole */
+    uint64_t bad_condition;   /* its condition code is none */
+    uint64_t wrong_direction; /* its direction bit doesn't fit it */
+    uint64_t not_for_us;      /* it is of other entities */
+    uint64_t unknown;         /* its transaction has no record here */
+    uint64_t table_full;      /* there was no room for one more record */
+    uint64_t no_memory;       /* there was no memory for what it brings */
+    uint64_t no_file;         /* a file name of it is empty */
+} cfdp_pdu_drops;
+
+typedef struct cfdp_counts {
+    cfdp_frame_drops frames;
+    cfdp_pdu_drops pdus;
+} cfdp_counts;
+
+/* What the station counts, from 0 when it is opened. CFDP_OK or CFDP_CLOSED. */
+cfdp_answer cfdp_counters(cfdp_station *station, cfdp_counts *counts);
 
 /* ---- Time, in any unit, from any start. */
 
@@ -215,9 +291,9 @@ uint64_t cfdp_link_drops(cfdp_station *station, uint8_t number);
  * that. CFDP_OK, CFDP_CLOSED, or CFDP_NO_MEMORY: nothing has changed then, the time neither. */
 cfdp_answer cfdp_tick(cfdp_station *station, uint64_t now);
 
-/* The earliest time at which a timer is due, but for inactivity. CFDP_OK, CFDP_CLOSED, or
- * CFDP_NOTHING. */
-cfdp_answer cfdp_next_deadline(cfdp_station *station, uint64_t *deadline);
+/* When cfdp_tick has to be called at the latest: the earliest time at which a timer is due.
+ * CFDP_OK, CFDP_CLOSED, or CFDP_NOTHING where none is armed. */
+cfdp_answer cfdp_next_timeout(cfdp_station *station, uint64_t *deadline);
 
 /* ---- What it tells its user. */
 
@@ -305,6 +381,60 @@ typedef struct cfdp_pdu {
 
 /* Reads a PDU. CFDP_OK, or CFDP_BAD_PDU and the number of the first thing that is wrong. */
 cfdp_answer cfdp_decode(const uint8_t *pdu, size_t len, cfdp_pdu *out);
+
+/* ---- Answers in words. */
+
+/* What an answer says, as a text that stays. */
+static inline const char *cfdp_answer_text(cfdp_answer answer)
+{
+    switch (answer) {
+    case CFDP_OK: return "it is done";
+    case CFDP_CLOSED: return "the handle is closed";
+    case CFDP_ALREADY_OPEN: return "the handle is open already";
+    case CFDP_BAD_ARGUMENT: return "the file ends before";
+    case CFDP_NO_MEMORY: return "there is no memory for it";
+    case CFDP_NO_ROOM: return "the room has too few octets, or the wrong number";
+    case CFDP_NOTHING: return "there is nothing of the kind";
+    case CFDP_NAME_TAKEN: return "there is a file of that name";
+    case CFDP_NO_SUCH_FILE: return "there is no such file";
+    case CFDP_BAD_NAME: return "a name does not have 1 to 255 octets";
+    case CFDP_TOO_LARGE: return "the file is too large";
+    case CFDP_TABLE_FULL: return "the table is full";
+    case CFDP_NUMBERS_SPENT: return "the sequence numbers are used up";
+    case CFDP_SOURCE_FAULT: return "the outbox failed";
+    case CFDP_UNKNOWN: return "the transaction is not known";
+    case CFDP_ALREADY_CLOSED: return "the transaction is over";
+    case CFDP_WRONG_SIDE: return "only the file's sender can prompt";
+    case CFDP_ALREADY_SO: return "it is so already";
+    case CFDP_STILL_OPEN: return "the transaction is not over";
+    case CFDP_ANSWER_DUE: return "an acknowledgement is due";
+    case CFDP_FULL: return "frames have to be taken off first";
+    case CFDP_BAD_ID_WIDTH: return "id_width is not 1 to 8";
+    case CFDP_BAD_ENTITY: return "entity does not fit id_width";
+    case CFDP_BAD_PEER: return "peer does not fit id_width, or is entity";
+    case CFDP_BAD_NUMBER_WIDTH: return "number_width is not 1 to 8";
+    case CFDP_BAD_SEGMENT: return "segment is not 1 to 4096";
+    case CFDP_BAD_CHECKSUM: return "checksum is neither 0 nor 15";
+    case CFDP_BAD_EOF_TIME: return "eof_time is 0";
+    case CFDP_BAD_NAK_TIME: return "nak_time is 0";
+    case CFDP_BAD_FINISHED_TIME: return "finished_time is 0";
+    case CFDP_BAD_INACTIVITY_TIME: return "inactivity_time is 0";
+    case CFDP_BAD_CAPACITY: return "capacity is not 8192 to 65536";
+    case CFDP_BAD_DOWN_CHANNEL: return "down.channel is not 0 to 62";
+    case CFDP_BAD_DOWN_DATA_CHANNEL: return "down.data_channel is not 0 to 62, or is down.channel";
+    case CFDP_BAD_DOWN_ZONE: return "down.zone is not 16 to 2040";
+    case CFDP_BAD_DOWN_APID: return "down.apid is not 0 to 2046";
+    case CFDP_BAD_UP_CHANNEL: return "up.channel is not 0 to 62";
+    case CFDP_BAD_UP_DATA_CHANNEL: return "up.data_channel is not 0 to 62, or is up.channel";
+    case CFDP_BAD_UP_ZONE: return "up.zone is not 16 to 2040";
+    case CFDP_BAD_UP_APID: return "up.apid is not 0 to 2046";
+    case CFDP_BAD_ON_ACK_LIMIT: return "on_ack_limit is not 0 to 3";
+    case CFDP_BAD_ON_NAK_LIMIT: return "on_nak_limit is not 0 to 3";
+    case CFDP_BAD_ON_INACTIVITY: return "on_inactivity is not 0 to 3";
+    default: break;
+    }
+    return answer > CFDP_BAD_PDU && answer < 70 ? "the octets are no PDU" : "no answer";
+}
 
 #ifdef __cplusplus
 }

@@ -36,7 +36,7 @@ struct end {
 
 static int refused(const char *call, cfdp_answer answer)
 {
-    fprintf(stderr, "%s: answer %u\n", call, (unsigned)answer);
+    fprintf(stderr, "%s: %s\n", call, cfdp_answer_text(answer));
     return 1;
 }
 
@@ -117,14 +117,6 @@ static void read_indications(struct end *end, int number)
     }
 }
 
-/* Moves all that is due into frames. */
-static void fill_frames(struct end *end)
-{
-    while (cfdp_poll(&end->station) == CFDP_OK) {
-    }
-    cfdp_flush(&end->station);
-}
-
 /* ---- Two stations in one process. */
 
 struct link {
@@ -136,12 +128,11 @@ static void pass_frames(struct link *link, struct end *from, struct end *to)
 {
     uint8_t frame[MOST_FRAME];
 
-    fill_frames(from);
-    while (cfdp_next_frame(&from->station, frame, from->frame_len) == CFDP_OK) {
+    while (cfdp_transmit(&from->station, frame, from->frame_len) == CFDP_OK) {
         if (++link->frames % LOST == 0)
             link->lost++;
         else
-            cfdp_take(&to->station, frame, from->frame_len);
+            cfdp_receive(&to->station, frame, from->frame_len);
     }
 }
 
@@ -228,13 +219,12 @@ static void take_turn(struct end *end, int wire, const struct sockaddr_in *peer)
     ssize_t len;
 
     cfdp_tick(&end->station, milliseconds());
-    fill_frames(end);
-    while (cfdp_next_frame(&end->station, frame, end->frame_len) == CFDP_OK)
+    while (cfdp_transmit(&end->station, frame, end->frame_len) == CFDP_OK)
         sendto(wire, frame, end->frame_len, 0, (const struct sockaddr *)peer, sizeof *peer);
     ready.fd = wire;
     ready.events = POLLIN;
     while (poll(&ready, 1, 1) == 1 && (len = recv(wire, frame, sizeof frame, 0)) >= 0)
-        cfdp_take(&end->station, frame, (size_t)len);
+        cfdp_receive(&end->station, frame, (size_t)len);
 }
 
 static int run_over_udp(struct end *end, int wire, const struct sockaddr_in *peer,

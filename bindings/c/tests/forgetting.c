@@ -191,7 +191,7 @@ static unsigned hand_over(cfdp_station *from, cfdp_station *to)
 
     for (; cfdp_next_frame(from, frame, sizeof frame) == CFDP_OK; frames++)
         if (to != NULL)
-            cfdp_take(to, frame, sizeof frame);
+            cfdp_receive(to, frame, sizeof frame);
     return frames;
 }
 
@@ -394,7 +394,7 @@ static size_t closed_sender(size_t name_len)
     IS(cfdp_put(&one, name, name_len, name, name_len, &id), CFDP_OK);
     /* Nobody hears that it is cancelled, so it is abandoned in the end. */
     IS(cfdp_cancel(&one, &id), CFDP_OK);
-    for (pass(&one, NULL); cfdp_next_deadline(&one, &deadline) == CFDP_OK; pass(&one, NULL))
+    for (pass(&one, NULL); cfdp_next_timeout(&one, &deadline) == CFDP_OK; pass(&one, NULL))
         IS(cfdp_tick(&one, deadline), CFDP_OK);
     ended_well(&one);
     taken = live - before;
@@ -460,11 +460,19 @@ static void receives(cfdp_station *two, uint64_t number)
     ends_well(&one, two, number);
 }
 
+/* How many frames found no memory. */
+static uint64_t lacked_memory(cfdp_station *station)
+{
+    cfdp_counts counts;
+
+    IS(cfdp_counters(station, &counts), CFDP_OK);
+    return counts.frames.no_memory;
+}
+
 /* The same, but the first frames find no memory: they are dropped, and all is sent again. */
 static void receives_late(cfdp_station *two, uint64_t number)
 {
-    enum { NO_MEMORY = 11 };
-    const uint64_t before = cfdp_link_drops(two, NO_MEMORY);
+    const uint64_t before = lacked_memory(two);
     cfdp_station one;
     cfdp_id id;
     uint64_t deadline = 0;
@@ -478,8 +486,8 @@ static void receives_late(cfdp_station *two, uint64_t number)
     IS(pass(two, &one), 0);
     most = SIZE_MAX;
     IS(frames != 0, 1);
-    IS(cfdp_link_drops(two, NO_MEMORY), before + frames);
-    IS(cfdp_next_deadline(&one, &deadline), CFDP_OK);
+    IS(lacked_memory(two), before + frames);
+    IS(cfdp_next_timeout(&one, &deadline), CFDP_OK);
     IS(cfdp_tick(&one, deadline), CFDP_OK);
     exchange(&one, two);
     exchange(&one, two);
@@ -560,12 +568,14 @@ static void late_eof(void)
     }
     IS(cfdp_forget(&two, &id), CFDP_OK);
     IS(ended_well(&two), 1);
-    IS(cfdp_next_deadline(&one, &deadline), CFDP_OK);
+    IS(cfdp_next_timeout(&one, &deadline), CFDP_OK);
     IS(cfdp_tick(&one, deadline), CFDP_OK);
     IS(pass(&one, &two) != 0, 1);
     IS(cfdp_cancel(&two, &id), CFDP_UNKNOWN);
     IS(pass(&two, &one) != 0, 1);
-    IS(cfdp_next_deadline(&one, &deadline), CFDP_NOTHING);
+    /* nothing is waited for any more, but that nothing comes */
+    IS(cfdp_next_timeout(&one, &deadline), CFDP_OK);
+    IS(deadline, 110);
     IS(ended_well(&two), 0);
     IS(cfdp_file_count(&two), 1);
     close_both(&one, &two);

@@ -62,11 +62,10 @@ fn ending(station: &mut Station, number: u8) -> Option<bool> {
 
 /// Passes on all that is due but every seventh frame, counted over both directions.
 fn pass_frames(frames: &mut u64, from: &mut Station, to: &mut Station) -> Result<(), Error> {
-    from.fill_frames()?;
-    while let Some(frame) = from.next_frame() {
+    while let Some(frame) = from.transmit()? {
         *frames += 1;
         if *frames % LOST != 0 {
-            to.take(&frame);
+            to.receive(&frame);
         }
     }
     Ok(())
@@ -104,12 +103,11 @@ fn transfer_over_udp(own: &str, peer: &str, octets: &[u8]) -> Result<bool, Failu
     send_file(&mut station, octets)?;
     while start.elapsed() < Duration::from_secs(60) {
         station.tick(start.elapsed().as_millis() as u64)?;
-        station.fill_frames()?;
-        while let Some(frame) = station.next_frame() {
+        while let Some(frame) = station.transmit()? {
             let _a_lost_frame = wire.send_to(&frame, &peer);
         }
         while let Ok((len, _)) = wire.recv_from(&mut buffer) {
-            station.take(&buffer[..len]);
+            station.receive(&buffer[..len]);
         }
         if let Some(is_good) = ending(&mut station, 1) {
             over = Some((is_good, Instant::now()));

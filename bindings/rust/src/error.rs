@@ -6,6 +6,8 @@ use std::fmt;
 pub enum Error {
     /// A value is out of its range.
     BadArgument,
+    /// A field of the configuration is: its name.
+    BadField(&'static str),
     /// There is no memory for it.
     NoMemory,
     /// The outbox has a file of that name.
@@ -40,6 +42,32 @@ pub enum Error {
     Other(u32),
 }
 
+/// The fields of a configuration, by the numbers 71 to 92.
+const FIELDS: [&str; 22] = [
+    "id_width",
+    "entity",
+    "peer",
+    "number_width",
+    "segment",
+    "checksum",
+    "eof_time",
+    "nak_time",
+    "finished_time",
+    "inactivity_time",
+    "capacity",
+    "down.channel",
+    "down.data_channel",
+    "down.zone",
+    "down.apid",
+    "up.channel",
+    "up.data_channel",
+    "up.zone",
+    "up.apid",
+    "on_ack_limit",
+    "on_nak_limit",
+    "on_inactivity",
+];
+
 impl Error {
     /// The error that an answer but 0 stands for.
     pub(crate) fn of(answer: u32) -> Error {
@@ -60,6 +88,7 @@ impl Error {
             35 => Error::StillOpen,
             36 => Error::AnswerDue,
             51..=61 => Error::BadPdu((answer - 50) as u8),
+            71..=92 => Error::BadField(FIELDS[(answer - 71) as usize]),
             other => Error::Other(other),
         }
     }
@@ -87,6 +116,7 @@ impl fmt::Display for Error {
             Error::AlreadySo => "it is so already",
             Error::StillOpen => "the transaction is not over",
             Error::AnswerDue => "an acknowledgement is due",
+            Error::BadField(name) => return write!(f, "{name} is out of its range"),
             Error::BadPdu(number) => return write!(f, "no PDU: refusal {number}"),
             Error::Other(answer) => return write!(f, "answer {answer}"),
         })

@@ -76,6 +76,53 @@ pub struct FileInfo {
     pub size: usize,
 }
 
+/// How often something of a frame of either lane was dropped, by the cause; `cfdp.h` explains each.
+#[repr(C)]
+#[derive(Clone, Copy, Debug, Default, PartialEq, Eq)]
+pub struct FrameDrops {
+    pub bad_length: u64,
+    pub bad_version: u64,
+    pub other_profile: u64,
+    pub other_spacecraft: u64,
+    pub other_channel: u64,
+    pub only_idle: u64,
+    pub resync: u64,
+    pub bad_packet: u64,
+    pub other_apid: u64,
+    pub segmented: u64,
+    pub no_memory: u64,
+}
+
+/// How often a PDU was dropped, by the cause; `cfdp.h` explains each.
+#[repr(C)]
+#[derive(Clone, Copy, Debug, Default, PartialEq, Eq)]
+pub struct PduDrops {
+    pub too_short: u64,
+    pub bad_version: u64,
+    pub crc_present: u64,
+    pub bad_length: u64,
+    pub unacknowledged: u64,
+    pub bad_directive: u64,
+    pub truncated: u64,
+    pub trailing: u64,
+    pub bad_tlv: u64,
+    pub bad_condition: u64,
+    pub wrong_direction: u64,
+    pub not_for_us: u64,
+    pub unknown: u64,
+    pub table_full: u64,
+    pub no_memory: u64,
+    pub no_file: u64,
+}
+
+/// What a station counts, from 0 when it is opened.
+#[repr(C)]
+#[derive(Clone, Copy, Debug, Default, PartialEq, Eq)]
+pub struct Counters {
+    pub frames: FrameDrops,
+    pub pdus: PduDrops,
+}
+
 /// A PDU; what its kind hasn't is 0.
 #[repr(C)]
 #[derive(Clone, Copy, Debug, Default, PartialEq, Eq)]
@@ -108,6 +155,7 @@ pub struct Handle {
 
 #[link(name = "cfdp_c", kind = "static")]
 unsafe extern "C" {
+    safe fn cfdp_version() -> u32;
     safe fn cfdp_defaults(config: &mut Config);
     safe fn cfdp_open(station: &mut Handle, config: &Config) -> u32;
     safe fn cfdp_close(station: &mut Handle);
@@ -127,16 +175,16 @@ unsafe extern "C" {
     safe fn cfdp_forget(station: &mut Handle, id: &Id) -> u32;
     safe fn cfdp_forget_closed(station: &mut Handle) -> u32;
     safe fn cfdp_was_forgotten(station: &mut Handle, id: &Id, was: &mut u8) -> u32;
+    fn cfdp_transmit(station: &mut Handle, frame: *mut u8, room: usize) -> u32;
     safe fn cfdp_poll(station: &mut Handle) -> u32;
     safe fn cfdp_flush(station: &mut Handle) -> u32;
     safe fn cfdp_frame_len(station: &mut Handle) -> usize;
     safe fn cfdp_frames_ahead(station: &mut Handle) -> usize;
     fn cfdp_next_frame(station: &mut Handle, frame: *mut u8, room: usize) -> u32;
-    fn cfdp_take(station: &mut Handle, frame: *const u8, len: usize) -> u32;
-    safe fn cfdp_drops(station: &mut Handle, number: u8) -> u64;
-    safe fn cfdp_link_drops(station: &mut Handle, number: u8) -> u64;
+    fn cfdp_receive(station: &mut Handle, frame: *const u8, len: usize) -> u32;
+    safe fn cfdp_counters(station: &mut Handle, counts: &mut Counters) -> u32;
     safe fn cfdp_tick(station: &mut Handle, now: u64) -> u32;
-    safe fn cfdp_next_deadline(station: &mut Handle, deadline: &mut u64) -> u32;
+    safe fn cfdp_next_timeout(station: &mut Handle, deadline: &mut u64) -> u32;
     fn cfdp_next_indication(s: &mut Handle, out: &mut Told, names: *mut u8, room: usize) -> u32;
     safe fn cfdp_file_count(station: &mut Handle) -> usize;
     fn cfdp_file(
@@ -149,6 +197,11 @@ unsafe extern "C" {
     fn cfdp_read_file(s: &mut Handle, place: usize, at: usize, out: *mut u8, room: usize) -> u32;
     fn cfdp_remove_file(station: &mut Handle, name: *const u8, n: usize) -> u32;
     fn cfdp_decode(pdu: *const u8, len: usize, out: &mut Pdu) -> u32;
+}
+
+/// The number of the library's interface.
+pub fn version() -> u32 {
+    cfdp_version()
 }
 
 /// The defaults.
@@ -212,6 +265,11 @@ impl Handle {
         cfdp_was_forgotten(self, &id, was)
     }
 
+    pub fn transmit(&mut self, frame: &mut [u8]) -> u32 {
+        // SAFETY: the slice is writable for its length.
+        unsafe { cfdp_transmit(self, frame.as_mut_ptr(), frame.len()) }
+    }
+
     pub fn poll(&mut self) -> u32 {
         cfdp_poll(self)
     }
@@ -233,25 +291,21 @@ impl Handle {
         unsafe { cfdp_next_frame(self, frame.as_mut_ptr(), frame.len()) }
     }
 
-    pub fn take(&mut self, frame: &[u8]) -> u32 {
+    pub fn receive(&mut self, frame: &[u8]) -> u32 {
         // SAFETY: the slice is readable for its length.
-        unsafe { cfdp_take(self, frame.as_ptr(), frame.len()) }
+        unsafe { cfdp_receive(self, frame.as_ptr(), frame.len()) }
     }
 
-    pub fn drops(&mut self, number: u8) -> u64 {
-        cfdp_drops(self, number)
-    }
-
-    pub fn link_drops(&mut self, number: u8) -> u64 {
-        cfdp_link_drops(self, number)
+    pub fn counters(&mut self, counts: &mut Counters) -> u32 {
+        cfdp_counters(self, counts)
     }
 
     pub fn tick(&mut self, now: u64) -> u32 {
         cfdp_tick(self, now)
     }
 
-    pub fn next_deadline(&mut self, deadline: &mut u64) -> u32 {
-        cfdp_next_deadline(self, deadline)
+    pub fn next_timeout(&mut self, deadline: &mut u64) -> u32 {
+        cfdp_next_timeout(self, deadline)
     }
 
     pub fn next_indication(&mut self, out: &mut Told, names: &mut [u8]) -> u32 {

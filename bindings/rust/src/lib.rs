@@ -5,8 +5,7 @@
 //! let mut station = cfdp::Station::open(&cfdp::defaults())?;
 //! station.add(b"a.txt", b"hello")?;
 //! station.put(b"a.txt", b"b.txt")?;
-//! station.fill_frames()?;
-//! while let Some(frame) = station.next_frame() {
+//! while let Some(frame) = station.transmit()? {
 //!     // .. send the frame
 //! }
 //! # Ok(())
@@ -24,8 +23,13 @@ mod ffi;
 mod indication;
 
 pub use error::Error;
-pub use ffi::{Config, Id, Link, Pdu};
+pub use ffi::{Config, Counters, FrameDrops, Id, Link, Pdu, PduDrops};
 pub use indication::{Indication, Indications};
+
+/// The number of the library's interface: `CFDP_VERSION` of the `cfdp.h` that it was made with.
+pub fn version() -> u32 {
+    ffi::version()
+}
 
 /// The defaults of `cfdp_defaults`: those of station 1 of a script.
 pub fn defaults() -> Config {
@@ -118,6 +122,17 @@ impl Station {
         self.handle.was_forgotten(id, &mut was) == ffi::OK && was == 1
     }
 
+    /// The next frame that is to leave, those of directives first: it polls until a whole frame
+    /// waits, or nothing is due, and fills up what is begun. `None` where there is nothing to send.
+    pub fn transmit(&mut self) -> Result<Option<Vec<u8>>, Error> {
+        let mut frame = vec![0; self.frame_len];
+        match self.handle.transmit(&mut frame) {
+            ffi::OK => Ok(Some(frame)),
+            ffi::NOTHING => Ok(None),
+            other => Err(Error::of(other)),
+        }
+    }
+
     /// Moves the PDU whose turn it is into the frames of its lane: file data into those of
     /// [`Link::data_channel`], all other PDUs, the directives, into those of [`Link::channel`].
     pub fn poll(&mut self) -> Result<Polled, Error> {
@@ -160,18 +175,15 @@ impl Station {
     }
 
     /// Takes a frame of either lane, whatever its octets are.
-    pub fn take(&mut self, frame: &[u8]) {
-        self.handle.take(frame);
+    pub fn receive(&mut self, frame: &[u8]) {
+        self.handle.receive(frame);
     }
 
-    /// How often a PDU was dropped under a number, 1 to 17.
-    pub fn drops(&mut self, number: u8) -> u64 {
-        self.handle.drops(number)
-    }
-
-    /// How often something of a frame of either lane was dropped under a number, 1 to 11.
-    pub fn link_drops(&mut self, number: u8) -> u64 {
-        self.handle.link_drops(number)
+    /// What it counts: how often something was dropped, by the cause.
+    pub fn counters(&mut self) -> Counters {
+        let mut counts = Counters::default();
+        self.handle.counters(&mut counts);
+        counts
     }
 
     /// Tells the time: each timer that is due fires once.
@@ -179,10 +191,11 @@ impl Station {
         Error::check(self.handle.tick(now))
     }
 
-    /// The earliest time at which a timer is due, but for inactivity.
-    pub fn next_deadline(&mut self) -> Option<u64> {
+    /// When [`tick`](Self::tick) has to be called at the latest: the earliest time at which a timer
+    /// is due.
+    pub fn next_timeout(&mut self) -> Option<u64> {
         let mut deadline = 0;
-        (self.handle.next_deadline(&mut deadline) == ffi::OK).then_some(deadline)
+        (self.handle.next_timeout(&mut deadline) == ffi::OK).then_some(deadline)
     }
 
     /// What it tells its user, from the first indication on that wasn't read yet. It lets go of

@@ -42,7 +42,7 @@ fn frames_of(station: &mut Station) -> Result<Vec<Vec<u8>>, Error> {
 /// All that is due goes over. How many frames that was.
 fn pass(from: &mut Station, to: &mut Station) -> Result<usize, Error> {
     let frames = frames_of(from)?;
-    frames.iter().for_each(|frame| to.take(frame));
+    frames.iter().for_each(|frame| to.receive(frame));
     Ok(frames.len())
 }
 
@@ -113,12 +113,13 @@ fn acknowledges_a_late_eof() -> Result<(), Error> {
     }
     two.forget(id)?;
     assert_eq!(ended_well(&mut two), 1);
-    let deadline = one.next_deadline().expect("an EOF waits for its ACK");
+    let deadline = one.next_timeout().expect("an EOF waits for its ACK");
     one.tick(deadline)?;
     assert_ne!(pass(&mut one, &mut two)?, 0);
     assert_eq!(two.cancel(id), Err(Error::Unknown));
     assert_ne!(pass(&mut two, &mut one)?, 0);
-    assert_eq!(one.next_deadline(), None);
+    // nothing is waited for any more, but that nothing comes
+    assert_eq!(one.next_timeout(), Some(110));
     assert_eq!(two.indications().count(), 0);
     Ok(())
 }

@@ -23,6 +23,8 @@
 //!     // no frame was lost before this one
 //! }
 //! ```
+//!
+//! Tested by `tests/transcripts/frames.txt`.
 #![tactic(auto)]
 
 ghost use Rattle.std.specs.Prelude.{◌≡◌, ◌+◌, ◌<◌, ◌≤◌, length, drop, IfOk, IsOkAnd};

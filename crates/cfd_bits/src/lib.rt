@@ -4,6 +4,8 @@
 //! number them: bit 0 is the most significant bit of the first octet, and the first bit of a field
 //! is its most significant (CCSDS 133.0-B-2, 1.6.3). None of the calls takes memory or can fail:
 //! that a range lies in the octets, and that a value fits its field, are conditions of the caller.
+//!
+//! Tested by `tests/transcripts/bits.txt`.
 #![tactic(auto)]
 
 ghost use Rattle.std.specs.Prelude.{◌≡◌, ℕ, ◌+◌, ◌-◌, ◌*◌, ◌/◌, ◌%◌, ◌^◌, ◌<◌, ◌≤◌, ◌++◌, length, take, drop};

@@ -5,23 +5,21 @@ use Rattle.std.specs.declared.alloc.AllocError.{AllocError}
 use Rattle.link_stack.specs.Downward.{first_down}
 use Rattle.link_stack.specs.Upward.{first_up}
 use Rattle.cfdp_header.specs.declared.value.TransactionId.{TransactionId}
-use Rattle.cfdp_timers.specs.ButInactivity.{OnlyInactivity, IsLeastOther}
-use Rattle.cfdp_timers.specs.Due.{due_count}
+use Rattle.cfdp_timers.specs.Due.{IsLeast, due_count}
 use Rattle.cfdp_entity.specs.Adding.{AddsFile, RefusesToAdd}
-use Rattle.cfdp_entity.specs.Calling.{IsRefusal}
-use Rattle.cfdp_entity.specs.Calls.{IsCalled, call_refusal}
-use Rattle.cfdp_entity.specs.declared.call.Call.{Call}
+use Rattle.cfdp_entity.specs.declared.request.Request.{Request}
 use Rattle.cfdp_entity.specs.declared.error.AddError.{AddError}
-use Rattle.cfdp_entity.specs.declared.error.CallError.{CallError}
+use Rattle.cfdp_entity.specs.declared.error.RequestError.{RequestError}
 use Rattle.cfdp_entity.specs.declared.error.ForgetError.{ForgetError}
 use Rattle.cfdp_entity.specs.declared.error.PutError.{PutError}
 use Rattle.cfdp_entity.specs.Entity.{first_entity, with_table}
 use Rattle.cfdp_entity.specs.Forgetting.{Forgets, ForgetsSome, HasNoneOver, IsForgetRefusal, forget_refusal}
 use Rattle.cfdp_entity.specs.Putting.{Accepts, put_refusal, IsPutRefusal, stored_by_error}
 use Rattle.cfdp_entity.specs.Table.{Ticks}
+use Rattle.cfdp_station.specs.Requests.{StationAnswers}
 use Rattle.cfdp_station.specs.Station.{StationState, KeepsLink}
 use Rattle.cfdp_station.specs.declared.config.StationConfig.{StationConfig}
-use Rattle.cfdp_c.specs.Codes.{add_answer, put_answer, call_answer, forget_answer, memory_answer}
+use Rattle.cfdp_c.specs.Codes.{add_answer, put_answer, request_answer, forget_answer, memory_answer}
 use Rattle.cfdp_c.specs.declared.calls.CfdpId.{CfdpId}
 
 -- a transaction, as a caller writes it
@@ -55,15 +53,12 @@ pub record Puts (source destination : List ℕ) (answer : ℕ) (id : CfdpId) (ol
   pub err : OnErr told (new.entity.state ≡ old.entity.state)
   pub link : KeepsLink old new
 
--- A call on a transaction was carried out, or this is why not.
-pub record Calls (call : Call) (id : TransactionId) (answer : ℕ) (old new : StationState)
+-- A request of a transaction was carried out, or this is why not.
+pub record Requests (c : Request) (id : TransactionId) (answer : ℕ) (old new : StationState)
     : Type 0 where
-  pub told : Result (Unit {0}) CallError
-  pub code : answer ≡ call_answer told
-  pub called : OnOk told (IsCalled call id old.entity.state new.entity.state)
-  pub refused : IfErr told (IsRefusal (call_refusal call id old.entity.state.table))
-  pub err : OnErr told (new ≡ old)
-  pub link : KeepsLink old new
+  pub told : Result (Unit {0}) RequestError
+  pub code : answer ≡ request_answer told
+  pub answers : StationAnswers c id told old new
 
 -- The record of a transaction was let go, or this is why not.
 pub record ForgetsOne (id : TransactionId) (answer : ℕ) (old new : StationState) : Type 0 where
@@ -93,8 +88,8 @@ pub record TellsTime (now answer : ℕ) (old new : StationState) : Type 0 where
   pub err : OnErr told (new ≡ old)
   pub link : KeepsLink old new
 
--- The earliest deadline of the timers but those of inactivity, if one of them is armed.
-abbrev pub IsDeadline : Option ℕ → StationState → Type 0
-IsDeadline told s =
-    MatchOption told (OnlyInactivity s.entity.state.table.armed)
-    (λ deadline. IsLeastOther s.entity.state.table.armed deadline)
+-- The earliest deadline of all timers, if one is armed.
+abbrev pub IsTimeout : Option ℕ → StationState → Type 0
+IsTimeout told s =
+    MatchOption told (s.entity.state.table.armed ≡ map.empty)
+    (λ deadline. IsLeast s.entity.state.table.armed deadline)

@@ -1,17 +1,25 @@
 -- The numbers that calls answer with.
-use Rattle.std.specs.Prelude.{ℕ, ◌+◌, Option, Some, None, Result, Ok, Err}
+use Rattle.std.specs.Prelude.{ℕ, ◌+◌, ◌≤◌, Option, Some, None, Result, Ok, Err}
 use Rattle.cfdp_directives.specs.declared.pdu.error.PduError.{PduError}
 use Rattle.cfdp_directives.specs.Pdu.Faults.{pdu_refusal_number}
+use Rattle.cfdp_entity.specs.declared.amiss.EntityField.{EntityField}
+use Rattle.cfdp_entity.specs.declared.amiss.EntityField.TheVariants as entity
 use Rattle.cfdp_entity.specs.declared.error.AddError.{AddError}
 use Rattle.cfdp_entity.specs.declared.error.AddError.TheVariants as adds
-use Rattle.cfdp_entity.specs.declared.error.CallError.{CallError}
-use Rattle.cfdp_entity.specs.declared.error.CallError.TheVariants as calls
+use Rattle.cfdp_entity.specs.declared.error.RequestError.{RequestError}
+use Rattle.cfdp_entity.specs.declared.error.RequestError.TheVariants as requests
 use Rattle.cfdp_entity.specs.declared.error.ForgetError.{ForgetError}
 use Rattle.cfdp_entity.specs.declared.error.ForgetError.TheVariants as forgets
 use Rattle.cfdp_entity.specs.declared.error.PutError.{PutError}
 use Rattle.cfdp_entity.specs.declared.error.PutError.TheVariants as puts
+use Rattle.cfdp_station.specs.declared.amiss.LinkField.{LinkField}
+use Rattle.cfdp_station.specs.declared.amiss.LinkField.TheVariants as links
+use Rattle.cfdp_station.specs.declared.amiss.StationField.{StationField}
+use Rattle.cfdp_station.specs.declared.amiss.StationField.TheVariants as stations
 use Rattle.cfdp_station.specs.declared.polled.Polled.{Polled}
 use Rattle.cfdp_station.specs.declared.polled.Polled.TheVariants as polls
+use Rattle.cfdp_c.specs.declared.bad_field.BadField.{BadField}
+use Rattle.cfdp_c.specs.declared.bad_field.BadField.TheVariants as fields
 
 abbrev pub ok : ℕ
 ok = 0
@@ -48,12 +56,12 @@ put_code puts.NumbersSpent = 25
 put_code puts.SourceFault = 26
 put_code puts.NoMemory = no_memory
 
-abbrev pub call_code : CallError → ℕ
-call_code calls.Unknown = 31
-call_code calls.AlreadyClosed = 32
-call_code calls.WrongSide = 33
-call_code calls.AlreadySo = 34
-call_code calls.NoMemory = no_memory
+abbrev pub request_code : RequestError → ℕ
+request_code requests.Unknown = 31
+request_code requests.AlreadyClosed = 32
+request_code requests.WrongSide = 33
+request_code requests.AlreadySo = 34
+request_code requests.NoMemory = no_memory
 
 abbrev pub forget_code : ForgetError → ℕ
 forget_code forgets.Unknown = 31
@@ -76,9 +84,9 @@ abbrev pub put_answer : {T : Type 0} → Result T PutError → ℕ
 put_answer (Ok value) = ok
 put_answer (Err by) = put_code by
 
-abbrev pub call_answer : {T : Type 0} → Result T CallError → ℕ
-call_answer (Ok value) = ok
-call_answer (Err by) = call_code by
+abbrev pub request_answer : {T : Type 0} → Result T RequestError → ℕ
+request_answer (Ok value) = ok
+request_answer (Err by) = request_code by
 
 abbrev pub forget_answer : {T : Type 0} → Result T ForgetError → ℕ
 forget_answer (Ok value) = ok
@@ -88,6 +96,12 @@ abbrev pub poll_answer : {E : Type 0} → Result Polled E → ℕ
 poll_answer (Ok polled) = poll_code polled
 poll_answer (Err by) = no_memory
 
+-- of the next frame of a lane, if there is one
+abbrev pub transmit_answer : {L E : Type 0} → Result (Option L) E → ℕ
+transmit_answer (Ok (Some lane)) = ok
+transmit_answer (Ok None) = nothing
+transmit_answer (Err by) = no_memory
+
 abbrev pub memory_answer : {T E : Type 0} → Result T E → ℕ
 memory_answer (Ok value) = ok
 memory_answer (Err by) = no_memory
@@ -96,3 +110,45 @@ memory_answer (Err by) = no_memory
 abbrev pub pdu_answer : Option PduError → ℕ
 pdu_answer None = ok
 pdu_answer (Some by) = 50 + pdu_refusal_number by
+
+-- ---- a field of a configuration that isn't as it has to be
+abbrev pub entity_number : EntityField → ℕ
+entity_number entity.IdWidth = 71
+entity_number entity.Entity = 72
+entity_number entity.Peer = 73
+entity_number entity.NumberWidth = 74
+entity_number entity.Segment = 75
+entity_number entity.ChecksumKind = 76
+entity_number entity.EofTime = 77
+entity_number entity.NakTime = 78
+entity_number entity.FinishedTime = 79
+entity_number entity.InactivityTime = 80
+
+abbrev pub down_number : LinkField → ℕ
+down_number links.Channel = 82
+down_number links.DataChannel = 83
+down_number links.Zone = 84
+down_number links.Apid = 85
+
+abbrev pub up_number : LinkField → ℕ
+up_number links.Channel = 86
+up_number links.DataChannel = 87
+up_number links.Zone = 88
+up_number links.Apid = 89
+
+abbrev pub station_number : StationField → ℕ
+station_number (stations.Entity field) = entity_number field
+station_number stations.Capacity = 81
+station_number (stations.Down field) = down_number field
+station_number (stations.Up field) = up_number field
+
+abbrev pub field_number : BadField → ℕ
+field_number (fields.Station field) = station_number field
+field_number fields.Checksum = 76
+field_number fields.OnAckLimit = 90
+field_number fields.OnNakLimit = 91
+field_number fields.OnInactivity = 92
+
+-- These numbers name one.
+abbrev pub NamesField : ℕ → Type 0
+NamesField number = (71 ≤ number) × (number ≤ 92)

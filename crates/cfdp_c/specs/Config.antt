@@ -6,7 +6,10 @@ use Rattle.cfdp_directives.specs.declared.user.handler.Handler.TheVariants as do
 use Rattle.cfdp_directives.specs.declared.user.policy.Policy.{Policy}
 use Rattle.cfdp_entity.specs.declared.config.EntityConfig.{EntityConfig}
 use Rattle.cfdp_station.specs.Config.{IsStationConfig}
+use Rattle.cfdp_station.specs.Fields.{Fits}
 use Rattle.cfdp_station.specs.declared.config.StationConfig.{StationConfig}
+use Rattle.cfdp_c.specs.declared.bad_field.BadField.{BadField}
+use Rattle.cfdp_c.specs.declared.bad_field.BadField.TheVariants as fields
 use Rattle.cfdp_c.specs.declared.config.CfdpConfig.{CfdpConfig}
 use Rattle.cfdp_c.specs.declared.config.CfdpLink.{CfdpLink}
 
@@ -75,6 +78,15 @@ pub record HasNames (c : CfdpConfig) : Type 0 where
 pub record IsUsable (c : CfdpConfig) : Type 0 where
   pub names : HasNames c
   pub station : IsStationConfig (config_of c)
+
+-- ---- a field that isn't so
+-- What each field has to be.
+abbrev pub Suits : BadField → CfdpConfig → Type 0
+Suits (fields.Station field) c = Fits field (config_of c)
+Suits fields.Checksum c = c.checksum < 16
+Suits fields.OnAckLimit c = c.on_ack_limit < 4
+Suits fields.OnNakLimit c = c.on_nak_limit < 4
+Suits fields.OnInactivity c = c.on_inactivity < 4
 
 -- what a script's stations have before it sets anything, as station 1
 abbrev pub default_config : CfdpConfig

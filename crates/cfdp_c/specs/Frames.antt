@@ -1,5 +1,5 @@
 -- What polls, flushes and frames answer and do, in the words of the station's own clauses.
-use Rattle.std.specs.Prelude.{◌≡◌, ◌≢◌, ◌↔◌, ◌+◌, ◌*◌, ◌-◌, ◌^◌, ◌<◌, ◌≤◌, ℕ, min, List, length, None, IsSomeAnd, Result, IfOk, OnErr}
+use Rattle.std.specs.Prelude.{◌≡◌, ◌≢◌, ◌↔◌, ◌+◌, ◌*◌, ◌-◌, ◌^◌, ◌<◌, ◌≤◌, ℕ, min, List, length, Option, None, IsSomeAnd, Result, IfOk, OnErr}
 use Rattle.std.specs.declared.alloc.AllocError.{AllocError}
 use Rattle.aos_frame.specs.Frame.{other_lane}
 use Rattle.aos_frame.specs.declared.config.Lane.{Lane}
@@ -9,9 +9,10 @@ use Rattle.cfdp_entity.specs.Sound.{SpellsTurn}
 use Rattle.cfdp_station.specs.Link.{FlushesBoth, WaitAtMost, HoldsAtMost}
 use Rattle.cfdp_station.specs.Polling.{Polls, next_len, next_room}
 use Rattle.cfdp_station.specs.Station.{StationState, KeepsRest}
+use Rattle.cfdp_station.specs.Transmitting.{PullsInPart, Transmits}
 use Rattle.cfdp_station.specs.declared.polled.Polled.{Polled}
 use Rattle.cfdp_station.specs.declared.polled.Polled.TheVariants.{Moved, Full}
-use Rattle.cfdp_c.specs.Codes.{ok, no_room, nothing, poll_answer}
+use Rattle.cfdp_c.specs.Codes.{no_room, nothing, ok, poll_answer, transmit_answer}
 
 -- No more whole frames wait in each lane than could ever wait there before.
 abbrev pub KeepsAhead : (old new : DownState) → Type 0
@@ -67,3 +68,19 @@ pub record GivesFrame (answer : ℕ) (room_before room_now : List ℕ) (old new 
       IsSomeAnd (frame_lane old.down) (λ lane. MakesNext room_now lane old.down new.down)
   pub kept : answer ≢ ok → (new ≡ old) × (room_now ≡ room_before)
   pub rest : KeepsRest old new
+
+-- The station was polled for its next frame, which is this one; or there was none, or no memory for
+-- one of the polls.
+pub record Sends (answer : ℕ) (frame : List ℕ) (old new : StationState) : Type 0 where
+  pub told : Result (Option Lane) AllocError
+  pub code : answer ≡ transmit_answer told
+  pub sent : IfOk told (λ lane. Transmits lane frame old new)
+  pub err : OnErr told (PullsInPart old new)
+
+-- That frame was written to room of its length; where the room has another nothing changed.
+pub record TransmitsTo (answer : ℕ) (room_before room_now : List ℕ) (old new : StationState)
+    : Type 0 where
+  pub short : (answer ≡ no_room) ↔ (length room_before ≢ 8 + old.down.directives.link.zone)
+  pub same : answer ≡ no_room → new ≡ old
+  pub sends : answer ≢ no_room → Sends answer room_now old new
+  pub kept : answer ≢ ok → room_now ≡ room_before

@@ -1,5 +1,6 @@
 -- What a call does to the station that a handle has.
-use Rattle.std.specs.Prelude.{◌≡◌, true, Some, IsSomeAnd}
+use Rattle.std.specs.Prelude.{◌≡◌, ℕ, false, true, Some, IsSomeAnd}
+use Rattle.cfdp_c.specs.Codes.{closed}
 use Rattle.cfdp_c.specs.declared.handle.CfdpStation.{CfdpStation}
 use Rattle.cfdp_c.specs.declared.held.Held.{Held}
 
@@ -8,3 +9,11 @@ abbrev pub Becomes : (old new : CfdpStation) → (Held → Held → Type 0) → 
 Becomes old new Related =
     (x : Held) → old.is_open ≡ true → old.slot.value ≡ Some x →
     IsSomeAnd new.slot.value (λ y. Related x y)
+
+-- A call answered this: a handle is open as before, a closed one is told so, and what an open one
+-- has becomes what is related so.
+pub record Answers (answer : ℕ) (old new : CfdpStation) (Related : Held → Held → Type 0) : Type 0
+  where
+    pub stays : new.is_open ≡ old.is_open
+    pub told : old.is_open ≡ false → answer ≡ closed
+    pub becomes : Becomes old new Related

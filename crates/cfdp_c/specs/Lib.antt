@@ -6,3 +6,4 @@ pub mod Calls
 pub mod Frames
 pub mod Told
 pub mod Files
+pub mod Counters

@@ -1,9 +1,9 @@
 // What a call answers to C: a number, of which 0 is that all went well.
 ghost use Rattle.std.specs.Prelude.{◌≡◌};
-ghost use Rattle.cfdp_c.specs.Codes.{add_answer, call_answer, forget_answer, put_answer, poll_answer, memory_answer};
+ghost use Rattle.cfdp_c.specs.Codes.{add_answer, request_answer, forget_answer, put_answer, poll_answer, transmit_answer, memory_answer};
 
 use cfdp_header::TransactionId;
-use cfdp_station::{AddError, CallError, ForgetError, Polled, PutError};
+use cfdp_station::{AddError, ForgetError, Lane, Polled, PutError, RequestError};
 use std::alloc::AllocError;
 
 /// The call did what it says.
@@ -52,17 +52,17 @@ pub(crate) fn of_put(answer: Result<TransactionId, PutError>) -> u32
     }
 }
 
-/// What a caller is told of a call on a transaction.
-pub(crate) fn of_call(answer: Result<(), CallError>) -> u32
-    ensures { result ≡ call_answer answer }
+/// What a caller is told of a request of a transaction.
+pub(crate) fn of_request(answer: Result<(), RequestError>) -> u32
+    ensures { result ≡ request_answer answer }
 {
     match answer {
         Ok(()) => OK,
-        Err(CallError::Unknown) => UNKNOWN,
-        Err(CallError::AlreadyClosed) => 32,
-        Err(CallError::WrongSide) => 33,
-        Err(CallError::AlreadySo) => 34,
-        Err(CallError::NoMemory) => NO_MEMORY,
+        Err(RequestError::Unknown) => UNKNOWN,
+        Err(RequestError::AlreadyClosed) => 32,
+        Err(RequestError::WrongSide) => 33,
+        Err(RequestError::AlreadySo) => 34,
+        Err(RequestError::NoMemory) => NO_MEMORY,
     }
 }
 
@@ -88,6 +88,17 @@ pub(crate) fn of_poll(answer: Result<Polled, AllocError>) -> u32
         Ok(Polled::Nothing) => NOTHING,
         Ok(Polled::Full) => 41,
         Ok(Polled::SourceFailed) => SOURCE_FAULT,
+        Err(_) => NO_MEMORY,
+    }
+}
+
+/// What a caller is told of the next frame that leaves.
+pub(crate) fn of_transmit(answer: Result<Option<Lane>, AllocError>) -> u32
+    ensures { result ≡ transmit_answer answer }
+{
+    match answer {
+        Ok(Some(_)) => OK,
+        Ok(None) => NOTHING,
         Err(_) => NO_MEMORY,
     }
 }

@@ -1,7 +1,8 @@
 //! How a caller says what a station is set up as.
-ghost use Rattle.std.specs.Prelude.{◌≡◌, ◌<◌, ◌↔◌, IsSome, IfSome};
-ghost use Rattle.cfdp_c.specs.Config.{config_of, entity_of, handler_of, policy_of, link_of, default_config, HasNames, IsUsable};
+ghost use Rattle.std.specs.Prelude.{◌≡◌, ◌<◌, ◌↔◌, IsOk, IfOk, IfErr, IsSome, IfSome};
+ghost use Rattle.cfdp_c.specs.Config.{config_of, entity_of, handler_of, policy_of, link_of, default_config, HasNames, IsUsable, Suits};
 
+use crate::bad_field::BadField;
 use cfdp_directives::{ChecksumKind, Handler, Handlers, Limits, Policy, Times};
 use cfdp_station::{EntityConfig, LinkConfig, StationConfig};
 
@@ -82,21 +83,44 @@ impl CfdpLink {
 }
 
 impl CfdpConfig {
-    /// The station's own configuration, where one can be set up so.
-    pub(crate) fn config(&self) -> Option<StationConfig>
-        ensures some { IsSome result ↔ IsUsable self.now }
-        ensures same { IfSome result (λ config. config ≡ config_of self.now) }
+    /// The station's own configuration, where one can be set up so; else a field that isn't as it
+    /// has to be.
+    pub(crate) fn config(&self) -> Result<StationConfig, BadField>
+        ensures some { IsOk result ↔ IsUsable self.now }
+        ensures same { IfOk result (λ config. config ≡ config_of self.now) }
+        ensures field { IfErr result (λ field. Suits field self.now → ⊥) }
     {
+        let Some(entity) = self.entity() else {
+            return Err(self.unnamed());
+        };
         let config = StationConfig {
-            entity: self.entity()?,
+            entity,
             down: self.down.config(),
             up: self.up.config(),
             capacity: self.capacity,
         };
         if config.is_valid() {
-            Some(config)
+            return Ok(config);
+        }
+        match config.amiss() {
+            Some(field) => Err(BadField::Station(field)),
+            None => unreachable!(),
+        }
+    }
+
+    // The first number that stands for nothing.
+    fn unnamed(&self) -> BadField
+        requires { HasNames self.now → ⊥ }
+        ensures { Suits result self.now → ⊥ }
+    {
+        if 16 <= self.checksum {
+            BadField::Checksum
+        } else if 4 <= self.on_ack_limit {
+            BadField::OnAckLimit
+        } else if 4 <= self.on_nak_limit {
+            BadField::OnNakLimit
         } else {
-            None
+            BadField::OnInactivity
         }
     }
 

@@ -47,7 +47,7 @@ fn entry_count(files: &BTreeMap<Vec<u8>, Vec<u8>>) -> usize
     ensures count { result ≡ length files.now.entries }
     ensures ordered { IsOrdered (λ a b. slice_cmp nat_cmp a.items b.items) files.now }
 {
-    // What is known of the order of the keys is known of an iterator.
+    // For the prover: what is known of the order of the keys is known of an iterator.
     let _entries = files.iter();
     files.len()
 }

@@ -1,14 +1,13 @@
-//! PDUs down to frames, and frames up; what was dropped.
-ghost use Rattle.std.specs.Prelude.{◌≡◌, ◌≢◌, ◌+◌, false, get_or};
+//! PDUs down to frames, and frames up.
+ghost use Rattle.std.specs.Prelude.{◌≡◌, ◌≢◌, ◌+◌, false};
 ghost use Rattle.aos_frame.specs.declared.config.Lane.{Lane};
 ghost use Rattle.link_stack.specs.Downward.{lane_down};
-ghost use Rattle.link_stack.specs.Upward.{drop_count};
 ghost use Rattle.cfdp_station.specs.Taking.{TakesFrame};
 ghost use Rattle.cfdp_c.specs.Codes as codes;
-ghost use Rattle.cfdp_c.specs.Frames.{PollsOne, FillsFrames, GivesFrame, AreAhead};
-ghost use Rattle.cfdp_c.specs.Handles.{Becomes};
+ghost use Rattle.cfdp_c.specs.Frames.{PollsOne, FillsFrames, GivesFrame, AreAhead, TransmitsTo};
+ghost use Rattle.cfdp_c.specs.Handles.{Answers, Becomes};
 
-use crate::codes::{CLOSED, NO_ROOM, NOTHING, OK, of_poll};
+use crate::codes::{CLOSED, NO_ROOM, NOTHING, OK, of_poll, of_transmit};
 use crate::handle::CfdpStation;
 use crate::held::Held;
 use cfdp_station::Lane;
@@ -19,9 +18,19 @@ impl Held {
         ensures polls { PollsOne result self.old.station self.new.station }
     {
         let answer = self.station.poll();
-        // Its files are in memory, and so always stand: what was read is what they have.
+        // For the prover: its files are in memory, and so always stand: what was read is what they
+        // have.
         let _ = self.station.outbox();
         of_poll(answer)
+    }
+
+    fn transmit(&mut self, out: &mut [u8]) -> u32
+        ensures { TransmitsTo result out.old out.new self.old.station self.new.station }
+    {
+        if out.len() != self.frame_len() {
+            return NO_ROOM;
+        }
+        of_transmit(self.station.transmit_into(out))
     }
 
     fn flush(&mut self)
@@ -55,6 +64,24 @@ impl Held {
             None => NOTHING,
         }
     }
+}
+
+/// Writes the next frame that is to leave to room of exactly its octets: polls until a whole frame
+/// waits, or nothing is due or has room, and fills up what is begun. Directives go first. Answers 0,
+/// `CLOSED`, `NO_ROOM` where the room has another length, `NOTHING` where there is nothing to send,
+/// or `NO_MEMORY`: what was polled before stays.
+#[unsafe(no_mangle)]
+pub extern "C" fn cfdp_transmit(alloc: Global, station: &mut CfdpStation, frame: &mut [u8]) -> u32
+    ensures sends { Answers result station.old station.new
+        (λ x y. TransmitsTo result frame.old frame.new x.station y.station) }
+    ensures kept { result ≢ codes.ok → frame.new ≡ frame.old }
+{
+    let Some(mut held) = station.lift(alloc) else {
+        return CLOSED;
+    };
+    let answer = held.transmit(frame);
+    *station = CfdpStation::holding(held);
+    answer
 }
 
 /// Moves the PDU whose turn it is down its lane, if one is due. Answers 0, `CLOSED`, `NOTHING`
@@ -147,7 +174,7 @@ pub extern "C" fn cfdp_next_frame(alloc: Global, station: &mut CfdpStation, fram
 /// Takes a frame, whatever its octets are. What can't be used of it is counted. Answers 0 or
 /// `CLOSED`.
 #[unsafe(no_mangle)]
-pub extern "C" fn cfdp_take(alloc: Global, station: &mut CfdpStation, frame: &[u8]) -> u32
+pub extern "C" fn cfdp_receive(alloc: Global, station: &mut CfdpStation, frame: &[u8]) -> u32
     ensures open { station.new.is_open ≡ station.old.is_open }
     ensures closed { station.old.is_open ≡ false → result ≡ codes.closed }
     ensures takes { Becomes station.old station.new (λ x y. (result ≡ codes.ok)
@@ -156,40 +183,7 @@ pub extern "C" fn cfdp_take(alloc: Global, station: &mut CfdpStation, frame: &[u
     let Some(mut held) = station.lift(alloc) else {
         return CLOSED;
     };
-    held.station.take(frame);
+    held.station.receive(frame);
     *station = CfdpStation::holding(held);
     OK
-}
-
-/// How often a PDU was dropped under a number, 1 to 17; 0 of any other, and of a closed handle.
-#[unsafe(no_mangle)]
-pub extern "C" fn cfdp_drops(alloc: Global, station: &mut CfdpStation, number: u8) -> u64
-    ensures open { station.new.is_open ≡ station.old.is_open }
-    ensures closed { station.old.is_open ≡ false → result ≡ 0 }
-    ensures drops { Becomes station.old station.new (λ x y. (y ≡ x)
-        × (result ≡ get_or x.station.entity.state.drops number 0)) }
-{
-    let Some(held) = station.lift(alloc) else {
-        return 0;
-    };
-    let drops = held.station.drops(number);
-    *station = CfdpStation::holding(held);
-    drops
-}
-
-/// How often something of a frame was dropped under a number, 1 to 11, on either lane; 0 of any
-/// other, and of a closed handle.
-#[unsafe(no_mangle)]
-pub extern "C" fn cfdp_link_drops(alloc: Global, station: &mut CfdpStation, number: u8) -> u64
-    ensures open { station.new.is_open ≡ station.old.is_open }
-    ensures closed { station.old.is_open ≡ false → result ≡ 0 }
-    ensures drops { Becomes station.old station.new (λ x y. (y ≡ x)
-        × (result ≡ drop_count x.station.up number)) }
-{
-    let Some(held) = station.lift(alloc) else {
-        return 0;
-    };
-    let drops = held.station.link_drops(number);
-    *station = CfdpStation::holding(held);
-    drops
 }

@@ -3,9 +3,10 @@ ghost use Rattle.std.specs.Prelude.{◌≡◌, ◌↔◌, ◌≢◌, ◌⊎◌, 
 ghost use Rattle.cfdp_station.specs.Config.{IsStationConfig};
 ghost use Rattle.cfdp_c.specs.Calls.{IsFirst};
 ghost use Rattle.cfdp_c.specs.Codes as codes;
-ghost use Rattle.cfdp_c.specs.Config.{config_of, IsUsable};
+ghost use Rattle.cfdp_c.specs.declared.bad_field.BadField.{BadField};
+ghost use Rattle.cfdp_c.specs.Config.{config_of, IsUsable, Suits};
 
-use crate::codes::{ALREADY_OPEN, BAD_ARGUMENT, NO_MEMORY, OK};
+use crate::codes::{ALREADY_OPEN, NO_MEMORY, OK};
 use crate::config::CfdpConfig;
 use crate::held::Held;
 use crate::parts::Parts;
@@ -61,15 +62,17 @@ impl CfdpStation {
 /// Opens a closed handle on a station that has no transactions, and whose stores, both in memory,
 /// are empty.
 ///
-/// Answers 0, `ALREADY_OPEN`, `BAD_ARGUMENT` where no station can be set up so, or `NO_MEMORY`. But
-/// for 0 the handle is as it was.
+/// Answers 0, `ALREADY_OPEN`, `NO_MEMORY`, or where no station can be set up so the number of a field
+/// that isn't as it has to be, 71 to 92. But for 0 the handle is as it was.
 #[unsafe(no_mangle)]
 pub extern "C" fn cfdp_open(alloc: Global, station: &mut CfdpStation, config: &CfdpConfig) -> u32
     ensures answers { ((result ≡ codes.ok) ⊎ (result ≡ codes.already_open))
-        ⊎ ((result ≡ codes.bad_argument) ⊎ (result ≡ codes.no_memory)) }
+        ⊎ ((result ≡ codes.no_memory) ⊎ codes.NamesField result) }
     ensures twice { (result ≡ codes.already_open) ↔ (station.old.is_open ≡ true) }
     ensures bad { station.old.is_open ≡ false →
-        ((result ≢ codes.bad_argument) ↔ IsUsable config.now) }
+        ((codes.NamesField result → ⊥) ↔ IsUsable config.now) }
+    ensures field { codes.NamesField result → (field : BadField)
+        × (result ≡ codes.field_number field) × (Suits field config.now → ⊥) }
     ensures opened { result ≡ codes.ok → (station.new.is_open ≡ true)
         × IsSomeAnd station.new.slot.value
         (λ held. IsFirst (config_of config.now) held.station) }
@@ -78,9 +81,20 @@ pub extern "C" fn cfdp_open(alloc: Global, station: &mut CfdpStation, config: &C
     if station.is_open {
         return ALREADY_OPEN;
     }
-    let Some(config) = config.config() else {
-        return BAD_ARGUMENT;
-    };
+    match config.config() {
+        Ok(config) => fill(alloc, station, config),
+        Err(field) => field.number(),
+    }
+}
+
+/// Opens a closed handle on a station that is set up so.
+fn fill(alloc: Global, station: &mut CfdpStation, config: StationConfig) -> u32
+    requires { IsStationConfig config }
+    ensures answers { (result ≡ codes.ok) ⊎ (result ≡ codes.no_memory) }
+    ensures opened { result ≡ codes.ok → (station.new.is_open ≡ true)
+        × IsSomeAnd station.new.slot.value (λ held. IsFirst config held.station) }
+    ensures refused { result ≢ codes.ok → station.new ≡ station.old }
+{
     match boxed(alloc, config) {
         Ok(held) => {
             *station = CfdpStation::holding(held);

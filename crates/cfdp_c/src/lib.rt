@@ -4,11 +4,15 @@
 //! No part of the protocol stands here. Each function tests what its caller gave, calls the
 //! station, and puts the answer into a number or a plain struct; its contract is the station's own
 //! clause, of what the handle has. `bindings/c/cfdp.h` says what a caller owes.
+//!
+//! Tested by `tests/bindings.py`.
 #![tactic(auto)]
 
+mod bad_field;
 mod calls;
 mod codes;
 mod config;
+mod counters;
 mod decoding;
 mod files;
 mod forgetting;
@@ -17,20 +21,22 @@ mod handle;
 mod held;
 mod indications;
 mod parts;
+mod requests;
 mod room;
 mod station_slot;
+mod version;
 
-pub use calls::{
-    CfdpId, cfdp_add, cfdp_cancel, cfdp_next_deadline, cfdp_prompt, cfdp_put, cfdp_resume,
-    cfdp_suspend, cfdp_tick,
-};
+pub use calls::{CfdpId, cfdp_add, cfdp_next_timeout, cfdp_put, cfdp_tick};
 pub use config::{CfdpConfig, CfdpLink, cfdp_defaults};
+pub use counters::{CfdpCounters, CfdpFrameDrops, CfdpPduDrops, cfdp_counters};
 pub use decoding::{CfdpPdu, cfdp_decode};
 pub use files::{CfdpFile, cfdp_file, cfdp_file_count, cfdp_read_file, cfdp_remove_file};
 pub use forgetting::{cfdp_forget, cfdp_forget_closed, cfdp_was_forgotten};
 pub use frames::{
-    cfdp_drops, cfdp_flush, cfdp_frame_len, cfdp_frames_ahead, cfdp_link_drops, cfdp_next_frame,
-    cfdp_poll, cfdp_take,
+    cfdp_flush, cfdp_frame_len, cfdp_frames_ahead, cfdp_next_frame, cfdp_poll, cfdp_receive,
+    cfdp_transmit,
 };
 pub use handle::{CfdpStation, cfdp_close, cfdp_open};
 pub use indications::{CfdpIndication, cfdp_next_indication};
+pub use requests::{cfdp_cancel, cfdp_prompt, cfdp_resume, cfdp_suspend};
+pub use version::cfdp_version;

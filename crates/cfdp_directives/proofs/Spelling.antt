@@ -240,11 +240,6 @@ spelled h v can =
           (said h v can.content can.kind can.no_segment_metadata);
     }
 
-pub length-pdu_octets : (h : Header) (v : Content) → CanWrite h v → length (pdu_octets h v) ≡ header_len h.id_width h.number_width + h.length
-length-pdu_octets h v can =
-    let len = can.len in
-    omega (arith, length-append (header_octets h) (content_octets (fss h) v), header.length-header_octets h, length-content_octets (fss h) v)
-
 -- octets that stayed behind a header also stay behind its data field
 pub behind_data : (out middle front : List ℕ) (at len end : ℕ) → drop at middle ≡ drop at out → length front ≡ length (take (at + len) middle) → at + len ≤ length middle → end ≡ at + len →
     drop end (front ++ drop (at + len) middle) ≡ drop end out

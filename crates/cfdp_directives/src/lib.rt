@@ -8,6 +8,8 @@
 //!     Err(refused) => println!(rt; "refused: {}", refused.name())?,
 //! }
 //! ```
+//!
+//! Tested by `tests/transcripts/pdus.txt` and `tests/transcripts/rules.txt`.
 #![tactic(auto)]
 
 mod pdu;
@@ -23,10 +25,8 @@ pub use pdu::codes::{
 pub use pdu::content::Pdu;
 pub use pdu::direction::{direction_fits, is_for};
 pub use pdu::error::PduError;
-pub use pdu::file_size::{file_size_octets, is_file_size, is_large, size_limit};
-pub use pdu::laws::{
-    a_pdu_read_can_be_answered, no_pdu_begins_another, written_pdu_is_read, written_pdu_len,
-};
+pub use pdu::file_size::{is_file_size, is_large, size_limit};
+pub use pdu::laws::{a_pdu_read_can_be_answered, no_pdu_begins_another, written_pdu_is_read};
 pub use pdu::lengths::{
     ack_len, eof_len, fault_location_len, file_data_len, finished_len, keep_alive_len,
     metadata_len, nak_len, prompt_len,

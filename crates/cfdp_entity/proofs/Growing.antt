@@ -9,13 +9,13 @@ use Rattle.cfdp_directives.specs.Pdu.Content.{Content, Prompt}
 use Rattle.cfdp_store.specs.declared.stored.Stored.{Stored}
 use Rattle.cfdp_store.specs.Files.{octets_in}
 use Rattle.cfdp_timers.specs.Order.{Timer}
-use Rattle.cfdp_entity.specs.declared.call.Call.{Call}
+use Rattle.cfdp_entity.specs.declared.request.Request.{Request}
 use Rattle.cfdp_entity.specs.declared.error.EntityDrop.{EntityDrop}
 use Rattle.cfdp_entity.specs.declared.error.EntityDrop.TheVariants as drops
 use Rattle.cfdp_entity.specs.declared.route.Route.{Route}
 use Rattle.cfdp_entity.specs.declared.route.Route.TheVariants as routes
-use Rattle.cfdp_entity.specs.Calling.{called_in}
-use Rattle.cfdp_entity.specs.Calls.{IsCalled}
+use Rattle.cfdp_entity.specs.Refusing.{called_in}
+use Rattle.cfdp_entity.specs.Requests.{IsCalled}
 use Rattle.cfdp_entity.specs.Entity.{EntityState, Counted, with_table}
 use Rattle.cfdp_entity.specs.Forgetting.{Forgets, left_at}
 use Rattle.cfdp_entity.specs.Hearing.{Takes as TakesPdu, DropsBy, HearsOctets, DropsOctets, route}
@@ -97,7 +97,7 @@ put-goes source destination id old new a =
     let s : TableStep = Puts (next_transfer source destination (length (octets_in old.table.sources source)) old) in
     goes old new (table_step s old.table) (grows-step s old.table) (ap (λ (e : EntityState). e.table) a.opened) (ap (λ (e : EntityState). e.config) a.opened) (omega (arith, next))
 
-pub called-goes : (c : Call) (id : TransactionId) (old new : EntityState) → IsCalled c id old new → GoesOn old new
+pub called-goes : (c : Request) (id : TransactionId) (old new : EntityState) → IsCalled c id old new → GoesOn old new
 called-goes c id old new h = by (place_of id old.table.records) h.called
   where
     by : (o : Option ℕ) → new ≡ with_table old (called_in c o old.table) → GoesOn old new

@@ -37,8 +37,8 @@ use Rattle.cfdp_receiver.specs.Due.{receiver_due}
 use Rattle.cfdp_receiver.specs.Steps as receiver
 use Rattle.cfdp_receiver.specs.Sound.{ReceiverInput, receiver_step, open_count}
 use Rattle.cfdp_receiver.specs.Sound as machine
-use Rattle.cfdp_entity.specs.declared.call.Call.{Call}
-use Rattle.cfdp_entity.specs.declared.call.Call.TheVariants as call
+use Rattle.cfdp_entity.specs.declared.request.Request.{Request}
+use Rattle.cfdp_entity.specs.declared.request.Request.TheVariants as call
 use Rattle.cfdp_entity.specs.Seen.{Seen, Sends, Receives, addressing_of}
 use Rattle.cfdp_entity.specs.Steps.{After, by_sender, by_receiver, no_step, hears, expires, calls, takes, sender_takes, receiver_takes}
 use Rattle.cfdp_entity.specs.Steps as steps
@@ -151,7 +151,7 @@ module _ (laws : Machines) where
     expires-so k (Sends x) = by-sender policy.times files policy [] (inputs.Expires k) x tt
     expires-so k (Receives r m) = by-receiver policy.times Done (machine.Expires k policy) m files r
 
-    pub calls-so : (c : Call) (s : Seen) → Behaves s (calls policy.times files c s)
+    pub calls-so : (c : Request) (s : Seen) → Behaves s (calls policy.times files c s)
     calls-so call.Cancel (Sends x) = by-sender policy.times files policy [] inputs.Cancels x tt
     calls-so call.Suspend (Sends x) = by-sender policy.times files policy [] inputs.Suspends x tt
     calls-so call.Resume (Sends x) = by-sender policy.times files policy [] inputs.Resumes x tt

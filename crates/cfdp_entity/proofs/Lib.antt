@@ -31,6 +31,5 @@ pub mod Spelled
 pub mod Turns
 mod Walked
 pub mod CallerLemmas
-pub mod Asking
 pub mod Raised
 pub mod Added

@@ -13,7 +13,7 @@ use Rattle.cfdp_timers.specs.Order.{Timer}
 use Rattle.cfdp_directives.specs.declared.pdu.addressing.Addressing.{Addressing}
 use Rattle.cfdp_directives.specs.Pdu.Content.{Content}
 use Rattle.cfdp_store.specs.declared.stored.Stored.{Stored}
-use Rattle.cfdp_entity.specs.declared.call.Call.{Call}
+use Rattle.cfdp_entity.specs.declared.request.Request.{Request}
 use Rattle.std.specs.FinSet as finset
 use Rattle.cfdp_header.specs.Ids.{id_cmp}
 use Rattle.cfdp_forgotten.specs.Forgotten.{IdSet}
@@ -74,7 +74,7 @@ module _ (entity next : ℕ) (before old new : TableState) (same : old ≡ befor
   pub free-stepped : (f : Entry → After) (place : ℕ) → new ≡ step_of f place (slice_get old.records place) old → AreFree entity next new.records
   free-stepped f place is = from (ap (λ (t : TableState). keys_of t.records) is ∙ keys-stepped f place (slice_get old.records place) old)
 
-  pub free-called : (place : ℕ) (c : Call) → new ≡ called_at place c old → AreFree entity next new.records
+  pub free-called : (place : ℕ) (c : Request) → new ≡ called_at place c old → AreFree entity next new.records
   free-called place c is = free-stepped (λ e. calls old.policy.times old.files c e.1) place is
 
   pub free-heard : (stored : Stored) (place : ℕ) (large : Bool) (v : Content) → new ≡ heard_at stored place large v old → AreFree entity next new.records

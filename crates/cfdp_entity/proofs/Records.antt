@@ -42,8 +42,8 @@ use Rattle.cfdp_timers.specs.declared.kind.Kind.TheVariants as kind
 use Rattle.cfdp_sender.specs.Steps as sender
 use Rattle.cfdp_sender.specs.Does as sender_does
 use Rattle.cfdp_sender.proofs.OwnFile.{GoesOn, own-after, says-unsent, on-ack, on-asks_in, on-asks_all, never, on-cancels, on-suspends, on-resumes, on-prompts, on-expiry, on-sends}
-use Rattle.cfdp_entity.specs.declared.call.Call.{Call}
-use Rattle.cfdp_entity.specs.declared.call.Call.TheVariants as call
+use Rattle.cfdp_entity.specs.declared.request.Request.{Request}
+use Rattle.cfdp_entity.specs.declared.request.Request.TheVariants as call
 use Rattle.cfdp_entity.specs.declared.record.Record.{Record}
 use Rattle.cfdp_entity.specs.declared.record.Record.TheVariants as held
 use Rattle.cfdp_entity.specs.Seen.{Seen, Sends, seen, octets_seen, due_octets, due_len, due_content, addressing_of, large_of, octets_of, len_of, carries_data}
@@ -227,7 +227,7 @@ kept-asks_in Sending ps x = kept-asks_all ps x
 kept-asks_in Cancelling ps x = refl
 kept-asks_in Closed ps x = refl
 
-kept-called : (c : Call) (x : SenderState) → transfer_of (called_sender c x).sender ≡ transfer_of x
+kept-called : (c : Request) (x : SenderState) → transfer_of (called_sender c x).sender ≡ transfer_of x
 kept-called call.Cancel x = by x.phase
   where
     by : (p : SenderPhase) → transfer_of (sender.cancels_in p x).sender ≡ transfer_of x
@@ -333,7 +333,7 @@ module _ (times : Times) (r r_now : ReceiverState) (old new : Effects) (files : 
   acked-receives large acknowledged.Finished condition status acks = alone-receives (receiver_does.flagging large receiver.hears_ack) acks (λ m. refl) (λ m. refl)
   acked-receives large acknowledged.Eof condition status acks = (refl, rests-alone acks.0 acks.1)
 
-on-called : (c : Call) (x : SenderState) → GoesOn x (called_sender c x).sender
+on-called : (c : Request) (x : SenderState) → GoesOn x (called_sender c x).sender
 on-called call.Cancel x = on-cancels x
 on-called call.Suspend x = on-suspends x
 on-called call.Resume x = on-resumes x
@@ -394,7 +394,7 @@ module _ (s : Record) (x x_now : SenderState) (is : s ≡ held.Sends x) (old new
   sender-hears stored large (Eof condition checksum size tlvs) does = rests-so (hearing stored large (Eof condition checksum size tlvs)) refl does
   sender-hears stored large (Prompt keep_alive) does = rests-so (hearing stored large (Prompt keep_alive)) refl does
 
-  pub sender-called : (c : Call) → sender_does.Does old.policy.times (called_sender c x) x_now old.effects new.effects → Steps (calling c)
+  pub sender-called : (c : Request) → sender_does.Does old.policy.times (called_sender c x) x_now old.effects new.effects → Steps (calling c)
   sender-called c does = stepped-so (calling c) _ refl (kept-called c x) (on-called c x) does
 
   pub sender-expired : (k : Kind) → sender_does.Does old.policy.times (sender.sender_expires k old.policy x) x_now old.effects new.effects →

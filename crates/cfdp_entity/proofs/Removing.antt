@@ -25,8 +25,8 @@ use Rattle.cfdp_receiver.specs.Steps as receiver
 use Rattle.cfdp_receiver.specs.Sound.{ReceiverInput, receiver_step}
 use Rattle.cfdp_receiver.specs.Sound as machine
 use Rattle.cfdp_receiver.specs.Alike.{with_documents, PublishesAlike}
-use Rattle.cfdp_entity.specs.declared.call.Call.{Call}
-use Rattle.cfdp_entity.specs.declared.call.Call.TheVariants as call
+use Rattle.cfdp_entity.specs.declared.request.Request.{Request}
+use Rattle.cfdp_entity.specs.declared.request.Request.TheVariants as call
 use Rattle.cfdp_entity.specs.Seen.{Seen, Sends, Receives}
 use Rattle.cfdp_entity.specs.Steps.{After, by_sender, by_receiver, no_step, sender_after, if_sender, hears, expires, calls, sender_takes, receiver_takes, takes}
 use Rattle.cfdp_entity.specs.Opening.{puts, opens_by, opens, closing}
@@ -113,7 +113,7 @@ module _ (laws : ReceivesAlike) where
     expires-alike policy k (Sends x) = rests (expires policy files k (Sends x))
     expires-alike policy k (Receives r m) = receives policy.times Done (machine.Expires k policy) m r
 
-    pub calls-alike : (times : Times) (c : Call) (s : Seen) → StepsAlike files other (calls times files c s) (calls times other c s)
+    pub calls-alike : (times : Times) (c : Request) (s : Seen) → StepsAlike files other (calls times files c s) (calls times other c s)
     calls-alike times c (Sends x) = rests (calls times files c (Sends x))
     calls-alike times call.Cancel (Receives r m) = receives times Done machine.Cancels m r
     calls-alike times call.Suspend (Receives r m) = receives times Done machine.Suspends m r

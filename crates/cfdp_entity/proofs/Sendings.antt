@@ -27,8 +27,8 @@ use Rattle.cfdp_receiver.specs.declared.due.Due.TheVariants as receiver_dues
 use Rattle.cfdp_receiver.specs.State.{ReceiverState, opened_receiver}
 use Rattle.cfdp_receiver.specs.Due.{receiver_due, receiver_says}
 use Rattle.cfdp_receiver.specs.Steps.{ReceiverAfter}
-use Rattle.cfdp_entity.specs.declared.call.Call.{Call}
-use Rattle.cfdp_entity.specs.declared.call.Call.TheVariants as call
+use Rattle.cfdp_entity.specs.declared.request.Request.{Request}
+use Rattle.cfdp_entity.specs.declared.request.Request.TheVariants as call
 use Rattle.cfdp_entity.specs.Seen.{Seen, Sends, Receives, due_content, sender_content, receiver_content}
 use Rattle.cfdp_entity.specs.Steps.{After, hears, expires, calls, takes, sender_takes, receiver_takes, receiver_after, called_receiver, if_receiver}
 use Rattle.cfdp_entity.specs.Steps as steps
@@ -85,7 +85,7 @@ module _ (laws : TrueSender) (put_of : TransactionId → Option Put) where
       expires-put kind (Sends x) k = by-sender policy (inputs.Expires kind) x tt k
       expires-put kind (Receives r m) k = tt
 
-      calls-put : (c : Call) (s : Seen) → SendsItsPut put_of sources id s → SendsItsPut put_of sources id (calls policy.times files c s).seen
+      calls-put : (c : Request) (s : Seen) → SendsItsPut put_of sources id s → SendsItsPut put_of sources id (calls policy.times files c s).seen
       calls-put c (Receives r m) k = by-receiver policy.times files r m (called_receiver c m files r)
       calls-put call.Cancel (Sends x) k = by-sender policy inputs.Cancels x tt k
       calls-put call.Suspend (Sends x) k = by-sender policy inputs.Suspends x tt k

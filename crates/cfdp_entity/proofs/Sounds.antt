@@ -13,14 +13,14 @@ use Rattle.cfdp_directives.specs.User.Put.{Put, IsTruthful, IsOfPut, SaysTruth, 
 use Rattle.cfdp_store.specs.declared.stored.Stored.{Stored}
 use Rattle.cfdp_store.specs.Files.{octets_in}
 use Rattle.cfdp_sender.specs.declared.transfer.Transfer.{Transfer}
-use Rattle.cfdp_entity.specs.declared.call.Call.{Call}
+use Rattle.cfdp_entity.specs.declared.request.Request.{Request}
 use Rattle.cfdp_entity.specs.declared.config.EntityConfig.{EntityConfig}
 use Rattle.cfdp_entity.specs.declared.error.EntityDrop.{EntityDrop}
 use Rattle.cfdp_entity.specs.declared.error.EntityDrop.TheVariants as drops
 use Rattle.cfdp_entity.specs.declared.route.Route.{Route}
 use Rattle.cfdp_entity.specs.declared.route.Route.TheVariants as routes
-use Rattle.cfdp_entity.specs.Calling.{called_in}
-use Rattle.cfdp_entity.specs.Calls.{IsCalled, after_call}
+use Rattle.cfdp_entity.specs.Refusing.{called_in}
+use Rattle.cfdp_entity.specs.Requests.{IsCalled, after_request}
 use Rattle.cfdp_entity.specs.Config.{IsConfig}
 use Rattle.cfdp_entity.specs.Entity.{EntityState, Counted, is_forgotten, with_table}
 use Rattle.cfdp_forgotten.specs.Forgotten.{IdSet}
@@ -121,9 +121,9 @@ module _ (put_of : TransactionId → Option Put) (heard : List (List ℕ)) (firs
         sound-like (with_table old (put_in t old.table)) new (ap (λ (e : EntityState). e.config) a.opened) (ap (λ (e : EntityState). e.table) a.opened) (ap (λ (e : EntityState). e.forgotten) a.opened)
         (sound-step old (Puts t) fresh unknown refl (k.config.sending.some, refl, named) tt (push-timed t.addressing.id _ old.table fresh (puts-set old.table.files t) k.timed) k)
 
-    pub sound-called : (c : Call) (id : TransactionId) (old new : EntityState) → IsCalled c id old new → IsSound put_of heard first old → IsSound put_of heard first new
+    pub sound-called : (c : Request) (id : TransactionId) (old new : EntityState) → IsCalled c id old new → IsSound put_of heard first old → IsSound put_of heard first new
     sound-called c id old new h k =
-        sound-like (with_table old (after_call c id old.table)) new (ap (λ (e : EntityState). e.config) h.called) (ap (λ (e : EntityState). e.table) h.called) (ap (λ (e : EntityState). e.forgotten) h.called) (by (place_of id old.table.records))
+        sound-like (with_table old (after_request c id old.table)) new (ap (λ (e : EntityState). e.config) h.called) (ap (λ (e : EntityState). e.table) h.called) (ap (λ (e : EntityState). e.forgotten) h.called) (by (place_of id old.table.records))
       where
         by : (o : Option ℕ) → IsSound put_of heard first (with_table old (called_in c o old.table))
         by None = k

@@ -17,15 +17,15 @@ use Rattle.cfdp_store.specs.declared.stored.Stored.{Stored}
 use Rattle.cfdp_store.specs.Chains.{Raises}
 use Rattle.cfdp_receiver.specs.State.{ReceiverState}
 use Rattle.cfdp_receiver.specs.Alike.{with_documents}
-use Rattle.cfdp_entity.specs.declared.call.Call.{Call}
+use Rattle.cfdp_entity.specs.declared.request.Request.{Request}
 use Rattle.cfdp_entity.specs.declared.error.EntityDrop.{EntityDrop}
 use Rattle.cfdp_entity.specs.declared.error.EntityDrop.TheVariants as drops
 use Rattle.cfdp_entity.specs.declared.route.Route.{Route}
 use Rattle.cfdp_entity.specs.declared.route.Route.TheVariants as routes
 use Rattle.cfdp_entity.specs.Steps.{After, hears}
 use Rattle.cfdp_entity.specs.Opening.{closing}
-use Rattle.cfdp_entity.specs.Calling.{called_in, refusal_in}
-use Rattle.cfdp_entity.specs.Calls.{IsCalled, after_call}
+use Rattle.cfdp_entity.specs.Refusing.{called_in, refusal_in}
+use Rattle.cfdp_entity.specs.Requests.{IsCalled, after_request}
 use Rattle.cfdp_entity.specs.Storing.{AsksHeard, AsksAs, AsksOf, AsksFirst}
 use Rattle.cfdp_entity.specs.Table.{Entry, TableState, Ticks, place_of, heard_at, taken_at, opened_by, at_time, all_expired}
 use Rattle.cfdp_entity.specs.Entity.{EntityState, Counted, is_forgotten, with_table}
@@ -151,11 +151,11 @@ some-alike files old new f =
 
 -- ---- what makes steps
 module _ (laws : ReceivesAlike) (files : FileMap) where
-  refusal-same : (c : Call) (place : Option ℕ) (st : TableState) → refusal_in c place (with_files files st) ≡ refusal_in c place st
+  refusal-same : (c : Request) (place : Option ℕ) (st : TableState) → refusal_in c place (with_files files st) ≡ refusal_in c place st
   refusal-same c (Some place) st = refl
   refusal-same c None st = refl
 
-  called-alike-in : (c : Call) (place : Option ℕ) (st : TableState) → GoesAlike files st (called_in c place st) (called_in c place (with_files files st))
+  called-alike-in : (c : Request) (place : Option ℕ) (st : TableState) → GoesAlike files st (called_in c place st) (called_in c place (with_files files st))
   called-alike-in c (Some place) st = step-alike laws files (Calls place c) st
   called-alike-in c None st = record { documents = []; publishes = refl; alike = refl }
 
@@ -163,12 +163,12 @@ module _ (laws : ReceivesAlike) (files : FileMap) where
     goes-to : (t other : TableState) → new.table ≡ t → GoesAlike files old.table t other → GoesAlike files old.table new.table other
     goes-to t other is g = subst (λ x. GoesAlike files old.table x other) (sym is) g
 
-    pub called-alike : (c : Call) (id : TransactionId) → IsCalled c id old new → Happens files (IsCalled c id (with_inbox files old)) old new
+    pub called-alike : (c : Request) (id : TransactionId) → IsCalled c id old new → Happens files (IsCalled c id (with_inbox files old)) old new
     called-alike c id h =
-        let there : TableState = after_call c id (with_files files old.table) in
+        let there : TableState = after_request c id (with_files files old.table) in
         record {
           other = there;
-          goes = goes-to (after_call c id old.table) there (ap (λ (e : EntityState). e.table) h.called) (called-alike-in c (place_of id old.table.records) old.table);
+          goes = goes-to (after_request c id old.table) there (ap (λ (e : EntityState). e.table) h.called) (called-alike-in c (place_of id old.table.records) old.table);
           so = record { allowed = refusal-same c (place_of id old.table.records) old.table ∙ h.allowed; called = ap (λ e. with_table e there) h.called };
         }
 

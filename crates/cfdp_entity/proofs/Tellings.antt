@@ -43,8 +43,8 @@ use Rattle.cfdp_receiver.specs.Due.{receiver_due}
 use Rattle.cfdp_receiver.specs.Steps as receiver
 use Rattle.cfdp_receiver.specs.Sound.{ReceiverInput, receiver_step}
 use Rattle.cfdp_receiver.specs.Sound as machine
-use Rattle.cfdp_entity.specs.declared.call.Call.{Call}
-use Rattle.cfdp_entity.specs.declared.call.Call.TheVariants as call
+use Rattle.cfdp_entity.specs.declared.request.Request.{Request}
+use Rattle.cfdp_entity.specs.declared.request.Request.TheVariants as call
 use Rattle.cfdp_entity.specs.Seen.{Seen, Sends, Receives}
 use Rattle.cfdp_entity.specs.Steps.{After, by_sender, by_receiver, no_step, hears, expires, calls, takes, sender_takes, receiver_takes}
 use Rattle.cfdp_entity.specs.Steps as steps
@@ -204,7 +204,7 @@ module _ (own : ℕ) (heard : List (List ℕ)) where
       expires-tells kind (Sends x) k = by-sender policy.times files policy [] (inputs.Expires kind) id x tt k (λ h. absurd cc)
       expires-tells kind (Receives r m) k = by-receiver policy.times Done (machine.Expires kind policy) files id r m k
 
-      calls-tells : (c : Call) (s : Seen) → Belongs own id s → StepTells s (calls policy.times files c s)
+      calls-tells : (c : Request) (s : Seen) → Belongs own id s → StepTells s (calls policy.times files c s)
       calls-tells call.Cancel (Sends x) k = by-sender policy.times files policy [] inputs.Cancels id x tt k (λ h. absurd cc)
       calls-tells call.Suspend (Sends x) k = by-sender policy.times files policy [] inputs.Suspends id x tt k (λ h. absurd cc)
       calls-tells call.Resume (Sends x) k = by-sender policy.times files policy [] inputs.Resumes id x tt k (λ h. absurd cc)

@@ -43,7 +43,7 @@ use Rattle.cfdp_receiver.specs.Due.{receiver_due}
 use Rattle.cfdp_receiver.specs.State.{ReceiverState, opened_receiver, flagged}
 use Rattle.cfdp_receiver.specs.Steps as receiver
 use Rattle.cfdp_receiver.specs.Does as receiver_does
-use Rattle.cfdp_entity.specs.declared.call.Call.{Call}
+use Rattle.cfdp_entity.specs.declared.request.Request.{Request}
 use Rattle.cfdp_entity.specs.History as history
 use Rattle.cfdp_entity.specs.History.{MayHappen, table_step}
 use Rattle.cfdp_entity.specs.Opening.{begins, closing, opens, opens_by, puts}
@@ -155,7 +155,7 @@ expires-set : (policy : Policy) (files : FileMap) (k : Kind) (s : Seen) → Sets
 expires-set policy files k (Sends x) = by-sender policy.times files (sender.sender_expires k policy x)
 expires-set policy files k (Receives r m) = by-receiver policy.times (receiver.expires k policy m files r)
 
-pub calls-set : (times : Times) (files : FileMap) (c : Call) (s : Seen) → Sets (Some s) (calls times files c s)
+pub calls-set : (times : Times) (files : FileMap) (c : Request) (s : Seen) → Sets (Some s) (calls times files c s)
 calls-set times files c (Sends x) = inl (by-sender times files _)
 calls-set times files c (Receives r m) = by (called_receiver c m files r)
   where

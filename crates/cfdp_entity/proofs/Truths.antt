@@ -42,8 +42,8 @@ use Rattle.cfdp_receiver.specs.Due.{receiver_due}
 use Rattle.cfdp_receiver.specs.Steps as receiver
 use Rattle.cfdp_receiver.specs.Sound.{ReceiverInput, receiver_step, Sound, IsAmong, IsTrueInput, PublishesNone, PublishesPut}
 use Rattle.cfdp_receiver.specs.Sound as machine
-use Rattle.cfdp_entity.specs.declared.call.Call.{Call}
-use Rattle.cfdp_entity.specs.declared.call.Call.TheVariants as call
+use Rattle.cfdp_entity.specs.declared.request.Request.{Request}
+use Rattle.cfdp_entity.specs.declared.request.Request.TheVariants as call
 use Rattle.cfdp_entity.specs.Seen.{Seen, Sends, Receives, octets_seen}
 use Rattle.cfdp_entity.specs.Steps.{After, by_sender, by_receiver, no_step, hears, expires, calls, takes, sender_takes, receiver_takes}
 use Rattle.cfdp_entity.specs.Steps as steps
@@ -211,7 +211,7 @@ module _ (own : ℕ) (put_of : TransactionId → Option Put) (heard : List (List
       expires-true kind (Sends x) k = true-sender policy.times files policy [] (inputs.Expires kind) id x tt k
       expires-true kind (Receives r m) k = true-receiver policy.times Done (machine.Expires kind policy) files id r m k tt
 
-      calls-true : (c : Call) (s : Seen) → KnowsTruth own put_of heard id s → StepsTrue files id (calls policy.times files c s)
+      calls-true : (c : Request) (s : Seen) → KnowsTruth own put_of heard id s → StepsTrue files id (calls policy.times files c s)
       calls-true call.Cancel (Sends x) k = true-sender policy.times files policy [] inputs.Cancels id x tt k
       calls-true call.Suspend (Sends x) k = true-sender policy.times files policy [] inputs.Suspends id x tt k
       calls-true call.Resume (Sends x) k = true-sender policy.times files policy [] inputs.Resumes id x tt k

@@ -25,7 +25,7 @@ use Rattle.cfdp_receiver.specs.Does as receiver_does
 use Rattle.cfdp_receiver.specs.Does.{Scene}
 use Rattle.cfdp_receiver.specs.declared.due.Due.{Due}
 use Rattle.cfdp_receiver.specs.Due.{receiver_says}
-use Rattle.cfdp_entity.specs.declared.call.Call.{Call}
+use Rattle.cfdp_entity.specs.declared.request.Request.{Request}
 use Rattle.cfdp_entity.specs.declared.record.Gave.{Gave}
 use Rattle.cfdp_entity.specs.declared.record.Gave.TheVariants.{Octets, Failed}
 use Rattle.cfdp_entity.specs.declared.record.Record.{Record}
@@ -43,7 +43,7 @@ hearing stored large v desk s = hears stored desk.policy.times desk.files large 
 abbrev pub expiring : Kind → DeskState → Seen → After
 expiring k desk s = expires desk.policy desk.files k s
 
-abbrev pub calling : Call → DeskState → Seen → After
+abbrev pub calling : Request → DeskState → Seen → After
 calling c desk s = calls desk.policy.times desk.files c s
 
 abbrev pub taking : Stored → DeskState → Seen → After

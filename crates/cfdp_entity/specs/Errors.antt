@@ -6,8 +6,8 @@ use Rattle.cfdp_entity.specs.declared.error.EntityDrop.{EntityDrop}
 use Rattle.cfdp_entity.specs.declared.error.EntityDrop.TheVariants as drops
 use Rattle.cfdp_entity.specs.declared.error.PutError.{PutError}
 use Rattle.cfdp_entity.specs.declared.error.PutError.TheVariants as puts
-use Rattle.cfdp_entity.specs.declared.error.CallError.{CallError}
-use Rattle.cfdp_entity.specs.declared.error.CallError.TheVariants as calls
+use Rattle.cfdp_entity.specs.declared.error.RequestError.{RequestError}
+use Rattle.cfdp_entity.specs.declared.error.RequestError.TheVariants as calls
 
 abbrev pub drop_number : EntityDrop → ℕ
 drop_number (drops.Pdu e) = pdu_refusal_number e
@@ -50,14 +50,14 @@ put_name puts.NumbersSpent = codes "NumbersSpent"
 put_name puts.SourceFault = codes "SourceFault"
 put_name puts.NoMemory = codes "NoMemory"
 
-abbrev pub call_number : CallError → ℕ
+abbrev pub call_number : RequestError → ℕ
 call_number calls.Unknown = 1
 call_number calls.AlreadyClosed = 2
 call_number calls.WrongSide = 3
 call_number calls.AlreadySo = 4
 call_number calls.NoMemory = 5
 
-abbrev pub call_name : CallError → List ℕ
+abbrev pub call_name : RequestError → List ℕ
 call_name calls.Unknown = codes "Unknown"
 call_name calls.AlreadyClosed = codes "AlreadyClosed"
 call_name calls.WrongSide = codes "WrongSide"

@@ -18,7 +18,7 @@ use Rattle.cfdp_sender.specs.State.{transfer_of}
 use Rattle.cfdp_sender.specs.Inputs.{finished_count}
 use Rattle.cfdp_receiver.specs.declared.state.ReceiverPhase.TheVariants as receiving
 use Rattle.cfdp_receiver.specs.Sound.{open_count}
-use Rattle.cfdp_entity.specs.declared.call.Call.{Call}
+use Rattle.cfdp_entity.specs.declared.request.Request.{Request}
 use Rattle.cfdp_entity.specs.Seen.{Seen, Sends, Receives, addressing_of}
 use Rattle.cfdp_entity.specs.Steps as steps
 use Rattle.cfdp_entity.specs.Table.{Entry, TableState, place_of, record_of, heard_at, expired_at, called_at, taken_at, put_in, opened_by, at_time, all_expired}
@@ -29,7 +29,7 @@ pub data TableStep : Type 0 where
   -- a record found no memory for a PDU, and is so then
   Spoils : (place : ℕ) (v : Content) (noted : Seen) → TableStep
   Expires : (place : ℕ) (k : Kind) → TableStep
-  Calls : (place : ℕ) (c : Call) → TableStep
+  Calls : (place : ℕ) (c : Request) → TableStep
   Takes : (stored : Stored) (place : ℕ) → TableStep
   Puts : (t : Transfer) → TableStep
   Opens : (begun stored : Stored) (a : Addressing) (large : Bool) (v : Content) → TableStep

@@ -6,7 +6,7 @@ pub mod Ready
 pub mod Seen
 pub mod Steps
 pub mod Opening
-pub mod Calling
+pub mod Refusing
 pub mod Table
 pub mod Walking
 pub mod Storing
@@ -18,7 +18,7 @@ pub mod Gives
 pub mod Does
 pub mod Strays
 pub mod Entity
-pub mod Calls
+pub mod Requests
 pub mod Hearing
 pub mod Closed
 pub mod Forgetting

@@ -27,8 +27,8 @@ use Rattle.cfdp_receiver.specs.declared.due.Due.{Due}
 use Rattle.cfdp_receiver.specs.Due.{receiver_due}
 use Rattle.cfdp_receiver.specs.Does as receiver_does
 use Rattle.cfdp_receiver.specs.Steps as receiver
-use Rattle.cfdp_entity.specs.declared.call.Call.{Call}
-use Rattle.cfdp_entity.specs.declared.call.Call.TheVariants as call
+use Rattle.cfdp_entity.specs.declared.request.Request.{Request}
+use Rattle.cfdp_entity.specs.declared.request.Request.TheVariants as request
 use Rattle.cfdp_entity.specs.Seen.{Seen, Sends, Receives, octets_seen}
 
 -- what a step leaves: the record, what it indicated, how it set its timers, in turn, and the
@@ -118,26 +118,26 @@ Spoils (Nak start end pairs) (Sends x) new =
     (n : ℕ) × (new ≡ Sends (sender.asks_in x.phase (take n pairs) x))
 Spoils _ old new = new ≡ old
 
--- ---- timers, calls of the user, and what is sent
+-- ---- timers, requests of the user, and what is sent
 abbrev pub expires : Policy → FileMap → Kind → Seen → After
 expires policy files k (Sends x) = by_sender policy.times files (sender.sender_expires k policy x)
 expires policy files k (Receives r m) =
     by_receiver policy.times (receiver.expires k policy m files r)
 
-abbrev pub called_sender : Call → SenderState → sender.SenderAfter
-called_sender call.Cancel x = sender.sender_cancels x
-called_sender call.Suspend x = sender.sender_suspends x
-called_sender call.Resume x = sender.sender_resumes x
-called_sender (call.Prompt keep_alive) x = sender.sender_prompts keep_alive x
+abbrev pub called_sender : Request → SenderState → sender.SenderAfter
+called_sender request.Cancel x = sender.sender_cancels x
+called_sender request.Suspend x = sender.sender_suspends x
+called_sender request.Resume x = sender.sender_resumes x
+called_sender (request.Prompt keep_alive) x = sender.sender_prompts keep_alive x
 
-abbrev pub called_receiver : Call → OctetMap → FileMap → ReceiverState →
+abbrev pub called_receiver : Request → OctetMap → FileMap → ReceiverState →
     Option receiver.ReceiverAfter
-called_receiver call.Cancel m files r = Some (receiver.cancels m files r)
-called_receiver call.Suspend m files r = Some (receiver.suspends m files r)
-called_receiver call.Resume m files r = Some (receiver.resumes m files r)
-called_receiver (call.Prompt keep_alive) m files r = None
+called_receiver request.Cancel m files r = Some (receiver.cancels m files r)
+called_receiver request.Suspend m files r = Some (receiver.suspends m files r)
+called_receiver request.Resume m files r = Some (receiver.resumes m files r)
+called_receiver (request.Prompt keep_alive) m files r = None
 
-abbrev pub calls : Times → FileMap → Call → Seen → After
+abbrev pub calls : Times → FileMap → Request → Seen → After
 calls times files c (Sends x) = by_sender times files (called_sender c x)
 calls times files c (Receives r m) = if_receiver times files r m (called_receiver c m files r)
 

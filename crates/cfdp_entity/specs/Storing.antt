@@ -14,8 +14,8 @@ use Rattle.cfdp_timers.specs.Due.{AreDue}
 use Rattle.cfdp_timers.specs.Order.{Timer}
 use Rattle.cfdp_receiver.specs.State.{ReceiverState, opened_receiver}
 use Rattle.cfdp_receiver.specs.Storing.{Settles, Stages, Begins, staged_pieces}
-use Rattle.cfdp_entity.specs.declared.call.Call.{Call}
-use Rattle.cfdp_entity.specs.declared.call.Call.TheVariants as call
+use Rattle.cfdp_entity.specs.declared.request.Request.{Request}
+use Rattle.cfdp_entity.specs.declared.request.Request.TheVariants as request
 use Rattle.cfdp_entity.specs.Seen.{Seen, Sends, Receives}
 use Rattle.cfdp_entity.specs.Steps.{After, hears, expires, calls}
 use Rattle.cfdp_entity.specs.Opening.{closing, opens}
@@ -34,9 +34,9 @@ module _ {A : Type 0} (By : List InboxCall → A → A → Type 0) where
       Settles By stored r s old new
   AsksHeard large _ stored r s old new = By [] old new
 
-  -- Its user called it. Only a cancel asks something of the inbox.
-  abbrev pub AsksCalled : Call → (r s : ReceiverState) → (old new : A) → Type 0
-  AsksCalled call.Cancel r s old new = Settles By Done r s old new
+  -- Its user asked something of it. Only a cancel asks something of the inbox.
+  abbrev pub AsksCalled : Request → (r s : ReceiverState) → (old new : A) → Type 0
+  AsksCalled request.Cancel r s old new = Settles By Done r s old new
   AsksCalled _ r s old new = By [] old new
 
   -- ---- one step of a record, by what it asks where it is a receiver's
@@ -60,9 +60,9 @@ module _ {A : Type 0} (By : List InboxCall → A → A → Type 0) where
       (λ e. hears stored st.policy.times st.files large v e.1) (slice_get st.records place)
       old new
 
-  -- its user called it
-  abbrev pub AsksToCall : Call → ℕ → TableState → (old new : A) → Type 0
-  AsksToCall c place st old new = AsksOf (AsksCalled c) (λ e. calls st.policy.times st.files c e.1)
+  -- its user asked something of it
+  abbrev pub AsksToRequest : Request → ℕ → TableState → (old new : A) → Type 0
+  AsksToRequest c place st old new = AsksOf (AsksCalled c) (λ e. calls st.policy.times st.files c e.1)
       (slice_get st.records place) old new
 
   -- its timer expired
@@ -75,9 +75,9 @@ module _ {A : Type 0} (By : List InboxCall → A → A → Type 0) where
   AsksWhere Asks (Some place) old new = Asks place old new
   AsksWhere Asks None old new = By [] old new
 
-  abbrev pub AsksByCall : Call → TransactionId → TableState → (old new : A) → Type 0
-  AsksByCall c id st old new =
-      AsksWhere (λ place. AsksToCall c place st) (place_of id st.records) old new
+  abbrev pub AsksByRequest : Request → TransactionId → TableState → (old new : A) → Type 0
+  AsksByRequest c id st old new =
+      AsksWhere (λ place. AsksToRequest c place st) (place_of id st.records) old new
 
   abbrev pub AsksByTimer : Timer → TableState → (old new : A) → Type 0
   AsksByTimer t st old new =

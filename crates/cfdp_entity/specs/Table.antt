@@ -19,7 +19,7 @@ use Rattle.cfdp_timers.specs.Order.{Timer}
 use Rattle.cfdp_timers.specs.Armed.{Armed}
 use Rattle.cfdp_timers.specs.Due.{AreDue, still_armed}
 use Rattle.cfdp_sender.specs.declared.transfer.Transfer.{Transfer}
-use Rattle.cfdp_entity.specs.declared.call.Call.{Call}
+use Rattle.cfdp_entity.specs.declared.request.Request.{Request}
 use Rattle.cfdp_entity.specs.Seen.{Seen, is_due, due_octets, due_len, carries_data, phase_of}
 use Rattle.cfdp_entity.specs.Steps.{After, with_waits, hears, expires, calls, takes, Spoils}
 use Rattle.cfdp_entity.specs.Opening.{puts, opens}
@@ -114,7 +114,7 @@ heard_at stored place large v st =
 abbrev pub expired_at : ℕ → Kind → TableState → TableState
 expired_at place k st = step_at (λ e. expires st.policy st.files k e.1) place st
 
-abbrev pub called_at : ℕ → Call → TableState → TableState
+abbrev pub called_at : ℕ → Request → TableState → TableState
 called_at place c st = step_at (λ e. calls st.policy.times st.files c e.1) place st
 
 abbrev pub taken_at : Stored → ℕ → TableState → TableState

@@ -1,41 +1,52 @@
 // What a user asks of a transaction, and the time.
-ghost use Rattle.std.specs.Prelude.{◌≡◌, ◌≤◌, max, false, IfErr, OnOk, OnErr};
+ghost use Rattle.std.specs.Prelude.{◌≡◌, ◌≤◌, max, OnOk, OnErr};
 ghost use Rattle.cfdp_store.specs.Chains.{Raises};
 ghost use Rattle.cfdp_timers.specs.Due.{due_count};
-ghost use Rattle.cfdp_entity.specs.Calling.{IsRefusal};
-ghost use Rattle.cfdp_entity.specs.Calls.{asks_inbox, call_refusal, CallsAt, IsCalled};
 ghost use Rattle.cfdp_entity.specs.Entity.{with_table};
-ghost use Rattle.cfdp_entity.specs.Storing.{AsksByCall, AsksToTick};
+ghost use Rattle.cfdp_entity.specs.Requests.{AnswersRequest, RequestsAt};
+ghost use Rattle.cfdp_entity.specs.Storing.{AsksToTick};
 ghost use Rattle.cfdp_entity.specs.Table.{Ticks};
-ghost use Rattle.cfdp_entity.specs.declared.call.Call.TheVariants as calls;
+ghost use Rattle.cfdp_entity.specs.declared.request.Request.TheVariants as requests;
 
-use crate::call::Call;
 use crate::entity::Entity;
-use crate::error::CallError;
+use crate::error::RequestError;
+use crate::request::Request;
 use cfdp_header::TransactionId;
 use cfdp_store::{Inbox, Outbox};
 use std::alloc::AllocError;
 
 impl<O: Outbox, I: Inbox> Entity<O, I> {
+    /// Does what is asked of a transaction: what [`cancel`](Self::cancel),
+    /// [`suspend`](Self::suspend), [`resume`](Self::resume) or [`prompt`](Self::prompt) does.
+    ///
+    /// # Errors
+    ///
+    /// The first cause that holds, in the order of [`RequestError`]. All is then as it was.
+    pub fn request(&mut self, id: TransactionId, request: Request) -> Result<(), RequestError>
+        ensures { AnswersRequest request id result self.old self.new }
+    {
+        let Some(place) = self.table.place_of(id) else {
+            return Err(RequestError::Unknown);
+        };
+        if let Some(refusal) = self.table.refusal_at(place, request) {
+            return Err(refusal);
+        }
+        match self.request_at(place, request) {
+            Ok(()) => Ok(()),
+            Err(_) => Err(RequestError::NoMemory),
+        }
+    }
+
     /// Gives up a transaction that is sent or received, and tells the other entity.
     ///
     /// # Errors
     ///
     /// The first that holds, in this order: `Unknown`, `AlreadyClosed`, `NoMemory`. All is then as
     /// it was.
-    pub fn cancel(&mut self, id: TransactionId) -> Result<(), CallError>
-        ensures called { OnOk result (IsCalled calls.Cancel id self.old.state self.new.state) }
-        ensures refused { IfErr result (IsRefusal (call_refusal calls.Cancel id
-            self.old.state.table)) }
-        ensures err { OnErr result (self.new ≡ self.old) }
-        ensures grows { self.old.inbox_failures ≤ self.new.inbox_failures }
-        ensures inbox { asks_inbox calls.Cancel id self.old.state.table ≡ false
-            → self.new.inbox_failures ≡ self.old.inbox_failures }
-        ensures raises { OnOk result (AsksByCall Raises calls.Cancel id self.old.state.table
-            self.old.inbox_failures self.new.inbox_failures) }
-        ensures outbox { self.new.outbox_failures ≡ self.old.outbox_failures }
+    pub fn cancel(&mut self, id: TransactionId) -> Result<(), RequestError>
+        ensures { AnswersRequest requests.Cancel id result self.old self.new }
     {
-        self.call(id, Call::Cancel)
+        self.request(id, Request::Cancel)
     }
 
     /// Suspends a transaction that is sent or received: nothing of it is sent, and no time runs for
@@ -45,15 +56,10 @@ impl<O: Outbox, I: Inbox> Entity<O, I> {
     ///
     /// The first that holds, in this order: `Unknown`, `AlreadyClosed`, `AlreadySo` where it is
     /// suspended, `NoMemory`. All is then as it was.
-    pub fn suspend(&mut self, id: TransactionId) -> Result<(), CallError>
-        ensures called { OnOk result (IsCalled calls.Suspend id self.old.state self.new.state) }
-        ensures refused { IfErr result (IsRefusal (call_refusal calls.Suspend id
-            self.old.state.table)) }
-        ensures err { OnErr result (self.new ≡ self.old) }
-        ensures inbox { self.new.inbox_failures ≡ self.old.inbox_failures }
-        ensures outbox { self.new.outbox_failures ≡ self.old.outbox_failures }
+    pub fn suspend(&mut self, id: TransactionId) -> Result<(), RequestError>
+        ensures { AnswersRequest requests.Suspend id result self.old self.new }
     {
-        self.call(id, Call::Suspend)
+        self.request(id, Request::Suspend)
     }
 
     /// Lets a suspended transaction go on.
@@ -62,15 +68,10 @@ impl<O: Outbox, I: Inbox> Entity<O, I> {
     ///
     /// The first that holds, in this order: `Unknown`, `AlreadyClosed`, `AlreadySo` where it isn't
     /// suspended, `NoMemory`. All is then as it was.
-    pub fn resume(&mut self, id: TransactionId) -> Result<(), CallError>
-        ensures called { OnOk result (IsCalled calls.Resume id self.old.state self.new.state) }
-        ensures refused { IfErr result (IsRefusal (call_refusal calls.Resume id
-            self.old.state.table)) }
-        ensures err { OnErr result (self.new ≡ self.old) }
-        ensures inbox { self.new.inbox_failures ≡ self.old.inbox_failures }
-        ensures outbox { self.new.outbox_failures ≡ self.old.outbox_failures }
+    pub fn resume(&mut self, id: TransactionId) -> Result<(), RequestError>
+        ensures { AnswersRequest requests.Resume id result self.old self.new }
     {
-        self.call(id, Call::Resume)
+        self.request(id, Request::Resume)
     }
 
     /// Asks the receiver of a file that is sent for a Keep Alive, or else for a NAK.
@@ -80,16 +81,10 @@ impl<O: Outbox, I: Inbox> Entity<O, I> {
     /// The first that holds, in this order: `Unknown`, `WrongSide` where this entity is the file's
     /// receiver, `AlreadyClosed`, `AlreadySo` where a Prompt is due already, `NoMemory`. All is
     /// then as it was.
-    pub fn prompt(&mut self, id: TransactionId, keep_alive: bool) -> Result<(), CallError>
-        ensures called { OnOk result (IsCalled (calls.Prompt keep_alive) id self.old.state
-            self.new.state) }
-        ensures refused { IfErr result (IsRefusal (call_refusal (calls.Prompt keep_alive) id
-            self.old.state.table)) }
-        ensures err { OnErr result (self.new ≡ self.old) }
-        ensures inbox { self.new.inbox_failures ≡ self.old.inbox_failures }
-        ensures outbox { self.new.outbox_failures ≡ self.old.outbox_failures }
+    pub fn prompt(&mut self, id: TransactionId, keep_alive: bool) -> Result<(), RequestError>
+        ensures { AnswersRequest (requests.Prompt keep_alive) id result self.old self.new }
     {
-        self.call(id, Call::Prompt(keep_alive))
+        self.request(id, Request::Prompt { keep_alive })
     }
 
     /// Tells the time, in any unit that the durations of the policy have. A time earlier than the
@@ -114,34 +109,13 @@ impl<O: Outbox, I: Inbox> Entity<O, I> {
         self.table.tick(now)
     }
 
-    fn call(&mut self, id: TransactionId, call: Call) -> Result<(), CallError>
-        ensures called { OnOk result (IsCalled call id self.old.state self.new.state) }
-        ensures refused { IfErr result (IsRefusal (call_refusal call id self.old.state.table)) }
-        ensures err { OnErr result (self.new ≡ self.old) }
-        ensures grows { self.old.inbox_failures ≤ self.new.inbox_failures }
-        ensures raises { OnOk result (AsksByCall Raises call id self.old.state.table
-            self.old.inbox_failures self.new.inbox_failures) }
-        ensures outbox { self.new.outbox_failures ≡ self.old.outbox_failures }
-    {
-        let Some(place) = self.table.place_of(id) else {
-            return Err(CallError::Unknown);
-        };
-        if let Some(refusal) = self.table.refusal_at(place, call) {
-            return Err(refusal);
-        }
-        match self.call_at(place, call) {
-            Ok(()) => Ok(()),
-            Err(_) => Err(CallError::NoMemory),
-        }
-    }
-
-    // A call on the record at a place.
-    fn call_at(&mut self, place: usize, call: Call) -> Result<(), AllocError>
-        ensures called { OnOk result (CallsAt place call self.old self.new) }
+    // What is asked of the transaction whose record is at a place.
+    fn request_at(&mut self, place: usize, request: Request) -> Result<(), AllocError>
+        ensures asked { OnOk result (RequestsAt place request self.old self.new) }
         ensures err { OnErr result (self.new ≡ self.old) }
     {
         self.table.reserve(3)?;
-        self.table.call(place, call);
+        self.table.request(place, request);
         Ok(())
     }
 }

@@ -18,11 +18,11 @@ ghost use Rattle.cfdp_entity.specs.Seen.{carries_data, due_len, seen};
 ghost use Rattle.cfdp_entity.specs.Storing.{AsksCalled, AsksHeard, AsksFirst, AsksToBegin};
 ghost use Rattle.cfdp_entity.specs.Whole.{MayStep};
 
-use crate::call::Call;
 use crate::opening::{Opened, closing};
 use crate::record::{
-    Gave, Record, call_receiver, call_sender, receiver_hears, send_of_receiver, sender_hears,
+    Gave, Record, ask_receiver, ask_sender, receiver_hears, send_of_receiver, sender_hears,
 };
+use crate::request::Request;
 use cfdp_directives::{Addressing, Pdu, Policy};
 use cfdp_receiver::Receiver;
 use cfdp_sender::{Sender, Taken, Transfer};
@@ -89,21 +89,21 @@ impl<O: Outbox, I: Inbox> Desk<O, I> {
         }
     }
 
-    /// A call of the user.
-    pub(crate) fn call(&mut self, held: &mut Record, call: Call)
+    /// A request of the user.
+    pub(crate) fn request(&mut self, held: &mut Record, request: Request)
         requires { MayStep held.old (on_desk O.Outbox I.Inbox self.old) }
-        ensures called { Made (calling call) held.old held.new
+        ensures called { Made (calling request) held.old held.new
             (on_desk O.Outbox I.Inbox self.old) (on_desk O.Outbox I.Inbox self.new) }
-        ensures asks { Asked Stored.Done (AsksCalled Raises call) held.old held.new
+        ensures asks { Asked Stored.Done (AsksCalled Raises request) held.old held.new
             (on_desk O.Outbox I.Inbox self.old) (on_desk O.Outbox I.Inbox self.new) }
         ensures stays { Stays held.old held.new (on_desk O.Outbox I.Inbox self.old)
             (on_desk O.Outbox I.Inbox self.new) }
     {
         let effects = &mut self.effects;
         match held {
-            Record::Sends(sender) => call_sender(sender, effects, &self.policy, call),
+            Record::Sends(sender) => ask_sender(sender, effects, &self.policy, request),
             Record::Receives(receiver) => {
-                call_receiver(receiver, effects, &mut self.inbox, &self.policy, call);
+                ask_receiver(receiver, effects, &mut self.inbox, &self.policy, request);
             }
         }
     }

@@ -1,9 +1,9 @@
 ghost use Rattle.std.specs.Prelude.{◌≡◌, drop, length, get_or, IfOk, MatchOption, None};
 ghost use Rattle.cfdp_timers.specs.ButInactivity.{OnlyInactivity, IsLeastOther};
 ghost use Rattle.cfdp_entity.specs.Config.{IsConfig};
+ghost use Rattle.cfdp_entity.specs.Errors.{drop_number};
 ghost use Rattle.cfdp_entity.specs.Entity.{entity_standing, first_entity, phase_told, dropped};
 
-use crate::call::Call;
 use crate::config::EntityConfig;
 use crate::error::EntityDrop;
 use crate::stray::Stray;
@@ -108,20 +108,19 @@ impl<O: Outbox, I: Inbox> Entity<O, I> {
         }
     }
 
-    /// How often `hear` dropped a PDU by the cause with this number; 0 where no cause has it. The
-    /// count stays at the greatest `u64`.
-    pub fn drops(&self, number: u8) -> u64
-        ensures count { result ≡ get_or self.now.state.drops number 0 }
+    /// How often `hear` dropped a PDU by this cause. The count stays at the greatest `u64`.
+    pub fn drops(&self, by: EntityDrop) -> u64
+        ensures count { result ≡ get_or self.now.state.drops (drop_number by) 0 }
         ensures kinds { length self.now.state.drops ≡ 18 }
     {
-        match self.drops.get(usize::from(number)) {
+        match self.drops.get(usize::from(by.number())) {
             Some(count) => *count,
             None => 0,
         }
     }
 
     /// The earliest deadline of the armed timers but those of kind Inactivity, in units of the
-    /// clock that `tick` is told; `None` where no other is armed. `next_expiry` tells that of all.
+    /// clock that `tick` is told; `None` where no other is armed. `next_timeout` tells that of all.
     pub fn next_deadline(&self) -> Option<u64>
         ensures { MatchOption result (OnlyInactivity self.now.state.table.armed)
             (λ deadline. IsLeastOther self.now.state.table.armed deadline) }

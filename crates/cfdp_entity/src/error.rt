@@ -187,7 +187,7 @@ impl PutError {
 /// Why a call on a transaction is refused: the first cause that holds, in the order in which they
 /// are told.
 #[derive(Clone, Copy, Debug, PartialEq, Eq, Error)]
-pub enum CallError {
+pub enum RequestError {
     /// The transaction has no record here. Told first.
     #[error("the transaction is not known")]
     Unknown,
@@ -206,17 +206,17 @@ pub enum CallError {
     NoMemory,
 }
 
-impl CallError {
+impl RequestError {
     /// The number that names this refusal in reports: 1 to 5.
     pub fn number(self) -> u8
         ensures { result ≡ errors.call_number self }
     {
         match self {
-            CallError::Unknown => 1,
-            CallError::AlreadyClosed => 2,
-            CallError::WrongSide => 3,
-            CallError::AlreadySo => 4,
-            CallError::NoMemory => 5,
+            RequestError::Unknown => 1,
+            RequestError::AlreadyClosed => 2,
+            RequestError::WrongSide => 3,
+            RequestError::AlreadySo => 4,
+            RequestError::NoMemory => 5,
         }
     }
 
@@ -225,11 +225,11 @@ impl CallError {
         ensures { result.now ≡ errors.call_name self }
     {
         match self {
-            CallError::Unknown => "Unknown",
-            CallError::AlreadyClosed => "AlreadyClosed",
-            CallError::WrongSide => "WrongSide",
-            CallError::AlreadySo => "AlreadySo",
-            CallError::NoMemory => "NoMemory",
+            RequestError::Unknown => "Unknown",
+            RequestError::AlreadyClosed => "AlreadyClosed",
+            RequestError::WrongSide => "WrongSide",
+            RequestError::AlreadySo => "AlreadySo",
+            RequestError::NoMemory => "NoMemory",
         }
     }
 }

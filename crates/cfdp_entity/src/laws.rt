@@ -12,7 +12,7 @@ ghost use Rattle.cfdp_directives.specs.Pdu.Grammar.{SpellsPdu};
 ghost use Rattle.cfdp_directives.specs.User.Put.{Put, IsTruthful, SaysTruth};
 ghost use Rattle.cfdp_store.specs.declared.stored.Stored.{Stored};
 ghost use Rattle.cfdp_sender.specs.Inputs.{finished_count};
-ghost use Rattle.cfdp_entity.specs.declared.call.Call.{Call};
+ghost use Rattle.cfdp_entity.specs.declared.request.Request.{Request};
 ghost use Rattle.cfdp_entity.specs.declared.config.EntityConfig.{EntityConfig};
 ghost use Rattle.cfdp_entity.specs.declared.error.EntityDrop.{EntityDrop};
 ghost use Rattle.cfdp_entity.specs.Config.{IsConfig};
@@ -24,7 +24,7 @@ ghost use Rattle.cfdp_entity.specs.Seen.{due_content};
 ghost use Rattle.cfdp_entity.specs.Sending.{FindsPut, SendsTruth};
 ghost use Rattle.cfdp_entity.specs.Telling.{HearsDelivered, TellsNoMore};
 ghost use Rattle.cfdp_entity.specs.Entity.{EntityState, Counted, first_entity, with_table};
-ghost use Rattle.cfdp_entity.specs.Calls.{IsCalled};
+ghost use Rattle.cfdp_entity.specs.Requests.{IsCalled};
 ghost use Rattle.cfdp_entity.specs.Forgetting.{Forgets, ForgetsSome, with_files, without_file};
 ghost use Rattle.cfdp_entity.specs.Hearing.{HearsOctets, DropsOctets};
 ghost use Rattle.cfdp_entity.specs.Polling.{turn, turn_octets, served};
@@ -205,7 +205,7 @@ pub fn an_entity_keeps_the_truth()
         → put_of id ≡ Some (next_put source destination old)
         → IsSound put_of heard first old → IsSound put_of heard first new }
     ensures called { (put_of : TransactionId → Option Put) (heard : List (List ℕ))
-        (first : FileMap) (c : Call) (id : TransactionId) (old new : EntityState) →
+        (first : FileMap) (c : Request) (id : TransactionId) (old new : EntityState) →
         IsCalled c id old new → IsSound put_of heard first old → IsSound put_of heard first new }
     ensures ticked { (put_of : TransactionId → Option Put) (heard : List (List ℕ))
         (first : FileMap) (now : ℕ) (old new : EntityState) → Ticks now old.table new.table
@@ -233,7 +233,7 @@ pub fn an_entity_keeps_the_truth()
 pub fn an_entity_goes_on()
     ensures put { (source destination : List ℕ) (id : TransactionId) (old new : EntityState) →
         Accepts source destination id old new → GoesOn old new }
-    ensures called { (c : Call) (id : TransactionId) (old new : EntityState) →
+    ensures called { (c : Request) (id : TransactionId) (old new : EntityState) →
         IsCalled c id old new → GoesOn old new }
     ensures ticked { (now : ℕ) (old new : EntityState) → Ticks now old.table new.table
         → new ≡ with_table old new.table → GoesOn old new }
@@ -323,7 +323,7 @@ pub fn an_entity_may_remove_files()
         → put_of id ≡ Some (next_put source destination old)
         → IsSoundBut put_of heard first removed old → IsSoundBut put_of heard first removed new }
     ensures called { (put_of : TransactionId → Option Put) (heard : List (List ℕ))
-        (first : FileMap) (removed : List ℕ → Bool) (c : Call) (id : TransactionId)
+        (first : FileMap) (removed : List ℕ → Bool) (c : Request) (id : TransactionId)
         (old new : EntityState) →
         IsCalled c id old new → IsSoundBut put_of heard first removed old
         → IsSoundBut put_of heard first removed new }

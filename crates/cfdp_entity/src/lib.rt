@@ -1,11 +1,12 @@
 //! An entity of CFDP, class 2: the table of its transactions, one record for each, of the sending
 //! or of the receiving machine, with their timers and both stores. Its user asks things of it and
 //! tells it the time, it hears PDUs, and PDUs are taken from it.
+//!
+//! Tested by `entity.txt`, `entities.txt`, `forgetting.txt`, `large.txt` in `tests/transcripts/`.
 #![tactic(auto)]
 
 mod adding;
 mod amiss;
-mod call;
 mod calls;
 mod closed;
 mod config;
@@ -18,17 +19,16 @@ mod laws;
 mod looking;
 mod opening;
 mod polled;
-mod polling;
 mod putting;
 mod ready;
 mod record;
+mod request;
 mod route;
 mod stray;
 mod table;
 mod transactions;
 
 pub use amiss::EntityField;
-pub use call::Call;
 pub use cfdp_directives::{
     ChecksumKind, Condition, Delivery, FileStatus, Handler, Handlers, Indication, Limits, Octets,
     PduError, Phase, Policy, Times,
@@ -38,7 +38,7 @@ pub use cfdp_store::{Inbox, Outbox, StoreError};
 pub use closed::{a_closed_receiver_acknowledges, a_closed_sender_acknowledges};
 pub use config::EntityConfig;
 pub use entity::Entity;
-pub use error::{AddError, CallError, EntityDrop, ForgetError, PutError};
+pub use error::{AddError, EntityDrop, ForgetError, PutError, RequestError};
 pub use laws::{
     a_table_finishes_a_transaction_once, a_table_keeps_the_truth, a_table_sends_the_truth,
     a_table_tells_no_more, an_entity_goes_on, an_entity_keeps_the_truth, an_entity_may_forget,
@@ -46,4 +46,5 @@ pub use laws::{
     records_stay_for_good, removed_files_change_nothing_else,
 };
 pub use polled::{EntityPolled, Rooms};
+pub use request::Request;
 pub use transactions::Transactions;

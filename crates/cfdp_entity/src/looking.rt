@@ -28,14 +28,14 @@ impl<O: Outbox, I: Inbox> Entity<O, I> {
         MOST_RECORDS - self.table.len()
     }
 
-    /// The earliest deadline of all armed timers, those of kind Inactivity among them, in units of
-    /// the clock that `tick` is told; `None` where none is armed. It goes over all records, which
-    /// `next_deadline` doesn't.
-    pub fn next_expiry(&self) -> Option<u64>
+    /// When `tick` has to be called at the latest: the earliest deadline of all armed timers, those
+    /// of kind Inactivity among them, in units of the clock that it is told; `None` where none is
+    /// armed.
+    pub fn next_timeout(&self) -> Option<u64>
         ensures { MatchOption result (self.now.state.table.armed ≡ map.empty)
             (λ deadline. IsLeast self.now.state.table.armed deadline) }
     {
-        self.table.next_expiry()
+        self.table.next_timeout()
     }
 
     /// What was indicated behind the first so many indications, in order: none where there are no

@@ -1,3 +1,19 @@
+// What an entity sends: what a poll gives, and who has the turn.
+ghost use Rattle.std.specs.Prelude.{◌≡◌, ◌≤◌, ◌<◌, [], true, length, IfOk, OnErr, OnOk};
+ghost use Rattle.cfdp_entity.specs.declared.polled.EntityPolled.TheVariants as answers;
+ghost use Rattle.cfdp_entity.specs.Entity.{counted_lent, entity_lent};
+ghost use Rattle.cfdp_entity.specs.Gives.{CountsOutbox};
+ghost use Rattle.cfdp_entity.specs.Polling.{Polls, SendsAt, Shows, TakesTurn, room_in, stored_by_poll, turn_room};
+ghost use Rattle.cfdp_entity.specs.Sound.{longest_pdu};
+ghost use Rattle.cfdp_entity.specs.Spelled.{Answers, FirstIsSpelled, SpellsMoved};
+ghost use Rattle.cfdp_entity.specs.Strays.{first_stray_len};
+ghost use Rattle.cfdp_entity.specs.Table.{ShowsIf, data_at, len_at};
+
+use crate::entity::Entity;
+use crate::record::Gave;
+use cfdp_store::{Inbox, Outbox};
+use std::alloc::AllocError;
+
 /// The octets for which there is room, by the type of the PDU (CCSDS 727.0-B-5, 5.1.1).
 #[derive(Clone, Copy, Debug, PartialEq, Eq)]
 pub struct Rooms {
@@ -5,6 +21,19 @@ pub struct Rooms {
     pub directives: usize,
     /// For file data.
     pub file_data: usize,
+}
+
+impl Rooms {
+    // The room for file data where true, else for a directive.
+    fn of(self, file_data: bool) -> usize
+        ensures { result ≡ room_in self file_data }
+    {
+        if file_data {
+            self.file_data
+        } else {
+            self.directives
+        }
+    }
 }
 
 /// What a poll did.
@@ -24,4 +53,115 @@ pub enum EntityPolled {
     /// The outbox failed to give the file data that are due: the transaction was cancelled for it,
     /// and no PDU was written.
     SourceFailed,
+}
+
+impl<O: Outbox, I: Inbox> Entity<O, I> {
+    /// Takes the PDU that is due next: stray acknowledgements come first, then the records in order
+    /// of opening, round robin from behind the one served last. It is written over the first octets
+    /// of `out`, where it has at most as many octets as there is room for its type. No PDU is
+    /// longer than 4,132 octets.
+    ///
+    /// Whose turn it is doesn't depend on the rooms: `Full` is told of file data that don't fit,
+    /// also where another record has a directive due that would.
+    ///
+    /// # Errors
+    ///
+    /// `AllocError` where a record has the turn and its PDU fits, but there is no memory for what
+    /// is indicated. All is then as it was.
+    pub fn poll(&mut self, rooms: Rooms, out: &mut [u8]) -> Result<EntityPolled, AllocError>
+        requires directives { rooms.directives ≤ length out.old }
+        requires file_data { rooms.file_data ≤ length out.old }
+        // What was read of a file is what the outbox has now.
+        ensures polled { let lent = counted_lent self.new self.old in IfOk result (λ answer. Polls
+            (turn_room rooms lent.state) answer lent self.new out.old out.new) }
+        ensures shows { IfOk result (λ answer. Shows answer self.old.state self.new.state) }
+        // Its octets are those of what it says.
+        ensures spells { IfOk result (λ answer. SpellsMoved answer
+            (entity_lent self.new.state self.old.state)) }
+        ensures roomy { IfOk result (λ answer. answer ≡ answers.Full
+            → turn_room rooms self.old.state < longest_pdu) }
+        ensures counts { IfOk result (λ answer. CountsOutbox (stored_by_poll answer)
+            self.old.outbox_failures self.new.outbox_failures) }
+        ensures err { OnErr result ((self.new ≡ self.old) × (out.new ≡ out.old)) }
+        ensures lacks { OnErr result (TakesTurn (turn_room rooms self.old.state) self.old.state) }
+        ensures inbox { self.new.inbox_failures ≡ self.old.inbox_failures }
+    {
+        if self.strays.is_empty() {
+            self.poll_record(rooms, out)
+        } else {
+            Ok(self.poll_stray(rooms.directives, out))
+        }
+    }
+
+    // The first stray acknowledgement, where there is one.
+    fn poll_stray(&mut self, room: usize, out: &mut [u8]) -> EntityPolled
+        requires fits { room ≤ length out.old }
+        requires some { 1 ≤ length self.old.state.strays }
+        ensures answers { Answers room result self.old self.new out.old out.new }
+        ensures shows { Shows result self.old.state self.new.state }
+        ensures table { self.new.state.table ≡ self.old.state.table }
+    {
+        let len = self.stray_len();
+        if len > room {
+            return EntityPolled::Full;
+        }
+        match self.strays.pop_front() {
+            Some(stray) => EntityPolled::Moved {
+                len: stray.write(out),
+                file_data: false,
+            },
+            None => EntityPolled::Nothing,
+        }
+    }
+
+    fn stray_len(&self) -> usize
+        ensures len { result ≡ first_stray_len self.now.state.strays }
+        ensures short { result ≤ longest_pdu }
+        ensures spelled { FirstIsSpelled self.now.state.strays }
+    {
+        match self.strays.front() {
+            Some(stray) => stray.len(),
+            None => 0,
+        }
+    }
+
+    // The record that is next, where no stray acknowledgement waits.
+    fn poll_record(&mut self, rooms: Rooms, out: &mut [u8]) -> Result<EntityPolled, AllocError>
+        requires directives { rooms.directives ≤ length out.old }
+        requires file_data { rooms.file_data ≤ length out.old }
+        requires no_stray { self.old.state.strays ≡ [] }
+        ensures answers { let lent = counted_lent self.new self.old in IfOk result (λ answer.
+            Answers (turn_room rooms lent.state) answer lent self.new out.old out.new) }
+        ensures shows { IfOk result (λ answer. Shows answer self.old.state self.new.state) }
+        ensures err { OnErr result ((self.new ≡ self.old) × (out.new ≡ out.old)) }
+        ensures lacks { OnErr result (TakesTurn (turn_room rooms self.old.state) self.old.state) }
+    {
+        let Some(place) = self.table.next_due(self.cursor) else {
+            return Ok(EntityPolled::Nothing);
+        };
+        let file_data = self.table.has_data_due(place);
+        if self.table.due_len(place) > rooms.of(file_data) {
+            return Ok(EntityPolled::Full);
+        }
+        match self.send_at(place, out)? {
+            Gave::Octets(len) => Ok(EntityPolled::Moved { len, file_data }),
+            Gave::Failed => Ok(EntityPolled::SourceFailed),
+        }
+    }
+
+    // Takes the PDU of the record at a place.
+    fn send_at(&mut self, place: usize, out: &mut [u8]) -> Result<Gave, AllocError>
+        requires fits { len_at place self.old.state.table ≤ length out.old }
+        requires within { place < 4096 }
+        ensures sends { IfOk result (λ gave. SendsAt place gave (counted_lent self.new self.old)
+            self.new out.old out.new) }
+        ensures shows { OnOk result (ShowsIf (data_at place self.old.state.table)
+            self.old.state.table self.new.state.table) }
+        ensures err { OnErr result ((self.new ≡ self.old) × (out.new ≡ out.old)) }
+    {
+        self.table.reserve(3)?;
+        let gave = self.table.send(place, out);
+        self.cursor = place + 1;
+        Ok(gave)
+    }
 }

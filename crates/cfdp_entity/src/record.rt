@@ -8,7 +8,7 @@ ghost use Rattle.cfdp_timers.specs.Effects.{HasRoom};
 ghost use Rattle.cfdp_sender.specs.Does as sender_does;
 ghost use Rattle.cfdp_receiver.specs.Does.{KeptAlone, MakesIn, at};
 ghost use Rattle.cfdp_receiver.specs.Due.{receiver_due};
-ghost use Rattle.cfdp_entity.specs.Calling as calling;
+ghost use Rattle.cfdp_entity.specs.Refusing as refusing;
 ghost use Rattle.cfdp_entity.specs.Desk.{Staged};
 ghost use Rattle.cfdp_entity.specs.Forgetting as forgetting;
 ghost use Rattle.cfdp_entity.specs.Seen as seens;
@@ -20,8 +20,8 @@ ghost use Rattle.cfdp_entity.specs.Spelled.{SeenIsSpelled};
 ghost use Rattle.cfdp_entity.specs.Storing.{AsksCalled, AsksHeard};
 ghost use Rattle.cfdp_entity.specs.Whole.{IsReadyRecord};
 
-use crate::call::Call;
-use crate::error::{CallError, ForgetError};
+use crate::error::{ForgetError, RequestError};
+use crate::request::Request;
 use cfdp_directives::{Acknowledged, Outcome, Pdu, Phase, Policy};
 use cfdp_receiver::{Ending, Metadata, Receiver};
 use cfdp_sender::Sender;
@@ -119,55 +119,55 @@ impl Record {
         None
     }
 
-    /// Why a call is refused, if it is.
-    pub(crate) fn refusal(&self, call: Call) -> Option<CallError>
-        ensures { (staged : Option OctetMap) → result ≡ calling.refusal call
+    /// Why a request is refused, if it is.
+    pub(crate) fn refusal(&self, request: Request) -> Option<RequestError>
+        ensures { (staged : Option OctetMap) → result ≡ refusing.refusal request
             (seen staged self.now) }
     {
         match self {
-            Record::Sends(sender) => refusal_at_sender(sender, call),
-            Record::Receives(receiver) => refusal_at_receiver(receiver, call),
+            Record::Sends(sender) => refusal_at_sender(sender, request),
+            Record::Receives(receiver) => refusal_at_receiver(receiver, request),
         }
     }
 }
 
-// Why a call on a sender is refused, if it is.
-fn refusal_at_sender(sender: &Sender, call: Call) -> Option<CallError>
-    ensures { result ≡ calling.refusal call (seens.Sends sender.now) }
+// Why a request of a sender is refused, if it is.
+fn refusal_at_sender(sender: &Sender, request: Request) -> Option<RequestError>
+    ensures { result ≡ refusing.refusal request (seens.Sends sender.now) }
 {
     if sender.phase() != Phase::Sending {
-        return Some(CallError::AlreadyClosed);
+        return Some(RequestError::AlreadyClosed);
     }
-    let is_so = match call {
-        Call::Cancel => false,
-        Call::Suspend => sender.is_suspended(),
-        Call::Resume => !sender.is_suspended(),
-        Call::Prompt(_) => sender.has_prompt_due(),
+    let is_so = match request {
+        Request::Cancel => false,
+        Request::Suspend => sender.is_suspended(),
+        Request::Resume => !sender.is_suspended(),
+        Request::Prompt { .. } => sender.has_prompt_due(),
     };
     if is_so {
-        Some(CallError::AlreadySo)
+        Some(RequestError::AlreadySo)
     } else {
         None
     }
 }
 
 // The same for a receiver.
-fn refusal_at_receiver(receiver: &Receiver, call: Call) -> Option<CallError>
-    ensures { (m : OctetMap) → result ≡ calling.refusal call (seens.Receives receiver.now m) }
+fn refusal_at_receiver(receiver: &Receiver, request: Request) -> Option<RequestError>
+    ensures { (m : OctetMap) → result ≡ refusing.refusal request (seens.Receives receiver.now m) }
 {
-    if matches!(call, Call::Prompt(_)) {
-        return Some(CallError::WrongSide);
+    if matches!(request, Request::Prompt { .. }) {
+        return Some(RequestError::WrongSide);
     }
     if receiver.phase() != Phase::Receiving {
-        return Some(CallError::AlreadyClosed);
+        return Some(RequestError::AlreadyClosed);
     }
-    let is_so = match call {
-        Call::Cancel | Call::Prompt(_) => false,
-        Call::Suspend => receiver.is_suspended(),
-        Call::Resume => !receiver.is_suspended(),
+    let is_so = match request {
+        Request::Cancel | Request::Prompt { .. } => false,
+        Request::Suspend => receiver.is_suspended(),
+        Request::Resume => !receiver.is_suspended(),
     };
     if is_so {
-        Some(CallError::AlreadySo)
+        Some(RequestError::AlreadySo)
     } else {
         None
     }
@@ -316,40 +316,45 @@ pub(crate) fn send_of_receiver(
     receiver.take_pdu(effects, policy, out)
 }
 
-/// A call on a sender.
-pub(crate) fn call_sender(sender: &mut Sender, effects: &mut Effects, policy: &Policy, call: Call)
+/// A request of a sender.
+pub(crate) fn ask_sender(
+    sender: &mut Sender,
+    effects: &mut Effects,
+    policy: &Policy,
+    request: Request,
+)
     requires { HasRoom sender.old.addressing.id effects.old }
-    ensures { sender_does.Does policy.now.times (called_sender call sender.old) sender.new
+    ensures { sender_does.Does policy.now.times (called_sender request sender.old) sender.new
         effects.old effects.new }
 {
-    match call {
-        Call::Cancel => sender.cancel(effects, policy),
-        Call::Suspend => sender.suspend(effects, policy),
-        Call::Resume => sender.resume(effects, policy),
-        Call::Prompt(keep_alive) => sender.prompt(effects, policy, keep_alive),
+    match request {
+        Request::Cancel => sender.cancel(effects, policy),
+        Request::Suspend => sender.suspend(effects, policy),
+        Request::Resume => sender.resume(effects, policy),
+        Request::Prompt { keep_alive } => sender.prompt(effects, policy, keep_alive),
     }
 }
 
-/// A call on a receiver.
-pub(crate) fn call_receiver<I: Inbox>(
+/// A request of a receiver.
+pub(crate) fn ask_receiver<I: Inbox>(
     receiver: &mut Receiver,
     effects: &mut Effects,
     inbox: &mut I,
     policy: &Policy,
-    call: Call,
+    request: Request,
 )
     requires { MayReceive I.Inbox receiver.old effects.old inbox.old }
     ensures does { let old = at I.Inbox receiver.old effects.old inbox.old in
-        ReceiverDoes policy.now.times Stored.Done (found (called_receiver call) old) old
+        ReceiverDoes policy.now.times Stored.Done (found (called_receiver request) old) old
         (at I.Inbox receiver.new effects.new inbox.new) }
     ensures stays { StaysReady I.Inbox receiver.old receiver.new inbox.old inbox.new }
-    ensures calls { AsksCalled (MakesIn I.Inbox) call receiver.old receiver.new inbox.old
+    ensures calls { AsksCalled (MakesIn I.Inbox) request receiver.old receiver.new inbox.old
         inbox.new }
 {
-    match call {
-        Call::Cancel => receiver.cancel(effects, inbox, policy),
-        Call::Suspend => receiver.suspend(effects, policy),
-        Call::Resume => receiver.resume(effects, policy),
-        Call::Prompt(_) => {}
+    match request {
+        Request::Cancel => receiver.cancel(effects, inbox, policy),
+        Request::Suspend => receiver.suspend(effects, policy),
+        Request::Resume => receiver.resume(effects, policy),
+        Request::Prompt { .. } => {}
     }
 }

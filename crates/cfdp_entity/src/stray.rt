@@ -99,6 +99,7 @@ impl Stray {
         ensures short { result ≤ longest_pdu }
         ensures spelled { StrayIsSpelled self.now }
     {
+        // For the prover: the invariant of the condition.
         let _any_condition_fits = self.condition.code();
         self.addressing.written_len(self.large, &self.pdu())
     }

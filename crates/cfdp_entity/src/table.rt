@@ -16,7 +16,7 @@ ghost use Rattle.cfdp_store.specs.Stores.{Counts, failures_after};
 ghost use Rattle.cfdp_sender.specs.State.{IsSendable};
 ghost use Rattle.cfdp_sender.specs.Does.{HasFile};
 ghost use Rattle.cfdp_entity.specs.Adding.{AddsSource, RefusesToAdd, with_source};
-ghost use Rattle.cfdp_entity.specs.Calling as calling;
+ghost use Rattle.cfdp_entity.specs.Refusing as refusing;
 ghost use Rattle.cfdp_entity.specs.Forgetting as forgetting;
 ghost use Rattle.cfdp_entity.specs.Forgetting.{left_at, over_in, without_file};
 ghost use Rattle.cfdp_entity.specs.Looking.{IsSent, IsUnsent, Looks, LooksAnew, sends_at};
@@ -24,17 +24,17 @@ ghost use Rattle.cfdp_entity.specs.Opening.{closing, AsksInOrder, CountsBoth};
 ghost use Rattle.cfdp_entity.specs.Roomy.{Becomes, LacksMemory, MayAdd, SendsFrom, Steps, roomy_lent};
 ghost use Rattle.cfdp_entity.specs.Sound.{longest_pdu};
 ghost use Rattle.cfdp_entity.specs.Spelled.{EntryIsSpelled};
-ghost use Rattle.cfdp_entity.specs.Storing.{AsksToHear, AsksToCall, AsksToExpire, AsksByTimer, AsksToFire, AsksToTick, AsksToOpen};
+ghost use Rattle.cfdp_entity.specs.Storing.{AsksToHear, AsksToRequest, AsksToExpire, AsksByTimer, AsksToFire, AsksToTick, AsksToOpen};
 ghost use Rattle.cfdp_entity.specs.Walking.{phases_of};
 ghost use Rattle.cfdp_entity.specs.Table as tables;
 ghost use Rattle.cfdp_entity.specs.Table.{next_told, without_told, heard_at, expired_at, called_at, data_at, len_at, put_in, opened_by, next_due, first_table, all_expired, at_time, Ticks, phase_in, standing, ShowsIf};
 
-use crate::call::Call;
 use crate::desk::Desk;
-use crate::error::{AddError, CallError, ForgetError};
+use crate::error::{AddError, ForgetError, RequestError};
 use crate::opening::{MOST_TOLD, Opened};
 use crate::ready::Ready;
 use crate::record::{Gave, Record};
+use crate::request::Request;
 use crate::transactions::Transactions;
 use cfdp_directives::{Addressing, Indication, Pdu, Phase, Policy};
 use cfdp_header::TransactionId;
@@ -207,13 +207,13 @@ impl<O: Outbox, I: Inbox> Table<O, I> {
         Transactions::over(self.records.iter())
     }
 
-    /// Why a call on the record at a place is refused, if it is.
-    pub fn refusal_at(&self, place: usize, call: Call) -> Option<CallError>
-        ensures { result ≡ calling.refusal_of call (slice_get self.now.state.records place) }
+    /// Why a request of the record at a place is refused, if it is.
+    pub fn refusal_at(&self, place: usize, request: Request) -> Option<RequestError>
+        ensures { result ≡ refusing.refusal_of request (slice_get self.now.state.records place) }
     {
         match self.records.get_index(place) {
-            Some((_, held)) => held.refusal(call),
-            None => Some(CallError::Unknown),
+            Some((_, held)) => held.refusal(request),
+            None => Some(RequestError::Unknown),
         }
     }
 
@@ -307,15 +307,15 @@ impl<O: Outbox, I: Inbox> Table<O, I> {
         }
     }
 
-    /// A call of the user on the record at a place.
-    pub fn call(&mut self, place: usize, call: Call)
+    /// A request of the user of the record at a place.
+    pub fn request(&mut self, place: usize, request: Request)
         requires room { 3 ≤ self.old.spare }
-        ensures { Steps (called_at place call self.old.state) (Counts Stored.Done)
-            (AsksToCall Raises call place self.old.state) self.old self.new }
+        ensures { Steps (called_at place request self.old.state) (Counts Stored.Done)
+            (AsksToRequest Raises request place self.old.state) self.old self.new }
     {
         match self.records.get_index_mut(place) {
             Some(held) => {
-                self.desk.call(held, call);
+                self.desk.request(held, request);
                 self.ready.set(place, held.is_due());
             }
             None => {}
@@ -390,7 +390,7 @@ impl<O: Outbox, I: Inbox> Table<O, I> {
     }
 
     /// The earliest deadline of the armed timers.
-    pub fn next_expiry(&self) -> Option<u64>
+    pub fn next_timeout(&self) -> Option<u64>
         ensures { MatchOption result (self.now.state.armed ≡ map.empty)
             (λ deadline. IsLeast self.now.state.armed deadline) }
     {

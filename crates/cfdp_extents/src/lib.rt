@@ -8,6 +8,8 @@
 //!     // One gap: from 4096 up to, and without, 8192.
 //! }
 //! ```
+//!
+//! Tested by `tests/transcripts/ranges.txt`.
 #![tactic(auto)]
 
 mod extents;

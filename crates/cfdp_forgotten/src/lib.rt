@@ -5,6 +5,8 @@
 //! forgotten.insert(id)?;
 //! assert!(forgotten.contains(id));
 //! ```
+//!
+//! Tested by `tests/transcripts/forgetting.txt`, through the entity.
 #![tactic(auto)]
 
 mod forgotten;

@@ -6,6 +6,8 @@
 //!     Err(refused) => println!(rt; "refused: {}", refused.name())?,
 //! }
 //! ```
+//!
+//! Tested by `tests/transcripts/pdus.txt` and `tests/transcripts/rules.txt`.
 #![tactic(auto)]
 
 ghost use Rattle.std.specs.Prelude.{◌≡◌, ℕ, ◌+◌, ◌*◌, ◌^◌, ◌<◌, ◌≤◌, ◌++◌, List, length, take, drop, true, IfOk, IsOkAnd};

@@ -57,6 +57,7 @@ impl Header {
     pub fn fits(&self) -> bool
         ensures { IsTrue result ↔ FitsHeader self.now }
     {
+        // For the prover: a `u16` has a range.
         let _any_length_fits = self.length;
         fits_width(self.id.source, self.id_width)
             && fits_width(self.id.number, self.number_width)

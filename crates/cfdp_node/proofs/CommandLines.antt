@@ -4,8 +4,8 @@ use Rattle.clap.specs.Walk.{Text}
 use Rattle.clap.specs.declared.error.kind.ErrorKind.TheVariants.{DisplayHelp, DisplayHelpOnMissingArgumentOrSubcommand, InvalidValue, MissingRequiredArgument, UnknownArgument, ValueValidation}
 use Rattle.clap.proofs.OnLiterals.{clap_on_literals}
 use Rattle.cfdp_node.specs.Request.{asked_of, dump, loop, refusals, sim, station, version}
-use Rattle.cfdp_node.specs.Watch.Shown.{ShownAsked}
-use Rattle.cfdp_node.specs.declared.dump.DumpKind.TheVariants.{Pdus, Frames}
+use Rattle.cfdp_node.specs.Shown.{ShownAsked}
+use Rattle.cfdp_script.specs.declared.dump.DumpKind.TheVariants.{Pdus, Frames}
 
 -- words behind the program's name
 abbrev line : List Text → List Text

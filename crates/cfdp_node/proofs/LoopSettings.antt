@@ -7,7 +7,7 @@ use Rattle.link_sim.specs.Stations.{IsWorldConfig}
 use Rattle.link_sim.specs.declared.side.Side.{Side}
 use Rattle.link_sim.specs.declared.side.Side.TheVariants.{One, Two}
 use Rattle.cfdp_node.specs.Looping.Turns.{loop_settings}
-use Rattle.cfdp_node.specs.Script.Settings.{FitFields, entity_of, link_of, station_of, world_of}
+use Rattle.cfdp_report.specs.Settings.{FitFields, entity_of, link_of, station_of, world_of}
 
 pub fit : FitFields loop_settings
 fit = (lit< tt, (lit< tt, lit< tt, lit< tt, lit< tt), ((lit< tt, lit< tt, lit< tt), (lit< tt, lit< tt, lit< tt, lit< tt), (lit< tt, lit< tt, lit< tt)))

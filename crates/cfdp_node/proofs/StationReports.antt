@@ -13,10 +13,12 @@ use Rattle.cfdp_directives.proofs.Puts.{count_by-append}
 use Rattle.cfdp_entity.specs.Entity.{EntityState}
 use Rattle.cfdp_entity.specs.Forgetting.{Forgets, ForgetsEach, ForgetsSome}
 use Rattle.cfdp_entity.specs.Table.{TableState}
-use Rattle.cfdp_node.specs.Report.Lines.{answer_text, count_line, indication_line, is_own_completion}
-use Rattle.cfdp_node.specs.Station.Serving.{AddsTo, Answers, AsksToEnd, Gains, IsReport, Line, MakesEach, MakesNext, Putting, Run, Tells, all_closed, completed, line_text, once_said, said_by, station_text, told_by, told_in}
-use Rattle.cfdp_node.specs.declared.report.answer.Answer.{Answer}
-use Rattle.cfdp_node.specs.Wire.Calls.{WireCall, Rested}
+use Rattle.cfdp_report.specs.Report.Lines.{answer_text, count_line, indication_line, is_own_completion}
+use Rattle.cfdp_port.specs.Calls.{WireCall, Rested}
+use Rattle.cfdp_port.specs.Gains.{Gains}
+use Rattle.cfdp_port.specs.Port.{PortState, all_closed}
+use Rattle.cfdp_node.specs.Station.Serving.{AddsTo, Answers, AsksToEnd, GetsReady, IsReport, Line, MakesEach, MakesNext, Prepares, Putting, Run, Tells, completed, line_text, once_said, said_by, station_text, told_by, told_in}
+use Rattle.cfdp_report.specs.declared.report.answer.Answer.{Answer}
 use Rattle.cfdp_node.specs.declared.station.serving.PutNames.{PutNames}
 
 -- ---- the lines of what was told
@@ -137,17 +139,29 @@ report-first own c t a gone none = record {
   complete = none;
 }
 
--- ---- the wire is asked
-pub asks-end : {W : Type 0} (Steps : W → WireCall → W → Type 0) (puts : List PutNames) (over is_over are_made : Bool) (ready : Run W) (wire : W) → are_made ≡ (ready.putting.made == length puts)
-    → ((answer : Bool) × Steps ready.wire (Rested (not (are_made && all_closed ready.putting.station)) answer) wire × (over ≡ (answer && (are_made && all_closed ready.putting.station))))
-    → is_over ≡ over → AsksToEnd Steps puts is_over ready (record ready { wire = wire })
-asks-end Steps puts over is_over are_made ready wire made asks same =
-    let station = ready.putting.station in
+-- ---- between two turns
+-- What is to be done was done, and the wire was asked whether it is over.
+pub record HasAsked {W : Type 0} (Steps : W → WireCall → W → Type 0) (puts : List PutNames) (over : Bool) (last asked : Run W) : Type 0 where
+  pub ready : Run W
+  pub gets : GetsReady Steps puts last ready
+  pub asks : AsksToEnd Steps puts over ready asked
+
+pub has-asked : {W : Type 0} (Steps : W → WireCall → W → Type 0) (puts : List PutNames) (answered over are_made short : Bool) (made : ℕ) (lines : List Line) (last : Run W) (prepared asked : PortState W)
+    → Prepares puts lines last.putting (record { station = prepared.station; made = made; short = short }) → prepared.wire ≡ last.wire → are_made ≡ (made == length puts)
+    → ((answer : Bool) × Steps prepared.wire (Rested (not (are_made && all_closed prepared.station)) answer) asked.wire × (answered ≡ (answer && (are_made && all_closed prepared.station))))
+    → asked.station ≡ prepared.station → over ≡ answered
+    → HasAsked Steps puts over last (record { putting = record { station = asked.station; made = made; short = short }; wire = asked.wire; lines = last.lines ++ lines })
+has-asked Steps puts answered over are_made short made lines last prepared asked prepares wire all asks station same =
     record {
-      answer = asks.0;
-      asked = subst (λ m. Steps ready.wire (Rested (not (m && all_closed station)) asks.0) wire) made asks.1;
-      is = same ∙ asks.2 ∙ ap (λ m. asks.0 && (m && all_closed station)) made;
-      rest = refl;
+      ready = record last { putting = record { station = prepared.station; made = made; short = short }; lines = last.lines ++ lines };
+      gets = record { lines = lines; prepares = prepares; rest = refl };
+      asks = record {
+        answer = asks.0;
+        asked = subst (λ m. Steps last.wire (Rested (not (m && all_closed prepared.station)) asks.0) asked.wire) all
+            (subst (λ w. Steps w (Rested (not (are_made && all_closed prepared.station)) asks.0) asked.wire) wire asks.1);
+        is = same ∙ asks.2 ∙ ap (λ m. asks.0 && (m && all_closed prepared.station)) all;
+        rest = λ i. record { putting = record { station = station i; made = made; short = short }; wire = asked.wire; lines = last.lines ++ lines };
+      };
     }
 
 -- ---- the end

@@ -1,9 +1,5 @@
-pub mod Exit
-pub mod Report
-pub mod Script
-pub mod Dump
 pub mod Request
-pub mod Watch
+pub mod Shown
 pub mod Wire
 pub mod Looping
 pub mod Station

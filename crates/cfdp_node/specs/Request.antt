@@ -14,14 +14,14 @@ use Rattle.clap.specs.declared.builder.value_parser.ValueParser.TheVariants.{Uns
 use Rattle.clap.specs.declared.error.kind.ErrorKind.{ErrorKind}
 use Rattle.clap.specs.declared.error.kind.ErrorKind.TheVariants.{DisplayHelp, DisplayVersion, InvalidValue, OutOfMemory}
 use Rattle.clap.specs.declared.parser.matches.ArgMatches.{ArgMatches}
-use Rattle.cfdp_node.specs.declared.arguments.DumpRequest.{DumpRequest}
+use Rattle.cfdp_script.specs.declared.dump.DumpRequest.{DumpRequest}
 use Rattle.cfdp_node.specs.declared.arguments.Request.{Request}
 use Rattle.cfdp_node.specs.declared.arguments.Request.TheVariants.{Sim, Dump, Loop, Station, Version}
-use Rattle.cfdp_node.specs.declared.dump.DumpKind.{DumpKind}
-use Rattle.cfdp_node.specs.declared.dump.DumpKind.TheVariants.{Pdus, Frames}
+use Rattle.cfdp_script.specs.declared.dump.DumpKind.{DumpKind}
+use Rattle.cfdp_script.specs.declared.dump.DumpKind.TheVariants.{Pdus, Frames}
 use Rattle.cfdp_node.specs.Looping.Request.{LoopAsked, loop_app, loop_asked, loop_of}
 use Rattle.cfdp_node.specs.Station.Request.{StationAsked, station_app, station_asked, station_of}
-use Rattle.cfdp_node.specs.Watch.Shown.{ShownAsked, asked_shown, flag_rule, is_given, shown_of, with_shown}
+use Rattle.cfdp_node.specs.Shown.{ShownAsked, asked_shown, flag_rule, is_given, shown_of, with_shown}
 
 -- ---- the grammar
 

@@ -1,5 +1,2 @@
--- Wires, and turns of a station over one.
-pub mod Turn
-pub mod Calls
-pub mod InOrder
+-- Wires of UDP sockets.
 pub mod Pacer

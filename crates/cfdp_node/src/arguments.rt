@@ -10,14 +10,15 @@ ghost use Rattle.cfdp_node.specs.Request.{HasNoGlobals, HasZone, IsCommand, IsSt
 ghost use Rattle.cfdp_node.specs.Request as asks;
 ghost use Rattle.cfdp_node.specs.Looping.Request.{loop_app, loop_of};
 ghost use Rattle.cfdp_node.specs.Station.Request.{station_of};
-ghost use Rattle.cfdp_node.specs.Watch.Shown.{file_rule, flag_rule};
-ghost use Rattle.cfdp_node.specs.Watch.Shown as showing;
+ghost use Rattle.cfdp_node.specs.Shown.{file_rule, flag_rule};
+ghost use Rattle.cfdp_node.specs.Shown as showing;
 
 use crate::dropping::let_go;
-use crate::dump::DumpKind;
 use crate::looping::request::{LoopRequest, loop_command, loop_request};
+use crate::shown::{shown_by, shown_command};
 use crate::station::request::{StationRequest, station_command, station_request};
-use crate::watch::shown::{Shown, shown_by, shown_command};
+use cfdp_report::{SettingsHelp, Shown};
+use cfdp_script::{DumpKind, DumpRequest};
 use clap::error::ErrorKind;
 use clap::{Arg, ArgAction, ArgMatches, Command, Error, value_parser};
 use std::alloc::{AllocError, Global};
@@ -50,24 +51,14 @@ pub struct SimRequest {
     pub file: Option<String>,
 }
 
-/// What lines are to be told.
-#[derive(Clone, Copy)]
-pub struct DumpRequest {
-    /// What the lines are.
-    pub kind: DumpKind,
-    /// The octets of a frame's packet zone, 16 to 2,040.
-    pub zone: u16,
-    /// Whether to tell also what a short line leaves out.
-    pub long: bool,
-}
-
 const VERSION: &str = "0.1.0";
 
 const MISTAKE: u8 = 2;
 
 const NO_MEMORY: u8 = 3;
 
-const SIM_HELP: &str = "\
+// What stands before the settings in the help of `sim`, and what stands behind them.
+const SIM_COMMANDS: &str = "\
 The script is read from FILE, or from standard input: at most 1,048,576 octets
 in lines of at most 4,096, ASCII, one command a line, words with one space between. Empty
 lines and lines that begin with # are skipped. S is the station, 1 or 2; ID is
@@ -97,19 +88,9 @@ Then, what happens:
                         and again, until no timer but for inactivity is left
 
 Settings, with their defaults:
-  zone 256              octets of a frame's packet zone, 16 to 2040
-  segment 1024          octets of a file in one PDU at most, 1 to 4096
-  id_width 2            octets of an entity id, 1 to 8
-  number_width 4        octets of a transaction's number, 1 to 8
-  first_number 1        of a station's first transaction, below 2^64
-  checksum 0            0 modular, 15 null
-  eof_limit 3, nak_limit 3, finished_limit 3
-                        how often each is sent again, 0 to 255
-  eof_time 10, nak_time 10, finished_time 10, inactivity_time 100
-                        how long an answer, or any PDU, is waited for, below 2^32
-  on_ack_limit 0, on_nak_limit 0, on_inactivity 0
-                        what is done then: 0 cancel, 1 suspend, 2 ignore, 3 abandon
+";
 
+const SIM_REPORT: &str = "
 Report: a line for each command that could not do its work, what each station
 tells its user, the files received with their checksums, and how many of the
 puts were completed. A command that could not do its work is told as
@@ -237,7 +218,8 @@ pub fn parse<'a>(alloc: Global, words: &'a [String]) -> Result<Request, Error>
     ensures refused { FailsBy (refusals (map (λ word. word.bytes.items) words.now)) result }
     ensures zone { IfOk result HasZone }
 {
-    let mut command = grammar(alloc)?;
+    let help = sim_help(alloc)?;
+    let mut command = grammar(alloc, help.as_str())?;
     parse_by(alloc, &mut command, words)
 }
 
@@ -416,11 +398,16 @@ fn zone_octets(word: &str) -> Option<u16>
     }
 }
 
-/// The grammar of command lines.
-fn grammar<'a>(alloc: Global) -> Result<Command<'a>, AllocError>
+/// What stands behind the arguments in the help of `sim`.
+fn sim_help(alloc: Global) -> Result<String, AllocError> {
+    format!(in alloc; "{SIM_COMMANDS}{SettingsHelp}{SIM_REPORT}")
+}
+
+/// The grammar of command lines, with this help of `sim`.
+fn grammar<'a>(alloc: Global, sim_help: &'a str) -> Result<Command<'a>, AllocError>
     ensures { IfOk result (IsCommand program_app) }
 {
-    let told = files_grammar(alloc)?;
+    let told = files_grammar(alloc, sim_help)?;
     match station_command(alloc) {
         Ok(station) => told.subcommand(station),
         Err(AllocError) => {
@@ -431,11 +418,11 @@ fn grammar<'a>(alloc: Global) -> Result<Command<'a>, AllocError>
 }
 
 /// The same without `station`.
-fn files_grammar<'a>(alloc: Global) -> Result<Command<'a>, AllocError>
+fn files_grammar<'a>(alloc: Global, sim_help: &'a str) -> Result<Command<'a>, AllocError>
     ensures { IfOk result (IsCommand (with_subcommand (with_subcommand (with_subcommand top_app
         sim_app.top) dump_app.top) loop_app.top)) }
 {
-    let told = lines_grammar(alloc)?;
+    let told = lines_grammar(alloc, sim_help)?;
     match loop_command(alloc) {
         Ok(looped) => told.subcommand(looped),
         Err(AllocError) => {
@@ -446,11 +433,11 @@ fn files_grammar<'a>(alloc: Global) -> Result<Command<'a>, AllocError>
 }
 
 /// The same with `sim` and `dump` alone.
-fn lines_grammar<'a>(alloc: Global) -> Result<Command<'a>, AllocError>
+fn lines_grammar<'a>(alloc: Global, sim_help: &'a str) -> Result<Command<'a>, AllocError>
     ensures { IfOk result (IsCommand (with_subcommand (with_subcommand top_app sim_app.top)
         dump_app.top)) }
 {
-    let told = script_grammar(alloc)?;
+    let told = script_grammar(alloc, sim_help)?;
     match dump_command(alloc) {
         Ok(dump) => told.subcommand(dump),
         Err(AllocError) => {
@@ -461,11 +448,11 @@ fn lines_grammar<'a>(alloc: Global) -> Result<Command<'a>, AllocError>
 }
 
 /// The same with `sim` alone.
-fn script_grammar<'a>(alloc: Global) -> Result<Command<'a>, AllocError>
+fn script_grammar<'a>(alloc: Global, sim_help: &'a str) -> Result<Command<'a>, AllocError>
     ensures { IfOk result (IsCommand (with_subcommand top_app sim_app.top)) }
 {
     let top = top_command(alloc)?;
-    match sim_command(alloc) {
+    match sim_command(alloc, sim_help) {
         Ok(sim) => top.subcommand(sim),
         Err(AllocError) => {
             let_go(top);
@@ -487,12 +474,12 @@ fn top_command<'a>(alloc: Global) -> Result<Command<'a>, AllocError>
         .arg(flag(alloc, "version", "Prints the version"))
 }
 
-fn sim_command<'a>(alloc: Global) -> Result<Command<'a>, AllocError>
+fn sim_command<'a>(alloc: Global, help: &'a str) -> Result<Command<'a>, AllocError>
     ensures { IfOk result (IsCommand sim_app) }
 {
     let plain = Command::new(alloc, "sim")
         .about("Runs a script of two stations, and reports on standard output")
-        .after_help(SIM_HELP);
+        .after_help(help);
     shown_command(alloc, plain)?.arg(input_argument(alloc))
 }
 

@@ -1,31 +1,27 @@
 //! A file that goes from one station to another over two wires, in turns.
 ghost use Rattle.std.specs.Io.Buffered.{writer_buffer, writer_contents};
 ghost use Rattle.std.specs.Io.KnownBytes.{Appends};
-ghost use Rattle.std.specs.Prelude.{◌≡◌, ◌↔◌, ◌⊎◌, None, Some, length, IfOk, IsTrue, OnErr, OnOk};
-ghost use Rattle.cfdp_node.specs.Exit.{IsFlushedAt};
-ghost use Rattle.cfdp_node.specs.Looping.Turns.{EndsBoth, EndsFromOne, EndsLoop, IsClosed, IsTold, LoopRuns, RunsInPart, RunsTurns, TakesTurn, TurnsInPart, completed, is_no_memory, loop_exit, loop_settings, loop_text, more_failures, refusal_answer};
-ghost use Rattle.cfdp_node.specs.Script.Settings.{world_of};
-ghost use Rattle.cfdp_node.specs.Report.Lines.{count_line};
-ghost use Rattle.cfdp_node.specs.Wire.Turn.{FitsFrames, HasZones};
+ghost use Rattle.std.specs.Prelude.{◌≡◌, ◌==◌, ◌&&◌, Some, IfOk, OnOk, not};
+ghost use Rattle.cfdp_report.specs.Exit.{IsFlushedAt};
+ghost use Rattle.cfdp_node.specs.Looping.Turns.{EndsBoth, EndsFromOne, EndsLoop, IsTold, LoopRuns, completed, is_no_memory, loop_settings, loop_text, more_failures, refusal_answer};
+ghost use Rattle.cfdp_report.specs.Settings.{world_of};
+ghost use Rattle.cfdp_report.specs.Report.Lines.{count_line};
+ghost use Rattle.cfdp_port.specs.Pair.{pair};
 ghost use Rattle.cfdp_station.specs.Config.{IsStationConfig};
 ghost use Rattle.link_sim.specs.Stations.{IsWorldConfig};
 
 pub mod folders;
 pub mod held_folder;
 pub mod request;
+pub mod telling;
 
 use crate::dropping::let_go;
-use crate::exit::{Exit, Fault};
-use crate::report::answer::{Answer, Answered};
-use crate::report::{own_completions, write_answer, write_indications};
-use crate::script::settings::Settings;
-use crate::watch::lookout::{Lookout, Passed};
-use crate::wire::Wire;
-use crate::wire::turn::{Losses, receive_turn, send_turn};
-use cfdp_directives::Phase;
-use cfdp_header::TransactionId;
-use cfdp_station::{PutError, Station, StationConfig};
-use cfdp_store::{Inbox, MemoryInbox, MemoryOutbox, Outbox};
+use cfdp_port::{Lookout, Port, Wire, take_turns};
+use cfdp_report::{
+    Answer, Answered, Exit, Fault, Settings, own_completions, write_answer, write_indications,
+};
+use cfdp_station::{PutError, StationConfig};
+use cfdp_store::{Inbox, MemoryOutbox, NoInbox, Outbox};
 use link_sim::{Refusal, Side, WorldConfig};
 use std::alloc::{AllocError, Global};
 use std::io;
@@ -40,17 +36,25 @@ pub struct LoopOptions {
     pub destination: Vec<u8>,
     /// The most turns that are taken.
     pub turns: u64,
-    /// Of the frames that leave either station each so-manieth is not sent; with 0 all are.
-    pub drop_every: u64,
 }
 
-/// What turns need beside stations and wires: which frames are lost, and buffers for a frame that
-/// leaves and for what comes.
+/// Where the file goes from and to, and over what.
 #[derive(Drop)]
-pub struct Turning {
-    pub losses: Losses,
-    pub frame: Vec<u8>,
-    pub datagram: Vec<u8>,
+pub struct LoopEnds<O: Outbox, I: Inbox, W: Wire> {
+    /// The outbox of the first station.
+    pub outbox: O,
+    /// The inbox of the second one.
+    pub inbox: I,
+    /// The wire of each.
+    pub wires: (W, W),
+}
+
+/// What the second station is made of.
+#[derive(Drop)]
+struct Second<I: Inbox, W: Wire> {
+    config: StationConfig,
+    inbox: I,
+    wire: W,
 }
 
 /// How a put and its turns ended.
@@ -62,11 +66,8 @@ pub struct Ended {
     pub short: bool,
 }
 
-/// The most octets of a datagram that are looked at: more than a frame has.
-const MOST_COMING: usize = 4096;
-
 /// Sends a file of an outbox from one station to another, which puts it into an inbox, and writes
-/// the report, which has left the buffer then. The first wire is that of the first station.
+/// the report, which has left the buffer then.
 ///
 /// The put is made before the first turn. A turn tells both stations its number as the time, lets
 /// each send, the first one first, and then lets each take what came. The run ends when
@@ -80,41 +81,53 @@ const MOST_COMING: usize = 4096;
 pub fn run_loop<O: Outbox, I: Inbox, W: Wire, V: Write + Drop, L: Lookout>(
     alloc: Global,
     options: LoopOptions,
-    outbox: O,
-    inbox: I,
-    wires: (W, W),
+    ends: LoopEnds<O, I, W>,
     out: &mut BufWriter<V>,
     lookout: &mut L,
 ) -> Exit
-    ensures ends { IsTold result (EndsLoop W.steps result (O.stands outbox) (O.files outbox)
-        (I.published inbox) wires.0 wires.1 options.source.items options.destination.items
-        options.drop_every options.turns (writer_contents V.contents out.old)
+    ensures ends { IsTold result (EndsLoop W.steps result (O.stands ends.outbox)
+        (O.files ends.outbox) (I.published ends.inbox) ends.wires options.source.items
+        options.destination.items options.turns (writer_contents V.contents out.old)
         (writer_contents V.contents out.new)) }
     ensures flushed { IsFlushedAt result (writer_buffer out.new) }
 {
-    run_first(alloc, &options, outbox, inbox, wires, out, lookout).flushed(out)
+    run_first(alloc, &options, ends, out, lookout).flushed(out)
 }
 
 /// Makes the first station, and runs all. The writer isn't flushed.
 fn run_first<O: Outbox, I: Inbox, W: Wire, V: Write, L: Lookout>(
     alloc: Global,
     options: &LoopOptions,
-    outbox: O,
-    inbox: I,
-    wires: (W, W),
+    ends: LoopEnds<O, I, W>,
     out: &mut V,
     lookout: &mut L,
 ) -> Exit
-    ensures { IsTold result (EndsLoop W.steps result (O.stands outbox) (O.files outbox)
-        (I.published inbox) wires.0 wires.1 options.now.source.items
-        options.now.destination.items options.now.drop_every options.now.turns (V.contents out.old) (V.contents out.new)) }
+    ensures { IsTold result (EndsLoop W.steps result (O.stands ends.outbox) (O.files ends.outbox)
+        (I.published ends.inbox) ends.wires options.now.source.items
+        options.now.destination.items options.now.turns (V.contents out.old)
+        (V.contents out.new)) }
 {
     let config = loop_config();
-    match Station::new(alloc, config.one, outbox, MemoryInbox::new(alloc)) {
+    let LoopEnds {
+        outbox,
+        inbox,
+        wires,
+    } = ends;
+    let (first, wire) = wires;
+    match Port::new(
+        alloc,
+        Side::One,
+        config.one,
+        (outbox, NoInbox::new()),
+        first,
+    ) {
         Ok(mut one) => {
-            let exit = run_second(
-                alloc, options, &mut one, config.two, inbox, wires, out, lookout,
-            );
+            let second = Second {
+                config: config.two,
+                inbox,
+                wire,
+            };
+            let exit = run_second(alloc, options, &mut one, second, out, lookout);
             let_go(one);
             exit
         }
@@ -126,35 +139,31 @@ fn run_first<O: Outbox, I: Inbox, W: Wire, V: Write, L: Lookout>(
 fn run_second<O: Outbox, I: Inbox, J: Inbox, W: Wire, V: Write, L: Lookout>(
     alloc: Global,
     options: &LoopOptions,
-    one: &mut Station<O, J>,
-    config: StationConfig,
-    inbox: I,
-    wires: (W, W),
+    one: &mut Port<O, J, W>,
+    second: Second<I, W>,
     out: &mut V,
     lookout: &mut L,
 ) -> Exit
-    requires config { IsStationConfig config }
-    requires zone { config.down.zone ≡ one.old.down.directives.link.zone }
-    requires least { HasZones one.old.down }
-    ensures { IsTold result (EndsFromOne W.steps result one.old config (I.published inbox)
-        wires.0 wires.1 options.now.source.items options.now.destination.items
-        options.now.drop_every options.now.turns (V.contents out.old) (V.contents out.new)) }
+    requires { IsStationConfig second.config }
+    ensures { IsTold result (EndsFromOne W.steps result one.old second.config
+        (I.published second.inbox) second.wire options.now.source.items
+        options.now.destination.items options.now.turns (V.contents out.old)
+        (V.contents out.new)) }
 {
-    let Ok(mut turning) = Turning::new(alloc, one.frame_len(), options.drop_every) else {
-        return Exit::Device(Fault::NoMemoryAtStart);
-    };
-    match Station::new(alloc, config, MemoryOutbox::new(alloc), inbox) {
+    let Second {
+        config,
+        inbox,
+        wire,
+    } = second;
+    match Port::new(
+        alloc,
+        Side::Two,
+        config,
+        (MemoryOutbox::new(alloc), inbox),
+        wire,
+    ) {
         Ok(mut two) => {
-            let mut wires = wires;
-            let exit = run_both(
-                options,
-                one,
-                &mut two,
-                &mut wires,
-                &mut turning,
-                out,
-                lookout,
-            );
+            let exit = run_both(options, one, &mut two, out, lookout);
             let_go(two);
             exit
         }
@@ -178,115 +187,69 @@ pub fn loop_config() -> WorldConfig
     }
 }
 
-impl Turning {
-    /// Buffers for frames of so many octets; each so-manieth frame will be lost.
-    ///
-    /// # Errors
-    ///
-    /// `AllocError` where there is no memory for them.
-    pub fn new(alloc: Global, frame_len: usize, every: u64) -> Result<Turning, AllocError>
-        ensures frame { IfOk result (λ t. length t.frame.items ≡ frame_len) }
-        ensures losses { IfOk result (λ t. (t.losses.every ≡ every) × (t.losses.left ≡ every)) }
-    {
-        Ok(Turning {
-            losses: Losses::each(every),
-            frame: vec![in alloc; 0u8; frame_len]?,
-            datagram: vec![in alloc; 0u8; MOST_COMING]?,
-        })
-    }
-}
-
-/// Runs all at two stations that did nothing yet, and writes the report. Both stations and their
-/// wires are left as the turns left them, also where the report can't be written.
+/// Runs all at two stations that did nothing yet, and writes the report. Both are left as the turns
+/// left them, also where the report can't be written.
 pub fn run_both<O: Outbox, I: Inbox, P: Outbox, J: Inbox, W: Wire, V: Write, L: Lookout>(
     options: &LoopOptions,
-    one: &mut Station<O, J>,
-    two: &mut Station<P, I>,
-    wires: &mut (W, W),
-    turning: &mut Turning,
+    one: &mut Port<O, J, W>,
+    two: &mut Port<P, I, W>,
     out: &mut V,
     lookout: &mut L,
 ) -> Exit
-    requires one { FitsFrames (length turning.old.frame.items) one.old }
-    requires two { FitsFrames (length turning.old.frame.items) two.old }
     ensures { EndsBoth W.steps options.now.source.items options.now.destination.items
-        turning.old.losses.every options.now.turns
-        (record {
-          one = one.old;
-          two = two.old;
-          wire_one = wires.old.0;
-          wire_two = wires.old.1;
-          left = turning.old.losses.left;
-        })
-        (record {
-          one = one.new;
-          two = two.new;
-          wire_one = wires.new.0;
-          wire_two = wires.new.1;
-          left = turning.new.losses.left;
-        }) result (V.contents out.old) (V.contents out.new) }
+        options.now.turns (pair one.old two.old) (pair one.new two.new) result
+        (V.contents out.old) (V.contents out.new) }
 {
-    let read = one.outbox().failures();
-    let written = two.inbox().failures();
-    let ended = run(options, one, two, wires, turning, lookout);
+    let (read, written) = (one.outbox_failures(), two.inbox_failures());
+    let ended = run(options, one, two, lookout);
     lookout.ends();
     let failed = have_failed(one, two, read, written);
     match write_report(out, ended.answer, one, two) {
-        Ok(complete) => exit(ended.short, complete, failed),
+        Ok(complete) => Exit::of_run(ended.short, has_failed(failed, complete), complete, 1),
         Err(_) => Exit::Device(Fault::Unwritable),
     }
 }
 
+/// Whether a run failed by a store: one that failed counts only where the put isn't complete.
+fn has_failed(failed: bool, complete: usize) -> bool
+    ensures { result ≡ (failed && not (complete == 1)) }
+{
+    failed && complete != 1
+}
+
 /// Whether the stores have failed more often than so: the first station's outbox, and the second
 /// one's inbox.
-pub fn have_failed<O: Outbox, I: Inbox, P: Outbox, J: Inbox>(
-    one: &Station<O, J>,
-    two: &Station<P, I>,
+pub fn have_failed<O: Outbox, I: Inbox, P: Outbox, J: Inbox, W: Wire>(
+    one: &Port<O, J, W>,
+    two: &Port<P, I, W>,
     read: u64,
     written: u64,
 ) -> bool
-    ensures { result ≡ more_failures read written one.now two.now }
+    ensures { result ≡ more_failures read written one.now.station two.now.station }
 {
-    let (reads, writes) = (one.outbox().failures(), two.inbox().failures());
-    reads != read || writes != written
+    one.outbox_failures() != read || two.inbox_failures() != written
 }
 
 /// Makes the put, and takes turns until it is over at both stations, or so many were taken.
 fn run<O: Outbox, I: Inbox, P: Outbox, J: Inbox, W: Wire, L: Lookout>(
     options: &LoopOptions,
-    one: &mut Station<O, J>,
-    two: &mut Station<P, I>,
-    wires: &mut (W, W),
-    turning: &mut Turning,
+    one: &mut Port<O, J, W>,
+    two: &mut Port<P, I, W>,
     lookout: &mut L,
 ) -> Ended
-    requires one { FitsFrames (length turning.old.frame.items) one.old }
-    requires two { FitsFrames (length turning.old.frame.items) two.old }
     ensures { LoopRuns W.steps options.now.source.items options.now.destination.items
-        turning.old.losses.every options.now.turns result.answer result.short
-        (record {
-          one = one.old;
-          two = two.old;
-          wire_one = wires.old.0;
-          wire_two = wires.old.1;
-          left = turning.old.losses.left;
-        })
-        (record {
-          one = one.new;
-          two = two.new;
-          wire_one = wires.new.0;
-          wire_two = wires.new.1;
-          left = turning.new.losses.left;
-        }) }
+        options.now.turns result.answer result.short (pair one.old two.old)
+        (pair one.new two.new) }
 {
-    match one.put(options.source.as_slice(), options.destination.as_slice()) {
-        Ok(id) => {
-            lookout.sees(Side::One, Passed::Put, one);
-            Ended {
-                answer: None,
-                short: take_turns(options.turns, id, one, two, wires, turning, lookout).is_err(),
-            }
-        }
+    match one.put(
+        options.source.as_slice(),
+        options.destination.as_slice(),
+        lookout,
+    ) {
+        Ok(id) => Ended {
+            answer: None,
+            short: take_turns(id, options.turns, one, two, lookout).is_err(),
+        },
         Err(error) => refused(error),
     }
 }
@@ -313,155 +276,20 @@ pub fn refused(error: PutError) -> Ended
     }
 }
 
-/// Takes turns until a transaction is over at both stations, or so many were taken.
-fn take_turns<O: Outbox, I: Inbox, P: Outbox, J: Inbox, W: Wire, L: Lookout>(
-    most: u64,
-    id: TransactionId,
-    one: &mut Station<O, J>,
-    two: &mut Station<P, I>,
-    wires: &mut (W, W),
-    turning: &mut Turning,
-    lookout: &mut L,
-) -> Result<(), AllocError>
-    requires one { FitsFrames (length turning.old.frame.items) one.old }
-    requires two { FitsFrames (length turning.old.frame.items) two.old }
-    ensures ok { OnOk result (RunsTurns W.steps id turning.old.losses.every most
-        (record {
-          one = one.old;
-          two = two.old;
-          wire_one = wires.old.0;
-          wire_two = wires.old.1;
-          left = turning.old.losses.left;
-        })
-        (record {
-          one = one.new;
-          two = two.new;
-          wire_one = wires.new.0;
-          wire_two = wires.new.1;
-          left = turning.new.losses.left;
-        })) }
-    ensures err { OnErr result (RunsInPart W.steps id turning.old.losses.every most
-        (record {
-          one = one.old;
-          two = two.old;
-          wire_one = wires.old.0;
-          wire_two = wires.old.1;
-          left = turning.old.losses.left;
-        })
-        (record {
-          one = one.new;
-          two = two.new;
-          wire_one = wires.new.0;
-          wire_two = wires.new.1;
-          left = turning.new.losses.left;
-        })) }
-{
-    for before in 0..most {
-        if are_closed(id, one, two) {
-            return Ok(());
-        }
-        take_turn(one, two, wires, turning, before + 1, lookout)?;
-    }
-    Ok(())
-}
-
-/// Whether a transaction is closed at the first station, and isn't open at the second: that may
-/// never have heard of it.
-fn are_closed<O: Outbox, I: Inbox, P: Outbox, J: Inbox>(
-    id: TransactionId,
-    one: &Station<O, J>,
-    two: &Station<P, I>,
-) -> bool
-    ensures { IsTrue result ↔ IsClosed id one.now two.now }
-{
-    is_closed(one.phase(id)) && isnt_open(two.phase(id))
-}
-
-fn is_closed(phase: Option<Phase>) -> bool
-    ensures { IsTrue result ↔ (phase ≡ Some Phase.Closed) }
-{
-    matches!(phase, Some(Phase::Closed))
-}
-
-fn isnt_open(phase: Option<Phase>) -> bool
-    ensures { IsTrue result ↔ ((phase ≡ None) ⊎ (phase ≡ Some Phase.Closed)) }
-{
-    matches!(phase, None | Some(Phase::Closed))
-}
-
-/// Takes one turn: the first station sends, then the second one, and then each takes what came.
-///
-/// # Errors
-///
-/// `AllocError` where a station that was to send found no memory: the turn ends there.
-fn take_turn<O: Outbox, I: Inbox, P: Outbox, J: Inbox, W: Wire, L: Lookout>(
-    one: &mut Station<O, J>,
-    two: &mut Station<P, I>,
-    wires: &mut (W, W),
-    turning: &mut Turning,
-    now: u64,
-    lookout: &mut L,
-) -> Result<(), AllocError>
-    requires one { FitsFrames (length turning.old.frame.items) one.old }
-    requires two { FitsFrames (length turning.old.frame.items) two.old }
-    ensures ok { OnOk result (TakesTurn W.steps turning.old.losses.every now
-        (record {
-          one = one.old;
-          two = two.old;
-          wire_one = wires.old.0;
-          wire_two = wires.old.1;
-          left = turning.old.losses.left;
-        })
-        (record {
-          one = one.new;
-          two = two.new;
-          wire_one = wires.new.0;
-          wire_two = wires.new.1;
-          left = turning.new.losses.left;
-        })) }
-    ensures err { OnErr result (TurnsInPart W.steps turning.old.losses.every now
-        (record {
-          one = one.old;
-          two = two.old;
-          wire_one = wires.old.0;
-          wire_two = wires.old.1;
-          left = turning.old.losses.left;
-        })
-        (record {
-          one = one.new;
-          two = two.new;
-          wire_one = wires.new.0;
-          wire_two = wires.new.1;
-          left = turning.new.losses.left;
-        })) }
-    ensures every { turning.new.losses.every ≡ turning.old.losses.every }
-    ensures one { FitsFrames (length turning.new.frame.items) one.new }
-    ensures two { FitsFrames (length turning.new.frame.items) two.new }
-{
-    lookout.begins(now);
-    let (frame, losses) = (turning.frame.as_mut_slice(), &mut turning.losses);
-    send_turn(one, &mut wires.0, losses, now, frame, Side::One, lookout)?;
-    send_turn(two, &mut wires.1, losses, now, frame, Side::Two, lookout)?;
-    let datagram = turning.datagram.as_mut_slice();
-    receive_turn(one, &mut wires.0, datagram, Side::One, lookout);
-    receive_turn(two, &mut wires.1, datagram, Side::Two, lookout);
-    Ok(())
-}
-
 /// Writes the report, and answers how many puts it tells complete.
 ///
 /// # Errors
 ///
 /// That of the writer.
-fn write_report<O: Outbox, I: Inbox, P: Outbox, J: Inbox, V: Write>(
+fn write_report<O: Outbox, I: Inbox, P: Outbox, J: Inbox, W: Wire, V: Write>(
     out: &mut V,
     answer: Option<Answer>,
-    one: &Station<O, J>,
-    two: &Station<P, I>,
+    one: &Port<O, J, W>,
+    two: &Port<P, I, W>,
 ) -> io::Result<usize>
     ensures written { OnOk result (Appends (V.contents out.old) (V.contents out.new)
-        (loop_text answer one.now two.now)) }
-    ensures complete { IfOk result (λ complete. complete ≡ completed one.now) }
+        (loop_text answer one.now.station two.now.station)) }
+    ensures complete { IfOk result (λ complete. complete ≡ completed one.now.station) }
 {
     write_answer(out, Answered { line: 1, answer })?;
     write_indications(out, 1, one.indications())?;
@@ -477,20 +305,4 @@ pub fn write_count<V: Write>(out: &mut V, complete: usize, asked: usize) -> io::
         (count_line complete asked)) }
 {
     writeln!(out, "complete {complete} of {asked}")
-}
-
-/// How it ended, by whether memory was wanting, the count of completed puts, and whether a store
-/// failed.
-fn exit(short: bool, complete: usize, failed: bool) -> Exit
-    ensures { result ≡ loop_exit short complete failed }
-{
-    if short {
-        Exit::Device(Fault::NoMemory)
-    } else if complete == 1 {
-        Exit::Complete
-    } else if failed {
-        Exit::Device(Fault::NoMemory)
-    } else {
-        Exit::Incomplete
-    }
 }

@@ -10,32 +10,22 @@ pub mod request;
 pub mod serving;
 pub mod setup;
 pub mod state_file;
-pub mod turning;
 
-use crate::exit::{Exit, Fault};
-use crate::input::Input;
-use crate::looping::folders::{
-    LoopLookout, TellingInbox, TellingOutbox, check_file, check_name, folder, folder_outbox,
-};
+use crate::looping::folders::{check_file, check_name, folder, folder_outbox, tell_untold};
 use crate::looping::held_folder::HeldFolder;
-use crate::report::name::Name;
-use crate::script::number::parse_number;
-use crate::script::sim::Ran;
+use crate::looping::telling::{LoopLookout, TellingInbox, TellingNoInbox, TellingOutbox};
 use crate::station::beacon::Beacon;
 use crate::station::exchange::Exchange;
 use crate::station::notices::Notices;
 use crate::station::request::{StationNumbers, StationRequest};
-use crate::station::serving::{PutNames, StationOptions, run_station};
+use crate::station::serving::{PutNames, StationEnds, StationOptions, run_station};
 use crate::station::setup::StationSetup;
 use crate::station::state_file::{Reservation, StateError};
-use crate::watch::lookout::Lookout;
-use crate::watch::onlooker::Onlooker;
-use crate::watch::progress::Progress;
-use crate::watch::recorder::Screen;
-use crate::watch::show::shown_status;
 use crate::wire::peer_socket::{Pace, PeerSocket, Unusable};
+use cfdp_port::{Lookout, LossyWire};
+use cfdp_report::{Exit, Fault, Name, Onlooker, Progress, Ran, Screen, parse_number, shown_status};
 use cfdp_station::StationConfig;
-use cfdp_store::{FuseInbox, Inbox, MemoryInbox, SeekingOutbox};
+use cfdp_store::{Inbox, SeekingOutbox};
 use link_sim::{Side, WorldConfig};
 use std::alloc::{AllocError, Global};
 use std::cell::Cell;
@@ -380,29 +370,8 @@ fn ran_status(
         progress: &progress,
     };
     let ran = ran(context, config, parts, &told);
-    tell_untold(rt, request.inbox.is_some(), ran.exit, &told);
+    tell_untold(rt, ran.exit, &told);
     shown_status(rt, &request.shown, &ran)
-}
-
-/// Says what failed, unless that was said.
-fn tell_untold(rt: &HostRuntime, has_inbox: bool, exit: Exit, told: &Cell<bool>) {
-    if let Exit::Device(fault) = exit
-        && !told.get()
-    {
-        tell_fault(rt, has_inbox, fault);
-    }
-}
-
-/// Says what failed. Without an inbox each file that comes is one that could not be kept.
-fn tell_fault(rt: &HostRuntime, has_inbox: bool, fault: Fault) {
-    match fault {
-        Fault::NoMemory if !has_inbox => {
-            let _ = eprintln!(rt;
-                "error: a file came and there is no --inbox, or there is not enough memory"
-            );
-        }
-        _ => fault.tell(rt, Input::Standard),
-    }
 }
 
 /// What a run is shown by, and what was asked for.
@@ -454,7 +423,7 @@ fn ran_from<O: SeekingOutbox>(
             Err(AllocError) => Ran::unseen(Exit::Device(Fault::NoMemoryAtStart)),
         },
         None => {
-            let inbox = FuseInbox::new(MemoryInbox::new(rt.alloc()), 1);
+            let inbox = TellingNoInbox::new(rt, told, context.progress);
             ran_over(context, config, parts, outbox, inbox)
         }
     }
@@ -485,7 +454,7 @@ fn ran_over<O: SeekingOutbox, I: Inbox>(
             let own = config_at(side_of(request), config);
             let lookout = LoopLookout { onlooker, progress };
             let mut notices = Notices::new(rt, lookout, exchange, own, request.to.as_str());
-            let exit = reported(rt, request, config, parts, outbox, inbox, &mut notices);
+            let exit = reported(context, config, parts, (outbox, inbox), &mut notices);
             Ran {
                 exit,
                 seen: notices.lookout.onlooker.into_summary(),
@@ -498,16 +467,15 @@ fn ran_over<O: SeekingOutbox, I: Inbox>(
 /// Runs the station, and writes the report to standard output. Its buffer is there before the first
 /// turn.
 fn reported<O: SeekingOutbox, I: Inbox, L: Lookout>(
-    rt: &HostRuntime,
-    request: &StationRequest,
+    context: Context<'_>,
     config: &WorldConfig,
     parts: StationParts<'_>,
-    outbox: O,
-    inbox: I,
+    stores: (O, I),
     lookout: &mut L,
 ) -> Exit
     requires { IsWorldConfig config.now }
 {
+    let Context { rt, request, .. } = context;
     let alloc = rt.alloc();
     let StationParts {
         socket,
@@ -519,10 +487,13 @@ fn reported<O: SeekingOutbox, I: Inbox, L: Lookout>(
     let Ok(mut out) = BufWriter::new(alloc, io::writer(rt)) else {
         return Exit::Device(Fault::NoMemoryAtStart);
     };
-    let clock = socket.clock();
-    let exit = run_station(
-        alloc, options, outbox, inbox, socket, clock, &mut out, lookout,
-    );
+    let (outbox, inbox) = stores;
+    let ends = StationEnds {
+        outbox,
+        inbox,
+        wire: LossyWire::new(socket, request.numbers.drop_every),
+    };
+    let exit = run_station(alloc, options, ends, &mut out, lookout);
     // What a failed write left in the buffer is let go: a `BufWriter` would write it once more.
     let _ = out.into_parts();
     exit
@@ -543,7 +514,6 @@ fn options(
         config: config_at(side, config),
         frame_count,
         puts: put_names(alloc, request.puts.as_slice())?,
-        drop_every: request.numbers.drop_every,
         side,
     })
 }

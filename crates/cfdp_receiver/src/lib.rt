@@ -11,6 +11,8 @@
 //!     // The PDU is the first `len` octets of `out`.
 //! }
 //! ```
+//!
+//! Tested by `tests/transcripts/receiver.txt` and `tests/transcripts/machines.txt`.
 #![tactic(auto)]
 
 mod asked;

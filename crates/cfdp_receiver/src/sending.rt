@@ -188,6 +188,7 @@ impl Receiver {
     fn ack<'a>(&self, condition: Condition) -> Pdu<'a>
         ensures { Says self.now (due_is.AckOfEof condition) (view result) }
     {
+        // For the prover: the invariant of the condition.
         let _any_condition_fits = condition.code();
         Pdu::Ack {
             of: Acknowledged::Eof,
@@ -209,6 +210,7 @@ impl Receiver {
         ensures { Says self.now (due_is.Finished outcome.now) (view result) }
     {
         let condition = outcome.condition;
+        // For the prover: the invariant of the condition.
         let _any_condition_fits = condition.code();
         Pdu::Finished {
             condition,

@@ -43,6 +43,7 @@ impl Sender {
             ≡ option_map (λ d. written_len self.now.addressing (codes.is_large self.now.size)
             (sender_says file self.now d)) (sender_due self.now) }
     {
+        // For the prover: the invariant.
         let _size = self.size;
         let due = self.next()?;
         let (_, carried) = self.extent(&due);
@@ -93,6 +94,7 @@ impl Sender {
         ensures says { (octets : List ℕ) → carries due.now ≡ true →
             pdu_says octets self.now due.now ≡ FileData result.0 octets }
     {
+        // For the prover: the invariant.
         let _size = self.size;
         match due {
             SenderDue::AskedData(start, end) | SenderDue::NewData(start, end) => {

@@ -10,6 +10,8 @@
 //! // An ACK of EOF was heard; Finished will follow.
 //! sender.on_ack(&mut effects, &policy, condition);
 //! ```
+//!
+//! Tested by `sender.txt`, `machines.txt` and `large.txt` in `tests/transcripts/`.
 #![tactic(auto)]
 
 mod calls;

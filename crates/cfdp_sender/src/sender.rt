@@ -163,6 +163,7 @@ impl Sender {
     pub fn every_sender_can_send(&self)
         ensures { IsSender self.now }
     {
+        // For the prover: the invariant.
         let _size = self.size;
     }
 
@@ -214,6 +215,7 @@ impl Sender {
         requires { 0 < condition }
         ensures { self.new ≡ steps.cancelling condition self.old }
     {
+        // For the prover: the invariant of the condition.
         let _code = condition.code();
         self.asked.clear();
         self.phase = SenderPhase::Cancelling;

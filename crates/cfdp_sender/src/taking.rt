@@ -59,6 +59,7 @@ impl Sender {
         ensures calls { Reads O.steps self.old (sender_due self.old) (was_given result)
             outbox.old outbox.new }
     {
+        // For the prover: the invariant.
         let _size = self.size;
         let Some(due) = self.next() else {
             return Taken::Nothing;

@@ -29,6 +29,7 @@ impl Transfer {
     pub fn is_sendable(&self) -> bool
         ensures { IsTrue result ↔ IsSendable self.now }
     {
+        // For the prover: the invariant of the checksum type.
         let _kind = self.checksum_kind.code();
         self.addressing.is_writable()
             && 1 <= self.segment

@@ -4,3 +4,5 @@ pub mod Station
 pub mod Link
 pub mod Polling
 pub mod Taking
+pub mod Requests
+pub mod Transmitting

@@ -24,14 +24,14 @@
 //! }
 //! let mut station = Station::new(alloc, config, outbox, inbox)?;
 //! station.put(b"a.txt", b"b.txt")?;
-//! while station.poll()? == Polled::Moved {}
-//! station.flush();
 //!
-//! let mut frame = vec![in alloc; 0u8; station.frame_len()]?;
-//! while station.next_frame(&mut frame).is_some() {
-//!     peer.take(&frame);
+//! let mut frame = Vec::new(alloc);
+//! while station.transmit(&mut frame)?.is_some() {
+//!     peer.receive(&frame);
 //! }
 //! ```
+//!
+//! Tested by `tests/transcripts/stations.txt` and `tests/transcripts/setups.txt`.
 #![tactic(auto)]
 
 mod amiss;
@@ -41,6 +41,7 @@ mod looking;
 mod moving;
 mod polled;
 mod station;
+mod transmitting;
 
 pub use amiss::{LinkField, StationField};
 pub use aos_frame::FrameError;
@@ -49,7 +50,8 @@ pub use cfdp_directives::{
     PduError, Phase, Policy, Times,
 };
 pub use cfdp_entity::{
-    AddError, CallError, EntityConfig, EntityDrop, EntityField, ForgetError, PutError, Transactions,
+    AddError, EntityConfig, EntityDrop, EntityField, ForgetError, PutError, Request, RequestError,
+    Transactions,
 };
 pub use cfdp_header::{HeaderError, TransactionId};
 pub use cfdp_store::{Inbox, Outbox, SeekingOutbox, SteadyOutbox, StoreError};

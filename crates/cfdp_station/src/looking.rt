@@ -28,14 +28,14 @@ impl<O: Outbox, I: Inbox> Station<O, I> {
         self.entity.records_left()
     }
 
-    /// The earliest deadline of all armed timers, those of kind Inactivity among them, in units of
-    /// the clock that [`tick`](Self::tick) is told; `None` where none is armed. It goes over all
-    /// records, which [`next_deadline`](Self::next_deadline) doesn't.
-    pub fn next_expiry(&self) -> Option<u64>
+    /// When [`tick`](Self::tick) has to be called at the latest: the earliest deadline of all armed
+    /// timers, those of kind Inactivity among them, in units of the clock that it is told; `None`
+    /// where none is armed.
+    pub fn next_timeout(&self) -> Option<u64>
         ensures { MatchOption result (self.now.entity.state.table.armed ≡ map.empty)
             (λ deadline. IsLeast self.now.entity.state.table.armed deadline) }
     {
-        self.entity.next_expiry()
+        self.entity.next_timeout()
     }
 
     /// What was indicated behind the first so many indications, in order: none where there are no

@@ -1,3 +1,6 @@
+ghost use Rattle.std.specs.Prelude.{◌↔◌, IsTrue};
+ghost use Rattle.cfdp_station.specs.Transmitting.{IsMore};
+
 /// What a poll did.
 #[derive(Clone, Copy, Debug, PartialEq, Eq)]
 pub enum Polled {
@@ -11,4 +14,16 @@ pub enum Polled {
     /// The outbox failed to give the file data that are due: the transaction was cancelled for it,
     /// and no PDU moved.
     SourceFailed,
+}
+
+impl Polled {
+    /// Whether more may be due behind a poll that answered so.
+    pub fn is_more(self) -> bool
+        ensures { IsTrue result ↔ IsMore self }
+    {
+        match self {
+            Polled::Moved | Polled::SourceFailed => true,
+            Polled::Nothing | Polled::Full => false,
+        }
+    }
 }

@@ -4,6 +4,7 @@ ghost use Rattle.std.specs.FinMap as map;
 ghost use Rattle.mpdu.specs.Stream.{ArePackets};
 ghost use Rattle.aos_frame.specs.Frame.{lane_link, other_lane};
 ghost use Rattle.link_stack.specs.Downward.{Flushes, IsDown, KeepsLanes, MakesFrame, both_counted_from, first_down, frame_lane, idle_zones, lane_down};
+ghost use Rattle.link_stack.specs.Drops as of_link;
 ghost use Rattle.link_stack.specs.Frames.{AreOfLink};
 ghost use Rattle.link_stack.specs.Upward.{IsUpOf, drop_count, first_up, lane_up};
 ghost use Rattle.cfdp_timers.specs.Due.{due_count};
@@ -11,21 +12,21 @@ ghost use Rattle.cfdp_timers.specs.ButInactivity.{OnlyInactivity, IsLeastOther};
 ghost use Rattle.cfdp_store.specs.Chains.{Raises};
 ghost use Rattle.cfdp_store.specs.Stores.{failures_after};
 ghost use Rattle.cfdp_entity.specs.Adding.{AddsFile, RefusesToAdd};
-ghost use Rattle.cfdp_entity.specs.Calling.{IsRefusal};
-ghost use Rattle.cfdp_entity.specs.Calls.{IsCalled, asks_inbox, call_refusal};
 ghost use Rattle.cfdp_entity.specs.Entity.{entity_lent, entity_standing, first_entity, with_table, phase_told};
+ghost use Rattle.cfdp_entity.specs.Errors.{drop_number};
 ghost use Rattle.cfdp_entity.specs.Gives.{CountsOutbox};
 ghost use Rattle.cfdp_entity.specs.Looking.{LooksUp};
 ghost use Rattle.cfdp_entity.specs.Polling.{TakesTurn, turn};
 ghost use Rattle.cfdp_entity.specs.Putting.{Accepts, put_refusal, IsPutRefusal, stored_by_error, was_answered};
 ghost use Rattle.cfdp_entity.specs.Sound.{SpellsTurn, longest_pdu};
-ghost use Rattle.cfdp_entity.specs.Storing.{AsksByCall, AsksToTick};
+ghost use Rattle.cfdp_entity.specs.Storing.{AsksToTick};
 ghost use Rattle.cfdp_entity.specs.Table.{Ticks};
-ghost use Rattle.cfdp_entity.specs.declared.call.Call.TheVariants as calls;
+ghost use Rattle.cfdp_entity.specs.declared.request.Request.TheVariants as requests;
 ghost use Rattle.cfdp_station.specs.declared.polled.Polled.TheVariants as answers;
 ghost use Rattle.cfdp_station.specs.Config.{IsStationConfig};
 ghost use Rattle.cfdp_station.specs.Link.{FlushesBoth, WaitAtMost, HoldsAtMost};
 ghost use Rattle.cfdp_station.specs.Polling.{Polls, Shows, next_len, next_room, stored_by_poll};
+ghost use Rattle.cfdp_station.specs.Requests.{StationAnswers};
 ghost use Rattle.cfdp_station.specs.Station.{KeepsLink, KeepsRest, station_lent};
 ghost use Rattle.cfdp_station.specs.Taking.{TakesFrame};
 
@@ -33,10 +34,10 @@ use crate::config::StationConfig;
 use crate::moving::{hear_all, move_one};
 use crate::polled::Polled;
 use cfdp_directives::{Indication, Phase};
-use cfdp_entity::{AddError, CallError, Entity, PutError};
+use cfdp_entity::{AddError, Entity, EntityDrop, PutError, Request, RequestError};
 use cfdp_header::TransactionId;
 use cfdp_store::{Inbox, MemoryOutbox, Outbox, SeekingOutbox, StoreError};
-use link_stack::{Down, Lane, Up};
+use link_stack::{Down, Lane, LinkDrop, Up};
 use std::alloc::{AllocError, Global};
 use std::marker::Model;
 
@@ -45,8 +46,8 @@ use std::marker::Model;
 /// The calls of the user, and `tick`, are those of its [`Entity`]. A [`poll`](Self::poll) moves one
 /// PDU down, into a packet of its own, on the lane of its type; [`next_frame`](Self::next_frame)
 /// gives the frames that are whole, those of directives first, and a [`flush`](Self::flush) makes
-/// the begun one of each lane whole. [`take`](Self::take) takes a frame of the peer, of either
-/// lane.
+/// the begun one of each lane whole: [`transmit`](Self::transmit) does all three for one frame.
+/// [`receive`](Self::receive) takes a frame of the peer, of either lane.
 ///
 /// Each PDU is written once, into a buffer made with the station. So `flush`, `frames_ahead` and
 /// `next_frame` take no memory, and `poll` none but what the entity's indications need.
@@ -156,62 +157,49 @@ impl<O: Outbox, I: Inbox> Station<O, I> {
         self.entity.put(source, destination)
     }
 
+    /// Does what is asked of a transaction: what [`cancel`](Self::cancel),
+    /// [`suspend`](Self::suspend), [`resume`](Self::resume) or [`prompt`](Self::prompt) does.
+    ///
+    /// # Errors
+    ///
+    /// The first cause that holds, in the order of [`RequestError`]; nothing changed then.
+    pub fn request(&mut self, id: TransactionId, request: Request) -> Result<(), RequestError>
+        ensures { StationAnswers request id result self.old self.new }
+    {
+        self.entity.request(id, request)
+    }
+
     /// Gives a transaction up, and tells the peer.
     ///
     /// # Errors
     ///
-    /// The first cause that holds, in the order of [`CallError`]; nothing changed then.
-    pub fn cancel(&mut self, id: TransactionId) -> Result<(), CallError>
-        ensures called { OnOk result (IsCalled calls.Cancel id self.old.entity.state
-            self.new.entity.state) }
-        ensures refused { IfErr result (IsRefusal (call_refusal calls.Cancel id
-            self.old.entity.state.table)) }
-        ensures err { OnErr result (self.new ≡ self.old) }
-        ensures grows { self.old.entity.inbox_failures ≤ self.new.entity.inbox_failures }
-        ensures inbox { asks_inbox calls.Cancel id self.old.entity.state.table ≡ false
-            → self.new.entity.inbox_failures ≡ self.old.entity.inbox_failures }
-        ensures raises { OnOk result (AsksByCall Raises calls.Cancel id self.old.entity.state.table
-            self.old.entity.inbox_failures self.new.entity.inbox_failures) }
-        ensures outbox { self.new.entity.outbox_failures ≡ self.old.entity.outbox_failures }
-        ensures link { KeepsLink self.old self.new }
+    /// The first cause that holds, in the order of [`RequestError`]; nothing changed then.
+    pub fn cancel(&mut self, id: TransactionId) -> Result<(), RequestError>
+        ensures { StationAnswers requests.Cancel id result self.old self.new }
     {
-        self.entity.cancel(id)
+        self.request(id, Request::Cancel)
     }
 
     /// Sends nothing of a transaction, and lets no time run for it.
     ///
     /// # Errors
     ///
-    /// The first cause that holds, in the order of [`CallError`]; nothing changed then.
-    pub fn suspend(&mut self, id: TransactionId) -> Result<(), CallError>
-        ensures called { OnOk result (IsCalled calls.Suspend id self.old.entity.state
-            self.new.entity.state) }
-        ensures refused { IfErr result (IsRefusal (call_refusal calls.Suspend id
-            self.old.entity.state.table)) }
-        ensures err { OnErr result (self.new ≡ self.old) }
-        ensures inbox { self.new.entity.inbox_failures ≡ self.old.entity.inbox_failures }
-        ensures outbox { self.new.entity.outbox_failures ≡ self.old.entity.outbox_failures }
-        ensures link { KeepsLink self.old self.new }
+    /// The first cause that holds, in the order of [`RequestError`]; nothing changed then.
+    pub fn suspend(&mut self, id: TransactionId) -> Result<(), RequestError>
+        ensures { StationAnswers requests.Suspend id result self.old self.new }
     {
-        self.entity.suspend(id)
+        self.request(id, Request::Suspend)
     }
 
     /// Goes on with a transaction that was suspended.
     ///
     /// # Errors
     ///
-    /// The first cause that holds, in the order of [`CallError`]; nothing changed then.
-    pub fn resume(&mut self, id: TransactionId) -> Result<(), CallError>
-        ensures called { OnOk result (IsCalled calls.Resume id self.old.entity.state
-            self.new.entity.state) }
-        ensures refused { IfErr result (IsRefusal (call_refusal calls.Resume id
-            self.old.entity.state.table)) }
-        ensures err { OnErr result (self.new ≡ self.old) }
-        ensures inbox { self.new.entity.inbox_failures ≡ self.old.entity.inbox_failures }
-        ensures outbox { self.new.entity.outbox_failures ≡ self.old.entity.outbox_failures }
-        ensures link { KeepsLink self.old self.new }
+    /// The first cause that holds, in the order of [`RequestError`]; nothing changed then.
+    pub fn resume(&mut self, id: TransactionId) -> Result<(), RequestError>
+        ensures { StationAnswers requests.Resume id result self.old self.new }
     {
-        self.entity.resume(id)
+        self.request(id, Request::Resume)
     }
 
     /// Asks the receiver of a file that this station sends for a Keep Alive where true, else for a
@@ -219,18 +207,11 @@ impl<O: Outbox, I: Inbox> Station<O, I> {
     ///
     /// # Errors
     ///
-    /// The first cause that holds, in the order of [`CallError`]; nothing changed then.
-    pub fn prompt(&mut self, id: TransactionId, keep_alive: bool) -> Result<(), CallError>
-        ensures called { OnOk result (IsCalled (calls.Prompt keep_alive) id self.old.entity.state
-            self.new.entity.state) }
-        ensures refused { IfErr result (IsRefusal (call_refusal (calls.Prompt keep_alive) id
-            self.old.entity.state.table)) }
-        ensures err { OnErr result (self.new ≡ self.old) }
-        ensures inbox { self.new.entity.inbox_failures ≡ self.old.entity.inbox_failures }
-        ensures outbox { self.new.entity.outbox_failures ≡ self.old.entity.outbox_failures }
-        ensures link { KeepsLink self.old self.new }
+    /// The first cause that holds, in the order of [`RequestError`]; nothing changed then.
+    pub fn prompt(&mut self, id: TransactionId, keep_alive: bool) -> Result<(), RequestError>
+        ensures { StationAnswers (requests.Prompt keep_alive) id result self.old self.new }
     {
-        self.entity.prompt(id, keep_alive)
+        self.request(id, Request::Prompt { keep_alive })
     }
 
     /// How far a transaction has come; `None` where it has no record here.
@@ -240,27 +221,25 @@ impl<O: Outbox, I: Inbox> Station<O, I> {
         self.entity.phase(id)
     }
 
-    /// How often a PDU that came up was dropped by the cause with this number, 1 to 17, which
-    /// [`EntityDrop`](crate::EntityDrop) names; 0 of any other number. The count stays at the
-    /// greatest `u64`.
-    pub fn drops(&self, number: u8) -> u64
-        ensures { result ≡ get_or self.now.entity.state.drops number 0 }
+    /// How often a PDU that came up was dropped by this cause. The count stays at the greatest
+    /// `u64`.
+    pub fn drops(&self, by: EntityDrop) -> u64
+        ensures { result ≡ get_or self.now.entity.state.drops (drop_number by) 0 }
     {
-        self.entity.drops(number)
+        self.entity.drops(by)
     }
 
-    /// How often something of the frames taken was dropped under a number, 1 to 11, which
-    /// [`LinkDrop`](crate::LinkDrop) names; 0 of any other number. The count stays at the greatest
-    /// `u64`.
-    pub fn link_drops(&self, number: u8) -> u64
-        ensures { result ≡ drop_count self.now.up number }
+    /// How often something of the frames taken was dropped by this cause, on either lane. The count
+    /// stays at the greatest `u64`.
+    pub fn link_drops(&self, by: LinkDrop) -> u64
+        ensures { result ≡ drop_count self.now.up (of_link.drop_number by) }
     {
-        self.up.drops(number)
+        self.up.drops(by.number())
     }
 
     /// The earliest deadline of the armed timers but those of kind Inactivity, in units of the
-    /// clock that [`tick`](Self::tick) is told; `None` where no other is armed.
-    /// [`next_expiry`](Self::next_expiry) tells that of all.
+    /// clock that [`tick`](Self::tick) is told; `None` where no other is armed: while one is, an
+    /// answer is waited for. [`next_timeout`](Self::next_timeout) tells that of all.
     pub fn next_deadline(&self) -> Option<u64>
         ensures { MatchOption result (OnlyInactivity self.now.entity.state.table.armed)
             (λ deadline. IsLeastOther self.now.entity.state.table.armed deadline) }
@@ -406,7 +385,7 @@ impl<O: Outbox, I: Inbox> Station<O, I> {
     /// [`link_drops`](Self::link_drops), and a PDU that the entity doesn't take in
     /// [`drops`](Self::drops). What finds no memory is dropped and counted in one of both, as if it
     /// had been lost.
-    pub fn take(&mut self, frame: &[u8])
+    pub fn receive(&mut self, frame: &[u8])
         ensures { TakesFrame frame.now self.old self.new }
     {
         self.given.clear();

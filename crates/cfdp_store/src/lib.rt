@@ -12,6 +12,8 @@
 //! inbox.publish(id, b"greeting.txt", 5)?;
 //! assert_eq!(inbox.published().octets(b"greeting.txt"), b"hello");
 //! ```
+//!
+//! Tested by `tests/transcripts/stores.txt` and `tests/rows/folders.rows`.
 #![tactic(auto)]
 
 mod catalog;
@@ -25,6 +27,7 @@ mod inbox;
 mod known;
 mod laws;
 mod memory;
+mod no_inbox;
 mod outbox;
 mod parts;
 mod pieces;
@@ -42,5 +45,6 @@ pub use laws::{
     files_that_stand_are_expected, front_is_what_stands, written_octets_cover, written_octets_stand,
 };
 pub use memory::{MemoryInbox, MemoryOutbox};
+pub use no_inbox::NoInbox;
 pub use outbox::{Outbox, SeekingOutbox, SteadyOutbox};
 pub use stored::Stored;

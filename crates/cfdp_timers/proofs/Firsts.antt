@@ -8,7 +8,7 @@ use Rattle.cfdp_timers.specs.Entries.{earlier, earliest_of, AreFirsts}
 use Rattle.cfdp_timers.proofs.Alarms.{earlier_assoc, earlier_none}
 
 -- ---- the earlier of two
-earlier_comm : (a b : Option ℕ) → earlier a b ≡ earlier b a
+pub earlier_comm : (a b : Option ℕ) → earlier a b ≡ earlier b a
 earlier_comm None b = sym (earlier_none b)
 earlier_comm (Some x) None = refl
 earlier_comm (Some x) (Some y) = ap Some (two x y)

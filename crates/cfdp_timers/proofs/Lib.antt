@@ -4,6 +4,7 @@ pub mod Kept
 pub mod Written
 pub mod Alarms
 pub mod Distinct
+pub mod Earliest
 pub mod Firing
 pub mod CallerLemmas
 pub mod Waited

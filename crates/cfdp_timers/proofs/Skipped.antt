@@ -24,7 +24,7 @@ deadlines-past [] place is = refl
 deadlines-past (e ∷ es) zero is = absurd (none-some e (sym is))
 deadlines-past (e ∷ es) (suc place) is = deadlines-past es place is
 
-length-past : (es : List (TransactionId × Deadlines)) (place : ℕ) → slice_get es place ≡ None → length es ≤ place
+pub length-past : (es : List (TransactionId × Deadlines)) (place : ℕ) → slice_get es place ≡ None → length es ≤ place
 length-past [] place is = omega arith
 length-past (e ∷ es) zero is = absurd (none-some e (sym is))
 length-past (e ∷ es) (suc place) is = let rest = length-past es place is in omega (arith, rest)

@@ -9,6 +9,8 @@
 //!     // The NAK of that transaction is to be sent again.
 //! }
 //! ```
+//!
+//! Tested by `tests/transcripts/timers.txt`.
 #![tactic(auto)]
 
 mod alarm;

@@ -16,7 +16,7 @@ ghost use Rattle.cfdp_timers.specs.Waits.{deadline_after, with_wait, waited};
 use crate::alarm::{Alarm, timers_of};
 use crate::blocks::Blocks;
 use crate::bounds::Bounds;
-use crate::deadlines::{Deadlines, earlier};
+use crate::deadlines::Deadlines;
 use crate::wait::{Wait, Waits};
 use crate::{Kind, entries, walk};
 use cfdp_header::TransactionId;
@@ -151,16 +151,13 @@ impl Timers {
         self.set_deadline(id, kind, None);
     }
 
-    /// The earliest deadline of the armed timers; `None` where none is armed.
+    /// The earliest deadline of the armed timers; `None` where none is armed. It looks only at those
+    /// transactions whose blocks may have an earlier one than the other kinds' earliest.
     pub fn next(&self) -> Option<u64>
         ensures { MatchOption result (self.now.armed
             ≡ map.empty) (λ deadline. IsLeast self.now.armed deadline) }
     {
-        let mut earliest = None;
-        for (_id, deadlines) in self.entries.iter() {
-            earliest = earlier(earliest, deadlines.next());
-        }
-        earliest
+        walk::earliest_of_all(&self.entries, &self.bounds, self.others.earliest())
     }
 
     /// The earliest deadline of the armed timers but those of kind Inactivity; `None` where no other

@@ -1,5 +1,5 @@
 // Walks over the blocks of transactions that may have a timer which is due.
-ghost use Rattle.std.specs.Prelude.{◌≡◌, ◌+◌, ◌*◌, ◌^◌, ◌≤◌, ◌<◌, ◌++◌, [], length, map, drop, get_or, IfOk, OnOk, OnErr};
+ghost use Rattle.std.specs.Prelude.{◌≡◌, ℕ, ◌+◌, ◌*◌, ◌^◌, ◌≤◌, ◌<◌, ◌++◌, Some, [], true, length, map, drop, get_or, IfOk, OnOk, OnErr};
 ghost use Rattle.cfdp_timers.specs.Entries as kept;
 ghost use Rattle.cfdp_timers.specs.Entries.{AreBounds, IsBound, alarms, deadlines_in, entry_of, next_of};
 
@@ -156,6 +156,58 @@ fn earliest_in(entries: &IndexMap<TransactionId, Deadlines>, block: usize) -> u6
         earliest = earlier(earliest, earliest_at(entries, place));
     }
     earliest.unwrap_or(u64::MAX)
+}
+
+/// The earliest deadline of all, where `others` is that of all but Inactivity's. Blocks are skipped
+/// in which none can be earlier.
+pub(crate) fn earliest_of_all(
+    entries: &IndexMap<TransactionId, Deadlines>,
+    bounds: &Bounds,
+    others: Option<u64>,
+) -> Option<u64>
+    requires bounds { AreBounds entries.now.entries bounds.now }
+    requires few { length entries.now.entries ≤ 2 ^ 59 }
+    requires others { others ≡ kept.earliest_of (kept.others_of entries.now.entries) }
+    ensures { result ≡ kept.earliest (alarms entries.now.entries) }
+{
+    let mut first = others;
+    for block in 0..entries.len().div_ceil(BLOCK) {
+        first = earlier_in(entries, bounds, block, first);
+    }
+    first
+}
+
+// The earlier of a deadline and the earliest of a block.
+fn earlier_in(
+    entries: &IndexMap<TransactionId, Deadlines>,
+    bounds: &Bounds,
+    block: usize,
+    first: Option<u64>,
+) -> Option<u64>
+    requires bounds { AreBounds entries.now.entries bounds.now }
+    requires within { block < length bounds.now }
+    requires few { block < 2 ^ 57 }
+    ensures { kept.earlier result (kept.earliest (alarms (drop (64 * (block + 1))
+        entries.now.entries))) ≡ kept.earlier first (kept.earliest (alarms (drop (64 * block)
+        entries.now.entries))) }
+{
+    if is_no_later(first, bounds.at(block)) {
+        return first;
+    }
+    let mut earliest = first;
+    for place in block * BLOCK..(block + 1) * BLOCK {
+        earliest = earlier(earliest, earliest_at(entries, place));
+    }
+    earliest
+}
+
+fn is_no_later(first: Option<u64>, bound: u64) -> bool
+    ensures { result ≡ true → (deadline : ℕ) × (first ≡ Some deadline) × (deadline ≤ bound) }
+{
+    match first {
+        Some(deadline) => deadline <= bound,
+        None => false,
+    }
 }
 
 // How many timers of the transaction at a place are due.

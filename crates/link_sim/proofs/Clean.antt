@@ -1,6 +1,8 @@
 -- A world in which nothing went wrong, and that it settles complete.
 -- That nothing was short, and what ended a settling, over several events.
 pub mod Causes
+-- The parts of a settling, one behind the other.
+pub mod Parts
 -- What is indicated where nothing goes wrong: nothing bad.
 pub mod WellHeard
 -- What an entity makes of the PDUs that it hears, where nothing goes wrong: it tells nothing bad, gives up nothing, and drops nothing but for want of room.

@@ -1,7 +1,8 @@
 -- What an event does to one station and to the frames that it sent, whatever the end is that
 -- receives them: it belongs to the other station.
-use Rattle.std.specs.Prelude.{◌≡◌, ◌≢◌, ◌⊎◌, ℕ, ◌+◌, ◌%◌, ◌<◌, ◌≤◌, ◌++◌, false, true, List, [], ◌∷◌, length, drop, Some, Result, Ok, Err, alloc_error}
+use Rattle.std.specs.Prelude.{◌≡◌, ◌≢◌, ◌⊎◌, ℕ, ◌+◌, ◌%◌, ◌<◌, ◌≤◌, ◌++◌, false, true, List, [], ◌∷◌, length, drop, Some, Result, Ok, Err, IfOk, OnErr, alloc_error}
 use Rattle.std.specs.declared.alloc.AllocError.{AllocError}
+use Rattle.cfd_bits.specs.Counting.{raised}
 use Rattle.cfdp_header.specs.declared.value.TransactionId.{TransactionId}
 use Rattle.aos_frame.specs.Frame.{other_lane}
 use Rattle.aos_frame.specs.declared.config.Lane.{Lane}
@@ -11,18 +12,22 @@ use Rattle.link_stack.specs.Downward.{DownState, LinkSenderState, frame_lane, la
 use Rattle.link_stack.specs.Upward.{LinkReceiverState, UpState, lane_up}
 use Rattle.cfdp_store.specs.declared.stored.Stored.TheVariants as storeds
 use Rattle.cfdp_store.specs.Stores.{Counts, failures_after}
+use Rattle.cfdp_store.specs.Chains.{Raises}
+use Rattle.cfdp_entity.specs.declared.request.Request.{Request}
+use Rattle.cfdp_entity.specs.declared.request.Request.TheVariants as requests
 use Rattle.cfdp_entity.specs.declared.error.PutError.{PutError}
 use Rattle.cfdp_entity.specs.declared.error.PutError.TheVariants as put_errors
-use Rattle.cfdp_entity.specs.declared.error.CallError.{CallError}
-use Rattle.cfdp_entity.specs.declared.error.CallError.TheVariants as call_errors
-use Rattle.cfdp_entity.specs.Entity.{Counted}
+use Rattle.cfdp_entity.specs.declared.error.RequestError.{RequestError}
+use Rattle.cfdp_entity.specs.declared.error.RequestError.TheVariants as call_errors
+use Rattle.cfdp_entity.specs.Entity.{Counted, with_table}
 use Rattle.cfdp_entity.specs.Polling.{Place, Rests, turn, served}
 use Rattle.cfdp_entity.specs.Putting.{Accepts, IsPutRefusal, put_refusal, stored_by_error, was_answered}
 use Rattle.cfdp_entity.specs.Sound.{SpellsTurn}
-use Rattle.cfdp_entity.specs.Table.{data_at}
-use Rattle.cfdp_station.specs.Link.{next_lane}
+use Rattle.cfdp_entity.specs.Storing.{AsksByRequest, AsksToTick}
+use Rattle.cfdp_entity.specs.Table.{Ticks, data_at}
+use Rattle.cfdp_station.specs.Link.{WaitAtMost, next_lane}
 use Rattle.cfdp_station.specs.Polling.{next_pdu}
-use Rattle.cfdp_station.specs.Station.{StationState}
+use Rattle.cfdp_station.specs.Station.{KeepsRest, StationState}
 use Rattle.cfdp_station.specs.Taking.{GivesPdus, HearsAll}
 use Rattle.link_sim.specs.declared.event.Applied.{Applied}
 use Rattle.link_sim.specs.declared.event.Applied.TheVariants as did
@@ -88,7 +93,24 @@ abbrev pub AreCarried : DownState → FrameLinksState → UpState → Type 0
 AreCarried down links up =
     (l : Lane) → IsCarried (lane_down l down) (lane_of_links l links) (lane_up l up)
 
+-- On one lane this was done, and the other is as it was.
+pub record OnLane (l : Lane) (Does : (link link_now : FrameLinkState) → Type 0)
+    (links links_now : FrameLinksState) : Type 0 where
+  pub does : Does (lane_of_links l links) (lane_of_links l links_now)
+  pub other : lane_of_links (other_lane l) links_now ≡ lane_of_links (other_lane l) links
+
 -- ---- frames leave
+-- The buffers of each lane fit its frames, and are as many as frames wait to leave.
+pub record HasBuffers (down : DownState) (links : FrameLinksState) : Type 0 where
+  pub lens : (l : Lane) → (lane_of_links l links).len ≡ 8 + (lane_down l down).link.zone
+  pub enough : (l : Lane) → WaitAtMost (lane_of_links l links).blanks (lane_down l down)
+
+-- Of a station nothing changed but the end that sends in one lane.
+pub record OnlyLane (l : Lane) (old new : StationState) : Type 0 where
+  pub other : lane_down (other_lane l) new.down ≡ lane_down (other_lane l) old.down
+  pub packet_count : new.down.packet_count ≡ old.down.packet_count
+  pub rest : KeepsRest old new
+
 -- The oldest whole zone of a lane became a frame, the last that was sent: it is placed behind all
 -- frames of both lanes. The other lane is as it was.
 pub record PullsOne (old new : DownState) (links links_now : FrameLinksState) : Type 0 where
@@ -117,14 +139,38 @@ pub record PullsAll (old new : LinkSenderState) (link link_now : FrameLinkState)
   pub fixed : IsSameEnd old new
   pub marks : IsSameMarks link link_now
 
+-- All whole zones that waited at a station became frames, and nothing else changed.
+pub record PullsBoth (old new : StationState) (links links_now : FrameLinksState) : Type 0 where
+  pub lanes : (l : Lane) → PullsAll (lane_down l old.down) (lane_down l new.down)
+      (lane_of_links l links) (lane_of_links l links_now)
+  pub packet_count : new.down.packet_count ≡ old.down.packet_count
+  pub rest : KeepsRest old new
+
 -- Both lanes of a direction that was carried are carried still.
 abbrev pub CarryOn : (old new : DownState) → (links links_now : FrameLinksState) → Type 0
 CarryOn old new links links_now = (l : Lane) → CarriesOn (lane_down l old) (lane_down l new)
     (lane_of_links l links) (lane_of_links l links_now)
 
+-- Nothing changed but the entity and what was sent: the lanes that were carried are carried still,
+-- and as large, none of their frames was taken, and the end that receives is as it was.
+pub record OnlySends (old new : StationState) (links links_now : FrameLinksState) : Type 0 where
+  pub carried : CarryOn old.down new.down links links_now
+  pub capacity : (l : Lane) → (lane_down l new.down).capacity ≡ (lane_down l old.down).capacity
+  pub marks : AreSameMarks links links_now
+  pub up : new.up ≡ old.up
+
 -- Nothing changed but, at most, how many buffers there are.
 abbrev pub KeepsAt : (old new : StationState) → (links links_now : FrameLinksState) → Type 0
 KeepsAt old new links links_now = (new ≡ old) × AreSameLinks links links_now
+
+-- A station sent so, or it found no memory; and it did nothing else.
+pub record TriesToSend
+    (Does : Applied → (old new : StationState) → (links links_now : FrameLinksState) → Type 0)
+    (answer : Result Applied AllocError) (old new : StationState)
+    (links links_now : FrameLinksState) : Type 0 where
+  pub does : IfOk answer (λ applied. Does applied old new links links_now)
+  pub err : OnErr answer (KeepsAt old new links links_now)
+  pub only : OnlySends old new links links_now
 
 -- Of a lane nothing changed but, at most, how many buffers there are.
 pub record KeepsLaneAt (l : Lane) (old new : DownState) (links links_now : FrameLinksState)
@@ -184,14 +230,30 @@ PutsAt (did.Refused (refusal.Put by)) source destination old new puts puts_now =
 PutsAt (did.Refused (refusal.Call by)) source destination old new puts puts_now = ⊥
 PutsAt (did.Refused refusal.LossRunTooLong) source destination old new puts puts_now = ⊥
 
+-- What a request asked of the inbox was counted where it failed: a cancel that its step's calls did,
+-- and no other request asks anything.
+abbrev pub RaisesByRequest : Request → TransactionId → (old new : Counted) → Type 0
+RaisesByRequest requests.Cancel id old new =
+    AsksByRequest Raises requests.Cancel id old.state.table old.inbox_failures new.inbox_failures
+RaisesByRequest _ id old new = new.inbox_failures ≡ old.inbox_failures
+
 -- what a world answers to a call on a transaction
-abbrev pub answered : Result (Unit {0}) CallError → Result Applied AllocError
+abbrev pub answered : Result (Unit {0}) RequestError → Result Applied AllocError
 answered (Ok u) = Ok did.Applied
 answered (Err call_errors.Unknown) = Ok (did.Refused (refusal.Call call_errors.Unknown))
 answered (Err call_errors.WrongSide) = Ok (did.Refused (refusal.Call call_errors.WrongSide))
 answered (Err call_errors.AlreadyClosed) = Ok (did.Refused (refusal.Call call_errors.AlreadyClosed))
 answered (Err call_errors.AlreadySo) = Ok (did.Refused (refusal.Call call_errors.AlreadySo))
 answered (Err call_errors.NoMemory) = Err alloc_error
+
+-- ---- the time
+-- A station was told it, and that was counted.
+pub record TellsTimeAt (now : ℕ) (old new : Counted) (ticks ticks_now : ℕ) : Type 0 where
+  pub ticked : Ticks now old.state.table new.state.table
+  pub table : new.state ≡ with_table old.state new.state.table
+  pub failures : KeepsOutbox old new
+  pub raises : AsksToTick Raises now old.state.table old.inbox_failures new.inbox_failures
+  pub counted : ticks_now ≡ raised ticks
 
 -- ---- a poll
 -- The PDU whose turn it is was taken, and its one packet is behind all that were sent.
@@ -273,6 +335,7 @@ pub record FrameComes (l : Lane) (link link_now : FrameLinkState) (old new : Sta
   pub marked : link_now ≡ record link { marks = link.marks ++ true ∷ []; run = 0 }
   pub hears : (down : LinkSenderState) → IsCarried down link (lane_up l old.up) →
       HearsAt l down link link_now old new
+  pub down : new.down ≡ old.down
 
 abbrev pub FrameArrivesAt : Applied → Lane → (link link_now : FrameLinkState)
     → (old new : StationState) → Type 0

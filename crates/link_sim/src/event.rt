@@ -1,7 +1,7 @@
 use crate::side::Side;
 use aos_frame::Lane;
 use cfdp_directives::Octets;
-use cfdp_entity::{CallError, PutError};
+use cfdp_entity::{PutError, RequestError};
 use cfdp_header::TransactionId;
 
 /// One thing that happens: a call on one of the two stations, or a frame between them that arrives
@@ -70,7 +70,7 @@ pub enum Refusal {
     /// The station refused the put.
     Put(PutError),
     /// The station refused the call on a transaction.
-    Call(CallError),
+    Call(RequestError),
     /// The last [`MOST_STRUCK`](crate::MOST_STRUCK) frames taken of this lane were struck: one
     /// more would be taken for none.
     LossRunTooLong,

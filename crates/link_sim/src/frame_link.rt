@@ -1,11 +1,8 @@
 //! The frames of one lane of a direction of a link.
 ghost use Rattle.std.specs.Prelude.{◌≡◌, ◌≢◌, ◌+◌, ◌*◌, ◌<◌, ◌≤◌, ◌↔◌, ◌++◌, [], ◌∷◌, true, false, length, take, drop, slice_get, slice_index_or, OnOk, Some, IfSome, MatchOption};
-ghost use Rattle.aos_frame.specs.Frame.{other_lane};
-ghost use Rattle.aos_frame.specs.declared.config.Lane.{Lane};
 ghost use Rattle.link_stack.specs.Downward.{MakesFrame, frame_lane, lane_down};
-ghost use Rattle.cfdp_station.specs.Station.{KeepsRest};
 ghost use Rattle.link_sim.specs.FrameLink.{most_struck, mark_at, oldest, oldest_place};
-ghost use Rattle.link_sim.specs.AtStation.{AddsNone, AreSameEnds, IsSameMarks};
+ghost use Rattle.link_sim.specs.AtStation.{AddsNone, AreSameEnds, IsSameMarks, OnlyLane};
 ghost use Rattle.link_sim.specs.declared.mark.Loss.TheVariants as losses;
 
 use crate::loss_run::LossRun;
@@ -29,12 +26,9 @@ fn write_frame<O: Outbox, I: Inbox>(
     ensures made { MakesFrame
         (take (8 + (lane_down lane station.old.down).link.zone) (drop at octets.new))
         (lane_down lane station.old.down) (lane_down lane station.new.down) }
-    ensures other { lane_down (other_lane lane) station.new.down
-        ≡ lane_down (other_lane lane) station.old.down }
-    ensures packet_count { station.new.down.packet_count ≡ station.old.down.packet_count }
+    ensures only { OnlyLane lane station.old station.new }
     ensures front { take at octets.new ≡ take at octets.old }
     ensures whole { length octets.new ≡ length octets.old }
-    ensures rest { KeepsRest station.old station.new }
 {
     let (_, behind) = octets.split_at_mut(at);
     let (frame, _) = behind.split_at_mut(station.frame_len());
@@ -165,10 +159,8 @@ impl FrameLink {
         ensures grown { result ≡ true →
             length self.new.frames ≡ length self.old.frames + 1 }
         ensures placed { result ≡ true → self.new.places ≡ self.old.places ++ place ∷ [] }
-        ensures other { lane_down (other_lane lane) station.new.down
-            ≡ lane_down (other_lane lane) station.old.down }
+        ensures only { OnlyLane lane station.old station.new }
         ensures fixed { AreSameEnds station.old.down station.new.down }
-        ensures rest { KeepsRest station.old station.new }
         ensures marks { IsSameMarks self.old self.new }
     {
         if self.blanks == 0 {

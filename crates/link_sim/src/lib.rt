@@ -1,14 +1,17 @@
 //! Two stations of CFDP, class 2, the frames between them, and what may happen to both: the delivery
 //! theorem is the contract of [`World`] and [`run`].
+//!
+//! Tested by `tests/transcripts/world.txt` and `tests/transcripts/failing.txt`.
 #![tactic(auto)]
 
 mod event;
 mod frame_link;
 mod frame_links;
+mod in_memory;
 mod looking;
 mod loss_run;
 mod mark;
-mod memory_world;
+mod passed;
 mod promises;
 mod recover;
 mod recover_error;
@@ -29,7 +32,7 @@ pub use frame_link::FrameLink;
 pub use frame_links::FrameLinks;
 pub use loss_run::{LossRun, MOST_STRUCK};
 pub use mark::{Loss, Mark};
-pub use memory_world::MemoryWorld;
+pub use passed::Passed;
 pub use promises::worlds_keep_the_promises;
 pub use recover_error::RecoverError;
 pub use settle_error::SettleError;

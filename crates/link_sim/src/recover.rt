@@ -1,17 +1,17 @@
 //! Recovery: settling, and letting timers fire, by turns.
 ghost use Rattle.std.specs.Prelude.{◌≡◌, ◌≢◌, ◌∷◌, [], true, false, IfErr, IfOk, MatchOption, OnOk};
+ghost use Rattle.link_sim.specs.Calls.{TriesRecovery, Upholds};
 ghost use Rattle.cfdp_timers.specs.ButInactivity.{OnlyInactivity};
 ghost use Rattle.cfdp_directives.specs.User.Put.{Put};
 ghost use Rattle.cfdp_header.specs.declared.value.TransactionId.{TransactionId};
 ghost use Rattle.link_sim.specs.EveryPut.{KeepsPuts};
 ghost use Rattle.link_sim.specs.Found.{ExpiresOn, HasExchange};
 ghost use Rattle.link_sim.specs.Observed.{seen};
-ghost use Rattle.link_sim.specs.Recovering.{AreRounds, EndsBy, IsNext, IsRecovered, Recovers, Round, RoundEnds, TellsNext, TickEnds, armed_at};
+ghost use Rattle.link_sim.specs.Recovering.{AreRounds, IsNext, IsRecovered, Round, RoundEnds, TellsNext, TickEnds, armed_at};
 ghost use Rattle.link_sim.specs.Runs.{Exchange};
 ghost use Rattle.link_sim.specs.Settling.{IsSettled, LeadsTo};
 ghost use Rattle.link_sim.specs.Sound.{IsSound};
 ghost use Rattle.link_sim.specs.Stages.{IsAtRest};
-ghost use Rattle.link_sim.specs.Theorem.{HoldsAt, Follows};
 ghost use Rattle.link_sim.specs.Tracks.{Advances, KeepsPutsOf};
 ghost use Rattle.link_sim.specs.Waiting.{AllWait, IgnoreInactivity, IsCompleted, IsUnfinished};
 ghost use Rattle.link_sim.specs.declared.recover_error.RecoverError.TheVariants as errors;
@@ -47,14 +47,10 @@ impl<O: SteadyOutbox, I: Inbox, W: Witness> World<O, I, W> {
     /// settling or a time that was told. `StillArmed`: such a timer is left after all rounds. The
     /// world is as the events up to then left it.
     pub fn recover(&mut self) -> Result<(), RecoverError>
-        ensures recovered { OnOk result (IsRecovered self.new) }
-        // Only settlings and such ticks happened, and nothing was short; an error tells what was in
-        // the first event in which anything was, or that a timer is left.
-        ensures well { OnOk result (Recovers self.old self.new) }
-        ensures cause { IfErr result (λ error. EndsBy error self.old self.new) }
-        // As for `settle`: puts and inboxes follow, and the promises hold.
-        ensures follows { Follows (seen self.old) (seen self.new) }
-        ensures holds { (side : Side) → HoldsAt side (seen self.new) }
+        // Only settlings and such ticks happened, or an error tells what ended them; and the
+        // promises hold.
+        ensures tries { TriesRecovery result self.old self.new }
+        ensures upholds { Upholds self.old self.new }
         // From a world where both stations ignore inactivity and each unfinished transaction waits
         // below its limits: these are complete and closed at both ends, and no timer is left.
         ensures completes { OnOk result (IgnoreInactivity self.old × AllWait self.old
@@ -136,6 +132,7 @@ impl<O: SteadyOutbox, I: Inbox, W: Witness> World<O, I, W> {
     fn show_what_is_kept(&self)
         ensures { IsSound self.now × KeepsPuts self.now }
     {
+        // For the prover: the invariant.
         let _ = &self.stations;
     }
 

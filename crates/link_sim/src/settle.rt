@@ -1,12 +1,14 @@
 //! Settling: polls, flushes and deliveries until there is nothing left to do.
-ghost use Rattle.std.specs.Prelude.{◌≡◌, ◌<◌, true, false, IfErr, IfOk, OnOk};
+ghost use Rattle.std.specs.Prelude.{◌≡◌, true, false, IfErr, IfOk, OnOk};
+ghost use Rattle.link_sim.specs.Calls.{Settles};
 ghost use Rattle.link_sim.specs.Clean.{AllComplete, IsClean};
 ghost use Rattle.link_sim.specs.Observed.{seen};
-ghost use Rattle.link_sim.specs.Onward.{GoesOn, GoesOnFrom};
-ghost use Rattle.link_sim.specs.Settling.{Ends, GoesWell, HasCause, HasCauseFrom, HasSent, IsOfSettling, IsSettled, LeadsTo, all_shortages, next_of};
-ghost use Rattle.link_sim.specs.Theorem.{HoldsAt, Follows};
+ghost use Rattle.link_sim.specs.Onward.{GoesOnFrom};
+ghost use Rattle.link_sim.specs.Parts.{SettlesPart, TakesTurn};
+ghost use Rattle.link_sim.specs.Settling.{Ends, HasSent, IsOfSettling, IsSettled, all_shortages, first_event, next_of};
+ghost use Rattle.link_sim.specs.Theorem.{HoldsAt};
+ghost use Rattle.link_sim.specs.Tracks.{RunsAlong};
 ghost use Rattle.link_sim.specs.World.Steps.{NoneWaits, NoneWhole, Steps};
-ghost use Rattle.link_sim.specs.Work.{world_work};
 ghost use Rattle.link_sim.specs.declared.event.Applied.TheVariants as did;
 ghost use Rattle.link_sim.specs.declared.event.Event.TheVariants as events;
 ghost use Rattle.link_sim.specs.declared.side.Side.{Side};
@@ -37,31 +39,18 @@ impl<O: SteadyOutbox, I: Inbox, W: Witness> World<O, I, W> {
     /// found no memory or something was dropped for want of it, a store failed, a PDU found a table
     /// full. The world is as the events up to then left it.
     pub fn settle(&mut self) -> Result<(), SettleError>
-        ensures settled { OnOk result (IsSettled self.new) }
-        // Puts that were accepted stay what they are, and each inbox was overwritten by the files
-        // of the puts that were completed in this call.
-        ensures follows { Follows (seen self.old) (seen self.new) }
-        // Finished once, heard in full, told truly and sent truly.
-        ensures holds { (side : Side) → HoldsAt side (seen self.new) }
-        // Nothing was short; an error tells what was in the first event in which anything was. The
-        // events came in the order of rounds.
-        ensures well { OnOk result (GoesWell self.old self.new) }
-        ensures cause { IfErr result (λ error. HasCause error self.old self.new) }
-        // Where the world was clean, every put is complete and closed at both ends.
-        ensures completes { OnOk result (IsClean self.old → AllComplete self.new) }
+        // All is settled, or an error tells why not; the promises hold; and where the world was
+        // clean, every put is complete and closed at both ends.
+        ensures { Settles result self.old self.new }
     {
         self.settle_on()
     }
 
     /// As `settle`, for calls here that rest on more than it promises.
     pub(crate) fn settle_on(&mut self) -> Result<(), SettleError>
-        ensures settled { OnOk result (IsSettled self.new) }
-        ensures follows { Follows (seen self.old) (seen self.new) }
-        ensures holds { (side : Side) → HoldsAt side (seen self.new) }
-        // All went well, and each transaction made a run of its own.
-        ensures well { OnOk result (GoesOn self.old self.new) }
-        ensures cause { IfErr result (λ error. HasCause error self.old self.new) }
-        ensures completes { OnOk result (IsClean self.old → AllComplete self.new) }
+        ensures settles { Settles result self.old self.new }
+        // Each transaction made a run of its own.
+        ensures runs { OnOk result (RunsAlong self.old self.new) }
     {
         self.show_what_holds();
         while self.settle_round()? {}
@@ -82,6 +71,7 @@ impl<O: SteadyOutbox, I: Inbox, W: Witness> World<O, I, W> {
         ensures { (side : Side) → HoldsAt side (seen self.now) }
     {
         events_keep_the_promises();
+        // For the prover: the invariant.
         let _ = &self.stations;
     }
 
@@ -94,12 +84,8 @@ impl<O: SteadyOutbox, I: Inbox, W: Witness> World<O, I, W> {
 
     /// One round: says whether anything happened in it.
     fn settle_round(&mut self) -> Result<bool, SettleError>
-        ensures leads { LeadsTo (seen self.old) (seen self.new) }
-        ensures less { IfOk result (λ happened. happened ≡ true
-            → world_work self.new < world_work self.old) }
+        ensures part { SettlesPart first_event first_event result self.old self.new }
         ensures settled { IfOk result (λ happened. happened ≡ false → IsSettled self.new) }
-        ensures well { OnOk result (GoesOn self.old self.new) }
-        ensures cause { IfErr result (λ error. HasCause error self.old self.new) }
     {
         let one = self.send_all(Side::One)?;
         let two = self.send_all(Side::Two)?;
@@ -111,16 +97,10 @@ impl<O: SteadyOutbox, I: Inbox, W: Witness> World<O, I, W> {
 
     /// All that waits of a station is delivered.
     fn deliver_all(&mut self, side: Side) -> Result<bool, SettleError>
-        ensures leads { LeadsTo (seen self.old) (seen self.new) }
-        ensures less { IfOk result (λ happened. happened ≡ true
-            → world_work self.new < world_work self.old) }
-        ensures same { IfOk result (λ happened. happened ≡ false → self.new ≡ self.old) }
+        ensures part { SettlesPart (events.Deliver side lanes.Directives)
+            (next_of (events.Deliver side lanes.Data)) result self.old self.new }
         ensures none_waits { IfOk result (λ happened. happened ≡ false
             → (lane : Lane) → NoneWaits side lane self.new) }
-        ensures well { OnOk result (GoesOnFrom (events.Deliver side lanes.Directives)
-            (next_of (events.Deliver side lanes.Data)) self.old self.new) }
-        ensures cause { IfErr result (λ error.
-            HasCauseFrom (events.Deliver side lanes.Directives) error self.old self.new) }
     {
         let directives = self.repeat(&Event::Deliver(side, Lane::Directives))?;
         let file_data = self.repeat(&Event::Deliver(side, Lane::Data))?;
@@ -129,15 +109,9 @@ impl<O: SteadyOutbox, I: Inbox, W: Witness> World<O, I, W> {
 
     /// A station sends all that is due, and its begun frame.
     fn send_all(&mut self, side: Side) -> Result<bool, SettleError>
-        ensures leads { LeadsTo (seen self.old) (seen self.new) }
-        ensures less { IfOk result (λ happened. happened ≡ true
-            → world_work self.new < world_work self.old) }
-        ensures same { IfOk result (λ happened. happened ≡ false → self.new ≡ self.old) }
+        ensures part { SettlesPart (events.Poll side) (next_of (events.Flush side)) result
+            self.old self.new }
         ensures sent { IfOk result (λ happened. happened ≡ false → HasSent side self.new) }
-        ensures well { OnOk result (GoesOnFrom (events.Poll side)
-            (next_of (events.Flush side)) self.old self.new) }
-        ensures cause { IfErr result (λ error. HasCauseFrom (events.Poll side) error
-            self.old self.new) }
     {
         let polled = self.repeat(&Event::Poll(side))?;
         let flushed = self.repeat(&Event::Flush(side))?;
@@ -147,14 +121,9 @@ impl<O: SteadyOutbox, I: Inbox, W: Witness> World<O, I, W> {
     /// Repeats an event until there is nothing to do for it, and says whether it happened at all.
     fn repeat(&mut self, event: &Event) -> Result<bool, SettleError>
         requires of_it { IsOfSettling event.now }
-        ensures leads { LeadsTo (seen self.old) (seen self.new) }
-        ensures less { IfOk result (λ happened. happened ≡ true
-            → world_work self.new < world_work self.old) }
-        ensures same { IfOk result (λ happened. happened ≡ false → self.new ≡ self.old) }
+        ensures part { SettlesPart event.now (next_of event.now) result self.old self.new }
         // There is nothing to do for it in the end.
         ensures idle { IfOk result (λ happened. Steps event.now did.Nothing self.new self.new) }
-        ensures well { OnOk result (GoesOnFrom event.now (next_of event.now) self.old self.new) }
-        ensures cause { IfErr result (λ error. HasCauseFrom event.now error self.old self.new) }
     {
         let mut happened = false;
         while self.settle_by(event)? {
@@ -166,11 +135,7 @@ impl<O: SteadyOutbox, I: Inbox, W: Witness> World<O, I, W> {
     /// One event of a settling: says whether it did anything.
     fn settle_by(&mut self, event: &Event) -> Result<bool, SettleError>
         requires of_it { IsOfSettling event.now }
-        ensures leads { LeadsTo (seen self.old) (seen self.new) }
-        ensures less { IfOk result (λ moved. moved ≡ true
-            → world_work self.new < world_work self.old) }
-        ensures idle { IfOk result (λ moved. moved ≡ false
-            → Steps event.now did.Nothing self.old self.new) }
+        ensures turn { TakesTurn event.now result self.old self.new }
         // Nothing was short in it; an error tells what was, with the lowest number.
         ensures well { IfOk result (λ moved. moved ≡ true
             → GoesOnFrom event.now event.now self.old self.new) }

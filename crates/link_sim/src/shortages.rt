@@ -3,16 +3,8 @@ ghost use Rattle.std.specs.Prelude.{◌≡◌, None, true, false, IfSome};
 ghost use Rattle.link_sim.specs.Settling.{CountsStay, CountsStayAt, HasRisen, IsSpared, KeepsAll, Rises, RisesAt, RisesFirst, shortages};
 
 use crate::settle_error::SettleError;
-use cfdp_station::Station;
+use cfdp_station::{EntityDrop, LinkDrop, Station};
 use cfdp_store::{Inbox, Outbox};
-
-/// The number under which a station's link, and its entity, count what found no memory, and that of
-/// what found no room in a table.
-const LINK_MEMORY: u8 = 11;
-
-const MEMORY: u8 = 16;
-
-const TABLE_FULL: u8 = 15;
 
 /// How often a station was short of something.
 #[derive(Clone, Copy, PartialEq, Eq)]
@@ -29,11 +21,11 @@ impl Shortages {
         ensures { result ≡ shortages station.now }
     {
         Shortages {
-            link_memory: station.link_drops(LINK_MEMORY),
-            memory: station.drops(MEMORY),
+            link_memory: station.link_drops(LinkDrop::NoMemory),
+            memory: station.drops(EntityDrop::NoMemory),
             outbox: station.outbox().failures(),
             inbox: station.inbox().failures(),
-            table: station.drops(TABLE_FULL),
+            table: station.drops(EntityDrop::TableFull),
         }
     }
 

@@ -1,15 +1,15 @@
 //! Sending all that is due at one station.
-ghost use Rattle.std.specs.Prelude.{◌≡◌, ◌<◌, ◌≤◌, true, false, IfOk, OnErr, OnOk};
+ghost use Rattle.std.specs.Prelude.{◌≡◌, ◌≤◌, true, IfOk, OnErr, OnOk};
 ghost use Rattle.cfdp_entity.specs.Polling.{Rests, turn};
+ghost use Rattle.link_sim.specs.Calls.{TriesBurst, TriesSpread, Upholds};
 ghost use Rattle.link_sim.specs.Observed.{seen};
+ghost use Rattle.link_sim.specs.Parts.{TakesTurn};
 ghost use Rattle.link_sim.specs.Settling.{IsOfSettling, LeadsTo};
-ghost use Rattle.link_sim.specs.Spreading.{BurstFindsNoMemory, Bursts, PollFindsNoMemory, PollsAll, SpreadFindsNoMemory, Spreads};
-ghost use Rattle.link_sim.specs.Theorem.{HoldsAt, Follows};
+ghost use Rattle.link_sim.specs.Spreading.{PollFindsNoMemory, PollsAll};
 ghost use Rattle.link_sim.specs.World.State.{entity_at};
 ghost use Rattle.link_sim.specs.World.Steps.{FindsNoMemory, Steps, side_in};
 ghost use Rattle.link_sim.specs.Work.{world_work};
 ghost use Rattle.link_sim.specs.declared.event.Applied.TheVariants as did;
-ghost use Rattle.link_sim.specs.declared.side.Side.{Side};
 
 use crate::event::{Applied, Event};
 use crate::side::Side;
@@ -25,13 +25,9 @@ impl<O: SteadyOutbox, I: Inbox, W: Witness> World<O, I, W> {
     ///
     /// `AllocError` only where the memory for an event was refused: that one didn't happen.
     pub fn spread(&mut self, side: Side) -> Result<(), AllocError>
-        ensures rests { OnOk result (turn (entity_at side self.new) ≡ Rests) }
-        // As for `settle`: puts and inboxes follow, and the promises hold.
-        ensures follows { Follows (seen self.old) (seen self.new) }
-        ensures holds { (s : Side) → HoldsAt s (seen self.new) }
-        // Nothing but these events did, in this order.
-        ensures spreads { OnOk result (Spreads side self.old self.new) }
-        ensures lacks { OnErr result (SpreadFindsNoMemory side self.old self.new) }
+        // Nothing but these events happened, in this order; and the promises hold.
+        ensures tries { TriesSpread side result self.old self.new }
+        ensures upholds { Upholds self.old self.new }
     {
         self.show_what_holds();
         while self.does(&Event::Poll(side))? {
@@ -46,12 +42,9 @@ impl<O: SteadyOutbox, I: Inbox, W: Witness> World<O, I, W> {
     ///
     /// `AllocError` only where the memory for an event was refused: that one didn't happen.
     pub fn burst(&mut self, side: Side) -> Result<(), AllocError>
-        ensures rests { OnOk result (turn (entity_at side self.new) ≡ Rests) }
-        ensures follows { Follows (seen self.old) (seen self.new) }
-        ensures holds { (s : Side) → HoldsAt s (seen self.new) }
-        // Nothing but these events did, in this order.
-        ensures bursts { OnOk result (Bursts side self.old self.new) }
-        ensures lacks { OnErr result (BurstFindsNoMemory side self.old self.new) }
+        // Nothing but these events happened, in this order; and the promises hold.
+        ensures tries { TriesBurst side result self.old self.new }
+        ensures upholds { Upholds self.old self.new }
     {
         self.show_what_holds();
         self.poll_all(side)?;
@@ -73,14 +66,10 @@ impl<O: SteadyOutbox, I: Inbox, W: Witness> World<O, I, W> {
     /// One event of these: says whether it did anything.
     fn does(&mut self, event: &Event) -> Result<bool, AllocError>
         requires of_it { IsOfSettling event.now }
-        ensures leads { LeadsTo (seen self.old) (seen self.new) }
-        ensures less { IfOk result (λ moved. moved ≡ true
-            → world_work self.new < world_work self.old) }
+        ensures turn { TakesTurn event.now result self.old self.new }
         ensures most { OnOk result (world_work self.new ≤ world_work self.old) }
         ensures applied { IfOk result (λ moved. moved ≡ true
             → Steps event.now did.Applied self.old self.new) }
-        ensures idle { IfOk result (λ moved. moved ≡ false
-            → Steps event.now did.Nothing self.old self.new) }
         ensures lacks { OnErr result (FindsNoMemory (side_in event.now) self.old self.new) }
     {
         match self.happen(event)? {

@@ -2,12 +2,10 @@
 //!
 //! What is promised of a world, the delivery theorem first, holds whatever is done by these calls.
 //! It stands in no goal of functions that take any `Stations`.
-ghost use Rattle.std.specs.Prelude.{◌≡◌, ◌<◌, length, MatchOption, IfErr, IfOk, OnErr, OnOk};
-ghost use Rattle.link_sim.specs.Recovering.{EndsBy, IsRecovered, Recovers};
-ghost use Rattle.link_sim.specs.Settling.{GoesWell, HasCause, IsSettled};
-ghost use Rattle.link_sim.specs.Spreading.{BurstFindsNoMemory, Bursts, SpreadFindsNoMemory, Spreads};
+ghost use Rattle.std.specs.Prelude.{◌≡◌, ◌<◌, length, MatchOption};
+ghost use Rattle.link_sim.specs.Calls.{TriesBurst, TriesEvent, TriesRecovery, TriesSettling, TriesSpread};
 ghost use Rattle.link_sim.specs.World.State.{WorldState, entity_at, lane_from};
-ghost use Rattle.link_sim.specs.World.Steps.{NoneWaits, Steps, WantsMemory};
+ghost use Rattle.link_sim.specs.World.Steps.{NoneWaits};
 ghost use Rattle.aos_frame.specs.declared.config.Lane.{Lane};
 
 use crate::event::{Applied, Event};
@@ -35,9 +33,7 @@ pub trait Stations: Drop {
     ///
     /// `AllocError` only where the memory for it was refused: nothing happened then.
     fn apply(&mut self, event: &Event) -> Result<Applied, AllocError>
-        ensures did { IfOk result (λ did. Steps event.now did (world self.old) (world self.new)) }
-        ensures err { OnErr result (world self.new ≡ world self.old) }
-        ensures lacks { OnErr result (WantsMemory event.now) };
+        ensures { TriesEvent event.now result (world self.old) (world self.new) };
 
     /// The lane of the frame that a station sent first, of all of its frames that wait; `None`
     /// where none does.
@@ -52,8 +48,7 @@ pub trait Stations: Drop {
     ///
     /// `AllocError` only where the memory for an event was refused: that one didn't happen.
     fn spread(&mut self, side: Side) -> Result<(), AllocError>
-        ensures ok { OnOk result (Spreads side (world self.old) (world self.new)) }
-        ensures err { OnErr result (SpreadFindsNoMemory side (world self.old) (world self.new)) };
+        ensures { TriesSpread side result (world self.old) (world self.new) };
 
     /// Polls a station until nothing is due there, and flushes it once.
     ///
@@ -61,8 +56,7 @@ pub trait Stations: Drop {
     ///
     /// `AllocError` only where the memory for an event was refused: that one didn't happen.
     fn burst(&mut self, side: Side) -> Result<(), AllocError>
-        ensures ok { OnOk result (Bursts side (world self.old) (world self.new)) }
-        ensures err { OnErr result (BurstFindsNoMemory side (world self.old) (world self.new)) };
+        ensures { TriesBurst side result (world self.old) (world self.new) };
 
     /// Polls, flushes and delivers until nothing is due at either station and no frame waits.
     ///
@@ -70,9 +64,7 @@ pub trait Stations: Drop {
     ///
     /// Those of [`World::settle`](crate::World::settle).
     fn settle(&mut self) -> Result<(), SettleError>
-        ensures well { OnOk result (GoesWell (world self.old) (world self.new)) }
-        ensures settled { OnOk result (IsSettled (world self.new)) }
-        ensures cause { IfErr result (λ error. HasCause error (world self.old) (world self.new)) };
+        ensures { TriesSettling result (world self.old) (world self.new) };
 
     /// Settles, and tells stations the time and settles again, until no timer is armed but those of
     /// Inactivity.
@@ -81,9 +73,7 @@ pub trait Stations: Drop {
     ///
     /// Those of [`World::recover`](crate::World::recover).
     fn recover(&mut self) -> Result<(), RecoverError>
-        ensures well { OnOk result (Recovers (world self.old) (world self.new)) }
-        ensures recovered { OnOk result (IsRecovered (world self.new)) }
-        ensures cause { IfErr result (λ error. EndsBy error (world self.old) (world self.new)) };
+        ensures { TriesRecovery result (world self.old) (world self.new) };
 
     /// What a station told its user, in order.
     fn indications(&self, side: Side) -> &[Indication]

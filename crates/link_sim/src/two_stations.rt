@@ -1,28 +1,24 @@
 //! Two stations and the frames between them, before anything is said of puts and files.
-ghost use Rattle.std.specs.Prelude.{◌≡◌, ◌+◌, ◌*◌, ◌<◌, ◌≤◌, ◌⊎◌, ◌↔◌, true, false, length, None, IfOk, OnErr, OnOk};
-ghost use Rattle.cfd_bits.specs.Counting.{raised};
-ghost use Rattle.cfdp_store.specs.Chains.{Raises};
-ghost use Rattle.cfdp_entity.specs.Entity.{with_table};
+ghost use Rattle.std.specs.Prelude.{◌≡◌, ◌<◌, ◌≤◌, ◌⊎◌, ◌↔◌, true, false, length, None, IfErr, IfOk, OnErr, OnOk};
 ghost use Rattle.cfdp_entity.specs.Gives.{CountsOutbox};
 ghost use Rattle.cfdp_entity.specs.Polling.{turn};
 ghost use Rattle.cfdp_entity.specs.Sound.{SpellsTurn, longest_pdu};
-ghost use Rattle.cfdp_entity.specs.Storing.{AsksToTick};
-ghost use Rattle.cfdp_entity.specs.Table.{Ticks};
-ghost use Rattle.cfdp_entity.specs.declared.call.Call.TheVariants as call_kinds;
-ghost use Rattle.aos_frame.specs.Frame.{other_lane};
+ghost use Rattle.cfdp_entity.specs.Refusing.{IsRefusal};
+ghost use Rattle.cfdp_entity.specs.Requests.{IsCalled, asks_inbox, request_refusal};
 ghost use Rattle.aos_frame.specs.declared.config.Lane.{Lane};
-ghost use Rattle.cfdp_station.specs.Link.{HoldsAtMost, WaitAtMost};
+ghost use Rattle.cfdp_station.specs.Link.{HoldsAtMost};
 ghost use Rattle.cfdp_station.specs.Polling.{Polls, next_len, next_room, stored_by_poll};
 ghost use Rattle.cfdp_station.specs.Station.{KeepsLink, KeepsRest};
 ghost use Rattle.cfdp_station.specs.declared.polled.Polled.TheVariants as answers;
 ghost use Rattle.link_stack.specs.Downward.{KeepsLanes, frame_lane, lane_down};
 ghost use Rattle.link_sim.specs.FrameLink.{lane_of_links};
 ghost use Rattle.link_sim.specs.declared.event.Applied.TheVariants as dids;
-ghost use Rattle.link_sim.specs.AtStation.{AreReady, AreSameLinks, AreSameMarks, CarryOn, FlushesAt, FrameArrivesAt, KeepsAt, KeepsOutbox, PollsAt, PullsAll, PullsOne, PutsAt, StrikesAt, answered};
+ghost use Rattle.link_sim.specs.declared.event.Event.TheVariants as events;
+ghost use Rattle.link_sim.specs.AtStation.{AreReady, AreSameLinks, FlushesAt, FrameArrivesAt, HasBuffers, KeepsOutbox, OnLane, PollsAt, PullsBoth, PullsOne, PutsAt, RaisesByRequest, StrikesAt, TellsTimeAt, TriesToSend, answered};
 ghost use Rattle.link_sim.specs.World.State as state;
 ghost use Rattle.link_sim.specs.World.Steps as steps;
 ghost use Rattle.link_sim.specs.World.State.{station_at, link_from, IsFirst};
-ghost use Rattle.link_sim.specs.World.Steps.{Steps};
+ghost use Rattle.link_sim.specs.Calls.{TriesEvent};
 ghost use Rattle.link_sim.specs.Stations.{IsWorldConfig};
 ghost use Rattle.link_sim.specs.declared.side.Side.{Side};
 
@@ -35,8 +31,9 @@ use crate::world::let_go;
 use crate::world_config::WorldConfig;
 use aos_frame::Lane;
 use cfdp_directives::Octets;
+use cfdp_entity::Request;
 use cfdp_header::TransactionId;
-use cfdp_station::{CallError, Polled, PutError, Station};
+use cfdp_station::{Polled, PutError, RequestError, Station};
 use cfdp_store::{Inbox, Outbox, SteadyOutbox};
 use std::alloc::{AllocError, Global};
 use std::marker::Model;
@@ -50,8 +47,8 @@ pub(crate) struct TwoStations<O: SteadyOutbox, I: Inbox> {
     two: Station<O, I>,
     from_one: FrameLinks,
     from_two: FrameLinks,
-    puts: Vec<AcceptedPut>,
-    ticks: u64,
+    pub(crate) puts: Vec<AcceptedPut>,
+    pub(crate) ticks: u64,
 }
 
 impl<O: SteadyOutbox, I: Inbox> Model for TwoStations<O, I> {
@@ -119,20 +116,6 @@ impl<O: SteadyOutbox, I: Inbox> TwoStations<O, I> {
         }
     }
 
-    /// The puts that were accepted, in order.
-    pub(crate) fn puts(&self) -> &[AcceptedPut]
-        ensures { result.now ≡ self.now.puts }
-    {
-        self.puts.as_slice()
-    }
-
-    /// How often the time was told.
-    pub(crate) fn ticks(&self) -> u64
-        ensures { result ≡ self.now.ticks }
-    {
-        self.ticks
-    }
-
     /// A station, lent.
     pub(crate) fn station(&self, side: Side) -> &Station<O, I>
         ensures { result.now ≡ station_at side self.now }
@@ -157,14 +140,13 @@ impl<O: SteadyOutbox, I: Inbox> TwoStations<O, I> {
     pub(crate) fn show_rest(&self)
         ensures { (side : Side) → state.AreRested side self.now }
     {
+        // For the prover: the invariant.
         let _ = &self.one;
     }
 
     /// Lets one thing happen, and says what it did.
     pub(crate) fn step(&mut self, event: &Event) -> Result<Applied, AllocError>
-        ensures steps { IfOk result (λ did. Steps event.now did self.old self.new) }
-        ensures err { OnErr result (self.new ≡ self.old) }
-        ensures lacks { OnErr result (steps.WantsMemory event.now) }
+        ensures { TriesEvent event.now result self.old self.new }
     {
         match event {
             Event::Put {
@@ -172,10 +154,18 @@ impl<O: SteadyOutbox, I: Inbox> TwoStations<O, I> {
                 source,
                 destination,
             } => self.put(*at, source, destination),
-            Event::Cancel { at, id } => self.cancel(*at, *id),
-            Event::Suspend { at, id } => self.suspend(*at, *id),
-            Event::Resume { at, id } => self.resume(*at, *id),
-            Event::Prompt { at, id, keep_alive } => self.prompt(*at, *id, *keep_alive),
+            Event::Cancel { at, id } => self.request(*at, *id, Request::Cancel),
+            Event::Suspend { at, id } => self.request(*at, *id, Request::Suspend),
+            Event::Resume { at, id } => self.request(*at, *id, Request::Resume),
+            Event::Prompt { at, id, keep_alive } => {
+                self.request(
+                    *at,
+                    *id,
+                    Request::Prompt {
+                        keep_alive: *keep_alive,
+                    },
+                )
+            }
             Event::Poll(side) => self.poll(*side),
             Event::Flush(side) => self.flush(*side),
             Event::Tick { at, now } => self.tick(*at, *now),
@@ -185,8 +175,7 @@ impl<O: SteadyOutbox, I: Inbox> TwoStations<O, I> {
     }
 
     pub(crate) fn poll(&mut self, side: Side) -> Result<Applied, AllocError>
-        ensures polls { IfOk result (λ did. steps.Polls did side self.old self.new) }
-        ensures err { OnErr result (self.new ≡ self.old) }
+        ensures { TriesEvent (events.Poll side) result self.old self.new }
     {
         match side {
             Side::One => poll_at(&mut self.one, &mut self.from_one),
@@ -195,8 +184,7 @@ impl<O: SteadyOutbox, I: Inbox> TwoStations<O, I> {
     }
 
     pub(crate) fn flush(&mut self, side: Side) -> Result<Applied, AllocError>
-        ensures flushes { IfOk result (λ did. steps.Flushes did side self.old self.new) }
-        ensures err { OnErr result (self.new ≡ self.old) }
+        ensures { TriesEvent (events.Flush side) result self.old self.new }
     {
         match side {
             Side::One => flush_at(&mut self.one, &mut self.from_one),
@@ -219,9 +207,8 @@ impl<O: SteadyOutbox, I: Inbox> TwoStations<O, I> {
         source: &Octets,
         destination: &Octets,
     ) -> Result<Applied, AllocError>
-        ensures puts { IfOk result (λ did. steps.Puts did side source.now destination.now self.old
-            self.new) }
-        ensures err { OnErr result (self.new ≡ self.old) }
+        ensures { TriesEvent (events.Put side source.now destination.now) result self.old
+            self.new }
     {
         let alloc = self.alloc;
         match side {
@@ -230,59 +217,24 @@ impl<O: SteadyOutbox, I: Inbox> TwoStations<O, I> {
         }
     }
 
-    fn cancel(&mut self, side: Side, id: TransactionId) -> Result<Applied, AllocError>
-        ensures calls { IfOk result (λ did. steps.Calls did side call_kinds.Cancel id self.old
-            self.new) }
-        ensures err { OnErr result (self.new ≡ self.old) }
-    {
-        match side {
-            Side::One => answer(self.one.cancel(id)),
-            Side::Two => answer(self.two.cancel(id)),
-        }
-    }
-
-    fn suspend(&mut self, side: Side, id: TransactionId) -> Result<Applied, AllocError>
-        ensures calls { IfOk result (λ did. steps.Calls did side call_kinds.Suspend id self.old
-            self.new) }
-        ensures err { OnErr result (self.new ≡ self.old) }
-    {
-        match side {
-            Side::One => answer(self.one.suspend(id)),
-            Side::Two => answer(self.two.suspend(id)),
-        }
-    }
-
-    fn resume(&mut self, side: Side, id: TransactionId) -> Result<Applied, AllocError>
-        ensures calls { IfOk result (λ did. steps.Calls did side call_kinds.Resume id self.old
-            self.new) }
-        ensures err { OnErr result (self.new ≡ self.old) }
-    {
-        match side {
-            Side::One => answer(self.one.resume(id)),
-            Side::Two => answer(self.two.resume(id)),
-        }
-    }
-
-    fn prompt(
+    /// What the user of a station asks of a transaction.
+    fn request(
         &mut self,
         side: Side,
         id: TransactionId,
-        keep_alive: bool,
+        request: Request,
     ) -> Result<Applied, AllocError>
-        ensures calls { IfOk result (λ did. steps.Calls did side (call_kinds.Prompt keep_alive) id
-            self.old self.new) }
+        ensures calls { IfOk result (λ did. steps.Calls did side request id self.old self.new) }
         ensures err { OnErr result (self.new ≡ self.old) }
     {
         match side {
-            Side::One => answer(self.one.prompt(id, keep_alive)),
-            Side::Two => answer(self.two.prompt(id, keep_alive)),
+            Side::One => answer(request_at(&mut self.one, id, request)),
+            Side::Two => answer(request_at(&mut self.two, id, request)),
         }
     }
 
     fn tick(&mut self, side: Side, now: u64) -> Result<Applied, AllocError>
-        ensures ticks { IfOk result (λ did. steps.IsApplied did (steps.TellsTime side now self.old
-            self.new)) }
-        ensures err { OnErr result (self.new ≡ self.old) }
+        ensures { TriesEvent (events.Tick side now) result self.old self.new }
     {
         match side {
             Side::One => tick_at(&mut self.one, &mut self.ticks, now),
@@ -300,13 +252,39 @@ impl<O: SteadyOutbox, I: Inbox> TwoStations<O, I> {
     }
 }
 
+/// What the user of a station asks of a transaction. Only one that gives up what is received may
+/// ask something of the inbox, and so fail there.
+fn request_at<O: Outbox, I: Inbox>(
+    station: &mut Station<O, I>,
+    id: TransactionId,
+    request: Request,
+) -> Result<(), RequestError>
+    ensures called { OnOk result (IsCalled request id station.old.entity.state
+        station.new.entity.state) }
+    ensures refused { IfErr result (IsRefusal (request_refusal request id
+        station.old.entity.state.table)) }
+    ensures err { OnErr result (station.new ≡ station.old) }
+    ensures failures { KeepsOutbox station.old.entity station.new.entity }
+    ensures inbox { asks_inbox request id station.old.entity.state.table ≡ false
+        → station.new.entity.inbox_failures ≡ station.old.entity.inbox_failures }
+    ensures raises { OnOk result (RaisesByRequest request id station.old.entity station.new.entity) }
+    ensures link { KeepsLink station.old station.new }
+{
+    match request {
+        Request::Cancel => station.cancel(id),
+        Request::Suspend => station.suspend(id),
+        Request::Resume => station.resume(id),
+        Request::Prompt { keep_alive } => station.prompt(id, keep_alive),
+    }
+}
+
 /// What a world answers to a call on a transaction.
-fn answer(called: Result<(), CallError>) -> Result<Applied, AllocError>
+fn answer(called: Result<(), RequestError>) -> Result<Applied, AllocError>
     ensures { result ≡ answered called }
 {
     match called {
         Ok(()) => Ok(Applied::Applied),
-        Err(CallError::NoMemory) => Err(AllocError),
+        Err(RequestError::NoMemory) => Err(AllocError),
         Err(error) => Ok(Applied::Refused(Refusal::Call(error))),
     }
 }
@@ -348,15 +326,9 @@ fn tick_at<O: Outbox, I: Inbox>(
     ticks: &mut u64,
     now: u64,
 ) -> Result<Applied, AllocError>
-    ensures ticks { IfOk result (λ did. (did ≡ dids.Applied)
-        × Ticks now station.old.entity.state.table station.new.entity.state.table
-        × (station.new.entity.state
-        ≡ with_table station.old.entity.state station.new.entity.state.table)
-        × (ticks.new ≡ raised ticks.old)) }
+    ensures ticks { IfOk result (λ did. (did ≡ dids.Applied) × TellsTimeAt now
+        station.old.entity station.new.entity ticks.old ticks.new) }
     ensures err { OnErr result ((station.new ≡ station.old) × (ticks.new ≡ ticks.old)) }
-    ensures failures { KeepsOutbox station.old.entity station.new.entity }
-    ensures raises { OnOk result (AsksToTick Raises now station.old.entity.state.table
-        station.old.entity.inbox_failures station.new.entity.inbox_failures) }
     ensures link { KeepsLink station.old station.new }
 {
     station.tick(now)?;
@@ -366,10 +338,7 @@ fn tick_at<O: Outbox, I: Inbox>(
 
 /// Takes the frame that leaves a station next, where one does.
 fn pull_next<O: Outbox, I: Inbox>(links: &mut FrameLinks, station: &mut Station<O, I>) -> bool
-    requires lens { (l : Lane) → (lane_of_links l links.old).len
-        ≡ 8 + (lane_down l station.old.down).link.zone }
-    requires enough { (l : Lane) → WaitAtMost (lane_of_links l links.old).blanks
-        (lane_down l station.old.down) }
+    requires { HasBuffers station.old.down links.old }
     ensures none { result ≡ false → frame_lane station.old.down ≡ None }
     ensures kept { result ≡ false → (links.new ≡ links.old) × (station.new ≡ station.old) }
     ensures pulls { result ≡ true → PullsOne station.old.down station.new.down links.old links.new }
@@ -385,14 +354,8 @@ fn pull_next<O: Outbox, I: Inbox>(links: &mut FrameLinks, station: &mut Station<
 
 /// Takes all whole zones that wait at a station as frames. There are buffers for them.
 fn pull_all<O: Outbox, I: Inbox>(links: &mut FrameLinks, station: &mut Station<O, I>)
-    requires lens { (l : Lane) → (lane_of_links l links.old).len
-        ≡ 8 + (lane_down l station.old.down).link.zone }
-    requires enough { (l : Lane) → WaitAtMost (lane_of_links l links.old).blanks
-        (lane_down l station.old.down) }
-    ensures lanes { (l : Lane) → PullsAll (lane_down l station.old.down)
-        (lane_down l station.new.down) (lane_of_links l links.old) (lane_of_links l links.new) }
-    ensures packet_count { station.new.down.packet_count ≡ station.old.down.packet_count }
-    ensures rest { KeepsRest station.old station.new }
+    requires { HasBuffers station.old.down links.old }
+    ensures { PullsBoth station.old station.new links.old links.new }
 {
     while pull_next(links, station) {}
 }
@@ -429,6 +392,7 @@ fn poll<O: SteadyOutbox, I: Inbox>(station: &mut Station<O, I>) -> Result<Polled
     ensures fixed { KeepsLanes station.old.down station.new.down }
 {
     let answer = station.poll();
+    // For the prover: its files always stand, so what was read is what they have.
     let _ = station.outbox();
     answer
 }
@@ -439,14 +403,7 @@ fn poll_at<O: SteadyOutbox, I: Inbox>(
     links: &mut FrameLinks,
 ) -> Result<Applied, AllocError>
     requires ready { AreReady station.old.down links.old }
-    ensures polls { IfOk result (λ did. PollsAt did station.old station.new
-        links.old links.new) }
-    ensures err { OnErr result (KeepsAt station.old station.new links.old links.new) }
-    ensures carried { CarryOn station.old.down station.new.down links.old links.new }
-    ensures up { station.new.up ≡ station.old.up }
-    ensures capacity { (l : Lane) → (lane_down l station.new.down).capacity
-        ≡ (lane_down l station.old.down).capacity }
-    ensures marks { AreSameMarks links.old links.new }
+    ensures { TriesToSend PollsAt result station.old station.new links.old links.new }
 {
     make_room(links, station)?;
     match poll(station)? {
@@ -476,14 +433,7 @@ fn flush_at<O: Outbox, I: Inbox>(
     links: &mut FrameLinks,
 ) -> Result<Applied, AllocError>
     requires ready { AreReady station.old.down links.old }
-    ensures flushes { IfOk result (λ did. FlushesAt did station.old station.new
-        links.old links.new) }
-    ensures err { OnErr result (KeepsAt station.old station.new links.old links.new) }
-    ensures carried { CarryOn station.old.down station.new.down links.old links.new }
-    ensures rest { KeepsRest station.old station.new }
-    ensures capacity { (l : Lane) → (lane_down l station.new.down).capacity
-        ≡ (lane_down l station.old.down).capacity }
-    ensures marks { AreSameMarks links.old links.new }
+    ensures { TriesToSend FlushesAt result station.old station.new links.old links.new }
 {
     make_room(links, station)?;
     let directives = links.count_in(Lane::Directives);
@@ -503,13 +453,12 @@ fn deliver_to<O: Outbox, I: Inbox>(
     lane: Lane,
     station: &mut Station<O, I>,
 ) -> Applied
-    ensures arrives { FrameArrivesAt result lane link.old link.new station.old station.new }
-    ensures down { station.new.down ≡ station.old.down }
+    ensures { FrameArrivesAt result lane link.old link.new station.old station.new }
 {
     let Some(frame) = link.oldest() else {
         return Applied::Nothing;
     };
-    station.take(frame);
+    station.receive(frame);
     link.deliver();
     Applied::Applied
 }
@@ -520,11 +469,8 @@ fn deliver_at<O: Outbox, I: Inbox>(
     lane: Lane,
     station: &mut Station<O, I>,
 ) -> Applied
-    ensures arrives { FrameArrivesAt result lane (lane_of_links lane links.old)
-        (lane_of_links lane links.new) station.old station.new }
-    ensures other { lane_of_links (other_lane lane) links.new
-        ≡ lane_of_links (other_lane lane) links.old }
-    ensures down { station.new.down ≡ station.old.down }
+    ensures { OnLane lane (λ link link_now. FrameArrivesAt result lane link link_now
+        station.old station.new) links.old links.new }
 {
     match lane {
         Lane::Directives => deliver_to(&mut links.directives, lane, station),
@@ -545,10 +491,7 @@ fn strike_lane(link: &mut FrameLink) -> Applied
 
 /// The oldest waiting frame of a lane is lost; the other lane stays.
 fn strike_at(links: &mut FrameLinks, lane: Lane) -> Applied
-    ensures strikes { StrikesAt result (lane_of_links lane links.old)
-        (lane_of_links lane links.new) }
-    ensures other { lane_of_links (other_lane lane) links.new
-        ≡ lane_of_links (other_lane lane) links.old }
+    ensures { OnLane lane (StrikesAt result) links.old links.new }
 {
     match lane {
         Lane::Directives => strike_lane(&mut links.directives),

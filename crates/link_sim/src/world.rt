@@ -1,17 +1,12 @@
 //! A world: two stations over two directions of frames.
-ghost use Rattle.std.specs.Prelude.{◌≡◌, ◌⊎◌, ◌<◌, ℕ, List, IfOk, OnErr};
-ghost use Rattle.cfdp_directives.specs.User.Put.{inbox_after};
-ghost use Rattle.cfdp_entity.specs.Sound.{FindsMore};
-ghost use Rattle.cfdp_header.specs.Files.{FileMap};
+ghost use Rattle.std.specs.Prelude.{◌≡◌, ◌<◌, ℕ, IfOk, OnOk};
+ghost use Rattle.link_sim.specs.Calls.{Applies};
 ghost use Rattle.link_sim.specs.Clean.{IsClean};
 ghost use Rattle.link_sim.specs.Found.{ExpiresOn};
-ghost use Rattle.link_sim.specs.Observed.{seen};
-ghost use Rattle.link_sim.specs.Running.{Happens, Ran};
+ghost use Rattle.link_sim.specs.Running.{Happens, KeepsPromises, Ran};
 ghost use Rattle.link_sim.specs.Settling.{DropsWhereFull, IsOfSettling, KeepsAll, all_shortages};
-ghost use Rattle.link_sim.specs.Theorem.{HoldsAt, FoldsAt, at, put_of, completions_at};
 ghost use Rattle.link_sim.specs.Tracks.{KeepsPutsOf, RunsAlong};
-ghost use Rattle.link_sim.specs.World.State.{IsFirst, published_at, station_at, entity_at, link_from, seen_links, files_at};
-ghost use Rattle.link_sim.specs.World.Steps.{PublishesAt, Steps, WantsMemory};
+ghost use Rattle.link_sim.specs.World.State.{IsFirst, station_at, entity_at, link_from, seen_links};
 ghost use Rattle.link_sim.specs.Stations.{IsWorldConfig};
 ghost use Rattle.link_sim.specs.Work.{world_work};
 ghost use Rattle.link_sim.specs.declared.event.Applied.TheVariants as dids;
@@ -20,7 +15,7 @@ ghost use Rattle.link_sim.specs.declared.side.Side.{Side};
 
 use crate::event::{AcceptedPut, Applied, Event};
 use crate::frame_links::FrameLinks;
-use crate::promises::events_keep_the_promises;
+use crate::promises::{events_keep_the_promises, worlds_keep_the_promises};
 use crate::side::Side;
 use crate::two_stations::TwoStations;
 use crate::witness::Witness;
@@ -78,14 +73,9 @@ impl<O: SteadyOutbox, I: Inbox, W: Witness> World<O, I, W> {
         requires { IsWorldConfig config }
         ensures first { IfOk result (IsFirst config (O.files outboxes.0, O.files outboxes.1)
             (I.published inboxes.0, I.published inboxes.1)) }
-
-        // Each inbox is its first files, overwritten by those of the puts completed there: none so
-        // far.
-        ensures inboxes { IfOk result (λ w. (side : Side) → (at side (seen w)).inbox
-            ≡ inbox_after (put_of (seen w))
-            (files_at side (I.published inboxes.0, I.published inboxes.1))
-            (completions_at side (seen w))) }
-        ensures holds { IfOk result (λ w. (side : Side) → HoldsAt side (seen w)) }
+        // The promises hold of it.
+        ensures promised { IfOk result
+            (KeepsPromises (I.published inboxes.0, I.published inboxes.1)) }
         // Nothing went wrong so far.
         ensures clean { IfOk result (λ w. IsClean w) }
     {
@@ -105,14 +95,14 @@ impl<O: SteadyOutbox, I: Inbox, W: Witness> World<O, I, W> {
     pub fn puts(&self) -> &[AcceptedPut]
         ensures { result.now ≡ self.now.puts }
     {
-        self.stations.puts()
+        self.stations.puts.as_slice()
     }
 
     /// How often a station was told the time. The count stays at the greatest `u64`.
     pub fn ticks(&self) -> u64
         ensures { result ≡ self.now.ticks }
     {
-        self.stations.ticks()
+        self.stations.ticks
     }
 
     /// What a station told its user, in order. A world lets go of nothing.
@@ -157,28 +147,9 @@ impl<O: SteadyOutbox, I: Inbox, W: Witness> World<O, I, W> {
     /// `AllocError` only where the memory for it was refused: nothing happened then. The arrival
     /// and the loss of a frame need none.
     pub fn apply(&mut self, event: &Event) -> Result<Applied, AllocError>
-        // The event did what it does, by the stations' own steps, and nothing else changed.
-        ensures steps { IfOk result (λ did. Steps event.now did self.old self.new) }
-        ensures err { OnErr result (self.new ≡ self.old) }
-        ensures lacks { OnErr result (WantsMemory event.now) }
-
-        // A put that was accepted stays what it is.
-        ensures puts { FindsMore (put_of (seen self.old)) (put_of (seen self.new)) }
-        // Each inbox was overwritten by the files of the puts that were completed in this call.
-        ensures folds { (side : Side) → FoldsAt side (seen self.old) (seen self.new) }
-        // What a station published changes in no event but a delivery to it.
-        ensures published { (side : Side) → PublishesAt side event.now
-            ⊎ (published_at side self.new ≡ published_at side self.old) }
-        // Finished once, heard in full, told truly and sent truly.
-        ensures holds { (side : Side) → HoldsAt side (seen self.new) }
-        // A poll, a flush and a delivery in which nothing was short leave a clean world clean.
-        ensures clean { IsOfSettling event.now → IfOk result (λ did. did ≡ dids.Applied
-            → KeepsAll (all_shortages self.old) (all_shortages self.new)
-            → IsClean self.old → IsClean self.new) }
-        // A put that is accepted leaves a clean world clean.
-        ensures clean_put { (side : Side) (source destination : List ℕ)
-            → event.now ≡ events.Put side source destination
-            → IfOk result (λ did. did ≡ dids.Applied → IsClean self.old → IsClean self.new) }
+        // The event did what it does and nothing else, or nothing happened; the promises hold, and
+        // a clean world stays clean where nothing went wrong.
+        ensures { Applies event.now result self.old self.new }
     {
         self.happen(event)
     }
@@ -192,26 +163,10 @@ impl<O: SteadyOutbox, I: Inbox, W: Witness> World<O, I, W> {
 
     /// As `apply`, for calls here that rest on more than it promises.
     pub(crate) fn happen(&mut self, event: &Event) -> Result<Applied, AllocError>
-        // The event did what it does, by the stations' own steps, and nothing else changed.
-        ensures steps { IfOk result (λ did. Steps event.now did self.old self.new) }
-        ensures err { OnErr result (self.new ≡ self.old) }
-        ensures lacks { OnErr result (WantsMemory event.now) }
-        // A put that was accepted stays what it is.
-        ensures puts { FindsMore (put_of (seen self.old)) (put_of (seen self.new)) }
-        // Each inbox was overwritten by the files of the puts that were completed in this call.
-        ensures folds { (side : Side) → FoldsAt side (seen self.old) (seen self.new) }
-        // What a station published changes in no event but a delivery to it.
-        ensures published { (side : Side) → PublishesAt side event.now
-            ⊎ (published_at side self.new ≡ published_at side self.old) }
-        // Finished once, heard in full, told truly and sent truly.
-        ensures holds { (side : Side) → HoldsAt side (seen self.new) }
+        ensures applies { Applies event.now result self.old self.new }
         // A poll, a flush and a delivery that did something lower what may still be done.
         ensures less { IsOfSettling event.now → IfOk result (λ did. did ≡ dids.Applied
             → world_work self.new < world_work self.old) }
-        // A poll, a flush and a delivery in which nothing was short leave a clean world clean.
-        ensures clean { IsOfSettling event.now → IfOk result (λ did. did ≡ dids.Applied
-            → KeepsAll (all_shortages self.old) (all_shortages self.new)
-            → IsClean self.old → IsClean self.new) }
         // Where a station found no room for a PDU, its table is full.
         ensures full { DropsWhereFull self.old self.new }
         // Where nothing was short in it, each transaction made a run of its own.
@@ -222,10 +177,6 @@ impl<O: SteadyOutbox, I: Inbox, W: Witness> World<O, I, W> {
         ensures tells { (side : Side) (now : ℕ) → event.now ≡ events.Tick side now
             → IfOk result (λ did. ExpiresOn side now self.old self.new
             × KeepsPutsOf self.old self.new) }
-        // A put that is accepted leaves a clean world clean.
-        ensures clean_put { (side : Side) (source destination : List ℕ)
-            → event.now ≡ events.Put side source destination
-            → IfOk result (λ did. did ≡ dids.Applied → IsClean self.old → IsClean self.new) }
     {
         events_keep_the_promises();
         self.stations.show_rest();
@@ -264,17 +215,14 @@ pub fn run<O: SteadyOutbox, I: Inbox>(
 ) -> Result<World<O, I>, AllocError>
     requires { IsWorldConfig config }
     // Each inbox is its first files, overwritten in order of the completions there by the files of
-    // the puts that they name.
-    ensures inboxes { IfOk result (λ w. (side : Side) → (at side (seen w)).inbox
-        ≡ inbox_after (put_of (seen w))
-        (files_at side (I.published inboxes.0, I.published inboxes.1))
-        (completions_at side (seen w))) }
-    // Finished once, heard in full, told truly and sent truly.
-    ensures holds { IfOk result (λ w. (side : Side) → HoldsAt side (seen w)) }
+    // the puts that they name; finished once, heard in full, told truly and sent truly.
+    ensures promised { IfOk result
+        (KeepsPromises (I.published inboxes.0, I.published inboxes.1)) }
     // From a first world each of the events happened, in order, and nothing else.
     ensures ran { IfOk result (λ w. Ran config (O.files outboxes.0, O.files outboxes.1)
         (I.published inboxes.0, I.published inboxes.1) events.now w) }
 {
+    worlds_keep_the_promises();
     let mut world = World::new(alloc, config, outboxes, inboxes, ())?;
     match apply_all(&mut world, events) {
         Ok(()) => Ok(world),
@@ -290,13 +238,7 @@ fn apply_all<O: SteadyOutbox, I: Inbox>(
     world: &mut World<O, I>,
     events: &[Event],
 ) -> Result<(), AllocError>
-    ensures keeps { IfOk result (λ _. (side : Side) → (first : FileMap) →
-        HoldsAt side (seen world.old)
-        → (at side (seen world.old)).inbox
-        ≡ inbox_after (put_of (seen world.old)) first (completions_at side (seen world.old))
-        → HoldsAt side (seen world.new) × ((at side (seen world.new)).inbox
-        ≡ inbox_after (put_of (seen world.new)) first (completions_at side (seen world.new)))) }
-    ensures ran { IfOk result (λ _. Happens events.now world.old world.new) }
+    ensures { OnOk result (Happens events.now world.old world.new) }
 {
     for event in events {
         let _ = world.apply(event)?;

@@ -100,6 +100,7 @@ impl Down {
         ensures room { result ≡ downward.room (lane_down lane self.now) }
         ensures bounded { IsBounded self.now }
     {
+        // For the prover: the invariant.
         let _ = &self.packets;
         self.lane(lane).room()
     }
@@ -151,6 +152,7 @@ impl Down {
         ensures fixed { KeepsLanes self.old self.new }
         ensures bounded { IsBounded self.new }
     {
+        // For the prover: the invariant.
         let _ = &self.packets;
         if pdu.len() > self.room(lane) {
             return Err(Full);

@@ -19,6 +19,8 @@
 //!     up.take(&frame, &mut pdus);
 //! }
 //! ```
+//!
+//! Tested by `tests/transcripts/link.txt`.
 #![tactic(auto)]
 
 mod down;

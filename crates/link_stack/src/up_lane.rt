@@ -292,6 +292,7 @@ impl UpLane {
         ensures { LaneTakes frame.now self.old self.new (octets_of_each out.old.items)
             (octets_of_each out.new.items) }
     {
+        // For the prover: the invariant.
         let _ = &self.link;
         let _whole = self.read_frame(frame, out);
     }

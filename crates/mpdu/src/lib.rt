@@ -20,6 +20,8 @@
 //!     reassembler.feed(pointer, &zone, true, &mut packets)?;
 //! }
 //! ```
+//!
+//! Tested by `tests/transcripts/zones.txt`.
 #![tactic(auto)]
 
 mod carrying;

@@ -196,6 +196,7 @@ impl Packer {
         ensures len { result ≡ length self.now.waiting }
         ensures most { result ≤ self.now.capacity + 2047 }
     {
+        // For the prover: the invariant.
         let _ = &self.capacity;
         self.waiting.len()
     }
@@ -318,6 +319,7 @@ impl Packer {
               flushed = true;
             }) }
     {
+        // For the prover: the invariant.
         let _ = &self.size;
         self.fill();
     }

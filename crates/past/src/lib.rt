@@ -10,6 +10,8 @@
 //! past.put_all(&[5, 8]);
 //! // In a clause `past` is now the list of 3, 5 and 8.
 //! ```
+//!
+//! Tested by `tests/bindings.py`, through the crates above.
 #![tactic(auto)]
 
 ghost use Rattle.std.specs.Prelude.{◌≡◌, List, [], ◌∷◌, ◌++◌};

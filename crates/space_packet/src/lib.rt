@@ -13,6 +13,8 @@
 //!     let (read, rest) = decode(&octets[..len])?;
 //! }
 //! ```
+//!
+//! Tested by `tests/transcripts/packets.txt`.
 #![tactic(auto)]
 
 ghost use Rattle.std.specs.Prelude.{◌≡◌, ℕ, ◌<◌, ◌≤◌, ◌++◌, List, length, take, drop, IfOk, IsOkAnd};

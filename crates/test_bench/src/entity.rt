@@ -31,7 +31,9 @@ use crate::strangers::{self, Fate, Target};
 use crate::telling::tell;
 use crate::words::{number, octets, pair, tell_octets};
 use cfdp_directives::{Delivery, FileStatus, Indication, Phase};
-use cfdp_entity::{CallError, Entity, EntityConfig, EntityPolled, ForgetError, PutError, Rooms};
+use cfdp_entity::{
+    Entity, EntityConfig, EntityDrop, EntityPolled, ForgetError, PutError, RequestError, Rooms,
+};
 use cfdp_header::TransactionId;
 use cfdp_store::{FuseInbox, FuseOutbox, Inbox, MemoryInbox, MemoryOutbox};
 use std::alloc::{AllocError, Global};
@@ -276,8 +278,8 @@ impl EntityBench {
     /// How much was dropped.
     fn dropped(&self) -> u64 {
         let mut count = 0u64;
-        for number in 0..32u8 {
-            count = count.saturating_add(self.entity.drops(number));
+        for by in &EntityDrop::ALL {
+            count = count.saturating_add(self.entity.drops(*by));
         }
         count
     }
@@ -420,7 +422,7 @@ impl EntityBench {
         }
     }
 
-    fn call(&mut self, word: &str) -> Result<(), CallError> {
+    fn call(&mut self, word: &str) -> Result<(), RequestError> {
         match word {
             "cancel" => self.entity.cancel(FIRST),
             "suspend" => self.entity.suspend(FIRST),
@@ -444,10 +446,10 @@ impl EntityBench {
     }
 
     fn tells_drops(&self, out: &mut String) -> Result<(), AllocError> {
-        for number in 0..=u8::MAX {
-            let count = self.entity.drops(number);
+        for by in &EntityDrop::ALL {
+            let count = self.entity.drops(*by);
             if count != 0 {
-                write!(out, " {number} {count}\n")?;
+                write!(out, " {} {count}\n", by.number())?;
             }
         }
         Ok(())

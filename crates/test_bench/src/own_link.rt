@@ -1,5 +1,5 @@
 //! How a program drives a station over a link of its own. README.md shows it.
-use cfdp_station::{EntityConfig, Inbox, Lane, LinkConfig, Outbox, Polled, Station, StationConfig};
+use cfdp_station::{EntityConfig, Inbox, LinkConfig, Outbox, Station, StationConfig};
 use std::alloc::{AllocError, Global};
 
 /// A link that a program has.
@@ -34,28 +34,19 @@ pub fn default_station<O: Outbox, I: Inbox>(
     Station::new(alloc, config, outbox, inbox)
 }
 
-/// One turn of a station: it is told the time, hears a frame, and sends what is due.
+/// One turn of a station: it is told the time, hears a frame, and sends the next one that is due.
 pub fn turn<O: Outbox, I: Inbox, L: Link>(
-    alloc: Global,
     station: &mut Station<O, I>,
     link: &mut L,
+    frame: &mut Vec<u8>,
     now: u64,
 ) -> Result<(), AllocError> {
     station.tick(now)?;
     if let Some(frame) = link.receive() {
-        station.take(&frame);
+        station.receive(&frame);
     }
-    if station.poll()? == Polled::Nothing {
-        station.flush();
-    }
-    let directives = station.frames_ahead(Lane::Directives);
-    let file_data = station.frames_ahead(Lane::Data);
-    for _ in 0..directives.saturating_add(file_data) {
-        let mut frame = vec![in alloc; 0u8; station.frame_len()]?;
-        if station.next_frame(&mut frame).is_none() {
-            break;
-        }
-        link.send(&frame);
+    if station.transmit(frame)?.is_some() {
+        link.send(frame);
     }
     Ok(())
 }

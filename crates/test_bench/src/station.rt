@@ -53,14 +53,6 @@ use std::collections::VecDeque;
 use std::fmt::{Debug, Display};
 use std::marker::Model;
 
-/// The last of the numbers by which whole frames are refused, by which the link drops anything, and
-/// by which PDUs are dropped.
-const LAST_OF_FRAMES: u8 = 6;
-
-const LAST_OF_LINK: u8 = 11;
-
-const LAST_OF_PDUS: u8 = 17;
-
 /// The most PDUs sent at once, and frames taken.
 const MOST: u8 = 200;
 
@@ -306,7 +298,7 @@ impl Bench for StationBench {
             "burst" => self.bursts(out),
             "flush" => Ok(self.flushes(words)),
             "count" => Ok(self.station.count_frames_from(narrow(words))),
-            "take" => Ok(self.take(&octets(self.alloc, words)?)),
+            "take" => Ok(self.receive(&octets(self.alloc, words)?)),
             "of" => self.tells_of(id(words), out),
             "tick" => self.station.tick(number(words)),
             "prefixes" | "replaced" | "storm" => {
@@ -353,7 +345,7 @@ impl Keeper for StationBench {
 impl Target for StationBench {
     fn tries(&mut self, octets: &[u8]) -> Fate {
         let before = self.seen();
-        self.take(octets);
+        self.receive(octets);
         self.seen().fate(before, self.came.len() as u64)
     }
 }
@@ -438,7 +430,7 @@ impl Side for StationBench {
                 break;
             }
             if losses.arrives() {
-                other.take(&frame);
+                other.receive(&frame);
             }
         }
         Ok(())
@@ -464,8 +456,8 @@ impl StationBench {
 
     fn seen(&self) -> Seen {
         Seen {
-            frames: self.dropped_by_link(1, LAST_OF_FRAMES),
-            zones: self.dropped_by_link(LAST_OF_FRAMES + 1, LAST_OF_LINK),
+            frames: self.dropped_by_link(true),
+            zones: self.dropped_by_link(false),
             pdus: self.dropped_pdus(),
             told: self.station.indications().len(),
             deadline: self.station.next_deadline(),
@@ -474,18 +466,21 @@ impl StationBench {
         }
     }
 
-    fn dropped_by_link(&self, first: u8, last: u8) -> u64 {
+    /// How often the link dropped whole frames, or else something in one.
+    fn dropped_by_link(&self, whole: bool) -> u64 {
         let mut count = 0u64;
-        for number in first..=last {
-            count = count.saturating_add(self.station.link_drops(number));
+        for by in &LinkDrop::ALL {
+            if by.source().is_some() == whole {
+                count = count.saturating_add(self.station.link_drops(*by));
+            }
         }
         count
     }
 
     fn dropped_pdus(&self) -> u64 {
         let mut count = 0u64;
-        for number in 1..=LAST_OF_PDUS {
-            count = count.saturating_add(self.station.drops(number));
+        for by in &EntityDrop::ALL {
+            count = count.saturating_add(self.station.drops(*by));
         }
         count
     }
@@ -528,17 +523,17 @@ impl StationBench {
 
     fn tells_next(&self, out: &mut String) -> Result<(), AllocError> {
         let deadline = self.station.next_deadline();
-        let expiry = self.station.next_expiry();
-        write!(out, " {deadline:?} {expiry:?}\n")
+        let timeout = self.station.next_timeout();
+        write!(out, " {deadline:?} {timeout:?}\n")
     }
 
     fn tells_why(&self, out: &mut String) -> Result<(), AllocError> {
         for number in 0..=u8::MAX {
             if let Some(by) = LinkDrop::from_number(number) {
-                tell_why(self.station.link_drops(number), &by, &by.source(), out)?;
+                tell_why(self.station.link_drops(by), &by, &by.source(), out)?;
             }
             if let Some(by) = EntityDrop::from_number(number) {
-                tell_why(self.station.drops(number), &by, &by.source(), out)?;
+                tell_why(self.station.drops(by), &by, &by.source(), out)?;
             }
         }
         Ok(())
@@ -591,10 +586,10 @@ impl StationBench {
     }
 
     /// Takes a frame. The PDUs that it gives come out of a receiving end of its own too.
-    pub fn take(&mut self, frame: &[u8]) {
+    pub fn receive(&mut self, frame: &[u8]) {
         self.came.clear();
         self.up.take(frame, &mut self.came);
-        self.station.take(frame);
+        self.station.receive(frame);
     }
 
     /// The published files.
@@ -620,13 +615,11 @@ impl StationBench {
 
     fn tells_drops(&self, out: &mut String) -> Result<(), AllocError> {
         for number in 0..=u8::MAX {
-            let frames = self.station.link_drops(number);
-            if frames != 0 {
-                write!(out, " link {number} {frames}\n")?;
+            if let Some(by) = LinkDrop::from_number(number) {
+                tell_count("link", number, self.station.link_drops(by), out)?;
             }
-            let pdus = self.station.drops(number);
-            if pdus != 0 {
-                write!(out, " pdu {number} {pdus}\n")?;
+            if let Some(by) = EntityDrop::from_number(number) {
+                tell_count("pdu", number, self.station.drops(by), out)?;
             }
         }
         Ok(())
@@ -668,7 +661,7 @@ impl StationBench {
                 break;
             }
             tell_octets(self.alloc, &frame, out)?;
-            other.take(&frame);
+            other.receive(&frame);
         }
         Ok(())
     }
@@ -682,7 +675,7 @@ impl StationBench {
                 break;
             }
             if left % 2 == 0 {
-                other.take(&frame);
+                other.receive(&frame);
             }
             left /= 2;
             count = count.saturating_add(1);
@@ -691,10 +684,18 @@ impl StationBench {
     }
 
     fn turns(&mut self, other: &mut Self, now: u64, out: &mut String) -> Result<(), AllocError> {
-        own_link::turn(self.alloc, &mut self.station, &mut self.cable, now)?;
+        let mut frame = Vec::new(self.alloc);
+        own_link::turn(&mut self.station, &mut self.cable, &mut frame, now)?;
         let count = self.cable.carries(&mut other.cable)?;
         write!(out, " {count}\n")
     }
+}
+
+fn tell_count(what: &str, number: u8, count: u64, out: &mut String) -> Result<(), AllocError> {
+    if count == 0 {
+        return Ok(());
+    }
+    write!(out, " {what} {number} {count}\n")
 }
 
 fn tell_sum(alloc: Global, name: &[u8], octets: &[u8], out: &mut String) -> Result<(), AllocError> {

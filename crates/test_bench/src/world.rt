@@ -43,7 +43,7 @@ trait Replay: Drop {
 
 impl Replay for StationBench {
     fn takes(&mut self, frame: &[u8]) {
-        self.take(frame);
+        self.receive(frame);
     }
 
     fn files(&self) -> &Files {

@@ -22,18 +22,12 @@ size_limit large = if large then 2 ^ 48 else 2 ^ 32 - 1
 abbrev pub is_large : ℕ → Bool
 is_large size = nat_lt (size_limit false) size
 
--- the conditions (CCSDS 727.0-B-5, table 5-5)
+-- the conditions that are told here (CCSDS 727.0-B-5, table 5-5, has more)
 abbrev pub no_error : ℕ
 no_error = 0
 
 abbrev pub positive_ack_limit : ℕ
 positive_ack_limit = 1
-
-abbrev pub keep_alive_limit : ℕ
-keep_alive_limit = 2
-
-abbrev pub invalid_transmission_mode : ℕ
-invalid_transmission_mode = 3
 
 abbrev pub filestore_rejection : ℕ
 filestore_rejection = 4
@@ -49,9 +43,6 @@ nak_limit = 7
 
 abbrev pub inactivity : ℕ
 inactivity = 8
-
-abbrev pub check_limit : ℕ
-check_limit = 10
 
 abbrev pub unsupported_checksum_type : ℕ
 unsupported_checksum_type = 11

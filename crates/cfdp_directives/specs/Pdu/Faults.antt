@@ -85,7 +85,7 @@ content_fault w file_data segment_metadata d =
     if file_data then file_data_fault w segment_metadata d else directive_fault w d
 
 -- what is wrong with the header comes first
-abbrev pub after_header : Option HeaderError → Option PduError → Option PduError
+abbrev after_header : Option HeaderError → Option PduError → Option PduError
 after_header None next = next
 after_header (Some e) next = Some (Header e)
 

@@ -94,7 +94,7 @@ pub record IsKeepAlive (w : ℕ) (progress : ℕ) (d : List ℕ) : Type 0 where
   pub progress_field : field d 8 (8 * w) ≡ progress
 
 -- The octets d say this; file-size fields have w octets.
-abbrev pub IsContent : ℕ → Bool → Content → List ℕ → Type 0
+abbrev IsContent : ℕ → Bool → Content → List ℕ → Type 0
 IsContent w segment_metadata (FileData offset bytes) d =
     IsFileData w segment_metadata offset bytes d
 IsContent w segment_metadata (Metadata kind size source destination options) d =

@@ -29,11 +29,11 @@ unfoldable pub tlvs_of : List ℕ → Option (List Tlv)
 tlvs_of bytes = tlvs_at (length bytes) bytes
 
 -- the type of a fault location (CCSDS 727.0-B-5, table 5-2)
-abbrev pub fault_location_kind : ℕ
+abbrev fault_location_kind : ℕ
 fault_location_kind = 6
 
 -- whether an option names an entity: a fault location of 1 to 8 octets
-abbrev pub is_location : Tlv → Bool
+abbrev is_location : Tlv → Bool
 is_location t = (t.kind == fault_location_kind)
     && (nat_le 1 (length t.value) && nat_le (length t.value) 8)
 

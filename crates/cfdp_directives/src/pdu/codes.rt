@@ -209,7 +209,7 @@ impl Acknowledged {
     }
 
     /// The subtype that an ACK of it is written with: 0 of an EOF, 1 of a Finished.
-    pub fn subtype(self) -> u8
+    pub(crate) fn subtype(self) -> u8
         ensures { result ≡ acknowledged_subtype self }
     {
         match self {

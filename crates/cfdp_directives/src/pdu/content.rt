@@ -104,7 +104,7 @@ impl Pdu<'_> {
     }
 
     /// Whether it is file data, and no directive: the `file_data` of its header.
-    pub fn is_file_data(&self) -> bool
+    pub(crate) fn is_file_data(&self) -> bool
         ensures { result ≡ is_file_data (view self.now) }
     {
         matches!(self, Pdu::FileData { .. })
@@ -124,6 +124,7 @@ impl Pdu<'_> {
                 destination,
                 ..
             } => {
+                // For the prover: the invariant of the checksum type.
                 let _any_kind_fits = checksum_kind.code();
                 is_file_size(large, *size) && source.len() < 256 && destination.len() < 256
             }
@@ -133,10 +134,12 @@ impl Pdu<'_> {
                 size,
                 ..
             } => {
+                // For the prover: the invariant of the condition, and that a `u32` has a range.
                 let _any_fits = (condition.code(), *checksum);
                 is_file_size(large, *size)
             }
             Pdu::Finished { condition, .. } | Pdu::Ack { condition, .. } => {
+                // For the prover: the invariant of the condition.
                 let _any_condition_fits = condition.code();
                 true
             }

@@ -21,7 +21,7 @@ const LARGEST_FILE: u64 = 1 << 48;
 /// Octets of a file-size field, as an offset, where the file is large and where it isn't (CCSDS
 /// 727.0-B-5, 5.1.10): 8 and 4.
 #[inline]
-pub fn file_size_octets(large: bool) -> usize
+pub(crate) fn file_size_octets(large: bool) -> usize
     ensures value { result ≡ codes.file_size_octets large }
     ensures some { 1 ≤ result }
     ensures most { result ≤ 8 }

@@ -1,8 +1,8 @@
 // Laws of the definitions, each the contract of a function that does nothing: a caller's proof has
 // them by a call.
-ghost use Rattle.std.specs.Prelude.{◌≡◌, ℕ, ◌+◌, ◌++◌, List, length};
+ghost use Rattle.std.specs.Prelude.{◌≡◌, ℕ, ◌++◌, List};
 ghost use Rattle.cfdp_header.specs.declared.value.Header.{Header};
-ghost use Rattle.cfdp_header.specs.Header.{FitsHeader, header_len};
+ghost use Rattle.cfdp_header.specs.Header.{FitsHeader};
 ghost use Rattle.cfdp_directives.specs.Pdu.Content.{Content};
 ghost use Rattle.cfdp_directives.specs.Pdu.Grammar.{SpellsPdu};
 ghost use Rattle.cfdp_directives.specs.Pdu.Written.{CanWrite, pdu_octets};
@@ -23,10 +23,4 @@ pub fn written_pdu_is_read()
 /// number and widths.
 pub fn a_pdu_read_can_be_answered()
     ensures { (h : Header) (v : Content) (text : List ℕ) → SpellsPdu h v text → FitsHeader h }
-{}
-
-/// How many octets are written of a PDU.
-pub fn written_pdu_len()
-    ensures { (h : Header) (v : Content) → CanWrite h v
-        → length (pdu_octets h v) ≡ header_len h.id_width h.number_width + h.length }
 {}

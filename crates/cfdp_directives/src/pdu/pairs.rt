@@ -63,7 +63,7 @@ impl<'a> Pairs<'a> {
 
     /// The pairs that fill the octets, if some do: of a large file, or of one that isn't.
     #[tactic(auto, using(crate::proofs::Ranges::pairs_spelled))]
-    pub fn read(large: bool, octets: &'a [u8]) -> Option<Self>
+    pub(crate) fn read(large: bool, octets: &'a [u8]) -> Option<Self>
         ensures found { IfSome result (λ ps. ArePairs (file_size_octets large) ps octets.now) }
         ensures none { is_some result
             ≡ (length octets.now % specified.pair_octets large == 0) }
@@ -145,7 +145,7 @@ impl<'a> Pairs<'a> {
 
     /// Writes the pairs from octet `at` on, and says where they end. The octets before and behind
     /// stay.
-    pub fn put(&self, out: &mut [u8], at: usize, large: bool) -> usize
+    pub(crate) fn put(&self, out: &mut [u8], at: usize, large: bool) -> usize
         requires fits { AllByRecursion (IsPair (file_size_octets large)) self.now }
         requires room { at + specified.pair_octets large * length self.now ≤ length out.old }
         ensures end { result ≡ at + specified.pair_octets large * length self.now }

@@ -7,7 +7,7 @@ use Rattle.clap.specs.Walk.{Row, Rule, Text, first_of}
 use Rattle.clap.specs.declared.builder.value_parser.ValueParser.TheVariants.{Unsigned}
 use Rattle.cfdp_node.specs.declared.looping.request.LoopRequest.{LoopRequest}
 use Rattle.cfdp_node.specs.declared.looping.request.LoopWords.{LoopWords}
-use Rattle.cfdp_node.specs.Watch.Shown.{ShownAsked, asked_shown, shown_of, with_shown}
+use Rattle.cfdp_node.specs.Shown.{ShownAsked, asked_shown, shown_of, with_shown}
 
 -- ---- the grammar
 

@@ -8,7 +8,7 @@ use Rattle.cfdp_node.specs.declared.station.request.StationNumbers.{StationNumbe
 use Rattle.cfdp_node.specs.declared.station.request.StationRequest.{StationRequest}
 use Rattle.cfdp_node.specs.declared.station.request.StationWords.{StationWords}
 use Rattle.cfdp_node.specs.Looping.Request.{drop_rule, number_in, number_rule, tuned_rule}
-use Rattle.cfdp_node.specs.Watch.Shown.{ShownAsked, asked_shown, file_rule, shown_of, with_shown}
+use Rattle.cfdp_node.specs.Shown.{ShownAsked, asked_shown, file_rule, shown_of, with_shown}
 
 -- ---- the grammar
 

@@ -1,49 +1,32 @@
 -- How a station sends its files over a wire and takes those of its peer, and what is told of it.
-use Rattle.std.specs.Prelude.{◌≡◌, ◌⊎◌, ◌≤◌, ℕ, ◌+◌, ◌^◌, ◌==◌, nat_lt, Bool, true, false, not, ◌&&◌, ◌||◌, List, [], ◌∷◌, ◌++◌, count_by, drop, length, map, slice_get, take, Option, Some, Result, Ok, Err, IsTrue, if◌then◌else◌}
+use Rattle.std.specs.Prelude.{◌≡◌, ◌⊎◌, ◌≤◌, ℕ, ◌+◌, ◌^◌, ◌==◌, nat_lt, Bool, true, false, not, ◌&&◌, ◌||◌, List, [], ◌∷◌, ◌++◌, count_by, drop, length, map, slice_get, take, Option, Some, Result, Ok, Err, if◌then◌else◌}
 use Rattle.std.specs.Io.KnownBytes.{Appends, Keeps}
-use Rattle.std.specs.List.{flat_map, list_all}
+use Rattle.std.specs.List.{flat_map}
 use Rattle.cfdp_header.specs.declared.value.TransactionId.{TransactionId}
 use Rattle.cfdp_header.specs.Files.{FileMap}
 use Rattle.cfdp_directives.specs.declared.user.indication.Indication.{Indication}
-use Rattle.cfdp_directives.specs.declared.user.phase.Phase.{Phase}
-use Rattle.cfdp_directives.specs.declared.user.phase.Phase.TheVariants.{Closed}
 use Rattle.cfdp_entity.specs.Entity.{with_table}
-use Rattle.cfdp_entity.specs.Forgetting.{ForgetsSome}
 use Rattle.cfdp_entity.specs.Table.{TableState, most_records}
-use Rattle.cfdp_entity.specs.Walking.{phases_of}
-use Rattle.cfdp_entity.specs.Looking.{LooksUp}
 use Rattle.cfdp_entity.specs.declared.error.PutError.{PutError}
 use Rattle.cfdp_entity.specs.declared.error.PutError.TheVariants.{SourceFault}
-use Rattle.cfdp_store.specs.Stores.{failures_after}
-use Rattle.link_stack.specs.Downward.{both_counted_from}
-use Rattle.cfdp_station.specs.Station.{StationState, KeepsLink}
+use Rattle.cfdp_station.specs.Station.{StationState}
 use Rattle.cfdp_station.specs.declared.config.StationConfig.{StationConfig}
-use Rattle.link_sim.specs.AtStation.{KeepsFailures}
 use Rattle.link_sim.specs.World.State.{IsNewAt}
-use Rattle.cfdp_node.specs.Looping.Turns.{Puts, is_no_memory, more_failures, put_answer}
-use Rattle.cfdp_node.specs.Report.Lines.{answer_text, count_line, indication_line, is_own_completion}
-use Rattle.cfdp_node.specs.Station.Turning.{TakesInPart, TakesOne}
-use Rattle.cfdp_node.specs.Wire.Turn.{Sending, Times}
-use Rattle.cfdp_node.specs.Wire.Calls.{WireCall, Rested}
-use Rattle.cfdp_node.specs.declared.report.answer.Answer.{Answer}
-use Rattle.cfdp_node.specs.declared.exit.Exit.{Exit}
-use Rattle.cfdp_node.specs.declared.exit.Exit.TheVariants.{Complete, Incomplete, Device}
-use Rattle.cfdp_node.specs.declared.exit.Fault.TheVariants.{NoMemoryAtStart, NoMemory}
+use Rattle.cfdp_station.specs.Transmitting.{Times}
+use Rattle.cfdp_port.specs.Asking.{CountsFrom, FailsToLook, LetsGo, LooksAt, Puts}
+use Rattle.cfdp_port.specs.Calls.{WireCall, Rested}
+use Rattle.cfdp_port.specs.PeerTurn.{TakesInPart, TakesOne}
+use Rattle.cfdp_port.specs.Port.{PortState, all_closed, table_of}
+use Rattle.cfdp_report.specs.Exit.{run_exit}
+use Rattle.cfdp_node.specs.Looping.Turns.{is_no_memory, more_failures, put_answer}
+use Rattle.cfdp_report.specs.Report.Lines.{answer_text, count_line, indication_line, is_own_completion}
+use Rattle.cfdp_report.specs.declared.report.answer.Answer.{Answer}
+use Rattle.cfdp_report.specs.declared.exit.Exit.{Exit}
+use Rattle.cfdp_report.specs.declared.exit.Exit.TheVariants.{Device}
+use Rattle.cfdp_report.specs.declared.exit.Fault.TheVariants.{NoMemoryAtStart}
 use Rattle.cfdp_node.specs.declared.station.serving.PutNames.{PutNames}
 
 -- ---- what is told
--- the table of a station
-abbrev pub table_of : StationState → TableState
-table_of s = s.entity.state.table
-
--- More was indicated, behind what was, and none of it was let go. Where the files to send stand,
--- they stood before.
-pub record Gains (old new : TableState) : Type 0 where
-  pub gained : List Indication
-  pub told : new.told ≡ old.told ++ gained
-  pub gone : new.gone ≡ old.gone
-  pub stood : IsTrue new.stands → IsTrue old.stands
-
 -- a line of the report: how a put was answered, by its number from 1 on, or what the station told
 -- its user
 pub data Line : Type 0 where
@@ -72,19 +55,6 @@ pub record TellsGone (lines : List Line) (table : TableState) : Type 0 where
 abbrev pub put_short : Result TransactionId PutError → Bool
 put_short (Ok id) = false
 put_short (Err by) = is_no_memory by
-
--- The outbox looked for a file, and nothing else changed.
-pub record LooksAt (source : List ℕ) (old new : StationState) : Type 0 where
-  pub looks : LooksUp source old.entity.state new.entity.state
-  pub failures : KeepsFailures old.entity new.entity
-  pub link : KeepsLink old new
-
--- It failed to, which was counted, and nothing else changed.
-pub record FailsToLook (old new : StationState) : Type 0 where
-  pub same : new.entity.state ≡ old.entity.state
-  pub outbox : new.entity.outbox_failures ≡ failures_after old.entity.outbox_failures false
-  pub inbox : new.entity.inbox_failures ≡ old.entity.inbox_failures
-  pub link : KeepsLink old new
 
 -- A put was made of a file that was looked for first, and was answered so; where the outbox failed
 -- to look, it is refused for that.
@@ -151,13 +121,6 @@ once_told s = record s {
   entity = record s.entity { state = with_table s.entity.state (once_said (table_of s)) };
 }
 
--- Transactions that are over were forgotten, and nothing else changed.
-pub record LetsGo (old new : StationState) : Type 0 where
-  pub forgets : ForgetsSome old.entity.state new.entity.state
-  pub inbox : new.entity.inbox_failures ≡ old.entity.inbox_failures
-  pub outbox : new.entity.outbox_failures ≡ old.entity.outbox_failures
-  pub link : KeepsLink old new
-
 -- Between two turns puts are made, what the station told its user is told, and that is let go, and
 -- so are transactions that are over. These lines are written.
 pub record Prepares (puts : List PutNames) (lines : List Line) (old new : Putting) : Type 0 where
@@ -174,35 +137,24 @@ pub record Prepares (puts : List PutNames) (lines : List Line) (old new : Puttin
 abbrev pub most_turns : ℕ
 most_turns = 1000000000000000
 
-abbrev pub is_closed : Phase → Bool
-is_closed Closed = true
-is_closed _ = false
-
--- whether all transactions of a station are closed: those that it sends, and those that it receives
-abbrev pub all_closed : StationState → Bool
-all_closed s = list_all (λ known. is_closed known.1) (phases_of s.entity.state.table)
-
 -- whether so many puts were made, and all transactions are closed
 abbrev pub is_done : ℕ → Putting → Bool
 is_done asked p = (p.made == asked) && all_closed p.station
 
--- a run: its station and puts, the wire, how many frames it is to the next one that isn't sent, and
--- the lines of the report so far
+-- a run: its station and puts, the wire, and the lines of the report so far
 pub record Run (W : Type 0) : Type 0 where
   pub putting : Putting
   pub wire : W
-  pub left : ℕ
   pub lines : List Line
 
-abbrev pub sending_of : {W : Type 0} → Run W → Sending W
-sending_of r = record { station = r.putting.station; wire = r.wire; left = r.left }
+abbrev pub port_of : {W : Type 0} → Run W → PortState W
+port_of r = record { station = r.putting.station; wire = r.wire }
 
 -- The station became another one, over its wire, and nothing else of the run changed.
-abbrev pub with_sending : {W : Type 0} → Sending W → Run W → Run W
-with_sending to r = record r {
+abbrev pub with_port : {W : Type 0} → PortState W → Run W → Run W
+with_port to r = record r {
   putting = record r.putting { station = to.station };
   wire = to.wire;
-  left = to.left;
 }
 
 module _ {W : Type 0} (Steps : W → WireCall → W → Type 0) (puts : List PutNames) where
@@ -220,43 +172,40 @@ module _ {W : Type 0} (Steps : W → WireCall → W → Type 0) (puts : List Put
     pub prepares : Prepares puts lines old.putting new.putting
     pub rest : new ≡ record old { putting = new.putting; lines = old.lines ++ lines }
 
-  module _ (every : ℕ) where
-    -- A turn was taken.
-    pub record TakesATurn (old new : Run W) : Type 0 where
-      pub now : ℕ
-      pub to : Sending W
-      pub turn : TakesOne Steps every now (sending_of old) to
-      pub is : new ≡ with_sending to old
+  -- A turn was taken.
+  pub record TakesATurn (old new : Run W) : Type 0 where
+    pub to : PortState W
+    pub turn : TakesOne Steps (port_of old) to
+    pub is : new ≡ with_port to old
 
-    -- There was no memory for part of a turn.
-    pub record TakesPart (old new : Run W) : Type 0 where
-      pub now : ℕ
-      pub to : Sending W
-      pub part : TakesInPart Steps every now (sending_of old) to
-      pub is : new ≡ with_sending to old
+  -- There was no memory for part of a turn.
+  pub record TakesPart (old new : Run W) : Type 0 where
+    pub to : PortState W
+    pub part : TakesInPart Steps (port_of old) to
+    pub is : new ≡ with_port to old
 
-    -- It wasn't over, and one turn more was taken.
-    pub record GoesOnce (old new : Run W) : Type 0 where
-      pub ready : Run W
-      pub asked : Run W
-      pub prepares : GetsReady old ready
-      pub asks : AsksToEnd false ready asked
-      pub turn : TakesATurn asked new
+  -- It wasn't over, and one turn more was taken.
+  pub record GoesOnce (old new : Run W) : Type 0 where
+    pub ready : Run W
+    pub asked : Run W
+    pub prepares : GetsReady old ready
+    pub asks : AsksToEnd false ready asked
+    pub turn : TakesATurn asked new
 
-    -- how turns end, and whether that was for want of memory
-    abbrev pub EndsTurns : Bool → ℕ → (last new : Run W) → Type 0
-    EndsTurns false count last new =
-        ((ready : Run W) × GetsReady last ready × AsksToEnd true ready new)
-        ⊎ ((count ≡ most_turns) × (new ≡ last))
-    EndsTurns true count last new = (ready : Run W) × GetsReady last ready
-        × ((asked : Run W) × AsksToEnd false ready asked × TakesPart asked new)
+  -- how turns end, and whether that was for want of memory
+  abbrev pub EndsTurns : Bool → ℕ → (last new : Run W) → Type 0
+  EndsTurns false count last new =
+      ((ready : Run W) × GetsReady last ready × AsksToEnd true ready new)
+      ⊎ ((count ≡ most_turns) × (new ≡ last))
+  EndsTurns true count last new = (ready : Run W) × GetsReady last ready
+      × ((asked : Run W) × AsksToEnd false ready asked × TakesPart asked new)
 
-    -- Turns were taken until it was over, or memory was wanting.
-    pub record TakesTurns (short : Bool) (old new : Run W) : Type 0 where
-      pub count : ℕ
-      pub last : Run W
-      pub turns : Times GoesOnce count old last
-      pub ends : EndsTurns short count last new
+  -- Turns were taken until it was over, or memory was wanting.
+  pub record TakesTurns (short : Bool) (old new : Run W) : Type 0 where
+    pub count : ℕ
+    pub last : Run W
+    pub turns : Times GoesOnce count old last
+    pub ends : EndsTurns short count last new
 
 -- ---- the whole
 -- how many puts a station was told complete, by these lines
@@ -267,13 +216,6 @@ completed own lines = count_by (is_own_completion own) (told_by lines)
 abbrev pub station_text : (own asked : ℕ) → List Line → List ℕ
 station_text own asked lines = flat_map (line_text own) lines
     ++ count_line (completed own lines) asked
-
--- the exit, by whether memory was wanting, whether a store failed, and how many of how many puts
--- were completed
-abbrev pub station_exit : (short failed : Bool) → (complete asked : ℕ) → Exit
-station_exit short failed complete asked = if short then Device NoMemory
-    else if failed then Device NoMemory
-    else if complete == asked then Complete else Incomplete
 
 -- A report so far: its lines are written; they tell each indication that was let go, in order, and
 -- no other; and so many puts are told complete.
@@ -293,54 +235,46 @@ pub record AddsTo (own count count_now : ℕ) (lines : List Line) (table table_n
   pub complete : count_now ≡ count + completed own lines
 
 -- a run in which nothing was done yet
-abbrev pub starts : {W : Type 0} → Sending W → Run W
+abbrev pub starts : {W : Type 0} → PortState W → Run W
 starts s = record {
   putting = record { station = s.station; made = 0; short = false };
   wire = s.wire;
-  left = s.left;
   lines = [];
 }
 
-module _ {W : Type 0} (Steps : W → WireCall → W → Type 0) (own every : ℕ) (puts : List PutNames)
-  where
-    -- Turns were taken, and what was left to tell was told; that is what was written. So the report
-    -- tells each indication that the station let go, in order, between the answers of puts. Memory
-    -- was wanting where it was for a put or for a turn.
-    pub record Serves (short : Bool) (lines : List Line) (first last : Sending W)
-        (old new : Option (List ℕ)) : Type 0 where
-      pub run : Run W
-      pub halted : Bool
-      pub turns : TakesTurns Steps puts every halted (starts first) run
-      pub station : last.station ≡ once_told run.putting.station
-      pub rest : last ≡ record (sending_of run) { station = last.station }
-      pub says : lines ≡ run.lines ++ map Tells (said_by (table_of run.putting.station))
-      pub all : TellsGone lines (table_of last.station)
-      pub written : Appends old new (station_text own (length puts) lines)
-      pub wants : short ≡ (run.putting.short || halted)
+module _ {W : Type 0} (Steps : W → WireCall → W → Type 0) (own : ℕ) (puts : List PutNames) where
+  -- Turns were taken, and what was left to tell was told; that is what was written. So the report
+  -- tells each indication that the station let go, in order, between the answers of puts. Memory
+  -- was wanting where it was for a put or for a turn.
+  pub record Serves (short : Bool) (lines : List Line) (first last : PortState W)
+      (old new : Option (List ℕ)) : Type 0 where
+    pub run : Run W
+    pub halted : Bool
+    pub turns : TakesTurns Steps puts halted (starts first) run
+    pub station : last.station ≡ once_told run.putting.station
+    pub wire : last.wire ≡ run.wire
+    pub says : lines ≡ run.lines ++ map Tells (said_by (table_of run.putting.station))
+    pub all : TellsGone lines (table_of last.station)
+    pub written : Appends old new (station_text own (length puts) lines)
+    pub wants : short ≡ (run.putting.short || halted)
 
-    -- That happened, and so the run ended.
-    pub record ServesTo (exit : Exit) (first last : Sending W) (old new : Option (List ℕ)) : Type 0
-      where
-        pub short : Bool
-        pub lines : List Line
-        pub serves : Serves short lines first last old new
-        pub ends : exit ≡ station_exit short (more_failures first.station.entity.outbox_failures
-            first.station.entity.inbox_failures last.station last.station)
-            (completed own lines) (length puts)
+  -- That happened, and so the run ended.
+  pub record ServesTo (exit : Exit) (first last : PortState W) (old new : Option (List ℕ)) : Type 0
+    where
+      pub short : Bool
+      pub lines : List Line
+      pub serves : Serves short lines first last old new
+      pub ends : exit ≡ run_exit short (more_failures first.station.entity.outbox_failures
+          first.station.entity.inbox_failures last.station last.station)
+          (completed own lines) (length puts)
 
-    -- It happened from this state; or there was no memory to begin, and nothing is written.
-    abbrev pub EndsFrom : Exit → Sending W → (old new : Option (List ℕ)) → Type 0
-    EndsFrom exit first old new =
-        ((exit ≡ Device NoMemoryAtStart) × Keeps old new)
-        ⊎ ((last : Sending W) × ServesTo exit first last old new)
-
-    -- It happened so from a new station, which has these files to send, which stand or don't, and
-    -- published those before, and whose frames are counted from this number on.
-    abbrev pub EndsStation : (count : ℕ) → Exit → StationConfig → (stands : Bool)
-        → (sources files : FileMap) → W → (old new : Option (List ℕ)) → Type 0
-    EndsStation count exit config stands sources files wire old new =
-        ((exit ≡ Device NoMemoryAtStart) × Keeps old new)
-        ⊎ ((s : StationState) × IsNewAt config stands sources files s
-        × EndsFrom exit
-        (record { station = record s { down = both_counted_from count s.down }; wire = wire; left = every })
-        old new)
+  -- It happened so from a new station, which has these files to send, which stand or don't, and
+  -- published those before, and whose frames are counted from this number on; or there was no
+  -- memory for it, and nothing is written.
+  abbrev pub EndsStation : (count : ℕ) → Exit → StationConfig → (stands : Bool)
+      → (sources files : FileMap) → W → (old new : Option (List ℕ)) → Type 0
+  EndsStation count exit config stands sources files wire old new =
+      ((exit ≡ Device NoMemoryAtStart) × Keeps old new)
+      ⊎ ((s : StationState) × IsNewAt config stands sources files s
+      × ((first : PortState W) × CountsFrom count s first.station × (first.wire ≡ wire)
+      × ((last : PortState W) × ServesTo exit first last old new)))

@@ -1,25 +1,12 @@
 //! A file sent from one folder into another, by two stations over two sockets of this machine.
-use crate::exit::{Exit, Fault};
-use crate::input::Input;
 use crate::looping::held_folder::HeldFolder;
 use crate::looping::request::LoopRequest;
-use crate::looping::{LoopOptions, loop_config, run_loop};
-use crate::report::name::Name;
-use crate::script::sim::Ran;
-use crate::watch::lookout::{Lookout, Passed};
-use crate::watch::onlooker::Onlooker;
-use crate::watch::progress::{Progress, Reception};
-use crate::watch::recorder::Screen;
-use crate::watch::show::shown_status;
-use crate::wire::Wire;
+use crate::looping::telling::{LoopLookout, TellingInbox, TellingOutbox};
+use crate::looping::{LoopEnds, LoopOptions, loop_config, run_loop};
 use crate::wire::udp::UdpWire;
-use cfdp_header::TransactionId;
-use cfdp_station::{Polled, Station};
-use cfdp_store::{
-    FolderError, FolderInbox, FolderOutbox, Inbox, Outbox, SeekingOutbox, StoreError,
-    is_folder_name,
-};
-use link_sim::Side;
+use cfdp_port::{Lookout, LossyWire, Wire};
+use cfdp_report::{Exit, Fault, Input, Name, Onlooker, Progress, Ran, Screen, shown_status};
+use cfdp_store::{FolderError, FolderOutbox, Inbox, Outbox, SeekingOutbox, is_folder_name};
 use past::Past;
 use std::alloc::{AllocError, Global};
 use std::cell::Cell;
@@ -62,12 +49,15 @@ fn from_folder(
     }
 }
 
-/// The sockets that the file goes over, and the folder that it goes into.
+/// The wires of both stations.
+type LossyWires = (LossyWire<UdpWire>, LossyWire<UdpWire>);
+
+/// The wires that the file goes over, and the folder that it goes into.
 ///
 /// # Errors
 ///
 /// The exit status, where something is wrong, which was told on standard error.
-fn way(rt: &HostRuntime, request: &LoopRequest) -> Result<((UdpWire, UdpWire), HeldFolder), u8> {
+fn way(rt: &HostRuntime, request: &LoopRequest) -> Result<(LossyWires, HeldFolder), u8> {
     let from = folder(rt, request.from.as_str())?;
     let to = folder(rt, request.to.as_str())?;
     if from.dev() == to.dev() && from.ino() == to.ino() {
@@ -76,7 +66,11 @@ fn way(rt: &HostRuntime, request: &LoopRequest) -> Result<((UdpWire, UdpWire), H
     }
     let held = HeldFolder::take(rt, request.to.as_str())?;
     match UdpWire::pair(rt) {
-        Ok(wires) => Ok((wires, held)),
+        Ok((one, two)) => {
+            let every = request.drop_every;
+            let wires = (LossyWire::new(one, every), LossyWire::new(two, every));
+            Ok((wires, held))
+        }
         Err(error) => {
             let _ = eprintln!(rt; "error: a socket of 127.0.0.1: {error}");
             Err(DEVICE)
@@ -197,7 +191,7 @@ fn sent_status<O: Outbox>(
 }
 
 /// Says on standard error what failed, unless that was said.
-fn tell_untold(rt: &HostRuntime, exit: Exit, told: &Cell<bool>) {
+pub fn tell_untold(rt: &HostRuntime, exit: Exit, told: &Cell<bool>) {
     if let Exit::Device(fault) = exit
         && !told.get()
     {
@@ -215,7 +209,14 @@ fn sent<O: Outbox, W: Wire>(
     progress: &Progress<'_>,
 ) -> Ran {
     match TellingInbox::new(rt, request.to.as_str(), told, progress) {
-        Ok(inbox) => sent_over(rt, request, outbox, inbox, wires, progress),
+        Ok(inbox) => {
+            let ends = LoopEnds {
+                outbox,
+                inbox,
+                wires,
+            };
+            sent_over(rt, request, ends, progress)
+        }
         Err(AllocError) => Ran::unseen(Exit::Device(Fault::NoMemoryAtStart)),
     }
 }
@@ -225,9 +226,7 @@ fn sent<O: Outbox, W: Wire>(
 fn sent_over<O: Outbox, I: Inbox, W: Wire>(
     rt: &HostRuntime,
     request: &LoopRequest,
-    outbox: O,
-    inbox: I,
-    wires: (W, W),
+    ends: LoopEnds<O, I, W>,
     progress: &Progress<'_>,
 ) -> Ran {
     let screen = Screen {
@@ -237,7 +236,7 @@ fn sent_over<O: Outbox, I: Inbox, W: Wire>(
     match Onlooker::new(screen, loop_config(), &request.shown) {
         Ok(onlooker) => {
             let mut lookout = LoopLookout { onlooker, progress };
-            let exit = reported(rt, request, outbox, inbox, wires, &mut lookout);
+            let exit = reported(rt, request, ends, &mut lookout);
             Ran {
                 exit,
                 seen: lookout.onlooker.into_summary(),
@@ -252,9 +251,7 @@ fn sent_over<O: Outbox, I: Inbox, W: Wire>(
 fn reported<O: Outbox, I: Inbox, W: Wire, L: Lookout>(
     rt: &HostRuntime,
     request: &LoopRequest,
-    outbox: O,
-    inbox: I,
-    wires: (W, W),
+    ends: LoopEnds<O, I, W>,
     lookout: &mut L,
 ) -> Exit {
     let alloc = rt.alloc();
@@ -264,7 +261,7 @@ fn reported<O: Outbox, I: Inbox, W: Wire, L: Lookout>(
     let Ok(mut out) = BufWriter::new(alloc, io::writer(rt)) else {
         return Exit::Device(Fault::NoMemoryAtStart);
     };
-    let exit = run_loop(alloc, options, outbox, inbox, wires, &mut out, lookout);
+    let exit = run_loop(alloc, options, ends, &mut out, lookout);
     // What a failed write left in the buffer is let go: a `BufWriter` would write it once more.
     let _ = out.into_parts();
     exit
@@ -276,225 +273,5 @@ fn options(alloc: Global, request: &LoopRequest) -> Result<LoopOptions, AllocErr
         source: Vec::from_slice(alloc, request.source.as_bytes())?,
         destination: Vec::from_slice(alloc, request.destination.as_bytes())?,
         turns: request.turns,
-        drop_every: request.drop_every,
     })
-}
-
-/// One who looks on at the turns, and says how far the transfer is.
-#[derive(Drop)]
-pub struct LoopLookout<'a> {
-    pub onlooker: Onlooker<'a>,
-    pub progress: &'a Progress<'a>,
-}
-
-impl Lookout for LoopLookout<'_> {
-    fn begins(&mut self, turn: u64) {
-        self.onlooker.begins(turn);
-    }
-
-    fn sees<O: Outbox, I: Inbox>(
-        &mut self,
-        side: Side,
-        passed: Passed<'_>,
-        station: &Station<O, I>,
-    ) {
-        if let Passed::Polled(Polled::Moved) = passed {
-            self.progress.counts_pdu();
-        }
-        self.progress.goes_on();
-        self.onlooker.sees(side, passed, station);
-    }
-
-    fn yields(&mut self) {
-        self.progress.yields();
-    }
-
-    fn ends(&mut self) {
-        self.progress.ends();
-        self.onlooker.ends();
-    }
-}
-
-/// An inbox over a folder, which says on standard error why a call of it failed.
-#[derive(Drop)]
-pub struct TellingInbox<'a> {
-    rt: &'a HostRuntime,
-    folder: &'a str,
-    inbox: FolderInbox<&'a HostRuntime>,
-    /// Whether it said so.
-    told: &'a Cell<bool>,
-    progress: &'a Progress<'a>,
-    reception: Reception<'a>,
-}
-
-impl<'a> TellingInbox<'a> {
-    /// An inbox over this folder, which is there. It sets `told` once it said so.
-    ///
-    /// # Errors
-    ///
-    /// `AllocError` where there is no memory for the folder's name.
-    pub fn new(
-        rt: &'a HostRuntime,
-        folder: &'a str,
-        told: &'a Cell<bool>,
-        progress: &'a Progress<'a>,
-    ) -> Result<TellingInbox<'a>, AllocError> {
-        Ok(TellingInbox {
-            rt,
-            folder,
-            inbox: FolderInbox::new(rt, rt.alloc(), folder)?,
-            told,
-            progress,
-            reception: Reception::new(rt.alloc(), progress),
-        })
-    }
-
-    /// Says why a call failed, if it did, of a file that has no name yet.
-    fn tell_unnamed(&self, answer: Result<(), StoreError>) {
-        if answer.is_err()
-            && let Some(fault) = self.inbox.fault()
-        {
-            self.begins_to_tell();
-            let _ = eprintln!(self.rt; "error: {}: {fault}", self.folder);
-        }
-    }
-
-    /// Says why a file could not be published, if that is so.
-    fn tell(&self, answer: Result<(), StoreError>, name: &[u8]) {
-        if answer.is_err()
-            && let Some(fault) = self.inbox.fault()
-        {
-            self.begins_to_tell();
-            let _ = eprintln!(self.rt; "error: {}/{}: {fault}", self.folder, Name(name));
-        }
-    }
-
-    fn begins_to_tell(&self) {
-        self.told.set(true);
-        self.progress.ends();
-    }
-}
-
-impl<'a> Inbox for TellingInbox<'a> {
-    ghost published = { λ i. ⟦<FolderInbox<&'a HostRuntime> as Inbox>⟧.published i.inbox };
-
-    ghost staged = { λ i. ⟦<FolderInbox<&'a HostRuntime> as Inbox>⟧.staged i.inbox };
-
-    ghost failures = { λ i. ⟦<FolderInbox<&'a HostRuntime> as Inbox>⟧.failures i.inbox };
-
-    ghost steps = { λ i call j. ⟦<FolderInbox<&'a HostRuntime> as Inbox>⟧.steps i.inbox call
-        j.inbox };
-
-    fn begin(&mut self, id: TransactionId) -> Result<(), StoreError> {
-        self.reception.begins(id);
-        let answer = self.inbox.begin(id);
-        self.tell_unnamed(answer);
-        answer
-    }
-
-    fn write(&mut self, id: TransactionId, offset: u64, octets: &[u8]) -> Result<(), StoreError> {
-        self.reception.notes(id, offset, octets.len());
-        let answer = self.inbox.write(id, offset, octets);
-        self.tell_unnamed(answer);
-        answer
-    }
-
-    fn publish(&mut self, id: TransactionId, name: &[u8], size: u64) -> Result<(), StoreError> {
-        let answer = self.inbox.publish(id, name, size);
-        self.tell(answer, name);
-        answer
-    }
-
-    fn discard(&mut self, id: TransactionId) -> Result<(), StoreError> {
-        let answer = self.inbox.discard(id);
-        self.tell_unnamed(answer);
-        answer
-    }
-
-    fn failures(&self) -> u64 {
-        self.inbox.failures()
-    }
-}
-
-/// An outbox over a folder, which says on standard error why a file of it can't be sent.
-#[derive(Drop)]
-pub struct TellingOutbox<'a> {
-    rt: &'a HostRuntime,
-    folder: &'a str,
-    outbox: FolderOutbox<&'a HostRuntime>,
-    /// Whether it said so.
-    told: &'a Cell<bool>,
-    progress: &'a Progress<'a>,
-}
-
-impl<'a> TellingOutbox<'a> {
-    /// One over this outbox of this folder. It sets `told` once it said so.
-    pub fn over(
-        rt: &'a HostRuntime,
-        folder: &'a str,
-        outbox: FolderOutbox<&'a HostRuntime>,
-        told: &'a Cell<bool>,
-        progress: &'a Progress<'a>,
-    ) -> TellingOutbox<'a> {
-        TellingOutbox {
-            rt,
-            folder,
-            outbox,
-            told,
-            progress,
-        }
-    }
-
-    /// Says why the last call failed, which was of this file.
-    fn tell(&self, name: &[u8]) {
-        if let Some(fault) = self.outbox.fault() {
-            self.told.set(true);
-            self.progress.yields();
-            let _ = eprintln!(self.rt; "error: {}/{}: {fault}", self.folder, Name(name));
-        }
-    }
-}
-
-impl<'a> Outbox for TellingOutbox<'a> {
-    ghost files = { λ o. ⟦<FolderOutbox<&'a HostRuntime> as Outbox>⟧.files o.outbox };
-
-    ghost stands = { λ o. ⟦<FolderOutbox<&'a HostRuntime> as Outbox>⟧.stands o.outbox };
-
-    ghost failures = { λ o. ⟦<FolderOutbox<&'a HostRuntime> as Outbox>⟧.failures o.outbox };
-
-    ghost steps = { λ o call p. ⟦<FolderOutbox<&'a HostRuntime> as Outbox>⟧.steps o.outbox call
-        p.outbox };
-
-    fn len(&mut self, name: &[u8]) -> Result<Option<u64>, StoreError> {
-        let answer = self.outbox.len(name);
-        if answer.is_err() {
-            self.tell(name);
-        }
-        answer
-    }
-
-    fn read(&mut self, name: &[u8], offset: u64, out: &mut [u8]) -> Result<(), StoreError> {
-        let answer = self.outbox.read(name, offset, out);
-        if answer.is_err() {
-            self.tell(name);
-        }
-        answer
-    }
-
-    fn failures(&self) -> u64 {
-        self.outbox.failures()
-    }
-}
-
-impl<'a> SeekingOutbox for TellingOutbox<'a> {
-    ghost answers = { λ name answer. ⟦<FolderOutbox<&'a HostRuntime> as SeekingOutbox>⟧.answers
-        name answer };
-
-    fn look_for(&mut self, name: &[u8]) -> Result<bool, StoreError> {
-        let answer = self.outbox.look_for(name);
-        if answer.is_err() {
-            self.tell(name);
-        }
-        answer
-    }
 }

@@ -5,10 +5,11 @@ ghost use Rattle.clap.specs.Walk.{rows_of, rule_of};
 ghost use Rattle.cfdp_node.specs.Looping.Request.{drop_rule, files_app, folders_app, loop_app, loop_asked, loop_of, number_of_word, numbers_app, place_rule, tuned_rule, turns_rule, words_asked};
 ghost use Rattle.cfdp_node.specs.Looping.Request as requests;
 ghost use Rattle.cfdp_node.specs.Request.{IsCommand};
-ghost use Rattle.cfdp_node.specs.Watch.Shown.{asked_shown, shown_of};
+ghost use Rattle.cfdp_node.specs.Shown.{asked_shown, shown_of};
 
 use crate::arguments::word_of;
-use crate::watch::shown::{Shown, shown_by, shown_command};
+use crate::shown::{shown_by, shown_command};
+use cfdp_report::Shown;
 use clap::{Arg, ArgMatches, Command, value_parser};
 use std::alloc::{AllocError, Global};
 

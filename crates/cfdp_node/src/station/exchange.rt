@@ -6,8 +6,6 @@ use std::io::ErrorKind;
 /// What the socket of a station and those who look on tell each other.
 #[derive(Drop)]
 pub struct Exchange {
-    /// The time at which nothing waited in the socket last, in nanoseconds since its start.
-    pub drained: Cell<u64>,
     /// Whether the peer seems to be set up otherwise: frames or PDUs of its came that aren't for
     /// this station, or its beacon said so.
     pub differs: Cell<bool>,
@@ -23,7 +21,6 @@ impl Exchange {
     /// Before the first turn.
     pub fn new() -> Exchange {
         Exchange {
-            drained: Cell::new(0),
             differs: Cell::new(false),
             beacon: Cell::new(None),
             failed: Cell::new(None),

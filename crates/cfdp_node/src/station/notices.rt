@@ -1,11 +1,11 @@
 //! What an operator is told on standard error while a station runs.
-use crate::looping::folders::LoopLookout;
+use crate::looping::telling::LoopLookout;
 use crate::station::beacon::Beacon;
 use crate::station::exchange::Exchange;
-use crate::watch::lookout::{Lookout, Passed};
 use crate::wire::peer_socket::frame_len;
 use cfdp_directives::{Indication, Phase};
 use cfdp_header::TransactionId;
+use cfdp_port::{Lookout, Passed};
 use cfdp_station::{EntityDrop, FrameError, LinkDrop, Station, StationConfig};
 use cfdp_store::{Inbox, Outbox};
 use link_sim::Side;
@@ -174,7 +174,7 @@ impl<'a> Notices<'a> {
     /// Tells what was dropped.
     fn tell_drops<O: Outbox, I: Inbox>(&mut self, now: u64, station: &Station<O, I>) {
         for (place, by) in LinkDrop::ALL.iter().enumerate() {
-            if self.link[place].grows(station.link_drops(by.number())) && is_misfit(*by) {
+            if self.link[place].grows(station.link_drops(*by)) && is_misfit(*by) {
                 self.exchange.differs.set(true);
             }
             if is_wrong(*by)
@@ -189,7 +189,7 @@ impl<'a> Notices<'a> {
     fn tell_pdu_drops<O: Outbox, I: Inbox>(&mut self, now: u64, station: &Station<O, I>) {
         let is_full = station.records_left() == 0;
         for (place, by) in EntityDrop::ALL.iter().enumerate() {
-            if self.pdus[place].grows(station.drops(by.number())) && *by == EntityDrop::NotForUs {
+            if self.pdus[place].grows(station.drops(*by)) && *by == EntityDrop::NotForUs {
                 self.exchange.differs.set(true);
             }
             if !is_told(*by, is_full) {

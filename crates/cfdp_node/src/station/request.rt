@@ -7,7 +7,8 @@ ghost use Rattle.cfdp_node.specs.Station.Request.{addresses_app, first_number_ru
 
 use crate::arguments::{file_for, owned_word, word_of};
 use crate::looping::request::{drop_argument, number_in, tuned};
-use crate::watch::shown::{Shown, shown_by, shown_command};
+use crate::shown::{shown_by, shown_command};
+use cfdp_report::Shown;
 use clap::{Arg, ArgAction, ArgMatches, Command, value_parser};
 use std::alloc::{AllocError, Global};
 

@@ -3,28 +3,22 @@ ghost use Rattle.std.specs.Io.Buffered.{writer_buffer, writer_contents};
 ghost use Rattle.std.specs.Io.KnownBytes.{Appends};
 ghost use Rattle.std.specs.List.{flat_map};
 ghost use Rattle.std.specs.Prelude.{◌≡◌, ◌+◌, ◌<◌, ◌≤◌, ◌==◌, ◌&&◌, Bool, List, [], Option, count_by, false, length, not, IfOk, OnOk};
-ghost use Rattle.cfdp_node.specs.Exit.{IsFlushedAt};
-ghost use Rattle.cfdp_node.specs.Looping.Turns.{IsTold, Puts};
-ghost use Rattle.cfdp_node.specs.Report.Lines.{answer_text, indication_line, is_own_completion};
-ghost use Rattle.cfdp_node.specs.declared.report.answer.Answer.{Answer};
-ghost use Rattle.cfdp_node.specs.Station.Serving.{AddsTo, Answers, EndsFrom, EndsStation, Gains, IsReport, Line, MakesMore, MakesNext, MakesPut, Prepares, PutsFile, Serves, ServesTo, TakesTurns, all_closed, completed, line_text, once_told, said_by, starts, station_exit, table_of, told_by};
-ghost use Rattle.cfdp_node.specs.Station.Serving as spec;
-ghost use Rattle.cfdp_node.specs.Wire.Calls.{Rested};
-ghost use Rattle.cfdp_node.specs.Wire.Turn.{FitsFrames, HasZones};
+ghost use Rattle.cfdp_report.specs.Exit.{IsFlushedAt};
+ghost use Rattle.cfdp_node.specs.Looping.Turns.{IsTold};
+ghost use Rattle.cfdp_report.specs.Report.Lines.{answer_text, indication_line, is_own_completion};
+ghost use Rattle.cfdp_report.specs.declared.report.answer.Answer.{Answer};
+ghost use Rattle.cfdp_node.specs.Station.Serving.{AddsTo, Answers, EndsStation, IsReport, Line, MakesMore, MakesNext, MakesPut, Prepares, PutsFile, Serves, ServesTo, TakesTurns, completed, line_text, once_told, said_by, starts, told_by};
+ghost use Rattle.cfdp_port.specs.Calls.{Rested};
+ghost use Rattle.cfdp_port.specs.Gains.{Gains};
+ghost use Rattle.cfdp_port.specs.Port.{AtStation, all_closed, table_of};
 ghost use Rattle.cfdp_station.specs.Config.{IsStationConfig};
 
 use crate::dropping::let_go;
-use crate::exit::{Exit, Fault};
-use crate::looping::{Ended, Turning, have_failed, refused, write_count};
-use crate::report::answer::Answered;
-use crate::report::{own_completions, write_answer, write_indications};
-use crate::station::turning::take_turn;
-use crate::watch::lookout::{Lookout, Passed};
-use crate::wire::PeerWire;
-use cfdp_directives::Phase;
-use cfdp_entity::an_entity_goes_on;
+use crate::looping::{Ended, have_failed, refused, write_count};
 use cfdp_header::TransactionId;
-use cfdp_station::{PutError, Station, StationConfig};
+use cfdp_port::{Lookout, PeerWire, Port, Wire};
+use cfdp_report::{Answered, Exit, Fault, own_completions, write_answer, write_indications};
+use cfdp_station::{PutError, StationConfig};
 use cfdp_store::{Inbox, Outbox, SeekingOutbox};
 use link_sim::Side;
 use std::alloc::{AllocError, Global};
@@ -49,16 +43,16 @@ pub struct StationOptions {
     pub frame_count: u32,
     /// The files that it sends, in the order of their puts.
     pub puts: Vec<PutNames>,
-    /// Of the frames that leave it each so-manieth is not sent; with 0 all are.
-    pub drop_every: u64,
     /// What it is to one who looks on.
     pub side: Side,
 }
 
-/// A clock that tells a station the time.
-pub trait Clock: Drop {
-    /// The time now, in the units of the station's timers.
-    fn now(&mut self) -> u64;
+/// What a station sends from and receives into, and over what.
+#[derive(Drop)]
+pub struct StationEnds<O: SeekingOutbox, I: Inbox, W: PeerWire> {
+    pub outbox: O,
+    pub inbox: I,
+    pub wire: W,
 }
 
 /// What was done of a run.
@@ -90,83 +84,48 @@ const MOST_TURNS: u64 = 1_000_000_000_000_000;
 /// A want of memory ends it, and is told as `Device` with the report; so is a store that failed.
 /// Where there is none for the station, nothing is written. Of a report that can't be written to
 /// its end nothing is said. Who looks on sees all that passes.
-pub fn run_station<O: SeekingOutbox, I: Inbox, W: PeerWire, C: Clock, V: Write + Drop, L: Lookout>(
+pub fn run_station<O: SeekingOutbox, I: Inbox, W: PeerWire, V: Write + Drop, L: Lookout>(
     alloc: Global,
     options: StationOptions,
-    outbox: O,
-    inbox: I,
-    wire: W,
-    clock: C,
+    ends: StationEnds<O, I, W>,
     out: &mut BufWriter<V>,
     lookout: &mut L,
 ) -> Exit
     requires { IsStationConfig options.config }
     ensures ends { IsTold result (EndsStation W.steps options.config.entity.entity
-        options.drop_every options.puts.items options.frame_count result options.config
-        (O.stands outbox) (O.files outbox) (I.published inbox) wire
+        options.puts.items options.frame_count result options.config (O.stands ends.outbox)
+        (O.files ends.outbox) (I.published ends.inbox) ends.wire
         (writer_contents V.contents out.old) (writer_contents V.contents out.new)) }
     ensures flushed { IsFlushedAt result (writer_buffer out.new) }
 {
-    run_new(alloc, &options, outbox, inbox, wire, clock, out, lookout).flushed(out)
+    run_new(alloc, &options, ends, out, lookout).flushed(out)
 }
 
 /// Makes the station, and runs it. The writer isn't flushed at the end.
-fn run_new<O: SeekingOutbox, I: Inbox, W: PeerWire, C: Clock, V: Write, L: Lookout>(
+fn run_new<O: SeekingOutbox, I: Inbox, W: PeerWire, V: Write, L: Lookout>(
     alloc: Global,
     options: &StationOptions,
-    outbox: O,
-    inbox: I,
-    wire: W,
-    clock: C,
+    ends: StationEnds<O, I, W>,
     out: &mut V,
     lookout: &mut L,
 ) -> Exit
     requires { IsStationConfig options.now.config }
     ensures { IsTold result (EndsStation W.steps options.now.config.entity.entity
-        options.now.drop_every options.now.puts.items options.now.frame_count result
-        options.now.config (O.stands outbox) (O.files outbox) (I.published inbox) wire
+        options.now.puts.items options.now.frame_count result options.now.config
+        (O.stands ends.outbox) (O.files ends.outbox) (I.published ends.inbox) ends.wire
         (V.contents out.old) (V.contents out.new)) }
 {
-    match Station::new(alloc, options.config, outbox, inbox) {
-        Ok(mut station) => {
-            station.count_frames_from(options.frame_count);
-            let exit = run_on(alloc, options, &mut station, wire, clock, out, lookout);
-            let_go(station);
+    let StationEnds {
+        outbox,
+        inbox,
+        wire,
+    } = ends;
+    match Port::new(alloc, options.side, options.config, (outbox, inbox), wire) {
+        Ok(mut port) => {
+            port.count_frames_from(options.frame_count);
+            let exit = run_all(options, &mut port, out, lookout);
+            let_go(port);
             exit
-        }
-        Err(AllocError) => Exit::Device(Fault::NoMemoryAtStart),
-    }
-}
-
-/// Makes what turns need, and runs a station that did nothing yet.
-fn run_on<O: SeekingOutbox, I: Inbox, W: PeerWire, C: Clock, V: Write, L: Lookout>(
-    alloc: Global,
-    options: &StationOptions,
-    station: &mut Station<O, I>,
-    wire: W,
-    clock: C,
-    out: &mut V,
-    lookout: &mut L,
-) -> Exit
-    requires zones { HasZones station.old.down }
-    requires none { (table_of station.old).gone ≡ 0 }
-    ensures { IsTold result (EndsFrom W.steps options.now.config.entity.entity
-        options.now.drop_every options.now.puts.items result
-        (record { station = station.old; wire = wire; left = options.now.drop_every })
-        (V.contents out.old) (V.contents out.new)) }
-{
-    match Turning::new(alloc, station.frame_len(), options.drop_every) {
-        Ok(mut turning) => {
-            let mut wire = wire;
-            run_all(
-                options,
-                station,
-                &mut wire,
-                clock,
-                &mut turning,
-                out,
-                lookout,
-            )
         }
         Err(AllocError) => Exit::Device(Fault::NoMemoryAtStart),
     }
@@ -174,36 +133,25 @@ fn run_on<O: SeekingOutbox, I: Inbox, W: PeerWire, C: Clock, V: Write, L: Lookou
 
 /// Runs a station that did nothing yet, and tells how that ended. The station and its wire are left
 /// as what is told left them.
-pub fn run_all<O: SeekingOutbox, I: Inbox, W: PeerWire, C: Clock, V: Write, L: Lookout>(
+pub fn run_all<O: SeekingOutbox, I: Inbox, W: PeerWire, V: Write, L: Lookout>(
     options: &StationOptions,
-    station: &mut Station<O, I>,
-    wire: &mut W,
-    clock: C,
-    turning: &mut Turning,
+    port: &mut Port<O, I, W>,
     out: &mut V,
     lookout: &mut L,
 ) -> Exit
-    requires fits { FitsFrames (length turning.old.frame.items) station.old }
-    requires none { (table_of station.old).gone ≡ 0 }
+    requires { (table_of port.old.station).gone ≡ 0 }
     ensures { IsTold result (ServesTo W.steps options.now.config.entity.entity
-        turning.old.losses.every options.now.puts.items result
-        (record { station = station.old; wire = wire.old; left = turning.old.losses.left })
-        (record { station = station.new; wire = wire.new; left = turning.new.losses.left })
-        (V.contents out.old) (V.contents out.new)) }
+        options.now.puts.items result port.old port.new (V.contents out.old)
+        (V.contents out.new)) }
 {
-    let mut clock = clock;
-    let (read, written) = (station.outbox().failures(), station.inbox().failures());
-    let served = serve(options, station, wire, &mut clock, turning, out, lookout);
+    let (read, written) = (port.outbox_failures(), port.inbox_failures());
+    let served = serve(options, port, out, lookout);
     lookout.ends();
     match served {
         Ok(served) => {
-            let failed = have_failed(station, station, read, written);
-            exit(
-                served.short,
-                failed,
-                served.complete,
-                options.puts.as_slice().len(),
-            )
+            let failed = have_failed(port, port, read, written);
+            let asked = options.puts.as_slice().len();
+            Exit::of_run(served.short, failed, served.complete, asked)
         }
         Err(_) => Exit::Device(Fault::Unwritable),
     }
@@ -214,23 +162,16 @@ pub fn run_all<O: SeekingOutbox, I: Inbox, W: PeerWire, C: Clock, V: Write, L: L
 /// # Errors
 ///
 /// That of the writer.
-fn serve<O: SeekingOutbox, I: Inbox, W: PeerWire, C: Clock, V: Write, L: Lookout>(
+fn serve<O: SeekingOutbox, I: Inbox, W: PeerWire, V: Write, L: Lookout>(
     options: &StationOptions,
-    station: &mut Station<O, I>,
-    wire: &mut W,
-    clock: &mut C,
-    turning: &mut Turning,
+    port: &mut Port<O, I, W>,
     out: &mut V,
     lookout: &mut L,
 ) -> io::Result<Served>
-    requires fits { FitsFrames (length turning.old.frame.items) station.old }
-    requires none { (table_of station.old).gone ≡ 0 }
+    requires { (table_of port.old.station).gone ≡ 0 }
     ensures { IfOk result (λ served. (lines : List Line)
-        × Serves W.steps options.now.config.entity.entity turning.old.losses.every
-        options.now.puts.items served.short lines
-        (record { station = station.old; wire = wire.old; left = turning.old.losses.left })
-        (record { station = station.new; wire = wire.new; left = turning.new.losses.left })
-        (V.contents out.old) (V.contents out.new)
+        × Serves W.steps options.now.config.entity.entity options.now.puts.items served.short lines
+        port.old port.new (V.contents out.old) (V.contents out.new)
         × (served.complete ≡ completed options.now.config.entity.entity lines)) }
 {
     let mut served = Served {
@@ -238,18 +179,9 @@ fn serve<O: SeekingOutbox, I: Inbox, W: PeerWire, C: Clock, V: Write, L: Lookout
         short: false,
         complete: 0,
     };
-    let halted = take_turns(
-        options,
-        station,
-        wire,
-        clock,
-        turning,
-        &mut served,
-        out,
-        lookout,
-    )?;
+    let halted = serve_turns(options, port, &mut served, out, lookout)?;
     let own = options.config.entity.entity;
-    tell(own, station, &mut served.complete, out, lookout)?;
+    tell(own, port, &mut served.complete, out, lookout)?;
     write_count(out, served.complete, options.puts.as_slice().len())?;
     served.short |= halted;
     Ok(served)
@@ -261,47 +193,37 @@ fn serve<O: SeekingOutbox, I: Inbox, W: PeerWire, C: Clock, V: Write, L: Lookout
 /// # Errors
 ///
 /// That of the writer.
-fn take_turns<O: SeekingOutbox, I: Inbox, W: PeerWire, C: Clock, V: Write, L: Lookout>(
+fn serve_turns<O: SeekingOutbox, I: Inbox, W: PeerWire, V: Write, L: Lookout>(
     options: &StationOptions,
-    station: &mut Station<O, I>,
-    wire: &mut W,
-    clock: &mut C,
-    turning: &mut Turning,
+    port: &mut Port<O, I, W>,
     served: &mut Served,
     out: &mut V,
     lookout: &mut L,
 ) -> io::Result<bool>
-    requires fits { FitsFrames (length turning.old.frame.items) station.old }
-    requires none { (table_of station.old).gone ≡ 0 }
+    requires none { (table_of port.old.station).gone ≡ 0 }
     requires begins { (served.old.made ≡ 0) × (served.old.short ≡ false)
         × (served.old.complete ≡ 0) }
     ensures { IfOk result (λ halted. (lines : List Line)
-        × TakesTurns W.steps options.now.puts.items turning.old.losses.every halted
-        (starts (record {
-          station = station.old;
-          wire = wire.old;
-          left = turning.old.losses.left;
-        }))
+        × TakesTurns W.steps options.now.puts.items halted (starts port.old)
         (record {
           putting = record {
-            station = station.new;
+            station = port.new.station;
             made = served.new.made;
             short = served.new.short;
           };
-          wire = wire.new;
-          left = turning.new.losses.left;
+          wire = port.new.wire;
           lines = lines;
         })
         × IsReport options.now.config.entity.entity served.new.complete lines
-        (table_of station.new) (V.contents out.old) (V.contents out.new)) }
+        (table_of port.new.station) (V.contents out.old) (V.contents out.new)) }
 {
     for before in 0..MOST_TURNS {
-        prepare(options, station, served, out, lookout)?;
-        if is_over(station, are_all_made(options, served), wire) {
+        prepare(options, port, served, out, lookout)?;
+        if is_over(port, are_all_made(options, served)) {
             return Ok(false);
         }
         lookout.begins(before + 1);
-        match take_turn(options.side, station, wire, turning, clock, lookout) {
+        match port.turn(lookout) {
             Ok(()) => {}
             Err(AllocError) => return Ok(true),
         }
@@ -315,28 +237,28 @@ fn take_turns<O: SeekingOutbox, I: Inbox, W: PeerWire, C: Clock, V: Write, L: Lo
 /// # Errors
 ///
 /// That of the writer.
-fn prepare<O: SeekingOutbox, I: Inbox, V: Write, L: Lookout>(
+fn prepare<O: SeekingOutbox, I: Inbox, W: PeerWire, V: Write, L: Lookout>(
     options: &StationOptions,
-    station: &mut Station<O, I>,
+    port: &mut Port<O, I, W>,
     served: &mut Served,
     out: &mut V,
     lookout: &mut L,
 ) -> io::Result<()>
-    requires few { (table_of station.old).gone ≤ length (table_of station.old).told }
-    requires low { served.old.complete ≤ (table_of station.old).gone }
+    requires few { (table_of port.old.station).gone ≤ length (table_of port.old.station).told }
+    requires low { served.old.complete ≤ (table_of port.old.station).gone }
     ensures prepares { OnOk result ((lines : List Line)
         × Prepares options.now.puts.items lines
-        (record { station = station.old; made = served.old.made; short = served.old.short })
-        (record { station = station.new; made = served.new.made; short = served.new.short })
+        (record { station = port.old.station; made = served.old.made; short = served.old.short })
+        (record { station = port.new.station; made = served.new.made; short = served.new.short })
         × AddsTo options.now.config.entity.entity served.old.complete served.new.complete lines
-        (table_of station.old) (table_of station.new) (V.contents out.old) (V.contents out.new)) }
-    ensures down { OnOk result (station.new.down ≡ station.old.down) }
+        (table_of port.old.station) (table_of port.new.station) (V.contents out.old)
+        (V.contents out.new)) }
+    ensures wire { port.new.wire ≡ port.old.wire }
 {
-    make_puts(options, station, served, out, lookout)?;
+    make_puts(options, port, served, out, lookout)?;
     let own = options.config.entity.entity;
-    tell(own, station, &mut served.complete, out, lookout)?;
-    // Where there is no memory to note that one is over, its record stays.
-    let _ = station.forget_closed();
+    tell(own, port, &mut served.complete, out, lookout)?;
+    port.forget_closed();
     Ok(())
 }
 
@@ -346,27 +268,27 @@ fn prepare<O: SeekingOutbox, I: Inbox, V: Write, L: Lookout>(
 /// # Errors
 ///
 /// That of the writer.
-fn make_puts<O: SeekingOutbox, I: Inbox, V: Write, L: Lookout>(
+fn make_puts<O: SeekingOutbox, I: Inbox, W: PeerWire, V: Write, L: Lookout>(
     options: &StationOptions,
-    station: &mut Station<O, I>,
+    port: &mut Port<O, I, W>,
     served: &mut Served,
     out: &mut V,
     lookout: &mut L,
 ) -> io::Result<()>
     ensures made { OnOk result ((lines : List Line)
         × MakesMore options.now.puts.items lines
-        (record { station = station.old; made = served.old.made; short = served.old.short })
-        (record { station = station.new; made = served.new.made; short = served.new.short })
+        (record { station = port.old.station; made = served.old.made; short = served.old.short })
+        (record { station = port.new.station; made = served.new.made; short = served.new.short })
         × (told_by lines ≡ [])
         × Appends (V.contents out.old) (V.contents out.new)
         (flat_map (line_text options.now.config.entity.entity) lines)) }
-    ensures gains { Gains (table_of station.old) (table_of station.new) }
+    ensures gains { Gains (table_of port.old.station) (table_of port.new.station) }
     ensures complete { served.new.complete ≡ served.old.complete }
-    ensures down { station.new.down ≡ station.old.down }
+    ensures wire { port.new.wire ≡ port.old.wire }
 {
     let puts = options.puts.as_slice();
-    while served.made < puts.len() && station.records_left() > LEFT_FREE {
-        make_next(options.side, station, puts, served, out, lookout)?;
+    while served.made < puts.len() && port.station().records_left() > LEFT_FREE {
+        make_next(port, puts, served, out, lookout)?;
     }
     Ok(())
 }
@@ -376,9 +298,8 @@ fn make_puts<O: SeekingOutbox, I: Inbox, V: Write, L: Lookout>(
 /// # Errors
 ///
 /// That of the writer.
-fn make_next<O: SeekingOutbox, I: Inbox, V: Write, L: Lookout>(
-    side: Side,
-    station: &mut Station<O, I>,
+fn make_next<O: SeekingOutbox, I: Inbox, W: PeerWire, V: Write, L: Lookout>(
+    port: &mut Port<O, I, W>,
     puts: &[PutNames],
     served: &mut Served,
     out: &mut V,
@@ -387,16 +308,16 @@ fn make_next<O: SeekingOutbox, I: Inbox, V: Write, L: Lookout>(
     requires { served.old.made < length puts.now }
     ensures makes { OnOk result ((told : Option Answer)
         × MakesNext puts.now (Answers (served.old.made + 1) told)
-        (record { station = station.old; made = served.old.made; short = served.old.short })
-        (record { station = station.new; made = served.new.made; short = served.new.short })
+        (record { station = port.old.station; made = served.old.made; short = served.old.short })
+        (record { station = port.new.station; made = served.new.made; short = served.new.short })
         × Appends (V.contents out.old) (V.contents out.new)
         (answer_text (served.old.made + 1) told)) }
     ensures made { served.new.made ≡ served.old.made + 1 }
     ensures complete { served.new.complete ≡ served.old.complete }
-    ensures gains { Gains (table_of station.old) (table_of station.new) }
-    ensures down { station.new.down ≡ station.old.down }
+    ensures gains { Gains (table_of port.old.station) (table_of port.new.station) }
+    ensures wire { port.new.wire ≡ port.old.wire }
 {
-    let made = make_put(side, station, &puts[served.made], lookout);
+    let made = make_put(port, &puts[served.made], lookout);
     served.made += 1;
     served.short |= made.short;
     write_answer(
@@ -409,25 +330,20 @@ fn make_next<O: SeekingOutbox, I: Inbox, V: Write, L: Lookout>(
 }
 
 /// Makes a put of the file as it is now, and answers why it was refused, if it was.
-fn make_put<O: SeekingOutbox, I: Inbox, L: Lookout>(
-    side: Side,
-    station: &mut Station<O, I>,
+fn make_put<O: SeekingOutbox, I: Inbox, W: PeerWire, L: Lookout>(
+    port: &mut Port<O, I, W>,
     names: &PutNames,
     lookout: &mut L,
 ) -> Ended
-    ensures makes { MakesPut names.now.source.items names.now.destination.items result.answer
-        result.short station.old station.new }
-    ensures gains { Gains (table_of station.old) (table_of station.new) }
-    ensures down { station.new.down ≡ station.old.down }
+    ensures makes { AtStation (MakesPut names.now.source.items names.now.destination.items
+        result.answer result.short) port.old port.new }
+    ensures gains { Gains (table_of port.old.station) (table_of port.new.station) }
 {
-    match put_file(station, names) {
-        Ok(_) => {
-            lookout.sees(side, Passed::Put, station);
-            Ended {
-                answer: None,
-                short: false,
-            }
-        }
+    match put_file(port, names, lookout) {
+        Ok(_) => Ended {
+            answer: None,
+            short: false,
+        },
         Err(error) => {
             lookout.yields();
             refused(error)
@@ -436,33 +352,23 @@ fn make_put<O: SeekingOutbox, I: Inbox, L: Lookout>(
 }
 
 /// Looks for a file, and makes its put.
-fn put_file<O: SeekingOutbox, I: Inbox>(
-    station: &mut Station<O, I>,
+fn put_file<O: SeekingOutbox, I: Inbox, W: PeerWire, L: Lookout>(
+    port: &mut Port<O, I, W>,
     names: &PutNames,
+    lookout: &mut L,
 ) -> Result<TransactionId, PutError>
-    ensures puts { PutsFile names.now.source.items names.now.destination.items result
-        station.old station.new }
-    ensures gains { Gains (table_of station.old) (table_of station.new) }
-    ensures down { station.new.down ≡ station.old.down }
+    ensures puts { AtStation (PutsFile names.now.source.items names.now.destination.items result)
+        port.old port.new }
+    ensures gains { Gains (table_of port.old.station) (table_of port.new.station) }
 {
-    match station.look_for(names.source.as_slice()) {
-        Ok(_) => put_found(station, names),
+    match port.look_for(names.source.as_slice()) {
+        Ok(_) => port.put(
+            names.source.as_slice(),
+            names.destination.as_slice(),
+            lookout,
+        ),
         Err(_) => Err(PutError::SourceFault),
     }
-}
-
-/// Makes the put of a file that was looked for.
-fn put_found<O: Outbox, I: Inbox>(
-    station: &mut Station<O, I>,
-    names: &PutNames,
-) -> Result<TransactionId, PutError>
-    ensures puts { Puts names.now.source.items names.now.destination.items result
-        station.old station.new }
-    ensures gains { Gains (table_of station.old) (table_of station.new) }
-    ensures down { station.new.down ≡ station.old.down }
-{
-    an_entity_goes_on();
-    station.put(names.source.as_slice(), names.destination.as_slice())
 }
 
 /// Whether all puts were made.
@@ -474,34 +380,15 @@ fn are_all_made(options: &StationOptions, served: &Served) -> bool
 
 /// Whether all puts were made, all transactions of a station are closed, and the wire has been
 /// silent for long enough.
-fn is_over<O: Outbox, I: Inbox, W: PeerWire>(
-    station: &Station<O, I>,
-    are_made: bool,
-    wire: &mut W,
-) -> bool
-    ensures { (answer : Bool)
-        × W.steps wire.old (Rested (not (are_made && all_closed station.now)) answer) wire.new
-        × (result ≡ (answer && (are_made && all_closed station.now))) }
+fn is_over<O: Outbox, I: Inbox, W: PeerWire>(port: &mut Port<O, I, W>, are_made: bool) -> bool
+    ensures over { (answer : Bool)
+        × W.steps port.old.wire (Rested (not (are_made && all_closed port.old.station)) answer)
+        port.new.wire
+        × (result ≡ (answer && (are_made && all_closed port.old.station))) }
+    ensures station { port.new.station ≡ port.old.station }
 {
-    let is_done = are_made && are_all_closed(station);
-    wire.is_silent(!is_done) && is_done
-}
-
-/// Whether all transactions of a station are closed.
-fn are_all_closed<O: Outbox, I: Inbox>(station: &Station<O, I>) -> bool
-    ensures { result ≡ all_closed station.now }
-{
-    station.transactions().all(|known| is_closed(known.1))
-}
-
-/// Whether a transaction that has come so far is closed.
-fn is_closed(phase: Phase) -> bool
-    ensures { result ≡ spec.is_closed phase }
-{
-    match phase {
-        Phase::Closed => true,
-        Phase::Sending | Phase::Cancelling | Phase::Receiving | Phase::Finishing => false,
-    }
+    let is_done = are_made && port.are_all_closed();
+    port.is_silent(!is_done) && is_done
 }
 
 /// Writes what a station told its user, lets it leave the buffer, and lets it go; and counts the
@@ -511,24 +398,25 @@ fn is_closed(phase: Phase) -> bool
 /// # Errors
 ///
 /// That of the writer.
-fn tell<O: Outbox, I: Inbox, V: Write, L: Lookout>(
+fn tell<O: Outbox, I: Inbox, W: Wire, V: Write, L: Lookout>(
     own: u64,
-    station: &mut Station<O, I>,
+    port: &mut Port<O, I, W>,
     complete: &mut usize,
     out: &mut V,
     lookout: &mut L,
 ) -> io::Result<()>
-    requires few { (table_of station.old).gone ≤ length (table_of station.old).told }
-    requires low { complete.old ≤ (table_of station.old).gone }
-    ensures station { OnOk result (station.new ≡ once_told station.old) }
+    requires few { (table_of port.old.station).gone ≤ length (table_of port.old.station).told }
+    requires low { complete.old ≤ (table_of port.old.station).gone }
+    ensures station { OnOk result (port.new.station ≡ once_told port.old.station) }
+    ensures wire { port.new.wire ≡ port.old.wire }
     ensures complete { OnOk result (complete.new ≡ complete.old
-        + count_by (is_own_completion own) (said_by (table_of station.old))) }
+        + count_by (is_own_completion own) (said_by (table_of port.old.station))) }
     ensures written { OnOk result (Appends (V.contents out.old) (V.contents out.new)
-        (flat_map (indication_line own) (said_by (table_of station.old)))) }
+        (flat_map (indication_line own) (said_by (table_of port.old.station)))) }
 {
-    let all = station.indications();
+    let all = port.indications();
     let count = all.len();
-    let gone = station.indications_gone();
+    let gone = port.station().indications_gone();
     if gone.checked_add(count as u64).is_none() {
         return Ok(());
     }
@@ -538,20 +426,6 @@ fn tell<O: Outbox, I: Inbox, V: Write, L: Lookout>(
     write_indications(out, own, all)?;
     out.flush()?;
     *complete += own_completions(own, all);
-    station.forget_indications(count);
+    port.forget_indications(count);
     Ok(())
-}
-
-/// How a run ended, by whether memory was wanting, whether a store failed, and how many of how many
-/// puts were completed.
-fn exit(short: bool, failed: bool, complete: usize, asked: usize) -> Exit
-    ensures { result ≡ station_exit short failed complete asked }
-{
-    if short || failed {
-        Exit::Device(Fault::NoMemory)
-    } else if complete == asked {
-        Exit::Complete
-    } else {
-        Exit::Incomplete
-    }
 }

@@ -2,8 +2,7 @@
 ghost use Rattle.std.specs.Prelude.{IfSome};
 ghost use Rattle.link_sim.specs.Stations.{IsWorldConfig};
 
-use crate::script::command::parse_setting;
-use crate::script::settings::{Setting, Settings};
+use cfdp_report::{Setting, Settings, parse_setting};
 use cfdp_station::LinkConfig;
 use link_sim::WorldConfig;
 

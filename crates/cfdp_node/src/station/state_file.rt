@@ -1,8 +1,8 @@
 //! The numbers that a station has reserved, in a small file, so that none comes back when it is
 //! killed and started anew.
 use crate::lock::{LockError, lock};
-use crate::script::number::parse_number;
 use aos_frame::FRAME_COUNTS;
+use cfdp_report::parse_number;
 use std::alloc::AllocError;
 use std::fs::File;
 use std::io::{ErrorKind, Read, Write};

@@ -3,10 +3,9 @@ ghost use Rattle.std.specs.Prelude.{◌≡◌};
 
 use crate::station::beacon::{BEACON_LEN, Beacon};
 use crate::station::exchange::Exchange;
-use crate::station::serving::Clock;
 use crate::station::state_file::Reservation;
 use crate::wire::pacer::{Pacer, SECOND};
-use crate::wire::{PeerWire, Wire, WireFault};
+use cfdp_port::{PeerWire, Wire, WireFault};
 use cfdp_station::LinkConfig;
 use libc::net::{self, POLLIN, POLLOUT, SO_RCVBUF, SO_SNDBUF, SOL_SOCKET};
 use libc::types::pollfd;
@@ -74,6 +73,11 @@ pub struct PeerSocket<'a> {
     blocked_until: u64,
     quiet_since: u64,
     beacon_sent: Option<u64>,
+    // At what time nothing waited in the socket last, and how many seconds the station was told.
+    drained: u64,
+    told: u64,
+    // Whether a transaction was open when that was told last.
+    was_open: bool,
     // How many datagrams came in this turn, when the first of them did, and whether it has sent or
     // waited in it.
     came: u32,
@@ -135,6 +139,9 @@ impl<'a> PeerSocket<'a> {
             blocked_until: 0,
             quiet_since: 0,
             beacon_sent: None,
+            drained: 0,
+            told: 0,
+            was_open: false,
             came: 0,
             came_first: 0,
             has_sent: true,
@@ -142,18 +149,8 @@ impl<'a> PeerSocket<'a> {
         })
     }
 
-    /// The clock that began with the socket.
-    pub fn clock(&self) -> SteadyClock<'a> {
-        SteadyClock {
-            rt: self.rt,
-            start: self.start,
-            exchange: self.exchange,
-            last: 0,
-        }
-    }
-
-    /// The time now.
-    fn now(&self) -> u64 {
+    /// The time in nanoseconds since the start.
+    fn since_start(&self) -> u64 {
         nanoseconds(self.rt, self.start, self.blocked_until)
     }
 
@@ -188,7 +185,7 @@ impl<'a> PeerSocket<'a> {
         if self.kept_len == 0 {
             return true;
         }
-        if self.until_ready(self.now()) > 0 {
+        if self.until_ready(self.since_start()) > 0 {
             return false;
         }
         let answer = self
@@ -216,7 +213,7 @@ impl<'a> PeerSocket<'a> {
         if !self.exchange.differs.get() {
             return;
         }
-        let now = self.now();
+        let now = self.since_start();
         if let Some(before) = self.beacon_sent
             && now.saturating_sub(before) < SECOND
         {
@@ -231,7 +228,7 @@ impl<'a> PeerSocket<'a> {
     /// Whether enough was taken in this turn.
     fn has_enough(&self) -> bool {
         self.came >= MOST_IN_TURN
-            || self.came > 0 && self.now().saturating_sub(self.came_first) >= MOST_TURN_TIME
+            || self.came > 0 && self.since_start().saturating_sub(self.came_first) >= MOST_TURN_TIME
     }
 
     /// Notes that one frame more leaves. False where that can't be noted: then none leaves for a
@@ -248,7 +245,7 @@ impl<'a> PeerSocket<'a> {
     /// Notes that a datagram came, or was told to be lost.
     fn counts(&mut self) {
         if self.came == 0 {
-            self.came_first = self.now();
+            self.came_first = self.since_start();
         }
         self.came = self.came.saturating_add(1);
     }
@@ -262,7 +259,7 @@ impl<'a> PeerSocket<'a> {
 
     /// Waits until a datagram comes, a frame that waits may leave, or the second is over.
     fn rests(&mut self) {
-        let now = self.now();
+        let now = self.since_start();
         let mut wait = SECOND - now % SECOND;
         let mut events = POLLIN;
         let until_ready = self.until_ready(now);
@@ -302,7 +299,7 @@ impl<'a> PeerSocket<'a> {
             self.ends_turn();
             return Ok(());
         }
-        self.exchange.drained.set(self.now());
+        self.drained = self.since_start();
         if self.has_sent || self.came > 0 {
             self.ends_turn();
             return Ok(());
@@ -334,7 +331,7 @@ impl<'a> PeerSocket<'a> {
             return false;
         }
         if is_of_link(datagram, &self.pace.up) {
-            self.quiet_since = self.now();
+            self.quiet_since = self.since_start();
         }
         true
     }
@@ -425,8 +422,17 @@ impl Wire for PeerSocket<'_> {
 }
 
 impl PeerWire for PeerSocket<'_> {
+    /// The whole seconds since the start. While datagrams wait in the socket it is the time at which
+    /// none did, at most two seconds late. Where the clock can't be read it stands still.
+    fn now(&mut self) -> u64 {
+        let now = nanoseconds(self.rt, self.start, self.told.saturating_mul(SECOND));
+        let drained = self.drained.max(now.saturating_sub(MOST_LAG));
+        self.told = self.told.max(drained / SECOND);
+        self.told
+    }
+
     fn is_ready(&mut self) -> bool {
-        let now = self.now();
+        let now = self.since_start();
         let may_leave = self.sends_kept() && self.until_ready(now) == 0 && self.covers_next(now);
         self.is_held = !may_leave;
         if may_leave {
@@ -436,34 +442,15 @@ impl PeerWire for PeerSocket<'_> {
     }
 
     fn is_silent(&mut self, is_open: bool) -> bool {
+        // What is closed now was open until this turn.
+        if is_open || self.was_open {
+            self.quiet_since = self.since_start();
+        }
+        self.was_open = is_open;
         if is_open {
-            self.quiet_since = self.now();
             return false;
         }
-        let quiet = self.now().saturating_sub(self.quiet_since);
+        let quiet = self.since_start().saturating_sub(self.quiet_since);
         self.pace.idle > 0 && quiet >= self.pace.idle.saturating_mul(SECOND)
-    }
-}
-
-/// A clock that tells the whole seconds since it began. While datagrams wait in the socket it tells
-/// the time at which none did, at most two seconds late. Where it can't be read it stands still.
-#[derive(Drop)]
-pub struct SteadyClock<'a> {
-    rt: &'a HostRuntime,
-    start: Instant,
-    exchange: &'a Exchange,
-    last: u64,
-}
-
-impl Clock for SteadyClock<'_> {
-    fn now(&mut self) -> u64 {
-        let now = nanoseconds(self.rt, self.start, self.last.saturating_mul(SECOND));
-        let told = self
-            .exchange
-            .drained
-            .get()
-            .max(now.saturating_sub(MOST_LAG));
-        self.last = self.last.max(told / SECOND);
-        self.last
     }
 }

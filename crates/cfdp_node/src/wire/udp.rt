@@ -1,5 +1,5 @@
 //! A wire of UDP sockets: one frame in each datagram.
-use crate::wire::{Wire, WireFault};
+use cfdp_port::{Wire, WireFault};
 use std::io;
 use std::io::ErrorKind;
 use std::net::{Ipv4Addr, Net, SocketAddr, UdpSocket};

@@ -3,8 +3,8 @@ use Rattle.std.proofs.Common.{◌≡◌, ℕ, zero, suc, ◌<◌, List, [], ◌�
 use Rattle.std.specs.Prelude.{Contains}
 use Rattle.cfdp_header.specs.declared.value.TransactionId.{TransactionId}
 use Rattle.cfdp_entity.specs.declared.config.EntityConfig.{EntityConfig}
-use Rattle.cfdp_entity.specs.declared.call.Call.{Call}
-use Rattle.cfdp_entity.specs.declared.call.Call.TheVariants as calls
+use Rattle.cfdp_entity.specs.declared.request.Request.{Request}
+use Rattle.cfdp_entity.specs.declared.request.Request.TheVariants as calls
 use Rattle.cfdp_entity.specs.Sound.{next_put}
 use Rattle.link_sim.specs.declared.event.AcceptedPut.{AcceptedPut}
 use Rattle.link_sim.specs.declared.event.Applied.{Applied}
@@ -36,7 +36,7 @@ module _ (old new : WorldState) where
   put-added (did.Refused (refusal.Call by)) s source destination h = absurd h
   put-added (did.Refused refusal.LossRunTooLong) s source destination h = absurd h
 
-  call-added : (d : Applied) (s : Side) (c : Call) (id : TransactionId) → Calls d s c id old new → Added old new
+  call-added : (d : Applied) (s : Side) (c : Request) (id : TransactionId) → Calls d s c id old new → Added old new
   call-added did.Applied s c id h = inl h.counts.puts
   call-added did.Nothing s c id h = absurd h
   call-added (did.Refused (refusal.Put by)) s c id h = absurd h

@@ -9,8 +9,8 @@ use Rattle.cfdp_directives.specs.Pdu.Addressing.{addressing_of as addressing_in}
 use Rattle.cfdp_directives.specs.Pdu.Content.{Content}
 use Rattle.cfdp_directives.specs.User.Put.{Put}
 use Rattle.cfdp_store.specs.declared.stored.Stored.TheVariants.{Refused}
-use Rattle.cfdp_entity.specs.declared.call.Call.{Call}
-use Rattle.cfdp_entity.specs.declared.call.Call.TheVariants as calls
+use Rattle.cfdp_entity.specs.declared.request.Request.{Request}
+use Rattle.cfdp_entity.specs.declared.request.Request.TheVariants as calls
 use Rattle.cfdp_entity.specs.declared.error.EntityDrop.{EntityDrop}
 use Rattle.cfdp_entity.specs.declared.error.EntityDrop.TheVariants as drops
 use Rattle.aos_frame.specs.declared.config.Lane.{Lane}
@@ -167,7 +167,7 @@ module _ (old new : WorldState) where
   put-none (did.Refused (refusal.Call by)) s source destination h = absurd h
   put-none (did.Refused refusal.LossRunTooLong) s source destination h = absurd h
 
-  call-none : (d : Applied) (s : Side) (c : Call) (id : TransactionId) → Calls d s c id old new → CountsNone old new
+  call-none : (d : Applied) (s : Side) (c : Request) (id : TransactionId) → Calls d s c id old new → CountsNone old new
   call-none did.Applied s c id h = spared-none s old new (ap (λ (e : EntityState). e.drops) h.called.called) h.links.spares.station
   call-none did.Nothing s c id h = absurd h
   call-none (did.Refused (refusal.Put by)) s c id h = absurd h

@@ -40,8 +40,8 @@ use Rattle.cfdp_receiver.specs.State.{ReceiverState, is_receiving}
 use Rattle.cfdp_receiver.specs.Steps.{ReceiverAfter, leaving, telling, tidying, ends, failed, takes, waits, handled, asking_again, nak_expires, finished_expires, expires_by, anew_once_expired, expires, cancels, suspends, resumes, status_after}
 use Rattle.cfdp_receiver.specs.Steps as closing
 use Rattle.cfdp_receiver.proofs.FactsAsks.{step-tidy}
-use Rattle.cfdp_entity.specs.declared.call.Call.{Call}
-use Rattle.cfdp_entity.specs.declared.call.Call.TheVariants as call
+use Rattle.cfdp_entity.specs.declared.request.Request.{Request}
+use Rattle.cfdp_entity.specs.declared.request.Request.TheVariants as call
 use Rattle.cfdp_entity.specs.Steps.{called_receiver}
 use Rattle.cfdp_entity.proofs.Entries.{same_id-itself}
 use Rattle.link_sim.specs.Course.{AsksFirst, AsksFrom, IsCourse}
@@ -313,7 +313,7 @@ module _ (put : Put) (awake acks files ends : Bool) (x : SenderState) (r : Recei
         (λ _ w. pauses-course false 0 0 told (λ _. refl))
         (λ _ w. same-course [])
 
-    pub called-course : (call : Call) (a : ReceiverAfter) → called_receiver call m published r ≡ Some a → Now a
+    pub called-course : (call : Request) (a : ReceiverAfter) → called_receiver call m published r ≡ Some a → Now a
     called-course call.Cancel a is = subst Now (sym (some_is (cancels m published r) a is)) cancel-course
     called-course call.Suspend a is = subst Now (sym (some_is (suspends m published r) a is)) suspend-course
     called-course call.Resume a is = subst Now (sym (some_is (resumes m published r) a is)) resume-course

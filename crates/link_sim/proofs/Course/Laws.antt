@@ -24,7 +24,7 @@ use Rattle.cfdp_receiver.specs.Due.{receiver_due, receiver_says}
 use Rattle.cfdp_receiver.specs.Sound.{opens_hearing}
 use Rattle.cfdp_receiver.specs.State.{ReceiverState}
 use Rattle.cfdp_receiver.specs.Steps.{ReceiverAfter, takes, expires}
-use Rattle.cfdp_entity.specs.declared.call.Call.{Call}
+use Rattle.cfdp_entity.specs.declared.request.Request.{Request}
 use Rattle.cfdp_entity.specs.Steps.{sender_after, receiver_after, called_sender, called_receiver}
 use Rattle.link_sim.specs.Course.{IsCourse}
 use Rattle.link_sim.specs.Exchange.{is_closed, maybe, tells_complete, pauses}
@@ -59,7 +59,7 @@ pub record CourseLaws : Type 0 where
       IsSenderOf put x → IsInFile x →
       let a = sender_expires k policy x in IsCourse put awake acks files ends x o forth back b c → TellsWell put awake a.told → a.sender.phase ≢ sending.Cancelling →
       IsCourse put awake acks files ends a.sender o forth back (told_with put b a.told) c
-  pub sender_called : (put : Put) (awake acks files ends : Bool) (x : SenderState) (o : Option ReceiverState) (forth back : List Content) (b c : Bool) (call : Call) → IsSenderOf put x → IsInFile x →
+  pub sender_called : (put : Put) (awake acks files ends : Bool) (x : SenderState) (o : Option ReceiverState) (forth back : List Content) (b c : Bool) (call : Request) → IsSenderOf put x → IsInFile x →
       let a = called_sender call x in IsCourse put awake acks files ends x o forth back b c → TellsWell put awake a.told → a.sender.phase ≢ sending.Cancelling →
       IsCourse put awake acks files ends a.sender o forth back (told_with put b a.told) c
   -- ---- the receiver
@@ -82,7 +82,7 @@ pub record CourseLaws : Type 0 where
       (published : FileMap) → r.addressing.id ≡ put.id → x.size ≡ length put.octets →
       let a = expires k policy m published r in IsCourse put awake acks files ends x (Some r) forth back b c → TellsWell put awake a.told →
       IsCourse put awake acks files ends x (Some a.receiver) forth back b (told_with put c a.told)
-  pub receiver_called : (put : Put) (awake acks files ends : Bool) (x : SenderState) (r : ReceiverState) (forth back : List Content) (b c : Bool) (call : Call) (m : OctetMap) (published : FileMap)
+  pub receiver_called : (put : Put) (awake acks files ends : Bool) (x : SenderState) (r : ReceiverState) (forth back : List Content) (b c : Bool) (call : Request) (m : OctetMap) (published : FileMap)
       (a : ReceiverAfter) → r.addressing.id ≡ put.id → called_receiver call m published r ≡ Some a →
       IsCourse put awake acks files ends x (Some r) forth back b c → TellsWell put awake a.told →
       IsCourse put awake acks files ends x (Some a.receiver) forth back b (told_with put c a.told)

@@ -19,7 +19,7 @@ use Rattle.cfdp_receiver.specs.Due.{receiver_due, receiver_says}
 use Rattle.cfdp_receiver.specs.Sound.{receiver_hears, opens_hearing}
 use Rattle.cfdp_receiver.specs.State.{ReceiverState, opened_receiver}
 use Rattle.cfdp_receiver.specs.Steps.{ReceiverAfter, failed, takes, expires}
-use Rattle.cfdp_entity.specs.declared.call.Call.{Call}
+use Rattle.cfdp_entity.specs.declared.request.Request.{Request}
 use Rattle.cfdp_entity.specs.Steps.{receiver_after, called_receiver}
 use Rattle.link_sim.specs.Course.{IsCourse}
 use Rattle.link_sim.specs.Exchange.{is_metadata, is_eof, is_ack_of_finished, brings, IsTrueForth}
@@ -137,7 +137,7 @@ pub receiver-expires : (put : Put) (awake acks files ends : Bool) (x : SenderSta
     IsCourse put awake acks files ends x (Some a.receiver) forth back b (told_with put c a.told)
 receiver-expires put awake acks files ends x r forth back b c t policy m published own size k = expires-course put awake acks files ends x r forth back b c own k m published t policy
 
-pub receiver-called : (put : Put) (awake acks files ends : Bool) (x : SenderState) (r : ReceiverState) (forth back : List Content) (b c : Bool) (call : Call) (m : OctetMap) (published : FileMap)
+pub receiver-called : (put : Put) (awake acks files ends : Bool) (x : SenderState) (r : ReceiverState) (forth back : List Content) (b c : Bool) (call : Request) (m : OctetMap) (published : FileMap)
     (a : ReceiverAfter) → r.addressing.id ≡ put.id → called_receiver call m published r ≡ Some a →
     IsCourse put awake acks files ends x (Some r) forth back b c → TellsWell put awake a.told →
     IsCourse put awake acks files ends x (Some a.receiver) forth back b (told_with put c a.told)

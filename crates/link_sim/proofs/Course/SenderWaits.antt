@@ -21,8 +21,8 @@ use Rattle.cfdp_sender.specs.Inputs.{IsSenderOf}
 use Rattle.cfdp_sender.specs.State.{SenderState}
 use Rattle.cfdp_sender.specs.Steps.{SenderAfter, quiet, sends_again, unacknowledged_in, unheard, expires, sender_waits, sender_expires, cancels_in, suspends_in, resumes_in, prompts_in}
 use Rattle.cfdp_receiver.specs.State.{ReceiverState}
-use Rattle.cfdp_entity.specs.declared.call.Call.{Call}
-use Rattle.cfdp_entity.specs.declared.call.Call.TheVariants as call
+use Rattle.cfdp_entity.specs.declared.request.Request.{Request}
+use Rattle.cfdp_entity.specs.declared.request.Request.TheVariants as call
 use Rattle.cfdp_entity.specs.Steps.{called_sender}
 use Rattle.link_sim.specs.Course.{IsCourse}
 use Rattle.link_sim.specs.Waiting.{spoils, one_tells}
@@ -108,7 +108,7 @@ module _ (put : Put) (awake acks files ends : Bool) (x : SenderState) (o : Optio
   prompts-course Cancelling prompt keep_alive w n = itself []
   prompts-course Closed prompt keep_alive w n = itself []
 
-  called-course : (what : Call) → AfterIf (called_sender what x)
+  called-course : (what : Request) → AfterIf (called_sender what x)
   called-course call.Cancel = cancels-course x.phase
   called-course call.Suspend = suspends-course x.phase x.suspended
   called-course call.Resume = resumes-course x.phase x.suspended
@@ -121,7 +121,7 @@ pub sender-expires : (put : Put) (awake acks files ends : Bool) (x : SenderState
     IsCourse put awake acks files ends a.sender o forth back (told_with put b a.told) c
 sender-expires put awake acks files ends x o forth back b c kind policy s f k w n = expired-course put awake acks files ends x o forth back b c s k kind policy w n
 
-pub sender-called : (put : Put) (awake acks files ends : Bool) (x : SenderState) (o : Option ReceiverState) (forth back : List Content) (b c : Bool) (call : Call) → IsSenderOf put x → IsInFile x →
+pub sender-called : (put : Put) (awake acks files ends : Bool) (x : SenderState) (o : Option ReceiverState) (forth back : List Content) (b c : Bool) (call : Request) → IsSenderOf put x → IsInFile x →
     let a = called_sender call x in IsCourse put awake acks files ends x o forth back b c → TellsWell put awake a.told → a.sender.phase ≢ Cancelling →
     IsCourse put awake acks files ends a.sender o forth back (told_with put b a.told) c
 sender-called put awake acks files ends x o forth back b c what s f k w n = called-course put awake acks files ends x o forth back b c s k what w n

@@ -433,7 +433,7 @@ module _ (s : Side) (a : StationState) (m : FrameLinksState) (puts : List Accept
       λ (down : LinkSenderState) (is : IsCarried down old (lane_up x b.up)). delivered_at x down old b now frame is waits first takes in
       let h : HearsAt x (lane_down x a.down) old (arrived_link old) b now = hears (lane_down x a.down) (forth x) in
       let comes : FrameArrivesAt did.Applied x old (lane_of_links x link) b now =
-      subst (λ (y : FrameLinkState). FrameArrivesAt did.Applied x old y b now) (sym (put_here x (arrived_link old) n.link)) (record { waits = waits; hears = hears; marked = refl }) in
+      subst (λ (y : FrameLinkState). FrameArrivesAt did.Applied x old y b now) (sym (put_here x (arrived_link old) n.link)) (record { waits = waits; hears = hears; marked = refl; down = takes.down }) in
       let here : lane_of_links x link ≡ arrived_link old = put_here x (arrived_link old) n.link in
       let beside : lane_of_links (other_lane x) link ≡ lane_of_links (other_lane x) k = put_beside x (arrived_link old) n.link ∙ n.other in
       let marked_here : length (lane_of_links x link).marks ≡ then_taken x =

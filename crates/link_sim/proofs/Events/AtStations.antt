@@ -14,13 +14,14 @@ use Rattle.aos_frame.specs.declared.config.Lane.{Lane}
 use Rattle.aos_frame.specs.declared.config.Lane.TheVariants.{Directives, Data}
 use Rattle.link_stack.specs.Downward.{DownState, LinkSenderState, Flushes, IsDown, SendsPdu, first_down, first_lane_down, lane_down, packing}
 use Rattle.link_stack.specs.Upward.{LinkReceiverState, IsUp, UpState, first_lane_up, first_up, lane_of, lane_up}
+use Rattle.cfdp_station.specs.Link.{FlushesBoth}
 use Rattle.cfdp_station.specs.Station.{StationState}
 use Rattle.cfdp_station.specs.Taking.{GivesPdus, TakesFrame}
 use Rattle.link_sim.specs.declared.event.Applied.{Applied}
 use Rattle.link_sim.specs.declared.event.Applied.TheVariants as did
 use Rattle.link_sim.specs.declared.event.Refusal.TheVariants as refusal
 use Rattle.link_sim.specs.FrameLink.{FrameLinkState, FrameLinksState, lane_of_links, oldest}
-use Rattle.link_sim.specs.AtStation.{AddsNone, AreCarried, AreSameLinks, CarryOn, FrameArrivesAt, HearsAt, IsNotWhole, IsSameEnd, IsSameLink, IsSameMarks, PullsAll, StrikesAt}
+use Rattle.link_sim.specs.AtStation.{AddsNone, AreCarried, AreSameLinks, CarryOn, FrameArrivesAt, HearsAt, IsNotWhole, IsSameEnd, IsSameLink, IsSameMarks, OnlySends, PullsAll, PullsBoth, StrikesAt}
 use Rattle.link_sim.specs.OneWay.{OneWayState, IsOneWay, IsOneWayOf, IsCarried, IsRested, SendsMore, SendsNone, HearsMore, one_way, packets_sent}
 use Rattle.link_sim.proofs.Lanes.Frames.{frame-channel}
 use Rattle.link_sim.proofs.Lanes.Each.{either-lane, lane-valid}
@@ -204,3 +205,20 @@ arrived_all l did.Nothing d k n old new h other is = either-lane (λ m. IsCarrie
     same : (m : Lane) → lane_of_links m n ≡ lane_of_links m k → IsCarried (lane_down m d) (lane_of_links m n) (lane_up m new.up)
     same m e = subst (λ (y : FrameLinkState). IsCarried (lane_down m d) y (lane_up m new.up)) (sym e) (subst (λ (y : StationState). IsCarried (lane_down m d) (lane_of_links m k) (lane_up m y.up)) (sym h.2) (is m))
 arrived_all l (did.Refused by) d k n old new h other is = absurd h
+
+-- which leaves the end that sends as it was
+pub arrived-down : (r : Applied) (l : Lane) (k n : FrameLinkState) (old new : StationState) → FrameArrivesAt r l k n old new → new.down ≡ old.down
+arrived-down did.Applied l k n old new h = h.down
+arrived-down did.Nothing l k n old new h = ap (λ (s : StationState). s.down) h.2
+arrived-down (did.Refused by) l k n old new h = absurd h
+
+-- ---- a flush, and the frames that it makes
+pub flushed-sends : (old mid new : StationState) (links room links_now : FrameLinksState) → AreSameLinks links room → FlushesBoth old.down mid.down → mid.up ≡ old.up →
+    PullsBoth mid new room links_now → OnlySends old new links links_now
+flushed-sends old mid new links room links_now kept flushed up p = record {
+  carried = λ l (u : LinkReceiverState) is. (filled_all (lane_down l old.down) (lane_down l mid.down) (lane_down l new.down) (lane_of_links l links) (lane_of_links l room) (lane_of_links l links_now) u is
+      (kept l) (flushed.lanes l) (p.lanes l)).0;
+  capacity = λ l. (p.lanes l).fixed.1 ∙ (flushed.lanes l).fixed.1;
+  marks = λ l. ((p.lanes l).marks.0 ∙ (kept l).1, (p.lanes l).marks.1 ∙ (kept l).2, (p.lanes l).marks.2 ∙ (kept l).3);
+  up = p.rest.1 ∙ up;
+}

@@ -11,8 +11,8 @@ use Rattle.mpdu.specs.Packets.{packets_of}
 use Rattle.mpdu.specs.Packets as packets
 use Rattle.link_stack.specs.Downward.{first_down, lane_down}
 use Rattle.link_stack.specs.Upward.{first_up, lane_up}
-use Rattle.cfdp_entity.specs.declared.call.Call.{Call}
-use Rattle.cfdp_entity.specs.declared.call.Call.TheVariants as calls
+use Rattle.cfdp_entity.specs.declared.request.Request.{Request}
+use Rattle.cfdp_entity.specs.declared.request.Request.TheVariants as calls
 use Rattle.cfdp_entity.specs.declared.config.EntityConfig.{EntityConfig}
 use Rattle.cfdp_entity.specs.Config.{IsConfig}
 use Rattle.cfdp_entity.specs.Entity.{EntityState, first_entity}
@@ -119,7 +119,7 @@ module _ (laws : EntityLaws) (old new : WorldState) (sound : IsSound old) where
   put-by (did.Refused (refusal.Call by)) s source destination h = absurd h
   put-by (did.Refused refusal.LossRunTooLong) s source destination h = absurd h
 
-  call-by : (d : Applied) (s : Side) (k : Call) (id : TransactionId) → Calls d s k id old new → Moves old new
+  call-by : (d : Applied) (s : Side) (k : Request) (id : TransactionId) → Calls d s k id old new → Moves old new
   call-by did.Applied s k id h = called-moves laws old new sound s k id h
   call-by did.Nothing s k id h = absurd h
   call-by (did.Refused (refusal.Put by)) s k id h = absurd h

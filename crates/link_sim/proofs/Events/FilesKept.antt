@@ -25,11 +25,11 @@ use Rattle.cfdp_receiver.specs.declared.due.Due.{Due}
 use Rattle.cfdp_receiver.specs.Due.{receiver_due}
 use Rattle.cfdp_receiver.specs.State.{ReceiverState, is_receiving}
 use Rattle.cfdp_receiver.specs.Steps as receiver
-use Rattle.cfdp_entity.specs.declared.call.Call.{Call}
-use Rattle.cfdp_entity.specs.declared.call.Call.TheVariants as call
+use Rattle.cfdp_entity.specs.declared.request.Request.{Request}
+use Rattle.cfdp_entity.specs.declared.request.Request.TheVariants as call
 use Rattle.cfdp_entity.specs.Seen.{Seen, Sends, Receives}
 use Rattle.cfdp_entity.specs.Steps.{After, calls, expires, receiver_takes, sender_takes, takes}
-use Rattle.cfdp_entity.specs.Calling.{called_in}
+use Rattle.cfdp_entity.specs.Refusing.{called_in}
 use Rattle.cfdp_entity.specs.Entity.{EntityState}
 use Rattle.cfdp_entity.specs.Polling.{Turn, Stray, Place, Rests, turn, served}
 use Rattle.cfdp_entity.specs.Table.{Entry, TableState, all_expired, at_time, expired, expired_in, place_of, step_of}
@@ -81,7 +81,7 @@ expires-files : (policy : Policy) (files : FileMap) (k : Kind) (s : Seen) → (e
 expires-files policy files k (Sends x) = refl
 expires-files policy files k (Receives r m) = expiry-files k policy m files r
 
-calls-files : (times : Times) (files : FileMap) (c : Call) (s : Seen) → (calls times files c s).files ≡ files
+calls-files : (times : Times) (files : FileMap) (c : Request) (s : Seen) → (calls times files c s).files ≡ files
 calls-files times files c (Sends x) = refl
 calls-files times files call.Cancel (Receives r m) =
     cond_both (is_receiving r.phase) (receiver.ends (receiver.failed cancel_request) m files r) (receiver.leaving m files r) (λ a. a.files ≡ files) (λ e. refl) (λ e. refl)
@@ -121,7 +121,7 @@ unfolding all_expired
 all-expired-files [] st = refl
 all-expired-files (t ∷ fired) st = all-expired-files fired (expired t st) ∙ expired-files (place_of t.0 st.records) t.1 st
 
-called-files : (c : Call) (place : Option ℕ) (st : TableState) → (called_in c place st).files ≡ st.files
+called-files : (c : Request) (place : Option ℕ) (st : TableState) → (called_in c place st).files ≡ st.files
 called-files c (Some place) st = step-files (λ e. calls st.policy.times st.files c e.1) place (slice_get st.records place) st (λ e. calls-files st.policy.times st.files c e.1)
 called-files c None st = refl
 
@@ -160,7 +160,7 @@ module _ (t : Side) (old new : WorldState) where
   put-files (did.Refused (refusal.Call by)) s source destination h = absurd h
   put-files (did.Refused refusal.LossRunTooLong) s source destination h = absurd h
 
-  call-files : (d : Applied) (s : Side) (c : Call) (id : TransactionId) → Calls d s c id old new → published_at t new ≡ published_at t old
+  call-files : (d : Applied) (s : Side) (c : Request) (id : TransactionId) → Calls d s c id old new → published_at t new ≡ published_at t old
   call-files did.Applied s c id h =
       by-side s t old new (files-of (entity_at s new) _ h.called.called ∙ called-files c (place_of id (entity_at s old).table.records) (entity_at s old).table) h.links.spares.station
   call-files did.Nothing s c id h = absurd h

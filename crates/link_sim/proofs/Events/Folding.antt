@@ -7,6 +7,9 @@ use Rattle.cfdp_directives.specs.User.Put.{Put, overwritten, inbox_after}
 use Rattle.cfdp_directives.proofs.Puts.{inbox_after-append, Contains-append_right}
 use Rattle.cfdp_entity.specs.Sound.{FindsMore}
 use Rattle.link_sim.specs.declared.side.Side.{Side}
+use Rattle.link_sim.specs.Calls.{Upholds}
+use Rattle.link_sim.specs.Observed.{seen}
+use Rattle.link_sim.specs.World.State.{WorldState}
 use Rattle.link_sim.specs.Theorem.{WorldSeen, at, put_of, completions_at, FoldsAt, Follows, HoldsAt}
 use Rattle.link_sim.specs.Settling.{LeadsTo}
 
@@ -69,3 +72,10 @@ leads-both a b c one two = record {
   follows = λ h. follows-both a b c (one.holds h) (one.follows h) (two.follows (one.holds h));
   holds = λ h. two.holds (one.holds h);
 }
+
+-- where the promises hold, what leads on upholds them; and what upholds them leads on
+pub leads-upholds : (a b : WorldState) → ((s : Side) → HoldsAt s (seen a)) → LeadsTo (seen a) (seen b) → Upholds a b
+leads-upholds a b h leads = record { follows = leads.follows h; holds = leads.holds h }
+
+pub upholds-leads : (a b : WorldState) → Upholds a b → LeadsTo (seen a) (seen b)
+upholds-leads a b u = record { follows = λ _. u.follows; holds = λ _. u.holds }

@@ -13,6 +13,9 @@ use Rattle.cfdp_station.specs.Taking.{GivesPdus}
 use Rattle.link_sim.specs.declared.side.Side.{Side}
 use Rattle.link_sim.specs.declared.side.Side.TheVariants.{One, Two}
 use Rattle.link_sim.specs.declared.event.AcceptedPut.{AcceptedPut}
+use Rattle.std.specs.declared.alloc.AllocError.{AllocError}
+use Rattle.link_sim.specs.declared.event.Event.{Event}
+use Rattle.link_sim.specs.Calls.{TriesEvent}
 use Rattle.link_sim.specs.declared.event.Applied.{Applied}
 use Rattle.link_sim.specs.declared.event.Applied.TheVariants as did
 use Rattle.link_sim.specs.declared.event.Refusal.TheVariants as refusal
@@ -20,7 +23,7 @@ use Rattle.link_sim.specs.FrameLink.{FrameLinkState, FrameLinksState, lane_of_li
 use Rattle.link_sim.specs.AtStation.{AreCarried, AreSameLinks, AreSameMarks, FailsAt, FlushesAt, FrameArrivesAt, HearsAt, IsSameLink, KeepsAt, PollsAt, SendsOneAt, StrikesAt}
 use Rattle.link_sim.specs.OneWay.{HearsMore, IsCarried, IsOneWay, SendsMore, SendsNone, one_way}
 use Rattle.link_sim.specs.World.State.{AreWays, LanesState, LinkState, WorldState, lane_from, link_from, no_lanes, on_lane, seen_link, seen_links, way}
-use Rattle.link_sim.specs.World.Steps.{Delivers, FailsSource, Flushes, KeepsMarks, NoneWaits, Polls, SendsOne, Strikes, marked, oldest_of}
+use Rattle.link_sim.specs.World.Steps.{Delivers, FailsSource, Flushes, KeepsMarks, NoneWaits, Polls, SendsOne, Steps, Strikes, WantsMemory, marked, oldest_of}
 use Rattle.link_sim.proofs.Events.AtStations.{struck_at}
 use Rattle.link_sim.proofs.Lanes.Each.{each-lane, either-lane, lane-seen}
 use Rattle.link_sim.proofs.Ways.Carried.{same_way}
@@ -30,14 +33,11 @@ abbrev pub world_of : (a b : StationState) → (k m : FrameLinksState) → List 
 world_of a b k m puts ticks = record { one = a; two = b; from_one = seen_links k; from_two = seen_links m; puts = puts; ticks = ticks }
 
 -- ---- answers
--- what follows where a call went well, and where it found no memory
-pub where_ok : {A E : Type 0} (r : Result A E) (P Q : A → Type 0) → ((x : A) → P x → Q x) → IfOk r P → IfOk r Q
-where_ok (Ok x) P Q f h = f x h
-where_ok (Err e) P Q f h = tt
-
-pub where_err : {A E : Type 0} (r : Result A E) (P Q : Type 0) → (P → Q) → OnErr r P → OnErr r Q
-where_err (Ok x) P Q f h = tt
-where_err (Err e) P Q f h = f h
+-- what an event comes to that may find no memory
+pub tries : (Did : Applied → Type 0) (Kept : Type 0) (e : Event) (r : Result Applied AllocError) (old new : WorldState) → ((x : Applied) → Did x → Steps e x old new) → (Kept → new ≡ old) →
+    WantsMemory e → IfOk r Did → OnErr r Kept → TriesEvent e r old new
+tries Did Kept e (Ok x) old new step same wants did kept = record { steps = step x did; err = tt; lacks = tt }
+tries Did Kept e (Err y) old new step same wants did kept = record { steps = tt; err = same kept; lacks = wants }
 
 -- ---- a lane, as it is seen
 as-seen : (P : LinkState → Type 0) (l : Lane) (k : FrameLinksState) → P (seen_link (lane_of_links l k)) → P (on_lane l (seen_links k))

@@ -17,9 +17,9 @@ use Rattle.cfdp_directives.specs.User.Put.{Put, SaysTruth}
 use Rattle.cfdp_store.specs.declared.stored.Stored.{Stored}
 use Rattle.cfdp_store.specs.declared.stored.Stored.TheVariants.{Done, Refused}
 use Rattle.cfdp_store.specs.Files.{octets_in}
-use Rattle.cfdp_entity.specs.declared.call.Call.{Call}
+use Rattle.cfdp_entity.specs.declared.request.Request.{Request}
 use Rattle.cfdp_entity.specs.declared.error.EntityDrop.{EntityDrop}
-use Rattle.cfdp_entity.specs.Calls.{IsCalled}
+use Rattle.cfdp_entity.specs.Requests.{IsCalled}
 use Rattle.cfdp_entity.specs.Entity.{EntityState, Counted, with_table}
 use Rattle.cfdp_entity.specs.Hearing.{HearsOctets, DropsOctets}
 use Rattle.cfdp_entity.specs.Polling.{turn, turn_octets, served}
@@ -53,7 +53,7 @@ pub record EntityLaws : Type 0 where
   pub put : (p : TransactionId → Option Put) (heard : List (List ℕ)) (first : FileMap) (source destination : List ℕ) (id : TransactionId) (old new : EntityState) →
       Accepts source destination id old new →
       p id ≡ Some (next_put source destination old) → IsSoundEntity p heard first old → IsSoundEntity p heard first new
-  pub called : (p : TransactionId → Option Put) (heard : List (List ℕ)) (first : FileMap) (c : Call) (id : TransactionId) (old new : EntityState) → IsCalled c id old new →
+  pub called : (p : TransactionId → Option Put) (heard : List (List ℕ)) (first : FileMap) (c : Request) (id : TransactionId) (old new : EntityState) → IsCalled c id old new →
       IsSoundEntity p heard first old → IsSoundEntity p heard first new
   pub ticked : (p : TransactionId → Option Put) (heard : List (List ℕ)) (first : FileMap) (now : ℕ) (old new : EntityState) → Ticks now old.table new.table → new ≡ with_table old new.table →
       IsSoundEntity p heard first old → IsSoundEntity p heard first new
@@ -65,7 +65,7 @@ pub record EntityLaws : Type 0 where
   pub served_by : (p : TransactionId → Option Put) (heard : List (List ℕ)) (first : FileMap) (stored : Stored) (e : EntityState) → IsSoundEntity p heard first e →
       IsSoundEntity p heard first (served stored (turn e) e)
   pub put_on : (source destination : List ℕ) (id : TransactionId) (old new : EntityState) → Accepts source destination id old new → GoesOn old new
-  pub called_on : (c : Call) (id : TransactionId) (old new : EntityState) → IsCalled c id old new → GoesOn old new
+  pub called_on : (c : Request) (id : TransactionId) (old new : EntityState) → IsCalled c id old new → GoesOn old new
   pub ticked_on : (now : ℕ) (old new : EntityState) → Ticks now old.table new.table → new ≡ with_table old new.table → GoesOn old new
   pub heard_on : (pdu : List ℕ) (old new : Counted) → HearsOctets pdu old new → GoesOn old.state new.state
   pub dropped_on : (pdu : List ℕ) (by : EntityDrop) (old new : Counted) → DropsOctets (pdu_fault pdu) pdu by old new → GoesOn old.state new.state
@@ -203,7 +203,7 @@ side-own old sound Two = elim (old.two.entity.state.config.entity == old.one.ent
 
 module _ (laws : EntityLaws) (old new : WorldState) (sound : IsSound old) where
   -- ---- calls
-  pub called-moves : (s : Side) (c : Call) (id : TransactionId) → StepsAt s c id old new → Moves old new
+  pub called-moves : (s : Side) (c : Request) (id : TransactionId) → StepsAt s c id old new → Moves old new
   called-moves s c id h =
       moves-kept old new sound
       (only-entity s old new sound h.links (laws.called_on c id (entity_at s old) (entity_at s new) h.called)

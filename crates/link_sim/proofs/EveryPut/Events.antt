@@ -8,8 +8,8 @@ use Rattle.aos_frame.specs.declared.config.Lane.{Lane}
 use Rattle.aos_frame.specs.declared.config.Lane.TheVariants.{Directives, Data}
 use Rattle.mpdu.specs.Packets.{packets_of}
 use Rattle.mpdu.specs.Packets as packets
-use Rattle.cfdp_entity.specs.declared.call.Call.{Call}
-use Rattle.cfdp_entity.specs.declared.call.Call.TheVariants as calls
+use Rattle.cfdp_entity.specs.declared.request.Request.{Request}
+use Rattle.cfdp_entity.specs.declared.request.Request.TheVariants as calls
 use Rattle.cfdp_entity.specs.Entity.{EntityState, Counted}
 use Rattle.cfdp_entity.specs.History.{KeepsRecords, Leads}
 use Rattle.cfdp_entity.specs.Polling.{turn, turn_octets}
@@ -228,7 +228,7 @@ module _ (laws : EntityLaws) (grounds : Grounds) (stays : (old new : TableState)
         moved s h.links (subst (λ (x : EntityState). Kept P (LosesNone new) x (entity_at (other s) old) (on_way_from s old) (on_way_from (other s) old)) (sym h.entity)
         (start s (loses-kept s old new h.links) k))
 
-    pub called-courses : (s : Side) (c : Call) (id : TransactionId) → StepsAt s c id old new → KeepCourse old → KeepCourse new
+    pub called-courses : (s : Side) (c : Request) (id : TransactionId) → StepsAt s c id old new → KeepCourse old → KeepCourse new
     called-courses s c id h k =
         moved s h.links (kept-called stays P (LosesNone new) (entity_at s old) (entity_at s new) (entity_at (other s) old) (on_way_from s old) (on_way_from (other s) old) (config s)
         (order s) (order (other s)) (start s (loses-kept s old new h.links) k) c id h.called)
@@ -352,7 +352,7 @@ module _ (laws : EntityLaws) (grounds : Grounds) (stays : (old new : TableState)
   put-by-event (did.Refused (refusal.Call by)) s source destination h k = absurd h
   put-by-event (did.Refused refusal.LossRunTooLong) s source destination h k = absurd h
 
-  call-by-event : (d : Applied) (s : Side) (c : Call) (id : TransactionId) → Moves old new → Calls d s c id old new → KeepCourse old → KeepCourse new
+  call-by-event : (d : Applied) (s : Side) (c : Request) (id : TransactionId) → Moves old new → Calls d s c id old new → KeepCourse old → KeepCourse new
   call-by-event did.Applied s c id m h k = called-courses m h.counts.puts s c id h k
   call-by-event did.Nothing s c id m h k = absurd h
   call-by-event (did.Refused (refusal.Put by)) s c id m h k = absurd h

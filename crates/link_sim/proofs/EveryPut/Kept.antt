@@ -8,9 +8,9 @@ use Rattle.cfdp_header.specs.Ids.{same_id}
 use Rattle.cfdp_directives.specs.User.Put.{Put}
 use Rattle.cfdp_store.specs.declared.stored.Stored.{Stored}
 use Rattle.cfdp_store.specs.declared.stored.Stored.TheVariants.{Done, Refused}
-use Rattle.cfdp_entity.specs.declared.call.Call.{Call}
+use Rattle.cfdp_entity.specs.declared.request.Request.{Request}
 use Rattle.cfdp_entity.specs.declared.config.EntityConfig.{EntityConfig}
-use Rattle.cfdp_entity.specs.Calls.{IsCalled}
+use Rattle.cfdp_entity.specs.Requests.{IsCalled}
 use Rattle.cfdp_entity.specs.Entity.{EntityState, Counted, with_table}
 use Rattle.cfdp_entity.specs.History.{KeepsRecords, Leads}
 use Rattle.cfdp_entity.specs.Polling.{Place, turn, turn_octets, served}
@@ -88,7 +88,7 @@ own-before m m1 put same own = own ∙ ap (λ (c : EntityConfig). c.entity) same
 module _ (stays : (old new : TableState) → Leads old new → KeepsRecords old.records new.records) (P : TransactionId → Option Put) (N : Type 0) (m m1 th : EntityState) (a b : List (List ℕ))
     (same : m1.config ≡ m.config) (order : IsInOrder P m.table) (order_there : IsInOrder P th.table) (c : Kept P N m th a b) where
   -- a call on a transaction
-  pub kept-called : (call : Call) (id : TransactionId) → IsCalled call id m m1 → Kept P N m1 th a b
+  pub kept-called : (call : Request) (id : TransactionId) → IsCalled call id m m1 → Kept P N m1 th a b
   kept-called call id h = record {
     forth = c.forth;
     back = c.back;

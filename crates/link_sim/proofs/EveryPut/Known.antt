@@ -33,12 +33,12 @@ use Rattle.cfdp_receiver.specs.declared.due.Due.{Due}
 use Rattle.cfdp_receiver.specs.declared.due.Due.TheVariants as receiver_dues
 use Rattle.cfdp_receiver.specs.Due.{receiver_due, receiver_says}
 use Rattle.cfdp_receiver.specs.State.{ReceiverState, opened_receiver}
-use Rattle.cfdp_entity.specs.declared.call.Call.{Call}
+use Rattle.cfdp_entity.specs.declared.request.Request.{Request}
 use Rattle.cfdp_entity.specs.declared.config.EntityConfig.{EntityConfig}
 use Rattle.cfdp_entity.specs.declared.error.PutError.{PutError}
 use Rattle.cfdp_entity.specs.declared.error.PutError.TheVariants as put_errors
-use Rattle.cfdp_entity.specs.Calling.{called_in}
-use Rattle.cfdp_entity.specs.Calls.{IsCalled, after_call}
+use Rattle.cfdp_entity.specs.Refusing.{called_in}
+use Rattle.cfdp_entity.specs.Requests.{IsCalled, after_request}
 use Rattle.cfdp_entity.specs.Entity.{EntityState, Counted, with_table}
 use Rattle.cfdp_entity.specs.Hearing.{names_no_file}
 use Rattle.cfdp_entity.specs.History.{GoesOn, KeepsRecords, Leads, TableStep, Hears, Calls, Takes, MayHappen, table_step}
@@ -502,8 +502,8 @@ module _ (stays : (old new : TableState) → Leads old new → KeepsRecords old.
   step-keeps : (s : TableStep) (st : TableState) → MayHappen s st → length (table_step s st).records ≡ length st.records → KeepsAll st.records (table_step s st).records
   step-keeps s st may long = record { kept = stays st (table_step s st) (leads-one s st may); long = long }
 
-  pub called-continues : (c : Call) (id : TransactionId) (old new : EntityState) → IsCalled c id old new → Continues old new
-  called-continues c id old new h = continues-to old new (after_call c id old.table) h.called (by (place_of id old.table.records))
+  pub called-continues : (c : Request) (id : TransactionId) (old new : EntityState) → IsCalled c id old new → Continues old new
+  called-continues c id old new h = continues-to old new (after_request c id old.table) h.called (by (place_of id old.table.records))
     where
       by : (o : Option ℕ) → KeepsAll old.table.records (called_in c o old.table).records
       by None = keeps-none old.table.records
@@ -528,7 +528,7 @@ module _ (stays : (old new : TableState) → Leads old new → KeepsRecords old.
       }
 
   module _ (put_of : TransactionId → Option Put) (old new theirs : EntityState) (forth back : List Pdu) where
-    pub called-known : (c : Call) (id : TransactionId) → IsCalled c id old new → AreKnown put_of old theirs forth back → AreKnown put_of new theirs forth back
+    pub called-known : (c : Request) (id : TransactionId) → IsCalled c id old new → AreKnown put_of old theirs forth back → AreKnown put_of new theirs forth back
     called-known c id h k = both-on put_of old new theirs forth back (called-continues c id old new h) k
 
     pub ticks-known : (now : ℕ) → Ticks now old.table new.table → new ≡ with_table old new.table → AreKnown put_of old theirs forth back → AreKnown put_of new theirs forth back

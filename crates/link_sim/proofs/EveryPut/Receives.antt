@@ -20,7 +20,7 @@ use Rattle.cfdp_receiver.specs.Sound.{opens_hearing}
 use Rattle.cfdp_receiver.specs.State.{ReceiverState, opened_receiver}
 use Rattle.cfdp_receiver.specs.Steps as steps
 use Rattle.cfdp_receiver.specs.Steps.{ReceiverAfter}
-use Rattle.cfdp_entity.specs.declared.call.Call.{Call}
+use Rattle.cfdp_entity.specs.declared.request.Request.{Request}
 use Rattle.cfdp_entity.specs.Opening.{begins, opens, opens_by, error_of}
 use Rattle.cfdp_entity.specs.Seen.{Seen, Receives, receiver_content, octets_seen}
 use Rattle.cfdp_entity.specs.Steps.{by_receiver, no_step, receiver_after, if_receiver, called_receiver, receiver_takes, hears, calls, expires, takes, Spoils}
@@ -50,7 +50,7 @@ module _ (laws : CourseLaws) (lossless : Bool) (put : Put) (x : SenderState) (si
       course = λ b c good h. laws.receiver_expires put lossless lossless lossless lossless x r forth back b c k policy m files is_id size h good;
     }
 
-    pub receiver-called : (times : Times) (files : FileMap) (call : Call) (forth back : List Content) → ReceiverGoes lossless put x r (calls times files call (Receives r m)) forth forth back back
+    pub receiver-called : (times : Times) (files : FileMap) (call : Request) (forth back : List Content) → ReceiverGoes lossless put x r (calls times files call (Receives r m)) forth forth back back
     receiver-called times files call forth back = by (called_receiver call m files r) refl
       where
         by : (o : Option ReceiverAfter) → called_receiver call m files r ≡ o → ReceiverGoes lossless put x r (if_receiver times files r m o) forth forth back back

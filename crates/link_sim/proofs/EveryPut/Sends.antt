@@ -27,8 +27,8 @@ use Rattle.cfdp_sender.specs.State.{SenderState, IsCause}
 use Rattle.cfdp_sender.specs.Steps as steps
 use Rattle.cfdp_sender.specs.Steps.{SenderAfter, sender_sends, sender_expires}
 use Rattle.cfdp_receiver.specs.State.{ReceiverState}
-use Rattle.cfdp_entity.specs.declared.call.Call.{Call}
-use Rattle.cfdp_entity.specs.declared.call.Call.TheVariants as call
+use Rattle.cfdp_entity.specs.declared.request.Request.{Request}
+use Rattle.cfdp_entity.specs.declared.request.Request.TheVariants as call
 use Rattle.cfdp_entity.specs.Seen.{Seen, Sends, Receives, sender_content}
 use Rattle.cfdp_entity.specs.Steps.{by_sender, no_step, sender_after, called_sender, sender_takes, hears, calls, expires, takes, Spoils}
 use Rattle.link_sim.specs.Course.{IsCourse, IsTrueBetween}
@@ -104,7 +104,7 @@ module _ (id : TransactionId) (x : SenderState) (is_id : x.addressing.id ≡ id)
   stays-expires kinds.Nak policy = λ _. h
   stays-expires kinds.FinishedAck policy = λ _. h
 
-  stays-called : (c : Call) → StaysCancelled id (called_sender c x)
+  stays-called : (c : Request) → StaysCancelled id (called_sender c x)
   stays-called call.Cancel = subst (λ p. StaysCancelled id (steps.cancels_in p x)) (sym h) (λ _. h)
   stays-called call.Suspend = subst (λ p. StaysCancelled id (steps.suspends_in p x.suspended x)) (sym h) (by x.suspended)
     where
@@ -137,7 +137,7 @@ module _ (laws : CourseLaws) (lossless : Bool) (put : Put) (x : SenderState) (is
     course = λ o b c no good h. laws.sender_expires put lossless lossless lossless lossless x o forth back b c k policy is_sender s h good no;
   }
 
-  pub sender-called : (times : Times) (files : FileMap) (c : Call) (forth back : List Content) → SenderGoes lossless put x (calls times files c (Sends x)) forth forth back back
+  pub sender-called : (times : Times) (files : FileMap) (c : Request) (forth back : List Content) → SenderGoes lossless put x (calls times files c (Sends x)) forth forth back back
   sender-called times files c forth back = record {
     sender = (called_sender c x).sender;
     is_sender = refl;

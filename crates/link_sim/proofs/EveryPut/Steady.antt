@@ -13,9 +13,9 @@ use Rattle.cfdp_sender.specs.declared.due.SenderDue.{SenderDue}
 use Rattle.cfdp_sender.specs.Due.{sender_due, carries, carries_by}
 use Rattle.cfdp_sender.specs.declared.transfer.Transfer.{Transfer}
 use Rattle.cfdp_sender.specs.State.{opened_sender}
-use Rattle.cfdp_entity.specs.declared.call.Call.{Call}
-use Rattle.cfdp_entity.specs.Calling.{called_in}
-use Rattle.cfdp_entity.specs.Calls.{IsCalled}
+use Rattle.cfdp_entity.specs.declared.request.Request.{Request}
+use Rattle.cfdp_entity.specs.Refusing.{called_in}
+use Rattle.cfdp_entity.specs.Requests.{IsCalled}
 use Rattle.cfdp_entity.specs.Entity.{EntityState, Counted, with_table}
 use Rattle.cfdp_entity.specs.Polling.{Place, turn, served}
 use Rattle.cfdp_entity.specs.Putting.{Accepts, next_id, next_transfer}
@@ -171,7 +171,7 @@ module _ (laws : CourseLaws) (lossless : Bool) (put : Put) where
   module _ (put_of : TransactionId → Option Put) (found : put_of put.id ≡ Some put) where
     -- ---- steps of the put's entity
     module _ (mine mine1 theirs : EntityState) (forth back : List Pdu) (order : IsInOrder put_of mine.table) where
-      pub mine-called : (c : Call) (id : TransactionId) → IsCalled c id mine mine1 → StaysOnCourse lossless put mine theirs forth back → StaysOnCourse lossless put mine1 theirs forth back
+      pub mine-called : (c : Request) (id : TransactionId) → IsCalled c id mine mine1 → StaysOnCourse lossless put mine theirs forth back → StaysOnCourse lossless put mine1 theirs forth back
       mine-called c id k = by (place_of id mine.table.records) k.called
         where
           by : (o : Option ℕ) → mine1 ≡ with_table mine (called_in c o mine.table) → StaysOnCourse lossless put mine theirs forth back → StaysOnCourse lossless put mine1 theirs forth back
@@ -215,7 +215,7 @@ module _ (laws : CourseLaws) (lossless : Bool) (put : Put) where
 
     -- ---- steps of the other entity
     module _ (mine theirs theirs1 : EntityState) (forth back : List Pdu) (order_mine : IsInOrder put_of mine.table) (order : IsInOrder put_of theirs.table) where
-      pub theirs-called : (c : Call) (id : TransactionId) → IsCalled c id theirs theirs1 → StaysOnCourse lossless put mine theirs forth back → StaysOnCourse lossless put mine theirs1 forth back
+      pub theirs-called : (c : Request) (id : TransactionId) → IsCalled c id theirs theirs1 → StaysOnCourse lossless put mine theirs forth back → StaysOnCourse lossless put mine theirs1 forth back
       theirs-called c id k = by (place_of id theirs.table.records) k.called
         where
           by : (o : Option ℕ) → theirs1 ≡ with_table theirs (called_in c o theirs.table) → StaysOnCourse lossless put mine theirs forth back → StaysOnCourse lossless put mine theirs1 forth back

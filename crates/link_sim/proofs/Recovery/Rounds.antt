@@ -1,6 +1,5 @@
 -- Rounds of a recovery, one behind the other, and how often the time was told in them.
 use Rattle.std.proofs.Common.{◌≡◌, ℕ, suc, ◌+◌, ◌<◌, List, [], ◌∷◌, ◌++◌, length, Result, Err, refl, sym, ap, subst, ◌∙◌, inl, inr, arith, length-append}
-use Rattle.std.specs.Prelude.{IfErr}
 use Rattle.cfd_bits.specs.Counting.{raised}
 use Rattle.cfdp_timers.specs.ButInactivity.{IsLeastOther}
 use Rattle.link_sim.specs.declared.event.Event.{Event}
@@ -12,6 +11,7 @@ use Rattle.link_sim.specs.declared.recover_error.RecoverError.{RecoverError}
 use Rattle.link_sim.specs.declared.recover_error.RecoverError.TheVariants.{Settle}
 use Rattle.link_sim.specs.declared.side.Side.{Side}
 use Rattle.link_sim.specs.declared.side.Side.TheVariants.{One, Two}
+use Rattle.link_sim.specs.Calls.{TriesRecovery}
 use Rattle.link_sim.specs.Recovering.{AreRounds, EndsBy, HasEnded, IsNext, Recovers, Round, StaysArmed, armed_at, most_rounds, raised_by}
 use Rattle.link_sim.specs.Settling.{IsOfSettling, AreOfSettling, GoesWell, IsSettled}
 use Rattle.link_sim.specs.Onward.{AllAdvance, GoesOn, RecoversOn}
@@ -113,10 +113,10 @@ run-more n old mid new low h r round advances =
 
 -- ---- how it ends
 -- an error that is handed up
-pub ended-by : {X : Type 0} (r : Result X RecoverError) (y : RecoverError) (error : SettleError) (old new : WorldState) → r ≡ Err y → y ≡ Settle error → HasEnded error old new →
-    IfErr r (λ (e : RecoverError). EndsBy e old new)
-ended-by {X = X} r y error old new is same h =
-    subst (λ (x : Result X RecoverError). IfErr x (λ (e : RecoverError). EndsBy e old new)) (sym is) (subst (λ (e : RecoverError). EndsBy e old new) (sym same) h)
+pub recovery-ended : (r : Result (Unit {0}) RecoverError) (y : RecoverError) (error : SettleError) (old new : WorldState) → r ≡ Err y → y ≡ Settle error → HasEnded error old new → TriesRecovery r old new
+recovery-ended r y error old new is same h =
+    subst (λ (x : Result (Unit {0}) RecoverError). TriesRecovery x old new) (sym is)
+    (record { recovered = tt; well = tt; cause = subst (λ (e : RecoverError). EndsBy e old new) (sym same) h })
 
 pub next-least : (s : Side) (now : ℕ) (w : WorldState) → IsNext s now w → IsLeastOther (armed_at s w) now
 next-least One now w h = h

@@ -1,6 +1,9 @@
 -- Polls and flushes of one station, one after another.
 use Rattle.std.proofs.Common.{◌≡◌, ℕ, suc, Bool, true, false, inl, inr, refl, Result, Ok, Err}
+use Rattle.std.specs.Prelude.{IsErrAnd}
 use Rattle.std.specs.Result.{OnErr}
+use Rattle.std.specs.declared.alloc.AllocError.{AllocError}
+use Rattle.link_sim.specs.Calls.{TriesBurst, TriesSpread}
 use Rattle.link_sim.specs.Spreading.{BurstFindsNoMemory, Bursts, FlushesOnce, PollFindsNoMemory, PollMoves, PollRests, PollsAll, SendsOut, SpreadFindsNoMemory, Spreads, Times}
 use Rattle.link_sim.specs.World.State.{WorldState}
 use Rattle.link_sim.specs.World.Steps.{FindsNoMemory, Steps}
@@ -41,6 +44,10 @@ spread_lacks s old last new so lacks = record { count = so.count; last = last; s
 pub flush_lacks : (s : Side) (old last mid new : WorldState) → SentSoFar s old last → PollMoves s last mid → FindsNoMemory s mid new → SpreadFindsNoMemory s old new
 flush_lacks s old last mid new so moves lacks = record { count = so.count; last = last; sent = so.sent; ends = inr (mid, moves, lacks) }
 
+pub spread_failed : (Q : AllocError → Type 0) (r : Result (Unit {0}) AllocError) (s : Side) (old new : WorldState) → IsErrAnd r Q → SpreadFindsNoMemory s old new → TriesSpread s r old new
+spread_failed Q (Ok x) s old new h lacks = absurd h
+spread_failed Q (Err e) s old new h lacks = record { rests = tt; spreads = tt; lacks = lacks }
+
 -- ---- with one flush behind all polls
 pub record PolledSoFar (s : Side) (old now : WorldState) : Type 0 where
   pub count : ℕ
@@ -67,3 +74,7 @@ burst_lacks_poll s old new lacks = inl lacks
 
 pub burst_lacks_flush : (s : Side) (old rested new : WorldState) → PollsAll s old rested → FindsNoMemory s rested new → BurstFindsNoMemory s old new
 burst_lacks_flush s old rested new polls lacks = inr (rested, polls, lacks)
+
+pub burst_failed : (Q : AllocError → Type 0) (r : Result (Unit {0}) AllocError) (s : Side) (old new : WorldState) → IsErrAnd r Q → BurstFindsNoMemory s old new → TriesBurst s r old new
+burst_failed Q (Ok x) s old new h lacks = absurd h
+burst_failed Q (Err e) s old new h lacks = record { rests = tt; bursts = tt; lacks = lacks }

@@ -53,13 +53,13 @@ use Rattle.cfdp_receiver.specs.Steps.{ReceiverAfter, leaving, telling, heard, ti
 use Rattle.cfdp_receiver.specs.Steps as receiver
 use Rattle.cfdp_receiver.specs.Sound.{ReceiverInput, hears_content, receiver_hears, receiver_step, opens_hearing}
 use Rattle.cfdp_receiver.specs.Sound as machine
-use Rattle.cfdp_entity.specs.declared.call.Call.{Call}
-use Rattle.cfdp_entity.specs.declared.call.Call.TheVariants as call
+use Rattle.cfdp_entity.specs.declared.request.Request.{Request}
+use Rattle.cfdp_entity.specs.declared.request.Request.TheVariants as call
 use Rattle.cfdp_entity.specs.declared.config.EntityConfig.{EntityConfig}
 use Rattle.cfdp_entity.specs.declared.error.EntityDrop.{EntityDrop}
 use Rattle.cfdp_entity.specs.declared.error.PutError.TheVariants as puts
-use Rattle.cfdp_entity.specs.Calling.{called_in}
-use Rattle.cfdp_entity.specs.Calls.{IsCalled}
+use Rattle.cfdp_entity.specs.Refusing.{called_in}
+use Rattle.cfdp_entity.specs.Requests.{IsCalled}
 use Rattle.cfdp_entity.specs.Config.{IsConfig}
 use Rattle.cfdp_entity.specs.Entity.{EntityState, Counted, first_entity, own_id}
 use Rattle.cfdp_entity.specs.Hearing.{HearsOctets, DropsOctets}
@@ -318,7 +318,7 @@ module _ (most : ℕ) (limit : size_limit true ≤ most) (policy : Policy) (file
   expires-within k (Sends x) w = by-sender [] (inputs.Expires k) x w
   expires-within k (Receives r m) w = by-receiver Done (machine.Expires k policy) m r w
 
-  calls-within : (c : Call) (s : Seen) → Kept most s (calls policy.times files c s)
+  calls-within : (c : Request) (s : Seen) → Kept most s (calls policy.times files c s)
   calls-within call.Cancel (Sends x) w = by-sender [] inputs.Cancels x w
   calls-within call.Suspend (Sends x) w = by-sender [] inputs.Suspends x w
   calls-within call.Resume (Sends x) w = by-sender [] inputs.Resumes x w
@@ -430,7 +430,7 @@ module _ (most : ℕ) (limit : size_limit true ≤ most) where
   table-taken stored place st h = stepped-within (λ e. takes stored st.policy.times st.sources st.files e.1) (λ e. takes-within most limit st.policy st.files stored st.sources e.1) st place
       (slice_get st.records place) refl h
 
-  table-called : (c : Call) (o : Option ℕ) (st : TableState) → AreWithin most st.records → AreWithin most (called_in c o st).records
+  table-called : (c : Request) (o : Option ℕ) (st : TableState) → AreWithin most st.records → AreWithin most (called_in c o st).records
   table-called c (Some place) st h = stepped-within (λ e. calls st.policy.times st.files c e.1) (λ e. calls-within most limit st.policy st.files c e.1) st place (slice_get st.records place) refl h
   table-called c None st h = h
 
@@ -454,7 +454,7 @@ module _ (most : ℕ) (limit : size_limit true ≤ most) where
       by None at = within-beyond most old (own_id 0 0) old.records place s.seen at h
 
   -- ---- an entity
-  pub within-called : (c : Call) (id : TransactionId) (old new : EntityState) → IsCalled c id old new → AreWithin most old.table.records → AreWithin most new.table.records
+  pub within-called : (c : Request) (id : TransactionId) (old new : EntityState) → IsCalled c id old new → AreWithin most old.table.records → AreWithin most new.table.records
   within-called c id old new is h = subst (λ (e : EntityState). AreWithin most e.table.records) (sym is.called) (table-called c (place_of id old.table.records) old.table h)
 
   pub within-ticked : (now : ℕ) (old new : TableState) → Ticks now old new → AreWithin most old.records → AreWithin most new.records

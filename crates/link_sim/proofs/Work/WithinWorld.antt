@@ -6,8 +6,8 @@ use Rattle.cfdp_header.specs.Files.{FileMap}
 use Rattle.cfdp_directives.specs.Pdu.Codes.{size_limit}
 use Rattle.cfdp_store.specs.declared.stored.Stored.{Stored}
 use Rattle.cfdp_store.specs.declared.stored.Stored.TheVariants.{Done, Refused}
-use Rattle.cfdp_entity.specs.declared.call.Call.{Call}
-use Rattle.cfdp_entity.specs.declared.call.Call.TheVariants as calls
+use Rattle.cfdp_entity.specs.declared.request.Request.{Request}
+use Rattle.cfdp_entity.specs.declared.request.Request.TheVariants as calls
 use Rattle.cfdp_entity.specs.Config.{IsConfig}
 use Rattle.cfdp_entity.specs.Entity.{EntityState}
 use Rattle.cfdp_entity.specs.Polling.{turn, served}
@@ -55,7 +55,7 @@ module _ (old new : WorldState) (config : (t : Side) → IsConfig (entity_at t o
   put-within : (s : Side) (source destination : List ℕ) → TakesPut s source destination old new → (t : Side) → Within t new
   put-within s source destination h = one-within s h.links.spares (within-put most_offset limit source destination h.id (entity_at s old) (entity_at s new) (config s) h.accepts (is s))
 
-  called-within : (s : Side) (c : Call) (id : TransactionId) → StepsAt s c id old new → (t : Side) → Within t new
+  called-within : (s : Side) (c : Request) (id : TransactionId) → StepsAt s c id old new → (t : Side) → Within t new
   called-within s c id h = one-within s h.links.spares (within-called most_offset limit c id (entity_at s old) (entity_at s new) h.called (is s))
 
   told-within : (s : Side) (now : ℕ) → TellsTime s now old new → (t : Side) → Within t new
@@ -76,7 +76,7 @@ module _ (old new : WorldState) (config : (t : Side) → IsConfig (entity_at t o
   put-by (did.Refused (refusal.Call by)) s source destination h = absurd h
   put-by (did.Refused refusal.LossRunTooLong) s source destination h = absurd h
 
-  call-by : (d : Applied) (s : Side) (k : Call) (id : TransactionId) → Calls d s k id old new → (t : Side) → Within t new
+  call-by : (d : Applied) (s : Side) (k : Request) (id : TransactionId) → Calls d s k id old new → (t : Side) → Within t new
   call-by did.Applied s k id h = called-within s k id h
   call-by did.Nothing s k id h = absurd h
   call-by (did.Refused (refusal.Put by)) s k id h = absurd h

@@ -11,18 +11,18 @@ use Rattle.link_stack.specs.Upward.{lane_up}
 use Rattle.cfdp_store.specs.declared.stored.Stored.TheVariants as storeds
 use Rattle.cfdp_store.specs.Chains.{Raises}
 use Rattle.cfdp_store.specs.Stores.{Counts}
-use Rattle.cfdp_entity.specs.declared.call.Call.{Call}
-use Rattle.cfdp_entity.specs.declared.call.Call.TheVariants as calls
+use Rattle.cfdp_entity.specs.declared.request.Request.{Request}
+use Rattle.cfdp_entity.specs.declared.request.Request.TheVariants as calls
 use Rattle.cfdp_entity.specs.declared.error.PutError.{PutError}
 use Rattle.cfdp_entity.specs.declared.error.PutError.TheVariants as put_errors
-use Rattle.cfdp_entity.specs.declared.error.CallError.{CallError}
-use Rattle.cfdp_entity.specs.declared.error.CallError.TheVariants as call_errors
-use Rattle.cfdp_entity.specs.Calls.{IsCalled, asks_inbox, call_refusal}
+use Rattle.cfdp_entity.specs.declared.error.RequestError.{RequestError}
+use Rattle.cfdp_entity.specs.declared.error.RequestError.TheVariants as call_errors
+use Rattle.cfdp_entity.specs.Requests.{IsCalled, asks_inbox, request_refusal}
 use Rattle.cfdp_entity.specs.Entity.{with_table}
 use Rattle.cfdp_entity.specs.Polling.{Place, Rests, turn, served}
 use Rattle.cfdp_entity.specs.Putting.{Accepts, IsPutRefusal, put_refusal, stored_by_error}
 use Rattle.cfdp_entity.specs.Sound.{SpellsTurn}
-use Rattle.cfdp_entity.specs.Storing.{AsksByCall, AsksToTick}
+use Rattle.cfdp_entity.specs.Storing.{AsksToTick}
 use Rattle.cfdp_entity.specs.Table.{Ticks, data_at}
 use Rattle.cfdp_station.specs.Link.{next_lane}
 use Rattle.cfdp_station.specs.Polling.{next_pdu}
@@ -35,7 +35,7 @@ use Rattle.link_sim.specs.declared.event.Applied.{Applied}
 use Rattle.link_sim.specs.declared.event.Applied.TheVariants as did
 use Rattle.link_sim.specs.declared.event.Refusal.TheVariants as refusal
 use Rattle.link_sim.specs.FrameLink.{most_struck}
-use Rattle.link_sim.specs.AtStation.{KeepsFailures, KeepsOutbox, CountsPut}
+use Rattle.link_sim.specs.AtStation.{KeepsFailures, KeepsOutbox, CountsPut, RaisesByRequest}
 use Rattle.link_sim.specs.OneWay.{SendsMore, SendsNone, HearsMore}
 use Rattle.link_sim.specs.Stations.{other}
 use Rattle.link_sim.specs.World.State.{LinkState, WorldState, entity_at, lane_from, link_from, station_at, way_from}
@@ -105,33 +105,25 @@ Puts (did.Refused (refusal.Put by)) s source destination old new =
 Puts (did.Refused (refusal.Call by)) s source destination old new = ⊥
 Puts (did.Refused refusal.LossRunTooLong) s source destination old new = ⊥
 
--- What a call asked of the inbox was counted where it failed: a cancel that its step's calls did,
--- and no other call asks anything.
-abbrev pub RaisesByCall : Side → Call → TransactionId → (old new : WorldState) → Type 0
-RaisesByCall s calls.Cancel id old new = AsksByCall Raises calls.Cancel id (entity_at s old).table
-    (station_at s old).entity.inbox_failures (station_at s new).entity.inbox_failures
-RaisesByCall s _ id old new =
-    (station_at s new).entity.inbox_failures ≡ (station_at s old).entity.inbox_failures
-
 -- A call on a transaction was one step of its record. Only one that gives up what is received may
 -- ask something of the inbox, and so fail there.
-pub record StepsAt (s : Side) (c : Call) (id : TransactionId) (old new : WorldState) : Type 0 where
+pub record StepsAt (s : Side) (c : Request) (id : TransactionId) (old new : WorldState) : Type 0 where
   pub called : IsCalled c id (entity_at s old) (entity_at s new)
   pub failures : KeepsOutbox (station_at s old).entity (station_at s new).entity
   pub inbox : asks_inbox c id (entity_at s old).table ≡ false
       → (station_at s new).entity.inbox_failures ≡ (station_at s old).entity.inbox_failures
-  pub raises : RaisesByCall s c id old new
+  pub raises : RaisesByRequest c id (station_at s old).entity (station_at s new).entity
   pub links : KeepsLinks s old new
   pub counts : KeepsCounts old new
 
 -- It was refused by this cause.
-pub record RefusesCall (s : Side) (c : Call) (id : TransactionId) (by : CallError)
+pub record RefusesCall (s : Side) (c : Request) (id : TransactionId) (by : RequestError)
     (old new : WorldState) : Type 0 where
   pub no_memory : by ≢ call_errors.NoMemory
-  pub cause : call_refusal c id (entity_at s old).table ≡ Some by
+  pub cause : request_refusal c id (entity_at s old).table ≡ Some by
   pub same : new ≡ old
 
-abbrev pub Calls : Applied → Side → Call → TransactionId → (old new : WorldState) → Type 0
+abbrev pub Calls : Applied → Side → Request → TransactionId → (old new : WorldState) → Type 0
 Calls did.Applied s c id old new = StepsAt s c id old new
 Calls did.Nothing s c id old new = ⊥
 Calls (did.Refused (refusal.Put by)) s c id old new = ⊥

@@ -14,15 +14,17 @@ loop-preserved g c =
     let f = c.pull_next.new.station.down in
     let h = e.pulls refl in
     record {
-      lens = pulled-lens d f c.loop.links c.pull_next.new.links h inv.lens;
-      enough = pulled-enough d f c.loop.links c.pull_next.new.links h inv.enough;
+      buffers = record {
+        lens = pulled-lens d f c.loop.links c.pull_next.new.links h inv.buffers.lens;
+        enough = pulled-enough d f c.loop.links c.pull_next.new.links h inv.buffers.enough;
+      };
       lanes = pulled-lanes d f c.loop.links c.pull_next.new.links h c.args.station.now.down c.args.links.now inv.lanes;
       packet_count = h.ends.packet_count ∙ inv.packet_count;
       rest = (e.rest.0 ∙ inv.rest.0, e.rest.1 ∙ inv.rest.1);
     }
 
-pub returns-clause-lanes : goal.returns-clause-lanes
-returns-clause-lanes g c =
+pub returns : goal.returns
+returns g c =
     let old : DownState = c.args.station.now.down in
     let links : FrameLinksState = c.args.links.now in
     let new : StationState = c.pull_next.new.station in
@@ -32,4 +34,8 @@ returns-clause-lanes g c =
     let so : (l : Lane) → PullsSome (lane_down l old) (lane_down l new.down) (lane_of_links l links) (lane_of_links l links_now) = λ (l : Lane).
     subst (λ (k : FrameLinksState). PullsSome (lane_down l old) (lane_down l new.down) (lane_of_links l links) (lane_of_links l k)) (sym stays.0)
     (subst (λ (s : StationState). PullsSome (lane_down l old) (lane_down l s.down) (lane_of_links l links) (lane_of_links l c.loop.links)) (sym stays.1) (c.loop.invariant.lanes l)) in
-    pulled-all old new.down links links_now so none
+    record {
+      lanes = pulled-all old new.down links links_now so none;
+      packet_count = ap (λ (s : StationState). s.down.packet_count) stays.1 ∙ c.loop.invariant.packet_count;
+      rest = (ap (λ (s : StationState). s.entity) stays.1 ∙ c.loop.invariant.rest.0, ap (λ (s : StationState). s.up) stays.1 ∙ c.loop.invariant.rest.1);
+    }

@@ -37,7 +37,7 @@ returns-in-Some-Directives-clause-pulls g c done =
       used = e.used done;
       grown = e.grown done;
       placed = e.placed done ∙ ap (λ (n : ℕ). i.directives.places ++ n ∷ []) (c.count-place.ensures ∙ ap frames_sent (sym c.links.view_is));
-      other = e.other;
+      other = e.only.other;
       other_link = refl;
       ends = e.fixed;
       marks = each-lane (λ (m : Lane). IsSameMarks (lane_of_links m (record { directives = i.directives; file_data = i.file_data })) (lane_of_links m new))
@@ -66,7 +66,7 @@ returns-in-Some-Data-clause-pulls g c done =
       used = e.used done;
       grown = e.grown done;
       placed = e.placed done ∙ ap (λ (n : ℕ). i.file_data.places ++ n ∷ []) (c.count-place.ensures ∙ ap frames_sent (sym c.links.view_is));
-      other = e.other;
+      other = e.only.other;
       other_link = refl;
       ends = e.fixed;
       marks = each-lane (λ (m : Lane). IsSameMarks (lane_of_links m (record { directives = i.directives; file_data = i.file_data })) (lane_of_links m new))

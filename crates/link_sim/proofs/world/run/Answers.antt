@@ -1,7 +1,7 @@
+use Rattle.link_sim.proofs.Events.Happening.{happens-led}
 use Rattle.link_sim.proofs.world.run.Goals as goal
 
-pub returns-in-Ok-clause-inboxes : goal.returns-in-Ok-clause-inboxes
-returns-in-Ok-clause-inboxes g c s = (c.in-Ok.ensures.keeps s _ (c.in_ok-world.ensures.holds s) (c.in_ok-world.ensures.inboxes s)).1
-
-pub returns-in-Ok-clause-holds : goal.returns-in-Ok-clause-holds
-returns-in-Ok-clause-holds g c s = (c.in-Ok.ensures.keeps s _ (c.in_ok-world.ensures.holds s) (c.in_ok-world.ensures.inboxes s)).0
+pub returns-in-Ok-clause-promised : goal.returns-in-Ok-clause-promised
+returns-in-Ok-clause-promised g c =
+    c.worlds_keep_the_promises.ensures.keeps c.args.config _ _ c.in_ok-world.world c.apply_all.new.world c.requires c.in_ok-world.ensures.first
+    (happens-led c.args.events.now c.in_ok-world.world c.apply_all.new.world c.in-Ok.ensures)

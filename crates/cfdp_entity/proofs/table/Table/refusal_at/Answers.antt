@@ -1,14 +1,14 @@
 use Rattle.std.proofs.Common.{ap, sym, ◌∙◌, slice_get}
-use Rattle.cfdp_entity.specs.Calling.{refusal_of}
+use Rattle.cfdp_entity.specs.Refusing.{refusal_of}
 use Rattle.cfdp_entity.specs.Roomy.{Roomy}
 use Rattle.cfdp_entity.proofs.Entries.{seen_by_entry, seen_nowhere}
 use Rattle.cfdp_entity.proofs.table.Table.refusal_at.Goals as goal
 
 pub returns-in-Some : goal.returns-in-Some
-returns-in-Some g c = c.refusal.ensures (g.I.Inbox.staged c.self.inside.desk.inbox _) ∙ ap (refusal_of c.args.call)
+returns-in-Some g c = c.refusal.ensures (g.I.Inbox.staged c.self.inside.desk.inbox _) ∙ ap (refusal_of c.args.request)
     (sym (seen_by_entry (g.I.Inbox.staged c.self.inside.desk.inbox) c.self.inside.records.entries c.args.place _ c.in-Some.held.now c.in-Some.ensures.entry))
-    ∙ ap (λ (v : Roomy). refusal_of c.args.call (slice_get v.state.records c.args.place)) c.self.view_is
+    ∙ ap (λ (v : Roomy). refusal_of c.args.request (slice_get v.state.records c.args.place)) c.self.view_is
 
 pub returns-in-None : goal.returns-in-None
-returns-in-None g c = ap (refusal_of c.args.call) (sym (seen_nowhere (g.I.Inbox.staged c.self.inside.desk.inbox) c.self.inside.records.entries c.args.place c.in-None.ensures.entry)) ∙ ap
-    (λ (v : Roomy). refusal_of c.args.call (slice_get v.state.records c.args.place)) c.self.view_is
+returns-in-None g c = ap (refusal_of c.args.request) (sym (seen_nowhere (g.I.Inbox.staged c.self.inside.desk.inbox) c.self.inside.records.entries c.args.place c.in-None.ensures.entry)) ∙ ap
+    (λ (v : Roomy). refusal_of c.args.request (slice_get v.state.records c.args.place)) c.self.view_is

@@ -1,7 +1,7 @@
 use Rattle.std.proofs.Common.{◌+◌, ◌++◌, ◌∷◌, ◌∙◌, [], refl, subst}
 use Rattle.std.proofs.KnownBytes.{Appends-nil}
 use Rattle.cfdp_node.specs.Station.Serving.{Answers, MakesNext}
-use Rattle.cfdp_node.proofs.ServingLemmas.{gains-both, gains-same}
+use Rattle.cfdp_port.proofs.GainLemmas.{gains-both, gains-same}
 use Rattle.cfdp_node.proofs.StationReports.{each-none, each-then, none-more, text-more}
 use Rattle.cfdp_node.proofs.station.serving.make_puts.Goals as goal
 
@@ -15,8 +15,8 @@ loop-served-preserved g c =
     let next = c.in_ok-make_next.ensures.makes in
     let line = Answers number next.0 in
     let makes = subst (λ xs. MakesNext xs line
-    (record { station = c.loop-served.station; made = c.loop-served.served.made; short = c.loop-served.served.short })
-    (record { station = c.make_next.new.station; made = c.make_next.new.served.made; short = c.make_next.new.served.short })) c.as_slice-puts.ensures.value next.1 in (
+    (record { station = c.loop-served.port.station; made = c.loop-served.served.made; short = c.loop-served.served.short })
+    (record { station = c.make_next.new.port.station; made = c.make_next.new.served.made; short = c.make_next.new.served.short })) c.as_slice-puts.ensures.value next.1 in (
       (
         before.0 ++ line ∷ [],
         each-then c.args.options.now.puts.items before.0 line _ _ _ before.1 makes,
@@ -25,5 +25,5 @@ loop-served-preserved g c =
       ),
       gains-both _ _ _ c.loop-served.invariant.1 c.make_next.ensures.gains,
       c.make_next.ensures.complete ∙ c.loop-served.invariant.2,
-      c.make_next.ensures.down ∙ c.loop-served.invariant.3,
+      c.make_next.ensures.wire ∙ c.loop-served.invariant.3,
     )

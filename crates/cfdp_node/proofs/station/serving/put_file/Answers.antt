@@ -1,13 +1,12 @@
-use Rattle.std.proofs.Common.{List, ℕ, inl, subst}
-use Rattle.cfdp_entity.specs.Looking.{LooksUp}
-use Rattle.cfdp_node.specs.Station.Serving.{LooksAt}
+use Rattle.std.proofs.Common.{List, ℕ, inl, refl, subst, ◌∙◌}
+use Rattle.cfdp_port.specs.Asking.{LooksAt}
+use Rattle.cfdp_node.proofs.LoopLemmas.{puts_as}
 use Rattle.cfdp_node.proofs.station.serving.put_file.Goals as goal
 
 pub returns-in-Ok-clause-puts : goal.returns-in-Ok-clause-puts
 returns-in-Ok-clause-puts g c =
-    let looked : LooksAt c.args.names.now.source.items c.args.station.now c.look_for.new.self = record {
-      looks = subst (λ (name : List ℕ). LooksUp name c.args.station.now.entity.state c.look_for.new.self.entity.state) c.as_slice.ensures.value c.in-Ok.ensures.looks;
-      failures = (c.in-Ok.ensures.outbox, c.in-Ok.ensures.inbox);
-      link = c.in-Ok.ensures.link;
-    } in
-    inl (c.look_for.new.self, looked, c.put_found.ensures.puts)
+    let names = c.args.names.now in
+    let looked = subst (λ (name : List ℕ). LooksAt name c.args.port.now.station c.look_for.new.self.station) c.as_slice.ensures.value c.in-Ok.ensures.looks.happens in
+    let put = puts_as names.source.items c.as_slice-in-Ok.result.now names.destination.items c.as_slice-in-Ok-2.result.now
+    c.as_slice-in-Ok.ensures.value c.as_slice-in-Ok-2.ensures.value c.put.result c.put.result refl c.look_for.new.self c.put.new.self c.put.ensures.puts in
+    record { happens = inl (c.look_for.new.self.station, looked, put.happens); wire = put.wire ∙ c.in-Ok.ensures.looks.wire }

@@ -6,14 +6,12 @@ use Rattle.cfdp_node.proofs.station.serving.run_all.Goals as goal
 
 pub returns-in-Ok : goal.returns-in-Ok
 returns-in-Ok g c =
-    let station = c.serve-served.new.station in
-    let read = c.failures-read.ensures ∙ c.outbox.ensures.failures in
-    let written = c.failures-written.ensures ∙ c.inbox.ensures.failures in
-    let failed = c.have_failed-failed.ensures ∙ ap₂ (λ r w. more_failures r w station station) read written in
-    let asked = ap length c.as_slice.ensures.value in
-    is_told c.exit.result _ (record {
+    let station = c.serve-served.new.port.station in
+    let failed = c.have_failed-failed.ensures ∙ ap₂ (λ r w. more_failures r w station station) c.outbox_failures-read.ensures c.inbox_failures-written.ensures in
+    let asked = ap length c.as_slice-asked.ensures.value in
+    is_told c.of_run.result _ (record {
       short = c.in-Ok.served.short;
       lines = c.in-Ok.ensures.0;
       serves = c.in-Ok.ensures.1;
-      ends = c.exit.ensures ∙ same-exit c.in-Ok.served.short _ _ _ _ _ _ failed c.in-Ok.ensures.2 asked;
+      ends = c.of_run.ensures ∙ same-exit c.in-Ok.served.short _ _ _ _ _ _ failed c.in-Ok.ensures.2 asked;
     })

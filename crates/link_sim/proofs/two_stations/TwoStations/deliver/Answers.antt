@@ -4,9 +4,10 @@ use Rattle.link_stack.specs.Downward.{DownState, lane_down}
 use Rattle.link_sim.specs.declared.side.Side.{Side}
 use Rattle.link_sim.specs.declared.side.Side.TheVariants.{One, Two}
 use Rattle.link_sim.specs.AtStation.{AreCarried}
+use Rattle.link_sim.specs.FrameLink.{lane_of_links}
 use Rattle.link_sim.specs.World.State.{WorldState}
 use Rattle.link_sim.specs.World.Steps.{Delivers}
-use Rattle.link_sim.proofs.Events.AtStations.{arrived_all}
+use Rattle.link_sim.proofs.Events.AtStations.{arrived-down, arrived_all}
 use Rattle.link_sim.proofs.Events.InWorlds.{delivers-one, delivers-two, world_of}
 use Rattle.link_sim.proofs.two_stations.TwoStations.deliver.Goals as goal
 
@@ -15,7 +16,7 @@ invariant_of-self g c =
     let i = c.self.inside in
     let is = c.self.invariant in
     let e = c.deliver_at.ensures in
-    (arrived_all c.args.lane c.deliver_at.result i.one.down i.from_one c.deliver_at.new.links i.two c.deliver_at.new.station e.arrives e.other is.0, subst (λ (d : DownState). AreCarried d i.from_two i.one.up) (sym e.down) is.1, is.2, subst (λ (d : DownState). (l : Lane) → 8192 ≤ (lane_down l d).capacity) (sym e.down) is.3)
+    (arrived_all c.args.lane c.deliver_at.result i.one.down i.from_one c.deliver_at.new.links i.two c.deliver_at.new.station e.does e.other is.0, subst (λ (d : DownState). AreCarried d i.from_two i.one.up) (sym (arrived-down c.deliver_at.result c.args.lane (lane_of_links c.args.lane i.from_one) (lane_of_links c.args.lane c.deliver_at.new.links) i.two c.deliver_at.new.station e.does)) is.1, is.2, subst (λ (d : DownState). (l : Lane) → 8192 ≤ (lane_down l d).capacity) (sym (arrived-down c.deliver_at.result c.args.lane (lane_of_links c.args.lane i.from_one) (lane_of_links c.args.lane c.deliver_at.new.links) i.two c.deliver_at.new.station e.does)) is.3)
 
 pub returns-in-One : goal.returns-in-One
 returns-in-One g c =
@@ -25,14 +26,14 @@ returns-in-One g c =
     let l : Lane = c.args.lane in
     let new : WorldState = world_of i.one c.deliver_at.new.station c.deliver_at.new.links i.from_two i.puts.items i.ticks in
     subst (λ (s : Side). Delivers r s l c.args.self.now new) (sym c.in-One.is) (subst (λ (w : WorldState). Delivers r One l w new) c.self.view_is
-    (delivers-one l i.from_one c.deliver_at.new.links i.from_two i.two c.deliver_at.new.station i.one i.puts.items i.ticks e.other e.down r e.arrives (c.self.invariant.0 l)))
+    (delivers-one l i.from_one c.deliver_at.new.links i.from_two i.two c.deliver_at.new.station i.one i.puts.items i.ticks e.other (arrived-down c.deliver_at.result c.args.lane (lane_of_links c.args.lane i.from_one) (lane_of_links c.args.lane c.deliver_at.new.links) i.two c.deliver_at.new.station e.does) r e.does (c.self.invariant.0 l)))
 
 pub invariant_of-self-in-Two : goal.invariant_of-self-in-Two
 invariant_of-self-in-Two g c =
     let i = c.self.inside in
     let is = c.self.invariant in
     let e = c.deliver_at-in-Two.ensures in
-    (subst (λ (d : DownState). AreCarried d i.from_one i.two.up) (sym e.down) is.0, arrived_all c.args.lane c.deliver_at-in-Two.result i.two.down i.from_two c.deliver_at-in-Two.new.links i.one c.deliver_at-in-Two.new.station e.arrives e.other is.1, subst (λ (d : DownState). (l : Lane) → 8192 ≤ (lane_down l d).capacity) (sym e.down) is.2, is.3)
+    (subst (λ (d : DownState). AreCarried d i.from_one i.two.up) (sym (arrived-down c.deliver_at-in-Two.result c.args.lane (lane_of_links c.args.lane i.from_two) (lane_of_links c.args.lane c.deliver_at-in-Two.new.links) i.one c.deliver_at-in-Two.new.station e.does)) is.0, arrived_all c.args.lane c.deliver_at-in-Two.result i.two.down i.from_two c.deliver_at-in-Two.new.links i.one c.deliver_at-in-Two.new.station e.does e.other is.1, subst (λ (d : DownState). (l : Lane) → 8192 ≤ (lane_down l d).capacity) (sym (arrived-down c.deliver_at-in-Two.result c.args.lane (lane_of_links c.args.lane i.from_two) (lane_of_links c.args.lane c.deliver_at-in-Two.new.links) i.one c.deliver_at-in-Two.new.station e.does)) is.2, is.3)
 
 pub returns-in-Two : goal.returns-in-Two
 returns-in-Two g c =
@@ -42,4 +43,4 @@ returns-in-Two g c =
     let l : Lane = c.args.lane in
     let new : WorldState = world_of c.deliver_at-in-Two.new.station i.two i.from_one c.deliver_at-in-Two.new.links i.puts.items i.ticks in
     subst (λ (s : Side). Delivers r s l c.args.self.now new) (sym c.in-Two.is) (subst (λ (w : WorldState). Delivers r Two l w new) c.self.view_is
-    (delivers-two l i.from_two c.deliver_at-in-Two.new.links i.from_one i.one c.deliver_at-in-Two.new.station i.two i.puts.items i.ticks e.other e.down r e.arrives (c.self.invariant.1 l)))
+    (delivers-two l i.from_two c.deliver_at-in-Two.new.links i.from_one i.one c.deliver_at-in-Two.new.station i.two i.puts.items i.ticks e.other (arrived-down c.deliver_at-in-Two.result c.args.lane (lane_of_links c.args.lane i.from_two) (lane_of_links c.args.lane c.deliver_at-in-Two.new.links) i.one c.deliver_at-in-Two.new.station e.does) r e.does (c.self.invariant.1 l)))

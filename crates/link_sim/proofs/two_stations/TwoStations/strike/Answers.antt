@@ -13,7 +13,7 @@ invariant_of-self g c =
     let i = c.self.inside in
     let is = c.self.invariant in
     let e = c.strike_at.ensures in
-    (struck_all c.args.lane c.strike_at.result i.one.down i.from_one c.strike_at.new.links i.two.up e.strikes e.other is.0, is.1, is.2, is.3)
+    (struck_all c.args.lane c.strike_at.result i.one.down i.from_one c.strike_at.new.links i.two.up e.does e.other is.0, is.1, is.2, is.3)
 
 pub returns-in-One : goal.returns-in-One
 returns-in-One g c =
@@ -23,14 +23,14 @@ returns-in-One g c =
     let l : Lane = c.args.lane in
     let new : WorldState = world_of i.one i.two c.strike_at.new.links i.from_two i.puts.items i.ticks in
     subst (λ (s : Side). Strikes r s l c.args.self.now new) (sym c.in-One.is) (subst (λ (w : WorldState). Strikes r One l w new) c.self.view_is
-    (strikes-one l i.one i.two i.from_one c.strike_at.new.links i.from_two i.puts.items i.ticks e.other r e.strikes (c.self.invariant.0 l)))
+    (strikes-one l i.one i.two i.from_one c.strike_at.new.links i.from_two i.puts.items i.ticks e.other r e.does (c.self.invariant.0 l)))
 
 pub invariant_of-self-in-Two : goal.invariant_of-self-in-Two
 invariant_of-self-in-Two g c =
     let i = c.self.inside in
     let is = c.self.invariant in
     let e = c.strike_at-in-Two.ensures in
-    (is.0, struck_all c.args.lane c.strike_at-in-Two.result i.two.down i.from_two c.strike_at-in-Two.new.links i.one.up e.strikes e.other is.1, is.2, is.3)
+    (is.0, struck_all c.args.lane c.strike_at-in-Two.result i.two.down i.from_two c.strike_at-in-Two.new.links i.one.up e.does e.other is.1, is.2, is.3)
 
 pub returns-in-Two : goal.returns-in-Two
 returns-in-Two g c =
@@ -40,4 +40,4 @@ returns-in-Two g c =
     let l : Lane = c.args.lane in
     let new : WorldState = world_of i.one i.two i.from_one c.strike_at-in-Two.new.links i.puts.items i.ticks in
     subst (λ (s : Side). Strikes r s l c.args.self.now new) (sym c.in-Two.is) (subst (λ (w : WorldState). Strikes r Two l w new) c.self.view_is
-    (strikes-two l i.one i.two i.from_two c.strike_at-in-Two.new.links i.from_one i.puts.items i.ticks e.other r e.strikes (c.self.invariant.1 l)))
+    (strikes-two l i.one i.two i.from_two c.strike_at-in-Two.new.links i.from_one i.puts.items i.ticks e.other r e.does (c.self.invariant.1 l)))

@@ -1,49 +1,35 @@
-use Rattle.std.proofs.Common.{◌<◌, ◌≤◌, inr, ap, ◌≡◌, arith}
-use Rattle.std.proofs.lemmas.Result.{err_from_is_err_and}
 use Rattle.aos_frame.specs.declared.config.Lane.TheVariants.{Directives, Data}
-use Rattle.link_sim.specs.Observed.{seen}
-use Rattle.link_sim.specs.Settling.{HasCauseFrom, next_of}
+use Rattle.std.proofs.lemmas.Result.{err_from_is_err_and}
+use Rattle.link_sim.specs.Parts.{SettlesPart}
+use Rattle.link_sim.specs.Settling.{next_of}
 use Rattle.link_sim.specs.declared.event.Event.TheVariants as event
-use Rattle.link_sim.specs.Work.{world_work}
 use Rattle.link_sim.specs.declared.settle_error.SettleError.{SettleError}
-use Rattle.link_sim.proofs.Events.Folding.{leads-both}
-use Rattle.link_sim.proofs.Clean.Causes.{lowers-most, none-waits, on-both, cause-then, err-then}
+use Rattle.link_sim.proofs.Clean.Causes.{none-waits}
+use Rattle.link_sim.proofs.Clean.Parts.{err-as, first-fails, part-else, part-then, then-fails}
 use Rattle.link_sim.proofs.world.World.deliver_all.Goals as goal
 
-pub returns-in_err-file_data-clause-leads : goal.returns-in_err-file_data-clause-leads
-returns-in_err-file_data-clause-leads g c = leads-both (seen c.args.self.now) (seen c.repeat.new.self) (seen c.repeat-2.new.self) c.repeat.ensures.leads c.repeat-2.ensures.leads
+pub returns-in_err-directives-clause-part : goal.returns-in_err-directives-clause-part
+returns-in_err-directives-clause-part g c =
+    let p = err_from_is_err_and c.from_residual.result c.from_residual.ensures.1 in
+    let e : SettleError = c.in_err-directives.field-0.0 in
+    err-as c.from_residual.result (λ r. SettlesPart (event.Deliver c.args.side Directives) (next_of (event.Deliver c.args.side Data)) r c.args.self.now c.repeat.new.self) p.0 e p.1 p.2
+    (first-fails (event.Deliver c.args.side Directives) (next_of (event.Deliver c.args.side Directives)) (next_of (event.Deliver c.args.side Data)) e c.args.self.now c.repeat.new.self c.in_err-directives.ensures.part)
 
-pub returns-in_err-file_data-clause-cause : goal.returns-in_err-file_data-clause-cause
-returns-in_err-file_data-clause-cause g c =
+pub returns-in_err-file_data-clause-part : goal.returns-in_err-file_data-clause-part
+returns-in_err-file_data-clause-part g c =
     let p = err_from_is_err_and c.from_residual-in_err-file_data.result c.from_residual-in_err-file_data.ensures.1 in
     let e : SettleError = c.in_err-file_data.field-0.0 in
-    err-then c.from_residual-in_err-file_data.result (λ error. HasCauseFrom (event.Deliver c.args.side Directives) error c.args.self.now c.repeat-2.new.self) p.0 e p.1 p.2
-    (cause-then e (event.Deliver c.args.side Directives) (event.Deliver c.args.side Data) c.args.self.now c.repeat.new.self c.repeat-2.new.self (inr c.in_ok-directives.ensures.well) c.in_err-file_data.ensures.cause)
+    err-as c.from_residual-in_err-file_data.result (λ r. SettlesPart (event.Deliver c.args.side Directives) (next_of (event.Deliver c.args.side Data)) r c.args.self.now c.repeat-2.new.self) p.0 e p.1 p.2
+    (then-fails (event.Deliver c.args.side Directives) (event.Deliver c.args.side Data) (next_of (event.Deliver c.args.side Data)) (next_of (event.Deliver c.args.side Data)) c.in_ok-directives.directives e c.args.self.now c.repeat.new.self c.repeat-2.new.self c.in_ok-directives.ensures.part c.in_err-file_data.ensures.part)
 
-pub returns-then-directives-clause-leads : goal.returns-then-directives-clause-leads
-returns-then-directives-clause-leads g c = leads-both (seen c.args.self.now) (seen c.repeat.new.self) (seen c.repeat-2.new.self) c.repeat.ensures.leads c.repeat-2.ensures.leads
+pub returns-then-directives-clause-part : goal.returns-then-directives-clause-part
+returns-then-directives-clause-part g c = part-then (event.Deliver c.args.side Directives) (event.Deliver c.args.side Data) (next_of (event.Deliver c.args.side Data)) c.in_ok-directives.directives c.in_ok-directives.directives c.in_ok-file_data.file_data
+    c.args.self.now c.repeat.new.self c.repeat-2.new.self c.if-directives.true c.if-directives.true c.in_ok-directives.ensures.part c.in_ok-file_data.ensures.part
 
-pub returns-then-directives-clause-less : goal.returns-then-directives-clause-less
-returns-then-directives-clause-less g c happened =
-    let less : world_work c.repeat.new.self < world_work c.args.self.now = c.in_ok-directives.ensures.less c.if-directives.true in
-    let most : world_work c.repeat-2.new.self ≤ world_work c.repeat.new.self =
-    lowers-most c.in_ok-file_data.file_data c.repeat.new.self c.repeat-2.new.self (c.in_ok-file_data.ensures.less, c.in_ok-file_data.ensures.same) in
-    omega (arith, less, most)
-
-pub returns-else-directives-clause-less : goal.returns-else-directives-clause-less
-returns-else-directives-clause-less g c happened =
-    let same : world_work c.repeat.new.self ≡ world_work c.args.self.now = ap world_work (c.in_ok-directives.ensures.same c.if-directives.false) in
-    let less : world_work c.repeat-2.new.self < world_work c.repeat.new.self = c.in_ok-file_data.ensures.less happened in
-    omega (arith, less, same)
-
-pub returns-then-directives-clause-well : goal.returns-then-directives-clause-well
-returns-then-directives-clause-well g c = on-both (event.Deliver c.args.side Directives) (event.Deliver c.args.side Data)
-    (next_of (event.Deliver c.args.side Data)) c.args.self.now c.repeat.new.self c.repeat-2.new.self c.in_ok-directives.ensures.well c.in_ok-file_data.ensures.well
-
-pub returns-else-directives-clause-well : goal.returns-else-directives-clause-well
-returns-else-directives-clause-well g c = on-both (event.Deliver c.args.side Directives) (event.Deliver c.args.side Data)
-    (next_of (event.Deliver c.args.side Data)) c.args.self.now c.repeat.new.self c.repeat-2.new.self c.in_ok-directives.ensures.well c.in_ok-file_data.ensures.well
+pub returns-else-directives-clause-part : goal.returns-else-directives-clause-part
+returns-else-directives-clause-part g c = part-else (event.Deliver c.args.side Directives) (event.Deliver c.args.side Data) (next_of (event.Deliver c.args.side Data)) c.in_ok-directives.directives c.in_ok-file_data.file_data
+    c.args.self.now c.repeat.new.self c.repeat-2.new.self c.if-directives.false c.in_ok-directives.ensures.part c.in_ok-file_data.ensures.part
 
 pub returns-else-directives-clause-none_waits : goal.returns-else-directives-clause-none_waits
 returns-else-directives-clause-none_waits g c none =
-    none-waits c.args.side c.repeat.new.self c.repeat-2.new.self (c.in_ok-file_data.ensures.same none) c.in_ok-directives.ensures.idle c.in_ok-file_data.ensures.idle
+    none-waits c.args.side c.repeat.new.self c.repeat-2.new.self (c.in_ok-file_data.ensures.part.same none) c.in_ok-directives.ensures.idle c.in_ok-file_data.ensures.idle

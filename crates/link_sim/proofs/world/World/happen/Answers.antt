@@ -1,6 +1,7 @@
 use Rattle.std.proofs.Common.{◌≡◌, ◌⊎◌, inr, subst}
 use Rattle.cfdp_entity.specs.Sound.{FindsMore}
 use Rattle.std.specs.Prelude.{IfOk}
+use Rattle.link_sim.specs.Calls.{Applies}
 use Rattle.link_sim.specs.Clean.{IsClean}
 use Rattle.link_sim.specs.EveryPut.{KeepsPuts}
 use Rattle.link_sim.specs.Found.{ExpiresOn}
@@ -29,55 +30,36 @@ invariant_of-self g c =
           (λ k. law.puts_rest (side_in e) old new c.self.invariant.0 c.self.invariant.1 k) c.step-did.result c.step-did.ensures.steps c.step-did.ensures.err,
     )
 
-pub returns-clause-puts : goal.returns-clause-puts
-returns-clause-puts g c =
+pub returns-clause-applies : goal.returns-clause-applies
+returns-clause-applies g c =
     let law = c.events_keep_the_promises.ensures in
     let e = c.args.event.now in
+    let r = c.step-did.result in
+    let did_it = c.step-did.ensures.steps in
+    let none = c.step-did.ensures.err in
     let old : WorldState = c.self.inside.stations in
     let new : WorldState = c.step-did.new.self in
-    subst (λ (w : WorldState). FindsMore (put_of (seen w)) (put_of (seen new))) c.self.view_is
-    (by-step (λ old new. FindsMore (put_of (seen old)) (put_of (seen new))) e old new (λ did s. law.puts e did old new c.self.invariant.0 s)
-    (λ k. law.puts_stay (side_in e) old new k) c.step-did.result c.step-did.ensures.steps c.step-did.ensures.err)
-
-pub returns-clause-folds : goal.returns-clause-folds
-returns-clause-folds g c t =
-    let law = c.events_keep_the_promises.ensures in
-    let e = c.args.event.now in
-    let old : WorldState = c.self.inside.stations in
-    let new : WorldState = c.step-did.new.self in
-    subst (λ (w : WorldState). FoldsAt t (seen w) (seen new)) c.self.view_is
-    (by-step (λ old new. FoldsAt t (seen old) (seen new)) e old new (λ did s. law.folds e did old new t c.self.invariant.0 s)
-    (λ k. law.folds_none (side_in e) old new t c.self.invariant.0 k) c.step-did.result c.step-did.ensures.steps c.step-did.ensures.err)
-
-pub returns-clause-holds : goal.returns-clause-holds
-returns-clause-holds g c t =
-    let law = c.events_keep_the_promises.ensures in
-    let e = c.args.event.now in
-    let old : WorldState = c.self.inside.stations in
-    let new : WorldState = c.step-did.new.self in
-    law.holds new t (by-step (λ old new. IsSound new) e old new (λ did s. law.keeps e did old new c.self.invariant.0 s)
-    (λ k. law.stays (side_in e) old new c.self.invariant.0 k) c.step-did.result c.step-did.ensures.steps c.step-did.ensures.err)
-
-pub returns-clause-clean : goal.returns-clause-clean
-returns-clause-clean g c of_it =
-    let law = c.events_keep_the_promises.ensures in
-    let e = c.args.event.now in
-    let old : WorldState = c.self.inside.stations in
-    let new : WorldState = c.step-did.new.self in
-    subst (λ (w : WorldState). IfOk c.step-did.result (λ did. did ≡ dids.Applied → KeepsAll (all_shortages w) (all_shortages new) → IsClean w → IsClean new)) c.self.view_is
-    (ok-then (λ did. Steps e did old new) (λ did. did ≡ dids.Applied → KeepsAll (all_shortages old) (all_shortages new) → IsClean old → IsClean new)
-    (λ did s applied spared is. law.clean e old new c.self.invariant.0 c.self.invariant.1 of_it (subst (λ d. Steps e d old new) applied s) spared is) c.step-did.result c.step-did.ensures.steps)
-
-pub returns-clause-clean_put : goal.returns-clause-clean_put
-returns-clause-clean_put g c side source destination is =
-    let law = c.events_keep_the_promises.ensures in
-    let e = c.args.event.now in
-    let old : WorldState = c.self.inside.stations in
-    let new : WorldState = c.step-did.new.self in
-    subst (λ (w : WorldState). IfOk c.step-did.result (λ did. did ≡ dids.Applied → IsClean w → IsClean new)) c.self.view_is
-    (ok-then (λ did. Steps e did old new) (λ did. did ≡ dids.Applied → IsClean old → IsClean new)
-    (λ did s applied clean. law.clean_put side source destination old new (subst (λ x. Steps x dids.Applied old new) is (subst (λ d. Steps e d old new) applied s)) clean) c.step-did.result
-    c.step-did.ensures.steps)
+    let sound : IsSound old = c.self.invariant.0 in
+    subst (λ (w : WorldState). Applies e r w new) c.self.view_is
+    (record {
+      tries = c.step-did.ensures;
+      upholds = record {
+        follows = record {
+          puts = by-step (λ old new. FindsMore (put_of (seen old)) (put_of (seen new))) e old new (λ did s. law.puts e did old new sound s)
+              (λ k. law.puts_stay (side_in e) old new k) r did_it none;
+          folds = λ t. by-step (λ old new. FoldsAt t (seen old) (seen new)) e old new (λ did s. law.folds e did old new t sound s)
+              (λ k. law.folds_none (side_in e) old new t sound k) r did_it none;
+        };
+        holds = λ t. law.holds new t (by-step (λ old new. IsSound new) e old new (λ did s. law.keeps e did old new sound s)
+            (λ k. law.stays (side_in e) old new sound k) r did_it none);
+      };
+      published = λ t. by-step (λ old new. PublishesAt t e ⊎ (published_at t new ≡ published_at t old)) e old new (λ did s. event-files t old new e did s)
+          (λ k. inr (stays-files (side_in e) t old new k)) r did_it none;
+      clean = λ of_it. ok-then (λ did. Steps e did old new) (λ did. did ≡ dids.Applied → KeepsAll (all_shortages old) (all_shortages new) → IsClean old → IsClean new)
+          (λ did s applied spared is. law.clean e old new sound c.self.invariant.1 of_it (subst (λ d. Steps e d old new) applied s) spared is) r did_it;
+      clean_put = λ side source destination is. ok-then (λ did. Steps e did old new) (λ did. did ≡ dids.Applied → IsClean old → IsClean new)
+          (λ did s applied clean. law.clean_put side source destination old new (subst (λ x. Steps x dids.Applied old new) is (subst (λ d. Steps e d old new) applied s)) clean) r did_it;
+    })
 
 pub returns-clause-full : goal.returns-clause-full
 returns-clause-full g c =
@@ -108,12 +90,3 @@ returns-clause-tells g c side now is =
     subst (λ (w : WorldState). IfOk c.step-did.result (λ did. ExpiresOn side now w new × KeepsPutsOf w new)) c.self.view_is
     (ok-then (λ did. Steps e did old new) (λ did. ExpiresOn side now old new × KeepsPutsOf old new)
     (λ did s. law.tells side now old new c.self.invariant.0 (told-time side now did old new (subst (λ x. Steps x did old new) is s))) c.step-did.result c.step-did.ensures.steps)
-
-pub returns-clause-published : goal.returns-clause-published
-returns-clause-published g c t =
-    let e = c.args.event.now in
-    let old : WorldState = c.self.inside.stations in
-    let new : WorldState = c.step-did.new.self in
-    subst (λ (w : WorldState). PublishesAt t e ⊎ (published_at t new ≡ published_at t w)) c.self.view_is
-    (by-step (λ old new. PublishesAt t e ⊎ (published_at t new ≡ published_at t old)) e old new (λ did s. event-files t old new e did s)
-    (λ k. inr (stays-files (side_in e) t old new k)) c.step-did.result c.step-did.ensures.steps c.step-did.ensures.err)

@@ -1,3 +1,6 @@
+use Rattle.std.proofs.Common.{subst, sym}
+use Rattle.link_sim.specs.Running.{AreApart}
+use Rattle.link_sim.specs.World.State.{WorldState}
 use Rattle.link_sim.proofs.world.World.new.Goals as goal
 
 pub invariant_of-result : goal.invariant_of-result
@@ -7,14 +10,16 @@ invariant_of-result g c =
       c.events_keep_the_promises.ensures.puts_first c.args.config _ _ c.in_ok-stations.stations made.first,
     )
 
-pub returns-clause-inboxes : goal.returns-clause-inboxes
-returns-clause-inboxes g c s = c.events_keep_the_promises.ensures.inboxes c.args.config _ _ c.in_ok-stations.stations s c.requires c.in_ok-stations.ensures.first
-
-pub returns-clause-holds : goal.returns-clause-holds
-returns-clause-holds g c s =
+pub returns-clause-promised : goal.returns-clause-promised
+returns-clause-promised g c =
+    let law = c.events_keep_the_promises.ensures in
     let made = c.in_ok-stations.ensures in
-    c.events_keep_the_promises.ensures.holds c.in_ok-stations.stations s
-    (c.events_keep_the_promises.ensures.first c.args.config _ _ c.in_ok-stations.stations c.requires made.first made.ways)
+    let w : WorldState = c.in_ok-stations.stations in
+    record {
+      inbox = λ s. law.inboxes c.args.config _ _ w s c.requires made.first;
+      holds = λ s. law.holds w s (law.first c.args.config _ _ w c.requires made.first made.ways);
+      apart = subst AreApart (sym made.first.puts) tt;
+    }
 
 pub returns-clause-clean : goal.returns-clause-clean
 returns-clause-clean g c = c.events_keep_the_promises.ensures.clean_first c.args.config _ _ c.in_ok-stations.stations c.in_ok-stations.ensures.first

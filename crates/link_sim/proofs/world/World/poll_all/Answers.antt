@@ -11,7 +11,7 @@ loop-init g c = record { leads = leads-none (seen c.args.self.now); polled = pol
 
 pub loop-preserved : goal.loop-preserved
 loop-preserved g c = record {
-  leads = leads-both (seen c.args.self.now) (seen c.loop.self) (seen c.does.new.self) c.loop.invariant.leads c.does.ensures.leads;
+  leads = leads-both (seen c.args.self.now) (seen c.loop.self) (seen c.does.new.self) c.loop.invariant.leads c.does.ensures.turn.work.leads;
   polled = polled_more c.args.side c.args.self.now c.loop.self c.does.new.self c.loop.invariant.polled (c.in_ok-does.ensures.applied c.if-branch.true);
 }
 
@@ -21,15 +21,15 @@ returns-in_err-does-clause-lacks g c =
 
 pub returns-clause-polls : goal.returns-clause-polls
 returns-clause-polls g c =
-    polls_all c.args.side c.args.self.now c.loop.self c.does.new.self c.loop.invariant.polled (c.in_ok-does.ensures.idle c.if-branch.false)
+    polls_all c.args.side c.args.self.now c.loop.self c.does.new.self c.loop.invariant.polled (c.in_ok-does.ensures.turn.idle c.if-branch.false)
 
 pub returns-clause-rests : goal.returns-clause-rests
 returns-clause-rests g c =
-    let idle = c.in_ok-does.ensures.idle c.if-branch.false in
+    let idle = c.in_ok-does.ensures.turn.idle c.if-branch.false in
     subst (λ (w : WorldState). turn (entity_at c.args.side w) ≡ Rests) (sym idle.1) idle.0
 
 pub returns-in_err-does-clause-leads : goal.returns-in_err-does-clause-leads
-returns-in_err-does-clause-leads g c = leads-both (seen c.args.self.now) (seen c.loop.self) (seen c.does.new.self) c.loop.invariant.leads c.does.ensures.leads
+returns-in_err-does-clause-leads g c = leads-both (seen c.args.self.now) (seen c.loop.self) (seen c.does.new.self) c.loop.invariant.leads c.does.ensures.turn.work.leads
 
 pub returns-clause-leads : goal.returns-clause-leads
-returns-clause-leads g c = leads-both (seen c.args.self.now) (seen c.loop.self) (seen c.does.new.self) c.loop.invariant.leads c.does.ensures.leads
+returns-clause-leads g c = leads-both (seen c.args.self.now) (seen c.loop.self) (seen c.does.new.self) c.loop.invariant.leads c.does.ensures.turn.work.leads

@@ -1,44 +1,29 @@
-use Rattle.std.proofs.Common.{◌<◌, ◌≤◌, inr, ap, ◌≡◌, arith}
 use Rattle.std.proofs.lemmas.Result.{err_from_is_err_and}
-use Rattle.link_sim.specs.Observed.{seen}
-use Rattle.link_sim.specs.Settling.{HasCauseFrom, next_of}
+use Rattle.link_sim.specs.Parts.{SettlesPart}
+use Rattle.link_sim.specs.Settling.{next_of}
 use Rattle.link_sim.specs.declared.event.Event.TheVariants as event
-use Rattle.link_sim.specs.Work.{world_work}
 use Rattle.link_sim.specs.declared.settle_error.SettleError.{SettleError}
-use Rattle.link_sim.proofs.Events.Folding.{leads-both}
-use Rattle.link_sim.proofs.Clean.Causes.{lowers-most, on-both, cause-then, err-then}
+use Rattle.link_sim.proofs.Clean.Parts.{err-as, first-fails, part-else, part-then, then-fails}
 use Rattle.link_sim.proofs.world.World.send_all.Goals as goal
 
-pub returns-in_err-flushed-clause-leads : goal.returns-in_err-flushed-clause-leads
-returns-in_err-flushed-clause-leads g c = leads-both (seen c.args.self.now) (seen c.repeat.new.self) (seen c.repeat-2.new.self) c.repeat.ensures.leads c.repeat-2.ensures.leads
+pub returns-in_err-polled-clause-part : goal.returns-in_err-polled-clause-part
+returns-in_err-polled-clause-part g c =
+    let p = err_from_is_err_and c.from_residual.result c.from_residual.ensures.1 in
+    let e : SettleError = c.in_err-polled.field-0.0 in
+    err-as c.from_residual.result (λ r. SettlesPart (event.Poll c.args.side) (next_of (event.Flush c.args.side)) r c.args.self.now c.repeat.new.self) p.0 e p.1 p.2
+    (first-fails (event.Poll c.args.side) (next_of (event.Poll c.args.side)) (next_of (event.Flush c.args.side)) e c.args.self.now c.repeat.new.self c.in_err-polled.ensures.part)
 
-pub returns-in_err-flushed-clause-cause : goal.returns-in_err-flushed-clause-cause
-returns-in_err-flushed-clause-cause g c =
+pub returns-in_err-flushed-clause-part : goal.returns-in_err-flushed-clause-part
+returns-in_err-flushed-clause-part g c =
     let p = err_from_is_err_and c.from_residual-in_err-flushed.result c.from_residual-in_err-flushed.ensures.1 in
     let e : SettleError = c.in_err-flushed.field-0.0 in
-    err-then c.from_residual-in_err-flushed.result (λ error. HasCauseFrom (event.Poll c.args.side) error c.args.self.now c.repeat-2.new.self) p.0 e p.1 p.2
-    (cause-then e (event.Poll c.args.side) (event.Flush c.args.side) c.args.self.now c.repeat.new.self c.repeat-2.new.self (inr c.in_ok-polled.ensures.well) c.in_err-flushed.ensures.cause)
+    err-as c.from_residual-in_err-flushed.result (λ r. SettlesPart (event.Poll c.args.side) (next_of (event.Flush c.args.side)) r c.args.self.now c.repeat-2.new.self) p.0 e p.1 p.2
+    (then-fails (event.Poll c.args.side) (event.Flush c.args.side) (next_of (event.Flush c.args.side)) (next_of (event.Flush c.args.side)) c.in_ok-polled.polled e c.args.self.now c.repeat.new.self c.repeat-2.new.self c.in_ok-polled.ensures.part c.in_err-flushed.ensures.part)
 
-pub returns-then-polled-clause-leads : goal.returns-then-polled-clause-leads
-returns-then-polled-clause-leads g c = leads-both (seen c.args.self.now) (seen c.repeat.new.self) (seen c.repeat-2.new.self) c.repeat.ensures.leads c.repeat-2.ensures.leads
+pub returns-then-polled-clause-part : goal.returns-then-polled-clause-part
+returns-then-polled-clause-part g c = part-then (event.Poll c.args.side) (event.Flush c.args.side) (next_of (event.Flush c.args.side)) c.in_ok-polled.polled c.in_ok-polled.polled c.in_ok-flushed.flushed
+    c.args.self.now c.repeat.new.self c.repeat-2.new.self c.if-polled.true c.if-polled.true c.in_ok-polled.ensures.part c.in_ok-flushed.ensures.part
 
-pub returns-then-polled-clause-less : goal.returns-then-polled-clause-less
-returns-then-polled-clause-less g c happened =
-    let less : world_work c.repeat.new.self < world_work c.args.self.now = c.in_ok-polled.ensures.less c.if-polled.true in
-    let most : world_work c.repeat-2.new.self ≤ world_work c.repeat.new.self =
-    lowers-most c.in_ok-flushed.flushed c.repeat.new.self c.repeat-2.new.self (c.in_ok-flushed.ensures.less, c.in_ok-flushed.ensures.same) in
-    omega (arith, less, most)
-
-pub returns-else-polled-clause-less : goal.returns-else-polled-clause-less
-returns-else-polled-clause-less g c happened =
-    let same : world_work c.repeat.new.self ≡ world_work c.args.self.now = ap world_work (c.in_ok-polled.ensures.same c.if-polled.false) in
-    let less : world_work c.repeat-2.new.self < world_work c.repeat.new.self = c.in_ok-flushed.ensures.less happened in
-    omega (arith, less, same)
-
-pub returns-then-polled-clause-well : goal.returns-then-polled-clause-well
-returns-then-polled-clause-well g c = on-both (event.Poll c.args.side) (event.Flush c.args.side)
-    (next_of (event.Flush c.args.side)) c.args.self.now c.repeat.new.self c.repeat-2.new.self c.in_ok-polled.ensures.well c.in_ok-flushed.ensures.well
-
-pub returns-else-polled-clause-well : goal.returns-else-polled-clause-well
-returns-else-polled-clause-well g c = on-both (event.Poll c.args.side) (event.Flush c.args.side)
-    (next_of (event.Flush c.args.side)) c.args.self.now c.repeat.new.self c.repeat-2.new.self c.in_ok-polled.ensures.well c.in_ok-flushed.ensures.well
+pub returns-else-polled-clause-part : goal.returns-else-polled-clause-part
+returns-else-polled-clause-part g c = part-else (event.Poll c.args.side) (event.Flush c.args.side) (next_of (event.Flush c.args.side)) c.in_ok-polled.polled c.in_ok-flushed.flushed
+    c.args.self.now c.repeat.new.self c.repeat-2.new.self c.if-polled.false c.in_ok-polled.ensures.part c.in_ok-flushed.ensures.part

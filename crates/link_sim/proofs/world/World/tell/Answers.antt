@@ -13,7 +13,7 @@ returns-clause-tells g c =
     subst (λ x. KeepsAll x (all_shortages new)) c.shortages-before.ensures (subst (λ x. KeepsAll c.shortages-before.result x) c.shortages.ensures told) in
     record {
       next = c.requires.next;
-      ticks = tick-applied c.in-Ok._applied c.args.side c.args.now old new c.in-Ok.ensures.steps;
+      ticks = tick-applied c.in-Ok._applied c.args.side c.args.now old new c.in-Ok.ensures.applies.tries.steps;
       spared = spared;
     }
 

@@ -1,0 +1,88 @@
+//! Which field of a caller's configuration isn't as it has to be.
+ghost use Rattle.std.specs.Prelude.{◌≡◌, ◌≤◌};
+ghost use Rattle.cfdp_c.specs.Codes as codes;
+
+use cfdp_station::{EntityField, LinkField, StationField};
+
+/// A field of a [`CfdpConfig`](crate::CfdpConfig) that isn't as it has to be.
+#[derive(Clone, Copy)]
+pub enum BadField {
+    /// One that the station's own configuration has.
+    Station(StationField),
+    /// A number that no checksum has.
+    Checksum,
+    /// A number that no handler has.
+    OnAckLimit,
+    OnNakLimit,
+    OnInactivity,
+}
+
+impl BadField {
+    /// The number that names it: 71 to 92.
+    pub(crate) fn number(self) -> u32
+        ensures number { result ≡ codes.field_number self }
+        ensures names { codes.NamesField result }
+    {
+        match self {
+            BadField::Station(field) => station_number(field),
+            BadField::Checksum => 76,
+            BadField::OnAckLimit => 90,
+            BadField::OnNakLimit => 91,
+            BadField::OnInactivity => 92,
+        }
+    }
+}
+
+fn station_number(field: StationField) -> u32
+    ensures number { result ≡ codes.station_number field }
+    ensures names { (71 ≤ result) × (result ≤ 89) }
+{
+    match field {
+        StationField::Entity(field) => entity_number(field),
+        StationField::Capacity => 81,
+        StationField::Down(field) => down_number(field),
+        StationField::Up(field) => up_number(field),
+    }
+}
+
+fn entity_number(field: EntityField) -> u32
+    ensures number { result ≡ codes.entity_number field }
+    ensures names { (71 ≤ result) × (result ≤ 80) }
+{
+    match field {
+        EntityField::IdWidth => 71,
+        EntityField::Entity => 72,
+        EntityField::Peer => 73,
+        EntityField::NumberWidth => 74,
+        EntityField::Segment => 75,
+        EntityField::ChecksumKind => 76,
+        EntityField::EofTime => 77,
+        EntityField::NakTime => 78,
+        EntityField::FinishedTime => 79,
+        EntityField::InactivityTime => 80,
+    }
+}
+
+fn down_number(field: LinkField) -> u32
+    ensures number { result ≡ codes.down_number field }
+    ensures names { (82 ≤ result) × (result ≤ 85) }
+{
+    match field {
+        LinkField::Channel => 82,
+        LinkField::DataChannel => 83,
+        LinkField::Zone => 84,
+        LinkField::Apid => 85,
+    }
+}
+
+fn up_number(field: LinkField) -> u32
+    ensures number { result ≡ codes.up_number field }
+    ensures names { (86 ≤ result) × (result ≤ 89) }
+{
+    match field {
+        LinkField::Channel => 86,
+        LinkField::DataChannel => 87,
+        LinkField::Zone => 88,
+        LinkField::Apid => 89,
+    }
+}

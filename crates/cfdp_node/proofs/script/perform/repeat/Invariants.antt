@@ -1,9 +1,0 @@
-use Rattle.link_sim.specs.Spreading.{Times}
-use Rattle.link_sim.specs.World.Steps.{Steps}
-use Rattle.link_sim.specs.declared.event.Applied.TheVariants.{Applied}
-use Rattle.cfdp_node.proofs.script.perform.repeat.Given as goal
-
--- it happened so many times
-abbrev pub invariant-loop : goal.invariant-loop
-invariant-loop g l =
-    Times (Steps l.event Applied) l.counter (g.S.Stations.world l.initial.stations) (g.S.Stations.world l.stations)

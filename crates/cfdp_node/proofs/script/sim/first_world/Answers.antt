@@ -1,4 +1,0 @@
-use Rattle.cfdp_node.proofs.script.sim.first_world.Goals as goal
-
-pub returns : goal.returns
-returns c = rw (c.in_ok-outboxes.ensures.one, c.in_ok-outboxes.ensures.two) at c.new-2.ensures

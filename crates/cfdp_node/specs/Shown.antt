@@ -1,0 +1,58 @@
+-- The words that ask what is to be shown of a run beside its report.
+use Rattle.std.specs.Prelude.{Bool, List, codes, false, Option, Some, option_map}
+use Rattle.std.specs.Option.{option_map_or}
+use Rattle.std.specs.Str.{bytes_eq}
+use Rattle.clap.specs.Simple.{App, new_rule, with_rule}
+use Rattle.clap.specs.Walk.{Row, Rule, Text, first_of}
+use Rattle.clap.specs.declared.builder.action.ArgAction.TheVariants.{SetTrue}
+use Rattle.cfdp_report.specs.declared.watch.shown.Shown.{Shown}
+
+-- ---- the grammar
+
+-- a flag, which is there or not
+abbrev pub flag_rule : Text → Rule
+flag_rule name = record (new_rule name) { long = Some name; action = Some SetTrue }
+
+-- a file that something is written to, which an option of this name says
+abbrev pub file_rule : Text → Rule
+file_rule name = record (new_rule name) { long = Some name; value_names = 1 }
+
+-- a subcommand with what is told on standard error
+abbrev pub with_told : App → App
+with_told app = with_rule (with_rule app (flag_rule (codes "explain"))) (flag_rule (codes "trace"))
+
+-- and with what goes to files, a capture and a chart
+abbrev pub with_shown : App → App
+with_shown app = with_rule (with_rule (with_told app) (file_rule (codes "pcap")))
+    (file_rule (codes "chart"))
+
+-- ---- what is asked for
+
+abbrev pub is_given : Text → List Row → Bool
+is_given name rows = option_map_or (λ word. bytes_eq word (codes "true")) (first_of name rows) false
+
+-- Whether to explain, and whether to tell what passes; and the files for a capture and for a chart,
+-- by their names.
+pub record ShownAsked : Type 0 where
+  pub explain : Bool
+  pub trace : Bool
+  pub pcap : Option Text
+  pub chart : Option Text
+
+abbrev pub shown_of : List Row → ShownAsked
+shown_of rows = record {
+  explain = is_given (codes "explain") rows;
+  trace = is_given (codes "trace") rows;
+  pcap = first_of (codes "pcap") rows;
+  chart = first_of (codes "chart") rows;
+}
+
+-- ---- what the program makes of it
+
+abbrev pub asked_shown : Shown → ShownAsked
+asked_shown shown = record {
+  explain = shown.explain;
+  trace = shown.trace;
+  pcap = option_map (λ file. file.bytes.items) shown.pcap;
+  chart = option_map (λ file. file.bytes.items) shown.chart;
+}

@@ -1,7 +1,0 @@
--- What is seen by one who looks on, and how it is shown.
-pub mod Shown
-pub mod Sighting
-pub mod Continues
-pub mod Capture
-pub mod Trace
-pub mod Chart

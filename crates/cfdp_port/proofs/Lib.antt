@@ -1,0 +1,5 @@
+pub mod TurnLemmas
+pub mod GainLemmas
+mod PairLemmas
+mod OrderLemmas
+mod Delivered

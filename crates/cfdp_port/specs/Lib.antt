@@ -1,0 +1,9 @@
+pub mod Calls
+pub mod Port
+pub mod Turn
+pub mod PeerTurn
+pub mod Lossy
+pub mod Gains
+pub mod Asking
+pub mod Pair
+pub mod InOrder

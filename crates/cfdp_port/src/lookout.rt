@@ -1,0 +1,40 @@
+//! One who looks on while stations exchange frames over wires.
+use cfdp_station::Station;
+use cfdp_store::{Inbox, Outbox};
+use link_sim::{Passed, Side};
+
+/// One who looks on at stations, which are lent: so it changes nothing there.
+pub trait Lookout {
+    /// Hears that the turn of this number begins: what it sees from here on is of it.
+    fn begins(&mut self, turn: u64);
+
+    /// Sees what passed at a station, and the station behind that.
+    fn sees<O: Outbox, I: Inbox>(
+        &mut self,
+        side: Side,
+        passed: Passed<'_>,
+        station: &Station<O, I>,
+    );
+
+    /// Hears that lines are about to be written: what it shows on a terminal gives way to them.
+    fn yields(&mut self);
+
+    /// Hears that no more passes.
+    fn ends(&mut self);
+}
+
+/// Nobody looks on.
+impl Lookout for () {
+    fn begins(&mut self, _turn: u64) {}
+
+    fn sees<O: Outbox, I: Inbox>(
+        &mut self,
+        _side: Side,
+        _passed: Passed<'_>,
+        _station: &Station<O, I>,
+    ) {}
+
+    fn yields(&mut self) {}
+
+    fn ends(&mut self) {}
+}

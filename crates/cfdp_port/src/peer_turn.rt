@@ -1,0 +1,156 @@
+//! What is done in a turn over a wire that says when a frame may leave.
+ghost use Rattle.std.specs.Prelude.{◌≡◌, ◌≢◌, ◌⊎◌, length, false, true, None, IfOk, OnErr, OnOk};
+ghost use Rattle.link_stack.specs.Downward.{frame_lane};
+ghost use Rattle.cfdp_port.specs.Calls.{Readied};
+ghost use Rattle.cfdp_port.specs.Gains.{Gains};
+ghost use Rattle.cfdp_port.specs.PeerTurn.{PollsDry, Pulls, PullsInPart, SendsSome, SendsSomeInPart, TakesInPart, TakesOne};
+ghost use Rattle.cfdp_port.specs.Port.{FitsFrames, KeepsLinks, port_state, table_of};
+ghost use Rattle.cfdp_port.specs.Turn.{SendsFrame};
+
+use crate::lookout::Lookout;
+use crate::turn::{receive, send_one};
+use crate::wire::PeerWire;
+use cfdp_entity::an_entity_goes_on;
+use cfdp_station::{Lane, Station};
+use cfdp_store::{Inbox, Outbox};
+use link_sim::{Passed, Side};
+use std::alloc::AllocError;
+
+/// The most frames that leave in a turn, so that what comes is taken between.
+const MOST_FRAMES: u32 = 64;
+
+/// The most PDUs that are moved for one frame.
+const MOST_POLLS: u32 = 16;
+
+/// Takes one turn: the station takes what came, is told the time, and sends. The first buffer has
+/// the octets of a frame that leaves, and the second takes what comes.
+///
+/// # Errors
+///
+/// `AllocError` where the station finds no memory for a call: the turn ends there.
+pub(crate) fn take_turn<O: Outbox, I: Inbox, W: PeerWire, L: Lookout>(
+    side: Side,
+    station: &mut Station<O, I>,
+    wire: &mut W,
+    frame: &mut [u8],
+    datagram: &mut [u8],
+    lookout: &mut L,
+) -> Result<(), AllocError>
+    requires { FitsFrames (length frame.old) station.old }
+    ensures ok { OnOk result (TakesOne W.steps (port_state station.old wire.old)
+        (port_state station.new wire.new)) }
+    ensures err { OnErr result (TakesInPart W.steps (port_state station.old wire.old)
+        (port_state station.new wire.new)) }
+    ensures gains { Gains (table_of station.old) (table_of station.new) }
+    ensures fits { FitsFrames (length frame.new) station.new }
+{
+    an_entity_goes_on();
+    receive(side, station, wire, datagram, lookout);
+    let now = wire.now();
+    station.tick(now)?;
+    lookout.sees(side, Passed::Ticked(now), station);
+    send_some(side, station, wire, frame, lookout)
+}
+
+/// Sends frames as long as the wire is ready for one, at most 64, and polls for them as they are
+/// wanted.
+///
+/// # Errors
+///
+/// `AllocError` where the station finds no memory for a poll: it ends there.
+fn send_some<O: Outbox, I: Inbox, W: PeerWire, L: Lookout>(
+    side: Side,
+    station: &mut Station<O, I>,
+    wire: &mut W,
+    frame: &mut [u8],
+    lookout: &mut L,
+) -> Result<(), AllocError>
+    requires { FitsFrames (length frame.old) station.old }
+    ensures ok { OnOk result (SendsSome W.steps (port_state station.old wire.old)
+        (port_state station.new wire.new)) }
+    ensures err { OnErr result (SendsSomeInPart W.steps (port_state station.old wire.old)
+        (port_state station.new wire.new)) }
+    ensures fits { FitsFrames (length frame.new) station.new }
+{
+    for _frame in 0..MOST_FRAMES {
+        pull(side, station, lookout)?;
+        if !send_ready(side, station, wire, frame, lookout) {
+            return Ok(());
+        }
+    }
+    Ok(())
+}
+
+/// Polls for the frame that is to leave next, and fills up what is begun: directives alone where a
+/// whole frame waits, so that none waits for the file data behind it, and else both lanes.
+///
+/// # Errors
+///
+/// `AllocError` where the station finds no memory for a poll, which changed nothing then.
+fn pull<O: Outbox, I: Inbox, L: Lookout>(
+    side: Side,
+    station: &mut Station<O, I>,
+    lookout: &mut L,
+) -> Result<(), AllocError>
+    ensures ok { OnOk result (Pulls station.old station.new) }
+    ensures err { OnErr result (PullsInPart station.old station.new) }
+    ensures links { KeepsLinks station.old.down station.new.down }
+{
+    if poll_dry(side, station, lookout)? {
+        station.flush();
+    } else {
+        station.flush_lane(Lane::Directives);
+    }
+    Ok(())
+}
+
+/// Polls until a whole frame waits, or nothing is due or has room: whether that is why it ends. At
+/// most 16 polls move a PDU.
+///
+/// # Errors
+///
+/// `AllocError` where the station finds no memory for a poll, which changed nothing then.
+fn poll_dry<O: Outbox, I: Inbox, L: Lookout>(
+    side: Side,
+    station: &mut Station<O, I>,
+    lookout: &mut L,
+) -> Result<bool, AllocError>
+    ensures ok { IfOk result (λ rests. PollsDry rests station.old station.new) }
+    ensures err { OnErr result (PullsInPart station.old station.new) }
+    ensures links { KeepsLinks station.old.down station.new.down }
+{
+    for _poll in 0..MOST_POLLS {
+        match station.next_lane() {
+            Some(_) => return Ok(false),
+            None => {}
+        }
+        let answer = station.poll()?;
+        lookout.sees(side, Passed::Polled(answer), station);
+        if !answer.is_more() {
+            return Ok(true);
+        }
+    }
+    Ok(false)
+}
+
+/// Sends the frame that leaves next. False where none waits, or the wire isn't ready for it.
+fn send_ready<O: Outbox, I: Inbox, W: PeerWire, L: Lookout>(
+    side: Side,
+    station: &mut Station<O, I>,
+    wire: &mut W,
+    frame: &mut [u8],
+    lookout: &mut L,
+) -> bool
+    requires { FitsFrames (length frame.old) station.old }
+    ensures sent { result ≡ true → (ready : W) × W.steps wire.old (Readied true) ready
+        × SendsFrame W.steps (port_state station.old ready) (port_state station.new wire.new) }
+    ensures unsent { result ≡ false → (station.new ≡ station.old)
+        × (((frame_lane station.old.down ≡ None) × (wire.new ≡ wire.old))
+        ⊎ ((frame_lane station.old.down ≢ None) × W.steps wire.old (Readied false) wire.new)) }
+    ensures fits { FitsFrames (length frame.new) station.new }
+{
+    if station.next_lane().is_none() || !wire.is_ready() {
+        return false;
+    }
+    send_one(side, station, wire, frame, lookout)
+}

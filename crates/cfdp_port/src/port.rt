@@ -1,0 +1,279 @@
+//! A station on a wire, with all that its turns need.
+ghost use Rattle.std.specs.Prelude.{◌≡◌, drop, is_some, IfOk, OnErr, OnOk};
+ghost use Rattle.std.specs.FinMap as map;
+ghost use Rattle.cfdp_entity.specs.Entity.{phase_told};
+ghost use Rattle.cfdp_station.specs.Config.{IsStationConfig};
+ghost use Rattle.link_sim.specs.World.State.{IsNewAt};
+ghost use Rattle.cfdp_port.specs.Asking.{CountsFrom, FailsToLook, ForgetsTold, LetsGo, LooksAt, Puts};
+ghost use Rattle.cfdp_port.specs.Calls.{Rested};
+ghost use Rattle.cfdp_port.specs.Gains.{Gains};
+ghost use Rattle.cfdp_port.specs.PeerTurn.{TakesInPart, TakesOne};
+ghost use Rattle.cfdp_port.specs.Port.{AtStation, all_closed, table_of};
+ghost use Rattle.cfdp_port.specs.Port as spec;
+ghost use Rattle.cfdp_port.specs.Turn.{HearsAll, Sends, SendsInPart};
+
+use crate::lookout::Lookout;
+use crate::peer_turn::take_turn;
+use crate::turn;
+use crate::wire::{PeerWire, Wire};
+use aos_frame::HEADER_LEN as FRAME_HEADER_LEN;
+use cfdp_directives::{Indication, Phase};
+use cfdp_entity::an_entity_goes_on;
+use cfdp_header::TransactionId;
+use cfdp_station::{PutError, Station, StationConfig};
+use cfdp_store::{Inbox, Outbox, SeekingOutbox, StoreError};
+use link_sim::{Passed, Side};
+use mpdu::MPDU_HEADER_LEN;
+use std::alloc::{AllocError, Global};
+use std::marker::Model;
+
+/// The most octets of a datagram that are looked at: more than a frame has.
+const MOST_COMING: usize = 4096;
+
+/// Whether a transaction that has come so far is closed.
+fn is_closed(phase: Phase) -> bool
+    ensures { result ≡ spec.is_closed phase }
+{
+    match phase {
+        Phase::Closed => true,
+        Phase::Sending | Phase::Cancelling | Phase::Receiving | Phase::Finishing => false,
+    }
+}
+
+/// A station on a wire, over its two stores. Who looks on is shown all that passes.
+#[derive(Drop)]
+pub struct Port<O: Outbox, I: Inbox, W: Wire> {
+    station: Station<O, I>,
+    wire: W,
+    side: Side,
+    // one frame that leaves, and what comes
+    frame: Vec<u8>,
+    datagram: Vec<u8>,
+}
+
+impl<O: Outbox, I: Inbox, W: Wire> Model for Port<O, I, W> {
+    ghost use Rattle.std.specs.Prelude.{length};
+    ghost use Rattle.cfdp_entity.specs.Coded.{state_codes};
+    ghost use Rattle.cfdp_port.specs.Port.{FitsFrames, PortState};
+
+    ghost Value = { PortState W };
+
+    ghost coded = { Prim.hlevel (state_codes) };
+
+    ghost view = { λ p. record { station = p.station; wire = p.wire } };
+
+    ghost invariant = { λ p. FitsFrames (length p.frame.items) p.station };
+}
+
+impl<O: Outbox, I: Inbox, W: Wire> Port<O, I, W> {
+    /// A new station on this wire. To one who looks on it is the one on this side.
+    ///
+    /// # Errors
+    ///
+    /// `AllocError` only where the memory for the station, or for a frame, was refused.
+    pub fn new(
+        alloc: Global,
+        side: Side,
+        config: StationConfig,
+        stores: (O, I),
+        wire: W,
+    ) -> Result<Self, AllocError>
+        requires { IsStationConfig config }
+        ensures station { IfOk result (λ p. IsNewAt config (O.stands stores.0) (O.files stores.0)
+            (I.published stores.1) p.station) }
+        ensures wire { IfOk result (λ p. p.wire ≡ wire) }
+    {
+        let (outbox, inbox) = stores;
+        let zone = usize::from(config.down.zone);
+        let frame = vec![in alloc; 0u8; FRAME_HEADER_LEN + MPDU_HEADER_LEN + zone]?;
+        let datagram = vec![in alloc; 0u8; MOST_COMING]?;
+        // Last, so that no error lets a station go.
+        let station = Station::new(alloc, config, outbox, inbox)?;
+        Ok(Port {
+            station,
+            wire,
+            side,
+            frame,
+            datagram,
+        })
+    }
+
+    /// Counts the frames of both lanes from this number on, as
+    /// [`Station::count_frames_from`] says.
+    pub fn count_frames_from(&mut self, count: u32)
+        ensures { AtStation (CountsFrom count) self.old self.new }
+    {
+        self.station.count_frames_from(count);
+    }
+
+    /// The station, lent.
+    pub fn station(&self) -> &Station<O, I>
+        ensures { result.now ≡ self.now.station }
+    {
+        &self.station
+    }
+
+    /// How often the outbox failed.
+    pub fn outbox_failures(&self) -> u64
+        ensures { result ≡ self.now.station.entity.outbox_failures }
+    {
+        self.station.outbox().failures()
+    }
+
+    /// How often the inbox failed.
+    pub fn inbox_failures(&self) -> u64
+        ensures { result ≡ self.now.station.entity.inbox_failures }
+    {
+        self.station.inbox().failures()
+    }
+
+    /// What the station told its user, but for what was let go.
+    pub fn indications(&self) -> &[Indication]
+        ensures { result.now ≡ drop self.now.station.entity.state.table.gone
+            self.now.station.entity.state.table.told }
+    {
+        self.station.indications()
+    }
+
+    /// How far a transaction has come; `None` where it has no record here.
+    pub fn phase(&self, id: TransactionId) -> Option<Phase>
+        ensures { result ≡ phase_told id self.now.station.entity.state.table }
+    {
+        self.station.phase(id)
+    }
+
+    /// Whether all transactions of the station are closed: those that it sends, and those that it
+    /// receives.
+    pub fn are_all_closed(&self) -> bool
+        ensures { result ≡ all_closed self.now.station }
+    {
+        self.station()
+            .transactions()
+            .all(|known| is_closed(known.1))
+    }
+
+    /// Asks the station to send a file, which is shown where it does.
+    ///
+    /// # Errors
+    ///
+    /// Those of [`Station::put`].
+    pub fn put<L: Lookout>(
+        &mut self,
+        source: &[u8],
+        destination: &[u8],
+        lookout: &mut L,
+    ) -> Result<TransactionId, PutError>
+        ensures puts { AtStation (Puts source.now destination.now result) self.old self.new }
+        ensures gains { Gains (table_of self.old.station) (table_of self.new.station) }
+    {
+        an_entity_goes_on();
+        let answer = self.station.put(source, destination);
+        match answer {
+            Ok(_) => lookout.sees(self.side, Passed::Put, &self.station),
+            Err(_) => {}
+        }
+        answer
+    }
+
+    /// Lets go of the records of all transactions that are over, as far as there is memory to note
+    /// it.
+    pub fn forget_closed(&mut self)
+        ensures { AtStation LetsGo self.old self.new }
+    {
+        let _ = self.station.forget_closed();
+    }
+
+    /// Lets go of the first so many indications, as [`Station::forget_indications`] says.
+    pub fn forget_indications(&mut self, count: usize)
+        ensures { AtStation (ForgetsTold count) self.old self.new }
+    {
+        self.station.forget_indications(count);
+    }
+
+    /// Sends: the station is told the time, polled until nothing is due or nothing more has room,
+    /// at most 16 times, and flushed, and all its whole frames leave. One that the wire fails to
+    /// send is lost.
+    ///
+    /// # Errors
+    ///
+    /// `AllocError` where the station finds no memory for a call: the turn ends there.
+    pub fn send<L: Lookout>(&mut self, now: u64, lookout: &mut L) -> Result<(), AllocError>
+        ensures ok { OnOk result (Sends W.steps now self.old self.new) }
+        ensures err { OnErr result (SendsInPart now self.old self.new) }
+    {
+        let frame = self.frame.as_mut_slice();
+        turn::send(
+            now,
+            self.side,
+            &mut self.station,
+            &mut self.wire,
+            frame,
+            lookout,
+        )
+    }
+
+    /// Gives the station what came over the wire, until nothing does; asks at most 4,096 times. A
+    /// failure of the wire is a frame that is lost.
+    pub fn receive<L: Lookout>(&mut self, lookout: &mut L)
+        ensures { HearsAll W.steps self.old self.new }
+    {
+        let datagram = self.datagram.as_mut_slice();
+        turn::receive(
+            self.side,
+            &mut self.station,
+            &mut self.wire,
+            datagram,
+            lookout,
+        );
+    }
+}
+
+impl<O: Outbox, I: Inbox, W: PeerWire> Port<O, I, W> {
+    /// Takes one turn: the station takes what came, is told the time, and sends as long as the wire
+    /// is ready, at most 64 frames. It is polled for a frame as that can leave.
+    ///
+    /// # Errors
+    ///
+    /// `AllocError` where the station finds no memory for a call: the turn ends there.
+    pub fn turn<L: Lookout>(&mut self, lookout: &mut L) -> Result<(), AllocError>
+        ensures ok { OnOk result (TakesOne W.steps self.old self.new) }
+        ensures err { OnErr result (TakesInPart W.steps self.old self.new) }
+        ensures gains { Gains (table_of self.old.station) (table_of self.new.station) }
+    {
+        let (frame, datagram) = (self.frame.as_mut_slice(), self.datagram.as_mut_slice());
+        take_turn(
+            self.side,
+            &mut self.station,
+            &mut self.wire,
+            frame,
+            datagram,
+            lookout,
+        )
+    }
+
+    /// Asks the wire whether the peer has been silent for long enough, and tells it whether a
+    /// transaction is open.
+    pub fn is_silent(&mut self, is_open: bool) -> bool
+        ensures wire { W.steps self.old.wire (Rested is_open result) self.new.wire }
+        ensures station { self.new.station ≡ self.old.station }
+    {
+        self.wire.is_silent(is_open)
+    }
+}
+
+impl<O: SeekingOutbox, I: Inbox, W: Wire> Port<O, I, W> {
+    /// Looks for the file of a name, so that a put can send it as it is now: whether there is one.
+    ///
+    /// # Errors
+    ///
+    /// Those of [`Station::look_for`].
+    pub fn look_for(&mut self, name: &[u8]) -> Result<bool, StoreError>
+        ensures has { IfOk result (λ has. has
+            ≡ is_some (map.get self.new.station.entity.state.table.sources name.now)) }
+        ensures looks { OnOk result (AtStation (LooksAt name.now) self.old self.new) }
+        ensures err { OnErr result (AtStation FailsToLook self.old self.new) }
+        ensures gains { Gains (table_of self.old.station) (table_of self.new.station) }
+    {
+        self.station.look_for(name)
+    }
+}

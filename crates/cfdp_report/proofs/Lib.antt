@@ -1,0 +1,9 @@
+pub mod Numbers
+pub mod Numerals
+pub mod AskedRanges
+pub mod HexNumbers
+pub mod TextLines
+pub mod ToldOptions
+pub mod Traces
+pub mod Captures
+pub mod Charts

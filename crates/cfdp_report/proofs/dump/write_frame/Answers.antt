@@ -1,0 +1,16 @@
+use Rattle.std.proofs.Common.{sym, inl, inr, refl}
+use Rattle.cfdp_report.specs.Dump.Lines.{TellsAsFrame, frame_line}
+use Rattle.cfdp_report.specs.Dump.Refusal.{refusal_text}
+use Rattle.cfdp_report.specs.declared.dump.refusal.Refusal.TheVariants.{Frame}
+use Rattle.cfdp_report.proofs.TextLines.{line_is_written}
+use Rattle.cfdp_report.proofs.dump.write_frame.Goals as goal
+
+pub returns-in-Ok : goal.returns-in-Ok
+returns-in-Ok g c =
+    line_is_written (TellsAsFrame c.args.long c.args.zone c.args.octets.now) _ (frame_line c.args.long c.in-Ok.frame.header c.in-Ok.frame.pointer) _ _
+    (inl (record { header = c.in-Ok.frame.header; spelled = c.in-Ok.ensures.found; words = rw c.in-Ok.ensures.pointer refl })) c.writeln.ensures.bytes
+
+pub returns-in-Err : goal.returns-in-Err
+returns-in-Err g c =
+    line_is_written (TellsAsFrame c.args.long c.args.zone c.args.octets.now) _ (refusal_text (Frame c.in-Err.error)) _ _
+    (inr (record { error = c.in-Err.error; fault = sym c.in-Err.ensures.refused; words = refl })) c.writeln-in-Err.ensures.bytes

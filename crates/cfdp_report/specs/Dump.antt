@@ -1,0 +1,3 @@
+-- What octets spell, in lines.
+pub mod Refusal
+pub mod Lines

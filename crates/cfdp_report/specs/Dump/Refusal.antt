@@ -1,0 +1,23 @@
+-- Why a line of a dump spells nothing, by number and name.
+use Rattle.std.specs.Prelude.{ℕ, List, ◌++◌, codes, decimal}
+use Rattle.cfdp_directives.specs.Pdu.Faults.{pdu_refusal_number, pdu_refusal_name}
+use Rattle.aos_frame.specs.Frame as frames
+use Rattle.cfdp_report.specs.declared.dump.refusal.Refusal.{Refusal}
+use Rattle.cfdp_report.specs.declared.dump.refusal.Refusal.TheVariants.{Hex, Pdu, Frame}
+
+-- the number of a refusal
+abbrev pub refusal_number : Refusal → ℕ
+refusal_number Hex = 0
+refusal_number (Pdu e) = pdu_refusal_number e
+refusal_number (Frame e) = frames.refusal_number e
+
+-- its name
+abbrev pub refusal_name : Refusal → List ℕ
+refusal_name Hex = codes "Hex"
+refusal_name (Pdu e) = pdu_refusal_name e
+refusal_name (Frame e) = frames.refusal_name e
+
+-- the line that tells it
+abbrev pub refusal_text : Refusal → List ℕ
+refusal_text refusal = codes "error " ++ decimal (refusal_number refusal) ++ codes " "
+    ++ refusal_name refusal

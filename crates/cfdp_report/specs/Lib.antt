@@ -1,0 +1,6 @@
+pub mod Exit
+pub mod Report
+pub mod Settings
+pub mod Numbers
+pub mod Dump
+pub mod Watch

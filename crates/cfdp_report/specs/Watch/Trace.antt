@@ -1,0 +1,55 @@
+-- What a trace says of what was seen at two stations.
+use Rattle.std.specs.Prelude.{◌≡◌, ℕ, false, List, ◌++◌, codes, decimal, Option}
+use Rattle.aos_frame.specs.declared.config.Lane.TheVariants.{Directives, Data}
+use Rattle.link_sim.specs.Stations.{entity_of}
+use Rattle.cfdp_report.specs.Dump.Lines.{TellsAsFrame, TellsAsPdu, WritesLines}
+use Rattle.cfdp_report.specs.declared.watch.sighting.Deed.{Deed}
+use Rattle.cfdp_report.specs.declared.watch.sighting.Deed.TheVariants.{SendsFrame, SendsPdu, TakesFrame, HearsPdu, LosesFrame, Ticks, Drops, Tells}
+use Rattle.cfdp_report.specs.declared.watch.sighting.Sighting.{Sighting}
+
+-- the word for what a station did, with the lane of a frame
+abbrev pub deed_word : Deed → List ℕ
+deed_word (SendsFrame Directives) = codes "sends dir"
+deed_word (SendsFrame Data) = codes "sends data"
+deed_word (SendsPdu lane) = codes "sends"
+deed_word (TakesFrame Directives) = codes "takes dir"
+deed_word (TakesFrame Data) = codes "takes data"
+deed_word HearsPdu = codes "hears"
+deed_word (LosesFrame Directives) = codes "loses dir"
+deed_word (LosesFrame Data) = codes "loses data"
+deed_word Ticks = codes "ticks"
+deed_word Drops = codes "drops"
+deed_word Tells = codes "tells"
+
+-- Behind that stands what a dump says of the frame or the PDU. Of the time, of a drop and of an
+-- indication the words were noted.
+abbrev pub TellsWords : Deed → (zone : ℕ) → List ℕ → List ℕ → Type 0
+TellsWords (SendsFrame lane) zone octets = TellsAsFrame false zone octets
+TellsWords (SendsPdu lane) zone octets = TellsAsPdu false octets
+TellsWords (TakesFrame lane) zone octets = TellsAsFrame false zone octets
+TellsWords HearsPdu zone octets = TellsAsPdu false octets
+TellsWords (LosesFrame lane) zone octets = TellsAsFrame false zone octets
+TellsWords Ticks zone octets = λ words. words ≡ octets
+TellsWords Drops zone octets = λ words. words ≡ octets
+TellsWords Tells zone octets = λ words. words ≡ octets
+
+-- What a station did, in words.
+pub record TellsDeed (zone : ℕ) (s : Sighting) (text : List ℕ) : Type 0 where
+  pub words : List ℕ
+  pub tells : TellsWords s.deed zone s.octets.items words
+  pub whole : text ≡ deed_word s.deed ++ codes " " ++ words
+
+-- the line of the script and the number of the event, with a point between, and the station
+abbrev pub sighting_front : Sighting → List ℕ
+sighting_front s = decimal s.step ++ codes "." ++ decimal s.event ++ codes " "
+    ++ decimal (entity_of s.station) ++ codes " "
+
+-- The line of a sighting: behind that, what the station did.
+pub record TellsSighting (zone : ℕ) (s : Sighting) (text : List ℕ) : Type 0 where
+  pub deed : List ℕ
+  pub tells : TellsDeed zone s deed
+  pub whole : text ≡ sighting_front s ++ deed
+
+-- What was written from some start on is a line for each of those seen so far, in their order.
+abbrev pub TracesSoFar : (zone : ℕ) → List Sighting → (start now : Option (List ℕ)) → Type 0
+TracesSoFar zone seen start now = WritesLines (TellsSighting zone) seen start now

@@ -1,0 +1,361 @@
+//! The lines of a dump.
+ghost use Rattle.std.specs.Prelude.{◌≡◌, Some};
+ghost use Rattle.std.specs.List.{flat_map};
+ghost use Rattle.cfdp_directives.specs.Pdu.Tlv.{location_of};
+ghost use Rattle.cfdp_report.specs.Dump.Lines.{fields_text, frame_line, frame_text, hex_number_text, hex_octet_text, location_text, long_text, option_text, options_of, pdu_line, pdu_text, range_text};
+
+use crate::report::name::{Name, hex_digit};
+use crate::report::wording::{Id, delivery_word, status_word};
+use aos_frame::FrameHeader;
+use cfdp_directives::{Pairs, Pdu, Tlvs};
+use cfdp_header::{Header, TransactionId};
+use std::fmt;
+
+/// A PDU as a dump tells it, in a long line or a short one.
+#[derive(Clone, Copy)]
+pub struct DumpedPdu<'a> {
+    pub header: Header,
+    pub pdu: &'a Pdu<'a>,
+    pub long: bool,
+}
+
+impl fmt::Display for DumpedPdu<'_> {
+    ghost output = { λ line. Some (pdu_line line.long line.header line.pdu.now) };
+
+    fn fmt<W: fmt::Write>(&self, f: &mut fmt::Formatter<W>) -> fmt::Result {
+        let line = PduLine {
+            id: self.header.id,
+            pdu: self.pdu,
+        };
+        let more = LongPart {
+            header: self.header,
+            pdu: self.pdu,
+        };
+        if self.long {
+            write!(f, "{line}{more}")
+        } else {
+            write!(f, "{line}")
+        }
+    }
+}
+
+/// A PDU, with the transaction that its header names.
+#[derive(Clone, Copy)]
+pub struct PduLine<'a> {
+    pub id: TransactionId,
+    pub pdu: &'a Pdu<'a>,
+}
+
+impl fmt::Display for PduLine<'_> {
+    ghost output = { λ line. Some (pdu_text line.id line.pdu.now) };
+
+    fn fmt<W: fmt::Write>(&self, f: &mut fmt::Formatter<W>) -> fmt::Result {
+        let (word, fields) = (pdu_word(self.pdu), PduFields(self.pdu));
+        write!(f, "{word} {} {fields}", Id(self.id))
+    }
+}
+
+/// The word for this kind of PDU.
+fn pdu_word(pdu: &Pdu<'_>) -> &'static str
+    ensures { result.now ≡ Rattle.cfdp_report.specs.Dump.Lines.pdu_word pdu.now }
+{
+    match pdu {
+        Pdu::FileData { .. } => "data",
+        Pdu::Metadata { .. } => "metadata",
+        Pdu::Eof { .. } => "eof",
+        Pdu::Finished { .. } => "finished",
+        Pdu::Ack { .. } => "ack",
+        Pdu::Nak { .. } => "nak",
+        Pdu::Prompt { .. } => "prompt",
+        Pdu::KeepAlive { .. } => "keepalive",
+    }
+}
+
+/// What a PDU says, with a space between its parts.
+#[derive(Clone, Copy)]
+struct PduFields<'a>(&'a Pdu<'a>);
+
+impl fmt::Display for PduFields<'_> {
+    ghost output = { λ fields. Some (fields_text fields.0.now) };
+
+    fn fmt<W: fmt::Write>(&self, f: &mut fmt::Formatter<W>) -> fmt::Result {
+        match self.0 {
+            Pdu::FileData { offset, bytes } => write!(f, "{offset} {}", bytes.len()),
+            Pdu::Metadata {
+                checksum_kind,
+                size,
+                source,
+                destination,
+                ..
+            } => {
+                let (from, to) = (Name(source), Name(destination));
+                write!(f, "{} {size} {from} {to}", checksum_kind.code())
+            }
+            Pdu::Eof {
+                condition,
+                checksum,
+                size,
+                ..
+            } => {
+                let checksum = HexNumber(*checksum);
+                write!(f, "{} {checksum} {size}", condition.code())
+            }
+            Pdu::Finished {
+                condition,
+                delivery,
+                status,
+                ..
+            } => {
+                let (delivery, status) = (delivery_word(*delivery), status_word(*status));
+                write!(f, "{} {delivery} {status}", condition.code())
+            }
+            Pdu::Ack {
+                of,
+                condition,
+                status,
+            } => {
+                let (of, status) = (of.code(), status.code());
+                write!(f, "{of} {} {status}", condition.code())
+            }
+            Pdu::Nak { start, end, pairs } => write!(f, "{start} {end}{}", Ranges(pairs)),
+            Pdu::Prompt { keep_alive: false } => write!(f, "nak"),
+            Pdu::Prompt { keep_alive: true } => write!(f, "keep"),
+            Pdu::KeepAlive { progress } => write!(f, "{progress}"),
+        }
+    }
+}
+
+/// The ranges that a NAK asks for, with a space before each.
+#[derive(Clone, Copy)]
+struct Ranges<'a>(&'a Pairs<'a>);
+
+impl fmt::Display for Ranges<'_> {
+    ghost output = { λ ranges. Some (flat_map range_text ranges.0.now) };
+
+    fn fmt<W: fmt::Write>(&self, f: &mut fmt::Formatter<W>) -> fmt::Result {
+        let mut next = self.0.split_first();
+        for _index in 0..self.0.len() {
+            let Some((start, end, behind)) = next else {
+                unreachable!()
+            };
+            write!(f, " {start}-{end}")?;
+            next = behind.split_first();
+        }
+        Ok(())
+    }
+}
+
+/// What a long line has behind a short one: where the PDU goes, whether its file is large, and its
+/// options.
+#[derive(Clone, Copy)]
+struct LongPart<'a> {
+    header: Header,
+    pdu: &'a Pdu<'a>,
+}
+
+impl fmt::Display for LongPart<'_> {
+    ghost output = { λ part. Some (long_text part.header part.pdu.now) };
+
+    fn fmt<W: fmt::Write>(&self, f: &mut fmt::Formatter<W>) -> fmt::Result {
+        let (end, destination) = (end_word(self.header.toward_sender), self.header.destination);
+        let large = large_word(self.header.large);
+        let (location, options) = (Location(fault_location(self.pdu)), Options(self.pdu));
+        write!(
+            f,
+            " toward {end} destination {destination}{large}{location}{options}"
+        )
+    }
+}
+
+/// The word for the end of a transaction that a PDU goes to.
+fn end_word(toward_sender: bool) -> &'static str
+    ensures { result.now ≡ Rattle.cfdp_report.specs.Dump.Lines.end_word toward_sender }
+{
+    if toward_sender { "sender" } else { "receiver" }
+}
+
+/// The word for a PDU of a large file, with a space before it.
+fn large_word(large: bool) -> &'static str
+    ensures { result.now ≡ Rattle.cfdp_report.specs.Dump.Lines.large_word large }
+{
+    if large { " large" } else { "" }
+}
+
+/// The entity that a PDU names as the one at which a fault was found.
+fn fault_location(pdu: &Pdu<'_>) -> Option<u64>
+    ensures { result ≡ location_of (options_of pdu.now) }
+{
+    match pdu {
+        Pdu::Metadata { options, .. } => options.fault_location(),
+        Pdu::Eof { tlvs, .. } => tlvs.fault_location(),
+        Pdu::Finished { tlvs, .. } => tlvs.fault_location(),
+        _ => None,
+    }
+}
+
+/// A fault location, with a space before it.
+#[derive(Clone, Copy)]
+struct Location(Option<u64>);
+
+impl fmt::Display for Location {
+    ghost output = { λ location. Some (location_text location.0) };
+
+    fn fmt<W: fmt::Write>(&self, f: &mut fmt::Formatter<W>) -> fmt::Result {
+        match self.0 {
+            Some(entity) => write!(f, " fault-location {entity}"),
+            None => write!(f, ""),
+        }
+    }
+}
+
+/// The options of a PDU, with a space before each.
+#[derive(Clone, Copy)]
+struct Options<'a>(&'a Pdu<'a>);
+
+impl fmt::Display for Options<'_> {
+    ghost output = { λ options. Some (flat_map option_text (options_of options.0.now)) };
+
+    fn fmt<W: fmt::Write>(&self, f: &mut fmt::Formatter<W>) -> fmt::Result {
+        match self.0 {
+            Pdu::Metadata { options, .. } => write!(f, "{}", OptionList(options)),
+            Pdu::Eof { tlvs, .. } => write!(f, "{}", OptionList(tlvs)),
+            Pdu::Finished { tlvs, .. } => write!(f, "{}", OptionList(tlvs)),
+            _ => write!(f, ""),
+        }
+    }
+}
+
+/// Options, with a space before each.
+#[derive(Clone, Copy)]
+struct OptionList<'a>(&'a Tlvs<'a>);
+
+impl fmt::Display for OptionList<'_> {
+    ghost output = { λ options. Some (flat_map option_text options.0.now) };
+
+    fn fmt<W: fmt::Write>(&self, f: &mut fmt::Formatter<W>) -> fmt::Result {
+        for (kind, value) in self.0 {
+            write!(f, "{}", OptionWords { kind, value })?;
+        }
+        Ok(())
+    }
+}
+
+/// One option, with a space before it.
+#[derive(Clone, Copy)]
+struct OptionWords<'a> {
+    kind: u8,
+    value: &'a [u8],
+}
+
+impl fmt::Display for OptionWords<'_> {
+    ghost output = { λ words. Some
+        (option_text (record { kind = words.kind; value = words.value.now })) };
+
+    fn fmt<W: fmt::Write>(&self, f: &mut fmt::Formatter<W>) -> fmt::Result {
+        write!(f, " tlv {}:{}", HexOctet(self.kind), HexOctets(self.value))
+    }
+}
+
+/// Octets, each as two upper-case hexadecimal digits.
+#[derive(Clone, Copy)]
+struct HexOctets<'a>(&'a [u8]);
+
+impl fmt::Display for HexOctets<'_> {
+    ghost output = { λ octets. Some (flat_map hex_octet_text octets.0.now) };
+
+    fn fmt<W: fmt::Write>(&self, f: &mut fmt::Formatter<W>) -> fmt::Result {
+        for octet in self.0 {
+            write!(f, "{}", HexOctet(*octet))?;
+        }
+        Ok(())
+    }
+}
+
+/// An octet as two upper-case hexadecimal digits.
+#[derive(Clone, Copy)]
+struct HexOctet(u8);
+
+impl fmt::Display for HexOctet {
+    ghost output = { λ octet. Some (hex_octet_text octet.0) };
+
+    #[tactic(auto, using(std::proofs::lemmas::Str::encode_ascii))]
+    fn fmt<W: fmt::Write>(&self, f: &mut fmt::Formatter<W>) -> fmt::Result {
+        write!(f, "{}{}", hex_digit(self.0 / 16), hex_digit(self.0 % 16))
+    }
+}
+
+/// A number as eight upper-case hexadecimal digits.
+#[derive(Clone, Copy)]
+pub struct HexNumber(pub u32);
+
+impl fmt::Display for HexNumber {
+    ghost output = { λ number. Some (hex_number_text number.0) };
+
+    fn fmt<W: fmt::Write>(&self, f: &mut fmt::Formatter<W>) -> fmt::Result {
+        write!(f, "{:08X}", self.0)
+    }
+}
+
+/// A frame as a dump tells it, in a long line or a short one.
+#[derive(Clone, Copy)]
+pub struct DumpedFrame {
+    pub frame: FrameLine,
+    pub long: bool,
+}
+
+impl fmt::Display for DumpedFrame {
+    ghost output = { λ line. Some (frame_line line.long line.frame.header line.frame.pointer) };
+
+    fn fmt<W: fmt::Write>(&self, f: &mut fmt::Formatter<W>) -> fmt::Result {
+        let frame = self.frame;
+        if self.long {
+            let lane = lane_word(frame.header.channel);
+            let cycle = cycle_word(frame.header.cycle);
+            write!(f, "{frame}{lane}{cycle}")
+        } else {
+            write!(f, "{frame}")
+        }
+    }
+}
+
+/// The word for the lane of a virtual channel, with a space before it, where it is one of those
+/// that scripts use, and stations that aren't told others.
+fn lane_word(channel: u8) -> &'static str
+    ensures { result.now ≡ Rattle.cfdp_report.specs.Dump.Lines.lane_word channel }
+{
+    if channel == 5 || channel == 6 {
+        " dir"
+    } else if channel == 7 || channel == 8 {
+        " data"
+    } else {
+        ""
+    }
+}
+
+/// The word for a frame whose count has 28 bits, with a space before it.
+fn cycle_word(cycle: bool) -> &'static str
+    ensures { result.now ≡ Rattle.cfdp_report.specs.Dump.Lines.cycle_word cycle }
+{
+    if cycle { " cycle" } else { "" }
+}
+
+/// A frame, with the first header pointer of its packet zone.
+#[derive(Clone, Copy)]
+pub struct FrameLine {
+    pub header: FrameHeader,
+    pub pointer: u16,
+}
+
+impl fmt::Display for FrameLine {
+    ghost output = { λ line. Some (frame_text line.header line.pointer) };
+
+    fn fmt<W: fmt::Write>(&self, f: &mut fmt::Formatter<W>) -> fmt::Result {
+        let FrameHeader {
+            spacecraft,
+            channel,
+            count,
+            ..
+        } = self.header;
+        write!(f, "frame {spacecraft} {channel} {count} {}", self.pointer)
+    }
+}

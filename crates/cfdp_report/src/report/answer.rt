@@ -1,0 +1,67 @@
+ghost use Rattle.std.specs.Prelude.{◌≡◌, Some};
+ghost use Rattle.cfdp_report.specs.Report.Answers.{answer_name};
+
+use link_sim::{RecoverError, Refusal, SettleError};
+use std::fmt;
+
+/// Why a command didn't do its work, or not all of it. The report tells it.
+#[derive(Clone, Copy)]
+pub enum Answer {
+    /// There was nothing to do.
+    Nothing,
+    /// It was refused.
+    Refused(Refusal),
+    /// It ended before all was done.
+    Ended(RecoverError),
+}
+
+/// A command that was done, or tried, by its line.
+#[derive(Clone, Copy)]
+pub struct Answered {
+    /// The number of its line, from 1 on.
+    pub line: usize,
+    /// What it answered, where it wasn't done, or not to its end.
+    pub answer: Option<Answer>,
+}
+
+impl Answered {
+    /// Whether memory or a store failed in it.
+    pub fn is_device_fault(self) -> bool
+        ensures { result ≡ Rattle.cfdp_report.specs.Report.Answers.is_device_fault self.answer }
+    {
+        match self.answer {
+            Some(Answer::Ended(RecoverError::Settle(error))) => match error {
+                SettleError::NoMemory | SettleError::StoreFailed => true,
+                SettleError::TableFull => false,
+            },
+            _ => false,
+        }
+    }
+}
+
+impl Answer {
+    /// There was no memory for an event.
+    pub const NO_MEMORY: Answer = Answer::Ended(RecoverError::Settle(SettleError::NoMemory));
+}
+
+impl fmt::Display for Answer {
+    ghost output = { λ answer. Some (answer_name answer) };
+
+    fn fmt<W: fmt::Write>(&self, f: &mut fmt::Formatter<W>) -> fmt::Result {
+        write!(f, "{}", self.name())
+    }
+}
+
+impl Answer {
+    fn name(self) -> &'static str
+        ensures { result.now ≡ answer_name self }
+    {
+        match self {
+            Answer::Nothing => "Nothing",
+            Answer::Refused(Refusal::Put(error)) => error.name(),
+            Answer::Refused(Refusal::Call(error)) => error.name(),
+            Answer::Refused(Refusal::LossRunTooLong) => "LossRunTooLong",
+            Answer::Ended(error) => error.name(),
+        }
+    }
+}

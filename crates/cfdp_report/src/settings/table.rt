@@ -1,0 +1,277 @@
+//! All settings: the key of each, its range and its default, and a line of help.
+ghost use Rattle.std.specs.Prelude.{◌≡◌, map};
+ghost use Rattle.cfdp_report.specs.Settings.{is, key_among, row_key, setting_of};
+
+use std::fmt;
+
+/// What a script's `set` sets, for both stations.
+#[derive(Clone, Copy)]
+pub enum Setting {
+    /// Octets of a frame's packet zone.
+    Zone,
+    /// Octets of the file in one PDU at the most.
+    Segment,
+    /// Octets of an entity id.
+    IdWidth,
+    /// Octets of a sequence number.
+    NumberWidth,
+    /// The sequence number of a station's first put.
+    FirstNumber,
+    /// The code of the checksum type.
+    Checksum,
+    /// How often an EOF is sent again.
+    EofLimit,
+    /// How often a NAK is sent again.
+    NakLimit,
+    /// How often a Finished is sent again.
+    FinishedLimit,
+    /// How long the ACK of an EOF is waited for.
+    EofTime,
+    /// How long what a NAK asked for is waited for.
+    NakTime,
+    /// How long the ACK of a Finished is waited for.
+    FinishedTime,
+    /// How long any PDU of a transaction is waited for.
+    InactivityTime,
+    /// The number of what is done where no ACK comes.
+    OnAckLimit,
+    /// The number of what is done where nothing comes after NAKs.
+    OnNakLimit,
+    /// The number of what is done where nothing at all comes.
+    OnInactivity,
+}
+
+/// What is known of a setting.
+#[derive(Clone, Copy)]
+pub struct Row {
+    /// Which setting it is.
+    pub setting: Setting,
+    /// Its key in a script.
+    pub key: &'static str,
+    /// The values that it may have.
+    pub range: Range,
+    /// What it is where nothing sets it.
+    pub default: u64,
+    /// What the help says of it; nothing where what it says of the next one holds of it too.
+    pub help: &'static str,
+}
+
+/// All settings, in the order of `Setting`.
+pub const TABLE: [Row; 16] = [
+    Row {
+        setting: Setting::Zone,
+        key: "zone",
+        range: Range::Between(16, 2040),
+        default: 256,
+        help: "octets of a frame's packet zone, 16 to 2040",
+    },
+    Row {
+        setting: Setting::Segment,
+        key: "segment",
+        range: Range::Between(1, 4096),
+        default: 1024,
+        help: "octets of a file in one PDU at most, 1 to 4096",
+    },
+    Row {
+        setting: Setting::IdWidth,
+        key: "id_width",
+        range: Range::Between(1, 8),
+        default: 2,
+        help: "octets of an entity id, 1 to 8",
+    },
+    Row {
+        setting: Setting::NumberWidth,
+        key: "number_width",
+        range: Range::Between(1, 8),
+        default: 4,
+        help: "octets of a transaction's number, 1 to 8",
+    },
+    Row {
+        setting: Setting::FirstNumber,
+        key: "first_number",
+        range: Range::Between(0, u64::MAX),
+        default: 1,
+        help: "of a station's first transaction, below 2^64",
+    },
+    Row {
+        setting: Setting::Checksum,
+        key: "checksum",
+        range: Range::Either(0, 15),
+        default: 0,
+        help: "0 modular, 15 null",
+    },
+    Row {
+        setting: Setting::EofLimit,
+        key: "eof_limit",
+        range: Range::Between(0, 255),
+        default: 3,
+        help: "",
+    },
+    Row {
+        setting: Setting::NakLimit,
+        key: "nak_limit",
+        range: Range::Between(0, 255),
+        default: 3,
+        help: "",
+    },
+    Row {
+        setting: Setting::FinishedLimit,
+        key: "finished_limit",
+        range: Range::Between(0, 255),
+        default: 3,
+        help: "how often each is sent again, 0 to 255",
+    },
+    Row {
+        setting: Setting::EofTime,
+        key: "eof_time",
+        range: Range::Between(1, 4_294_967_295),
+        default: 10,
+        help: "",
+    },
+    Row {
+        setting: Setting::NakTime,
+        key: "nak_time",
+        range: Range::Between(1, 4_294_967_295),
+        default: 10,
+        help: "",
+    },
+    Row {
+        setting: Setting::FinishedTime,
+        key: "finished_time",
+        range: Range::Between(1, 4_294_967_295),
+        default: 10,
+        help: "",
+    },
+    Row {
+        setting: Setting::InactivityTime,
+        key: "inactivity_time",
+        range: Range::Between(1, 4_294_967_295),
+        default: 100,
+        help: "how long an answer, or any PDU, is waited for, below 2^32",
+    },
+    Row {
+        setting: Setting::OnAckLimit,
+        key: "on_ack_limit",
+        range: Range::Between(0, 3),
+        default: 0,
+        help: "",
+    },
+    Row {
+        setting: Setting::OnNakLimit,
+        key: "on_nak_limit",
+        range: Range::Between(0, 3),
+        default: 0,
+        help: "",
+    },
+    Row {
+        setting: Setting::OnInactivity,
+        key: "on_inactivity",
+        range: Range::Between(0, 3),
+        default: 0,
+        help: "what is done then: 0 cancel, 1 suspend, 2 ignore, 3 abandon",
+    },
+];
+
+/// The values that a setting may have.
+#[derive(Clone, Copy)]
+pub enum Range {
+    /// From the first number to the second.
+    Between(u64, u64),
+    /// One of the two.
+    Either(u64, u64),
+}
+
+impl Range {
+    /// Whether a value is one of them.
+    pub fn has(self, value: u64) -> bool {
+        match self {
+            Range::Between(least, most) => least <= value && value <= most,
+            Range::Either(one, other) => value == one || value == other,
+        }
+    }
+}
+
+/// In words.
+impl fmt::Display for Range {
+    fn fmt<W: fmt::Write>(&self, f: &mut fmt::Formatter<W>) -> fmt::Result {
+        match self {
+            Range::Between(0, u64::MAX) => f.write_str("any number"),
+            Range::Between(least, most) => write!(f, "{least} to {most}"),
+            Range::Either(one, other) => write!(f, "{one} or {other}"),
+        }
+    }
+}
+
+impl Setting {
+    fn row(self) -> Row
+        ensures { result.setting ≡ self }
+    {
+        TABLE[self as usize]
+    }
+
+    /// Its key in a script.
+    pub fn key(self) -> &'static str {
+        self.row().key
+    }
+
+    /// The values that it may have.
+    pub fn range(self) -> Range {
+        self.row().range
+    }
+}
+
+/// The setting that has this key.
+pub fn parse_setting(word: &[u8]) -> Option<Setting>
+    ensures { result ≡ setting_of word.now }
+{
+    with_key(&TABLE, word)
+}
+
+/// The setting of the first of these rows that has this key.
+fn with_key(rows: &[Row], word: &[u8]) -> Option<Setting>
+    ensures { result ≡ key_among (map row_key rows.now) word.now }
+{
+    for row in rows {
+        if row.has_key(word) {
+            return Some(row.setting);
+        }
+    }
+    None
+}
+
+impl Row {
+    fn has_key(&self, word: &[u8]) -> bool
+        ensures { result ≡ is word.now self.now.key.now }
+    {
+        word == self.key.as_bytes()
+    }
+
+    /// Writes what the help says of it. It is the first of those of which that holds, or not.
+    fn write_help<W: fmt::Write>(&self, f: &mut fmt::Formatter<W>, is_first: bool) -> fmt::Result {
+        let (key, default, help) = (self.key, self.default, self.help);
+        f.write_str(if is_first { "  " } else { ", " })?;
+        if help.is_empty() {
+            write!(f, "{key} {default}")
+        } else if is_first {
+            let width = 21usize.saturating_sub(key.len());
+            write!(f, "{key} {default:<width$}{help}\n")
+        } else {
+            write!(f, "{key} {default}\n{:24}{help}\n", "")
+        }
+    }
+}
+
+/// Lines of help: all settings with what they are where nothing sets them, and what they mean.
+#[derive(Clone, Copy)]
+pub struct SettingsHelp;
+
+impl fmt::Display for SettingsHelp {
+    fn fmt<W: fmt::Write>(&self, f: &mut fmt::Formatter<W>) -> fmt::Result {
+        let mut is_first = true;
+        for row in &TABLE {
+            row.write_help(f, is_first)?;
+            is_first = !row.help.is_empty();
+        }
+        Ok(())
+    }
+}

@@ -1,0 +1,13 @@
+//! One who looks on at stations and the frames between them, and what is shown of it.
+
+pub mod capture;
+pub mod chart;
+pub mod dropped;
+pub mod frames;
+pub mod onlooker;
+pub mod progress;
+pub mod recorder;
+pub mod show;
+pub mod shown;
+pub mod sighting;
+pub mod trace;

@@ -1,0 +1,267 @@
+//! One who looks on at a run: at a script's, or at turns over two wires.
+ghost use Rattle.link_sim.specs.Stations.{IsWorldConfig};
+
+use crate::report::condition::Conditions;
+use crate::watch::dropped::Dropped;
+use crate::watch::frames::Watch;
+use crate::watch::recorder::{Recorder, Screen, Showing};
+use crate::watch::shown::Shown;
+use crate::watch::sighting::{Deed, Log};
+use cfdp_station::Station;
+use cfdp_store::{Inbox, Outbox};
+use link_sim::{Event, FrameLinks, Passed, Side, Witness, WorldConfig};
+use std::alloc::{AllocError, Global};
+
+/// One who looks on at a run, or nobody.
+#[derive(Drop)]
+pub enum Onlooker<'a> {
+    /// Nobody: nothing is seen.
+    Nobody,
+    /// One who sees all that passes.
+    Somebody(Seen<'a>),
+}
+
+impl<'a> Onlooker<'a> {
+    /// Before the first event of two stations with these settings. Somebody looks on if something
+    /// is to be shown.
+    ///
+    /// # Errors
+    ///
+    /// `AllocError` where there is no memory.
+    pub fn new(
+        screen: Screen<'a>,
+        config: WorldConfig,
+        shown: &'a Shown,
+    ) -> Result<Onlooker<'a>, AllocError>
+        requires { IsWorldConfig config }
+    {
+        if shown.is_watched() {
+            Ok(Onlooker::Somebody(Seen::new(screen, config, shown)?))
+        } else {
+            Ok(Onlooker::Nobody)
+        }
+    }
+
+    /// Hears that no more passes, and tells what is known then; `None` where nobody looked on.
+    pub fn into_summary(self) -> Option<Summary> {
+        match self {
+            Onlooker::Nobody => None,
+            Onlooker::Somebody(seen) => Some(seen.into_summary()),
+        }
+    }
+}
+
+/// The steps of a script are lines of it.
+impl Witness for Onlooker<'_> {
+    fn saw<O: Outbox, I: Inbox>(
+        &mut self,
+        event: &Event,
+        stations: (&Station<O, I>, &Station<O, I>),
+        frames: (&FrameLinks, &FrameLinks),
+    ) {
+        match self {
+            Onlooker::Nobody => {}
+            Onlooker::Somebody(seen) => seen.look(event, stations, frames),
+        }
+    }
+
+    fn comes_to(&mut self, step: usize) {
+        match self {
+            Onlooker::Nobody => {}
+            Onlooker::Somebody(seen) => seen.log.comes_to(step),
+        }
+    }
+}
+
+/// At turns over wires the steps are the turns.
+impl Onlooker<'_> {
+    /// Hears that the turn of this number begins: what it sees from here on is of it.
+    pub fn begins(&mut self, turn: u64) {
+        match self {
+            Onlooker::Nobody => {}
+            Onlooker::Somebody(seen) => seen.log.comes_to(turn as usize),
+        }
+    }
+
+    /// Sees what passed at a station, and the station behind that.
+    pub fn sees<O: Outbox, I: Inbox>(
+        &mut self,
+        side: Side,
+        passed: Passed<'_>,
+        station: &Station<O, I>,
+    ) {
+        match self {
+            Onlooker::Nobody => {}
+            Onlooker::Somebody(seen) => seen.look_at(side, passed, station),
+        }
+    }
+}
+
+/// What is known of a run that is over by one who looked on.
+#[derive(Drop)]
+pub struct Summary {
+    /// Which conditions the stations told their users.
+    pub conditions: Conditions,
+    /// What either station dropped.
+    pub one: Dropped,
+    pub two: Dropped,
+    /// What became of what was to be shown as it was seen.
+    pub showing: Showing,
+}
+
+/// What was seen so far of a run. What stations did is kept until the end of its event alone.
+#[derive(Drop)]
+pub struct Seen<'a> {
+    // What the stations did in this event, and where it is written.
+    log: Log,
+    recorder: Recorder<'a>,
+    // Which conditions they told their users.
+    conditions: Conditions,
+    // Either station.
+    one: SeenStation,
+    two: SeenStation,
+}
+
+impl<'a> Seen<'a> {
+    /// Before the first event of two stations with these settings.
+    ///
+    /// # Errors
+    ///
+    /// `AllocError` where there is no memory.
+    fn new(
+        screen: Screen<'a>,
+        config: WorldConfig,
+        shown: &'a Shown,
+    ) -> Result<Seen<'a>, AllocError>
+        requires { IsWorldConfig config }
+    {
+        let alloc = screen.rt.alloc();
+        Ok(Seen {
+            log: Log::new(alloc),
+            conditions: Conditions::new(),
+            one: SeenStation::new(Side::One, Watch::new(alloc, Side::One, config.one.down)?),
+            two: SeenStation::new(Side::Two, Watch::new(alloc, Side::Two, config.two.down)?),
+            recorder: Recorder::new(screen, shown, config.one.down.zone),
+        })
+    }
+
+    /// What is known now that no more passes.
+    fn into_summary(self) -> Summary {
+        let Seen {
+            log: _,
+            mut recorder,
+            conditions,
+            one,
+            two,
+        } = self;
+        Summary {
+            conditions,
+            one: one.dropped,
+            two: two.dropped,
+            showing: recorder.ends(),
+        }
+    }
+
+    /// Notes what passed in an event of a script: the time that was told, frames and the PDUs in
+    /// them, what was dropped, and what was told to users.
+    fn look<O: Outbox, I: Inbox>(
+        &mut self,
+        event: &Event,
+        stations: (&Station<O, I>, &Station<O, I>),
+        frames: (&FrameLinks, &FrameLinks),
+    ) {
+        let (log, conditions) = (&mut self.log, &mut self.conditions);
+        log.next_event();
+        if let Event::Tick { at, now } = event {
+            log.note_words(*at, Deed::Ticks, now);
+        }
+        self.one.frames.look(frames.0, log);
+        self.two.frames.look(frames.1, log);
+        self.one.look(stations.0, conditions, log);
+        self.two.look(stations.1, conditions, log);
+        self.recorder.record(log);
+    }
+
+    /// Notes the same of what passed at a station in a turn.
+    fn look_at<O: Outbox, I: Inbox>(
+        &mut self,
+        side: Side,
+        passed: Passed<'_>,
+        station: &Station<O, I>,
+    ) {
+        let (one, two, log) = (&mut self.one, &mut self.two, &mut self.log);
+        log.next_event();
+        if let Passed::Ticked(now) = passed {
+            log.note_words(side, Deed::Ticks, &now);
+        }
+        match side {
+            Side::One => {
+                note_frame(passed, &mut one.frames, &mut two.frames, log);
+                one.look(station, &mut self.conditions, log);
+            }
+            Side::Two => {
+                note_frame(passed, &mut two.frames, &mut one.frames, log);
+                two.look(station, &mut self.conditions, log);
+            }
+        }
+        self.recorder.record(log);
+    }
+}
+
+/// Notes the frame that passed at a station, if one did, with the PDUs in it. Its own frames are
+/// those that it sends.
+fn note_frame(passed: Passed<'_>, own: &mut Watch, other: &mut Watch, log: &mut Log) {
+    match passed {
+        Passed::Put | Passed::Ticked(_) | Passed::Polled(_) => {}
+        Passed::Left {
+            lane,
+            frame,
+            is_sent,
+        } => {
+            own.leaves(lane, frame, log);
+            if !is_sent {
+                own.loses(lane, frame, log);
+            }
+        }
+        Passed::Took(frame) => other.comes(frame, log),
+    }
+}
+
+/// What was seen so far of a station.
+#[derive(Drop)]
+struct SeenStation {
+    side: Side,
+    // What it dropped.
+    dropped: Dropped,
+    // How many of its indications were seen.
+    told: u64,
+    // The frames that it sends.
+    frames: Watch,
+}
+
+impl SeenStation {
+    /// Before its first event.
+    fn new(side: Side, frames: Watch) -> SeenStation {
+        SeenStation {
+            side,
+            dropped: Dropped::new(side),
+            told: 0,
+            frames,
+        }
+    }
+
+    /// Notes what it has dropped since the last look, and what it told its user.
+    fn look<O: Outbox, I: Inbox>(
+        &mut self,
+        station: &Station<O, I>,
+        conditions: &mut Conditions,
+        log: &mut Log,
+    ) {
+        self.dropped.look(station, log);
+        for indication in station.indications_since(self.told).unwrap_or(&[]) {
+            log.note_told(self.side, indication);
+            conditions.note(indication);
+            self.told = self.told.saturating_add(1);
+        }
+    }
+}

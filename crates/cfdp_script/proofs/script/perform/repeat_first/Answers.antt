@@ -1,0 +1,13 @@
+use Rattle.std.proofs.Common.{ℕ, None, sym, subst, add-one}
+use Rattle.link_sim.specs.Spreading.{Times}
+use Rattle.cfdp_script.specs.Script.Run.{HappensToFirst}
+use Rattle.cfdp_script.proofs.script.perform.repeat_first.Goals as goal
+
+pub returns-in-Some : goal.returns-in-Some
+returns-in-Some g c =
+    (c.loop-frame._frame, c.loop-frame-test.true, g.S.Stations.world c.loop-frame.stations, c.loop-frame.invariant, c.in-Some.ensures)
+
+pub loop-frame-preserved : goal.loop-frame-preserved
+loop-frame-preserved g c =
+    let Often : ℕ → Type 0 = λ n. Times (HappensToFirst c.args.fate c.args.from None) n (g.S.Stations.world c.args.stations.now) (g.S.Stations.world c.once_first.new.stations) in
+    subst Often (sym (add-one c.loop-frame._frame)) (g.S.Stations.world c.loop-frame.stations, c.loop-frame.invariant, c.in_default.ensures)

@@ -1,0 +1,47 @@
+-- What the program's `dump` prints.
+use Rattle.std.specs.Prelude.{◌≡◌, ⊤, ℕ, ◌<◌, ◌==◌, Bool, List, [], ◌∷◌, length, if◌then◌else◌, Option, IfSome, MatchOption}
+use Rattle.std.specs.Result.{result_ok}
+use Rattle.std.specs.Io.KnownBytes.{Keeps}
+use Rattle.hex.specs.Hex.{decode_of}
+use Rattle.cfdp_report.specs.Dump.Lines.{TellsAsFrame, TellsAsPdu, WritesLines}
+use Rattle.cfdp_report.specs.Dump.Refusal.{refusal_text}
+use Rattle.cfdp_report.specs.declared.dump.refusal.Refusal.TheVariants.{Hex}
+use Rattle.cfdp_report.specs.declared.exit.Exit.{Exit}
+use Rattle.cfdp_report.specs.declared.exit.Exit.TheVariants.{Complete, Device}
+use Rattle.cfdp_report.specs.declared.exit.Fault.TheVariants.{NoMemory, TooLong, Unwritable}
+use Rattle.cfdp_script.specs.declared.dump.DumpRequest.{DumpRequest}
+use Rattle.cfdp_script.specs.declared.dump.DumpKind.{DumpKind}
+use Rattle.cfdp_script.specs.declared.dump.DumpKind.TheVariants.{Pdus, Frames}
+use Rattle.cfdp_script.specs.Script.Words.{onto_first}
+
+-- the lines of a text: each ends with a line feed, which the last needs not
+unfoldable pub lines : List ℕ → List (List ℕ)
+lines [] = []
+lines (octet ∷ rest) = if octet == 10 then [] ∷ lines rest else onto_first octet (lines rest)
+
+abbrev pub TellsAs : DumpKind → (long : Bool) → (zone : ℕ) → List ℕ → List ℕ → Type 0
+TellsAs Pdus long zone = TellsAsPdu long
+TellsAs Frames long zone = TellsAsFrame long zone
+
+-- the octets that a line's pairs of hexadecimal digits spell, in either case
+abbrev pub hex_octets : List ℕ → Option (List ℕ)
+hex_octets line = result_ok (decode_of line)
+
+-- This text is written for this line.
+abbrev pub TellsLine : DumpRequest → List ℕ → List ℕ → Type 0
+TellsLine request line text =
+    MatchOption (hex_octets line) (text ≡ refusal_text Hex)
+    (λ octets. TellsAs request.kind request.long request.zone octets text)
+
+-- How a dump ends, by what the reader has left and what the writer holds before and after. Complete
+-- says that each line was told. Where the lines couldn't be read, or are too many, nothing is
+-- written.
+abbrev pub EndsDump : DumpRequest → (left old new : Option (List ℕ)) → Exit → Type 0
+EndsDump request left old new Complete =
+    IfSome left (λ text. WritesLines (TellsLine request) (lines text) old new)
+EndsDump request left old new (Device Unwritable) = ⊤
+EndsDump request left old new (Device NoMemory) = ⊤
+EndsDump request left old new (Device TooLong) = IfSome left (λ text. 1048576 < length text)
+    × Keeps old new
+EndsDump request left old new (Device fault) = Keeps old new
+EndsDump request left old new _ = ⊥

@@ -1,0 +1,129 @@
+-- What each command of a script does to the two stations, and what it answers.
+use Rattle.std.specs.Prelude.{◌<◌, ◌≡◌, ◌⊎◌, ℕ, List, length, [], ◌∷◌, Option, None, Some}
+use Rattle.cfdp_directives.specs.declared.user.indication.Indication.{Indication}
+use Rattle.aos_frame.specs.declared.config.Lane.{Lane}
+use Rattle.cfdp_header.specs.Files.{FileMap}
+use Rattle.link_sim.specs.Recovering.{EndsBy, IsRecovered, Recovers}
+use Rattle.link_sim.specs.Settling.{GoesWell, HasCause, IsSettled}
+use Rattle.link_sim.specs.Spreading.{BurstFindsNoMemory, Bursts, SpreadFindsNoMemory, Spreads, Times}
+use Rattle.link_sim.specs.World.State.{WorldState, entity_at, lane_from}
+use Rattle.link_sim.specs.World.Steps.{FindsNoMemory, NoneWaits, Steps, WantsMemory, side_in}
+use Rattle.link_sim.specs.declared.event.Applied.TheVariants as did
+use Rattle.link_sim.specs.declared.event.Event.{Event}
+use Rattle.link_sim.specs.declared.event.Event.TheVariants as event
+use Rattle.link_sim.specs.declared.recover_error.RecoverError.{RecoverError}
+use Rattle.link_sim.specs.declared.recover_error.RecoverError.TheVariants.{Settle, StillArmed}
+use Rattle.link_sim.specs.declared.settle_error.SettleError.TheVariants.{NoMemory}
+use Rattle.link_sim.specs.declared.side.Side.{Side}
+use Rattle.cfdp_report.specs.declared.report.answer.Answer.{Answer}
+use Rattle.cfdp_report.specs.declared.report.answer.Answered.{Answered}
+use Rattle.cfdp_report.specs.declared.report.answer.Answer.TheVariants.{Nothing, Refused, Ended}
+use Rattle.cfdp_script.specs.declared.script.command.Command.{Command}
+use Rattle.cfdp_script.specs.declared.script.command.Command.TheVariants.{Once, Repeat, First, Spread, Burst, Settle as SettleAll, Recover}
+use Rattle.cfdp_script.specs.declared.script.command.Fate.{Fate}
+use Rattle.cfdp_script.specs.Script.Lines.{befalls}
+use Rattle.cfdp_script.specs.declared.script.Step.{Step}
+
+-- what a station told its user so far, and the files that it received
+abbrev pub told : Side → WorldState → List Indication
+told s w = (entity_at s w).table.told
+
+abbrev pub received : Side → WorldState → FileMap
+received s w = (entity_at s w).table.files
+
+-- ---- one command
+-- Memory was wanting, and then it came so.
+abbrev pub ForMemory : RecoverError → Type 0 → Type 0
+ForMemory (Settle NoMemory) so = so
+ForMemory _ so = ⊥
+
+-- An event happened; or the answer says that there was nothing to do, or why it was refused, or
+-- that there was no memory for it.
+abbrev pub HappensOnce : Event → Option Answer → (old new : WorldState) → Type 0
+HappensOnce e None old new = Steps e did.Applied old new
+HappensOnce e (Some Nothing) old new = Steps e did.Nothing old new
+HappensOnce e (Some (Refused by)) old new = Steps e (did.Refused by) old new
+HappensOnce e (Some (Ended error)) old new =
+    ForMemory error (WantsMemory e × FindsNoMemory (side_in e) old new)
+
+-- It happened so many times; or less often, and then came the answer, which isn't that it happened.
+abbrev pub HappensOften : Event → ℕ → Option Answer → (old new : WorldState) → Type 0
+HappensOften e count None old new = Times (Steps e did.Applied) count old new
+HappensOften e count (Some answer) old new = (before : ℕ) × (before < count)
+    × (last : WorldState) × Times (Steps e did.Applied) before old last
+    × HappensOnce e (Some answer) last new
+
+-- ---- frames of either lane
+-- A frame that a station sent waits in this lane, or none waits in either.
+abbrev pub MayTake : Side → Lane → WorldState → Type 0
+MayTake s lane w = (length (lane_from s lane w).marks < length (lane_from s lane w).frames)
+    ⊎ ((l : Lane) → NoneWaits s l w)
+
+-- That befell the oldest waiting frame of a lane in which one waited, or the answer says why it
+-- didn't: that there was nothing to do only where none waited in either.
+abbrev pub HappensToFirst : Fate → Side → Option Answer → (old new : WorldState) → Type 0
+HappensToFirst fate s answer old new =
+    (lane : Lane) × MayTake s lane old × HappensOnce (befalls fate s lane) answer old new
+
+-- So it befell so many; or fewer, and then came the answer.
+abbrev pub HappensToFirsts : Fate → Side → ℕ → Option Answer → (old new : WorldState) → Type 0
+HappensToFirsts fate s count None old new = Times (HappensToFirst fate s None) count old new
+HappensToFirsts fate s count (Some answer) old new = (before : ℕ) × (before < count)
+    × (last : WorldState) × Times (HappensToFirst fate s None) before old last
+    × HappensToFirst fate s (Some answer) last new
+
+-- All was done; or an error ended it before, which is the answer.
+abbrev pub IsDone : Option Answer → Type 0 → (RecoverError → Type 0) → Type 0
+IsDone None done ended = done
+IsDone (Some Nothing) done ended = ⊥
+IsDone (Some (Refused by)) done ended = ⊥
+IsDone (Some (Ended error)) done ended = ended error
+
+-- An error ended a settling.
+abbrev pub SettlingEnds : RecoverError → (old new : WorldState) → Type 0
+SettlingEnds (Settle error) old new = HasCause error old new
+SettlingEnds StillArmed old new = ⊥
+
+-- A command had this answer, none where all was done, and led from the old world to the new one.
+abbrev pub Performs : Command → Option Answer → (old new : WorldState) → Type 0
+Performs (Once e) answer old new = HappensOnce e answer old new
+Performs (Repeat e count) answer old new = HappensOften e count answer old new
+Performs (First fate s count) answer old new = HappensToFirsts fate s count answer old new
+Performs (Spread s) answer old new =
+    IsDone answer (Spreads s old new) (λ error. ForMemory error (SpreadFindsNoMemory s old new))
+Performs (Burst s) answer old new =
+    IsDone answer (Bursts s old new) (λ error. ForMemory error (BurstFindsNoMemory s old new))
+Performs SettleAll answer old new =
+    IsDone answer (GoesWell old new × IsSettled new) (λ error. SettlingEnds error old new)
+Performs Recover answer old new =
+    IsDone answer (Recovers old new × IsRecovered new) (λ error. EndsBy error old new)
+
+-- ---- all commands
+-- Each command in turn, from the world that the one before left, with its line and its answer.
+abbrev pub Runs : List Step → List Answered → (old new : WorldState) → Type 0
+Runs [] [] old new = new ≡ old
+Runs [] (done ∷ all) old new = ⊥
+Runs (step ∷ steps) [] old new = ⊥
+Runs (step ∷ steps) (done ∷ all) old new = (done.line ≡ step.line)
+    × (mid : WorldState) × Performs step.command done.answer old mid × Runs steps all mid new
+
+-- A put that a command asked for was accepted. Lines of scripts repeat deliveries and losses alone.
+abbrev pub IsAccepted : Command → Option Answer → Type 0
+IsAccepted (Once (event.Put at source destination)) answer = answer ≡ None
+IsAccepted (Repeat (event.Put at source destination) count) answer = ⊥
+IsAccepted _ answer = Unit {0}
+
+-- Every put was.
+abbrev pub AreAccepted : List Step → List Answered → Type 0
+AreAccepted [] answered = Unit {0}
+AreAccepted (step ∷ steps) [] = Unit {0}
+AreAccepted (step ∷ steps) (done ∷ all) =
+    IsAccepted step.command done.answer × AreAccepted steps all
+
+-- how many files a command asks a station to send: one or none
+abbrev pub puts_by : Command → ℕ
+puts_by (Once (event.Put at source destination)) = 1
+puts_by _ = 0
+
+unfoldable pub puts_in : Step → ℕ
+puts_in step = puts_by step.command

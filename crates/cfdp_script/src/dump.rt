@@ -1,0 +1,153 @@
+//! Dumps: what lines of hexadecimal digits spell.
+ghost use Rattle.std.specs.Prelude.{◌≡◌, ◌<◌, ◌≤◌, ◌∷◌, length, IfOk, OnOk};
+ghost use Rattle.std.specs.Io.Buffered.{writer_buffer, writer_contents};
+ghost use Rattle.std.specs.Option.{option_map};
+ghost use Rattle.cfdp_report.specs.Dump.Lines.{WritesLine, WritesLines};
+ghost use Rattle.cfdp_report.specs.Exit.{IsFlushedAt};
+ghost use Rattle.cfdp_script.specs.Dump.{EndsDump, hex_octets, TellsLine};
+ghost use Rattle.cfdp_script.specs.Dump as dumps;
+
+use crate::input::{read_script, write_fault};
+use crate::script::words::cut_at_first;
+use cfdp_report::{Exit, Refusal, write_frame, write_pdu};
+use hex::FromHexError;
+use std::alloc::{AllocError, Global};
+use std::io;
+use std::io::{BufWriter, Read, Write};
+
+/// What the lines of a dump are to spell.
+#[derive(Clone, Copy)]
+pub enum DumpKind {
+    /// PDUs.
+    Pdus,
+    /// AOS transfer frames.
+    Frames,
+}
+
+/// What lines are to be told.
+#[derive(Clone, Copy)]
+pub struct DumpRequest {
+    /// What the lines are.
+    pub kind: DumpKind,
+    /// The octets of a frame's packet zone, 16 to 2,040.
+    pub zone: u16,
+    /// Whether to tell also what a short line leaves out.
+    pub long: bool,
+}
+
+/// Reads lines of hexadecimal digits to their end, and writes for each a line that says what it
+/// spells. Lines end with a line feed, which the last needs not; an empty line is no octets.
+///
+/// Frames have packet zones of `zone` octets and are told whatever their spacecraft and channel. Of
+/// PDUs `zone` says nothing.
+///
+/// The answer is `Complete` whatever the lines say, once all have left the buffer. It is `Device`
+/// where they couldn't be read, as `read_script` says, where a line couldn't be written, or where
+/// there was no memory. Nothing is written unless all was read, and nothing is written twice.
+pub fn run_dump<R: Read + Drop, W: Write + Drop>(
+    alloc: Global,
+    request: DumpRequest,
+    reader: R,
+    out: &mut BufWriter<W>,
+) -> Exit
+    requires { (16 ≤ request.zone) × (request.zone ≤ 2040) }
+    ensures told { EndsDump request (R.remaining reader) (writer_contents W.contents out.old)
+        (writer_contents W.contents out.new) result }
+    ensures flushed { IsFlushedAt result (writer_buffer out.new) }
+{
+    dump_lines(alloc, request, reader, out).flushed(out)
+}
+
+/// Reads lines, and writes for each what it spells, as [`run_dump`] does. The writer isn't flushed.
+pub fn dump_lines<R: Read + Drop, W: Write>(
+    alloc: Global,
+    request: DumpRequest,
+    reader: R,
+    out: &mut W,
+) -> Exit
+    requires { (16 ≤ request.zone) × (request.zone ≤ 2040) }
+    ensures { EndsDump request (R.remaining reader) (W.contents out.old) (W.contents out.new)
+        result }
+{
+    let text = match read_script(alloc, reader) {
+        Ok(text) => text,
+        Err(fault) => return Exit::Device(fault),
+    };
+    match write_dump(alloc, request, text.as_slice(), out) {
+        Ok(()) => Exit::Complete,
+        Err(error) => Exit::Device(write_fault(&error)),
+    }
+}
+
+/// Writes a line for each line of the text.
+///
+/// # Errors
+///
+/// That of the writer, or `OutOfMemory`.
+fn write_dump<W: Write>(
+    alloc: Global,
+    request: DumpRequest,
+    text: &[u8],
+    out: &mut W,
+) -> io::Result<()>
+    ensures { OnOk result (WritesLines (TellsLine request) (dumps.lines text.now)
+        (W.contents out.old) (W.contents out.new)) }
+{
+    let mut rest = text;
+    while !rest.is_empty() {
+        let (line, behind) = cut_line(rest);
+        write_line(alloc, request, line, out)?;
+        rest = behind;
+    }
+    Ok(())
+}
+
+/// The first line of a text, without its line feed, and the text behind it.
+fn cut_line(text: &[u8]) -> (&[u8], &[u8])
+    requires { 0 < length text.now }
+    ensures lines { dumps.lines text.now ≡ result.0.now ∷ dumps.lines result.1.now }
+    ensures shorter { length result.1.now < length text.now }
+{
+    let (line, behind) = cut_at_first(text, b'\n');
+    match behind {
+        Some(behind) => (line, behind),
+        None => (line, &text[text.len()..]),
+    }
+}
+
+/// Writes what one line spells.
+///
+/// # Errors
+///
+/// That of the writer, or `OutOfMemory`.
+fn write_line<W: Write>(
+    alloc: Global,
+    request: DumpRequest,
+    line: &[u8],
+    out: &mut W,
+) -> io::Result<()>
+    ensures { OnOk result (WritesLine (TellsLine request line.now)
+        (W.contents out.old) (W.contents out.new)) }
+{
+    let Some(octets) = parse_hex_line(alloc, line)? else {
+        return writeln!(out, "{}", Refusal::Hex);
+    };
+    match request.kind {
+        DumpKind::Pdus => write_pdu(octets.as_slice(), request.long, out),
+        DumpKind::Frames => write_frame(octets.as_slice(), request.zone, request.long, out),
+    }
+}
+
+/// The octets that the line's pairs of hexadecimal digits spell, in either case. `None` where it
+/// has anything else.
+fn parse_hex_line(alloc: Global, line: &[u8]) -> Result<Option<Vec<u8>>, AllocError>
+    ensures { IfOk result (λ octets. option_map (λ v. v.items) octets ≡ hex_octets line.now) }
+{
+    match hex::decode(alloc, line) {
+        Ok(octets) => Ok(Some(octets)),
+        Err(FromHexError::OutOfMemory) => Err(AllocError),
+        Err(FromHexError::InvalidHexCharacter { .. }) => Ok(None),
+        Err(FromHexError::OddLength) => Ok(None),
+        Err(FromHexError::InvalidStringLength) => Ok(None),
+    }
+}

@@ -1,0 +1,422 @@
+ghost use Rattle.std.specs.Prelude.{◌≡◌};
+ghost use Rattle.std.specs.Result.{result_ok};
+ghost use Rattle.cfdp_report.specs.Numbers.{number_of, octet_of};
+ghost use Rattle.cfdp_script.specs.Script.Words.{left};
+ghost use Rattle.cfdp_script.specs.Script.Lines.{Reads, both, line_of, meaning, set_of, file_of, fill_of, fill_count, command_of, put_of, call_of, motion_of, round_of, station_words, transaction_words, number_words, frames_of, which_of, count_of, lane_of, prompt_of, asked_of, id_of, station_of};
+
+use crate::script::words::{Words, cut_at_first};
+use cfdp_directives::Octets;
+use cfdp_header::TransactionId;
+use cfdp_report::{LineError, Setting, parse_hex_octet, parse_number, parse_setting};
+use link_sim::{Event, Lane, Side};
+use std::alloc::{AllocError, Global};
+
+/// The longest line of a script, in octets, without its line feed.
+pub const MAX_LINE: usize = 4096;
+
+/// The longest file that `fill` makes, in octets.
+pub const MAX_FILL: u64 = 1_048_576;
+
+/// One line of a script.
+#[derive(Drop)]
+pub enum Line {
+    /// `set KEY N`.
+    Set(Setting, u64),
+    /// `file S NAME TEXT` or `fill S NAME N HH`.
+    File(FileLine),
+    /// A command that makes something happen.
+    Command(Command),
+}
+
+/// A file that a script puts into a station's outbox.
+#[derive(Drop)]
+pub struct FileLine {
+    pub at: Side,
+    pub name: Octets,
+    pub contents: Contents,
+}
+
+/// What is in a file that a script makes.
+#[derive(Drop)]
+pub enum Contents {
+    /// These octets.
+    Text(Octets),
+    /// So many times the same octet: at most `MAX_FILL`.
+    Fill { count: u64, octet: u8 },
+}
+
+/// A command of a script: what happens to the stations and the link.
+#[derive(Drop)]
+pub enum Command {
+    /// An event: `put S SRC DST`, `cancel S ID`, `suspend S ID`, `resume S ID`, `prompt S ID nak`,
+    /// `prompt S ID keep`, `poll S`, `flush S`, `tick S N`.
+    Once(Event),
+    /// An event so many times: `deliver S dir [N]`, `strike S data [N]`.
+    Repeat(Event, u64),
+    /// So many times what befalls the frame that the station sent first, of all of its frames that
+    /// wait in either lane: `deliver S [N]`, `strike S [N]`.
+    First { fate: Fate, from: Side, count: u64 },
+    /// `spread S`: polls until nothing is due, with a flush after each PDU.
+    Spread(Side),
+    /// `burst S`: polls until nothing is due, then one flush.
+    Burst(Side),
+    /// `settle`: polls, flushes and delivers until nothing is due and nothing waits.
+    Settle,
+    /// `recover`: settles, and tells stations the time and settles again, until no timer is armed
+    /// but those of Inactivity.
+    Recover,
+}
+
+/// What befalls a frame that waits.
+#[derive(Clone, Copy)]
+pub enum Fate {
+    /// It arrives.
+    Arrives,
+    /// It is lost.
+    IsLost,
+}
+
+impl Fate {
+    ghost use Rattle.cfdp_script.specs.Script.Lines.{befalls};
+
+    /// The event in which it befalls the oldest waiting frame that this station sent in this lane.
+    pub fn event(self, from: Side, lane: Lane) -> Event
+        ensures { result ≡ befalls self from lane }
+    {
+        match self {
+            Fate::Arrives => Event::Deliver(from, lane),
+            Fate::IsLost => Event::Strike(from, lane),
+        }
+    }
+}
+
+/// Why a line was not read.
+#[derive(Clone, Copy)]
+pub enum Unread {
+    /// It is bad.
+    Bad(LineError),
+    /// There is no memory for what it holds.
+    NoMemory,
+}
+
+impl From<LineError> for Unread {
+    ghost use Rattle.std.specs.Prelude.{◌≡◌};
+    ghost use Rattle.cfdp_script.specs.declared.script.command.Unread.TheVariants.{Bad};
+
+    ghost from_gives = { λ error unread. unread ≡ Bad error };
+
+    fn from(error: LineError) -> Unread {
+        Unread::Bad(error)
+    }
+}
+
+impl From<AllocError> for Unread {
+    ghost use Rattle.std.specs.Prelude.{◌≡◌};
+    ghost use Rattle.cfdp_script.specs.declared.script.command.Unread.TheVariants.{NoMemory};
+
+    ghost from_gives = { λ _ unread. unread ≡ NoMemory };
+
+    fn from(_error: AllocError) -> Unread {
+        Unread::NoMemory
+    }
+}
+
+/// Reads a line that is to be read: it isn't empty and doesn't begin with `#`.
+///
+/// # Errors
+///
+/// `Bad` with any `LineError` but the last four; `NoMemory` where there is no memory for the names
+/// and the text in it.
+pub fn parse_line(alloc: Global, line: &[u8]) -> Result<Line, Unread>
+    ensures { Reads result (line_of line.now) }
+{
+    if line.len() > MAX_LINE {
+        return Err(Unread::Bad(LineError::TooLong));
+    }
+    if !line.is_ascii() {
+        return Err(Unread::Bad(LineError::NotAscii));
+    }
+    parse_words(alloc, Words::of(line))
+}
+
+fn parse_words(alloc: Global, mut words: Words<'_>) -> Result<Line, Unread>
+    ensures { Reads result (meaning (left words.entry)) }
+{
+    let verb = words.next_word()?;
+    if verb == b"set".as_slice() {
+        Ok(parse_set(words)?)
+    } else if verb == b"file".as_slice() {
+        parse_file(alloc, words)
+    } else if verb == b"fill".as_slice() {
+        parse_fill(alloc, words)
+    } else {
+        Ok(Line::Command(parse_command(alloc, verb, words)?))
+    }
+}
+
+fn parse_set(words: Words<'_>) -> Result<Line, LineError>
+    ensures { result_ok result ≡ set_of (left words.entry) }
+{
+    let (key, value) = words.two()?;
+    let setting = parse_setting(key).ok_or(LineError::UnknownKey)?;
+    Ok(Line::Set(setting, parse_value(value)?))
+}
+
+fn parse_file(alloc: Global, mut words: Words<'_>) -> Result<Line, Unread>
+    ensures { Reads result (file_of (left words.entry)) }
+{
+    let station = words.next_word()?;
+    let name = words.next_word()?;
+    let text = words.into_text()?;
+    let at = parse_station(station)?;
+    Ok(Line::File(FileLine {
+        at,
+        name: Octets::copied(alloc, name)?,
+        contents: Contents::Text(Octets::copied(alloc, text)?),
+    }))
+}
+
+fn parse_fill(alloc: Global, words: Words<'_>) -> Result<Line, Unread>
+    ensures { Reads result (fill_of (left words.entry)) }
+{
+    let (station, name, count, octet) = words.four()?;
+    let at = parse_station(station)?;
+    let contents = parse_contents(count, octet)?;
+    let name = Octets::copied(alloc, name)?;
+    Ok(Line::File(FileLine { at, name, contents }))
+}
+
+/// So many times an octet.
+fn parse_contents(count: &[u8], octet: &[u8]) -> Result<Contents, LineError>
+    ensures { result_ok result ≡ both Contents.Fill (fill_count count.now) (octet_of octet.now) }
+{
+    Ok(Contents::Fill {
+        count: parse_fill_count(count)?,
+        octet: parse_octet(octet)?,
+    })
+}
+
+fn parse_fill_count(word: &[u8]) -> Result<u64, LineError>
+    ensures { result_ok result ≡ fill_count word.now }
+{
+    let count = parse_value(word)?;
+    if count > MAX_FILL {
+        return Err(LineError::FileTooLong);
+    }
+    Ok(count)
+}
+
+fn parse_command(alloc: Global, verb: &[u8], words: Words<'_>) -> Result<Command, Unread>
+    ensures { Reads result (command_of verb.now (left words.entry)) }
+{
+    if verb == b"put".as_slice() {
+        parse_put(alloc, words)
+    } else {
+        Ok(parse_call(verb, words)?)
+    }
+}
+
+fn parse_put(alloc: Global, words: Words<'_>) -> Result<Command, Unread>
+    ensures { Reads result (put_of (left words.entry)) }
+{
+    let (station, source, destination) = words.three()?;
+    Ok(Command::Once(Event::Put {
+        at: parse_station(station)?,
+        source: Octets::copied(alloc, source)?,
+        destination: Octets::copied(alloc, destination)?,
+    }))
+}
+
+/// A command that holds no name.
+fn parse_call(verb: &[u8], words: Words<'_>) -> Result<Command, LineError>
+    ensures { result_ok result ≡ call_of verb.now (left words.entry) }
+{
+    if verb == b"cancel".as_slice() {
+        let (at, id) = parse_transaction(words)?;
+        Ok(Command::Once(Event::Cancel { at, id }))
+    } else if verb == b"suspend".as_slice() {
+        let (at, id) = parse_transaction(words)?;
+        Ok(Command::Once(Event::Suspend { at, id }))
+    } else if verb == b"resume".as_slice() {
+        let (at, id) = parse_transaction(words)?;
+        Ok(Command::Once(Event::Resume { at, id }))
+    } else if verb == b"prompt".as_slice() {
+        parse_prompt(words)
+    } else {
+        parse_motion(verb, words)
+    }
+}
+
+/// A command that is of no transaction.
+fn parse_motion(verb: &[u8], words: Words<'_>) -> Result<Command, LineError>
+    ensures { result_ok result ≡ motion_of verb.now (left words.entry) }
+{
+    if verb == b"poll".as_slice() {
+        Ok(Command::Once(Event::Poll(parse_alone(words)?)))
+    } else if verb == b"flush".as_slice() {
+        Ok(Command::Once(Event::Flush(parse_alone(words)?)))
+    } else if verb == b"tick".as_slice() {
+        let (at, now) = parse_number_at(words)?;
+        Ok(Command::Once(Event::Tick { at, now }))
+    } else if verb == b"deliver".as_slice() {
+        parse_frames(Fate::Arrives, words)
+    } else if verb == b"strike".as_slice() {
+        parse_frames(Fate::IsLost, words)
+    } else {
+        parse_round(verb, words)
+    }
+}
+
+/// A command that goes on until nothing is left to do.
+fn parse_round(verb: &[u8], words: Words<'_>) -> Result<Command, LineError>
+    ensures { result_ok result ≡ round_of verb.now (left words.entry) }
+{
+    if verb == b"spread".as_slice() {
+        Ok(Command::Spread(parse_alone(words)?))
+    } else if verb == b"burst".as_slice() {
+        Ok(Command::Burst(parse_alone(words)?))
+    } else if verb == b"settle".as_slice() {
+        words.end()?;
+        Ok(Command::Settle)
+    } else if verb == b"recover".as_slice() {
+        words.end()?;
+        Ok(Command::Recover)
+    } else {
+        Err(LineError::UnknownCommand)
+    }
+}
+
+/// A station, and nothing else.
+fn parse_alone(words: Words<'_>) -> Result<Side, LineError>
+    ensures { result_ok result ≡ station_words (left words.entry) }
+{
+    parse_station(words.one()?)
+}
+
+/// A station and a transaction.
+fn parse_transaction(words: Words<'_>) -> Result<(Side, TransactionId), LineError>
+    ensures { result_ok result ≡ transaction_words (left words.entry) }
+{
+    let (station, id) = words.two()?;
+    Ok((parse_station(station)?, parse_id(id)?))
+}
+
+/// A station and a number.
+fn parse_number_at(words: Words<'_>) -> Result<(Side, u64), LineError>
+    ensures { result_ok result ≡ number_words (left words.entry) }
+{
+    let (station, number) = words.two()?;
+    Ok((parse_station(station)?, parse_value(number)?))
+}
+
+/// What befalls frames: of which station, and of which of them.
+fn parse_frames(fate: Fate, mut words: Words<'_>) -> Result<Command, LineError>
+    ensures { result_ok result ≡ frames_of fate (left words.entry) }
+{
+    let from = parse_station(words.next_word()?)?;
+    parse_which(fate, from, words)
+}
+
+/// Which frames: those of a lane or of both, and how many: one where no number stands there.
+fn parse_which(fate: Fate, from: Side, mut words: Words<'_>) -> Result<Command, LineError>
+    ensures { result_ok result ≡ which_of fate from (left words.entry) }
+{
+    if words.is_empty() {
+        return Ok(Command::First {
+            fate,
+            from,
+            count: 1,
+        });
+    }
+    let word = words.next_word()?;
+    match parse_lane(word) {
+        Some(lane) => Ok(Command::Repeat(fate.event(from, lane), parse_count(words)?)),
+        None => {
+            words.end()?;
+            let count = parse_number(word).ok_or(LineError::UnknownLane)?;
+            Ok(Command::First { fate, from, count })
+        }
+    }
+}
+
+/// How many: one where no number stands there.
+fn parse_count(words: Words<'_>) -> Result<u64, LineError>
+    ensures { result_ok result ≡ count_of (left words.entry) }
+{
+    if words.is_empty() {
+        return Ok(1);
+    }
+    parse_value(words.one()?)
+}
+
+/// The lane of this name.
+fn parse_lane(word: &[u8]) -> Option<Lane>
+    ensures { result ≡ lane_of word.now }
+{
+    if word == b"dir".as_slice() {
+        Some(Lane::Directives)
+    } else if word == b"data".as_slice() {
+        Some(Lane::Data)
+    } else {
+        None
+    }
+}
+
+fn parse_prompt(words: Words<'_>) -> Result<Command, LineError>
+    ensures { result_ok result ≡ prompt_of (left words.entry) }
+{
+    let (station, id, asked) = words.three()?;
+    Ok(Command::Once(Event::Prompt {
+        at: parse_station(station)?,
+        id: parse_id(id)?,
+        keep_alive: parse_asked(asked)?,
+    }))
+}
+
+/// Whether a prompt asks for a Keep Alive, or else for a NAK.
+fn parse_asked(word: &[u8]) -> Result<bool, LineError>
+    ensures { result_ok result ≡ asked_of word.now }
+{
+    if word == b"nak".as_slice() {
+        Ok(false)
+    } else if word == b"keep".as_slice() {
+        Ok(true)
+    } else {
+        Err(LineError::UnknownPrompt)
+    }
+}
+
+fn parse_value(word: &[u8]) -> Result<u64, LineError>
+    ensures { result_ok result ≡ number_of word.now }
+{
+    parse_number(word).ok_or(LineError::BadNumber)
+}
+
+fn parse_octet(word: &[u8]) -> Result<u8, LineError>
+    ensures { result_ok result ≡ octet_of word.now }
+{
+    parse_hex_octet(word).ok_or(LineError::BadOctet)
+}
+
+fn parse_id(word: &[u8]) -> Result<TransactionId, LineError>
+    ensures { result_ok result ≡ id_of word.now }
+{
+    let (source, behind) = cut_at_first(word, b':');
+    let Some(number) = behind else {
+        return Err(LineError::BadId);
+    };
+    match (parse_number(source), parse_number(number)) {
+        (Some(source), Some(number)) => Ok(TransactionId { source, number }),
+        _ => Err(LineError::BadId),
+    }
+}
+
+fn parse_station(word: &[u8]) -> Result<Side, LineError>
+    ensures { result_ok result ≡ station_of word.now }
+{
+    match parse_number(word) {
+        Some(1) => Ok(Side::One),
+        Some(2) => Ok(Side::Two),
+        _ => Err(LineError::UnknownStation),
+    }
+}

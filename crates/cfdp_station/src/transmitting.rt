@@ -1,0 +1,98 @@
+// The next frame that leaves a station.
+ghost use Rattle.std.specs.Prelude.{◌≡◌, ◌+◌, None, length, IfOk, OnErr, OnOk};
+ghost use Rattle.cfdp_station.specs.Transmitting.{PollsDry, Pulls, PullsInPart, Transmits};
+
+use crate::station::Station;
+use cfdp_store::{Inbox, Outbox};
+use link_stack::Lane;
+use std::alloc::AllocError;
+
+/// The most polls for one frame. A poll that moves a PDU brings a whole frame nearer, and one that
+/// finds a file unreadable gives that file's transaction up: so there are never so many.
+const MOST_POLLS: u32 = 8192;
+
+impl<O: Outbox, I: Inbox> Station<O, I> {
+    /// Writes the next frame that is to leave, and tells its lane; `None` where there is nothing to
+    /// send. It polls until a whole frame waits, or nothing is due or has room, at most 8,192
+    /// times, and fills up what is begun. Directives go first. The vector then has the octets of a
+    /// frame, whatever it had.
+    ///
+    /// ```
+    /// if station.transmit(&mut frame)?.is_some() {
+    ///     link.send(&frame);
+    /// }
+    /// ```
+    ///
+    /// # Errors
+    ///
+    /// `AllocError` where there is no memory for the frame, or for a poll: what was polled before
+    /// stays, and waits for the next call.
+    pub fn transmit(&mut self, frame: &mut Vec<u8>) -> Result<Option<Lane>, AllocError>
+        ensures sent { IfOk result (λ lane. Transmits lane frame.new.items self.old self.new) }
+        ensures err { OnErr result (PullsInPart self.old self.new) }
+        ensures len { OnOk result (length frame.new.items
+            ≡ 8 + self.old.down.directives.link.zone) }
+    {
+        fit(frame, self.frame_len())?;
+        self.transmit_into(frame.as_mut_slice())
+    }
+
+    /// The same, into a buffer of [`frame_len`](Self::frame_len) octets.
+    ///
+    /// # Errors
+    ///
+    /// `AllocError` where there is no memory for a poll: what was polled before stays, and waits
+    /// for the next call.
+    pub fn transmit_into(&mut self, frame: &mut [u8]) -> Result<Option<Lane>, AllocError>
+        requires { length frame.old ≡ 8 + self.old.down.directives.link.zone }
+        ensures sent { IfOk result (λ lane. Transmits lane frame.new self.old self.new) }
+        ensures err { OnErr result (PullsInPart self.old self.new) }
+        // But for a frame the buffer is as it was.
+        ensures kept { IfOk result (λ lane. lane ≡ None → frame.new ≡ frame.old) }
+        ensures unwritten { OnErr result (frame.new ≡ frame.old) }
+    {
+        pull(self)?;
+        Ok(self.next_frame(frame))
+    }
+}
+
+/// Gives a vector so many octets.
+fn fit(frame: &mut Vec<u8>, len: usize) -> Result<(), AllocError>
+    ensures { OnOk result (length frame.new.items ≡ len) }
+{
+    frame.resize(len, 0)
+}
+
+/// Polls for the frame that is to leave next, and fills up what is begun: directives alone where a
+/// whole frame waits, and else both lanes.
+fn pull<O: Outbox, I: Inbox>(station: &mut Station<O, I>) -> Result<(), AllocError>
+    ensures ok { OnOk result (Pulls station.old station.new) }
+    ensures err { OnErr result (PullsInPart station.old station.new) }
+    ensures zone { station.new.down.directives.link.zone ≡ station.old.down.directives.link.zone }
+{
+    if poll_dry(station)? {
+        station.flush_lane(Lane::Directives);
+    } else {
+        station.flush();
+    }
+    Ok(())
+}
+
+/// Polls until a whole frame waits, or nothing is due or has room: whether a frame is why it ends.
+fn poll_dry<O: Outbox, I: Inbox>(station: &mut Station<O, I>) -> Result<bool, AllocError>
+    ensures ok { IfOk result (λ whole. PollsDry whole station.old station.new) }
+    ensures err { OnErr result (PullsInPart station.old station.new) }
+    ensures zone { station.new.down.directives.link.zone ≡ station.old.down.directives.link.zone }
+{
+    for _poll in 0..MOST_POLLS {
+        match station.next_lane() {
+            Some(_) => return Ok(true),
+            None => {}
+        }
+        let answer = station.poll()?;
+        if !answer.is_more() {
+            return Ok(false);
+        }
+    }
+    Ok(false)
+}

@@ -1,0 +1,83 @@
+//! A world over stores in memory, as one who only says what happened in it drives it.
+ghost use Rattle.std.specs.FinMap as map;
+ghost use Rattle.std.specs.Prelude.{IfOk};
+ghost use Rattle.link_sim.specs.World.State.{IsFirst};
+ghost use Rattle.link_sim.specs.Stations.{IsWorldConfig};
+
+use crate::event::{Applied, Event};
+use crate::recover_error::RecoverError;
+use crate::settle_error::SettleError;
+use crate::side::Side;
+use crate::stations::Stations;
+use crate::witness::Witness;
+use crate::world::World;
+use crate::world_config::WorldConfig;
+use aos_frame::Lane;
+use cfdp_directives::Indication;
+use cfdp_store::{Files, MemoryInbox, MemoryOutbox};
+use std::alloc::{AllocError, Global};
+
+impl<W: Witness> World<MemoryOutbox, MemoryInbox, W> {
+    /// Two stations in which nothing happened yet, with these files to send, those of the first
+    /// station first, and empty inboxes. The witness sees what happens from then on.
+    ///
+    /// # Errors
+    ///
+    /// `AllocError` only where the memory for a station was refused.
+    pub fn in_memory(
+        alloc: Global,
+        config: WorldConfig,
+        outboxes: (Files, Files),
+        witness: W,
+    ) -> Result<Self, AllocError>
+        requires { IsWorldConfig config }
+        ensures { IfOk result (IsFirst config (outboxes.0, outboxes.1) (map.empty, map.empty)) }
+    {
+        let one = MemoryOutbox::with_files(outboxes.0);
+        let two = MemoryOutbox::with_files(outboxes.1);
+        let inboxes = (MemoryInbox::new(alloc), MemoryInbox::new(alloc));
+        World::new(alloc, config, (one, two), inboxes, witness)
+    }
+}
+
+// What the world promises besides stands in its own contracts alone, so that it is in no goal of
+// one who takes any `Stations`.
+impl<W: Witness> Stations for World<MemoryOutbox, MemoryInbox, W> {
+    ghost world = { λ w. w };
+
+    fn comes_to(&mut self, step: usize) {
+        self.comes_to(step);
+    }
+
+    fn apply(&mut self, event: &Event) -> Result<Applied, AllocError> {
+        self.apply(event)
+    }
+
+    fn first_sent(&self, side: Side) -> Option<Lane> {
+        self.frames(side).first_sent()
+    }
+
+    fn spread(&mut self, side: Side) -> Result<(), AllocError> {
+        self.spread(side)
+    }
+
+    fn burst(&mut self, side: Side) -> Result<(), AllocError> {
+        self.burst(side)
+    }
+
+    fn settle(&mut self) -> Result<(), SettleError> {
+        self.settle()
+    }
+
+    fn recover(&mut self) -> Result<(), RecoverError> {
+        self.recover()
+    }
+
+    fn indications(&self, side: Side) -> &[Indication] {
+        self.indications(side)
+    }
+
+    fn received(&self, side: Side) -> &Files {
+        self.inbox(side).published()
+    }
+}
