@@ -50,6 +50,7 @@ STRUCTS |= {"cfdp_indication": ("CfdpIndication", "Told"), "cfdp_pdu": ("CfdpPdu
 STRUCTS |= {"cfdp_file_info": ("CfdpFile", "FileInfo")}
 STRUCTS |= {"cfdp_frame_drops": ("CfdpFrameDrops", "FrameDrops")}
 STRUCTS |= {"cfdp_pdu_drops": ("CfdpPduDrops", "PduDrops")}
+STRUCTS |= {"cfdp_sent_pdus": ("CfdpSentPdus", "SentPdus")}
 STRUCTS |= {"cfdp_counts": ("CfdpCounters", "Counters")}
 
 
@@ -67,6 +68,9 @@ def c_type(text, place):
     is_const, name, is_pointer = found[1], found[2], found[3]
     if is_pointer and name == "void":
         return "pointer"
+    # A handle is taken apart and put together by every call, so that Rust has to lend it whole;
+    # for C it is const where the call leaves it as it was (`constancy_mistakes`).
+    is_const = is_const and name != "cfdp_station"
     name = TYPES.get(name) or STRUCTS[name][place]
     return f"{'&' if is_const else '&mut '}{name}" if is_pointer else name
 
@@ -152,6 +156,19 @@ def declaration_mistakes():
         yield from differences(f"{where} struct", structs, wanted_structs)
 
 
+def constancy_mistakes():
+    """Where the header says const of a station that a call may change, or doesn't of another."""
+    text = plain(text_of(f"{C}/cfdp.h"))
+    const = set(re.findall(r"\w+ (cfdp_\w+)\(const cfdp_station \*", text))
+    kept = set()
+    for name in sorted(os.listdir(f"{CRATE}/src")):
+        text = re.sub(r"//.*", "", text_of(f"{CRATE}/src/{name}"))
+        exported = r'no_mangle\)\]\s+pub extern "C" fn (\w+)\([^)]*\)(.*?)\n\{'
+        kept |= {it[0] for it in re.findall(exported, text, re.S) if "(y ≡ x)" in it[1]}
+    if const != kept:
+        yield f"const in the header: {sorted(const)}; the station stays, by clauses: {sorted(kept)}"
+
+
 def number_mistakes():
     """Where the header has other numbers than specs/Codes.antt."""
     header = text_of(f"{C}/cfdp.h")
@@ -159,6 +176,8 @@ def number_mistakes():
     numbers = {int(it) for it in re.findall(r"^    CFDP_\w+ = (\d+),", answers, re.M)}
     spec = text_of(f"{CRATE}/specs/Codes.antt")
     wanted = {int(it) for it in re.findall(r"^\w[\w. ]* = (\d+)$", spec, re.M)}
+    # those of the frames that are received
+    wanted |= {int(it) + 4 for it in re.findall(r"^link_number \S+ = (\d+)$", spec, re.M)}
     if numbers != wanted:
         yield f"the header has the answers {sorted(numbers)}, specs/Codes.antt has {sorted(wanted)}"
 
@@ -322,6 +341,7 @@ class Bindings:
 
     def runs(self):
         yield "the header, ffi.rs and the crate", declaration_mistakes()
+        yield "const in the header", constancy_mistakes()
         yield "the numbers of the answers", number_mistakes()
         yield "the archive's names", name_mistakes(self.archive)
         yield "every export is called in C", uncalled_mistakes()

@@ -76,9 +76,9 @@ static cfdp_config config_of(int number)
     cfdp_config config;
     cfdp_defaults(&config);
     if (number == 2) {
-        const cfdp_link down = config.down;
-        config.down = config.up;
-        config.up = down;
+        const cfdp_link sends = config.sends;
+        config.sends = config.receives;
+        config.receives = sends;
         config.entity = 2;
         config.peer = 1;
     }
@@ -98,16 +98,16 @@ static void defaults(void)
     IS(c.nak_time, 10);
     IS(c.finished_time, 10);
     IS(c.inactivity_time, 100);
-    IS(c.down.zone, 256);
-    IS(c.down.apid, 100);
-    IS(c.down.spacecraft, 42);
-    IS(c.down.channel, 5);
-    IS(c.down.data_channel, 7);
-    IS(c.up.zone, 256);
-    IS(c.up.apid, 101);
-    IS(c.up.spacecraft, 42);
-    IS(c.up.channel, 6);
-    IS(c.up.data_channel, 8);
+    IS(c.sends.zone, 256);
+    IS(c.sends.apid, 100);
+    IS(c.sends.spacecraft, 42);
+    IS(c.sends.channel, 5);
+    IS(c.sends.data_channel, 7);
+    IS(c.receives.zone, 256);
+    IS(c.receives.apid, 101);
+    IS(c.receives.spacecraft, 42);
+    IS(c.receives.channel, 6);
+    IS(c.receives.data_channel, 8);
     IS(c.segment, 1024);
     IS(c.id_width, 2);
     IS(c.number_width, 4);
@@ -197,16 +197,16 @@ static void opened_so(void)
     REFUSES(c.on_ack_limit = 4, ON_ACK_LIMIT);
     REFUSES(c.on_nak_limit = 255, ON_NAK_LIMIT);
     REFUSES(c.on_inactivity = 4, ON_INACTIVITY);
-    REFUSES(c.down.zone = 15, DOWN_ZONE);
-    REFUSES(c.down.apid = 2047, DOWN_APID);
-    REFUSES(c.down.channel = 63, DOWN_CHANNEL);
-    REFUSES(c.down.data_channel = 63, DOWN_DATA_CHANNEL);
-    REFUSES(c.down.data_channel = c.down.channel, DOWN_DATA_CHANNEL);
-    REFUSES(c.up.zone = 2041, UP_ZONE);
-    REFUSES(c.up.apid = 65535, UP_APID);
-    REFUSES(c.up.channel = 255, UP_CHANNEL);
-    REFUSES(c.up.data_channel = 255, UP_DATA_CHANNEL);
-    REFUSES(c.up.channel = c.up.data_channel, UP_DATA_CHANNEL);
+    REFUSES(c.sends.zone = 15, SENDS_ZONE);
+    REFUSES(c.sends.apid = 2047, SENDS_APID);
+    REFUSES(c.sends.channel = 63, SENDS_CHANNEL);
+    REFUSES(c.sends.data_channel = 63, SENDS_DATA_CHANNEL);
+    REFUSES(c.sends.data_channel = c.sends.channel, SENDS_DATA_CHANNEL);
+    REFUSES(c.receives.zone = 2041, RECEIVES_ZONE);
+    REFUSES(c.receives.apid = 65535, RECEIVES_APID);
+    REFUSES(c.receives.channel = 255, RECEIVES_CHANNEL);
+    REFUSES(c.receives.data_channel = 255, RECEIVES_DATA_CHANNEL);
+    REFUSES(c.receives.channel = c.receives.data_channel, RECEIVES_DATA_CHANNEL);
     IS(cfdp_open(&s, &c), CFDP_OK);
     IS(cfdp_open(&s, &c), CFDP_ALREADY_OPEN);
     IS(cfdp_frame_len(&s), 264);
@@ -464,6 +464,10 @@ static void overtaken(void)
     for (at = 0; at < 3; at++)
         IS(cfdp_poll(&one), CFDP_OK);
     IS(cfdp_poll(&one), CFDP_NOTHING);
+    IS(counted(&one).sent.file_data, 1);
+    IS(counted(&one).sent.file_data_again, 0);
+    IS(counted(&one).sent.naks, 0);
+    IS(counted(&one).sent.other_directives, 2);
     IS(cfdp_flush(&one), CFDP_OK);
     for (at = 0; at < 2; at++) {
         IS(cfdp_next_frame(&one, frames[at], sizeof frames[at]), CFDP_OK);

@@ -80,14 +80,14 @@ enum {
     CFDP_BAD_FINISHED_TIME = 79,
     CFDP_BAD_INACTIVITY_TIME = 80,
     CFDP_BAD_CAPACITY = 81,
-    CFDP_BAD_DOWN_CHANNEL = 82,
-    CFDP_BAD_DOWN_DATA_CHANNEL = 83, /* also where it is that of directives */
-    CFDP_BAD_DOWN_ZONE = 84,
-    CFDP_BAD_DOWN_APID = 85,
-    CFDP_BAD_UP_CHANNEL = 86,
-    CFDP_BAD_UP_DATA_CHANNEL = 87,
-    CFDP_BAD_UP_ZONE = 88,
-    CFDP_BAD_UP_APID = 89,
+    CFDP_BAD_SENDS_CHANNEL = 82,
+    CFDP_BAD_SENDS_DATA_CHANNEL = 83, /* also where it is that of directives */
+    CFDP_BAD_SENDS_ZONE = 84,
+    CFDP_BAD_SENDS_APID = 85,
+    CFDP_BAD_RECEIVES_CHANNEL = 86,
+    CFDP_BAD_RECEIVES_DATA_CHANNEL = 87,
+    CFDP_BAD_RECEIVES_ZONE = 88,
+    CFDP_BAD_RECEIVES_APID = 89,
     CFDP_BAD_ON_ACK_LIMIT = 90,
     CFDP_BAD_ON_NAK_LIMIT = 91,
     CFDP_BAD_ON_INACTIVITY = 92,
@@ -117,8 +117,8 @@ typedef struct cfdp_config {
     uint32_t nak_time;        /* .. what a NAK asked for */
     uint32_t finished_time;   /* .. the ACK of a Finished */
     uint32_t inactivity_time; /* .. any PDU of a transaction */
-    cfdp_link down;           /* the frames that it sends */
-    cfdp_link up;             /* the frames that it takes: the peer's down */
+    cfdp_link sends;          /* the frames that it sends */
+    cfdp_link receives;       /* the frames that it receives: the peer's sends */
     uint16_t segment;         /* most octets of a file in a PDU, 1 to 4096 */
     uint8_t id_width;         /* octets of an entity id, 1 to 8 */
     uint8_t number_width;     /* octets of a sequence number, 1 to 8 */
@@ -132,13 +132,15 @@ typedef struct cfdp_config {
 } cfdp_config;
 
 /* Fills in the defaults: those of station 1 of a script, with ids 1 and 2, zones of 256 octets,
- * spacecraft 42, channels 5 and 7 (file data) and APID 100 down, 6, 8 and 101 up, times of 10 and
- * of 100 for inactivity, limits of 3. Station 2 has the ids, and the links, the other way round. */
+ * spacecraft 42, channels 5 and 7 (file data) and APID 100 for what it sends, 6, 8 and 101 for what
+ * it receives, times of 10 and of 100 for inactivity, limits of 3. Station 2 has the ids, and the
+ * links, the other way round. */
 void cfdp_defaults(cfdp_config *config);
 
 /* ---- A station. */
 
-/* A handle, in the caller's memory. Its fields are no caller's business. */
+/* A handle, in the caller's memory. Its fields are no caller's business. A call that takes it as
+ * const leaves the station as it is; rule 3 holds of it too. */
 typedef struct cfdp_station {
     void *at;
     bool is_open;
@@ -202,7 +204,7 @@ cfdp_answer cfdp_forget_closed(cfdp_station *station);
 
 /* Tells whether the record of a transaction was let go: *was is 1 where it was, else 0. CFDP_OK or
  * CFDP_CLOSED. */
-cfdp_answer cfdp_was_forgotten(cfdp_station *station, const cfdp_id *id, uint8_t *was);
+cfdp_answer cfdp_was_forgotten(const cfdp_station *station, const cfdp_id *id, uint8_t *was);
 
 /* ---- Down. */
 
@@ -224,11 +226,11 @@ cfdp_answer cfdp_poll(cfdp_station *station);
 cfdp_answer cfdp_flush(cfdp_station *station);
 
 /* Octets of each frame, in either lane; 0 of a closed handle. */
-size_t cfdp_frame_len(cfdp_station *station);
+size_t cfdp_frame_len(const cfdp_station *station);
 
 /* The most frames that can wait after a poll or a flush, both lanes together; 0 of a closed
  * handle. */
-size_t cfdp_frames_ahead(cfdp_station *station);
+size_t cfdp_frames_ahead(const cfdp_station *station);
 
 /* Writes the next whole frame, and takes it off: the oldest one of directives, or where none of
  * them waits that of file data. room is as for cfdp_transmit. CFDP_OK, CFDP_CLOSED, CFDP_NO_ROOM,
@@ -277,13 +279,23 @@ typedef struct cfdp_pdu_drops {
     uint64_t no_file;         /* a file name of it is empty */
 } cfdp_pdu_drops;
 
+/* How many PDUs were sent, each counted once. */
+typedef struct cfdp_sent_pdus {
+    uint64_t file_data;        /* file data that were not sent before */
+    uint64_t file_data_again;  /* those that were, and again since a NAK asked for them */
+    uint64_t naks;             /* NAKs */
+    uint64_t other_directives; /* all other directives, those that are sent again too */
+} cfdp_sent_pdus;
+
 typedef struct cfdp_counts {
+    cfdp_sent_pdus sent;
     cfdp_frame_drops frames;
     cfdp_pdu_drops pdus;
 } cfdp_counts;
 
-/* What the station counts, from 0 when it is opened. CFDP_OK or CFDP_CLOSED. */
-cfdp_answer cfdp_counters(cfdp_station *station, cfdp_counts *counts);
+/* What the station counts, from 0 when it is opened: what it sent, and what it dropped of what
+ * came. CFDP_OK or CFDP_CLOSED. */
+cfdp_answer cfdp_counters(const cfdp_station *station, cfdp_counts *counts);
 
 /* ---- Time, in any unit, from any start. */
 
@@ -293,7 +305,7 @@ cfdp_answer cfdp_tick(cfdp_station *station, uint64_t now);
 
 /* When cfdp_tick has to be called at the latest: the earliest time at which a timer is due.
  * CFDP_OK, CFDP_CLOSED, or CFDP_NOTHING where none is armed. */
-cfdp_answer cfdp_next_timeout(cfdp_station *station, uint64_t *deadline);
+cfdp_answer cfdp_next_timeout(const cfdp_station *station, uint64_t *deadline);
 
 /* ---- What it tells its user. */
 
@@ -340,16 +352,16 @@ typedef struct cfdp_file_info {
 } cfdp_file_info;
 
 /* How many there are; 0 of a closed handle. */
-size_t cfdp_file_count(cfdp_station *station);
+size_t cfdp_file_count(const cfdp_station *station);
 
 /* How long one is, and its name. CFDP_OK, CFDP_CLOSED, CFDP_NOTHING where there are not so many,
  * or CFDP_NO_ROOM. */
-cfdp_answer cfdp_file(cfdp_station *station, size_t place, cfdp_file_info *out, uint8_t *name,
+cfdp_answer cfdp_file(const cfdp_station *station, size_t place, cfdp_file_info *out, uint8_t *name,
                       size_t room);
 
 /* Fills all of out with octets of one, from an offset on. CFDP_OK, CFDP_CLOSED, CFDP_NOTHING, or
  * CFDP_BAD_ARGUMENT where the file ends before. */
-cfdp_answer cfdp_read_file(cfdp_station *station, size_t place, size_t offset, uint8_t *out,
+cfdp_answer cfdp_read_file(const cfdp_station *station, size_t place, size_t offset, uint8_t *out,
                            size_t room);
 
 /* Removes the file of a name; the places of those behind it are one less then. Nothing else
@@ -420,14 +432,16 @@ static inline const char *cfdp_answer_text(cfdp_answer answer)
     case CFDP_BAD_FINISHED_TIME: return "finished_time is 0";
     case CFDP_BAD_INACTIVITY_TIME: return "inactivity_time is 0";
     case CFDP_BAD_CAPACITY: return "capacity is not 8192 to 65536";
-    case CFDP_BAD_DOWN_CHANNEL: return "down.channel is not 0 to 62";
-    case CFDP_BAD_DOWN_DATA_CHANNEL: return "down.data_channel is not 0 to 62, or is down.channel";
-    case CFDP_BAD_DOWN_ZONE: return "down.zone is not 16 to 2040";
-    case CFDP_BAD_DOWN_APID: return "down.apid is not 0 to 2046";
-    case CFDP_BAD_UP_CHANNEL: return "up.channel is not 0 to 62";
-    case CFDP_BAD_UP_DATA_CHANNEL: return "up.data_channel is not 0 to 62, or is up.channel";
-    case CFDP_BAD_UP_ZONE: return "up.zone is not 16 to 2040";
-    case CFDP_BAD_UP_APID: return "up.apid is not 0 to 2046";
+    case CFDP_BAD_SENDS_CHANNEL: return "sends.channel is not 0 to 62";
+    case CFDP_BAD_SENDS_DATA_CHANNEL:
+        return "sends.data_channel is not 0 to 62, or is sends.channel";
+    case CFDP_BAD_SENDS_ZONE: return "sends.zone is not 16 to 2040";
+    case CFDP_BAD_SENDS_APID: return "sends.apid is not 0 to 2046";
+    case CFDP_BAD_RECEIVES_CHANNEL: return "receives.channel is not 0 to 62";
+    case CFDP_BAD_RECEIVES_DATA_CHANNEL:
+        return "receives.data_channel is not 0 to 62, or is receives.channel";
+    case CFDP_BAD_RECEIVES_ZONE: return "receives.zone is not 16 to 2040";
+    case CFDP_BAD_RECEIVES_APID: return "receives.apid is not 0 to 2046";
     case CFDP_BAD_ON_ACK_LIMIT: return "on_ack_limit is not 0 to 3";
     case CFDP_BAD_ON_NAK_LIMIT: return "on_nak_limit is not 0 to 3";
     case CFDP_BAD_ON_INACTIVITY: return "on_inactivity is not 0 to 3";

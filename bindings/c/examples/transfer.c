@@ -49,9 +49,9 @@ static int open_end(struct end *end, int number, uint32_t patience)
 
     cfdp_defaults(&config);
     if (number == 2) {
-        const cfdp_link down = config.down;
-        config.down = config.up;
-        config.up = down;
+        const cfdp_link sends = config.sends;
+        config.sends = config.receives;
+        config.receives = sends;
         config.entity = 2;
         config.peer = 1;
     }

@@ -116,9 +116,9 @@ static cfdp_config config_of(int number)
 
     cfdp_defaults(&config);
     if (number == 2) {
-        const cfdp_link down = config.down;
-        config.down = config.up;
-        config.up = down;
+        const cfdp_link sends = config.sends;
+        config.sends = config.receives;
+        config.receives = sends;
         config.entity = 2;
         config.peer = 1;
         config.finished_time = 1;

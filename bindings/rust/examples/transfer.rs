@@ -18,7 +18,7 @@ type Failure = Box<dyn std::error::Error>;
 /// Station 1 or 2. What isn't answered is sent again as often as it takes.
 fn config(number: u8, patience: u32) -> Config {
     let one = cfdp::defaults();
-    let two = Config { entity: one.peer, peer: one.entity, down: one.up, up: one.down, ..one };
+    let two = Config { entity: one.peer, peer: one.entity, sends: one.receives, receives: one.sends, ..one };
     Config {
         eof_time: patience,
         nak_time: patience,

@@ -32,8 +32,8 @@ pub struct Config {
     pub nak_time: u32,
     pub finished_time: u32,
     pub inactivity_time: u32,
-    pub down: Link,
-    pub up: Link,
+    pub sends: Link,
+    pub receives: Link,
     pub segment: u16,
     pub id_width: u8,
     pub number_width: u8,
@@ -115,10 +115,21 @@ pub struct PduDrops {
     pub no_file: u64,
 }
 
+/// How many PDUs were sent, each counted once; `cfdp.h` explains each.
+#[repr(C)]
+#[derive(Clone, Copy, Debug, Default, PartialEq, Eq)]
+pub struct SentPdus {
+    pub file_data: u64,
+    pub file_data_again: u64,
+    pub naks: u64,
+    pub other_directives: u64,
+}
+
 /// What a station counts, from 0 when it is opened.
 #[repr(C)]
 #[derive(Clone, Copy, Debug, Default, PartialEq, Eq)]
 pub struct Counters {
+    pub sent: SentPdus,
     pub frames: FrameDrops,
     pub pdus: PduDrops,
 }

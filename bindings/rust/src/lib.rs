@@ -23,7 +23,7 @@ mod ffi;
 mod indication;
 
 pub use error::Error;
-pub use ffi::{Config, Counters, FrameDrops, Id, Link, Pdu, PduDrops};
+pub use ffi::{Config, Counters, FrameDrops, Id, Link, Pdu, PduDrops, SentPdus};
 pub use indication::{Indication, Indications};
 
 /// The number of the library's interface: `CFDP_VERSION` of the `cfdp.h` that it was made with.
@@ -179,7 +179,7 @@ impl Station {
         self.handle.receive(frame);
     }
 
-    /// What it counts: how often something was dropped, by the cause.
+    /// What it counts: the PDUs that it sent, and how often something was dropped, by the cause.
     pub fn counters(&mut self) -> Counters {
         let mut counts = Counters::default();
         self.handle.counters(&mut counts);

@@ -1,11 +1,11 @@
 -- Exported: the written octets of a frame spell it; `written_frame_is_read` and `length-header_octets` for callers.
-use Rattle.std.proofs.Common.{◌≡◌, ◌⊎◌, ℕ, Bool, true, false, ◌+◌, ◌-◌, ◌*◌, ◌/◌, ◌%◌, ◌^◌, ◌<◌, ◌≤◌, ◌==◌, List, [], ◌++◌, length, drop, refl, sym, ap, ◌∙◌, arith, append_assoc, length-append}
+use Rattle.std.proofs.Common.{◌≡◌, ℕ, Bool, true, false, ◌+◌, ◌-◌, ◌*◌, ◌/◌, ◌%◌, ◌^◌, ◌<◌, ◌≤◌, ◌==◌, List, [], ◌++◌, length, drop, refl, sym, ap, ◌∙◌, arith, append_assoc, length-append}
 use Rattle.std.proofs.lemmas.List.{drop_at}
 use Rattle.cfd_bits.specs.Field.{field, octets}
 use Rattle.cfd_bits.proofs.Fields.{length-octets, field_between}
 use Rattle.cfd_bits.proofs.BitFields.{field_of_octets}
 use Rattle.aos_frame.specs.declared.header.FrameHeader.{FrameHeader}
-use Rattle.aos_frame.specs.declared.config.LinkConfig.{LinkConfig}
+use Rattle.aos_frame.specs.declared.config.ChannelConfig.{ChannelConfig}
 use Rattle.aos_frame.specs.Counts.{short_counts, counts_of}
 use Rattle.aos_frame.specs.Frame.{SpellsFrame, FitsHeader, count_in, signaling, header_octets, frame_octets}
 
@@ -39,12 +39,12 @@ length-header_octets h =
     let s : ℕ = signaling h.cycle h.count in
     let a = length-octets 2 n in
     let b = length-octets 3 k in
-    let c = length-octets 1 s in
+    let d = length-octets 1 s in
     omega (arith, length-append (octets 2 n) (octets 3 k), length-append (octets 2 n ++ octets 3 k) (octets 1 s))
 
-pub written_frame_is_read : (link : LinkConfig) (h : FrameHeader) (rest : List ℕ) → FitsHeader h → h.spacecraft ≡ link.spacecraft → (h.channel ≡ link.channel) ⊎ (h.channel ≡ link.data_channel) →
-    length rest ≡ 2 + link.zone → SpellsFrame link h (frame_octets h rest) × (drop 6 (frame_octets h rest) ≡ rest)
-written_frame_is_read link h rest fits ours here long =
+pub written_frame_is_read : (c : ChannelConfig) (h : FrameHeader) (rest : List ℕ) → FitsHeader h → h.spacecraft ≡ c.spacecraft → h.channel ≡ c.channel →
+    length rest ≡ 2 + c.zone → SpellsFrame c h (frame_octets h rest) × (drop 6 (frame_octets h rest) ≡ rest)
+written_frame_is_read c h rest fits ours here long =
     let n : ℕ = 16384 + 64 * h.spacecraft + h.channel in
     let k : ℕ = h.count % short_counts in
     let s : ℕ = signaling h.cycle h.count in

@@ -1,10 +1,11 @@
 -- An AOS transfer frame with a packet zone: which octets are which frame of a link, and what is
 -- wrong with octets that are none (CCSDS 732.0-B-4, 4.1).
-use Rattle.std.specs.Prelude.{◌≡◌, ◌≢◌, ◌⊎◌, ℕ, ◌+◌, ◌*◌, ◌/◌, ◌%◌, ◌<◌, ◌≤◌, Bool, true, false, List, ◌++◌, codes, length, Option, Some, None, ◌==◌, ◌||◌, not, if◌then◌else◌}
+use Rattle.std.specs.Prelude.{◌≡◌, ◌≢◌, ℕ, ◌+◌, ◌*◌, ◌/◌, ◌%◌, ◌<◌, ◌≤◌, Bool, true, false, List, ◌++◌, codes, length, Option, Some, None, ◌==◌, not, if◌then◌else◌}
 use Rattle.cfd_bits.specs.Field.{field, octets}
 use Rattle.aos_frame.specs.Counts.{short_counts, counts_of}
 use Rattle.aos_frame.specs.declared.count.SeenCount.{SeenCount}
 use Rattle.aos_frame.specs.declared.header.FrameHeader.{FrameHeader}
+use Rattle.aos_frame.specs.declared.config.ChannelConfig.{ChannelConfig}
 use Rattle.aos_frame.specs.declared.config.LinkConfig.{LinkConfig}
 use Rattle.aos_frame.specs.declared.config.Lane.{Lane}
 use Rattle.aos_frame.specs.declared.config.Lane.TheVariants.{Directives, Data}
@@ -16,10 +17,17 @@ abbrev pub idle_channel : ℕ
 idle_channel = 63
 
 -- the octets of a frame: the header, the M_PDU header and the packet zone
-abbrev pub frame_len : LinkConfig → ℕ
-frame_len link = 6 + 2 + link.zone
+abbrev pub frame_len : ChannelConfig → ℕ
+frame_len c = 6 + 2 + c.zone
 
--- A link that can be: its frames carry packets, on two channels, and none of these packets is idle.
+-- A channel that can be: its frames carry packets, none of which is idle.
+pub record IsChannel (c : ChannelConfig) : Type 0 where
+  pub channel : c.channel < idle_channel
+  pub least_zone : 16 ≤ c.zone
+  pub most_zone : c.zone ≤ 2040
+  pub apid : c.apid ≤ 2046
+
+-- A link that can be: its two channels can, and are two.
 pub record IsLink (link : LinkConfig) : Type 0 where
   pub channel : link.channel < idle_channel
   pub data_channel : link.data_channel < idle_channel
@@ -38,10 +46,21 @@ abbrev pub channel_of : Lane → LinkConfig → ℕ
 channel_of Directives link = link.channel
 channel_of Data link = link.data_channel
 
--- the link as one of its lanes has it: with its own channel in front
-abbrev pub lane_link : Lane → LinkConfig → LinkConfig
-lane_link Directives link = link
-lane_link Data link = record link { channel = link.data_channel; data_channel = link.channel }
+-- one lane of a link: a channel of its own, and all else as the link has it
+abbrev pub lane_channel : Lane → LinkConfig → ChannelConfig
+lane_channel lane link = record {
+  spacecraft = link.spacecraft;
+  channel = channel_of lane link;
+  zone = link.zone;
+  apid = link.apid;
+}
+
+-- Two channels are the lanes of one link: they differ, and in nothing else.
+pub record AreLanes (one other : ChannelConfig) : Type 0 where
+  pub spacecraft : other.spacecraft ≡ one.spacecraft
+  pub channel : other.channel ≢ one.channel
+  pub zone : other.zone ≡ one.zone
+  pub apid : other.apid ≡ one.apid
 
 -- ---- the header
 -- whether the header of a frame has the usage flag of the count cycle (4.1.2.5)
@@ -58,9 +77,9 @@ count_in false text = field text 16 24
 abbrev pub seen_in : List ℕ → SeenCount
 seen_in text = record { count = count_in (cycle_in text) text; cycle = cycle_in text }
 
--- The octets are a frame of the link with this header.
-pub record SpellsFrame (link : LinkConfig) (h : FrameHeader) (text : List ℕ) : Type 0 where
-  pub size : length text ≡ frame_len link
+-- The octets are a frame of the channel with this header.
+pub record SpellsFrame (c : ChannelConfig) (h : FrameHeader) (text : List ℕ) : Type 0 where
+  pub size : length text ≡ frame_len c
   -- 4.1.2.2, the transfer frame version number and the spacecraft identifier
   pub version : field text 0 2 ≡ 1
   pub spacecraft : field text 2 8 ≡ h.spacecraft
@@ -72,30 +91,29 @@ pub record SpellsFrame (link : LinkConfig) (h : FrameHeader) (text : List ℕ) :
   pub not_replayed : field text 40 1 ≡ 0
   pub cycle : cycle_in text ≡ h.cycle
   pub two_bits : field text 42 2 ≡ 0
-  -- it is one of this link's, on either lane
-  pub our_spacecraft : h.spacecraft ≡ link.spacecraft
-  pub our_channel : (h.channel ≡ link.channel) ⊎ (h.channel ≡ link.data_channel)
+  -- it is one of this channel's
+  pub our_spacecraft : h.spacecraft ≡ c.spacecraft
+  pub our_channel : h.channel ≡ c.channel
   pub carries_packets : h.channel < idle_channel
 
--- what is wrong with octets that are no frame of the link: the first cause in this order, or none
-abbrev pub frame_fault : List ℕ → LinkConfig → Option FrameError
-frame_fault text link =
-    if not (length text == frame_len link) then Some Length
+-- what is wrong with octets that are no frame of the channel: the first cause in this order, or
+-- none
+abbrev pub frame_fault : List ℕ → ChannelConfig → Option FrameError
+frame_fault text c =
+    if not (length text == frame_len c) then Some Length
     else if not (field text 0 2 == 1) then Some Version
     else if not (field text 40 1 == 0) then Some OtherProfile
     else if not (field text 42 2 == 0) then Some OtherProfile
-    else if not (field text 2 8 == link.spacecraft) then Some OtherSpacecraft
+    else if not (field text 2 8 == c.spacecraft) then Some OtherSpacecraft
     else if field text 10 6 == idle_channel then Some OnlyIdle
-    else if not (field text 10 6 == link.channel || field text 10 6 == link.data_channel)
-    then Some OtherChannel
+    else if not (field text 10 6 == c.channel) then Some OtherChannel
     else None
 
--- the link that the header of a frame names, its packet zones of so many octets
-abbrev pub own_link : List ℕ → ℕ → LinkConfig
-own_link text zone = record {
+-- the channel that the header of a frame names, its packet zones of so many octets
+abbrev pub own_channel : List ℕ → ℕ → ChannelConfig
+own_channel text zone = record {
   spacecraft = field text 2 8;
   channel = field text 10 6;
-  data_channel = field text 10 6;
   zone = zone;
   apid = 0;
 }

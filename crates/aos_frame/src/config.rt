@@ -1,8 +1,19 @@
 //! What the two ends of a link agree on.
-ghost use Rattle.std.specs.Prelude.{◌≡◌, ◌↔◌, IsTrue};
-ghost use Rattle.aos_frame.specs.Frame.{IsLink, channel_of, lane_link, other_lane};
+ghost use Rattle.std.specs.Prelude.{◌≡◌};
+ghost use Rattle.aos_frame.specs.Frame.{IsChannel, IsLink, lane_channel, other_lane};
+ghost use Rattle.aos_frame.specs.Fields.{FitsChannel, FitsLink};
 
 use crate::header::IDLE_CHANNEL;
+use thiserror::Error;
+use valid_config::{Config, Valid};
+
+/// The least and the most octets of a packet zone.
+pub const LEAST_ZONE: u16 = 16;
+/// See [`LEAST_ZONE`].
+pub const MOST_ZONE: u16 = 2040;
+
+/// The greatest application process identifier; the one behind it is that of idle packets.
+pub const MOST_APID: u16 = 2046;
 
 /// One of the two virtual channels of a direction of a link. Directives overtake file data, since
 /// they go on a channel of their own.
@@ -46,42 +57,102 @@ pub struct LinkConfig {
     pub apid: u16,
 }
 
+/// What both ends know of the frames of one virtual channel, and of the packets in them.
+#[derive(Clone, Copy, Debug, PartialEq, Eq)]
+pub struct ChannelConfig {
+    /// The spacecraft identifier of the frames, 0 to 255.
+    pub spacecraft: u8,
+    /// The virtual channel identifier, 0 to 62.
+    pub channel: u8,
+    /// Octets of the packet zone, 16 to 2,040. A frame has 8 octets more.
+    pub zone: u16,
+    /// The application process identifier of the packets, 0 to 2,046.
+    pub apid: u16,
+}
+
+/// A field of a [`LinkConfig`] or of a [`ChannelConfig`] that isn't as it has to be.
+#[derive(Clone, Copy, Debug, PartialEq, Eq, Error)]
+pub enum LinkField {
+    /// The virtual channel, in a link that of directives.
+    #[error("the virtual channel is not 0 to 62")]
+    Channel,
+    /// The virtual channel of file data.
+    #[error("the virtual channel of file data is not 0 to 62, or is that of directives")]
+    DataChannel,
+    /// The octets of the packet zone.
+    #[error("the packet zone does not have 16 to 2040 octets")]
+    Zone,
+    /// The application process identifier.
+    #[error("the application process identifier is not 0 to 2046")]
+    Apid,
+}
+
+impl Config for LinkConfig {
+    type Field = LinkField;
+
+    ghost IsValid = { IsLink };
+
+    ghost Fits = { FitsLink };
+
+    fn amiss(&self) -> Option<LinkField> {
+        if IDLE_CHANNEL <= self.channel {
+            Some(LinkField::Channel)
+        } else if IDLE_CHANNEL <= self.data_channel || self.data_channel == self.channel {
+            Some(LinkField::DataChannel)
+        } else if !(LEAST_ZONE..=MOST_ZONE).contains(&self.zone) {
+            Some(LinkField::Zone)
+        } else if MOST_APID < self.apid {
+            Some(LinkField::Apid)
+        } else {
+            None
+        }
+    }
+}
+
+impl Config for ChannelConfig {
+    type Field = LinkField;
+
+    ghost IsValid = { IsChannel };
+
+    ghost Fits = { FitsChannel };
+
+    fn amiss(&self) -> Option<LinkField> {
+        if IDLE_CHANNEL <= self.channel {
+            Some(LinkField::Channel)
+        } else if !(LEAST_ZONE..=MOST_ZONE).contains(&self.zone) {
+            Some(LinkField::Zone)
+        } else if MOST_APID < self.apid {
+            Some(LinkField::Apid)
+        } else {
+            None
+        }
+    }
+}
+
 impl LinkConfig {
-    /// Whether each value is in its range, and the two channels differ.
-    pub fn is_valid(&self) -> bool
-        ensures { IsTrue result ↔ IsLink self.now }
+    /// One lane of the link: its frames have the lane's virtual channel, and all else as the link
+    /// has it.
+    pub fn lane(&self, lane: Lane) -> ChannelConfig
+        ensures is { result ≡ lane_channel lane self.now }
+        ensures valid { IsLink self.now → IsChannel result }
     {
-        self.channel < IDLE_CHANNEL
-            && self.data_channel < IDLE_CHANNEL
-            && self.data_channel != self.channel
-            && (16..=2040).contains(&self.zone)
-            && self.apid <= 2046
-    }
-
-    /// The virtual channel of a lane.
-    pub fn channel_of(&self, lane: Lane) -> u8
-        ensures { result ≡ channel_of lane self.now }
-    {
-        match lane {
-            Lane::Directives => self.channel,
-            Lane::Data => self.data_channel,
-        }
-    }
-
-    /// The link as one of its lanes has it: with its own channel as `channel`, and that of the
-    /// other one as `data_channel`. It is valid where the link is.
-    pub fn of_lane(&self, lane: Lane) -> LinkConfig
-        ensures is { result ≡ lane_link lane self.now }
-        ensures valid { IsLink self.now → IsLink result }
-    {
-        let link = *self;
-        match lane {
-            Lane::Directives => link,
-            Lane::Data => LinkConfig {
-                channel: link.data_channel,
-                data_channel: link.channel,
-                ..link
+        ChannelConfig {
+            spacecraft: self.spacecraft,
+            channel: match lane {
+                Lane::Directives => self.channel,
+                Lane::Data => self.data_channel,
             },
+            zone: self.zone,
+            apid: self.apid,
         }
+    }
+}
+
+impl ChannelConfig {
+    /// One lane of a valid link, as `lane` tells it.
+    pub fn of(link: Valid<LinkConfig>, lane: Lane) -> Valid<ChannelConfig>
+        ensures { result ≡ lane_channel lane link }
+    {
+        Valid::known(link.get().lane(lane))
     }
 }

@@ -1,7 +1,8 @@
 //! The frame counts of a virtual channel, and what is missing between two of them (CCSDS 732.0-B-4,
 //! 4.1.2.4, 4.1.2.5).
 ghost use Rattle.std.specs.Prelude.{◌≡◌, ◌↔◌, ℕ, ◌+◌, ◌%◌, ◌<◌, IsTrue, Some, None, IfSome};
-ghost use Rattle.aos_frame.specs.Counts.{frame_counts, counts_of, compared, AreMissing, continuity, follows};
+ghost use Rattle.aos_frame.specs.Counts.{frame_counts, counts_of, compared, AreMissing, continuity};
+ghost use Rattle.aos_frame.specs.Counts.{follows};
 ghost use Rattle.aos_frame.specs.declared.count.Continuity.TheVariants.{Follows};
 
 use std::marker::Model;

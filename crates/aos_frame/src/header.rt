@@ -2,10 +2,11 @@
 ghost use Rattle.std.specs.Prelude.{◌≡◌, ◌≢◌, ◌+◌, ◌↔◌, IsTrue, length, drop, Some, IfOk, IsOkAnd};
 ghost use Rattle.std.specs.Result.{result_err};
 ghost use Rattle.aos_frame.specs.declared.header.FrameHeader.{FrameHeader};
-ghost use Rattle.aos_frame.specs.declared.error.FrameError.TheVariants.{OtherSpacecraft, OtherChannel};
-ghost use Rattle.aos_frame.specs.Frame.{SpellsFrame, FitsHeader, frame_fault, own_link};
+ghost use Rattle.aos_frame.specs.declared.error.FrameError.TheVariants.{OtherSpacecraft};
+ghost use Rattle.aos_frame.specs.declared.error.FrameError.TheVariants.{OtherChannel};
+ghost use Rattle.aos_frame.specs.Frame.{SpellsFrame, FitsHeader, frame_fault, own_channel};
 
-use crate::config::LinkConfig;
+use crate::config::ChannelConfig;
 use crate::count::counts_of;
 use crate::error::FrameError;
 use cfd_bits::get;
@@ -36,33 +37,32 @@ pub struct FrameHeader {
 impl FrameHeader {
     /// The header of a whole frame with a packet zone of `zone` octets, whatever its spacecraft and
     /// channel are, and the octets behind it: the M_PDU header and the packet zone. It is what
-    /// [`decode`](crate::decode) answers for the link that the frame itself names.
+    /// [`decode`](crate::decode) answers for the channel that the frame itself names.
     ///
     /// # Errors
     ///
     /// The first of these that holds, in this order: `Length`, `Version`, `OtherProfile`,
     /// `OnlyIdle`.
     pub fn read(frame: &[u8], zone: u16) -> Result<(FrameHeader, &[u8]), FrameError>
-        ensures found { IfOk result (λ x. SpellsFrame (own_link frame.now zone) x.0 frame.now) }
+        ensures found { IfOk result (λ x. SpellsFrame (own_channel frame.now zone) x.0 frame.now) }
         // The M_PDU header and the packet zone.
         ensures rest { IfOk result (λ x. x.1.now ≡ drop 6 frame.now) }
         ensures len { IfOk result (λ x. length x.1.now ≡ 2 + zone) }
         // What was read can be written.
         ensures fits { IfOk result (λ x. FitsHeader x.0) }
-        ensures only { (h : FrameHeader) → SpellsFrame (own_link frame.now zone) h frame.now →
+        ensures only { (h : FrameHeader) → SpellsFrame (own_channel frame.now zone) h frame.now →
             IsOkAnd result (λ x. x.0 ≡ h) }
-        ensures refused { result_err result ≡ frame_fault frame.now (own_link frame.now zone) }
-        // It is of the link that it names.
+        ensures refused { result_err result ≡ frame_fault frame.now (own_channel frame.now zone) }
+        // It is of the channel that it names.
         ensures own { (result_err result ≢ Some OtherSpacecraft)
             × (result_err result ≢ Some OtherChannel) }
     {
         if frame.len() < HEADER_LEN {
             return Err(FrameError::Length);
         }
-        let own = LinkConfig {
+        let own = ChannelConfig {
             spacecraft: get(frame, 2, 8) as u8,
             channel: get(frame, 10, 6) as u8,
-            data_channel: get(frame, 10, 6) as u8,
             zone,
             apid: 0,
         };

@@ -4,21 +4,21 @@
 //! None of these calls takes memory: what stands behind a frame's header is borrowed from the
 //! octets that it was read from.
 //!
-//! The two ends of a link agree on a [`LinkConfig`]. One end writes a header in front of each
-//! M_PDU, and the other reads it:
+//! The two ends of a link agree on a [`LinkConfig`], each of whose lanes is a [`ChannelConfig`].
+//! One end writes a header in front of each M_PDU, and the other reads it:
 //!
 //! ```
 //! let mut counter = VcCounter::new();
 //! let header = FrameHeader {
-//!     spacecraft: link.spacecraft,
-//!     channel: link.channel,
+//!     spacecraft: channel.spacecraft,
+//!     channel: channel.channel,
 //!     count: counter.next(),
 //!     cycle: true,
 //! };
 //! encode(&header, &mut frame);
 //!
 //! let mut monitor = VcMonitor::new();
-//! let (header, mpdu) = decode(&frame, &link)?;
+//! let (header, mpdu) = decode(&frame, &channel)?;
 //! if monitor.follows(header.count, header.cycle) {
 //!     // no frame was lost before this one
 //! }
@@ -31,7 +31,8 @@ ghost use Rattle.std.specs.Prelude.{◌≡◌, ◌+◌, ◌<◌, ◌≤◌, leng
 ghost use Rattle.std.specs.Result.{result_err};
 ghost use Rattle.aos_frame.specs.declared.header.FrameHeader.{FrameHeader};
 ghost use Rattle.aos_frame.specs.Counts.{counts_of};
-ghost use Rattle.aos_frame.specs.Frame.{SpellsFrame, count_in, frame_fault, FitsHeader, signaling, frame_octets};
+ghost use Rattle.aos_frame.specs.Frame.{SpellsFrame, count_in, frame_fault, FitsHeader, signaling};
+ghost use Rattle.aos_frame.specs.Frame.{frame_octets};
 
 mod config;
 mod count;
@@ -40,7 +41,7 @@ mod header;
 mod laws;
 
 use cfd_bits::{get, put_uint};
-pub use config::{Lane, LinkConfig};
+pub use config::{ChannelConfig, LEAST_ZONE, Lane, LinkConfig, LinkField, MOST_APID, MOST_ZONE};
 pub use count::{Continuity, FRAME_COUNTS, SHORT_COUNTS, SeenCount, VcCounter, VcMonitor};
 pub use error::FrameError;
 pub use header::{FrameHeader, HEADER_LEN, IDLE_CHANNEL};
@@ -63,8 +64,8 @@ fn count_in(bytes: &[u8], cycle: bool) -> u32
     }
 }
 
-/// The header of a whole frame of the link, on either of its two channels, and the octets behind
-/// it: the M_PDU header and the packet zone.
+/// The header of a whole frame of the channel, and the octets behind it: the M_PDU header and the
+/// packet zone.
 ///
 /// Of the 2 octets of the M_PDU header the last 11 bits are the first header pointer. The count
 /// cycle is read as the upper 4 bits of the count where its usage flag is 1, else as anything.
@@ -73,21 +74,24 @@ fn count_in(bytes: &[u8], cycle: bool) -> u32
 ///
 /// The first of these that holds, in this order: `Length`, `Version`, `OtherProfile`,
 /// `OtherSpacecraft`, `OnlyIdle`, `OtherChannel`. `FrameError` says what each means.
-pub fn decode<'a>(bytes: &'a [u8], link: &LinkConfig) -> Result<(FrameHeader, &'a [u8]), FrameError>
+pub fn decode<'a>(
+    bytes: &'a [u8],
+    config: &ChannelConfig,
+) -> Result<(FrameHeader, &'a [u8]), FrameError>
     // What is answered is spelled so.
-    ensures found { IfOk result (λ x. SpellsFrame link.now x.0 bytes.now) }
+    ensures found { IfOk result (λ x. SpellsFrame config.now x.0 bytes.now) }
     // The M_PDU header and the packet zone.
     ensures rest { IfOk result (λ x. x.1.now ≡ drop 6 bytes.now) }
-    ensures len { IfOk result (λ x. length x.1.now ≡ 2 + link.now.zone) }
+    ensures len { IfOk result (λ x. length x.1.now ≡ 2 + config.now.zone) }
     // What was read can be written.
     ensures fits { IfOk result (λ x. FitsHeader x.0) }
     // What is spelled so is answered.
-    ensures only { (h : FrameHeader) → SpellsFrame link.now h bytes.now →
+    ensures only { (h : FrameHeader) → SpellsFrame config.now h bytes.now →
         IsOkAnd result (λ x. x.0 ≡ h) }
     // Which refusal it is.
-    ensures refused { result_err result ≡ frame_fault bytes.now link.now }
+    ensures refused { result_err result ≡ frame_fault bytes.now config.now }
 {
-    if bytes.len() != HEADER_LEN + MPDU_HEADER_LEN + link.zone as usize {
+    if bytes.len() != HEADER_LEN + MPDU_HEADER_LEN + config.zone as usize {
         return Err(FrameError::Length);
     }
     if get(bytes, 0, 2) != 1 {
@@ -97,14 +101,14 @@ pub fn decode<'a>(bytes: &'a [u8], link: &LinkConfig) -> Result<(FrameHeader, &'
         return Err(FrameError::OtherProfile);
     }
     let spacecraft = get(bytes, 2, 8) as u8;
-    if spacecraft != link.spacecraft {
+    if spacecraft != config.spacecraft {
         return Err(FrameError::OtherSpacecraft);
     }
     let channel = get(bytes, 10, 6) as u8;
     if channel == IDLE_CHANNEL {
         return Err(FrameError::OnlyIdle);
     }
-    if channel != link.channel && channel != link.data_channel {
+    if channel != config.channel {
         return Err(FrameError::OtherChannel);
     }
     let cycle = get(bytes, 41, 1) == 1;

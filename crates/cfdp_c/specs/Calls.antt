@@ -29,8 +29,8 @@ id_of id = record { source = id.source; number = id.number }
 -- A station without transactions, both of whose stores are empty.
 pub record IsFirst (config : StationConfig) (s : StationState) : Type 0 where
   pub entity : s.entity.state ≡ first_entity map.empty map.empty config.entity
-  pub down : s.down ≡ first_down config.down config.capacity
-  pub up : s.up ≡ first_up config.up
+  pub down : s.down ≡ first_down config.sends config.capacity
+  pub up : s.up ≡ first_up config.receives
 
 -- A file was added to the outbox, or this is why not.
 pub record Adds (name octets : List ℕ) (answer : ℕ) (old new : StationState) : Type 0 where

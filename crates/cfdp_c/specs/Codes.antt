@@ -12,8 +12,8 @@ use Rattle.cfdp_entity.specs.declared.error.ForgetError.{ForgetError}
 use Rattle.cfdp_entity.specs.declared.error.ForgetError.TheVariants as forgets
 use Rattle.cfdp_entity.specs.declared.error.PutError.{PutError}
 use Rattle.cfdp_entity.specs.declared.error.PutError.TheVariants as puts
-use Rattle.cfdp_station.specs.declared.amiss.LinkField.{LinkField}
-use Rattle.cfdp_station.specs.declared.amiss.LinkField.TheVariants as links
+use Rattle.aos_frame.specs.declared.config.LinkField.{LinkField}
+use Rattle.aos_frame.specs.declared.config.LinkField.TheVariants as links
 use Rattle.cfdp_station.specs.declared.amiss.StationField.{StationField}
 use Rattle.cfdp_station.specs.declared.amiss.StationField.TheVariants as stations
 use Rattle.cfdp_station.specs.declared.polled.Polled.{Polled}
@@ -124,23 +124,17 @@ entity_number entity.NakTime = 78
 entity_number entity.FinishedTime = 79
 entity_number entity.InactivityTime = 80
 
-abbrev pub down_number : LinkField → ℕ
-down_number links.Channel = 82
-down_number links.DataChannel = 83
-down_number links.Zone = 84
-down_number links.Apid = 85
-
-abbrev pub up_number : LinkField → ℕ
-up_number links.Channel = 86
-up_number links.DataChannel = 87
-up_number links.Zone = 88
-up_number links.Apid = 89
+abbrev pub link_number : LinkField → ℕ
+link_number links.Channel = 82
+link_number links.DataChannel = 83
+link_number links.Zone = 84
+link_number links.Apid = 85
 
 abbrev pub station_number : StationField → ℕ
 station_number (stations.Entity field) = entity_number field
 station_number stations.Capacity = 81
-station_number (stations.Down field) = down_number field
-station_number (stations.Up field) = up_number field
+station_number (stations.Sends field) = link_number field
+station_number (stations.Receives field) = link_number field + 4
 
 abbrev pub field_number : BadField → ℕ
 field_number (fields.Station field) = station_number field

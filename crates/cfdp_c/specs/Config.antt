@@ -62,8 +62,8 @@ link_of l = record {
 abbrev pub config_of : CfdpConfig → StationConfig
 config_of c = record {
   entity = entity_of c;
-  down = link_of c.down;
-  up = link_of c.up;
+  sends = link_of c.sends;
+  receives = link_of c.receives;
   capacity = c.capacity;
 }
 
@@ -99,8 +99,8 @@ default_config = record {
   nak_time = 10;
   finished_time = 10;
   inactivity_time = 100;
-  down = record { zone = 256; apid = 100; spacecraft = 42; channel = 5; data_channel = 7 };
-  up = record { zone = 256; apid = 101; spacecraft = 42; channel = 6; data_channel = 8 };
+  sends = record { zone = 256; apid = 100; spacecraft = 42; channel = 5; data_channel = 7 };
+  receives = record { zone = 256; apid = 101; spacecraft = 42; channel = 6; data_channel = 8 };
   segment = 1024;
   id_width = 2;
   number_width = 4;

@@ -1,6 +1,7 @@
 -- Indications and PDUs as plain structs.
 use Rattle.std.specs.Prelude.{◌≡◌, ◌++◌, ℕ, Bool, true, false, List, [], length, drop, nat_le, Option, Some, None}
 use Rattle.cfdp_header.specs.declared.value.Header.{Header}
+use Rattle.cfdp_header.specs.Header.{direction_bit}
 use Rattle.cfdp_header.specs.declared.value.TransactionId.{TransactionId}
 use Rattle.cfdp_directives.specs.Pdu.Codes.{delivery_code, file_status_code, transaction_status_code, acknowledged_code}
 use Rattle.cfdp_directives.specs.Pdu.Content.{Content, FileData, Metadata, Eof, Finished, Ack, Nak, Prompt, KeepAlive}
@@ -93,7 +94,7 @@ pdu_of_kind kind h = record {
   pairs = 0;
   checksum = 0;
   kind = kind;
-  toward_sender = bit h.toward_sender;
+  toward_sender = direction_bit h.direction;
   condition = 0;
   delivery = 0;
   status = 0;

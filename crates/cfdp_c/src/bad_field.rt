@@ -40,8 +40,8 @@ fn station_number(field: StationField) -> u32
     match field {
         StationField::Entity(field) => entity_number(field),
         StationField::Capacity => 81,
-        StationField::Down(field) => down_number(field),
-        StationField::Up(field) => up_number(field),
+        StationField::Sends(field) => link_number(field),
+        StationField::Receives(field) => link_number(field) + 4,
     }
 }
 
@@ -63,8 +63,9 @@ fn entity_number(field: EntityField) -> u32
     }
 }
 
-fn down_number(field: LinkField) -> u32
-    ensures number { result ≡ codes.down_number field }
+// Of the frames that it sends; those of the frames that it receives are greater by 4.
+fn link_number(field: LinkField) -> u32
+    ensures number { result ≡ codes.link_number field }
     ensures names { (82 ≤ result) × (result ≤ 85) }
 {
     match field {
@@ -72,17 +73,5 @@ fn down_number(field: LinkField) -> u32
         LinkField::DataChannel => 83,
         LinkField::Zone => 84,
         LinkField::Apid => 85,
-    }
-}
-
-fn up_number(field: LinkField) -> u32
-    ensures number { result ≡ codes.up_number field }
-    ensures names { (86 ≤ result) × (result ≤ 89) }
-{
-    match field {
-        LinkField::Channel => 86,
-        LinkField::DataChannel => 87,
-        LinkField::Zone => 88,
-        LinkField::Apid => 89,
     }
 }

@@ -141,8 +141,8 @@ pub extern "C" fn cfdp_tick(alloc: Global, station: &mut CfdpStation, now: u64) 
     answer
 }
 
-/// When `cfdp_tick` has to be called at the latest: the earliest deadline of all armed timers. Answers
-/// 0, `CLOSED`, or `NOTHING` where none is armed.
+/// When `cfdp_tick` has to be called at the latest: the earliest deadline of all armed timers.
+/// Answers 0, `CLOSED`, or `NOTHING` where none is armed.
 #[unsafe(no_mangle)]
 pub extern "C" fn cfdp_next_timeout(
     alloc: Global,

@@ -1,6 +1,7 @@
 // What a call answers to C: a number, of which 0 is that all went well.
 ghost use Rattle.std.specs.Prelude.{◌≡◌};
-ghost use Rattle.cfdp_c.specs.Codes.{add_answer, request_answer, forget_answer, put_answer, poll_answer, transmit_answer, memory_answer};
+ghost use Rattle.cfdp_c.specs.Codes.{add_answer, request_answer, forget_answer, put_answer};
+ghost use Rattle.cfdp_c.specs.Codes.{poll_answer, transmit_answer, memory_answer};
 
 use cfdp_header::TransactionId;
 use cfdp_station::{AddError, ForgetError, Lane, Polled, PutError, RequestError};

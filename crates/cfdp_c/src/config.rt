@@ -1,10 +1,11 @@
 //! How a caller says what a station is set up as.
 ghost use Rattle.std.specs.Prelude.{◌≡◌, ◌<◌, ◌↔◌, IsOk, IfOk, IfErr, IsSome, IfSome};
-ghost use Rattle.cfdp_c.specs.Config.{config_of, entity_of, handler_of, policy_of, link_of, default_config, HasNames, IsUsable, Suits};
+ghost use Rattle.cfdp_c.specs.Config.{config_of, entity_of, handler_of, policy_of, link_of};
+ghost use Rattle.cfdp_c.specs.Config.{default_config, HasNames, IsUsable, Suits};
 
 use crate::bad_field::BadField;
 use cfdp_directives::{ChecksumKind, Handler, Handlers, Limits, Policy, Times};
-use cfdp_station::{EntityConfig, LinkConfig, StationConfig};
+use cfdp_station::{Config, DEFAULT_CAPACITY, EntityConfig, LinkConfig, StationConfig, Valid};
 
 /// One direction of a link, as [`LinkConfig`] has it.
 #[repr(C)]
@@ -43,9 +44,9 @@ pub struct CfdpConfig {
     /// How long any PDU of a transaction is waited for.
     pub inactivity_time: u32,
     /// The frames that it sends.
-    pub down: CfdpLink,
-    /// The frames that it takes: the peer's `down`.
-    pub up: CfdpLink,
+    pub sends: CfdpLink,
+    /// The frames that it receives: the peer's `sends`.
+    pub receives: CfdpLink,
     /// The most octets of a file in one PDU: 1 to 4,096.
     pub segment: u16,
     /// Octets of an entity id: 1 to 8.
@@ -85,7 +86,7 @@ impl CfdpLink {
 impl CfdpConfig {
     /// The station's own configuration, where one can be set up so; else a field that isn't as it
     /// has to be.
-    pub(crate) fn config(&self) -> Result<StationConfig, BadField>
+    pub(crate) fn config(&self) -> Result<Valid<StationConfig>, BadField>
         ensures some { IsOk result ↔ IsUsable self.now }
         ensures same { IfOk result (λ config. config ≡ config_of self.now) }
         ensures field { IfErr result (λ field. Suits field self.now → ⊥) }
@@ -95,16 +96,13 @@ impl CfdpConfig {
         };
         let config = StationConfig {
             entity,
-            down: self.down.config(),
-            up: self.up.config(),
+            sends: self.sends.config(),
+            receives: self.receives.config(),
             capacity: self.capacity,
         };
-        if config.is_valid() {
-            return Ok(config);
-        }
-        match config.amiss() {
-            Some(field) => Err(BadField::Station(field)),
-            None => unreachable!(),
+        match config.validate() {
+            Ok(config) => Ok(config),
+            Err(field) => Err(BadField::Station(field)),
         }
     }
 
@@ -184,19 +182,19 @@ pub extern "C" fn cfdp_defaults(config: &mut CfdpConfig)
         entity: 1,
         peer: 2,
         first_number: 1,
-        capacity: 16_384,
+        capacity: DEFAULT_CAPACITY,
         eof_time: 10,
         nak_time: 10,
         finished_time: 10,
         inactivity_time: 100,
-        down: CfdpLink {
+        sends: CfdpLink {
             zone: 256,
             apid: 100,
             spacecraft: 42,
             channel: 5,
             data_channel: 7,
         },
-        up: CfdpLink {
+        receives: CfdpLink {
             zone: 256,
             apid: 101,
             spacecraft: 42,

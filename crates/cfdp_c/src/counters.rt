@@ -6,10 +6,23 @@ ghost use Rattle.cfdp_c.specs.Handles.{Answers};
 
 use crate::codes::{CLOSED, OK};
 use crate::handle::CfdpStation;
-use cfdp_station::{
-    EntityDrop, FrameError, HeaderError, Inbox, LinkDrop, Outbox, PduError, Station,
-};
+use crate::held::Held;
+use cfdp_station::{Counters, FrameDrops, PduDrops, SentPdus};
 use std::alloc::Global;
+
+/// How many PDUs were sent, each counted once. No count goes beyond the greatest of 64 bits.
+#[repr(C)]
+#[derive(Clone, Copy)]
+pub struct CfdpSentPdus {
+    /// File data that were not sent before.
+    pub file_data: u64,
+    /// File data that were sent before, and again since a NAK asked for them.
+    pub file_data_again: u64,
+    /// NAKs.
+    pub naks: u64,
+    /// All other directives, those that are sent again too.
+    pub other_directives: u64,
+}
 
 /// How often something of a frame of either lane was dropped, by the cause. No count goes beyond
 /// the greatest of 64 bits.
@@ -82,50 +95,87 @@ pub struct CfdpPduDrops {
 #[repr(C)]
 #[derive(Clone, Copy)]
 pub struct CfdpCounters {
+    pub sent: CfdpSentPdus,
     pub frames: CfdpFrameDrops,
     pub pdus: CfdpPduDrops,
 }
 
-fn frame_drops<O: Outbox, I: Inbox>(station: &Station<O, I>) -> CfdpFrameDrops
-    ensures { result ≡ counts.frame_drops station.now }
-{
-    CfdpFrameDrops {
-        bad_length: station.link_drops(LinkDrop::Frame(FrameError::Length)),
-        bad_version: station.link_drops(LinkDrop::Frame(FrameError::Version)),
-        other_profile: station.link_drops(LinkDrop::Frame(FrameError::OtherProfile)),
-        other_spacecraft: station.link_drops(LinkDrop::Frame(FrameError::OtherSpacecraft)),
-        other_channel: station.link_drops(LinkDrop::Frame(FrameError::OtherChannel)),
-        only_idle: station.link_drops(LinkDrop::Frame(FrameError::OnlyIdle)),
-        resync: station.link_drops(LinkDrop::Resync),
-        bad_packet: station.link_drops(LinkDrop::BadPacket),
-        other_apid: station.link_drops(LinkDrop::OtherApid),
-        segmented: station.link_drops(LinkDrop::Segmented),
-        no_memory: station.link_drops(LinkDrop::NoMemory),
+impl CfdpSentPdus {
+    fn of(sent: SentPdus) -> Self
+        ensures { result ≡ counts.sent_told sent }
+    {
+        CfdpSentPdus {
+            file_data: sent.file_data,
+            file_data_again: sent.file_data_again,
+            naks: sent.naks,
+            other_directives: sent.other_directives,
+        }
     }
 }
 
-fn pdu_drops<O: Outbox, I: Inbox>(station: &Station<O, I>) -> CfdpPduDrops
-    ensures { result ≡ counts.pdu_drops station.now }
-{
-    CfdpPduDrops {
-        too_short: station.drops(EntityDrop::Pdu(PduError::Header(HeaderError::Short))),
-        bad_version: station.drops(EntityDrop::Pdu(PduError::Header(HeaderError::Version))),
-        crc_present: station.drops(EntityDrop::Pdu(PduError::Header(HeaderError::CrcPresent))),
-        bad_length: station.drops(EntityDrop::Pdu(PduError::Header(HeaderError::Length))),
-        unacknowledged: station.drops(EntityDrop::Pdu(PduError::Header(
-            HeaderError::Unacknowledged,
-        ))),
-        bad_directive: station.drops(EntityDrop::Pdu(PduError::Directive)),
-        truncated: station.drops(EntityDrop::Pdu(PduError::Truncated)),
-        trailing: station.drops(EntityDrop::Pdu(PduError::Trailing)),
-        bad_tlv: station.drops(EntityDrop::Pdu(PduError::Tlv)),
-        bad_condition: station.drops(EntityDrop::Pdu(PduError::Condition)),
-        wrong_direction: station.drops(EntityDrop::WrongDirection),
-        not_for_us: station.drops(EntityDrop::NotForUs),
-        unknown: station.drops(EntityDrop::Unknown),
-        table_full: station.drops(EntityDrop::TableFull),
-        no_memory: station.drops(EntityDrop::NoMemory),
-        no_file: station.drops(EntityDrop::NoFile),
+impl CfdpFrameDrops {
+    fn of(drops: FrameDrops) -> Self
+        ensures { result ≡ counts.frames_told drops }
+    {
+        CfdpFrameDrops {
+            bad_length: drops.bad_length,
+            bad_version: drops.bad_version,
+            other_profile: drops.other_profile,
+            other_spacecraft: drops.other_spacecraft,
+            other_channel: drops.other_channel,
+            only_idle: drops.only_idle,
+            resync: drops.resync,
+            bad_packet: drops.bad_packet,
+            other_apid: drops.other_apid,
+            segmented: drops.segmented,
+            no_memory: drops.no_memory,
+        }
+    }
+}
+
+impl CfdpPduDrops {
+    fn of(drops: PduDrops) -> Self
+        ensures { result ≡ counts.pdus_told drops }
+    {
+        CfdpPduDrops {
+            too_short: drops.too_short,
+            bad_version: drops.bad_version,
+            crc_present: drops.crc_present,
+            bad_length: drops.bad_length,
+            unacknowledged: drops.unacknowledged,
+            bad_directive: drops.bad_directive,
+            truncated: drops.truncated,
+            trailing: drops.trailing,
+            bad_tlv: drops.bad_tlv,
+            bad_condition: drops.bad_condition,
+            wrong_direction: drops.wrong_direction,
+            not_for_us: drops.not_for_us,
+            unknown: drops.unknown,
+            table_full: drops.table_full,
+            no_memory: drops.no_memory,
+            no_file: drops.no_file,
+        }
+    }
+}
+
+impl CfdpCounters {
+    fn of(counters: Counters) -> Self
+        ensures { result ≡ counts.counters_told counters }
+    {
+        CfdpCounters {
+            sent: CfdpSentPdus::of(counters.sent),
+            frames: CfdpFrameDrops::of(counters.frames),
+            pdus: CfdpPduDrops::of(counters.pdus),
+        }
+    }
+}
+
+impl Held {
+    #[tactic(auto, unfolding(crate::specs::Counters::counters_of))]
+    fn counters(&self) -> CfdpCounters
+        ensures { result ≡ counts.counters_of self.now.station }
+    {
+        CfdpCounters::of(self.station.counters())
     }
 }
 
@@ -143,10 +193,7 @@ pub extern "C" fn cfdp_counters(
     let Some(held) = station.lift(alloc) else {
         return CLOSED;
     };
-    *counters = CfdpCounters {
-        frames: frame_drops(&held.station),
-        pdus: pdu_drops(&held.station),
-    };
+    *counters = held.counters();
     *station = CfdpStation::holding(held);
     OK
 }

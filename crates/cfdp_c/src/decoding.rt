@@ -66,7 +66,7 @@ impl CfdpPdu {
             pairs: 0,
             checksum: 0,
             kind,
-            toward_sender: u8::from(header.toward_sender),
+            toward_sender: header.direction.bit(),
             condition: 0,
             delivery: 0,
             status: 0,
@@ -127,10 +127,14 @@ impl CfdpPdu {
                 size: *size,
                 ..CfdpPdu::of_kind(7, header)
             },
-            Pdu::Nak { start, end, pairs } => CfdpPdu {
+            Pdu::Nak {
+                start,
+                end,
+                requests,
+            } => CfdpPdu {
                 offset: *start,
                 size: *end,
-                pairs: pairs.len(),
+                pairs: requests.len(),
                 ..CfdpPdu::of_kind(8, header)
             },
             Pdu::Prompt { keep_alive } => CfdpPdu {

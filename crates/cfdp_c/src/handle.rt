@@ -1,6 +1,6 @@
 //! A station in a caller's memory: to open and to close it.
-ghost use Rattle.std.specs.Prelude.{◌≡◌, ◌↔◌, ◌≢◌, ◌⊎◌, true, false, Some, IsSome, IsSomeAnd, MatchOption, IfOk};
-ghost use Rattle.cfdp_station.specs.Config.{IsStationConfig};
+ghost use Rattle.std.specs.Prelude.{◌≡◌, ◌↔◌, ◌≢◌, ◌⊎◌, true, false, Some, IsSome, IsSomeAnd};
+ghost use Rattle.std.specs.Prelude.{MatchOption, IfOk};
 ghost use Rattle.cfdp_c.specs.Calls.{IsFirst};
 ghost use Rattle.cfdp_c.specs.Codes as codes;
 ghost use Rattle.cfdp_c.specs.declared.bad_field.BadField.{BadField};
@@ -11,7 +11,7 @@ use crate::config::CfdpConfig;
 use crate::held::Held;
 use crate::parts::Parts;
 use crate::station_slot::StationSlot;
-use cfdp_station::StationConfig;
+use cfdp_station::{StationConfig, Valid};
 use std::alloc::{AllocError, Global};
 use std::mem;
 
@@ -62,8 +62,8 @@ impl CfdpStation {
 /// Opens a closed handle on a station that has no transactions, and whose stores, both in memory,
 /// are empty.
 ///
-/// Answers 0, `ALREADY_OPEN`, `NO_MEMORY`, or where no station can be set up so the number of a field
-/// that isn't as it has to be, 71 to 92. But for 0 the handle is as it was.
+/// Answers 0, `ALREADY_OPEN`, `NO_MEMORY`, or where no station can be set up so the number of a
+/// field that isn't as it has to be, 71 to 92. But for 0 the handle is as it was.
 #[unsafe(no_mangle)]
 pub extern "C" fn cfdp_open(alloc: Global, station: &mut CfdpStation, config: &CfdpConfig) -> u32
     ensures answers { ((result ≡ codes.ok) ⊎ (result ≡ codes.already_open))
@@ -88,8 +88,7 @@ pub extern "C" fn cfdp_open(alloc: Global, station: &mut CfdpStation, config: &C
 }
 
 /// Opens a closed handle on a station that is set up so.
-fn fill(alloc: Global, station: &mut CfdpStation, config: StationConfig) -> u32
-    requires { IsStationConfig config }
+fn fill(alloc: Global, station: &mut CfdpStation, config: Valid<StationConfig>) -> u32
     ensures answers { (result ≡ codes.ok) ⊎ (result ≡ codes.no_memory) }
     ensures opened { result ≡ codes.ok → (station.new.is_open ≡ true)
         × IsSomeAnd station.new.slot.value (λ held. IsFirst config held.station) }
@@ -112,8 +111,7 @@ pub extern "C" fn cfdp_close(alloc: Global, station: &mut CfdpStation)
     let _held = station.lift(alloc);
 }
 
-fn boxed(alloc: Global, config: StationConfig) -> Result<Box<Held>, AllocError>
-    requires { IsStationConfig config }
+fn boxed(alloc: Global, config: Valid<StationConfig>) -> Result<Box<Held>, AllocError>
     ensures { IfOk result (λ held. IsFirst config held.value.station) }
 {
     match Box::new(alloc, Held::new(alloc, config)?) {

@@ -1,9 +1,8 @@
 // What an open handle has: a station with its stores in memory.
 ghost use Rattle.std.specs.Prelude.{IfOk};
-ghost use Rattle.cfdp_station.specs.Config.{IsStationConfig};
 ghost use Rattle.cfdp_c.specs.Calls.{IsFirst};
 
-use cfdp_station::{Station, StationConfig};
+use cfdp_station::{Station, StationConfig, Valid};
 use cfdp_store::{MemoryInbox, MemoryOutbox};
 use std::alloc::{AllocError, Global};
 
@@ -15,8 +14,7 @@ pub struct Held {
 
 impl Held {
     /// A station without transactions, both of whose stores are empty.
-    pub fn new(alloc: Global, config: StationConfig) -> Result<Held, AllocError>
-        requires { IsStationConfig config }
+    pub fn new(alloc: Global, config: Valid<StationConfig>) -> Result<Held, AllocError>
         ensures { IfOk result (λ held. IsFirst config held.station) }
     {
         let (outbox, inbox) = (MemoryOutbox::new(alloc), MemoryInbox::new(alloc));

@@ -28,7 +28,7 @@ mod version;
 
 pub use calls::{CfdpId, cfdp_add, cfdp_next_timeout, cfdp_put, cfdp_tick};
 pub use config::{CfdpConfig, CfdpLink, cfdp_defaults};
-pub use counters::{CfdpCounters, CfdpFrameDrops, CfdpPduDrops, cfdp_counters};
+pub use counters::{CfdpCounters, CfdpFrameDrops, CfdpPduDrops, CfdpSentPdus, cfdp_counters};
 pub use decoding::{CfdpPdu, cfdp_decode};
 pub use files::{CfdpFile, cfdp_file, cfdp_file_count, cfdp_read_file, cfdp_remove_file};
 pub use forgetting::{cfdp_forget, cfdp_forget_closed, cfdp_was_forgotten};

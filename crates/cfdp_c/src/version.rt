@@ -1,7 +1,8 @@
 //! Which calls the library has.
 ghost use Rattle.std.specs.Prelude.{◌≡◌};
 
-/// The number of this interface: it grows by one wherever a call, a struct or a number of it changes.
+/// The number of this interface: it grows by one wherever a call, a struct or a number of it
+/// changes.
 #[unsafe(no_mangle)]
 pub extern "C" fn cfdp_version() -> u32
     ensures { result ≡ 2 }

@@ -2,14 +2,16 @@
 use Rattle.std.proofs.Common.{ℕ, Bool, ◌^◌, ◌<◌, refl}
 use Rattle.cfdp_directives.specs.declared.pdu.addressing.Addressing.{Addressing}
 use Rattle.cfdp_directives.specs.Pdu.Codes.{file_size_octets}
-use Rattle.cfdp_directives.specs.Pdu.Content.{Content, is_file_data}
-use Rattle.cfdp_directives.specs.Pdu.Direction.{goes_toward_sender}
+use Rattle.cfdp_directives.specs.Pdu.Content.{Content, pdu_type_of}
+use Rattle.cfdp_directives.specs.Pdu.Direction.{direction_of}
 use Rattle.cfdp_header.specs.Header.{FitsHeader}
+use Rattle.cfdp_header.specs.declared.value.Direction.{Direction}
+use Rattle.cfdp_header.specs.declared.value.PduType.{PduType}
 use Rattle.cfdp_directives.specs.Pdu.Written.{content_len, FitsContent, CanWrite}
 use Rattle.cfdp_directives.specs.Pdu.Addressing.{header_by, header_of, FitsAddressing}
 
-pub header_fits : (a : Addressing) (large file_data toward_sender : Bool) (length : ℕ) → FitsAddressing a → length < 2 ^ 16 → FitsHeader (header_by a large file_data toward_sender length)
-header_fits a large file_data toward_sender length fits short = record {
+pub header_fits : (a : Addressing) (large : Bool) (pdu_type : PduType) (direction : Direction) (length : ℕ) → FitsAddressing a → length < 2 ^ 16 → FitsHeader (header_by a large pdu_type direction length)
+header_fits a large pdu_type direction length fits short = record {
   id_width = fits.id.id_width;
   number_width = fits.id.number_width;
   length = short;
@@ -21,7 +23,7 @@ header_fits a large file_data toward_sender length fits short = record {
 pub can_write : (a : Addressing) (large : Bool) (v : Content) → FitsAddressing a → FitsContent (file_size_octets large) v → content_len (file_size_octets large) v < 2 ^ 16 →
     CanWrite (header_of a large v) v
 can_write a large v fits content short = record {
-  header = header_fits a large (is_file_data v) (goes_toward_sender v) (content_len (file_size_octets large) v) fits short;
+  header = header_fits a large (pdu_type_of v) (direction_of v) (content_len (file_size_octets large) v) fits short;
   content = content;
   kind = refl;
   no_segment_metadata = refl;

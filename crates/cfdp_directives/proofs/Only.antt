@@ -7,7 +7,7 @@ use Rattle.std.proofs.lemmas.Bool.{le-ltb, le-leb}
 use Rattle.std.proofs.Common.{zero, suc}
 use Rattle.std.proofs.lemmas.List.{take_at, drop_at}
 use Rattle.cfdp_header.specs.declared.value.Header.{Header}
-use Rattle.cfdp_header.specs.Header.{header_len_told, header_len}
+use Rattle.cfdp_header.specs.Header.{header_len_told, header_len, type_bit}
 use Rattle.cfd_bits.specs.Field.{flag}
 use Rattle.cfdp_header.proofs.Laws as header
 use Rattle.cfdp_directives.specs.declared.pdu.codes.Delivery.{Delivery}
@@ -92,7 +92,7 @@ told : (b : Bool) → eqb (flag b) 1 ≡ b
 told true = refl
 told false = refl
 
-accepted : (h : Header) (v : Content) (d : List ℕ) → Says h v d → content_fault (fss h) h.file_data h.segment_metadata d ≡ None
+accepted : (h : Header) (v : Content) (d : List ℕ) → Says h v d → content_fault (fss h) (type_bit h.pdu_type) h.segment_metadata d ≡ None
 accepted h (FileData offset bytes) d p = rw p.0 (file_data_accepted (fss h) h.segment_metadata offset bytes d p.1)
 accepted h (Metadata kind size source destination options) d p =
     let long : ltb (length d) 1 ≡ false = le-ltb _ _ (let r = p.1.room in omega arith) in
@@ -122,7 +122,7 @@ pub pdu_accepted : (h : Header) (v : Content) (t : List ℕ) → SpellsPdu h v t
 pdu_accepted h v t p =
     let q = p.header in
     let len : header_len_told t ≡ header_len h.id_width h.number_width = rw (q.id_width, q.number_width) refl in
-    rw (header.accepted h t q, q.file_data, q.segment_metadata, q.large, told h.file_data, told h.segment_metadata, told h.large, len)
+    rw (header.accepted h t q, q.pdu_type, q.segment_metadata, q.large, told h.segment_metadata, told h.large, len)
     (accepted h v (drop (header_len h.id_width h.number_width) t) p.content)
 
 -- ---- no other

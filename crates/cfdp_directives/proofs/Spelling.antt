@@ -19,7 +19,7 @@ use Rattle.cfdp_directives.specs.declared.pdu.codes.Acknowledged.TheVariants as 
 use Rattle.cfdp_directives.specs.Pdu.Codes.{delivery_code, file_status_code, transaction_status_code, acknowledged_code, acknowledged_subtype}
 use Rattle.cfdp_directives.specs.Pdu.Tlv.{Tlv, tlv}
 use Rattle.cfdp_directives.specs.Pdu.Pair.{pair, IsPair, ArePairs}
-use Rattle.cfdp_directives.specs.Pdu.Content.{Content, FileData, Metadata, Eof, Finished, Ack, Nak, Prompt, KeepAlive, is_file_data}
+use Rattle.cfdp_directives.specs.Pdu.Content.{Content, FileData, Metadata, Eof, Finished, Ack, Nak, Prompt, KeepAlive, pdu_type_of}
 use Rattle.cfdp_directives.specs.Pdu.Grammar.{Says, SpellsPdu, IsFileData, IsMetadata, IsEof, IsFinished, IsAck, IsNak, IsPrompt, IsKeepAlive, lv, fss}
 use Rattle.cfdp_directives.specs.Pdu.Written.{content_octets, content_len, FitsContent, CanWrite, pdu_octets}
 use Rattle.cfdp_directives.proofs.Only.{same}
@@ -204,7 +204,7 @@ ack_written w of c s f =
       status_field = omega arith;
     }
 
-said : (h : Header) (v : Content) → FitsContent (fss h) v → h.file_data ≡ is_file_data v → h.segment_metadata ≡ false → Says h v (content_octets (fss h) v)
+said : (h : Header) (v : Content) → FitsContent (fss h) v → h.pdu_type ≡ pdu_type_of v → h.segment_metadata ≡ false → Says h v (content_octets (fss h) v)
 said h (FileData a b) f k plain = (k, subst (λ (m : Bool). IsFileData (fss h) m a b (content_octets (fss h) (FileData a b))) (sym plain) (file_data_written (fss h) a b f))
 said h (Metadata a b s t o) f k plain = (k, metadata_written (fss h) a b s t o f)
 said h (Eof a b c o) f k plain = (k, eof_written (fss h) a b c o f)

@@ -3,7 +3,7 @@
 //!
 //! ```
 //! match cfdp_directives::decode(octets) {
-//!     Ok((header, Pdu::Nak { pairs, .. })) => println!(rt; "{} ranges of {:?}", pairs.len(), header.id)?,
+//!     Ok((header, Pdu::Nak { requests, .. })) => println!(rt; "{} ranges of {:?}", requests.len(), header.id)?,
 //!     Ok((header, _)) => println!(rt; "{} octets of content", header.length)?,
 //!     Err(refused) => println!(rt; "refused: {}", refused.name())?,
 //! }
@@ -33,7 +33,7 @@ pub use pdu::lengths::{
 };
 pub use pdu::octets::Octets;
 pub use pdu::pair_iter::PairIter;
-pub use pdu::pairs::Pairs;
+pub use pdu::pairs::SegmentRequests;
 pub use pdu::reading::decode;
 pub use pdu::tlv::Tlvs;
 pub use pdu::tlv_iter::TlvIter;

@@ -1,5 +1,5 @@
 -- Whose turn it is, of what type its PDU is, and that it has octets.
-use Rattle.std.proofs.Common.{arith, ◌≡◌, ℕ, zero, suc, ◌≤◌, Bool, true, false, List, [], ◌∷◌, drop, length, get_or, slice_get, Option, Some, None, is_some, refl, sym, ap, subst, ◌∙◌}
+use Rattle.std.proofs.Common.{arith, ◌≡◌, ℕ, zero, suc, ◌≤◌, Bool, true, false, List, [], ◌∷◌, length, get_or, slice_get, Option, Some, None, is_some, refl, sym, ap, subst, ◌∙◌}
 use Rattle.cfdp_header.specs.Files.{FileMap}
 use Rattle.cfdp_directives.specs.declared.pdu.addressing.Addressing.{Addressing}
 use Rattle.cfdp_directives.specs.Pdu.Codes.{is_large}
@@ -12,17 +12,16 @@ use Rattle.cfdp_sender.specs.declared.due.SenderDue.{SenderDue}
 use Rattle.cfdp_receiver.specs.State.{ReceiverState}
 use Rattle.cfdp_receiver.specs.Due.{receiver_due}
 use Rattle.cfdp_receiver.specs.declared.due.Due.{Due}
-use Rattle.cfdp_entity.specs.declared.polled.EntityPolled.TheVariants.{Moved}
-use Rattle.cfdp_entity.specs.Entity.{Counted, EntityState, own_id}
+use Rattle.cfdp_entity.specs.Entity.{EntityState, own_id}
 use Rattle.cfdp_entity.specs.declared.polled.Rooms.{Rooms}
 use Rattle.cfdp_entity.specs.declared.record.Gave.{Gave}
 use Rattle.cfdp_entity.specs.declared.record.Gave.TheVariants.{Octets}
 use Rattle.cfdp_entity.specs.Gives.{Gives, Writes, stored_by_gave}
-use Rattle.cfdp_entity.specs.Polling.{turn, turn_by, turn_data, turn_len, turn_octets, turn_room, room_in, served, Turn, Place, Stray, MovesPdu}
+use Rattle.cfdp_entity.specs.Polling.{turn, turn_by, turn_data, turn_len, turn_octets, turn_room, room_in, served, Turn, Place, MovesPdu}
 use Rattle.cfdp_entity.specs.Seen.{Seen, Sends, Receives, is_due, due_len, sender_content, receiver_content, len_of}
 use Rattle.cfdp_entity.specs.Sound.{SpellsTurn}
-use Rattle.cfdp_entity.specs.Spelled.{Answers, EntryIsSpelled, FirstIsSpelled}
-use Rattle.cfdp_entity.specs.Strays.{StrayAck, first_stray_len, stray_len, stray_octets, stray_says}
+use Rattle.cfdp_entity.specs.Spelled.{EntryIsSpelled}
+use Rattle.cfdp_entity.specs.Strays.{StrayAck}
 use Rattle.cfdp_entity.specs.Table.{Entry, has_due, next_due, data_at, due_at, len_at, len_due}
 use Rattle.cfdp_entity.proofs.CallerLemmas.{next-due}
 use Rattle.cfdp_entity.proofs.Sparing.{resting}
@@ -94,31 +93,3 @@ module _ (rooms : Rooms) (place : ℕ) (old new : EntityState) (no_stray : old.s
   moves-gave gave n is_data out out_now is type fits state gives =
       let given : Gives (due_at place old.table) (len_at place old.table) (Octets n) out out_now = subst (λ g. Gives (due_at place old.table) (len_at place old.table) g out out_now) is gives in
       moves-place n is_data out out_now type fits given.0 given.1 (state ∙ ap (λ g. served (stored_by_gave g) (Place place) old) is)
-
--- ---- a stray acknowledgement that is taken
-pub stray-moved : (room : ℕ) (old new : Counted) (s : StrayAck) (n : ℕ) (out out_now : List ℕ) → slice_get old.state.strays 0 ≡ Some s → first_stray_len old.state.strays ≤ room → FirstIsSpelled old.state.strays →
-    n ≡ stray_len s → Writes (stray_octets s) n out out_now → new ≡ record old { state = record old.state { strays = drop 1 old.state.strays } } → Answers room (Moved n false) old new out out_now
-stray-moved room old new s n out out_now first fits spelled len writes is = by old.state.strays refl
-  where
-    by : (strays : List StrayAck) → old.state.strays ≡ strays → Answers room (Moved n false) old new out out_now
-    by [] none = absurd (cc (sym first ∙ ap (λ l. slice_get l 0) none))
-    by (t ∷ ts) some =
-        let here : t ≡ s = cc (sym (ap (λ l. slice_get l 0) some) ∙ first) in
-        let turn-is : turn old.state ≡ Stray t ts = ap (λ l. turn_by l (next_due old.state.cursor old.state.table.records)) some in
-        let long : n ≡ stray_len t = len ∙ ap stray_len (sym here) in
-        let within : stray_len t ≤ room = subst (λ l. first_stray_len l ≤ room) some fits in
-        let one : 1 ≤ stray_len t = some-len t.large t.addressing (stray_says t) in
-        record {
-          polled = record {
-            type = sym (ap (λ u. turn_data u old.state) turn-is);
-            some = omega (arith, long, one);
-            fits = omega (arith, long, within);
-            len = long ∙ sym (ap (λ u. turn_len u old.state) turn-is);
-            writes = subst (λ u. Writes (turn_octets u old.state) n out out_now) (sym turn-is) (subst (λ a. Writes (stray_octets a) n out out_now) (sym here) writes);
-            served = ap (λ (c : Counted). c.state) is ∙ ap (λ l. record old.state { strays = drop 1 l }) some ∙ sym (ap (λ u. served Done u old.state) turn-is);
-          };
-          spells = subst (λ u. SpellsTurn u old.state) (sym turn-is) (subst (λ l. FirstIsSpelled l) some spelled);
-          roomy = λ h. absurd (cc h);
-          counts = ap (λ (c : Counted). c.outbox_failures) is;
-          inbox = ap (λ (c : Counted). c.inbox_failures) is;
-        }

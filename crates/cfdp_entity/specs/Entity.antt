@@ -8,20 +8,22 @@ use Rattle.cfdp_directives.specs.declared.user.phase.Phase.{Phase}
 use Rattle.cfdp_forgotten.specs.Forgotten.{IdSet}
 use Rattle.cfdp_entity.specs.declared.config.EntityConfig.{EntityConfig}
 use Rattle.cfdp_entity.specs.declared.error.EntityDrop.{EntityDrop}
+use Rattle.cfdp_entity.specs.declared.sent.SentPdus.{SentPdus}
 use Rattle.cfdp_entity.specs.Errors.{drop_number}
+use Rattle.cfdp_entity.specs.Sent.{none_sent}
 use Rattle.cfdp_entity.specs.Strays.{StrayAck}
 use Rattle.cfdp_entity.specs.Table.{Entry, TableState, place_of, first_table, phase_in, standing, table_lent}
 
 -- The table, the stray acknowledgements in their order, the place behind the record served last,
--- the
--- number of the next put, the counts of drops by their number, how it is set up, and the
--- transactions that were let go.
+-- the number of the next put, the counts of drops by their number and of what was sent, how it is
+-- set up, and the transactions that were let go.
 pub record EntityState : Type 0 where
   pub table : TableState
   pub strays : List StrayAck
   pub cursor : ℕ
   pub next : ℕ
   pub drops : List ℕ
+  pub sent : SentPdus
   pub config : EntityConfig
   pub forgotten : IdSet
 
@@ -42,6 +44,7 @@ first_entity sources files config = record {
   cursor = 0;
   next = config.first_number;
   drops = replicate 18 0;
+  sent = none_sent;
   config = config;
   forgotten = set.empty;
 }

@@ -17,6 +17,7 @@ pub mod Whole
 pub mod Gives
 pub mod Does
 pub mod Strays
+pub mod Sent
 pub mod Entity
 pub mod Requests
 pub mod Hearing

@@ -8,7 +8,9 @@ use Rattle.cfdp_entity.specs.declared.polled.Rooms.{Rooms}
 use Rattle.cfdp_entity.specs.declared.record.Gave.{Gave}
 use Rattle.cfdp_entity.specs.declared.record.Gave.TheVariants.{Failed}
 use Rattle.cfdp_entity.specs.Entity.{EntityState, Counted}
+use Rattle.cfdp_entity.specs.declared.sent.SentPdu.TheVariants.{OtherDirective}
 use Rattle.cfdp_entity.specs.Gives.{Gives, CountsOutbox, Writes, stored_by_gave}
+use Rattle.cfdp_entity.specs.Sent.{counted_pdu, sent_at, sent_by}
 use Rattle.cfdp_entity.specs.Strays.{StrayAck, stray_octets, stray_len}
 use Rattle.cfdp_entity.specs.Table.{next_due, due_at, len_at, data_at, taken_at, ShowsIf}
 
@@ -56,11 +58,15 @@ room_in rooms false = rooms.directives
 abbrev pub turn_room : Rooms → EntityState → ℕ
 turn_room rooms e = room_in rooms (turn_data (turn e) e)
 
--- the entity once it was served
+-- the entity once it was served: what was sent is counted, by what was due of that record
 abbrev pub served : Stored → Turn → EntityState → EntityState
-served stored (Stray s strays) e = record e { strays = strays }
-served stored (Place place) e =
-    record e { table = taken_at stored place e.table; cursor = place + 1 }
+served stored (Stray s strays) e =
+    record e { strays = strays; sent = counted_pdu OtherDirective e.sent }
+served stored (Place place) e = record e {
+  table = taken_at stored place e.table;
+  cursor = place + 1;
+  sent = sent_by stored (sent_at place e.table) e.sent;
+}
 served stored Rests e = e
 
 -- The PDU that is due has so many octets and this type: they fit, and were written over the first

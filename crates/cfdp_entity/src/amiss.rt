@@ -5,11 +5,12 @@ ghost use Rattle.cfdp_directives.specs.User.Limits.{IsValidTimes};
 ghost use Rattle.cfdp_entity.specs.Config.{IsConfig, HasIds, HasSending};
 ghost use Rattle.cfdp_entity.specs.Fields.{Fits};
 
-use crate::config::EntityConfig;
+use crate::config::{EntityConfig, MOST_WIDTH};
 use cfdp_directives::ChecksumKind;
 use cfdp_header::fits_width;
 use cfdp_sender::MOST_SEGMENT;
 use thiserror::Error;
+use valid_config::Config;
 
 /// A field of an [`EntityConfig`](crate::EntityConfig) that isn't as it has to be.
 #[derive(Clone, Copy, Debug, PartialEq, Eq, Error)]
@@ -46,11 +47,14 @@ pub enum EntityField {
     InactivityTime,
 }
 
-impl EntityConfig {
-    /// A field that isn't as it has to be; `None` exactly where the configuration is valid.
-    pub fn amiss(&self) -> Option<EntityField>
-        ensures { MatchOption result (IsConfig self.now) (λ field. Fits field self.now → ⊥) }
-    {
+impl Config for EntityConfig {
+    type Field = EntityField;
+
+    ghost IsValid = { IsConfig };
+
+    ghost Fits = { Fits };
+
+    fn amiss(&self) -> Option<EntityField> {
         if let Some(field) = self.ids_amiss() {
             return Some(field);
         }
@@ -59,9 +63,12 @@ impl EntityConfig {
         }
         self.times_amiss()
     }
+}
 
+impl EntityConfig {
     fn ids_amiss(&self) -> Option<EntityField>
-        ensures { MatchOption result (HasIds self.now) (λ field. Fits field self.now → ⊥) }
+        ensures { MatchOption result (HasIds self.now)
+            (λ field. (HasIds self.now → ⊥) × (Fits field self.now → ⊥)) }
     {
         if !is_width(self.id_width) {
             Some(EntityField::IdWidth)
@@ -75,7 +82,8 @@ impl EntityConfig {
     }
 
     fn sending_amiss(&self) -> Option<EntityField>
-        ensures { MatchOption result (HasSending self.now) (λ field. Fits field self.now → ⊥) }
+        ensures { MatchOption result (HasSending self.now)
+            (λ field. (HasSending self.now → ⊥) × (Fits field self.now → ⊥)) }
     {
         let kind = self.checksum_kind.code();
         if !is_width(self.number_width) {
@@ -91,7 +99,7 @@ impl EntityConfig {
 
     fn times_amiss(&self) -> Option<EntityField>
         ensures { MatchOption result (IsValidTimes self.now.policy.times)
-            (λ field. Fits field self.now → ⊥) }
+            (λ field. (IsValidTimes self.now.policy.times → ⊥) × (Fits field self.now → ⊥)) }
     {
         let times = &self.policy.times;
         if times.eof == 0 {
@@ -112,5 +120,5 @@ impl EntityConfig {
 fn is_width(width: u8) -> bool
     ensures { IsTrue result ↔ IsWidth width }
 {
-    1 <= width && width <= 8
+    1 <= width && width <= MOST_WIDTH
 }

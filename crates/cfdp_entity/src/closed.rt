@@ -10,8 +10,11 @@ ghost use Rattle.cfdp_store.specs.Staged.{OctetMap};
 ghost use Rattle.cfdp_sender.specs.State.{SenderState};
 ghost use Rattle.cfdp_sender.specs.Inputs.{SenderInput, MayHappen, sender_step};
 ghost use Rattle.cfdp_receiver.specs.State.{ReceiverState, flagged};
-ghost use Rattle.cfdp_receiver.specs.Sound.{Hears, Expires, Cancels, Suspends, Resumes, receiver_step};
-ghost use Rattle.cfdp_entity.specs.Closed.{RestsSender, SenderOwes, SenderAnswers, sender_owes, RestsReceiver, ReceiverOwes, ReceiverAnswers, receiver_owes};
+ghost use Rattle.cfdp_receiver.specs.Sound.{Hears, Expires, Cancels, Suspends, Resumes};
+ghost use Rattle.cfdp_receiver.specs.Sound.{receiver_step};
+ghost use Rattle.cfdp_entity.specs.Closed.{RestsSender, SenderOwes, SenderAnswers, sender_owes};
+ghost use Rattle.cfdp_entity.specs.Closed.{RestsReceiver, ReceiverOwes, ReceiverAnswers};
+ghost use Rattle.cfdp_entity.specs.Closed.{receiver_owes};
 
 /// A sender that is closed and has nothing due acknowledges a Finished, and does nothing else.
 pub fn a_closed_sender_acknowledges()

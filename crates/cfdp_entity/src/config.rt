@@ -1,14 +1,18 @@
-ghost use Rattle.std.specs.Prelude.{◌≡◌, ◌≢◌, ◌↔◌, IsTrue};
+ghost use Rattle.std.specs.Prelude.{◌≡◌, ◌≢◌};
 ghost use Rattle.cfdp_header.specs.Header.{FitsWidth};
 ghost use Rattle.cfdp_directives.specs.Pdu.Codes.{modular};
 ghost use Rattle.cfdp_directives.specs.User.Policy.{default_policy};
-ghost use Rattle.cfdp_entity.specs.Config.{IsConfig, HasIds, HasSending};
+ghost use Rattle.cfdp_entity.specs.Config.{IsConfig};
 
 use cfdp_directives::{ChecksumKind, Policy};
 use cfdp_header::fits_width;
-use cfdp_sender::MOST_SEGMENT;
 
-/// How an entity is set up: who it is, to whom it sends, and how.
+/// The most octets of an entity id, and of a sequence number (CCSDS 727.0-B-5, 5.1).
+pub const MOST_WIDTH: u8 = 8;
+
+/// How an entity is set up: who it is, to whom it sends, and how. It is valid where the two ids
+/// differ and fit their width, both widths are 1 to 8 octets, the segment and the times are in
+/// their ranges, and the checksum is modular or null.
 #[derive(Clone, Copy, Debug, PartialEq, Eq)]
 pub struct EntityConfig {
     /// The id of this entity.
@@ -57,34 +61,6 @@ impl EntityConfig {
             checksum_kind: ChecksumKind::MODULAR,
             policy: Policy::default(),
         }
-    }
-
-    /// Whether an entity can be set up so: the ids differ and fit their width, both widths are 1 to
-    /// 8 octets, the segment and the times are in their ranges, and the checksum is modular or
-    /// null.
-    pub fn is_valid(&self) -> bool
-        ensures { IsTrue result ↔ IsConfig self.now }
-    {
-        self.has_ids() && self.has_sending() && self.policy.times.is_valid()
-    }
-
-    fn has_ids(&self) -> bool
-        ensures { IsTrue result ↔ HasIds self.now }
-    {
-        self.entity != self.peer
-            && fits_width(self.entity, self.id_width)
-            && fits_width(self.peer, self.id_width)
-    }
-
-    fn has_sending(&self) -> bool
-        ensures { IsTrue result ↔ HasSending self.now }
-    {
-        let kind = self.checksum_kind.code();
-        1 <= self.number_width
-            && self.number_width <= 8
-            && 1 <= self.segment
-            && self.segment <= MOST_SEGMENT
-            && (kind == 0 || kind == 15)
     }
 }
 

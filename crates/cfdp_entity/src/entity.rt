@@ -6,6 +6,7 @@ ghost use Rattle.cfdp_entity.specs.Entity.{entity_standing, first_entity, phase_
 
 use crate::config::EntityConfig;
 use crate::error::EntityDrop;
+use crate::sent::SentPdus;
 use crate::stray::Stray;
 use crate::table::Table;
 use cfdp_directives::{Indication, Phase};
@@ -15,6 +16,7 @@ use cfdp_store::{Inbox, Outbox};
 use circular_buffer::HeapCircularBuffer;
 use std::alloc::{AllocError, Global};
 use std::marker::Model;
+use valid_config::Valid;
 
 /// The most stray acknowledgements that wait.
 pub(crate) const MOST_STRAYS: usize = 64;
@@ -22,9 +24,9 @@ pub(crate) const MOST_STRAYS: usize = 64;
 /// An entity of CFDP, class 2 (CCSDS 727.0-B-5): it sends files of its outbox to its peer, and
 /// publishes in its inbox the files that its peer sends.
 ///
-/// PDUs are given to it by `hear` and taken from it by `poll`; the time is told to it by `tick`. It
-/// has room for 4,096 records, and keeps closed ones, and all that it told its user, until its user
-/// lets them go: by `forget`, `forget_closed`, `next_indication` and `forget_indications`.
+/// PDUs are given to it by `receive` and taken from it by `poll`; the time is told to it by `tick`.
+/// It has room for 4,096 records, and keeps closed ones, and all that it told its user, until its
+/// user lets them go: by `forget`, `forget_closed`, `next_indication` and `forget_indications`.
 #[derive(Drop)]
 pub struct Entity<O: Outbox, I: Inbox> {
     pub(crate) alloc: Global,
@@ -37,6 +39,7 @@ pub struct Entity<O: Outbox, I: Inbox> {
     pub(crate) next: Option<u64>,
     // By their number, of 1 to 17.
     drops: [u64; 18],
+    pub(crate) sent: SentPdus,
     // The transactions that were let go.
     pub(crate) forgotten: Forgotten,
 }
@@ -58,6 +61,7 @@ impl<O: Outbox, I: Inbox> Model for Entity<O, I> {
         cursor = e.cursor;
         next = next_of e.next;
         drops = e.drops;
+        sent = e.sent;
         config = e.config;
         forgotten = e.forgotten;
       };
@@ -76,13 +80,18 @@ impl<O: Outbox, I: Inbox> Entity<O, I> {
     /// # Errors
     ///
     /// `AllocError` where there is no memory for it.
-    pub fn new(alloc: Global, config: EntityConfig, outbox: O, inbox: I) -> Result<Self, AllocError>
-        requires { IsConfig config }
+    pub fn new(
+        alloc: Global,
+        config: Valid<EntityConfig>,
+        outbox: O,
+        inbox: I,
+    ) -> Result<Self, AllocError>
         ensures state { IfOk result (λ e. e.state ≡ entity_standing (O.stands outbox)
             (first_entity (O.files outbox) (I.published inbox) config)) }
         ensures inbox_failures { IfOk result (λ e. e.inbox_failures ≡ I.failures inbox) }
         ensures outbox_failures { IfOk result (λ e. e.outbox_failures ≡ O.failures outbox) }
     {
+        let config = config.get();
         let strays = HeapCircularBuffer::with_capacity(alloc, MOST_STRAYS)?;
         let next = Some(config.first_number);
         let table = Table::new(alloc, outbox, inbox, config.policy)?;
@@ -94,6 +103,7 @@ impl<O: Outbox, I: Inbox> Entity<O, I> {
             cursor: 0,
             next,
             drops: [0; 18],
+            sent: SentPdus::none(),
             forgotten: Forgotten::new(alloc),
         })
     }
@@ -108,7 +118,7 @@ impl<O: Outbox, I: Inbox> Entity<O, I> {
         }
     }
 
-    /// How often `hear` dropped a PDU by this cause. The count stays at the greatest `u64`.
+    /// How often `receive` dropped a PDU by this cause. The count stays at the greatest `u64`.
     pub fn drops(&self, by: EntityDrop) -> u64
         ensures count { result ≡ get_or self.now.state.drops (drop_number by) 0 }
         ensures kinds { length self.now.state.drops ≡ 18 }
@@ -117,6 +127,13 @@ impl<O: Outbox, I: Inbox> Entity<O, I> {
             Some(count) => *count,
             None => 0,
         }
+    }
+
+    /// How many PDUs `poll` gave, by what they are.
+    pub fn sent(&self) -> SentPdus
+        ensures { result ≡ self.now.state.sent }
+    {
+        self.sent
     }
 
     /// The earliest deadline of the armed timers but those of kind Inactivity, in units of the

@@ -1,6 +1,5 @@
-ghost use Rattle.std.specs.Prelude.{◌≡◌, ◌≤◌, ◌↔◌, IsSome, IfSome, Some};
+ghost use Rattle.std.specs.Prelude.{◌≡◌};
 ghost use Rattle.cfdp_entity.specs.Errors as errors;
-ghost use Rattle.cfdp_entity.specs.declared.error.EntityDrop as declared;
 
 use cfdp_directives::PduError;
 use cfdp_header::HeaderError;
@@ -55,35 +54,6 @@ impl EntityDrop {
         EntityDrop::NoMemory,
         EntityDrop::NoFile,
     ];
-
-    /// The cause with this number, of 1 to 17.
-    pub fn from_number(number: u8) -> Option<EntityDrop>
-        ensures some { IsSome result ↔ (1 ≤ number) × (number ≤ 17) }
-        ensures found { IfSome result (λ drop. errors.drop_number drop ≡ number) }
-        ensures only { (drop : declared.EntityDrop) → errors.drop_number drop ≡ number →
-            result ≡ Some drop }
-    {
-        match number {
-            1 => Some(EntityDrop::Pdu(PduError::Header(HeaderError::Short))),
-            2 => Some(EntityDrop::Pdu(PduError::Header(HeaderError::Version))),
-            3 => Some(EntityDrop::Pdu(PduError::Header(HeaderError::CrcPresent))),
-            4 => Some(EntityDrop::Pdu(PduError::Header(HeaderError::Length))),
-            5 => Some(EntityDrop::Pdu(PduError::Header(HeaderError::Unacknowledged))),
-            6 => Some(EntityDrop::Pdu(PduError::Header(HeaderError::LargeFile))),
-            7 => Some(EntityDrop::Pdu(PduError::Directive)),
-            8 => Some(EntityDrop::Pdu(PduError::Truncated)),
-            9 => Some(EntityDrop::Pdu(PduError::Trailing)),
-            10 => Some(EntityDrop::Pdu(PduError::Tlv)),
-            11 => Some(EntityDrop::Pdu(PduError::Condition)),
-            12 => Some(EntityDrop::WrongDirection),
-            13 => Some(EntityDrop::NotForUs),
-            14 => Some(EntityDrop::Unknown),
-            15 => Some(EntityDrop::TableFull),
-            16 => Some(EntityDrop::NoMemory),
-            17 => Some(EntityDrop::NoFile),
-            _ => None,
-        }
-    }
 
     /// Why the octets are no PDU, where that is the cause.
     pub fn source(self) -> Option<PduError>

@@ -5,7 +5,9 @@ ghost use Rattle.std.specs.Map.{keys_of};
 ghost use Rattle.std.specs.Option.{option_map};
 ghost use Rattle.cfdp_entity.specs.Entity as entities;
 ghost use Rattle.cfdp_entity.specs.Entity.{with_table};
-ghost use Rattle.cfdp_entity.specs.Forgetting.{Forgets, ForgetsSome, GoesIfOver, HasNoneOver, IsForgetRefusal, forget_refusal, over_in, without_file, without_record};
+ghost use Rattle.cfdp_entity.specs.Forgetting.{Forgets, ForgetsSome, GoesIfOver, HasNoneOver};
+ghost use Rattle.cfdp_entity.specs.Forgetting.{IsForgetRefusal, forget_refusal, over_in};
+ghost use Rattle.cfdp_entity.specs.Forgetting.{without_file, without_record};
 ghost use Rattle.cfdp_entity.specs.Table.{next_told, without_told};
 
 use crate::entity::Entity;

@@ -6,7 +6,8 @@ ghost use Rattle.cfdp_directives.specs.Pdu.Faults.{pdu_fault};
 ghost use Rattle.cfdp_entity.specs.declared.error.EntityDrop.TheVariants as drops;
 ghost use Rattle.cfdp_entity.specs.declared.route.Route.TheVariants as routes;
 ghost use Rattle.cfdp_entity.specs.Hearing as hearings;
-ghost use Rattle.cfdp_entity.specs.Hearing.{MayOpen, StepsAt, LacksAt, OpensOne, Takes, DropsBy, FindsNoMemory, HearsOctets, DropsOctets, queued};
+ghost use Rattle.cfdp_entity.specs.Hearing.{MayOpen, StepsAt, LacksAt, OpensOne, Takes, DropsBy};
+ghost use Rattle.cfdp_entity.specs.Hearing.{FindsNoMemory, HearsOctets, DropsOctets, queued};
 
 use crate::entity::{Entity, MOST_STRAYS};
 use crate::error::EntityDrop;
@@ -48,7 +49,7 @@ impl<O: Outbox, I: Inbox> Entity<O, I> {
     /// but for two things where memory was wanted: a NAK may have asked for a prefix of its ranges,
     /// and file data of a transaction with a record may have staged octets at offsets that don't
     /// count as held. No call of a store failed then.
-    pub fn hear(&mut self, pdu: &[u8]) -> Result<(), EntityDrop>
+    pub fn receive(&mut self, pdu: &[u8]) -> Result<(), EntityDrop>
         ensures heard { OnOk result (HearsOctets pdu.now self.old self.new) }
         ensures dropped { IfErr result (λ by. DropsOctets (pdu_fault pdu.now) pdu.now by self.old
             self.new) }

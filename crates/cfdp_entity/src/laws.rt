@@ -1,6 +1,7 @@
 //! Laws of a table's steps, each the contract of a function that does nothing. `table_step` is one
 //! function for every step, which computes to the one that a call's contract names.
-ghost use Rattle.std.specs.Prelude.{◌≡◌, ◌≢◌, ◌++◌, ℕ, ◌≤◌, Bool, false, List, remove, slice_get, Option, Some, Contains};
+ghost use Rattle.std.specs.Prelude.{◌≡◌, ◌≢◌, ◌++◌, ℕ, ◌≤◌, Bool, false, List, remove, slice_get};
+ghost use Rattle.std.specs.Prelude.{Option, Some, Contains};
 ghost use Rattle.cfdp_header.specs.declared.value.TransactionId.{TransactionId};
 ghost use Rattle.cfdp_header.specs.Files.{FileMap};
 ghost use Rattle.cfdp_header.specs.Ids.{same_id};
@@ -17,8 +18,11 @@ ghost use Rattle.cfdp_entity.specs.declared.config.EntityConfig.{EntityConfig};
 ghost use Rattle.cfdp_entity.specs.declared.error.EntityDrop.{EntityDrop};
 ghost use Rattle.cfdp_entity.specs.Config.{IsConfig};
 ghost use Rattle.cfdp_entity.specs.Steps.{After};
-ghost use Rattle.cfdp_entity.specs.Table.{Entry, TableState, Ticks, SpoiledAt, without_told, record_of, step_at, with_record, first_table};
-ghost use Rattle.cfdp_entity.specs.History.{TableStep, table_step, table_run, MayHappen, MayRun, OpensOther, Leads, KeepsRecords, FinishesOnce, also, none_gone, open_in};
+ghost use Rattle.cfdp_entity.specs.Table.{Entry, TableState, Ticks, SpoiledAt, without_told};
+ghost use Rattle.cfdp_entity.specs.Table.{record_of, step_at, with_record, first_table};
+ghost use Rattle.cfdp_entity.specs.History.{TableStep, table_step, table_run, MayHappen, MayRun};
+ghost use Rattle.cfdp_entity.specs.History.{OpensOther, Leads, KeepsRecords, FinishesOnce, also};
+ghost use Rattle.cfdp_entity.specs.History.{none_gone, open_in};
 ghost use Rattle.cfdp_entity.specs.Truth.{TellsTruth, IsTrueTable};
 ghost use Rattle.cfdp_entity.specs.Seen.{due_content};
 ghost use Rattle.cfdp_entity.specs.Sending.{FindsPut, SendsTruth};
@@ -29,7 +33,8 @@ ghost use Rattle.cfdp_entity.specs.Forgetting.{Forgets, ForgetsSome, with_files,
 ghost use Rattle.cfdp_entity.specs.Hearing.{HearsOctets, DropsOctets};
 ghost use Rattle.cfdp_entity.specs.Polling.{turn, turn_octets, served};
 ghost use Rattle.cfdp_entity.specs.Putting.{Accepts};
-ghost use Rattle.cfdp_entity.specs.Sound.{IsSound, FindsMore, FindsById, next_put, ComesTrue, SpellsTurn, SaysDelivered, GoesOn};
+ghost use Rattle.cfdp_entity.specs.Sound.{IsSound, FindsMore, FindsById, next_put, ComesTrue};
+ghost use Rattle.cfdp_entity.specs.Sound.{SpellsTurn, SaysDelivered, GoesOn};
 ghost use Rattle.cfdp_entity.specs.Removing.{GoesAlike, IsSoundBut, also_removed, none_removed};
 
 use cfdp_directives::no_pdu_begins_another;

@@ -24,6 +24,7 @@ mod ready;
 mod record;
 mod request;
 mod route;
+mod sent;
 mod stray;
 mod table;
 mod transactions;
@@ -34,9 +35,10 @@ pub use cfdp_directives::{
     PduError, Phase, Policy, Times,
 };
 pub use cfdp_header::{HeaderError, TransactionId};
+pub use cfdp_sender::MOST_SEGMENT;
 pub use cfdp_store::{Inbox, Outbox, StoreError};
 pub use closed::{a_closed_receiver_acknowledges, a_closed_sender_acknowledges};
-pub use config::EntityConfig;
+pub use config::{EntityConfig, MOST_WIDTH};
 pub use entity::Entity;
 pub use error::{AddError, EntityDrop, ForgetError, PutError, RequestError};
 pub use laws::{
@@ -47,4 +49,5 @@ pub use laws::{
 };
 pub use polled::{EntityPolled, Rooms};
 pub use request::Request;
+pub use sent::SentPdus;
 pub use transactions::Transactions;

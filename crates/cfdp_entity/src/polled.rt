@@ -3,7 +3,8 @@ ghost use Rattle.std.specs.Prelude.{◌≡◌, ◌≤◌, ◌<◌, [], true, len
 ghost use Rattle.cfdp_entity.specs.declared.polled.EntityPolled.TheVariants as answers;
 ghost use Rattle.cfdp_entity.specs.Entity.{counted_lent, entity_lent};
 ghost use Rattle.cfdp_entity.specs.Gives.{CountsOutbox};
-ghost use Rattle.cfdp_entity.specs.Polling.{Polls, SendsAt, Shows, TakesTurn, room_in, stored_by_poll, turn_room};
+ghost use Rattle.cfdp_entity.specs.Polling.{Polls, SendsAt, Shows, TakesTurn, room_in};
+ghost use Rattle.cfdp_entity.specs.Polling.{stored_by_poll, turn_room};
 ghost use Rattle.cfdp_entity.specs.Sound.{longest_pdu};
 ghost use Rattle.cfdp_entity.specs.Spelled.{Answers, FirstIsSpelled, SpellsMoved};
 ghost use Rattle.cfdp_entity.specs.Strays.{first_stray_len};
@@ -11,6 +12,7 @@ ghost use Rattle.cfdp_entity.specs.Table.{ShowsIf, data_at, len_at};
 
 use crate::entity::Entity;
 use crate::record::Gave;
+use crate::sent::SentPdu;
 use cfdp_store::{Inbox, Outbox};
 use std::alloc::AllocError;
 
@@ -106,10 +108,13 @@ impl<O: Outbox, I: Inbox> Entity<O, I> {
             return EntityPolled::Full;
         }
         match self.strays.pop_front() {
-            Some(stray) => EntityPolled::Moved {
-                len: stray.write(out),
-                file_data: false,
-            },
+            Some(stray) => {
+                self.sent.count(SentPdu::OtherDirective);
+                EntityPolled::Moved {
+                    len: stray.write(out),
+                    file_data: false,
+                }
+            }
             None => EntityPolled::Nothing,
         }
     }
@@ -159,9 +164,11 @@ impl<O: Outbox, I: Inbox> Entity<O, I> {
             self.old.state.table self.new.state.table) }
         ensures err { OnErr result ((self.new ≡ self.old) × (out.new ≡ out.old)) }
     {
+        let due = self.table.due_pdu(place);
         self.table.reserve(3)?;
         let gave = self.table.send(place, out);
         self.cursor = place + 1;
+        self.sent.count_given(gave, due);
         Ok(gave)
     }
 }

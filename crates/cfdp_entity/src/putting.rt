@@ -1,5 +1,6 @@
 // Files that an entity is asked to send.
-ghost use Rattle.std.specs.Prelude.{◌≡◌, ◌<◌, ◌≤◌, ◌^◌, nat_lt, true, false, None, Some, is_some, IfSome, IfErr, IfOk, OnOk, OnErr};
+ghost use Rattle.std.specs.Prelude.{◌≡◌, ◌<◌, ◌≤◌, ◌^◌, nat_lt, true, false, None, Some, is_some};
+ghost use Rattle.std.specs.Prelude.{IfSome, IfErr, IfOk, OnOk, OnErr};
 ghost use Rattle.std.specs.FinMap as map;
 ghost use Rattle.std.specs.Result.{result_err};
 ghost use Rattle.cfdp_header.specs.Header.{IsWidth};
@@ -9,7 +10,9 @@ ghost use Rattle.cfdp_store.specs.Stores.{failures_after};
 ghost use Rattle.cfdp_sender.specs.Does.{HasFile};
 ghost use Rattle.cfdp_sender.specs.State.{IsSendable};
 ghost use Rattle.cfdp_entity.specs.Entity.{is_forgotten, next_of};
-ghost use Rattle.cfdp_entity.specs.Putting.{Accepts, MayPutAs, IsPutRefusal, early_refusal, put_refusal, stored_by_error, was_answered, asked, next_id, next_transfer, with_put};
+ghost use Rattle.cfdp_entity.specs.Putting.{Accepts, MayPutAs, IsPutRefusal, early_refusal};
+ghost use Rattle.cfdp_entity.specs.Putting.{put_refusal, stored_by_error, was_answered, asked};
+ghost use Rattle.cfdp_entity.specs.Putting.{next_id, next_transfer, with_put};
 ghost use Rattle.cfdp_entity.specs.Table.{place_of};
 
 use crate::entity::Entity;

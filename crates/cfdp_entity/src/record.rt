@@ -13,8 +13,12 @@ ghost use Rattle.cfdp_entity.specs.Desk.{Staged};
 ghost use Rattle.cfdp_entity.specs.Forgetting as forgetting;
 ghost use Rattle.cfdp_entity.specs.Seen as seens;
 ghost use Rattle.cfdp_entity.specs.Seen.{seen, is_due};
-ghost use Rattle.cfdp_entity.specs.Steps.{sender_after, receiver_after, called_sender, called_receiver};
-ghost use Rattle.cfdp_entity.specs.Does.{ReceiverTook, ReceiverAcks, SenderDoes, SenderKeeps, ReceiverDoes, ReceiverKeeps, MayReceive, StaysReady, found};
+ghost use Rattle.cfdp_entity.specs.Sent.{sent_of};
+ghost use Rattle.cfdp_entity.specs.Steps.{sender_after, receiver_after, called_sender};
+ghost use Rattle.cfdp_entity.specs.Steps.{called_receiver};
+ghost use Rattle.cfdp_entity.specs.Does.{ReceiverTook, ReceiverAcks, SenderDoes, SenderKeeps};
+ghost use Rattle.cfdp_entity.specs.Does.{ReceiverDoes, ReceiverKeeps, MayReceive, StaysReady};
+ghost use Rattle.cfdp_entity.specs.Does.{found};
 ghost use Rattle.cfdp_entity.specs.Sound.{longest_pdu};
 ghost use Rattle.cfdp_entity.specs.Spelled.{SeenIsSpelled};
 ghost use Rattle.cfdp_entity.specs.Storing.{AsksCalled, AsksHeard};
@@ -22,6 +26,7 @@ ghost use Rattle.cfdp_entity.specs.Whole.{IsReadyRecord};
 
 use crate::error::{ForgetError, RequestError};
 use crate::request::Request;
+use crate::sent::SentPdu;
 use cfdp_directives::{Acknowledged, Outcome, Pdu, Phase, Policy};
 use cfdp_receiver::{Ending, Metadata, Receiver};
 use cfdp_sender::Sender;
@@ -81,6 +86,16 @@ impl Record {
         match self {
             Record::Sends(sender) => sender.has_data_due(),
             Record::Receives(_) => false,
+        }
+    }
+
+    /// What the PDU that is due counts as, once it is sent.
+    pub(crate) fn due_pdu(&self) -> Option<SentPdu>
+        ensures { (staged : Option OctetMap) → result ≡ sent_of (seen staged self.now) }
+    {
+        match self {
+            Record::Sends(sender) => Some(SentPdu::of_sender(sender.next_due()?)),
+            Record::Receives(receiver) => Some(SentPdu::of_receiver(receiver.next_due()?)),
         }
     }
 
@@ -193,7 +208,7 @@ pub(crate) fn sender_hears(
             condition,
             ..
         } => sender.on_ack(effects, policy, *condition),
-        Pdu::Nak { pairs, .. } => sender.on_nak(effects, policy, pairs)?,
+        Pdu::Nak { requests, .. } => sender.on_nak(effects, policy, requests)?,
         Pdu::Finished {
             condition,
             delivery,

@@ -5,7 +5,8 @@ ghost use Rattle.cfdp_directives.specs.Pdu.Content.{view};
 ghost use Rattle.cfdp_entity.specs.Gives.{Writes};
 ghost use Rattle.cfdp_entity.specs.Sound.{longest_pdu};
 ghost use Rattle.cfdp_entity.specs.Spelled.{StrayIsSpelled};
-ghost use Rattle.cfdp_entity.specs.Strays.{over_ack, unknown_ack, stray_says, stray_octets, stray_len};
+ghost use Rattle.cfdp_entity.specs.Strays.{over_ack, unknown_ack, stray_says, stray_octets};
+ghost use Rattle.cfdp_entity.specs.Strays.{stray_len};
 
 use cfdp_directives::{Acknowledged, Addressing, Condition, Pdu, TransactionStatus};
 use cfdp_header::Header;

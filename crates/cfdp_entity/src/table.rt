@@ -1,5 +1,7 @@
 // Records, and the desk that their steps work on.
-ghost use Rattle.std.specs.Prelude.{◌≡◌, ◌+◌, ◌≤◌, ◌<◌, ◌++◌, ◌∷◌, ◌*◌, drop, max, true, None, Some, Option, [], length, slice_get, IfErr, IfOk, IfSome, MatchOption, OnOk, OnErr, is_ok, is_some, false};
+ghost use Rattle.std.specs.Prelude.{◌≡◌, ◌+◌, ◌≤◌, ◌<◌, ◌++◌, ◌∷◌, ◌*◌, drop, max, true, None};
+ghost use Rattle.std.specs.Prelude.{Some, Option, [], length, slice_get, IfErr, IfOk, IfSome};
+ghost use Rattle.std.specs.Prelude.{MatchOption, OnOk, OnErr, is_ok, is_some, false};
 ghost use Rattle.std.specs.FinMap as map;
 ghost use Rattle.std.specs.Option.{option_map};
 ghost use Rattle.std.specs.List.{IsDistinct};
@@ -21,13 +23,19 @@ ghost use Rattle.cfdp_entity.specs.Forgetting as forgetting;
 ghost use Rattle.cfdp_entity.specs.Forgetting.{left_at, over_in, without_file};
 ghost use Rattle.cfdp_entity.specs.Looking.{IsSent, IsUnsent, Looks, LooksAnew, sends_at};
 ghost use Rattle.cfdp_entity.specs.Opening.{closing, AsksInOrder, CountsBoth};
-ghost use Rattle.cfdp_entity.specs.Roomy.{Becomes, LacksMemory, MayAdd, SendsFrom, Steps, roomy_lent};
+ghost use Rattle.cfdp_entity.specs.Roomy.{Becomes, LacksMemory, MayAdd, SendsFrom, Steps};
+ghost use Rattle.cfdp_entity.specs.Roomy.{roomy_lent};
 ghost use Rattle.cfdp_entity.specs.Sound.{longest_pdu};
 ghost use Rattle.cfdp_entity.specs.Spelled.{EntryIsSpelled};
-ghost use Rattle.cfdp_entity.specs.Storing.{AsksToHear, AsksToRequest, AsksToExpire, AsksByTimer, AsksToFire, AsksToTick, AsksToOpen};
+ghost use Rattle.cfdp_entity.specs.Storing.{AsksToHear, AsksToRequest, AsksToExpire, AsksByTimer};
+ghost use Rattle.cfdp_entity.specs.Storing.{AsksToFire, AsksToTick, AsksToOpen};
+ghost use Rattle.cfdp_entity.specs.Sent.{sent_at};
 ghost use Rattle.cfdp_entity.specs.Walking.{phases_of};
 ghost use Rattle.cfdp_entity.specs.Table as tables;
-ghost use Rattle.cfdp_entity.specs.Table.{next_told, without_told, heard_at, expired_at, called_at, data_at, len_at, put_in, opened_by, next_due, first_table, all_expired, at_time, Ticks, phase_in, standing, ShowsIf};
+ghost use Rattle.cfdp_entity.specs.Table.{next_told, without_told, heard_at, expired_at, called_at};
+ghost use Rattle.cfdp_entity.specs.Table.{data_at, len_at, put_in, opened_by, next_due};
+ghost use Rattle.cfdp_entity.specs.Table.{first_table, all_expired, at_time, Ticks, phase_in};
+ghost use Rattle.cfdp_entity.specs.Table.{standing, ShowsIf};
 
 use crate::desk::Desk;
 use crate::error::{AddError, ForgetError, RequestError};
@@ -35,6 +43,7 @@ use crate::opening::{MOST_TOLD, Opened};
 use crate::ready::Ready;
 use crate::record::{Gave, Record};
 use crate::request::Request;
+use crate::sent::SentPdu;
 use crate::transactions::Transactions;
 use cfdp_directives::{Addressing, Indication, Pdu, Phase, Policy};
 use cfdp_header::TransactionId;
@@ -187,6 +196,16 @@ impl<O: Outbox, I: Inbox> Table<O, I> {
         match self.records.get_index(place) {
             Some((_, held)) => held.has_data_due(),
             None => false,
+        }
+    }
+
+    /// What the PDU counts as, once it is sent, that the record at a place has due.
+    pub fn due_pdu(&self, place: usize) -> Option<SentPdu>
+        ensures { result ≡ sent_at place self.now.state }
+    {
+        match self.records.get_index(place) {
+            Some((_, held)) => held.due_pdu(),
+            None => None,
         }
     }
 

@@ -1,8 +1,10 @@
 //! Laws of sets of offsets, each the contract of a function that does nothing.
-ghost use Rattle.std.specs.Prelude.{◌≡◌, ◌⊎◌, ℕ, ◌-◌, ◌<◌, ◌&&◌, ◌||◌, not, true, List, ◌∷◌, None, Some};
+ghost use Rattle.std.specs.Prelude.{◌≡◌, ◌⊎◌, ℕ, ◌-◌, ◌<◌, ◌&&◌, ◌||◌, not, true, List, ◌∷◌, None};
+ghost use Rattle.std.specs.Prelude.{Some};
 ghost use Rattle.std.specs.FinSet as set;
 ghost use Rattle.std.specs.List.{All};
-ghost use Rattle.cfdp_extents.specs.Offsets.{Offsets, is_within, range, union_of, missing_from, LiesIn, AreRangesOf};
+ghost use Rattle.cfdp_extents.specs.Offsets.{Offsets, is_within, range, union_of, missing_from};
+ghost use Rattle.cfdp_extents.specs.Offsets.{LiesIn, AreRangesOf};
 ghost use Rattle.cfdp_extents.specs.Front.{IsFront};
 ghost use Rattle.cfdp_extents.specs.Terms.{ranges_in, ranges_of, gaps_of, end_of, front_of};
 

@@ -1,7 +1,8 @@
 // Steps on a map from each range's end to its start.
 ghost use Rattle.std.specs.Prelude.{◌≡◌, OnOk, OnErr};
 ghost use Rattle.cfdp_extents.specs.Offsets.{AreApart};
-ghost use Rattle.cfdp_extents.specs.Ranges.{turned, first_from, first_behind, low_of, key_at, put_in, outside, Untouched};
+ghost use Rattle.cfdp_extents.specs.Ranges.{turned, first_from, first_behind, low_of, key_at};
+ghost use Rattle.cfdp_extents.specs.Ranges.{put_in, outside, Untouched};
 
 use std::alloc::AllocError;
 use std::collections::BTreeMap;

@@ -2,7 +2,8 @@
 // at the end, as most are, changes that one alone.
 ghost use Rattle.std.specs.Prelude.{◌≡◌, ◌<◌, ◌≤◌, ℕ, [], None, Some, IsOk, OnOk, OnErr, drop, set};
 ghost use Rattle.cfdp_extents.specs.Offsets.{AreApart};
-ghost use Rattle.cfdp_extents.specs.Ranges.{turned, with_last, first_from, first_behind, with_range, Untouched};
+ghost use Rattle.cfdp_extents.specs.Ranges.{turned, with_last, first_from, first_behind};
+ghost use Rattle.cfdp_extents.specs.Ranges.{with_range, Untouched};
 
 use crate::search::{lowest, put, range_behind, range_from, remove_within};
 use std::alloc::AllocError;

@@ -1,5 +1,6 @@
 // Transactions by their sources.
-ghost use Rattle.std.specs.Prelude.{◌≡◌, ◌<◌, ◌++◌, [], ◌∷◌, true, None, nat_eq, length, OnOk, OnErr, IsOk};
+ghost use Rattle.std.specs.Prelude.{◌≡◌, ◌<◌, ◌++◌, [], ◌∷◌, true, None, nat_eq, length, OnOk};
+ghost use Rattle.std.specs.Prelude.{OnErr, IsOk};
 ghost use Rattle.std.specs.FinSet as set;
 ghost use Rattle.indexmap.specs.IndexMap.{get, set_value_at, spare};
 ghost use Rattle.cfdp_forgotten.specs.Forgotten.{numbers_at};

@@ -7,8 +7,12 @@ use Rattle.std.proofs.lemmas.List.{take_at}
 use Rattle.cfd_bits.specs.Field.{field, octets, flag}
 use Rattle.cfd_bits.proofs.Fields.{length-octets, field_between, field_in_octet, field-append_left, field-drop}
 use Rattle.cfd_bits.proofs.BitFields.{field-below, field-below_octets, field-front}
+use Rattle.cfdp_header.specs.declared.value.Direction.{Direction}
+use Rattle.cfdp_header.specs.declared.value.Direction.TheVariants.{TowardReceiver, TowardSender}
 use Rattle.cfdp_header.specs.declared.value.Header.{Header}
-use Rattle.cfdp_header.specs.Header.{SpellsHeader, header_fault, header_len_told, header_len, FitsHeader, fixed_octets, header_octets}
+use Rattle.cfdp_header.specs.declared.value.PduType.{PduType}
+use Rattle.cfdp_header.specs.declared.value.PduType.TheVariants.{FileDirective, FileData}
+use Rattle.cfdp_header.specs.Header.{SpellsHeader, header_fault, header_len_told, header_len, FitsHeader, type_bit, direction_bit, fixed_octets, header_octets}
 
 pub same_flag : (a b : Bool) → flag a ≡ flag b → a ≡ b
 same_flag true true e = refl
@@ -16,10 +20,22 @@ same_flag false false e = refl
 same_flag true false e = absurd cc
 same_flag false true e = absurd cc
 
-abbrev made : Bool → Bool → Bool → ℕ → Bool → ℕ → ℕ → ℕ → ℕ → ℕ → Header
+pub same_type : (a b : PduType) → type_bit a ≡ type_bit b → a ≡ b
+same_type FileDirective FileDirective e = refl
+same_type FileData FileData e = refl
+same_type FileDirective FileData e = absurd cc
+same_type FileData FileDirective e = absurd cc
+
+pub same_direction : (a b : Direction) → direction_bit a ≡ direction_bit b → a ≡ b
+same_direction TowardReceiver TowardReceiver e = refl
+same_direction TowardSender TowardSender e = refl
+same_direction TowardReceiver TowardSender e = absurd cc
+same_direction TowardSender TowardReceiver e = absurd cc
+
+abbrev made : PduType → Direction → Bool → ℕ → Bool → ℕ → ℕ → ℕ → ℕ → ℕ → Header
 made a b g l c i n source number d = record {
-  file_data = a;
-  toward_sender = b;
+  pdu_type = a;
+  direction = b;
   large = g;
   length = l;
   segment_metadata = c;
@@ -32,12 +48,12 @@ made a b g l c i n source number d = record {
 
 pub unique : (h k : Header) (t : List ℕ) → SpellsHeader h t → SpellsHeader k t → h ≡ k
 unique h k t p q =
-    let a = same_flag h.file_data k.file_data (sym p.file_data ∙ q.file_data) in
-    let b = same_flag h.toward_sender k.toward_sender (sym p.toward_sender ∙ q.toward_sender) in
+    let a = same_type h.pdu_type k.pdu_type (sym p.pdu_type ∙ q.pdu_type) in
+    let b = same_direction h.direction k.direction (sym p.direction ∙ q.direction) in
     let g = same_flag h.large k.large (sym p.large ∙ q.large) in
     let c = same_flag h.segment_metadata k.segment_metadata (sym p.segment_metadata ∙ q.segment_metadata) in
-    let same : made h.file_data h.toward_sender h.large h.length h.segment_metadata h.id_width h.number_width h.id.source h.id.number h.destination
-    ≡ made k.file_data k.toward_sender k.large k.length k.segment_metadata k.id_width k.number_width k.id.source k.id.number k.destination = cc in
+    let same : made h.pdu_type h.direction h.large h.length h.segment_metadata h.id_width h.number_width h.id.source h.id.number h.destination
+    ≡ made k.pdu_type k.direction k.large k.length k.segment_metadata k.id_width k.number_width k.id.source k.id.number k.destination = cc in
     same
 
 pub accepted : (h : Header) (t : List ℕ) → SpellsHeader h t → header_fault t ≡ None
@@ -55,6 +71,14 @@ is_ok (Err d) P e p = absurd cc
 pub flag_below : (b : Bool) → flag b < 2
 flag_below true = omega arith
 flag_below false = omega arith
+
+pub type_below : (t : PduType) → type_bit t < 2
+type_below FileDirective = omega arith
+type_below FileData = omega arith
+
+pub direction_below : (d : Direction) → direction_bit d < 2
+direction_below TowardReceiver = omega arith
+direction_below TowardSender = omega arith
 
 -- what is written spells the header, whatever data follow
 pub spelled : (h : Header) (rest : List ℕ) → FitsHeader h → length rest ≡ h.length → SpellsHeader h (header_octets h ++ rest)
@@ -77,11 +101,11 @@ spelled h rest fits len =
     let low3 = fits.number_width.0 in
     let low4 = fits.number_width.1 in
     let long = fits.length in
-    let b1 = flag_below h.file_data in
-    let b2 = flag_below h.toward_sender in
+    let b1 = type_below h.pdu_type in
+    let b2 = direction_below h.direction in
     let b3 = flag_below h.segment_metadata in
     let b4 = flag_below h.large in
-    let first : ℕ = (32 + 16 * flag h.file_data + 8 * flag h.toward_sender + flag h.large) % 256 in
+    let first : ℕ = (32 + 16 * type_bit h.pdu_type + 8 * direction_bit h.direction + flag h.large) % 256 in
     let widths : ℕ = (16 * (h.id_width - 1) + 8 * flag h.segment_metadata + (h.number_width - 1)) % 256 in
     let version = field_in_octet text 0 3 0 0 first refl (omega arith) refl in
     let kind = field_in_octet text 3 1 0 3 first refl (omega arith) refl in
@@ -101,8 +125,8 @@ spelled h rest fits len =
     rw grouped (record {
       size = omega arith;
       version = omega arith;
-      file_data = omega arith;
-      toward_sender = omega arith;
+      pdu_type = omega arith;
+      direction = omega arith;
       acknowledged = omega arith;
       crc_absent = omega arith;
       large = omega arith;

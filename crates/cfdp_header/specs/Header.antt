@@ -2,7 +2,11 @@
 -- begin with none.
 use Rattle.std.specs.Prelude.{◌≡◌, ℕ, ◌+◌, ◌-◌, ◌*◌, ◌^◌, ◌<◌, ◌≤◌, List, ◌++◌, length, Option, Some, None, nat_lt, ◌==◌, not, if◌then◌else◌, codes}
 use Rattle.cfd_bits.specs.Field.{field, octets, flag}
+use Rattle.cfdp_header.specs.declared.value.Direction.{Direction}
+use Rattle.cfdp_header.specs.declared.value.Direction.TheVariants.{TowardReceiver, TowardSender}
 use Rattle.cfdp_header.specs.declared.value.Header.{Header}
+use Rattle.cfdp_header.specs.declared.value.PduType.{PduType}
+use Rattle.cfdp_header.specs.declared.value.PduType.TheVariants.{FileDirective, FileData}
 use Rattle.cfdp_header.specs.declared.error.HeaderError.{HeaderError}
 use Rattle.cfdp_header.specs.declared.error.HeaderError.TheVariants.{Short, Version, CrcPresent, Length, Unacknowledged, LargeFile}
 
@@ -15,13 +19,22 @@ header_len id_width number_width = 4 + id_width + number_width + id_width
 abbrev pub IsWidth : ℕ → Type 0
 IsWidth width = (1 ≤ width) × (width ≤ 8)
 
+-- the bit of the PDU type, and that of the direction (CCSDS 727.0-B-5, table 5-1)
+abbrev pub type_bit : PduType → ℕ
+type_bit FileDirective = 0
+type_bit FileData = 1
+
+abbrev pub direction_bit : Direction → ℕ
+direction_bit TowardReceiver = 0
+direction_bit TowardSender = 1
+
 -- The octets are this header, and behind it as many octets as its length says (CCSDS 727.0-B-5,
 -- 5.1, table 5-1). Bit 24, segmentation control, is in no line: it is read as anything.
 pub record SpellsHeader (h : Header) (text : List ℕ) : Type 0 where
   pub size : length text ≡ header_len h.id_width h.number_width + h.length
   pub version : field text 0 3 ≡ 1
-  pub file_data : field text 3 1 ≡ flag h.file_data
-  pub toward_sender : field text 4 1 ≡ flag h.toward_sender
+  pub pdu_type : field text 3 1 ≡ type_bit h.pdu_type
+  pub direction : field text 4 1 ≡ direction_bit h.direction
   pub acknowledged : field text 5 1 ≡ 0
   pub crc_absent : field text 6 1 ≡ 0
   pub large : field text 7 1 ≡ flag h.large
@@ -66,7 +79,7 @@ pub record FitsHeader (h : Header) : Type 0 where
 -- the four octets that every header has
 abbrev pub fixed_octets : Header → List ℕ
 fixed_octets h =
-    octets 1 (32 + 16 * flag h.file_data + 8 * flag h.toward_sender + flag h.large)
+    octets 1 (32 + 16 * type_bit h.pdu_type + 8 * direction_bit h.direction + flag h.large)
     ++ octets 2 h.length
     ++ octets 1 (16 * (h.id_width - 1) + 8 * flag h.segment_metadata + (h.number_width - 1))
 

@@ -10,18 +10,20 @@
 //! Tested by `tests/transcripts/pdus.txt` and `tests/transcripts/rules.txt`.
 #![tactic(auto)]
 
-ghost use Rattle.std.specs.Prelude.{◌≡◌, ℕ, ◌+◌, ◌*◌, ◌^◌, ◌<◌, ◌≤◌, ◌++◌, List, length, take, drop, true, IfOk, IsOkAnd};
+ghost use Rattle.std.specs.Prelude.{◌≡◌, ℕ, ◌+◌, ◌*◌, ◌^◌, ◌<◌, ◌≤◌, ◌++◌, List, length, take};
+ghost use Rattle.std.specs.Prelude.{drop, true, IfOk, IsOkAnd};
 ghost use Rattle.std.specs.Result.{result_err};
 ghost use Rattle.cfd_bits.specs.Field.{field};
 ghost use Rattle.cfdp_header.specs.declared.value.Header.{Header};
-ghost use Rattle.cfdp_header.specs.Header.{SpellsHeader, header_fault, FitsHeader, header_octets, header_len};
+ghost use Rattle.cfdp_header.specs.Header.{SpellsHeader, header_fault, FitsHeader, header_octets};
+ghost use Rattle.cfdp_header.specs.Header.{header_len, type_bit, direction_bit};
 
 mod error;
 mod value;
 
 use cfd_bits::{get, put_uint, read_eight, read_uint};
 pub use error::HeaderError;
-pub use value::{Header, TransactionId, fits_width};
+pub use value::{Direction, Header, PduType, TransactionId, fits_width};
 
 /// The number of `count` octets from octet `at` on. Where eight are there they are read at once,
 /// and those behind it are cut off.
@@ -38,6 +40,28 @@ fn number_at(bytes: &[u8], at: usize, count: usize) -> u64
         return read_uint(rest, count);
     }
     read_eight(rest) >> (64 - 8 * count)
+}
+
+/// The PDU type that the first octet tells.
+fn pdu_type_in(bytes: &[u8]) -> PduType
+    requires { 1 ≤ length bytes.now }
+    ensures { type_bit result ≡ field bytes.now 3 1 }
+{
+    match get(bytes, 3, 1) {
+        0 => PduType::FileDirective,
+        _ => PduType::FileData,
+    }
+}
+
+/// The direction that the first octet tells.
+fn direction_in(bytes: &[u8]) -> Direction
+    requires { 1 ≤ length bytes.now }
+    ensures { direction_bit result ≡ field bytes.now 4 1 }
+{
+    match get(bytes, 4, 1) {
+        0 => Direction::TowardReceiver,
+        _ => Direction::TowardSender,
+    }
 }
 
 /// The header at the front of `bytes`, and the data field behind it, to the end.
@@ -85,8 +109,8 @@ pub fn decode(bytes: &[u8]) -> Result<(Header, &[u8]), HeaderError>
         return Err(HeaderError::Length);
     }
     let header = Header {
-        file_data: get(bytes, 3, 1) == 1,
-        toward_sender: get(bytes, 4, 1) == 1,
+        pdu_type: pdu_type_in(bytes),
+        direction: direction_in(bytes),
         large: get(bytes, 7, 1) == 1,
         length,
         segment_metadata: get(bytes, 28, 1) == 1,
@@ -105,7 +129,7 @@ pub fn decode(bytes: &[u8]) -> Result<(Header, &[u8]), HeaderError>
 /// The octets behind stay.
 ///
 /// The data field, of `header.length` octets, is the caller's to write behind it.
-#[tactic(auto, using(crate::proofs::Laws::flag_below))]
+#[tactic(auto, using(crate::proofs::Laws::flag_below, crate::proofs::Laws::type_below, crate::proofs::Laws::direction_below))]
 pub fn encode(header: &Header, out: &mut [u8]) -> usize
     requires fits { FitsHeader header.now }
     requires room { header_len header.now.id_width header.now.number_width ≤ length out.old }
@@ -114,8 +138,8 @@ pub fn encode(header: &Header, out: &mut [u8]) -> usize
     ensures behind { drop result out.new ≡ drop result out.old }
 {
     let first = 32
-        + 16 * u64::from(header.file_data)
-        + 8 * u64::from(header.toward_sender)
+        + 16 * u64::from(header.pdu_type.bit())
+        + 8 * u64::from(header.direction.bit())
         + u64::from(header.large);
     let widths = 16 * (u64::from(header.id_width) - 1)
         + 8 * u64::from(header.segment_metadata)

@@ -1,5 +1,6 @@
 ghost use Rattle.std.specs.Prelude.{◌≡◌, ◌↔◌, IsTrue};
 ghost use Rattle.cfdp_header.specs.Header.{header_len, FitsHeader, FitsWidth};
+ghost use Rattle.cfdp_header.specs.Header.{type_bit, direction_bit};
 
 /// Names a transaction: the entity that sends the file, and the number that it gave the transaction
 /// (CCSDS 727.0-B-5). Two ids are the same where both numbers are, whatever width they are written
@@ -12,13 +13,55 @@ pub struct TransactionId {
     pub number: u64,
 }
 
+/// What a PDU is: the PDU type of its header (CCSDS 727.0-B-5, table 5-1).
+#[derive(Clone, Copy, Debug, PartialEq, Eq)]
+pub enum PduType {
+    /// A directive, whose code begins its data field.
+    FileDirective,
+    /// Octets of the file.
+    FileData,
+}
+
+impl PduType {
+    /// The bit that the header has for it, 0 or 1.
+    pub fn bit(self) -> u8
+        ensures { result ≡ type_bit self }
+    {
+        match self {
+            PduType::FileDirective => 0,
+            PduType::FileData => 1,
+        }
+    }
+}
+
+/// Which way a PDU goes between the two ends of its transaction (CCSDS 727.0-B-5, table 5-1).
+#[derive(Clone, Copy, Debug, PartialEq, Eq)]
+pub enum Direction {
+    /// To the entity that receives the file, from the one that sends it.
+    TowardReceiver,
+    /// To the entity that sends the file, from the one that receives it.
+    TowardSender,
+}
+
+impl Direction {
+    /// The bit that the header has for it, 0 or 1.
+    pub fn bit(self) -> u8
+        ensures { result ≡ direction_bit self }
+    {
+        match self {
+            Direction::TowardReceiver => 0,
+            Direction::TowardSender => 1,
+        }
+    }
+}
+
 /// The fixed header of a PDU (CCSDS 727.0-B-5, table 5-1).
 #[derive(Clone, Copy, Debug, PartialEq, Eq)]
 pub struct Header {
-    /// PDU type: file data where true, else a file directive.
-    pub file_data: bool,
-    /// Direction: toward the file's sender where true, else toward its receiver.
-    pub toward_sender: bool,
+    /// Whether it is file data or a file directive.
+    pub pdu_type: PduType,
+    /// Whether it goes toward the file's receiver or its sender.
+    pub direction: Direction,
     /// Octets of the data field, behind the header: 0 to 65,535.
     pub length: u16,
     /// Whether segment metadata stands before each offset of file data. This stack's senders never

@@ -29,8 +29,8 @@ good_entity Two = record {
 }
 
 good_station : (s : Side) → IsStationConfig (station_of loop_settings s)
-good_station One = record { entity = good_entity One; down = good_link One; up = good_link Two; least = lit≤ tt; most = lit≤ tt }
-good_station Two = record { entity = good_entity Two; down = good_link Two; up = good_link One; least = lit≤ tt; most = lit≤ tt }
+good_station One = record { entity = good_entity One; sends = good_link One; receives = good_link Two; least = lit≤ tt; most = lit≤ tt }
+good_station Two = record { entity = good_entity Two; sends = good_link Two; receives = good_link One; least = lit≤ tt; most = lit≤ tt }
 
 pub good : IsWorldConfig (world_of loop_settings)
-good = record { one = good_station One; two = good_station Two; peer_of_two = refl; peer_of_one = refl; down = refl; up = refl }
+good = record { one = good_station One; two = good_station Two; peer_of_two = refl; peer_of_one = refl; sends = refl; receives = refl }

@@ -1,4 +1,5 @@
-ghost use Rattle.std.specs.Prelude.{◌≡◌, ◌⊎◌, ◌≤◌, false, map, IfErr, IfOk, IfSome, Some, option_map};
+ghost use Rattle.std.specs.Prelude.{◌≡◌, ◌⊎◌, ◌≤◌, false, map, IfErr, IfOk, IfSome, Some};
+ghost use Rattle.std.specs.Prelude.{option_map};
 ghost use Rattle.clap.specs.Kinds.{FailsBy};
 ghost use Rattle.clap.specs.Faults.{fault_of};
 ghost use Rattle.clap.specs.Simple.{app_of, with_rule, with_subcommand};
@@ -6,7 +7,11 @@ ghost use Rattle.clap.specs.Matches.{found_of};
 ghost use Rattle.clap.specs.Values.{kind_of};
 ghost use Rattle.clap.specs.Walk.{first_of, rows_of, rule_of};
 ghost use Rattle.clap.specs.Simple.{subcommand_rows_of};
-ghost use Rattle.cfdp_node.specs.Request.{HasNoGlobals, HasZone, IsCommand, IsStatusOf, RefusedBy, asked, asked_by, asked_of, dump_app, dump_of, kind_of_word, kind_rule, input_rule, asked_lines, lines_of, program_app, refusals, sim_app, sim_of, lines_app, top_app, zone_of_word, zone_rule};
+ghost use Rattle.cfdp_node.specs.Request.{HasNoGlobals, HasZone, IsCommand, IsStatusOf, RefusedBy};
+ghost use Rattle.cfdp_node.specs.Request.{asked, asked_by, asked_of, dump_app, dump_of};
+ghost use Rattle.cfdp_node.specs.Request.{kind_of_word, kind_rule, input_rule, asked_lines};
+ghost use Rattle.cfdp_node.specs.Request.{lines_of, program_app, refusals, sim_app, sim_of};
+ghost use Rattle.cfdp_node.specs.Request.{lines_app, top_app, zone_of_word, zone_rule};
 ghost use Rattle.cfdp_node.specs.Request as asks;
 ghost use Rattle.cfdp_node.specs.Looping.Request.{loop_app, loop_of};
 ghost use Rattle.cfdp_node.specs.Station.Request.{station_of};
@@ -17,6 +22,7 @@ use crate::dropping::let_go;
 use crate::looping::request::{LoopRequest, loop_command, loop_request};
 use crate::shown::{shown_by, shown_command};
 use crate::station::request::{StationRequest, station_command, station_request};
+use aos_frame::{LEAST_ZONE, MOST_ZONE};
 use cfdp_report::{SettingsHelp, Shown};
 use cfdp_script::{DumpKind, DumpRequest};
 use clap::error::ErrorKind;
@@ -393,7 +399,7 @@ fn zone_octets(word: &str) -> Option<u16>
     ensures range { IfSome result (λ zone. (16 ≤ zone) × (zone ≤ 2040)) }
 {
     match word.parse::<u16>() {
-        Ok(zone) if 16 <= zone && zone <= 2040 => Some(zone),
+        Ok(zone) if LEAST_ZONE <= zone && zone <= MOST_ZONE => Some(zone),
         _ => None,
     }
 }
@@ -559,7 +565,7 @@ fn zone_argument<'a>(alloc: Global) -> Arg<'a>
         .long("zone")
         .value_name("Z")
         .help("Octets of a frame's packet zone, 16 to 2040")
-        .value_parser(value_parser!(u64).range(16..=2040))
+        .value_parser(value_parser!(u64).range(LEAST_ZONE as i64..=MOST_ZONE as i64))
         .default_value("256")
 }
 

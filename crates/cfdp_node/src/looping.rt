@@ -3,12 +3,12 @@ ghost use Rattle.std.specs.Io.Buffered.{writer_buffer, writer_contents};
 ghost use Rattle.std.specs.Io.KnownBytes.{Appends};
 ghost use Rattle.std.specs.Prelude.{◌≡◌, ◌==◌, ◌&&◌, Some, IfOk, OnOk, not};
 ghost use Rattle.cfdp_report.specs.Exit.{IsFlushedAt};
-ghost use Rattle.cfdp_node.specs.Looping.Turns.{EndsBoth, EndsFromOne, EndsLoop, IsTold, LoopRuns, completed, is_no_memory, loop_settings, loop_text, more_failures, refusal_answer};
+ghost use Rattle.cfdp_node.specs.Looping.Turns.{EndsBoth, EndsFromOne, EndsLoop, IsTold, LoopRuns};
+ghost use Rattle.cfdp_node.specs.Looping.Turns.{completed, is_no_memory, loop_settings, loop_text};
+ghost use Rattle.cfdp_node.specs.Looping.Turns.{more_failures, refusal_answer};
 ghost use Rattle.cfdp_report.specs.Settings.{world_of};
 ghost use Rattle.cfdp_report.specs.Report.Lines.{count_line};
 ghost use Rattle.cfdp_port.specs.Pair.{pair};
-ghost use Rattle.cfdp_station.specs.Config.{IsStationConfig};
-ghost use Rattle.link_sim.specs.Stations.{IsWorldConfig};
 
 pub mod folders;
 pub mod held_folder;
@@ -26,6 +26,7 @@ use link_sim::{Refusal, Side, WorldConfig};
 use std::alloc::{AllocError, Global};
 use std::io;
 use std::io::{BufWriter, Write};
+use valid_config::Valid;
 
 /// What is to be sent, and how.
 #[derive(Drop)]
@@ -52,7 +53,7 @@ pub struct LoopEnds<O: Outbox, I: Inbox, W: Wire> {
 /// What the second station is made of.
 #[derive(Drop)]
 struct Second<I: Inbox, W: Wire> {
-    config: StationConfig,
+    config: Valid<StationConfig>,
     inbox: I,
     wire: W,
 }
@@ -108,22 +109,20 @@ fn run_first<O: Outbox, I: Inbox, W: Wire, V: Write, L: Lookout>(
         (V.contents out.new)) }
 {
     let config = loop_config();
+    let (sender, receiver) = (
+        WorldConfig::station(config, Side::One),
+        WorldConfig::station(config, Side::Two),
+    );
     let LoopEnds {
         outbox,
         inbox,
         wires,
     } = ends;
     let (first, wire) = wires;
-    match Port::new(
-        alloc,
-        Side::One,
-        config.one,
-        (outbox, NoInbox::new()),
-        first,
-    ) {
+    match Port::new(alloc, Side::One, sender, (outbox, NoInbox::new()), first) {
         Ok(mut one) => {
             let second = Second {
-                config: config.two,
+                config: receiver,
                 inbox,
                 wire,
             };
@@ -144,7 +143,6 @@ fn run_second<O: Outbox, I: Inbox, J: Inbox, W: Wire, V: Write, L: Lookout>(
     out: &mut V,
     lookout: &mut L,
 ) -> Exit
-    requires { IsStationConfig second.config }
     ensures { IsTold result (EndsFromOne W.steps result one.old second.config
         (I.published second.inbox) second.wire options.now.source.items
         options.now.destination.items options.now.turns (V.contents out.old)
@@ -173,9 +171,8 @@ fn run_second<O: Outbox, I: Inbox, J: Inbox, W: Wire, V: Write, L: Lookout>(
 
 /// The settings of a script, but for NAKs, which are sent again until nothing is heard any more:
 /// losses that come in step with what is sent again pass only after some.
-pub fn loop_config() -> WorldConfig
-    ensures same { result ≡ world_of loop_settings }
-    ensures valid { IsWorldConfig result }
+pub fn loop_config() -> Valid<WorldConfig>
+    ensures { result ≡ world_of loop_settings }
 {
     let settings = Settings {
         nak_limit: 255,

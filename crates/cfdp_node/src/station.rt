@@ -1,7 +1,5 @@
 //! One station over folders and a UDP socket.
 ghost use Rattle.std.specs.Prelude.{IfOk};
-ghost use Rattle.cfdp_station.specs.Config.{IsStationConfig};
-ghost use Rattle.link_sim.specs.Stations.{IsWorldConfig};
 
 pub mod beacon;
 pub mod exchange;
@@ -31,6 +29,7 @@ use std::alloc::{AllocError, Global};
 use std::cell::Cell;
 use std::io::{BufWriter, ErrorKind};
 use std::{fs, io};
+use valid_config::Valid;
 
 /// The exit status of bad arguments.
 const MISTAKE: u8 = 2;
@@ -41,7 +40,7 @@ const DEVICE: u8 = 3;
 /// What a station has before it opens its socket.
 #[derive(Drop)]
 struct Prepared<'a> {
-    config: WorldConfig,
+    config: Valid<WorldConfig>,
     reservation: Reservation<'a>,
     /// The folder of its inbox, if it has one.
     held: Option<HeldFolder>,
@@ -74,8 +73,8 @@ pub fn station_status(rt: &HostRuntime, request: &StationRequest) -> u8 {
             },
         ) => {
             let exchange = Exchange::new();
-            match parts(rt, request, &config, reservation, &exchange) {
-                Ok(parts) => ran_status(rt, request, &config, parts, &exchange),
+            match parts(rt, request, config, reservation, &exchange) {
+                Ok(parts) => ran_status(rt, request, config, parts, &exchange),
                 Err(status) => status,
             }
         }
@@ -93,9 +92,7 @@ fn begun<'a>(
     rt: &'a HostRuntime,
     request: &StationRequest,
     setup: &StationSetup,
-) -> Result<Prepared<'a>, u8>
-    ensures { IfOk result (λ begun. IsWorldConfig begun.config) }
-{
+) -> Result<Prepared<'a>, u8> {
     let _ = configuration(rt, request, setup)?;
     let held = held_inbox(rt, request)?;
     check_outbox(rt, request)?;
@@ -118,9 +115,7 @@ fn configuration(
     rt: &HostRuntime,
     request: &StationRequest,
     setup: &StationSetup,
-) -> Result<WorldConfig, u8>
-    ensures { IfOk result IsWorldConfig }
-{
+) -> Result<Valid<WorldConfig>, u8> {
     let StationNumbers { id, peer, .. } = request.numbers;
     match setup.config(id, peer) {
         Some(config) => Ok(config),
@@ -277,14 +272,12 @@ fn held_inbox(rt: &HostRuntime, request: &StationRequest) -> Result<Option<HeldF
 fn parts<'a>(
     rt: &'a HostRuntime,
     request: &StationRequest,
-    config: &WorldConfig,
+    config: Valid<WorldConfig>,
     reservation: Reservation<'a>,
     exchange: &'a Exchange,
-) -> Result<StationParts<'a>, u8>
-    requires { IsWorldConfig config.now }
-{
+) -> Result<StationParts<'a>, u8> {
     let frame_count = reservation.frame_count();
-    let config = config_at(side_of(request), config);
+    let config = WorldConfig::station(config, side_of(request)).get();
     Ok(StationParts {
         socket: socket(rt, request, &config, reservation, exchange)?,
         frame_count,
@@ -337,7 +330,7 @@ fn socket<'a>(
     let pace = Pace {
         rate: request.numbers.rate,
         idle: request.numbers.idle,
-        up: config.up,
+        receives: config.receives,
         beacon: Beacon::of(config),
     };
     match PeerSocket::bind(rt, listen, to, pace, reservation, exchange) {
@@ -356,12 +349,10 @@ fn socket<'a>(
 fn ran_status(
     rt: &HostRuntime,
     request: &StationRequest,
-    config: &WorldConfig,
+    config: Valid<WorldConfig>,
     parts: StationParts<'_>,
     exchange: &Exchange,
-) -> u8
-    requires { IsWorldConfig config.now }
-{
+) -> u8 {
     let (told, progress) = (Cell::new(false), Progress::new(rt));
     let context = Context {
         rt,
@@ -386,12 +377,10 @@ struct Context<'a> {
 /// Runs the station over the folder of its outbox. Without one it has no put, and asks for no file.
 fn ran(
     context: Context<'_>,
-    config: &WorldConfig,
+    config: Valid<WorldConfig>,
     parts: StationParts<'_>,
     told: &Cell<bool>,
-) -> Ran
-    requires { IsWorldConfig config.now }
-{
+) -> Ran {
     let rt = context.rt;
     let path = match &context.request.outbox {
         Some(path) => path.as_str(),
@@ -409,13 +398,11 @@ fn ran(
 /// Runs the station over this outbox and the folder of its inbox; without one it takes no file.
 fn ran_from<O: SeekingOutbox>(
     context: Context<'_>,
-    config: &WorldConfig,
+    config: Valid<WorldConfig>,
     parts: StationParts<'_>,
     outbox: O,
     told: &Cell<bool>,
-) -> Ran
-    requires { IsWorldConfig config.now }
-{
+) -> Ran {
     let rt = context.rt;
     match &context.request.inbox {
         Some(path) => match TellingInbox::new(rt, path.as_str(), told, context.progress) {
@@ -432,13 +419,11 @@ fn ran_from<O: SeekingOutbox>(
 /// Runs the station over these stores. One looks on if that is asked for.
 fn ran_over<O: SeekingOutbox, I: Inbox>(
     context: Context<'_>,
-    config: &WorldConfig,
+    config: Valid<WorldConfig>,
     parts: StationParts<'_>,
     outbox: O,
     inbox: I,
-) -> Ran
-    requires { IsWorldConfig config.now }
-{
+) -> Ran {
     let Context {
         rt,
         request,
@@ -449,9 +434,9 @@ fn ran_over<O: SeekingOutbox, I: Inbox>(
         rt,
         progress: Some(progress),
     };
-    match Onlooker::new(screen, *config, &request.shown) {
+    match Onlooker::new(screen, config, &request.shown) {
         Ok(onlooker) => {
-            let own = config_at(side_of(request), config);
+            let own = WorldConfig::station(config, side_of(request)).get();
             let lookout = LoopLookout { onlooker, progress };
             let mut notices = Notices::new(rt, lookout, exchange, own, request.to.as_str());
             let exit = reported(context, config, parts, (outbox, inbox), &mut notices);
@@ -468,13 +453,11 @@ fn ran_over<O: SeekingOutbox, I: Inbox>(
 /// turn.
 fn reported<O: SeekingOutbox, I: Inbox, L: Lookout>(
     context: Context<'_>,
-    config: &WorldConfig,
+    config: Valid<WorldConfig>,
     parts: StationParts<'_>,
     stores: (O, I),
     lookout: &mut L,
-) -> Exit
-    requires { IsWorldConfig config.now }
-{
+) -> Exit {
     let Context { rt, request, .. } = context;
     let alloc = rt.alloc();
     let StationParts {
@@ -503,15 +486,12 @@ fn reported<O: SeekingOutbox, I: Inbox, L: Lookout>(
 fn options(
     alloc: Global,
     request: &StationRequest,
-    config: &WorldConfig,
+    config: Valid<WorldConfig>,
     frame_count: u32,
-) -> Result<StationOptions, AllocError>
-    requires { IsWorldConfig config.now }
-    ensures { IfOk result (λ options. IsStationConfig options.config) }
-{
+) -> Result<StationOptions, AllocError> {
     let side = side_of(request);
     Ok(StationOptions {
-        config: config_at(side, config),
+        config: WorldConfig::station(config, side),
         frame_count,
         puts: put_names(alloc, request.puts.as_slice())?,
         side,
@@ -524,17 +504,6 @@ fn side_of(request: &StationRequest) -> Side {
         Side::One
     } else {
         Side::Two
-    }
-}
-
-/// The configuration of one of both stations.
-fn config_at(side: Side, config: &WorldConfig) -> StationConfig
-    requires { IsWorldConfig config.now }
-    ensures { IsStationConfig result }
-{
-    match side {
-        Side::One => config.one,
-        Side::Two => config.two,
     }
 }
 

@@ -1,6 +1,7 @@
 -- A step so many times, and once more; what a wire brings, and frames that leave.
 use Rattle.std.proofs.Common.{◌≡◌, ◌≢◌, ℕ, ◌+◌, ◌<◌, ◌≤◌, List, length, drop, length-drop, add-one, ap, arith, subst, sym, ◌∙◌, Option, Some, None, Ok, Err, Result, false, Bool, IsTrue, ◌↔◌, OnErr, OnOk}
 use Rattle.aos_frame.specs.Frame.{other_lane}
+use Rattle.aos_frame.specs.declared.config.ChannelConfig.{ChannelConfig}
 use Rattle.aos_frame.specs.declared.config.LinkConfig.{LinkConfig}
 use Rattle.aos_frame.specs.declared.config.Lane.{Lane}
 use Rattle.aos_frame.specs.declared.config.Lane.TheVariants.{Directives, Data}
@@ -84,8 +85,8 @@ first_fits len link capacity d is least long =
 
 pub fits_still : (len : ℕ) (old now : StationState) → KeepsLinks old.down now.down → FitsFrames len old → FitsFrames len now
 fits_still len old now kept fits = (
-  (subst (λ (c : LinkConfig). 1 ≤ c.zone) (sym kept.0) fits.0.0, subst (λ (c : LinkConfig). 1 ≤ c.zone) (sym kept.1) fits.0.1),
-  subst (λ (c : LinkConfig). len ≡ 8 + c.zone) (sym kept.0) fits.1,
+  (subst (λ (c : ChannelConfig). 1 ≤ c.zone) (sym kept.0) fits.0.0, subst (λ (c : ChannelConfig). 1 ≤ c.zone) (sym kept.1) fits.0.1),
+  subst (λ (c : ChannelConfig). len ≡ 8 + c.zone) (sym kept.0) fits.1,
 )
 
 -- a frame takes its zone off it

@@ -1,6 +1,7 @@
 //! Two ports that are joined by their wires, in turns.
 ghost use Rattle.std.specs.Prelude.{◌≡◌, ◌↔◌, ◌⊎◌, None, Some, IsTrue, OnErr, OnOk};
-ghost use Rattle.cfdp_port.specs.Pair.{IsClosed, RunsInPart, RunsTurns, TakesTurn, TurnsInPart, pair};
+ghost use Rattle.cfdp_port.specs.Pair.{IsClosed, RunsInPart, RunsTurns, TakesTurn, TurnsInPart};
+ghost use Rattle.cfdp_port.specs.Pair.{pair};
 
 use crate::lookout::Lookout;
 use crate::port::Port;

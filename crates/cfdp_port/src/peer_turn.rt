@@ -3,7 +3,8 @@ ghost use Rattle.std.specs.Prelude.{◌≡◌, ◌≢◌, ◌⊎◌, length, fal
 ghost use Rattle.link_stack.specs.Downward.{frame_lane};
 ghost use Rattle.cfdp_port.specs.Calls.{Readied};
 ghost use Rattle.cfdp_port.specs.Gains.{Gains};
-ghost use Rattle.cfdp_port.specs.PeerTurn.{PollsDry, Pulls, PullsInPart, SendsSome, SendsSomeInPart, TakesInPart, TakesOne};
+ghost use Rattle.cfdp_port.specs.PeerTurn.{PollsDry, Pulls, PullsInPart, SendsSome};
+ghost use Rattle.cfdp_port.specs.PeerTurn.{SendsSomeInPart, TakesInPart, TakesOne};
 ghost use Rattle.cfdp_port.specs.Port.{FitsFrames, KeepsLinks, port_state, table_of};
 ghost use Rattle.cfdp_port.specs.Turn.{SendsFrame};
 

@@ -2,9 +2,9 @@
 ghost use Rattle.std.specs.Prelude.{◌≡◌, drop, is_some, IfOk, OnErr, OnOk};
 ghost use Rattle.std.specs.FinMap as map;
 ghost use Rattle.cfdp_entity.specs.Entity.{phase_told};
-ghost use Rattle.cfdp_station.specs.Config.{IsStationConfig};
 ghost use Rattle.link_sim.specs.World.State.{IsNewAt};
-ghost use Rattle.cfdp_port.specs.Asking.{CountsFrom, FailsToLook, ForgetsTold, LetsGo, LooksAt, Puts};
+ghost use Rattle.cfdp_port.specs.Asking.{CountsFrom, FailsToLook, ForgetsTold, LetsGo, LooksAt};
+ghost use Rattle.cfdp_port.specs.Asking.{Puts};
 ghost use Rattle.cfdp_port.specs.Calls.{Rested};
 ghost use Rattle.cfdp_port.specs.Gains.{Gains};
 ghost use Rattle.cfdp_port.specs.PeerTurn.{TakesInPart, TakesOne};
@@ -26,6 +26,7 @@ use link_sim::{Passed, Side};
 use mpdu::MPDU_HEADER_LEN;
 use std::alloc::{AllocError, Global};
 use std::marker::Model;
+use valid_config::Valid;
 
 /// The most octets of a datagram that are looked at: more than a frame has.
 const MOST_COMING: usize = 4096;
@@ -74,17 +75,16 @@ impl<O: Outbox, I: Inbox, W: Wire> Port<O, I, W> {
     pub fn new(
         alloc: Global,
         side: Side,
-        config: StationConfig,
+        config: Valid<StationConfig>,
         stores: (O, I),
         wire: W,
     ) -> Result<Self, AllocError>
-        requires { IsStationConfig config }
         ensures station { IfOk result (λ p. IsNewAt config (O.stands stores.0) (O.files stores.0)
             (I.published stores.1) p.station) }
         ensures wire { IfOk result (λ p. p.wire ≡ wire) }
     {
         let (outbox, inbox) = stores;
-        let zone = usize::from(config.down.zone);
+        let zone = usize::from(config.get().sends.zone);
         let frame = vec![in alloc; 0u8; FRAME_HEADER_LEN + MPDU_HEADER_LEN + zone]?;
         let datagram = vec![in alloc; 0u8; MOST_COMING]?;
         // Last, so that no error lets a station go.

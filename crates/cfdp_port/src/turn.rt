@@ -2,7 +2,8 @@
 ghost use Rattle.std.specs.Prelude.{◌≡◌, ◌<◌, ◌↔◌, None, false, true, length, OnErr, OnOk};
 ghost use Rattle.link_stack.specs.Downward.{frame_lane};
 ghost use Rattle.cfdp_port.specs.Port.{FitsFrames, KeepsLinks, all_waiting, port_state};
-ghost use Rattle.cfdp_port.specs.Turn.{HearsAll, PollsInPart, PollsOut, Sends, SendsFrame, SendsInPart, SendsWhole};
+ghost use Rattle.cfdp_port.specs.Turn.{HearsAll, PollsInPart, PollsOut, Sends, SendsFrame};
+ghost use Rattle.cfdp_port.specs.Turn.{SendsInPart, SendsWhole};
 
 use crate::lookout::Lookout;
 use crate::wire::Wire;

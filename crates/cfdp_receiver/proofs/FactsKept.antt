@@ -9,7 +9,8 @@ use Rattle.cfdp_header.specs.Files.{FileMap}
 use Rattle.cfdp_directives.specs.declared.pdu.codes.Acknowledged.TheVariants as acknowledged
 use Rattle.cfdp_directives.specs.declared.user.policy.Policy.{Policy}
 use Rattle.cfdp_directives.specs.Pdu.Codes.{file_size_error}
-use Rattle.cfdp_directives.specs.Pdu.Content.{Content, FileData, Metadata, Eof, Finished, Ack, Nak, Prompt, KeepAlive, is_file_data}
+use Rattle.cfdp_header.specs.declared.value.PduType.TheVariants.{FileDirective}
+use Rattle.cfdp_directives.specs.Pdu.Content.{Content, FileData, Metadata, Eof, Finished, Ack, Nak, Prompt, KeepAlive, pdu_type_of}
 use Rattle.cfdp_extents.specs.Offsets.{Offsets, range, is_within}
 use Rattle.cfdp_store.specs.declared.stored.Stored.{Stored}
 use Rattle.cfdp_store.specs.declared.stored.Stored.TheVariants.{Done, Refused}
@@ -108,9 +109,9 @@ module _ (stored : Stored) (m : OctetMap) (files : FileMap) (r : ReceiverState) 
     pub octets : a.octets ≡ m
     pub held : a.receiver.phase ≡ Receiving → a.receiver.held ≡ r.held
 
-  hears-leaves : (large : Bool) (v : Content) → is_file_data v ≡ false → Leaves (receiver_step stored (Hears large v) m files r)
+  hears-leaves : (large : Bool) (v : Content) → pdu_type_of v ≡ FileDirective → Leaves (receiver_step stored (Hears large v) m files r)
   hears-leaves large (Metadata checksum_kind size source destination options) other = record { octets = search rules; held = search rules }
-  hears-leaves large (FileData offset bytes) other = absurd (false≢true (sym other))
+  hears-leaves large (FileData offset bytes) other = absurd cc
   hears-leaves large (Eof condition checksum size tlvs) other = record { octets = search rules; held = search rules }
   hears-leaves large (Ack acknowledged.Finished condition status) other = record { octets = refl; held = search rules }
   hears-leaves large (Ack acknowledged.Eof condition status) other = record { octets = refl; held = λ _. refl }

@@ -6,7 +6,7 @@ ghost use Rattle.cfdp_directives.specs.Pdu.Codes.{size_limit};
 ghost use Rattle.cfdp_receiver.specs.Asked.{pairs_of, with_metadata, IsFilled, IsWritable, AsksFor};
 ghost use Rattle.cfdp_receiver.specs.Missing.{asked};
 
-use cfdp_directives::Pairs;
+use cfdp_directives::SegmentRequests;
 use cfdp_extents::Gaps;
 
 /// The most pairs of one NAK.
@@ -60,11 +60,11 @@ impl Asked {
     }
 
     /// The pairs.
-    pub(crate) fn pairs(&self) -> Pairs<'_>
+    pub(crate) fn pairs(&self) -> SegmentRequests<'_>
         requires { IsFilled self.now }
         ensures { result ≡ pairs_of self.now }
     {
-        Pairs::of(&self.pairs[..self.count])
+        SegmentRequests::of(&self.pairs[..self.count])
     }
 
     /// Where the scope of the NAK ends, if nothing is missing from this limit on.

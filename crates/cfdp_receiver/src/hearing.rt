@@ -1,5 +1,6 @@
 // What a receiver hears.
-ghost use Rattle.std.specs.Prelude.{◌≡◌, ◌++◌, ◌∷◌, [], ◌+◌, ◌≤◌, true, false, IfOk, OnErr, vec_len, vec_capacity, length};
+ghost use Rattle.std.specs.Prelude.{◌≡◌, ◌++◌, ◌∷◌, [], ◌+◌, ◌≤◌, true, false, IfOk, OnErr};
+ghost use Rattle.std.specs.Prelude.{vec_len, vec_capacity, length};
 ghost use Rattle.std.specs.FinSet as set;
 ghost use Rattle.cfdp_directives.specs.User.Policy.{finished_told};
 ghost use Rattle.cfdp_directives.specs.Pdu.Codes as codes;
@@ -8,8 +9,13 @@ ghost use Rattle.cfdp_timers.specs.Effects.{HasRoom};
 ghost use Rattle.cfdp_receiver.specs.State.{IsReady, flagged};
 ghost use Rattle.cfdp_receiver.specs.Missing.{tidied};
 ghost use Rattle.cfdp_receiver.specs.Steps as steps;
-ghost use Rattle.cfdp_receiver.specs.Steps.{cancelled, given_up, contradicts, receives_metadata, receives_data, receives_new, receives_eof, first_eof, hears_metadata, hears_data, hears_eof, hears_ack, hears_prompt};
-ghost use Rattle.cfdp_receiver.specs.Does.{Advances, DoesAlone, IsOpen, Keeps, Kept, KeptAlone, LetsGo, MakesIn, Performs, Rests, at, flagging, timers_kept, timers_set};
+ghost use Rattle.cfdp_receiver.specs.Steps.{cancelled, given_up, contradicts, receives_metadata};
+ghost use Rattle.cfdp_receiver.specs.Steps.{receives_data, receives_new, receives_eof, first_eof};
+ghost use Rattle.cfdp_receiver.specs.Steps.{hears_metadata, hears_data, hears_eof, hears_ack};
+ghost use Rattle.cfdp_receiver.specs.Steps.{hears_prompt};
+ghost use Rattle.cfdp_receiver.specs.Does.{Advances, DoesAlone, IsOpen, Keeps, Kept, KeptAlone};
+ghost use Rattle.cfdp_receiver.specs.Does.{LetsGo, MakesIn, Performs, Rests, at, flagging};
+ghost use Rattle.cfdp_receiver.specs.Does.{timers_kept, timers_set};
 ghost use Rattle.cfdp_receiver.specs.Pieces.{new_pieces};
 ghost use Rattle.cfdp_receiver.specs.Storing.{Settles, Stages, staged_pieces, writes};
 

@@ -1,7 +1,9 @@
 //! Laws of a receiver's steps, each the contract of a function that does nothing: a caller's proof
 //! has them by a call. `receiver_step` is one function for every input, which computes to the step
 //! that a call's contract names.
-ghost use Rattle.std.specs.Prelude.{◌≡◌, ◌⊎◌, ℕ, ◌+◌, ◌-◌, ◌<◌, ◌≤◌, ◌&&◌, ◌||◌, not, Bool, true, false, List, [], ◌∷◌, ◌++◌, length, slice_get, is_some, count_by, Option, Some, None, IsSome, Contains, if◌then◌else◌};
+ghost use Rattle.std.specs.Prelude.{◌≡◌, ◌⊎◌, ℕ, ◌+◌, ◌-◌, ◌<◌, ◌≤◌, ◌&&◌, ◌||◌, not, Bool, true};
+ghost use Rattle.std.specs.Prelude.{false, List, [], ◌∷◌, ◌++◌, length, slice_get, is_some};
+ghost use Rattle.std.specs.Prelude.{count_by, Option, Some, None, IsSome, Contains, if◌then◌else◌};
 ghost use Rattle.std.specs.List.{list_any};
 ghost use Rattle.std.specs.FinMap as map;
 ghost use Rattle.std.specs.FinSet as set;
@@ -32,7 +34,12 @@ ghost use Rattle.cfdp_receiver.specs.Due.{receiver_due};
 ghost use Rattle.cfdp_receiver.specs.Pieces.{new_pieces, staged_with};
 ghost use Rattle.cfdp_receiver.specs.Steps.{opens, opened_closed, waits, with_data};
 ghost use Rattle.cfdp_receiver.specs.Does.{timers_set};
-ghost use Rattle.cfdp_receiver.specs.Sound.{ReceiverInput, receiver_step, opens_hearing, timers_opened, open_count, fault_count, held_after, brings_metadata, brings_ending, PublishesNone, Publishes, Sound, IsAmong, IsTrueInput, BeginsWithin, PublishesPut, is_file_fault, IsReceivable, is_lacking, is_tidy, owes_finished, is_bad_end, goes_well};
+ghost use Rattle.cfdp_receiver.specs.Sound.{ReceiverInput, receiver_step, opens_hearing};
+ghost use Rattle.cfdp_receiver.specs.Sound.{timers_opened, open_count, fault_count, held_after};
+ghost use Rattle.cfdp_receiver.specs.Sound.{brings_metadata, brings_ending, PublishesNone};
+ghost use Rattle.cfdp_receiver.specs.Sound.{Publishes, Sound, IsAmong, IsTrueInput, BeginsWithin};
+ghost use Rattle.cfdp_receiver.specs.Sound.{PublishesPut, is_file_fault, IsReceivable, is_lacking};
+ghost use Rattle.cfdp_receiver.specs.Sound.{is_tidy, owes_finished, is_bad_end, goes_well};
 ghost use Rattle.cfdp_receiver.specs.Alike.{PublishesAlike};
 
 use cfdp_directives::whole_file_has_its_checksum;

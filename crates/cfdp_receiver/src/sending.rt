@@ -7,7 +7,8 @@ ghost use Rattle.cfdp_directives.specs.Pdu.Tlv.{tlv};
 ghost use Rattle.cfdp_receiver.specs.declared.due.Due.TheVariants as due_is;
 ghost use Rattle.cfdp_receiver.specs.Asked.{IsAskedFrom};
 ghost use Rattle.cfdp_receiver.specs.Due as dues;
-ghost use Rattle.cfdp_receiver.specs.Due.{receiver_due, receiver_taken, nak_first, finished_by, due_len, location_told, IsWritableIn};
+ghost use Rattle.cfdp_receiver.specs.Due.{receiver_due, receiver_taken, nak_first, finished_by};
+ghost use Rattle.cfdp_receiver.specs.Due.{due_len, location_told, IsWritableIn};
 ghost use Rattle.cfdp_receiver.specs.Said.{said_len, CanSay, IsLenOf, Says, Writes};
 ghost use Rattle.cfdp_receiver.specs.Steps as steps;
 ghost use Rattle.cfdp_receiver.specs.Steps.{takes};
@@ -66,8 +67,8 @@ impl Receiver {
         len
     }
 
-    /// What is due.
-    fn next_due(&self) -> Option<Due>
+    /// What is due: the PDU that [`take_pdu`](Self::take_pdu) would write now.
+    pub fn next_due(&self) -> Option<Due>
         ensures due { result ≡ receiver_due self.now }
         ensures writable { IfSome result (λ d. IsWritableIn self.now d) }
     {
@@ -241,7 +242,7 @@ impl Receiver {
         Pdu::Nak {
             start: cursor,
             end: asked.scope_end(self.scope_limit()),
-            pairs: asked.pairs(),
+            requests: asked.pairs(),
         }
     }
 

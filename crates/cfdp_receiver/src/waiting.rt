@@ -4,8 +4,10 @@ ghost use Rattle.cfdp_timers.specs.declared.kind.Kind.TheVariants as kinds;
 ghost use Rattle.cfdp_timers.specs.Effects.{HasRoom, UsesAtMost};
 ghost use Rattle.cfdp_receiver.specs.State.{IsReady};
 ghost use Rattle.cfdp_receiver.specs.Steps as steps;
-ghost use Rattle.cfdp_receiver.specs.Steps.{handled, expires_by, expires, cancels, suspends, resumes};
-ghost use Rattle.cfdp_receiver.specs.Does.{Advances, DoesAlone, IsOpen, Kept, KeptAlone, LeavesAlone, MakesIn, Performs, timers_set};
+ghost use Rattle.cfdp_receiver.specs.Steps.{handled, expires_by, expires, cancels, suspends};
+ghost use Rattle.cfdp_receiver.specs.Steps.{resumes};
+ghost use Rattle.cfdp_receiver.specs.Does.{Advances, DoesAlone, IsOpen, Kept, KeptAlone};
+ghost use Rattle.cfdp_receiver.specs.Does.{LeavesAlone, MakesIn, Performs, timers_set};
 ghost use Rattle.cfdp_receiver.specs.Storing.{Settles};
 
 use crate::receiver::Receiver;

@@ -146,12 +146,12 @@ link_of Two zone = record {
   apid = 101;
 }
 
--- a station takes the frames that the other sends
+-- a station receives the frames that the other sends
 abbrev pub station_of : Settings → Side → StationConfig
 station_of s side = record {
   entity = entity_of s side;
-  down = link_of side s.zone;
-  up = link_of (sides.other side) s.zone;
+  sends = link_of side s.zone;
+  receives = link_of (sides.other side) s.zone;
   capacity = 16384;
 }
 
@@ -160,14 +160,14 @@ abbrev pub pair_of : Settings → (first second : ℕ) → (one two : LinkConfig
 pair_of s first second one two = record {
   one = record {
     entity = record (entity_of s One) { entity = first; peer = second };
-    down = one;
-    up = two;
+    sends = one;
+    receives = two;
     capacity = 16384;
   };
   two = record {
     entity = record (entity_of s Two) { entity = second; peer = first };
-    down = two;
-    up = one;
+    sends = two;
+    receives = one;
     capacity = 16384;
   };
 }

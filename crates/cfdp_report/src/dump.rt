@@ -1,7 +1,7 @@
 //! What octets spell, as a line.
 ghost use Rattle.std.specs.Prelude.{◌≡◌, ◌≢◌, drop, IfOk, OnOk, Some};
 ghost use Rattle.std.specs.Result.{result_err};
-ghost use Rattle.aos_frame.specs.Frame.{SpellsFrame, frame_fault, own_link};
+ghost use Rattle.aos_frame.specs.Frame.{SpellsFrame, frame_fault, own_channel};
 ghost use Rattle.mpdu.specs.MpduHeader.{pointer_of};
 ghost use Rattle.cfdp_report.specs.Dump.Lines.{TellsAsFrame, TellsAsPdu, WritesLine};
 
@@ -53,9 +53,9 @@ pub fn write_frame<W: Write>(octets: &[u8], zone: u16, long: bool, out: &mut W) 
 /// of another link.
 fn read_frame(octets: &[u8], zone: u16) -> Result<FrameLine, FrameError>
     ensures found { IfOk result (λ frame. SpellsFrame
-        (own_link octets.now zone) frame.header octets.now) }
+        (own_channel octets.now zone) frame.header octets.now) }
     ensures pointer { IfOk result (λ frame. frame.pointer ≡ pointer_of (drop 6 octets.now)) }
-    ensures refused { result_err result ≡ frame_fault octets.now (own_link octets.now zone) }
+    ensures refused { result_err result ≡ frame_fault octets.now (own_channel octets.now zone) }
     ensures own { (result_err result ≢ Some FrameError.OtherSpacecraft)
         × (result_err result ≢ Some FrameError.OtherChannel) }
 {

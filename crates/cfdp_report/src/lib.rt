@@ -1,5 +1,5 @@
-//! What every command of the program shares: the words of reports and of dumps, how a run ends, what
-//! can be set, and one who looks on while stations run.
+//! What every command of the program shares: the words of reports and of dumps, how a run ends,
+//! what can be set, and one who looks on while stations run.
 //!
 //! Tested by `tests/rows/`, through the programs above.
 #![tactic(auto)]

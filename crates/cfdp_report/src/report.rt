@@ -2,7 +2,8 @@
 ghost use Rattle.std.specs.Io.KnownBytes.{Appends};
 ghost use Rattle.std.specs.List.{flat_map};
 ghost use Rattle.std.specs.Prelude.{◌≡◌, Some, OnOk, count_by};
-ghost use Rattle.cfdp_report.specs.Report.Lines.{answer_line, indication_line, indication_text, is_own_completion, told_text};
+ghost use Rattle.cfdp_report.specs.Report.Lines.{answer_line, indication_line, indication_text};
+ghost use Rattle.cfdp_report.specs.Report.Lines.{is_own_completion, told_text};
 
 pub mod answer;
 pub mod condition;

@@ -1,7 +1,10 @@
 //! What can be set of stations.
 ghost use Rattle.std.specs.Prelude.{◌≡◌, ◌<◌, ◌^◌, ◌↔◌, IsSome, IfSome};
 ghost use Rattle.link_sim.specs.Stations.{IsWorldConfig};
-ghost use Rattle.cfdp_report.specs.Settings.{pair_of, world_of, station_of, entity_of, policy_of, limits_of, times_of, handlers_of, handler_of, link_of, FitFields, FitSending, FitPolicy, FitLimits, FitTimes, FitHandlers};
+ghost use Rattle.cfdp_report.specs.Settings.{pair_of, world_of, station_of, entity_of, policy_of};
+ghost use Rattle.cfdp_report.specs.Settings.{limits_of, times_of, handlers_of, handler_of, link_of};
+ghost use Rattle.cfdp_report.specs.Settings.{FitFields, FitSending, FitPolicy, FitLimits, FitTimes};
+ghost use Rattle.cfdp_report.specs.Settings.{FitHandlers};
 
 pub mod table;
 
@@ -10,6 +13,7 @@ use cfdp_directives::{ChecksumKind, Handler, Handlers, Limits, Policy, Times};
 use cfdp_entity::EntityConfig;
 use cfdp_station::{LinkConfig, StationConfig};
 use link_sim::{Side, WorldConfig};
+use valid_config::{Config, Valid};
 
 /// The values that were set so far, in range or not: each that of the [`Setting`] of its name.
 #[derive(Clone, Copy)]
@@ -113,7 +117,7 @@ impl Settings {
 
     /// The configuration of both stations with these values, where each fits its field and the
     /// whole is valid.
-    pub fn config(&self) -> Option<WorldConfig>
+    pub fn config(&self) -> Option<Valid<WorldConfig>>
         ensures some { IsSome result ↔ (FitFields self.now × IsWorldConfig (world_of self.now)) }
         ensures same { IfSome result (λ config. config ≡ world_of self.now) }
     {
@@ -121,11 +125,7 @@ impl Settings {
             one: self.station(Side::One)?,
             two: self.station(Side::Two)?,
         };
-        if config.is_valid() {
-            Some(config)
-        } else {
-            None
-        }
+        config.validate().ok()
     }
 
     /// The configurations of two stations with these ids and links, where each value fits its field
@@ -136,37 +136,24 @@ impl Settings {
         second: u64,
         one: LinkConfig,
         two: LinkConfig,
-    ) -> Option<WorldConfig>
-        ensures valid { IfSome result IsWorldConfig }
+    ) -> Option<Valid<WorldConfig>>
         ensures same { IfSome result (λ config. config ≡ pair_of self.now first second one two) }
     {
-        let config = WorldConfig {
-            one: StationConfig {
-                entity: EntityConfig {
-                    entity: first,
-                    peer: second,
-                    ..self.entity(Side::One)?
-                },
-                down: one,
-                up: two,
-                capacity: 16_384,
-            },
-            two: StationConfig {
-                entity: EntityConfig {
-                    entity: second,
-                    peer: first,
-                    ..self.entity(Side::Two)?
-                },
-                down: two,
-                up: one,
-                capacity: 16_384,
-            },
+        let first_entity = EntityConfig {
+            entity: first,
+            peer: second,
+            ..self.entity(Side::One)?
         };
-        if config.is_valid() {
-            Some(config)
-        } else {
-            None
-        }
+        let second_entity = EntityConfig {
+            entity: second,
+            peer: first,
+            ..self.entity(Side::Two)?
+        };
+        let config = WorldConfig {
+            one: StationConfig::new(first_entity, one, two),
+            two: StationConfig::new(second_entity, two, one),
+        };
+        config.validate().ok()
     }
 
     /// The configuration of a station, where each value fits its field.
@@ -175,12 +162,11 @@ impl Settings {
         ensures same { IfSome result (λ config. config ≡ station_of self.now side) }
     {
         let zone = u16::try_from(self.zone).ok()?;
-        Some(StationConfig {
-            entity: self.entity(side)?,
-            down: link(side, zone),
-            up: link(side.other(), zone),
-            capacity: 16_384,
-        })
+        Some(StationConfig::new(
+            self.entity(side)?,
+            link(side, zone),
+            link(side.other(), zone),
+        ))
     }
 
     fn entity(&self, side: Side) -> Option<EntityConfig>

@@ -1,10 +1,10 @@
 //! Scripts, from their text to their run.
 ghost use Rattle.std.specs.Prelude.{◌≡◌, ◌≤◌, None, Some, length, option_map, IfOk, IfErr, OnOk};
-ghost use Rattle.link_sim.specs.Stations.{IsWorldConfig};
 ghost use Rattle.cfdp_report.specs.Settings.{world_of};
 ghost use Rattle.cfdp_script.specs.Script.Words.{parts};
 ghost use Rattle.cfdp_script.specs.Script.Lines as scripts;
-ghost use Rattle.cfdp_script.specs.Script.Lines.{files_of, steps_of, settings_of, numbered, IsFirst};
+ghost use Rattle.cfdp_script.specs.Script.Lines.{files_of, steps_of, settings_of, numbered};
+ghost use Rattle.cfdp_script.specs.Script.Lines.{IsFirst};
 ghost use Rattle.cfdp_script.specs.Script.Gathering.{gathered, noted, taken, read_into, gather};
 
 pub mod command;
@@ -21,6 +21,7 @@ use crate::script::words::cut_at_first;
 use cfdp_report::{BadLine, LineError, Setting, Settings};
 use link_sim::WorldConfig;
 use std::alloc::{AllocError, Global};
+use valid_config::Valid;
 
 /// A script, read to its end.
 #[derive(Drop)]
@@ -160,8 +161,7 @@ impl Script {
     /// # Errors
     ///
     /// The first bad line. One that leaves a configuration that isn't valid is the last `set`.
-    pub fn config(&self) -> Result<WorldConfig, BadLine>
-        ensures valid { IfOk result IsWorldConfig }
+    pub fn config(&self) -> Result<Valid<WorldConfig>, BadLine>
         ensures same { IfOk result (λ config. config ≡ world_of self.now.settings) }
         ensures good { OnOk result (IsFirst (option_map (λ bad. bad.line) self.now.first_bad)
             self.now.last_set self.now.settings None) }

@@ -1,12 +1,14 @@
 // What a sender sends next, and what that PDU says.
-ghost use Rattle.std.specs.Prelude.{◌≡◌, ◌+◌, ◌<◌, ◌≤◌, ℕ, List, [], length, take, drop, true, Some, is_some, IfSome};
+ghost use Rattle.std.specs.Prelude.{◌≡◌, ◌+◌, ◌<◌, ◌≤◌, ℕ, List, [], length, take, drop, true};
+ghost use Rattle.std.specs.Prelude.{Some, is_some, IfSome};
 ghost use Rattle.std.specs.Option.{option_map};
 ghost use Rattle.cfdp_directives.specs.Pdu.Codes as codes;
 ghost use Rattle.cfdp_directives.specs.Pdu.Content.{FileData, view};
 ghost use Rattle.cfdp_directives.specs.Pdu.Addressing.{header_of, written_len};
 ghost use Rattle.cfdp_directives.specs.Pdu.Written.{CanWrite};
 ghost use Rattle.cfdp_sender.specs.Due as dues;
-ghost use Rattle.cfdp_sender.specs.Due.{sender_due, sender_says, pdu_says, carried, carries, carries_by, extent_of};
+ghost use Rattle.cfdp_sender.specs.Due.{sender_due, sender_says, pdu_says, carried, carries};
+ghost use Rattle.cfdp_sender.specs.Due.{carries_by, extent_of};
 
 use crate::phase::SenderPhase;
 use crate::sender::Sender;
@@ -45,7 +47,7 @@ impl Sender {
     {
         // For the prover: the invariant.
         let _size = self.size;
-        let due = self.next()?;
+        let due = self.next_due()?;
         let (_, carried) = self.extent(&due);
         let large = self.is_large();
         Some(self.addressing.written_len(large, &self.says(&due)) + carried)
@@ -55,14 +57,14 @@ impl Sender {
     pub fn is_due(&self) -> bool
         ensures { result ≡ is_some (sender_due self.now) }
     {
-        self.next().is_some()
+        self.next_due().is_some()
     }
 
     /// Whether the PDU that is due is file data; all others are directives.
     pub fn has_data_due(&self) -> bool
         ensures { result ≡ carries_by (sender_due self.now) }
     {
-        match self.next() {
+        match self.next_due() {
             Some(SenderDue::AskedData(_, _) | SenderDue::NewData(_, _)) => true,
             Some(
                 SenderDue::AckOfFinished(_)
@@ -107,8 +109,8 @@ impl Sender {
         }
     }
 
-    // What is due.
-    pub(crate) fn next(&self) -> Option<SenderDue>
+    /// What is due: the PDU that [`take_pdu`](Self::take_pdu) would write now.
+    pub fn next_due(&self) -> Option<SenderDue>
         ensures { result ≡ sender_due self.now }
     {
         if self.suspended {

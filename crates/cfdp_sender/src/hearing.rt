@@ -7,7 +7,7 @@ ghost use Rattle.cfdp_sender.specs.Does.{HasTimers, Leaves, Does, AsksSome};
 
 use crate::phase::SenderPhase;
 use crate::sender::Sender;
-use cfdp_directives::{Condition, Indication, Outcome, Pairs, Policy, tell};
+use cfdp_directives::{Condition, Indication, Outcome, Policy, SegmentRequests, tell};
 use cfdp_timers::{Effects, Kind};
 use std::alloc::AllocError;
 
@@ -119,7 +119,7 @@ impl Sender {
         &mut self,
         effects: &mut Effects,
         policy: &Policy,
-        pairs: &Pairs<'_>,
+        pairs: &SegmentRequests<'_>,
     ) -> Result<(), AllocError>
         requires timers { HasTimers self.old effects.old.timers }
         ensures does { OnOk result (Does policy.now.times
@@ -134,7 +134,7 @@ impl Sender {
     }
 
     // The row of a NAK.
-    fn hear_nak(&mut self, pairs: &Pairs<'_>) -> Result<(), AllocError>
+    fn hear_nak(&mut self, pairs: &SegmentRequests<'_>) -> Result<(), AllocError>
         ensures ok { OnOk result (self.new ≡ steps.asks_in self.old.phase pairs.now self.old) }
         ensures err { OnErr result (AsksSome pairs.now self.old self.new) }
         ensures same { self.new.addressing ≡ self.old.addressing }
@@ -146,7 +146,7 @@ impl Sender {
     }
 
     // Asks for what each pair of a NAK names.
-    fn ask_all(&mut self, pairs: &Pairs<'_>) -> Result<(), AllocError>
+    fn ask_all(&mut self, pairs: &SegmentRequests<'_>) -> Result<(), AllocError>
         ensures ok { OnOk result (self.new ≡ steps.asks_all pairs.now self.old) }
         ensures err { OnErr result (self.old.phase ≡ phases.Sending →
             AsksSome pairs.now self.old self.new) }

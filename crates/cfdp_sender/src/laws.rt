@@ -1,5 +1,6 @@
 //! Laws of senders, each the contract of a function that does nothing.
-ghost use Rattle.std.specs.Prelude.{◌≡◌, ◌≤◌, ℕ, false, List, [], ◌∷◌, length, take, is_some, Option, Some, Contains};
+ghost use Rattle.std.specs.Prelude.{◌≡◌, ◌≤◌, ℕ, false, List, [], ◌∷◌, length, take, is_some};
+ghost use Rattle.std.specs.Prelude.{Option, Some, Contains};
 ghost use Rattle.cfdp_header.specs.declared.value.TransactionId.{TransactionId};
 ghost use Rattle.cfdp_header.specs.Ids.{same_id};
 ghost use Rattle.cfdp_timers.specs.declared.kind.Kind.{Kind};
@@ -23,7 +24,9 @@ ghost use Rattle.cfdp_sender.specs.InFile.{IsInFile};
 ghost use Rattle.cfdp_sender.specs.Due.{sender_due, sender_says};
 ghost use Rattle.cfdp_sender.specs.Steps.{sender_waits};
 ghost use Rattle.cfdp_sender.specs.Does.{AsksSome, timers_set};
-ghost use Rattle.cfdp_sender.specs.Inputs.{SenderInput, HearsFinished, MayHappen, sender_step, put_of, IsSenderOf, FinishesOnce, IsFailedRead, delivered, RestsOnceClosed};
+ghost use Rattle.cfdp_sender.specs.Inputs.{SenderInput, HearsFinished, MayHappen, sender_step};
+ghost use Rattle.cfdp_sender.specs.Inputs.{put_of, IsSenderOf, FinishesOnce, IsFailedRead};
+ghost use Rattle.cfdp_sender.specs.Inputs.{delivered, RestsOnceClosed};
 
 /// What a sender is to send stays the same, whatever happens to it: the transaction, its two ends,
 /// the names and the size. So its file is still there, and its timers still have room.

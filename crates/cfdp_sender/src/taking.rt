@@ -1,5 +1,7 @@
 // Sending the PDU that is due.
-ghost use Rattle.std.specs.Prelude.{◌≡◌, ◌+◌, ◌≤◌, ◌++◌, [], length, take, drop, vec_len, vec_capacity, true, IfOk, IfSome, OnErr, OnOk, IsSome, Some, is_ok, false};
+ghost use Rattle.std.specs.Prelude.{◌≡◌, ◌+◌, ◌≤◌, ◌++◌, [], length, take, drop, vec_len};
+ghost use Rattle.std.specs.Prelude.{vec_capacity, true, IfOk, IfSome, OnErr, OnOk, IsSome, Some};
+ghost use Rattle.std.specs.Prelude.{is_ok, false};
 ghost use Rattle.std.specs.FinMap as map;
 ghost use Rattle.cfdp_directives.specs.Pdu.Addressing.{written_len, data_front_len};
 ghost use Rattle.cfdp_directives.specs.Pdu.Codes as codes;
@@ -61,7 +63,7 @@ impl Sender {
     {
         // For the prover: the invariant.
         let _size = self.size;
-        let Some(due) = self.next() else {
+        let Some(due) = self.next_due() else {
             return Taken::Nothing;
         };
         let len = match self.write_due(outbox, &due, out) {

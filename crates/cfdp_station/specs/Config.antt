@@ -7,7 +7,7 @@ use Rattle.cfdp_station.specs.declared.config.StationConfig.{StationConfig}
 -- A station can be set up so.
 pub record IsStationConfig (c : StationConfig) : Type 0 where
   pub entity : IsConfig c.entity
-  pub down : IsLink c.down
-  pub up : IsLink c.up
+  pub sends : IsLink c.sends
+  pub receives : IsLink c.receives
   pub least : 8192 ≤ c.capacity
   pub most : c.capacity ≤ 65536

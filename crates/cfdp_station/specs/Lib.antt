@@ -6,3 +6,4 @@ pub mod Polling
 pub mod Taking
 pub mod Requests
 pub mod Transmitting
+pub mod Counters

@@ -4,7 +4,8 @@ ghost use Rattle.std.specs.FinMap as map;
 ghost use Rattle.std.specs.Option.{option_map};
 ghost use Rattle.cfdp_entity.specs.Entity as entities;
 ghost use Rattle.cfdp_entity.specs.Entity.{with_table};
-ghost use Rattle.cfdp_entity.specs.Forgetting.{Forgets, ForgetsSome, HasNoneOver, IsForgetRefusal, forget_refusal, without_file};
+ghost use Rattle.cfdp_entity.specs.Forgetting.{Forgets, ForgetsSome, HasNoneOver, IsForgetRefusal};
+ghost use Rattle.cfdp_entity.specs.Forgetting.{forget_refusal, without_file};
 ghost use Rattle.cfdp_entity.specs.Table.{next_told, without_told};
 ghost use Rattle.cfdp_station.specs.Station.{KeepsLink};
 

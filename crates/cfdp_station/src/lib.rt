@@ -6,22 +6,19 @@
 //! in order.
 //!
 //! ```
-//! let down = LinkConfig {
+//! let sends = LinkConfig {
 //!     spacecraft: 42,
 //!     channel: 1,
 //!     data_channel: 3,
 //!     zone: 1024,
 //!     apid: 100,
 //! };
-//! let up = LinkConfig {
+//! let receives = LinkConfig {
 //!     channel: 2,
 //!     data_channel: 4,
-//!     ..down
+//!     ..sends
 //! };
-//! let config = StationConfig::new(EntityConfig::new(1, 2), down, up);
-//! if let Some(field) = config.amiss() {
-//!     eprintln!(rt; "it can't be set up so: {field}")?;
-//! }
+//! let config = StationConfig::new(EntityConfig::new(1, 2), sends, receives).validate()?;
 //! let mut station = Station::new(alloc, config, outbox, inbox)?;
 //! station.put(b"a.txt", b"b.txt")?;
 //!
@@ -36,6 +33,7 @@
 
 mod amiss;
 mod config;
+mod counters;
 mod forgetting;
 mod looking;
 mod moving;
@@ -43,7 +41,7 @@ mod polled;
 mod station;
 mod transmitting;
 
-pub use amiss::{LinkField, StationField};
+pub use amiss::StationField;
 pub use aos_frame::FrameError;
 pub use cfdp_directives::{
     ChecksumKind, Condition, Delivery, FileStatus, Handler, Handlers, Indication, Limits, Octets,
@@ -51,11 +49,13 @@ pub use cfdp_directives::{
 };
 pub use cfdp_entity::{
     AddError, EntityConfig, EntityDrop, EntityField, ForgetError, PutError, Request, RequestError,
-    Transactions,
+    SentPdus, Transactions,
 };
 pub use cfdp_header::{HeaderError, TransactionId};
 pub use cfdp_store::{Inbox, Outbox, SeekingOutbox, SteadyOutbox, StoreError};
-pub use config::StationConfig;
-pub use link_stack::{Lane, LinkConfig, LinkDrop};
+pub use config::{DEFAULT_CAPACITY, LEAST_CAPACITY, MOST_CAPACITY, StationConfig};
+pub use counters::{Counters, FrameDrops, PduDrops};
+pub use link_stack::{Lane, LinkConfig, LinkDrop, LinkField};
 pub use polled::Polled;
 pub use station::Station;
+pub use valid_config::{Config, Valid};

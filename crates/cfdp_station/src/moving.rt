@@ -98,7 +98,7 @@ pub(crate) fn move_one<O: Outbox, I: Inbox>(
 fn hear_one<O: Outbox, I: Inbox>(entity: &mut Entity<O, I>, pdu: &[u8])
     ensures { HearsPdu pdu.now entity.old entity.new }
 {
-    let _ = entity.hear(pdu);
+    let _ = entity.receive(pdu);
 }
 
 /// The entity hears these PDUs, in order. What it drops it counts, and hears the next.

@@ -1,9 +1,13 @@
 //! An entity over both directions of a link.
-ghost use Rattle.std.specs.Prelude.{◌≡◌, ℕ, ◌+◌, ◌*◌, ◌<◌, ◌≤◌, ◌↔◌, Bool, List, [], true, false, drop, length, max, get_or, is_ok, is_some, IfOk, IfErr, MatchOption, None, IfSome, OnOk, OnErr};
+ghost use Rattle.std.specs.Prelude.{◌≡◌, ℕ, ◌+◌, ◌*◌, ◌<◌, ◌≤◌, ◌↔◌, Bool, List, [], true, false};
+ghost use Rattle.std.specs.Prelude.{drop, length, max, get_or, is_ok, is_some, IfOk, IfErr};
+ghost use Rattle.std.specs.Prelude.{MatchOption, None, IfSome, OnOk, OnErr};
 ghost use Rattle.std.specs.FinMap as map;
 ghost use Rattle.mpdu.specs.Stream.{ArePackets};
-ghost use Rattle.aos_frame.specs.Frame.{lane_link, other_lane};
-ghost use Rattle.link_stack.specs.Downward.{Flushes, IsDown, KeepsLanes, MakesFrame, both_counted_from, first_down, frame_lane, idle_zones, lane_down};
+ghost use Rattle.aos_frame.specs.Frame.{lane_channel, other_lane};
+ghost use Rattle.link_stack.specs.Downward.{Flushes, IsDown, KeepsLanes, MakesFrame};
+ghost use Rattle.link_stack.specs.Downward.{both_counted_from, first_down, frame_lane, idle_zones};
+ghost use Rattle.link_stack.specs.Downward.{lane_down};
 ghost use Rattle.link_stack.specs.Drops as of_link;
 ghost use Rattle.link_stack.specs.Frames.{AreOfLink};
 ghost use Rattle.link_stack.specs.Upward.{IsUpOf, drop_count, first_up, lane_up};
@@ -12,18 +16,19 @@ ghost use Rattle.cfdp_timers.specs.ButInactivity.{OnlyInactivity, IsLeastOther};
 ghost use Rattle.cfdp_store.specs.Chains.{Raises};
 ghost use Rattle.cfdp_store.specs.Stores.{failures_after};
 ghost use Rattle.cfdp_entity.specs.Adding.{AddsFile, RefusesToAdd};
-ghost use Rattle.cfdp_entity.specs.Entity.{entity_lent, entity_standing, first_entity, with_table, phase_told};
+ghost use Rattle.cfdp_entity.specs.Entity.{entity_lent, entity_standing, first_entity, with_table};
+ghost use Rattle.cfdp_entity.specs.Entity.{phase_told};
 ghost use Rattle.cfdp_entity.specs.Errors.{drop_number};
 ghost use Rattle.cfdp_entity.specs.Gives.{CountsOutbox};
 ghost use Rattle.cfdp_entity.specs.Looking.{LooksUp};
 ghost use Rattle.cfdp_entity.specs.Polling.{TakesTurn, turn};
-ghost use Rattle.cfdp_entity.specs.Putting.{Accepts, put_refusal, IsPutRefusal, stored_by_error, was_answered};
+ghost use Rattle.cfdp_entity.specs.Putting.{Accepts, put_refusal, IsPutRefusal, stored_by_error};
+ghost use Rattle.cfdp_entity.specs.Putting.{was_answered};
 ghost use Rattle.cfdp_entity.specs.Sound.{SpellsTurn, longest_pdu};
 ghost use Rattle.cfdp_entity.specs.Storing.{AsksToTick};
 ghost use Rattle.cfdp_entity.specs.Table.{Ticks};
 ghost use Rattle.cfdp_entity.specs.declared.request.Request.TheVariants as requests;
 ghost use Rattle.cfdp_station.specs.declared.polled.Polled.TheVariants as answers;
-ghost use Rattle.cfdp_station.specs.Config.{IsStationConfig};
 ghost use Rattle.cfdp_station.specs.Link.{FlushesBoth, WaitAtMost, HoldsAtMost};
 ghost use Rattle.cfdp_station.specs.Polling.{Polls, Shows, next_len, next_room, stored_by_poll};
 ghost use Rattle.cfdp_station.specs.Requests.{StationAnswers};
@@ -40,6 +45,7 @@ use cfdp_store::{Inbox, MemoryOutbox, Outbox, SeekingOutbox, StoreError};
 use link_stack::{Down, Lane, LinkDrop, Up};
 use std::alloc::{AllocError, Global};
 use std::marker::Model;
+use valid_config::Valid;
 
 /// An entity of CFDP, class 2, with both its stores and both directions of its link.
 ///
@@ -85,29 +91,29 @@ impl<O: Outbox, I: Inbox> Station<O, I> {
     /// `AllocError` only where the memory for the entity, or for a buffer, was refused.
     pub fn new(
         alloc: Global,
-        config: StationConfig,
+        config: Valid<StationConfig>,
         outbox: O,
         inbox: I,
     ) -> Result<Self, AllocError>
-        requires { IsStationConfig config }
         ensures entity { IfOk result (λ s. s.entity.state ≡ entity_standing (O.stands outbox)
             (first_entity (O.files outbox) (I.published inbox) config.entity)) }
         ensures inbox { IfOk result (λ s. s.entity.inbox_failures ≡ I.failures inbox) }
         ensures outbox { IfOk result (λ s. s.entity.outbox_failures ≡ O.failures outbox) }
         ensures down { IfOk result (λ s. s.down
-            ≡ first_down config.down config.capacity) }
-        ensures up { IfOk result (λ s. s.up ≡ first_up config.up) }
+            ≡ first_down config.sends config.capacity) }
+        ensures up { IfOk result (λ s. s.up ≡ first_up config.receives) }
         // The stream of each lane is empty, and it is as no frame of a stream leaves it.
         ensures sent { (lane : Lane) → IfOk result (λ s. IsDown (lane_down lane s.down) [] 0) }
         ensures taken { (lane : Lane) (all : Bool) (ps : List (List ℕ)) → ArePackets ps →
-            AreOfLink (lane_link lane config.up) ps →
+            AreOfLink (lane_channel lane config.receives) ps →
             IfOk result (λ s. IsUpOf all (lane_up lane s.up) ps [] 0) }
     {
-        let down = Down::new(alloc, config.down, config.capacity)?;
-        let up = Up::new(alloc, config.up)?;
+        let config = config.get();
+        let down = Down::new(alloc, Valid::known(config.sends), config.capacity)?;
+        let up = Up::new(alloc, Valid::known(config.receives))?;
         let buffer = vec![in alloc; 0u8; config.capacity]?;
         // Last, so that no error lets an entity go.
-        let entity = Entity::new(alloc, config.entity, outbox, inbox)?;
+        let entity = Entity::new(alloc, Valid::known(config.entity), outbox, inbox)?;
         Ok(Station {
             entity,
             down,
@@ -389,7 +395,7 @@ impl<O: Outbox, I: Inbox> Station<O, I> {
         ensures { TakesFrame frame.now self.old self.new }
     {
         self.given.clear();
-        self.up.take(frame, &mut self.given);
+        self.up.receive(frame, &mut self.given);
         hear_all(&mut self.entity, &self.given);
     }
 

@@ -4,7 +4,8 @@ ghost use Rattle.cfdp_store.specs.Rereading.{LooksFor, Rereads};
 ghost use Rattle.cfdp_store.specs.Shown.{seen_by};
 ghost use Rattle.cfdp_store.specs.Stores.{failures_after};
 ghost use Rattle.std.specs.FinMap as map;
-ghost use Rattle.std.specs.Prelude.{◌≡◌, ◌+◌, ◌≤◌, ◌↔◌, Err, true, false, is_some, IsSome, IfOk, OnErr, OnOk, length, take, drop};
+ghost use Rattle.std.specs.Prelude.{◌≡◌, ◌+◌, ◌≤◌, ◌↔◌, Err, true, false, is_some, IsSome, IfOk};
+ghost use Rattle.std.specs.Prelude.{OnErr, OnOk, length, take, drop};
 
 use crate::catalog::Catalog;
 use crate::sources::Sources;

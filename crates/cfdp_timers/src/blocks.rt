@@ -1,5 +1,6 @@
 // Deadlines by place, and the earliest of each block of them.
-ghost use Rattle.std.specs.Prelude.{◌≡◌, ◌+◌, ◌*◌, ◌/◌, ◌≤◌, ◌<◌, ◌++◌, [], ◌∷◌, None, ◌-◌, length, take, drop, get_or, slice_set, swap_remove, OnOk, OnErr};
+ghost use Rattle.std.specs.Prelude.{◌≡◌, ◌+◌, ◌*◌, ◌/◌, ◌≤◌, ◌<◌, ◌++◌, [], ◌∷◌, None, ◌-◌, length};
+ghost use Rattle.std.specs.Prelude.{take, drop, get_or, slice_set, swap_remove, OnOk, OnErr};
 ghost use Rattle.cfdp_timers.specs.Entries as kept;
 ghost use Rattle.cfdp_timers.specs.Entries.{AreFirsts};
 

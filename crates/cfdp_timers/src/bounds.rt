@@ -1,5 +1,6 @@
 // A bound for each block of places: a time before which none of its timers is due.
-ghost use Rattle.std.specs.Prelude.{◌≡◌, ℕ, ◌<◌, ◌≤◌, ◌++◌, ◌-◌, ◌^◌, [], ◌∷◌, true, length, get_or, slice_set, OnOk, OnErr};
+ghost use Rattle.std.specs.Prelude.{◌≡◌, ℕ, ◌<◌, ◌≤◌, ◌++◌, ◌-◌, ◌^◌, [], ◌∷◌, true, length};
+ghost use Rattle.std.specs.Prelude.{get_or, slice_set, OnOk, OnErr};
 ghost use Rattle.cfdp_timers.specs.Entries.{lowered};
 
 use std::alloc::{AllocError, Global};

@@ -4,7 +4,8 @@ ghost use Rattle.std.specs.Option.{option_map_or};
 ghost use Rattle.cfdp_header.specs.declared.value.TransactionId.{TransactionId};
 ghost use Rattle.cfdp_timers.specs.declared.kind.Kind.{Kind};
 ghost use Rattle.cfdp_timers.specs.Entries as kept;
-ghost use Rattle.cfdp_timers.specs.Entries.{deadline_at, with_deadline, alarm_if, alarms_of, entry_of, other_of};
+ghost use Rattle.cfdp_timers.specs.Entries.{deadline_at, with_deadline, alarm_if, alarms_of};
+ghost use Rattle.cfdp_timers.specs.Entries.{entry_of, other_of};
 
 use crate::Kind;
 use crate::alarm::Alarm;

@@ -1,6 +1,7 @@
 // The deadlines of each transaction; beside them, by place, the earliest but Inactivity's, and, by
 // block, the bounds.
-ghost use Rattle.std.specs.Prelude.{◌≡◌, ◌*◌, ◌/◌, ◌<◌, ◌≤◌, ◌++◌, [], ◌∷◌, true, None, IsSome, OnOk, OnErr, cond, length, get_or, slice_set};
+ghost use Rattle.std.specs.Prelude.{◌≡◌, ◌*◌, ◌/◌, ◌<◌, ◌≤◌, ◌++◌, [], ◌∷◌, true, None, IsSome};
+ghost use Rattle.std.specs.Prelude.{OnOk, OnErr, cond, length, get_or, slice_set};
 ghost use Rattle.std.specs.List.{IsDistinct};
 ghost use Rattle.std.specs.Map.{keys_of, lookup};
 ghost use Rattle.std.specs.FinSet as set;
@@ -9,7 +10,8 @@ ghost use Rattle.indexmap.specs.IndexMap.{get, spare, set_value_at};
 ghost use Rattle.cfdp_header.specs.Ids.{id_cmp, same_id};
 ghost use Rattle.cfdp_timers.specs.declared.kind.Kind.TheVariants.{Inactivity};
 ghost use Rattle.cfdp_timers.specs.Armed.{with_timer};
-ghost use Rattle.cfdp_timers.specs.Entries.{AreBounds, no_deadlines, deadlines_in, with_deadline, other_of, others_of, roomy_of, armed_of};
+ghost use Rattle.cfdp_timers.specs.Entries.{AreBounds, no_deadlines, deadlines_in, with_deadline};
+ghost use Rattle.cfdp_timers.specs.Entries.{other_of, others_of, roomy_of, armed_of};
 
 use crate::Kind;
 use crate::blocks::{BLOCK, Blocks};

@@ -1,5 +1,7 @@
 // Which timers are armed, and until when.
-ghost use Rattle.std.specs.Prelude.{◌≡◌, ◌≤◌, ◌<◌, ◌^◌, ◌+◌, ◌-◌, min, max, true, OnOk, OnErr, IfOk, IsSome, IfSome, IfNone, None, Some, IsOk, MatchOption, List, length, if◌then◌else◌, map as map_list};
+ghost use Rattle.std.specs.Prelude.{◌≡◌, ◌≤◌, ◌<◌, ◌^◌, ◌+◌, ◌-◌, min, max, true, OnOk, OnErr};
+ghost use Rattle.std.specs.Prelude.{IfOk, IsSome, IfSome, IfNone, None, Some, IsOk, MatchOption};
+ghost use Rattle.std.specs.Prelude.{List, length, if◌then◌else◌, map as map_list};
 ghost use Rattle.std.specs.List.{list_any};
 ghost use Rattle.std.specs.FinMap as map;
 ghost use Rattle.std.specs.FinSet as set;

@@ -1,7 +1,9 @@
 // Walks over the blocks of transactions that may have a timer which is due.
-ghost use Rattle.std.specs.Prelude.{◌≡◌, ℕ, ◌+◌, ◌*◌, ◌^◌, ◌≤◌, ◌<◌, ◌++◌, Some, [], true, length, map, drop, get_or, IfOk, OnOk, OnErr};
+ghost use Rattle.std.specs.Prelude.{◌≡◌, ℕ, ◌+◌, ◌*◌, ◌^◌, ◌≤◌, ◌<◌, ◌++◌, Some, [], true, length};
+ghost use Rattle.std.specs.Prelude.{map, drop, get_or, IfOk, OnOk, OnErr};
 ghost use Rattle.cfdp_timers.specs.Entries as kept;
-ghost use Rattle.cfdp_timers.specs.Entries.{AreBounds, IsBound, alarms, deadlines_in, entry_of, next_of};
+ghost use Rattle.cfdp_timers.specs.Entries.{AreBounds, IsBound, alarms, deadlines_in, entry_of};
+ghost use Rattle.cfdp_timers.specs.Entries.{next_of};
 
 use crate::alarm::Alarm;
 use crate::blocks::BLOCK;

@@ -3,9 +3,10 @@
 -- first one.
 use Rattle.std.specs.Prelude.{◌≡◌, ◌≢◌, ◌⊎◌, ℕ, ◌≤◌, ◌==◌, ◌||◌, true, false, List, [], length, slice_get, Option, Some, IsSome}
 use Rattle.std.specs.FinSet as set
+use Rattle.cfdp_header.specs.declared.value.Direction.TheVariants.{TowardReceiver}
 use Rattle.cfdp_header.specs.declared.value.TransactionId.{TransactionId}
 use Rattle.cfdp_directives.specs.Pdu.Codes.{is_large}
-use Rattle.cfdp_directives.specs.Pdu.Direction.{direction_fits, goes_toward_sender, is_for}
+use Rattle.cfdp_directives.specs.Pdu.Direction.{direction_fits, direction_of, is_for}
 use Rattle.cfdp_directives.specs.User.Put.{Put}
 use Rattle.cfdp_entity.specs.declared.config.EntityConfig.{EntityConfig}
 use Rattle.cfdp_entity.specs.Entity.{EntityState}
@@ -24,7 +25,7 @@ pub record IsDirected (put_of : TransactionId → Option Put) (theirs : EntitySt
   pub addressed : is_for theirs.config.entity theirs.config.peer p.0 ≡ true
   pub named : names_no_file p.1 ≡ false
   pub of_put : IsSome (put_of p.0.id)
-  pub flag : goes_toward_sender p.1 ≡ false → (put : Put) → put_of p.0.id ≡ Some put
+  pub flag : direction_of p.1 ≡ TowardReceiver → (put : Put) → put_of p.0.id ≡ Some put
       → p.0.large ≡ is_large (length put.octets)
 
 -- There is a record, and it sends.

@@ -2,7 +2,7 @@
 -- delivered.
 use Rattle.std.specs.Prelude.{◌≡◌, ◌≢◌, ℕ, ◌+◌, ◌-◌, ◌*◌, ◌^◌, ◌<◌, ◌≤◌, ◌⊎◌, ◌==◌, ◌&&◌, Bool, true, false, List, [], ◌∷◌, ◌++◌, length, drop, map, not, replicate, slice_index_or, nat_le, nat_lt, if◌then◌else◌}
 use Rattle.std.specs.List.{list_any}
-use Rattle.aos_frame.specs.Frame.{IsLink}
+use Rattle.aos_frame.specs.Frame.{IsChannel}
 use Rattle.mpdu.specs.Stream.{stream, survivors}
 use Rattle.mpdu.specs.Packets.{packets_of, busy}
 use Rattle.mpdu.specs.Parts.{IsPartOf, AreAmong}
@@ -81,7 +81,7 @@ arriving w = pdus_in (busy (unbroken (length w.marks * w.down.link.zone) 0
 -- ---- what every direction keeps
 -- The end that sends, where its stream is these packets.
 pub record IsSent (w : OneWayState) (ps : List (List ℕ)) : Type 0 where
-  pub valid : IsLink w.down.link
+  pub valid : IsChannel w.down.link
   pub made : IsDown w.down ps (length w.frames)
   pub frames : (n : ℕ) → n < length w.frames →
       slice_index_or w.frames n [] ≡ frame_of w.down.link ps n

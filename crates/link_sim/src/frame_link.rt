@@ -1,5 +1,7 @@
 //! The frames of one lane of a direction of a link.
-ghost use Rattle.std.specs.Prelude.{◌≡◌, ◌≢◌, ◌+◌, ◌*◌, ◌<◌, ◌≤◌, ◌↔◌, ◌++◌, [], ◌∷◌, true, false, length, take, drop, slice_get, slice_index_or, OnOk, Some, IfSome, MatchOption};
+ghost use Rattle.std.specs.Prelude.{◌≡◌, ◌≢◌, ◌+◌, ◌*◌, ◌<◌, ◌≤◌, ◌↔◌, ◌++◌, [], ◌∷◌, true, false};
+ghost use Rattle.std.specs.Prelude.{length, take, drop, slice_get, slice_index_or, OnOk, Some};
+ghost use Rattle.std.specs.Prelude.{IfSome, MatchOption};
 ghost use Rattle.link_stack.specs.Downward.{MakesFrame, frame_lane, lane_down};
 ghost use Rattle.link_sim.specs.FrameLink.{most_struck, mark_at, oldest, oldest_place};
 ghost use Rattle.link_sim.specs.AtStation.{AddsNone, AreSameEnds, IsSameMarks, OnlyLane};

@@ -2,7 +2,6 @@
 ghost use Rattle.std.specs.FinMap as map;
 ghost use Rattle.std.specs.Prelude.{IfOk};
 ghost use Rattle.link_sim.specs.World.State.{IsFirst};
-ghost use Rattle.link_sim.specs.Stations.{IsWorldConfig};
 
 use crate::event::{Applied, Event};
 use crate::recover_error::RecoverError;
@@ -16,6 +15,7 @@ use aos_frame::Lane;
 use cfdp_directives::Indication;
 use cfdp_store::{Files, MemoryInbox, MemoryOutbox};
 use std::alloc::{AllocError, Global};
+use valid_config::Valid;
 
 impl<W: Witness> World<MemoryOutbox, MemoryInbox, W> {
     /// Two stations in which nothing happened yet, with these files to send, those of the first
@@ -26,11 +26,10 @@ impl<W: Witness> World<MemoryOutbox, MemoryInbox, W> {
     /// `AllocError` only where the memory for a station was refused.
     pub fn in_memory(
         alloc: Global,
-        config: WorldConfig,
+        config: Valid<WorldConfig>,
         outboxes: (Files, Files),
         witness: W,
     ) -> Result<Self, AllocError>
-        requires { IsWorldConfig config }
         ensures { IfOk result (IsFirst config (outboxes.0, outboxes.1) (map.empty, map.empty)) }
     {
         let one = MemoryOutbox::with_files(outboxes.0);

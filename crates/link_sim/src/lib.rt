@@ -40,4 +40,4 @@ pub use side::Side;
 pub use stations::Stations;
 pub use witness::Witness;
 pub use world::{World, run};
-pub use world_config::WorldConfig;
+pub use world_config::{WorldConfig, WorldField};

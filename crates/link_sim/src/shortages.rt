@@ -1,6 +1,7 @@
 //! How often a station was short of memory, of its stores, or of room in a table.
 ghost use Rattle.std.specs.Prelude.{◌≡◌, None, true, false, IfSome};
-ghost use Rattle.link_sim.specs.Settling.{CountsStay, CountsStayAt, HasRisen, IsSpared, KeepsAll, Rises, RisesAt, RisesFirst, shortages};
+ghost use Rattle.link_sim.specs.Settling.{CountsStay, CountsStayAt, HasRisen, IsSpared, KeepsAll};
+ghost use Rattle.link_sim.specs.Settling.{Rises, RisesAt, RisesFirst, shortages};
 
 use crate::settle_error::SettleError;
 use cfdp_station::{EntityDrop, LinkDrop, Station};

@@ -3,7 +3,8 @@
 //! What is promised of a world, the delivery theorem first, holds whatever is done by these calls.
 //! It stands in no goal of functions that take any `Stations`.
 ghost use Rattle.std.specs.Prelude.{◌≡◌, ◌<◌, length, MatchOption};
-ghost use Rattle.link_sim.specs.Calls.{TriesBurst, TriesEvent, TriesRecovery, TriesSettling, TriesSpread};
+ghost use Rattle.link_sim.specs.Calls.{TriesBurst, TriesEvent, TriesRecovery, TriesSettling};
+ghost use Rattle.link_sim.specs.Calls.{TriesSpread};
 ghost use Rattle.link_sim.specs.World.State.{WorldState, entity_at, lane_from};
 ghost use Rattle.link_sim.specs.World.Steps.{NoneWaits};
 ghost use Rattle.aos_frame.specs.declared.config.Lane.{Lane};

@@ -1,5 +1,6 @@
 //! Two stations and the frames between them, before anything is said of puts and files.
-ghost use Rattle.std.specs.Prelude.{◌≡◌, ◌<◌, ◌≤◌, ◌⊎◌, ◌↔◌, true, false, length, None, IfErr, IfOk, OnErr, OnOk};
+ghost use Rattle.std.specs.Prelude.{◌≡◌, ◌<◌, ◌≤◌, ◌⊎◌, ◌↔◌, true, false, length, None, IfErr};
+ghost use Rattle.std.specs.Prelude.{IfOk, OnErr, OnOk};
 ghost use Rattle.cfdp_entity.specs.Gives.{CountsOutbox};
 ghost use Rattle.cfdp_entity.specs.Polling.{turn};
 ghost use Rattle.cfdp_entity.specs.Sound.{SpellsTurn, longest_pdu};
@@ -14,12 +15,14 @@ ghost use Rattle.link_stack.specs.Downward.{KeepsLanes, frame_lane, lane_down};
 ghost use Rattle.link_sim.specs.FrameLink.{lane_of_links};
 ghost use Rattle.link_sim.specs.declared.event.Applied.TheVariants as dids;
 ghost use Rattle.link_sim.specs.declared.event.Event.TheVariants as events;
-ghost use Rattle.link_sim.specs.AtStation.{AreReady, AreSameLinks, FlushesAt, FrameArrivesAt, HasBuffers, KeepsOutbox, OnLane, PollsAt, PullsBoth, PullsOne, PutsAt, RaisesByRequest, StrikesAt, TellsTimeAt, TriesToSend, answered};
+ghost use Rattle.link_sim.specs.AtStation.{AreReady, AreSameLinks, FlushesAt, FrameArrivesAt};
+ghost use Rattle.link_sim.specs.AtStation.{HasBuffers, KeepsOutbox, OnLane, PollsAt, PullsBoth};
+ghost use Rattle.link_sim.specs.AtStation.{PullsOne, PutsAt, RaisesByRequest, StrikesAt};
+ghost use Rattle.link_sim.specs.AtStation.{TellsTimeAt, TriesToSend, answered};
 ghost use Rattle.link_sim.specs.World.State as state;
 ghost use Rattle.link_sim.specs.World.Steps as steps;
 ghost use Rattle.link_sim.specs.World.State.{station_at, link_from, IsFirst};
 ghost use Rattle.link_sim.specs.Calls.{TriesEvent};
-ghost use Rattle.link_sim.specs.Stations.{IsWorldConfig};
 ghost use Rattle.link_sim.specs.declared.side.Side.{Side};
 
 use crate::event::{AcceptedPut, Applied, Event, Refusal};
@@ -37,6 +40,7 @@ use cfdp_station::{Polled, PutError, RequestError, Station};
 use cfdp_store::{Inbox, Outbox, SteadyOutbox};
 use std::alloc::{AllocError, Global};
 use std::marker::Model;
+use valid_config::Valid;
 
 /// Two stations, the frames that each sent, the puts that they accepted, and how often the time was
 /// told.
@@ -84,18 +88,23 @@ impl<O: SteadyOutbox, I: Inbox> TwoStations<O, I> {
     /// Two stations over these stores, that of the first station first. Nothing was sent.
     pub(crate) fn new(
         alloc: Global,
-        config: WorldConfig,
+        config: Valid<WorldConfig>,
         outboxes: (O, O),
         inboxes: (I, I),
     ) -> Result<Self, AllocError>
-        requires { IsWorldConfig config }
         ensures first { IfOk result (IsFirst config (O.files outboxes.0, O.files outboxes.1)
             (I.published inboxes.0, I.published inboxes.1)) }
         // Both lanes of both directions are carried, from the first frame on.
         ensures ways { IfOk result (λ w. (side : Side) → state.AreWays side w) }
     {
-        let one = Station::new(alloc, config.one, outboxes.0, inboxes.0)?;
-        match Station::new(alloc, config.two, outboxes.1, inboxes.1) {
+        // For the prover: it is valid.
+        let _config = config.get();
+        let (first, second) = (
+            WorldConfig::station(config, Side::One),
+            WorldConfig::station(config, Side::Two),
+        );
+        let one = Station::new(alloc, first, outboxes.0, inboxes.0)?;
+        match Station::new(alloc, second, outboxes.1, inboxes.1) {
             Ok(two) => {
                 let from_one = FrameLinks::new(alloc, one.frame_len());
                 let from_two = FrameLinks::new(alloc, two.frame_len());

@@ -7,7 +7,6 @@ ghost use Rattle.link_sim.specs.Running.{Happens, KeepsPromises, Ran};
 ghost use Rattle.link_sim.specs.Settling.{DropsWhereFull, IsOfSettling, KeepsAll, all_shortages};
 ghost use Rattle.link_sim.specs.Tracks.{KeepsPutsOf, RunsAlong};
 ghost use Rattle.link_sim.specs.World.State.{IsFirst, station_at, entity_at, link_from, seen_links};
-ghost use Rattle.link_sim.specs.Stations.{IsWorldConfig};
 ghost use Rattle.link_sim.specs.Work.{world_work};
 ghost use Rattle.link_sim.specs.declared.event.Applied.TheVariants as dids;
 ghost use Rattle.link_sim.specs.declared.event.Event.TheVariants as events;
@@ -25,6 +24,7 @@ use cfdp_station::Station;
 use cfdp_store::{Inbox, SteadyOutbox};
 use std::alloc::{AllocError, Global};
 use std::marker::Model;
+use valid_config::Valid;
 
 /// A world: two stations of CFDP, class 2, and all frames that each sent to the other, some of them
 /// lost.
@@ -65,12 +65,11 @@ impl<O: SteadyOutbox, I: Inbox, W: Witness> World<O, I, W> {
     /// `AllocError` only where the memory for a station was refused.
     pub fn new(
         alloc: Global,
-        config: WorldConfig,
+        config: Valid<WorldConfig>,
         outboxes: (O, O),
         inboxes: (I, I),
         witness: W,
     ) -> Result<Self, AllocError>
-        requires { IsWorldConfig config }
         ensures first { IfOk result (IsFirst config (O.files outboxes.0, O.files outboxes.1)
             (I.published inboxes.0, I.published inboxes.1)) }
         // The promises hold of it.
@@ -80,6 +79,8 @@ impl<O: SteadyOutbox, I: Inbox, W: Witness> World<O, I, W> {
         ensures clean { IfOk result (λ w. IsClean w) }
     {
         events_keep_the_promises();
+        // For the prover: it is valid.
+        let _config = config.get();
         let stations = TwoStations::new(alloc, config, outboxes, inboxes)?;
         Ok(World { stations, witness })
     }
@@ -208,12 +209,11 @@ pub(crate) fn let_go<T: Drop>(_value: T) {}
 /// `AllocError` at the first event for which the memory was refused.
 pub fn run<O: SteadyOutbox, I: Inbox>(
     alloc: Global,
-    config: WorldConfig,
+    config: Valid<WorldConfig>,
     outboxes: (O, O),
     inboxes: (I, I),
     events: &[Event],
 ) -> Result<World<O, I>, AllocError>
-    requires { IsWorldConfig config }
     // Each inbox is its first files, overwritten in order of the completions there by the files of
     // the puts that they name; finished once, heard in full, told truly and sent truly.
     ensures promised { IfOk result
@@ -223,6 +223,8 @@ pub fn run<O: SteadyOutbox, I: Inbox>(
         (I.published inboxes.0, I.published inboxes.1) events.now w) }
 {
     worlds_keep_the_promises();
+    // For the prover: it is valid.
+    let _config = config.get();
     let mut world = World::new(alloc, config, outboxes, inboxes, ())?;
     match apply_all(&mut world, events) {
         Ok(()) => Ok(world),

@@ -1,10 +1,14 @@
-ghost use Rattle.std.specs.Prelude.{◌↔◌, IsTrue};
-ghost use Rattle.link_sim.specs.Stations.{IsWorldConfig};
+ghost use Rattle.std.specs.Prelude.{◌≡◌};
+ghost use Rattle.link_sim.specs.Fields.{Fits};
+ghost use Rattle.link_sim.specs.Stations.{IsWorldConfig, station_of};
 
-use cfdp_station::StationConfig;
+use crate::side::Side;
+use cfdp_station::{StationConfig, StationField};
+use thiserror::Error;
+use valid_config::{Config, Valid};
 
-/// How both stations of a world are set up: each is the other's peer, and each sends the frames
-/// that the other takes.
+/// How both stations of a world are set up: each is the other's peer, and each receives the frames
+/// that the other sends.
 #[derive(Clone, Copy, Debug, PartialEq, Eq)]
 pub struct WorldConfig {
     /// The first station.
@@ -13,16 +17,57 @@ pub struct WorldConfig {
     pub two: StationConfig,
 }
 
+/// A field of a [`WorldConfig`] that isn't as it has to be.
+#[derive(Clone, Copy, Debug, PartialEq, Eq, Error)]
+pub enum WorldField {
+    /// One of the first station.
+    #[error("of the first station, {0}")]
+    One(StationField),
+    /// One of the second station.
+    #[error("of the second station, {0}")]
+    Two(StationField),
+    /// The ids of the peers.
+    #[error("a station is not the peer of its peer")]
+    Peers,
+    /// The frames.
+    #[error("a station does not receive the frames that its peer sends")]
+    Links,
+}
+
+impl Config for WorldConfig {
+    type Field = WorldField;
+
+    ghost IsValid = { IsWorldConfig };
+
+    ghost Fits = { Fits };
+
+    fn amiss(&self) -> Option<WorldField> {
+        let (one, two) = (&self.one, &self.two);
+        if let Some(field) = one.amiss() {
+            return Some(WorldField::One(field));
+        }
+        if let Some(field) = two.amiss() {
+            return Some(WorldField::Two(field));
+        }
+        if one.entity.entity != two.entity.peer || one.entity.peer != two.entity.entity {
+            Some(WorldField::Peers)
+        } else if one.sends != two.receives || one.receives != two.sends {
+            Some(WorldField::Links)
+        } else {
+            None
+        }
+    }
+}
+
 impl WorldConfig {
-    /// Whether each station can be set up so, and they mirror each other.
-    pub fn is_valid(&self) -> bool
-        ensures { IsTrue result ↔ IsWorldConfig self.now }
+    /// The configuration of one of both stations.
+    pub fn station(config: Valid<WorldConfig>, side: Side) -> Valid<StationConfig>
+        ensures { result ≡ station_of side config }
     {
-        self.one.is_valid()
-            && self.two.is_valid()
-            && self.one.entity.entity == self.two.entity.peer
-            && self.one.entity.peer == self.two.entity.entity
-            && self.one.down == self.two.up
-            && self.one.up == self.two.down
+        let config = config.get();
+        match side {
+            Side::One => Valid::known(config.one),
+            Side::Two => Valid::known(config.two),
+        }
     }
 }

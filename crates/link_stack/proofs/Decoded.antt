@@ -1,11 +1,11 @@
 -- The next frame of a stream, read.
-use Rattle.std.proofs.Common.{◌≡◌, ◌⊎◌, ℕ, ◌+◌, ◌*◌, ◌%◌, ◌<◌, ◌≤◌, ◌==◌, ◌||◌, Bool, true, false, None, List, ◌++◌, length, drop, refl, sym, ap, subst, ◌∙◌, inl, inr, arith, length-take, length-drop, length-append}
-use Rattle.std.proofs.lemmas.Bool.{eq-eqb, ne_eqb, or_left, or_right}
+use Rattle.std.proofs.Common.{◌≡◌, ℕ, ◌+◌, ◌*◌, ◌%◌, ◌<◌, ◌≤◌, ◌==◌, Bool, true, false, None, List, ◌++◌, length, drop, refl, sym, ap, subst, ◌∙◌, arith, length-take, length-drop, length-append}
+use Rattle.std.proofs.lemmas.Bool.{eq-eqb, ne_eqb}
 use Rattle.cfd_bits.specs.Field.{field}
 use Rattle.cfd_bits.proofs.Fields.{length-octets}
 use Rattle.aos_frame.specs.Counts.{frame_counts, CountsFrame}
-use Rattle.aos_frame.specs.Frame.{IsLink, SpellsFrame, frame_fault, count_in, seen_in}
-use Rattle.aos_frame.specs.declared.config.LinkConfig.{LinkConfig}
+use Rattle.aos_frame.specs.Frame.{IsChannel, SpellsFrame, frame_fault, count_in, seen_in}
+use Rattle.aos_frame.specs.declared.config.ChannelConfig.{ChannelConfig}
 use Rattle.aos_frame.specs.declared.header.FrameHeader.{FrameHeader}
 use Rattle.aos_frame.specs.declared.count.SeenCount.{SeenCount}
 use Rattle.aos_frame.proofs.Spelling.{written_frame_is_read}
@@ -15,7 +15,7 @@ use Rattle.mpdu.proofs.NextZone.{pointer_fits, pointer_is_not_idle, written_poin
 use Rattle.link_stack.specs.Frames.{mpdu_in, mpdu_of, frame_of}
 use Rattle.link_stack.specs.Upward.{IsNextFrame, IsNextFrameOf}
 
-pub record IsDecoded (all : Bool) (link : LinkConfig) (ps : List (List ℕ)) (n : ℕ) (frame : List ℕ) : Type 0 where
+pub record IsDecoded (all : Bool) (link : ChannelConfig) (ps : List (List ℕ)) (n : ℕ) (frame : List ℕ) : Type 0 where
   pub sound : frame_fault frame link ≡ None
   pub count : CountsFrame all n (seen_in frame)
   pub pointer : pointer_of (mpdu_in frame) ≡ first_header_pointer link.zone (n * link.zone) 0 ps
@@ -23,13 +23,8 @@ pub record IsDecoded (all : Bool) (link : LinkConfig) (ps : List (List ℕ)) (n 
   pub zone_is : drop 2 (mpdu_in frame) ≡ zone link.zone (n * link.zone) (stream ps)
   pub size : length (drop 2 (mpdu_in frame)) ≡ link.zone
 
--- the channel of one lane or of the other
-pub of_either : (n h a b : ℕ) → n ≡ h → (h ≡ a) ⊎ (h ≡ b) → (n == a || n == b) ≡ true
-of_either n h a b e (inl f) = or_left (n == a) (n == b) (eq-eqb n a (e ∙ f))
-of_either n h a b e (inr f) = or_right (n == a) (n == b) (eq-eqb n b (e ∙ f))
-
 -- what spells a frame has no fault
-pub no_fault : (link : LinkConfig) (h : FrameHeader) (text : List ℕ) → SpellsFrame link h text → frame_fault text link ≡ None
+pub no_fault : (link : ChannelConfig) (h : FrameHeader) (text : List ℕ) → SpellsFrame link h text → frame_fault text link ≡ None
 no_fault link h text s =
     let busy : field text 10 6 ≡ 63 → ⊥ = λ (e : field text 10 6 ≡ 63). omega (arith, e, s.channel, s.carries_packets) in
     rw (
@@ -39,19 +34,19 @@ no_fault link h text s =
       eq-eqb (field text 42 2) 0 s.two_bits,
       eq-eqb (field text 2 8) link.spacecraft (s.spacecraft ∙ s.our_spacecraft),
       ne_eqb (field text 10 6) 63 busy,
-      of_either (field text 10 6) h.channel link.channel link.data_channel s.channel s.our_channel,
+      eq-eqb (field text 10 6) link.channel (s.channel ∙ s.our_channel),
     ) refl
 
 -- what a header that is spelled tells of its count
-pub seen_is : (link : LinkConfig) (h : FrameHeader) (text : List ℕ) → SpellsFrame link h text → seen_in text ≡ record { count = h.count; cycle = h.cycle }
+pub seen_is : (link : ChannelConfig) (h : FrameHeader) (text : List ℕ) → SpellsFrame link h text → seen_in text ≡ record { count = h.count; cycle = h.cycle }
 seen_is link h text s =
     let seen : ℕ → Bool → SeenCount = λ (n : ℕ) (b : Bool). record { count = n; cycle = b } in
     ap (λ b. seen (count_in b text) b) s.cycle ∙ ap (λ n. seen n h.cycle) s.count
 
-long_zone : (link : LinkConfig) (ps : List (List ℕ)) (n : ℕ) → n * link.zone + link.zone ≤ length (stream ps) → length (zone link.zone (n * link.zone) (stream ps)) ≡ link.zone
+long_zone : (link : ChannelConfig) (ps : List (List ℕ)) (n : ℕ) → n * link.zone + link.zone ≤ length (stream ps) → length (zone link.zone (n * link.zone) (stream ps)) ≡ link.zone
 long_zone link ps n room = omega (arith, length-take link.zone (drop (n * link.zone) (stream ps)), length-drop (n * link.zone) (stream ps))
 
-pub decoded : (all : Bool) (link : LinkConfig) (ps : List (List ℕ)) (marks : List Bool) (frame : List ℕ) → IsLink link → IsNextFrameOf all link ps marks frame →
+pub decoded : (all : Bool) (link : ChannelConfig) (ps : List (List ℕ)) (marks : List Bool) (frame : List ℕ) → IsChannel link → IsNextFrameOf all link ps marks frame →
     IsDecoded all link ps (length marks) frame
 decoded all link ps marks frame valid next =
     let n : ℕ = length marks in
@@ -65,7 +60,7 @@ decoded all link ps marks frame valid next =
     }
 
 -- A frame that a sending end makes is one of a stream whose frames all have the flag.
-pub made_is_next : (link : LinkConfig) (ps : List (List ℕ)) (marks : List Bool) (frame : List ℕ) → IsLink link → link.spacecraft < 256 → IsNextFrame link ps marks frame →
+pub made_is_next : (link : ChannelConfig) (ps : List (List ℕ)) (marks : List Bool) (frame : List ℕ) → IsChannel link → link.spacecraft < 256 → IsNextFrame link ps marks frame →
     IsNextFrameOf true link ps marks frame
 made_is_next link ps marks frame valid byte next =
     let n : ℕ = length marks in
@@ -76,7 +71,7 @@ made_is_next link ps marks frame valid byte next =
     let two : length (pointer_octets p) ≡ 2 = length-octets 2 p in
     let all : length (mpdu_of link ps n) ≡ 2 + link.zone = omega (arith, length-append (pointer_octets p) body) in
     let read : SpellsFrame link h (frame_of link ps n) × (drop 6 (frame_of link ps n) ≡ mpdu_of link ps n) =
-    written_frame_is_read link h (mpdu_of link ps n) (record { spacecraft = byte; channel = valid.channel; count = omega arith }) refl (inl refl) all in
+    written_frame_is_read link h (mpdu_of link ps n) (record { spacecraft = byte; channel = valid.channel; count = omega arith }) refl refl all in
     let s : SpellsFrame link h frame = subst (SpellsFrame link h) (sym next.octets) read.0 in
     let behind : drop 6 frame ≡ pointer_octets p ++ body = ap (λ l. drop 6 l) next.octets ∙ read.1 in
     let again = written_pointer p body (pointer_fits link.zone (n * link.zone) 0 ps valid.most_zone) in

@@ -4,8 +4,8 @@ use Rattle.std.proofs.lemmas.Bool.{ne_eqb}
 use Rattle.cfd_bits.specs.Field.{field, octets}
 use Rattle.aos_frame.specs.Counts.{frame_counts, counts_of, CountsFrame}
 use Rattle.aos_frame.specs.declared.count.SeenCount.{SeenCount}
-use Rattle.aos_frame.specs.Frame.{IsLink, frame_octets}
-use Rattle.aos_frame.specs.declared.config.LinkConfig.{LinkConfig}
+use Rattle.aos_frame.specs.Frame.{IsChannel, frame_octets}
+use Rattle.aos_frame.specs.declared.config.ChannelConfig.{ChannelConfig}
 use Rattle.aos_frame.specs.declared.header.FrameHeader.{FrameHeader}
 use Rattle.space_packet.specs.Packet.{SpellsPacket}
 use Rattle.space_packet.proofs.Spelling.{written_packet_is_read}
@@ -41,12 +41,12 @@ pub some_counts : (all : Bool) → 0 < counts_of all
 some_counts true = omega arith
 some_counts false = omega arith
 
-pub new_is : (all : Bool) (link : LinkConfig) (ps : List (List ℕ)) (counts : List ℕ) → length counts ≡ 11 → ArePackets ps → AreOfLink link ps →
+pub new_is : (all : Bool) (link : ChannelConfig) (ps : List (List ℕ)) (counts : List ℕ) → length counts ≡ 11 → ArePackets ps → AreOfLink link ps →
     IsUpOf all (record { link = link; last = None; begun = []; drops = counts }) ps [] 0
 new_is all link ps counts size whole ours_all =
     record { packets_whole = whole; of_link = ours_all; few = some_counts all; seen = tt; unseen = λ e. refl; as_left = sym (begun-none link.zone ps whole); counts = size }
 
-pub frame-push : (link : LinkConfig) (ps : List (List ℕ)) (q : List ℕ) (n : ℕ) → n * link.zone + link.zone ≤ length (stream ps) → frame_of link (ps ++ q ∷ []) n ≡ frame_of link ps n
+pub frame-push : (link : ChannelConfig) (ps : List (List ℕ)) (q : List ℕ) (n : ℕ) → n * link.zone + link.zone ≤ length (stream ps) → frame_of link (ps ++ q ∷ []) n ≡ frame_of link ps n
 frame-push link ps q n h =
     let header : FrameHeader = record { spacecraft = link.spacecraft; channel = link.channel; count = n % frame_counts; cycle = true } in
     let e : ℕ = n * link.zone in
@@ -68,11 +68,11 @@ up-push up ps q marks missed packet carries_one room is =
       counts = is.counts;
     }
 
-pub carries : (link : LinkConfig) (count : ℕ) (pdu : List ℕ) → IsLink link → count < 16384 → 1 ≤ length pdu → length pdu ≤ 65536 → SpellsPacket (carrying link count pdu) (packet_of link count pdu)
+pub carries : (link : ChannelConfig) (count : ℕ) (pdu : List ℕ) → IsChannel link → count < 16384 → 1 ≤ length pdu → length pdu ≤ 65536 → SpellsPacket (carrying link count pdu) (packet_of link count pdu)
 carries link count pdu valid low some fits =
-    written_packet_is_read (carrying link count pdu) (record { apid = omega (arith, valid.apid); flags = omega arith; count = low; some = some; fits = fits })
+    written_packet_is_read (carrying link count pdu) (record { apid = omega (arith, valid.apid); count = low; some = some; fits = fits })
 
-pub carried : (link : LinkConfig) (count : ℕ) (pdu : List ℕ) → IsLink link → count < 16384 → 1 ≤ length pdu → length pdu ≤ 65536 →
+pub carried : (link : ChannelConfig) (count : ℕ) (pdu : List ℕ) → IsChannel link → count < 16384 → 1 ≤ length pdu → length pdu ≤ 65536 →
     (packet_drop link (packet_of link count pdu) ≡ None) × (is_idle (packet_of link count pdu) ≡ false) × (drop 6 (packet_of link count pdu) ≡ pdu)
 unfolding is_idle
 carried link count pdu valid low some fits =
@@ -81,7 +81,7 @@ carried link count pdu valid low some fits =
     (ours link (carrying link count pdu) (packet_of link count pdu) s refl refl refl, ne_eqb (field (packet_of link count pdu) 5 11) 2047 busy, s.body)
 
 -- so the PDU is what it carries
-pub its_pdu : (link : LinkConfig) (count : ℕ) (pdu : List ℕ) → IsLink link → count < 16384 → 1 ≤ length pdu → length pdu ≤ 65536 → pdus_in (busy (packet_of link count pdu ∷ [])) ≡ pdu ∷ []
+pub its_pdu : (link : ChannelConfig) (count : ℕ) (pdu : List ℕ) → IsChannel link → count < 16384 → 1 ≤ length pdu → length pdu ≤ 65536 → pdus_in (busy (packet_of link count pdu ∷ [])) ≡ pdu ∷ []
 its_pdu link count pdu valid low some fits =
     let c : (packet_drop link (packet_of link count pdu) ≡ None) × (is_idle (packet_of link count pdu) ≡ false) × (drop 6 (packet_of link count pdu) ≡ pdu) =
     carried link count pdu valid low some fits in

@@ -4,10 +4,11 @@ use Rattle.std.proofs.lemmas.Bool.{cases_Bool, eq-eqb}
 use Rattle.std.proofs.lemmas.List.{append_assoc}
 use Rattle.cfd_bits.specs.Field.{flag}
 use Rattle.mpdu.specs.MpduHeader.{pointer_octets}
-use Rattle.space_packet.specs.Packet.{Parts, SpellsPacket}
+use Rattle.space_packet.specs.Packet.{Parts, SpellsPacket, flag_bits}
+use Rattle.space_packet.specs.declared.packet.SequenceFlags.TheVariants.{Unsegmented}
 use Rattle.aos_frame.specs.Counts.{frame_counts}
 use Rattle.aos_frame.specs.Frame.{header_octets, frame_octets}
-use Rattle.aos_frame.specs.declared.config.LinkConfig.{LinkConfig}
+use Rattle.aos_frame.specs.declared.config.ChannelConfig.{ChannelConfig}
 use Rattle.mpdu.specs.Stream.{is_idle, first_header_pointer}
 use Rattle.mpdu.specs.Packets.{busy}
 use Rattle.mpdu.specs.Packing.{PackerState, IsAt, ZoneOf}
@@ -15,18 +16,18 @@ use Rattle.link_stack.specs.Frames.{packet_drop, AreOfLink, mpdu_of, frame_of}
 use Rattle.link_stack.specs.Downward.{LinkSenderState, packing, IsDown}
 
 -- a packet more
-pub of_link-push : (link : LinkConfig) (ps : List (List ℕ)) (q : List ℕ) → AreOfLink link ps → ((is_idle q ≡ true) ⊎ (packet_drop link q ≡ None)) → AreOfLink link (ps ++ q ∷ [])
+pub of_link-push : (link : ChannelConfig) (ps : List (List ℕ)) (q : List ℕ) → AreOfLink link ps → ((is_idle q ≡ true) ⊎ (packet_drop link q ≡ None)) → AreOfLink link (ps ++ q ∷ [])
 of_link-push link [] q all is = (is, tt)
 of_link-push link (p ∷ ps) q all is = (all.0, of_link-push link ps q all.1 is)
 
 -- what carries a PDU of the link
-pub ours : (link : LinkConfig) (p : Parts) (text : List ℕ) → SpellsPacket p text → p.apid ≡ link.apid → p.flags ≡ 3 → p.secondary ≡ false → packet_drop link text ≡ None
+pub ours : (link : ChannelConfig) (p : Parts) (text : List ℕ) → SpellsPacket p text → p.apid ≡ link.apid → p.sequence_flags ≡ Unsegmented → p.has_secondary_header ≡ false → packet_drop link text ≡ None
 unfolding packet_drop
 ours link p text is apid flags plain =
-    rw (is.apid ∙ apid, is.flags ∙ flags, is.secondary ∙ ap flag plain, eq-eqb link.apid link.apid refl) refl
+    rw (is.apid ∙ apid, is.sequence_flags ∙ ap flag_bits flags, is.secondary_header ∙ ap flag plain, eq-eqb link.apid link.apid refl) refl
 
 -- packets that are all idle
-pub idle_of_link : (link : LinkConfig) (ps qs : List (List ℕ)) → busy qs ≡ [] → AreOfLink link ps → AreOfLink link (ps ++ qs)
+pub idle_of_link : (link : ChannelConfig) (ps qs : List (List ℕ)) → busy qs ≡ [] → AreOfLink link ps → AreOfLink link (ps ++ qs)
 idle_of_link link (p ∷ ps) qs none all = (all.0, idle_of_link link ps qs none all.1)
 idle_of_link link [] [] none all = tt
 idle_of_link link [] (q ∷ qs) none all =
@@ -36,7 +37,7 @@ idle_of_link link [] (q ∷ qs) none all =
     elim (cases_Bool (is_idle q)) [ inl e ↦ idle_one e | inr e ↦ busy_one e ]
 
 -- the octets of a frame that is written
-pub written_frame : (link : LinkConfig) (ps : List (List ℕ)) (made count pointer : ℕ) (headers body : List ℕ) → count ≡ made % frame_counts →
+pub written_frame : (link : ChannelConfig) (ps : List (List ℕ)) (made count pointer : ℕ) (headers body : List ℕ) → count ≡ made % frame_counts →
     headers ≡ frame_octets (record { spacecraft = link.spacecraft; channel = link.channel; count = count; cycle = true }) (pointer_octets pointer) →
     ZoneOf ps made link.zone pointer body → headers ++ body ≡ frame_of link ps made
 written_frame link ps made count pointer headers body counted written zo =
@@ -46,25 +47,25 @@ written_frame link ps made count pointer headers body counted written zo =
     ap (λ l. l ++ body) written ∙ append_assoc (h count) (pointer_octets pointer) body ∙ ap (λ n. h n ++ (pointer_octets pointer ++ body)) counted ∙ ap (λ l. h (made % frame_counts) ++ l) same
 
 -- a lane of the link, by its packer and the count of its frames
-abbrev pub descent : LinkConfig → PackerState → ℕ → LinkSenderState
+abbrev pub descent : ChannelConfig → PackerState → ℕ → LinkSenderState
 descent link p b = record { link = link; capacity = p.capacity; waiting = p.waiting; first = p.first; flushed = p.flushed; frame_count = b }
 
-pub same_packing : (d : LinkSenderState) (link : LinkConfig) (p : PackerState) (b : ℕ) → d ≡ descent link p b → p.size ≡ link.zone → p ≡ packing d
+pub same_packing : (d : LinkSenderState) (link : ChannelConfig) (p : PackerState) (b : ℕ) → d ≡ descent link p b → p.size ≡ link.zone → p ≡ packing d
 same_packing d link p b is size =
     let sized : p ≡ packing (descent link p b) = ap (λ n. record { size = n; capacity = p.capacity; waiting = p.waiting; first = p.first; flushed = p.flushed }) size in
     sized ∙ sym (ap packing is)
 
 -- what its packer's stream is
-pub at_of : (d : LinkSenderState) (link : LinkConfig) (p : PackerState) (b : ℕ) (ps : List (List ℕ)) (made : ℕ) → d ≡ descent link p b → p.size ≡ link.zone → IsDown d ps made → IsAt p ps made
+pub at_of : (d : LinkSenderState) (link : ChannelConfig) (p : PackerState) (b : ℕ) (ps : List (List ℕ)) (made : ℕ) → d ≡ descent link p b → p.size ≡ link.zone → IsDown d ps made → IsAt p ps made
 at_of d link p b ps made same size is = subst (λ (x : PackerState). IsAt x ps made) (sym (same_packing d link p b same size)) is.packed
 
 -- a step that keeps the link
-pub down_is : (d : LinkSenderState) (link : LinkConfig) (p q : PackerState) (b b' : ℕ) (ps qs : List (List ℕ)) (made made' : ℕ) → d ≡ descent link p b → q.size ≡ link.zone →
+pub down_is : (d : LinkSenderState) (link : ChannelConfig) (p q : PackerState) (b b' : ℕ) (ps qs : List (List ℕ)) (made made' : ℕ) → d ≡ descent link p b → q.size ≡ link.zone →
     (AreOfLink link ps → AreOfLink link qs) → (b ≡ made % frame_counts → b' ≡ made' % frame_counts) → IsDown d ps made → IsAt q qs made' → IsDown (descent link q b') qs made'
 down_is d link p q b b' ps qs made made' same size ours counts is at =
     record {
       packed = subst (λ (x : PackerState). IsAt x qs made') (same_packing (descent link q b') link q b' refl size) at;
-      of_link = ours (subst (λ (l : LinkConfig). AreOfLink l ps) (ap (λ x. x.link) same) is.of_link);
+      of_link = ours (subst (λ (l : ChannelConfig). AreOfLink l ps) (ap (λ x. x.link) same) is.of_link);
       counted = counts (sym (ap (λ x. x.frame_count) same) ∙ is.counted);
     }
 

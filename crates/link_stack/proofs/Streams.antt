@@ -3,9 +3,9 @@ use Rattle.std.proofs.Common.{◌≡◌, ◌≢◌, slice_index_or, ℕ, zero, s
 use Rattle.std.proofs.lemmas.Bool.{cases_Bool}
 use Rattle.std.proofs.lemmas.List.{map-append, length-set, get_or-set_same, get_or-set_other}
 use Rattle.aos_frame.specs.Counts.{follows, CountsFrame}
-use Rattle.aos_frame.specs.Frame.{IsLink, frame_fault, seen_in}
+use Rattle.aos_frame.specs.Frame.{IsChannel, frame_fault, seen_in}
 use Rattle.aos_frame.specs.declared.count.SeenCount.{SeenCount}
-use Rattle.aos_frame.specs.declared.config.LinkConfig.{LinkConfig}
+use Rattle.aos_frame.specs.declared.config.ChannelConfig.{ChannelConfig}
 use Rattle.mpdu.specs.Stream.{ArePackets, stream, zone, first_header_pointer, begun, survivors, arrived, keep, is_idle}
 use Rattle.mpdu.specs.Reading.{step, held_at, resync, bad_count, is_some}
 use Rattle.mpdu.specs.Feeding.{IsNext}
@@ -46,35 +46,35 @@ no_memory_told counts new size e =
     omega (arith, told)
 
 -- packets that all carry a PDU of the link
-abbrev pub AreOurs : LinkConfig → List (List ℕ) → Type 0
+abbrev pub AreOurs : ChannelConfig → List (List ℕ) → Type 0
 AreOurs link [] = Unit {0}
 AreOurs link (p ∷ ps) = (packet_drop link p ≡ None) × AreOurs link ps
 
-ours-keep : (link : LinkConfig) (b : Bool) (p : List ℕ) (ps : List (List ℕ)) → ((is_idle p ≡ true) ⊎ (packet_drop link p ≡ None)) → AreOurs link ps → AreOurs link (keep (b && not (is_idle p)) p ps)
+ours-keep : (link : ChannelConfig) (b : Bool) (p : List ℕ) (ps : List (List ℕ)) → ((is_idle p ≡ true) ⊎ (packet_drop link p ≡ None)) → AreOurs link ps → AreOurs link (keep (b && not (is_idle p)) p ps)
 ours-keep link false p ps is all = all
 ours-keep link true p ps (inr e) all =
     elim (cases_Bool (is_idle p)) [ inl f ↦ rw f all | inr f ↦ rw f (e, all) ]
 ours-keep link true p ps (inl e) all = rw e all
 
-pub ours_survive : (link : LinkConfig) (z : ℕ) (marks : List Bool) (a : ℕ) (ps : List (List ℕ)) → AreOfLink link ps → AreOurs link (survivors z marks a ps)
+pub ours_survive : (link : ChannelConfig) (z : ℕ) (marks : List Bool) (a : ℕ) (ps : List (List ℕ)) → AreOfLink link ps → AreOurs link (survivors z marks a ps)
 ours_survive link z marks a [] all = tt
 ours_survive link z marks a (p ∷ ps) all =
     ours-keep link (arrived z 0 marks a (a + length p)) p (survivors z marks (a + length p) ps) all.0 (ours_survive link z marks (a + length p) ps all.1)
 
-ours-behind : (link : LinkConfig) (xs ys : List (List ℕ)) → AreOurs link (xs ++ ys) → AreOurs link ys
+ours-behind : (link : ChannelConfig) (xs ys : List (List ℕ)) → AreOurs link (xs ++ ys) → AreOurs link ys
 ours-behind link [] ys all = all
 ours-behind link (x ∷ xs) ys all = ours-behind link xs ys all.1
 
-ours-take : (link : LinkConfig) (n : ℕ) (xs : List (List ℕ)) → AreOurs link xs → AreOurs link (take n xs)
+ours-take : (link : ChannelConfig) (n : ℕ) (xs : List (List ℕ)) → AreOurs link xs → AreOurs link (take n xs)
 ours-take link zero xs all = tt
 ours-take link (suc n) [] all = tt
 ours-take link (suc n) (x ∷ xs) all = (all.0, ours-take link n xs all.1)
 
-pdus-all : (link : LinkConfig) (ps : List (List ℕ)) → AreOurs link ps → pdus_of link ps ≡ pdus_in ps
+pdus-all : (link : ChannelConfig) (ps : List (List ℕ)) → AreOurs link ps → pdus_of link ps ≡ pdus_in ps
 pdus-all link [] all = refl
 pdus-all link (p ∷ ps) all = ap (λ o. with_pdu o p (pdus_of link ps)) all.0 ∙ ap (λ l. drop 6 p ∷ l) (pdus-all link ps all.1)
 
-drops-none : (link : LinkConfig) (ps : List (List ℕ)) → AreOurs link ps → drops_of link ps ≡ []
+drops-none : (link : ChannelConfig) (ps : List (List ℕ)) → AreOurs link ps → drops_of link ps ≡ []
 drops-none link [] all = refl
 drops-none link (p ∷ ps) all = ap (λ o. with_drop o (drops_of link ps)) all.0 ∙ drops-none link ps all.1
 
@@ -96,7 +96,7 @@ pub record IsRight (all : Bool) (up : LinkReceiverState) (ps : List (List ℕ)) 
   pub ours : AreOurs up.link read.packets
   pub told : read.told ≡ zone_drops (not (missed == 0) && is_some up.begun) 0
 
-pub right : (all : Bool) (up : LinkReceiverState) (ps : List (List ℕ)) (marks : List Bool) (missed : ℕ) (frame : List ℕ) → IsLink up.link → IsUpOf all up ps marks missed → ArePackets ps →
+pub right : (all : Bool) (up : LinkReceiverState) (ps : List (List ℕ)) (marks : List Bool) (missed : ℕ) (frame : List ℕ) → IsChannel up.link → IsUpOf all up ps marks missed → ArePackets ps →
     length marks * up.link.zone + up.link.zone ≤ length (stream ps) →
     IsDecoded all up.link ps (length marks) frame → IsRight all up ps marks missed (frame_read up frame)
 right all up ps marks missed frame valid is whole room d =
@@ -143,12 +143,12 @@ next_taken all up new ps marks missed frame old out is r t =
     record {
       after = record {
         packets_whole = is.packets_whole;
-        of_link = subst (λ (l : LinkConfig). AreOfLink l ps) (sym t.link) is.of_link;
+        of_link = subst (λ (l : ChannelConfig). AreOfLink l ps) (sym t.link) is.of_link;
         few = some_counts all;
         seen = seen_last all new.last r.last marks true known r.counted;
         unseen = λ (none : new.last ≡ None). absurd (let bad : Some r.last ≡ None = sym known ∙ none in cc);
         counts = ap (λ l. length l) shown ∙ resync_length up.drops b ∙ is.counts;
-        as_left = t.begun ∙ r.held ∙ ap (λ (l : LinkConfig). begun l.zone (marks ++ true ∷ []) 0 ps) (sym t.link);
+        as_left = t.begun ∙ r.held ∙ ap (λ (l : ChannelConfig). begun l.zone (marks ++ true ∷ []) 0 ps) (sym t.link);
       };
       added = packets;
       completed = r.given;
@@ -170,12 +170,12 @@ part_taken all up new ps marks missed frame old out some is r t =
     record {
       after = record {
         packets_whole = is.packets_whole;
-        of_link = subst (λ (l : LinkConfig). AreOfLink l ps) (sym t.link) is.of_link;
+        of_link = subst (λ (l : ChannelConfig). AreOfLink l ps) (sym t.link) is.of_link;
         few = some_counts all;
         seen = seen_last all new.last r.last marks false known r.counted;
         unseen = λ (none : new.last ≡ None). t.begun;
         counts = ap (λ l. length l) lost ∙ no_memory_length up.drops ∙ is.counts;
-        as_left = t.begun ∙ sym (begun-struck up.link.zone marks 0 ps some) ∙ ap (λ (l : LinkConfig). begun l.zone (marks ++ false ∷ []) 0 ps) (sym t.link);
+        as_left = t.begun ∙ sym (begun-struck up.link.zone marks 0 ps some) ∙ ap (λ (l : ChannelConfig). begun l.zone (marks ++ false ∷ []) 0 ps) (sym t.link);
       };
       added = packets;
       completed = r.given;
@@ -188,7 +188,7 @@ part_taken all up new ps marks missed frame old out some is r t =
     }
 
 -- whichever it was
-pub taken_either : (all : Bool) (whole : Bool) (up new : LinkReceiverState) (ps : List (List ℕ)) (marks : List Bool) (missed : ℕ) (frame : List ℕ) (old out : List (List ℕ)) → IsLink up.link →
+pub taken_either : (all : Bool) (whole : Bool) (up new : LinkReceiverState) (ps : List (List ℕ)) (marks : List Bool) (missed : ℕ) (frame : List ℕ) (old out : List (List ℕ)) → IsChannel up.link →
     IsUpOf all up ps marks missed → IsNextFrameOf all up.link ps marks frame →
     (whole ≡ true → Takes (frame_read up frame) up new old out) → (whole ≡ false → HasZone up.link frame × TakesFront (frame_read up frame) up new old out) →
     TakesNextOf all up new ps marks missed old out ⊎ TakesNextFrontOf all up new ps marks old out
@@ -211,7 +211,7 @@ all_given all up new ps marks missed old out none (inl t) =
 all_given all up new ps marks missed old out none (inr t) = inr t.drops
 
 -- all that a frame does to its lane
-pub lane_takes : (whole : Bool) (up new : LinkReceiverState) (frame : List ℕ) (old out : List (List ℕ)) → IsLink up.link → up.link.spacecraft < 256 →
+pub lane_takes : (whole : Bool) (up new : LinkReceiverState) (frame : List ℕ) (old out : List (List ℕ)) → IsChannel up.link → up.link.spacecraft < 256 →
     (whole ≡ true → Takes (frame_read up frame) up new old out) → (whole ≡ false → HasZone up.link frame × TakesFront (frame_read up frame) up new old out) →
     LaneTakes frame up new old out
 lane_takes whole up new frame old out valid byte whole_is front =

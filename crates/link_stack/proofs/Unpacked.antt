@@ -2,7 +2,7 @@
 use Rattle.std.proofs.Common.{◌≡◌, ℕ, zero, suc, ◌+◌, ◌-◌, ◌<◌, ◌≤◌, Option, Some, None, List, [], ◌∷◌, ◌++◌, length, take, drop, slice_set, slice_index_or, replicate, Vec, Global, refl, sym, ap, subst, ◌∙◌, arith}
 use Rattle.std.proofs.lemmas.List.{append_assoc, append-nil, map-append, map-set, take-map, drop-map, get_or-map}
 use Rattle.std.specs.List.{remove}
-use Rattle.aos_frame.specs.declared.config.LinkConfig.{LinkConfig}
+use Rattle.aos_frame.specs.declared.config.ChannelConfig.{ChannelConfig}
 use Rattle.link_stack.specs.declared.drops.LinkDrop.{LinkDrop}
 use Rattle.link_stack.specs.declared.drops.LinkDrop.TheVariants.{BadPacket}
 use Rattle.link_stack.specs.Frames.{packet_drop}
@@ -11,7 +11,7 @@ use Rattle.mpdu.specs.Feeding.{octets_of_each}
 use Rattle.link_stack.specs.Upward.{AreLong, with_pdu, with_drop, pdus_of, drops_of}
 
 -- what is done and what is left makes what there was to do
-pub record IsUnpacked (link : LinkConfig) (initial : List (List ℕ)) (first : ℕ) (counts : List ℕ) (packets : List (List ℕ)) (place : ℕ) (now : List ℕ) : Type 0 where
+pub record IsUnpacked (link : ChannelConfig) (initial : List (List ℕ)) (first : ℕ) (counts : List ℕ) (packets : List (List ℕ)) (place : ℕ) (now : List ℕ) : Type 0 where
   pub within : place ≤ length packets
   pub long : AreLong (drop place packets)
   pub pdus : take place packets ++ pdus_of link (drop place packets) ≡ take first initial ++ pdus_of link (drop first initial)
@@ -25,15 +25,15 @@ with_drop-cons : (d : Option LinkDrop) (drops : List LinkDrop) (counts : List �
 with_drop-cons None drops counts = refl
 with_drop-cons (Some d) drops counts = refl
 
-pub pdus_of-cons : (link : LinkConfig) (q : List ℕ) (left : List (List ℕ)) → pdus_of link (q ∷ left) ≡ pdus_of link (q ∷ []) ++ pdus_of link left
+pub pdus_of-cons : (link : ChannelConfig) (q : List ℕ) (left : List (List ℕ)) → pdus_of link (q ∷ left) ≡ pdus_of link (q ∷ []) ++ pdus_of link left
 pdus_of-cons link q left = with_pdu-cons (packet_drop link q) q (pdus_of link left)
 
-pub drops_of-cons : (link : LinkConfig) (q : List ℕ) (left : List (List ℕ)) (counts : List ℕ) → all_counted counts (drops_of link (q ∷ left))
+pub drops_of-cons : (link : ChannelConfig) (q : List ℕ) (left : List (List ℕ)) (counts : List ℕ) → all_counted counts (drops_of link (q ∷ left))
     ≡ all_counted (all_counted counts (drops_of link (q ∷ []))) (drops_of link left)
 drops_of-cons link q left counts = with_drop-cons (packet_drop link q) (drops_of link left) counts
 
 -- one more is made its PDU, or taken out
-pub unpacked_one : (link : LinkConfig) (initial : List (List ℕ)) (first : ℕ) (counts : List ℕ) (packets next : List (List ℕ)) (place then : ℕ) (now after q : List ℕ) (left : List (List ℕ)) →
+pub unpacked_one : (link : ChannelConfig) (initial : List (List ℕ)) (first : ℕ) (counts : List ℕ) (packets next : List (List ℕ)) (place then : ℕ) (now after q : List ℕ) (left : List (List ℕ)) →
     IsUnpacked link initial first counts packets place now → drop place packets ≡ q ∷ left → then ≤ length next → drop then next ≡ left → take then next ≡ take place packets ++ pdus_of link (q ∷ []) →
     after ≡ all_counted now (drops_of link (q ∷ [])) → IsUnpacked link initial first counts next then after
 unpacked_one link initial first counts packets next place then now after q left is here inside rest front more =
@@ -99,7 +99,7 @@ removed_octets items place =
     ∙ ap (λ l. take place (octets_of_each items) ++ l) (sym (drop-map (λ v. v.items) (suc place) items))
 
 -- what carries no PDU is taken out
-pub taken_out : (link : LinkConfig) (items new : List (Vec ℕ Global)) (place : ℕ) (d : LinkDrop) (text q : List ℕ) (left : List (List ℕ)) (now after : List ℕ) → drop place (octets_of_each items)
+pub taken_out : (link : ChannelConfig) (items new : List (Vec ℕ Global)) (place : ℕ) (d : LinkDrop) (text q : List ℕ) (left : List (List ℕ)) (now after : List ℕ) → drop place (octets_of_each items)
     ≡ q ∷ left →
     text ≡ q → Some d ≡ packet_drop link text → new ≡ remove items place → after ≡ counted now d →
     (drop place (octets_of_each new) ≡ left) × (take place (octets_of_each new) ≡ take place (octets_of_each items) ++ pdus_of link (q ∷ [])) × (after ≡ all_counted now (drops_of link (q ∷ [])))
@@ -113,7 +113,7 @@ taken_out link items new place d text q left now after here same told out more =
     )
 
 -- what carries one is made that PDU
-pub made_pdu : (link : LinkConfig) (items : List (Vec ℕ Global)) (place then : ℕ) (v : Vec ℕ Global) (text q : List ℕ) (left : List (List ℕ)) (now : List ℕ) → drop place (octets_of_each items)
+pub made_pdu : (link : ChannelConfig) (items : List (Vec ℕ Global)) (place then : ℕ) (v : Vec ℕ Global) (text q : List ℕ) (left : List (List ℕ)) (now : List ℕ) → drop place (octets_of_each items)
     ≡ q ∷ left →
     text ≡ q → None ≡ packet_drop link text → v.items ≡ drop 6 text → then ≡ suc place →
     (drop then (octets_of_each (slice_set items place v)) ≡ left) × (take then (octets_of_each (slice_set items place v)) ≡ take place (octets_of_each items) ++ pdus_of link (q ∷ []))

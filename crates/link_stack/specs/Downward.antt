@@ -1,7 +1,8 @@
 -- The sending end of a link, and the stream of packets that each of its two lanes was given.
 use Rattle.std.specs.Prelude.{◌≡◌, ℕ, ◌-◌, ◌%◌, ◌*◌, ◌+◌, ◌≤◌, ◌++◌, ◌∷◌, nat_le, Bool, false, List, [], length, take, drop, replicate, Option, Some, None, if◌then◌else◌}
 use Rattle.aos_frame.specs.Counts.{frame_counts}
-use Rattle.aos_frame.specs.Frame.{lane_link}
+use Rattle.aos_frame.specs.Frame.{lane_channel}
+use Rattle.aos_frame.specs.declared.config.ChannelConfig.{ChannelConfig}
 use Rattle.aos_frame.specs.declared.config.LinkConfig.{LinkConfig}
 use Rattle.aos_frame.specs.declared.config.Lane.{Lane}
 use Rattle.aos_frame.specs.declared.config.Lane.TheVariants.{Directives, Data}
@@ -10,11 +11,11 @@ use Rattle.mpdu.specs.Packing.{PackerState, IsAt, flush_of, idle_packet}
 use Rattle.mpdu.specs.Stream.{stream}
 use Rattle.link_stack.specs.Frames.{AreOfLink, frame_of, packet_of, pdus_in}
 
--- A lane of a sending end: the link as the lane has it; the most octets of packets that may wait,
+-- A lane of a sending end: its channel of the link; the most octets of packets that may wait,
 -- those that do, the place among them where the next packet starts or will, and whether a flush's
 -- packet came last; the count of the next frame.
 pub record LinkSenderState : Type 0 where
-  pub link : LinkConfig
+  pub link : ChannelConfig
   pub capacity : ℕ
   pub waiting : List ℕ
   pub first : ℕ
@@ -110,7 +111,7 @@ IsBounded d =
     × (length d.file_data.waiting ≤ d.file_data.capacity + 2047)
 
 -- a lane that sent nothing, where so many octets of packets may wait
-abbrev pub first_lane_down : LinkConfig → ℕ → LinkSenderState
+abbrev pub first_lane_down : ChannelConfig → ℕ → LinkSenderState
 first_lane_down link capacity = record {
   link = link;
   capacity = capacity;
@@ -123,8 +124,8 @@ first_lane_down link capacity = record {
 -- the end of a link that sent nothing: each lane has the capacity
 abbrev pub first_down : LinkConfig → ℕ → DownState
 first_down link capacity = record {
-  directives = first_lane_down link capacity;
-  file_data = first_lane_down (lane_link Data link) capacity;
+  directives = first_lane_down (lane_channel Directives link) capacity;
+  file_data = first_lane_down (lane_channel Data link) capacity;
   packet_count = 0;
 }
 

@@ -1,33 +1,36 @@
 -- The packets of a link that carry PDUs, and the frames of their stream.
 use Rattle.std.specs.Prelude.{◌≡◌, ℕ, ◌*◌, ◌%◌, true, false, ◌||◌, ◌==◌, not, if◌then◌else◌, Option, Some, None, List, [], ◌∷◌, ◌++◌, ◌⊎◌, drop, map}
-use Rattle.space_packet.specs.Packet.{Parts, packet_octets, apid_field, flags_field, secondary_field}
+use Rattle.space_packet.specs.Packet.{Parts, packet_octets, apid_field, flags_field, flag_bits, secondary_field}
+use Rattle.space_packet.specs.declared.packet.PacketType.TheVariants.{Telemetry}
+use Rattle.space_packet.specs.declared.packet.SequenceFlags.TheVariants.{Unsegmented}
 use Rattle.aos_frame.specs.Counts.{frame_counts}
 use Rattle.aos_frame.specs.Frame.{frame_octets}
-use Rattle.aos_frame.specs.declared.config.LinkConfig.{LinkConfig}
+use Rattle.aos_frame.specs.declared.config.ChannelConfig.{ChannelConfig}
 use Rattle.mpdu.specs.MpduHeader.{pointer_octets}
 use Rattle.mpdu.specs.Stream.{is_idle, stream, zone, first_header_pointer}
 use Rattle.link_stack.specs.declared.drops.LinkDrop.{LinkDrop}
 use Rattle.link_stack.specs.declared.drops.LinkDrop.TheVariants.{OtherApid, Segmented}
 
 -- the packet that carries a PDU: unsegmented, with no secondary header (CCSDS 133.0-B-2, 4.1.3)
-abbrev pub carrying : LinkConfig → ℕ → List ℕ → Parts
+abbrev pub carrying : ChannelConfig → ℕ → List ℕ → Parts
 carrying link count pdu = record {
   apid = link.apid;
-  kind = false;
-  secondary = false;
-  flags = 3;
+  packet_type = Telemetry;
+  has_secondary_header = false;
+  sequence_flags = Unsegmented;
   count = count;
   body = pdu;
 }
 
-abbrev pub packet_of : LinkConfig → ℕ → List ℕ → List ℕ
+abbrev pub packet_of : ChannelConfig → ℕ → List ℕ → List ℕ
 packet_of link count pdu = packet_octets (carrying link count pdu)
 
 -- why a whole packet that isn't idle carries no PDU of the link, or none
-unfoldable pub packet_drop : LinkConfig → List ℕ → Option LinkDrop
+unfoldable pub packet_drop : ChannelConfig → List ℕ → Option LinkDrop
 packet_drop link packet =
     if not (apid_field packet == link.apid) then Some OtherApid
-    else if not (flags_field packet == 3) || secondary_field packet == 1 then Some Segmented
+    else if not (flags_field packet == flag_bits Unsegmented) || secondary_field packet == 1
+    then Some Segmented
     else None
 
 -- the M_PDU of a frame: what stands behind the frame's header
@@ -39,18 +42,18 @@ abbrev pub pdus_in : List (List ℕ) → List (List ℕ)
 pdus_in ps = map (λ p. drop 6 p) ps
 
 -- each packet is idle, or carries a PDU of the link
-abbrev pub AreOfLink : LinkConfig → List (List ℕ) → Type 0
+abbrev pub AreOfLink : ChannelConfig → List (List ℕ) → Type 0
 AreOfLink link [] = Unit {0}
 AreOfLink link (p ∷ ps) = ((is_idle p ≡ true) ⊎ (packet_drop link p ≡ None)) × AreOfLink link ps
 
 -- the M_PDU of frame n of the packets' stream: its header and zone n (CCSDS 732.0-B-4, 4.1.4.2)
-abbrev pub mpdu_of : LinkConfig → List (List ℕ) → ℕ → List ℕ
+abbrev pub mpdu_of : ChannelConfig → List (List ℕ) → ℕ → List ℕ
 mpdu_of link ps n =
     pointer_octets (first_header_pointer link.zone (n * link.zone) 0 ps)
     ++ zone link.zone (n * link.zone) (stream ps)
 
 -- frame n of the packets' stream, counted modulo 2^28 (CCSDS 732.0-B-4, 4.1.2.4, 4.1.2.5)
-abbrev pub frame_of : LinkConfig → List (List ℕ) → ℕ → List ℕ
+abbrev pub frame_of : ChannelConfig → List (List ℕ) → ℕ → List ℕ
 frame_of link ps n =
     frame_octets (record {
       spacecraft = link.spacecraft;

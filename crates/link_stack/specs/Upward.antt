@@ -3,8 +3,9 @@
 use Rattle.std.specs.Prelude.{◌≡◌, ◌⊎◌, ℕ, ◌+◌, ◌-◌, ◌*◌, ◌^◌, ◌<◌, ◌≤◌, nat_le, min, Bool, true, false, ◌==◌, ◌&&◌, not, if◌then◌else◌, Option, Some, None, IfSome, List, [], ◌∷◌, ◌++◌, length, take, drop, replicate}
 use Rattle.cfd_bits.specs.Field.{field}
 use Rattle.aos_frame.specs.Counts.{counts_of, follows, CountsFrame}
-use Rattle.aos_frame.specs.Frame.{frame_fault, lane_link, seen_in}
+use Rattle.aos_frame.specs.Frame.{frame_fault, lane_channel, seen_in}
 use Rattle.aos_frame.specs.declared.count.SeenCount.{SeenCount}
+use Rattle.aos_frame.specs.declared.config.ChannelConfig.{ChannelConfig}
 use Rattle.aos_frame.specs.declared.config.LinkConfig.{LinkConfig}
 use Rattle.aos_frame.specs.declared.config.Lane.{Lane}
 use Rattle.aos_frame.specs.declared.config.Lane.TheVariants.{Directives, Data}
@@ -19,10 +20,10 @@ use Rattle.link_stack.specs.declared.drops.LinkDrop.TheVariants.{Frame, Resync, 
 use Rattle.link_stack.specs.Frames.{packet_drop, mpdu_in, AreOfLink, frame_of, pdus_in}
 use Rattle.link_stack.specs.Drops.{counted, all_counted, count_of}
 
--- A lane of a receiving end: the link as the lane has it, the count of the last frame seen with its
+-- A lane of a receiving end: its channel of the link, the count of the last frame seen with its
 -- usage flag of the count cycle, what is held of a begun packet, and the counts of drops.
 pub record LinkReceiverState : Type 0 where
-  pub link : LinkConfig
+  pub link : ChannelConfig
   pub last : Option SeenCount
   pub begun : List ℕ
   pub drops : List ℕ
@@ -32,7 +33,7 @@ abbrev pub with_pdu : Option LinkDrop → List ℕ → List (List ℕ) → List 
 with_pdu None packet pdus = drop 6 packet ∷ pdus
 with_pdu (Some cause) packet pdus = pdus
 
-abbrev pub pdus_of : LinkConfig → List (List ℕ) → List (List ℕ)
+abbrev pub pdus_of : ChannelConfig → List (List ℕ) → List (List ℕ)
 pdus_of link [] = []
 pdus_of link (p ∷ ps) = with_pdu (packet_drop link p) p (pdus_of link ps)
 
@@ -41,7 +42,7 @@ abbrev pub with_drop : Option LinkDrop → List LinkDrop → List LinkDrop
 with_drop None drops = drops
 with_drop (Some cause) drops = cause ∷ drops
 
-abbrev pub drops_of : LinkConfig → List (List ℕ) → List LinkDrop
+abbrev pub drops_of : ChannelConfig → List (List ℕ) → List LinkDrop
 drops_of link [] = []
 drops_of link (p ∷ ps) = with_drop (packet_drop link p) (drops_of link ps)
 
@@ -100,7 +101,7 @@ abbrev pub frame_read : LinkReceiverState → List ℕ → FrameRead
 frame_read up frame = read_unless (frame_fault frame up.link) up frame
 
 -- The frame has a zone to read: it is one of the link, and its pointer doesn't tell of idle data.
-pub record HasZone (link : LinkConfig) (frame : List ℕ) : Type 0 where
+pub record HasZone (link : ChannelConfig) (frame : List ℕ) : Type 0 where
   pub of_link : frame_fault frame link ≡ None
   pub not_idle : (pointer_of (mpdu_in frame) == 2046) ≡ false
 
@@ -148,14 +149,14 @@ abbrev pub IsUp : LinkReceiverState → List (List ℕ) → List Bool → ℕ �
 IsUp up ps marks missed = IsUpOf true up ps marks missed
 
 -- The frame behind the marked ones of the packets' stream, as a sending end makes it.
-pub record IsNextFrame (link : LinkConfig) (ps : List (List ℕ)) (marks : List Bool)
+pub record IsNextFrame (link : ChannelConfig) (ps : List (List ℕ)) (marks : List Bool)
     (frame : List ℕ) : Type 0 where
   pub inside : length marks * link.zone + link.zone ≤ length (stream ps)
   pub octets : frame ≡ frame_of link ps (length marks)
 
 -- The frame behind the marked ones, whoever makes it: a frame of the link with that count and that
 -- zone. Where not all frames of the stream have the flag, it may have it or not.
-pub record IsNextFrameOf (all : Bool) (link : LinkConfig) (ps : List (List ℕ)) (marks : List Bool)
+pub record IsNextFrameOf (all : Bool) (link : ChannelConfig) (ps : List (List ℕ)) (marks : List Bool)
     (frame : List ℕ) : Type 0 where
   pub of_link : frame_fault frame link ≡ None
   pub counted : CountsFrame all (length marks) (seen_in frame)
@@ -210,14 +211,14 @@ lane_up Directives u = u.directives
 lane_up Data u = u.file_data
 
 -- a lane that took no frame
-abbrev pub first_lane_up : LinkConfig → LinkReceiverState
+abbrev pub first_lane_up : ChannelConfig → LinkReceiverState
 first_lane_up link = record { link = link; last = None; begun = []; drops = replicate 11 0 }
 
 -- the end of a link that took no frame
 abbrev pub first_up : LinkConfig → UpState
 first_up link = record {
-  directives = first_lane_up link;
-  file_data = first_lane_up (lane_link Data link);
+  directives = first_lane_up (lane_channel Directives link);
+  file_data = first_lane_up (lane_channel Data link);
 }
 
 -- the lane that takes a frame: that of its virtual channel. What is of neither, or no frame, goes

@@ -1,15 +1,19 @@
 //! PDUs down to frames.
-ghost use Rattle.std.specs.Prelude.{◌≡◌, ◌+◌, ◌*◌, ◌%◌, ◌<◌, ◌≤◌, ◌↔◌, [], length, Some, None, IfOk, IfSome, OnOk, OnErr, IsErr};
-ghost use Rattle.aos_frame.specs.Frame.{IsLink, other_lane};
-ghost use Rattle.link_stack.specs.Downward.{Flushes, IsBounded, IsDown, KeepsLanes, MakesFrame, SendsPdu, both_counted_from, first_down, frame_lane, idle_zones, lane_down};
+ghost use Rattle.std.specs.Prelude.{◌≡◌, ◌+◌, ◌*◌, ◌%◌, ◌<◌, ◌≤◌, ◌↔◌, [], length, Some, None};
+ghost use Rattle.std.specs.Prelude.{IfOk, IfSome, OnOk, OnErr, IsErr};
+ghost use Rattle.aos_frame.specs.Frame.{other_lane};
+ghost use Rattle.link_stack.specs.Downward.{Flushes, IsBounded, IsDown, KeepsLanes, MakesFrame};
+ghost use Rattle.link_stack.specs.Downward.{SendsPdu, both_counted_from, first_down, frame_lane};
+ghost use Rattle.link_stack.specs.Downward.{idle_zones, lane_down};
 ghost use Rattle.link_stack.specs.Downward as downward;
 
 use crate::down_lane::DownLane;
-use aos_frame::{HEADER_LEN as FRAME_HEADER_LEN, Lane, LinkConfig};
+use aos_frame::{ChannelConfig, HEADER_LEN as FRAME_HEADER_LEN, Lane, LinkConfig};
 use mpdu::{Full, MPDU_HEADER_LEN};
 use space_packet::Counter;
 use std::alloc::{AllocError, Global};
 use std::marker::Model;
+use valid_config::Valid;
 
 /// The sending end of one direction of a link: each PDU in a packet of its own, the packets of each
 /// lane end to end over the frames of its virtual channel.
@@ -28,8 +32,7 @@ pub struct Down {
 
 impl Model for Down {
     ghost use Rattle.std.specs.Prelude.{◌≡◌, ◌+◌, ◌<◌, ◌≤◌, length};
-    ghost use Rattle.aos_frame.specs.Frame.{IsLink, lane_link};
-    ghost use Rattle.aos_frame.specs.declared.config.Lane.TheVariants as lanes;
+    ghost use Rattle.aos_frame.specs.Frame.{AreLanes};
     ghost use Rattle.link_stack.specs.Downward.{DownState};
 
     ghost Value = { DownState };
@@ -40,8 +43,7 @@ impl Model for Down {
       packet_count = d.packets;
     } };
 
-    ghost invariant = { λ d. IsLink d.directives.link
-        × (d.file_data.link ≡ lane_link lanes.Data d.directives.link)
+    ghost invariant = { λ d. AreLanes d.directives.link d.file_data.link
         × (d.file_data.capacity ≡ d.directives.capacity)
         × (length d.packet.items ≡ d.directives.capacity)
         × (d.packets < 16384)
@@ -54,15 +56,14 @@ impl Down {
     /// (up to 65,536) may wait.
     ///
     /// `AllocError` comes only where one of its buffers was refused.
-    pub fn new(alloc: Global, link: LinkConfig, capacity: usize) -> Result<Self, AllocError>
-        requires link { IsLink link }
+    pub fn new(alloc: Global, link: Valid<LinkConfig>, capacity: usize) -> Result<Self, AllocError>
         requires most { capacity ≤ 65536 }
         ensures new { IfOk result (λ d. d ≡ first_down link capacity) }
         ensures stream { (lane : Lane) → IfOk result (λ d. IsDown (lane_down lane d) [] 0) }
     {
         Ok(Down {
-            directives: DownLane::new(alloc, link, capacity)?,
-            file_data: DownLane::new(alloc, link.of_lane(Lane::Data), capacity)?,
+            directives: DownLane::new(alloc, ChannelConfig::of(link, Lane::Directives), capacity)?,
+            file_data: DownLane::new(alloc, ChannelConfig::of(link, Lane::Data), capacity)?,
             packets: Counter::new(),
             packet: vec![in alloc; 0u8; capacity]?,
         })

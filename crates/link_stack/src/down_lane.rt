@@ -1,21 +1,23 @@
 //! One lane of the way down: PDUs to the frames of one virtual channel.
-ghost use Rattle.std.specs.Prelude.{◌≡◌, ℕ, ◌+◌, ◌*◌, ◌<◌, ◌≤◌, ◌++◌, List, [], ◌∷◌, true, false, length, take, drop, IfOk};
-ghost use Rattle.aos_frame.specs.Frame.{IsLink, FitsHeader, frame_octets};
+ghost use Rattle.std.specs.Prelude.{◌≡◌, ℕ, ◌+◌, ◌*◌, ◌<◌, ◌≤◌, ◌++◌, List, [], ◌∷◌, true, false};
+ghost use Rattle.std.specs.Prelude.{length, take, drop, IfOk};
+ghost use Rattle.aos_frame.specs.Frame.{FitsHeader, IsChannel, frame_octets};
 ghost use Rattle.mpdu.specs.MpduHeader.{pointer_octets};
 ghost use Rattle.mpdu.specs.Stream.{stream};
 ghost use Rattle.mpdu.specs.Packing.{flush_of};
 ghost use Rattle.mpdu.specs.Packets.{busy};
 ghost use Rattle.link_stack.specs.Frames.{packet_of, frame_of, pdus_in};
-ghost use Rattle.link_stack.specs.Downward.{packing, IsDown, IsFixed, counted_from, first_lane_down, idle_zones};
+ghost use Rattle.link_stack.specs.Downward.{packing, IsDown, IsFixed, counted_from};
+ghost use Rattle.link_stack.specs.Downward.{first_lane_down, idle_zones};
 ghost use Rattle.link_stack.specs.Downward as downward;
 
-use crate::UNSEGMENTED;
-use aos_frame::{FrameHeader, HEADER_LEN as FRAME_HEADER_LEN, LinkConfig, VcCounter};
+use aos_frame::{ChannelConfig, FrameHeader, HEADER_LEN as FRAME_HEADER_LEN, VcCounter};
 use mpdu::{MPDU_HEADER_LEN, Packer, put_pointer};
-use space_packet::Packet;
 use space_packet::header::HEADER_LEN as PACKET_HEADER_LEN;
+use space_packet::{Packet, PacketType, SequenceFlags};
 use std::alloc::{AllocError, Global};
 use std::marker::Model;
+use valid_config::Valid;
 
 /// Writes the headers of a frame with a packet zone, in front of the zone.
 fn put_headers(frame: &FrameHeader, pointer: u16, out: &mut [u8])
@@ -33,15 +35,14 @@ fn put_headers(frame: &FrameHeader, pointer: u16, out: &mut [u8])
 /// frames of one virtual channel.
 #[derive(Debug, Drop)]
 pub(crate) struct DownLane {
-    // as the lane has it
-    link: LinkConfig,
+    link: ChannelConfig,
     packer: Packer,
     frames: VcCounter,
 }
 
 impl Model for DownLane {
     ghost use Rattle.std.specs.Prelude.{◌≡◌, ◌≤◌};
-    ghost use Rattle.aos_frame.specs.Frame.{IsLink};
+    ghost use Rattle.aos_frame.specs.Frame.{IsChannel};
     ghost use Rattle.link_stack.specs.Downward.{LinkSenderState};
 
     ghost Value = { LinkSenderState };
@@ -56,18 +57,22 @@ impl Model for DownLane {
       frame_count = d.frames;
     } };
 
-    ghost invariant = { λ d. IsLink d.link × (d.packer.size ≡ d.link.zone)
+    ghost invariant = { λ d. IsChannel d.link × (d.packer.size ≡ d.link.zone)
         × (d.packer.capacity ≤ 65536) };
 }
 
 impl DownLane {
-    /// A lane with no PDU sent, of the link as it has it.
-    pub(crate) fn new(alloc: Global, link: LinkConfig, capacity: usize) -> Result<Self, AllocError>
-        requires link { IsLink link }
+    /// A lane with no PDU sent.
+    pub(crate) fn new(
+        alloc: Global,
+        link: Valid<ChannelConfig>,
+        capacity: usize,
+    ) -> Result<Self, AllocError>
         requires most { capacity ≤ 65536 }
         ensures new { IfOk result (λ d. d ≡ first_lane_down link capacity) }
         ensures stream { IfOk result (λ d. IsDown d [] 0) }
     {
+        let link = link.get();
         Ok(DownLane {
             link,
             packer: Packer::new(alloc, link.zone as usize, capacity)?,
@@ -86,10 +91,10 @@ impl DownLane {
         self.frames = VcCounter::from_count(count);
     }
 
-    /// The link as the lane has it.
-    pub(crate) fn link(&self) -> LinkConfig
+    /// Its virtual channel, and what is in the frames of that.
+    pub(crate) fn link(&self) -> ChannelConfig
         ensures is { result ≡ self.now.link }
-        ensures valid { IsLink result }
+        ensures valid { IsChannel result }
     {
         self.link
     }
@@ -136,9 +141,9 @@ impl DownLane {
     {
         let packet = Packet {
             apid: self.link.apid,
-            kind: false,
-            secondary: false,
-            flags: UNSEGMENTED,
+            packet_type: PacketType::Telemetry,
+            has_secondary_header: false,
+            sequence_flags: SequenceFlags::Unsegmented,
             count,
             body: pdu,
         };

@@ -1,6 +1,5 @@
 //! What is dropped on the way up, and why.
-ghost use Rattle.std.specs.Prelude.{◌≡◌, ◌≤◌, ◌↔◌, IsSome, IfSome, Some};
-ghost use Rattle.link_stack.specs.declared.drops.LinkDrop.{LinkDrop};
+ghost use Rattle.std.specs.Prelude.{◌≡◌};
 ghost use Rattle.link_stack.specs.Drops.{drop_number, drop_name, drop_source};
 
 use aos_frame::FrameError;
@@ -46,28 +45,6 @@ impl LinkDrop {
         LinkDrop::Segmented,
         LinkDrop::NoMemory,
     ];
-
-    /// The drop with this number, of 1 to 11.
-    pub fn from_number(number: u8) -> Option<LinkDrop>
-        ensures some { IsSome result ↔ (1 ≤ number) × (number ≤ 11) }
-        ensures found { IfSome result (λ drop. drop_number drop ≡ number) }
-        ensures only { (drop : LinkDrop) → drop_number drop ≡ number → result ≡ Some drop }
-    {
-        match number {
-            1 => Some(LinkDrop::Frame(FrameError::Length)),
-            2 => Some(LinkDrop::Frame(FrameError::Version)),
-            3 => Some(LinkDrop::Frame(FrameError::OtherProfile)),
-            4 => Some(LinkDrop::Frame(FrameError::OtherSpacecraft)),
-            5 => Some(LinkDrop::Frame(FrameError::OtherChannel)),
-            6 => Some(LinkDrop::Frame(FrameError::OnlyIdle)),
-            7 => Some(LinkDrop::Resync),
-            8 => Some(LinkDrop::BadPacket),
-            9 => Some(LinkDrop::OtherApid),
-            10 => Some(LinkDrop::Segmented),
-            11 => Some(LinkDrop::NoMemory),
-            _ => None,
-        }
-    }
 
     /// Why the octets are no frame of the link, where that is the cause.
     pub fn source(self) -> Option<FrameError>

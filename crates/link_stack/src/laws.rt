@@ -1,8 +1,9 @@
 //! Laws of a link's stream, each the contract of a function that does nothing.
-ghost use Rattle.std.specs.Prelude.{◌≡◌, ℕ, ◌+◌, ◌*◌, ◌<◌, ◌≤◌, ◌⊎◌, ◌++◌, List, Bool, [], ◌∷◌, true, false, None, length, drop};
+ghost use Rattle.std.specs.Prelude.{◌≡◌, ℕ, ◌+◌, ◌*◌, ◌<◌, ◌≤◌, ◌⊎◌, ◌++◌, List, Bool, [], ◌∷◌};
+ghost use Rattle.std.specs.Prelude.{true, false, None, length, drop};
 ghost use Rattle.aos_frame.specs.Counts.{counts_of};
-ghost use Rattle.aos_frame.specs.Frame.{IsLink};
-ghost use Rattle.aos_frame.specs.declared.config.LinkConfig.{LinkConfig};
+ghost use Rattle.aos_frame.specs.Frame.{IsChannel};
+ghost use Rattle.aos_frame.specs.declared.config.ChannelConfig.{ChannelConfig};
 ghost use Rattle.space_packet.specs.Packet.{SpellsPacket};
 ghost use Rattle.mpdu.specs.Stream.{IsPacket, stream, survivors, is_idle};
 ghost use Rattle.link_stack.specs.Frames.{packet_drop, carrying, packet_of, frame_of};
@@ -24,7 +25,7 @@ pub fn a_struck_frame_is_missed()
 /// A packet that is sent later changes no frame that is made already, and nothing of what the
 /// frames before it leave.
 pub fn a_later_packet_changes_nothing()
-    ensures frames { (link : LinkConfig) (ps : List (List ℕ)) (q : List ℕ) (n : ℕ) →
+    ensures frames { (link : ChannelConfig) (ps : List (List ℕ)) (q : List ℕ) (n : ℕ) →
         n * link.zone + link.zone ≤ length (stream ps) → frame_of link (ps ++ q ∷ []) n
         ≡ frame_of link ps n }
     ensures end { (all : Bool) (up : LinkReceiverState) (ps : List (List ℕ)) (q : List ℕ)
@@ -32,7 +33,7 @@ pub fn a_later_packet_changes_nothing()
         ((is_idle q ≡ true) ⊎ (packet_drop up.link q ≡ None)) →
         length marks * up.link.zone ≤ length (stream ps) → IsUpOf all up ps marks missed →
         IsUpOf all up (ps ++ q ∷ []) marks missed }
-    ensures packets { (link : LinkConfig) (ps : List (List ℕ)) (q : List ℕ) (marks : List Bool) →
+    ensures packets { (link : ChannelConfig) (ps : List (List ℕ)) (q : List ℕ) (marks : List Bool) →
         IsPacket q →
         length marks * link.zone ≤ length (stream ps) → survivors link.zone marks 0 (ps ++ q ∷ [])
         ≡ survivors link.zone marks 0 ps }
@@ -41,11 +42,11 @@ pub fn a_later_packet_changes_nothing()
 /// The packet of a PDU of 1 to 65,536 octets is one whole packet of a valid link, is not idle, and
 /// its PDU stands behind its header of 6 octets.
 pub fn a_packet_carries_its_pdu()
-    ensures whole { (link : LinkConfig) (count : ℕ) (pdu : List ℕ) → IsLink link → count < 16384 → 1
-        ≤ length pdu → length pdu ≤ 65536 →
+    ensures whole { (link : ChannelConfig) (count : ℕ) (pdu : List ℕ) → IsChannel link →
+        count < 16384 → 1 ≤ length pdu → length pdu ≤ 65536 →
         SpellsPacket (carrying link count pdu) (packet_of link count pdu) }
-    ensures carried { (link : LinkConfig) (count : ℕ) (pdu : List ℕ) → IsLink link → count < 16384 →
-        1 ≤ length pdu → length pdu ≤ 65536 →
+    ensures carried { (link : ChannelConfig) (count : ℕ) (pdu : List ℕ) → IsChannel link →
+        count < 16384 → 1 ≤ length pdu → length pdu ≤ 65536 →
         (packet_drop link (packet_of link count pdu) ≡ None)
         × (is_idle (packet_of link count pdu) ≡ false)
         × (drop 6 (packet_of link count pdu) ≡ pdu) }

@@ -8,6 +8,7 @@
 //! each drop is counted under its number.
 //!
 //! ```
+//! let link = link.validate()?;
 //! let mut down = Down::new(alloc, link, 8192)?;
 //! down.send(&pdu, Lane::Data)?;
 //! down.flush(Lane::Data);
@@ -16,7 +17,7 @@
 //! let mut frame = vec![in alloc; 0u8; down.frame_len()]?;
 //! let mut pdus = Vec::new(alloc);
 //! while down.next_frame(&mut frame).is_some() {
-//!     up.take(&frame, &mut pdus);
+//!     up.receive(&frame, &mut pdus);
 //! }
 //! ```
 //!
@@ -30,7 +31,7 @@ mod laws;
 mod up;
 mod up_lane;
 
-pub use aos_frame::{Lane, LinkConfig};
+pub use aos_frame::{Lane, LinkConfig, LinkField};
 pub use down::Down;
 pub use drops::LinkDrop;
 pub use laws::{
@@ -38,6 +39,3 @@ pub use laws::{
 };
 pub use mpdu::Full;
 pub use up::Up;
-
-/// The sequence flags of an unsegmented packet (CCSDS 133.0-B-2, 4.1.3.4.2).
-const UNSEGMENTED: u8 = 3;

@@ -1,17 +1,19 @@
 //! Frames up to PDUs.
 ghost use Rattle.std.specs.Prelude.{◌≡◌, ℕ, ◌≤◌, Bool, List, [], length, IfOk};
 ghost use Rattle.cfd_bits.specs.Field.{field};
-ghost use Rattle.aos_frame.specs.Frame.{IsLink, lane_link, other_lane};
+ghost use Rattle.aos_frame.specs.Frame.{lane_channel, other_lane};
 ghost use Rattle.mpdu.specs.Feeding.{octets_of_each};
 ghost use Rattle.mpdu.specs.Stream.{ArePackets};
 ghost use Rattle.link_stack.specs.Frames.{AreOfLink};
-ghost use Rattle.link_stack.specs.Upward.{IsUpOf, LaneTakes, drop_count, first_up, lane_of, lane_up};
+ghost use Rattle.link_stack.specs.Upward.{IsUpOf, LaneTakes, drop_count, first_up, lane_of};
+ghost use Rattle.link_stack.specs.Upward.{lane_up};
 
 use crate::up_lane::UpLane;
-use aos_frame::{Lane, LinkConfig};
+use aos_frame::{ChannelConfig, Lane, LinkConfig};
 use cfd_bits::get;
 use std::alloc::{AllocError, Global};
 use std::marker::Model;
+use valid_config::Valid;
 
 /// The receiving end of one direction of a link: what it takes of the frames of each lane are the
 /// PDUs all of whose frames came, in order.
@@ -24,34 +26,30 @@ pub struct Up {
 }
 
 impl Model for Up {
-    ghost use Rattle.std.specs.Prelude.{◌≡◌};
-    ghost use Rattle.aos_frame.specs.Frame.{IsLink, lane_link};
-    ghost use Rattle.aos_frame.specs.declared.config.Lane.TheVariants as lanes;
+    ghost use Rattle.aos_frame.specs.Frame.{AreLanes};
     ghost use Rattle.link_stack.specs.Upward.{UpState};
 
     ghost Value = { UpState };
 
     ghost view = { λ u. record { directives = u.directives; file_data = u.file_data } };
 
-    ghost invariant = { λ u. IsLink u.directives.link
-        × (u.file_data.link ≡ lane_link lanes.Data u.directives.link) };
+    ghost invariant = { λ u. AreLanes u.directives.link u.file_data.link };
 }
 
 impl Up {
     /// The end of a valid link, which has taken no frame.
     ///
     /// `AllocError` comes only where the buffer of a reassembler was refused.
-    pub fn new(alloc: Global, link: LinkConfig) -> Result<Self, AllocError>
-        requires { IsLink link }
+    pub fn new(alloc: Global, link: Valid<LinkConfig>) -> Result<Self, AllocError>
         ensures new { IfOk result (λ u. u ≡ first_up link) }
         // Each lane is as no frame of a stream of the link leaves it.
         ensures stream { (lane : Lane) (all : Bool) (ps : List (List ℕ)) → ArePackets ps →
-            AreOfLink (lane_link lane link) ps →
+            AreOfLink (lane_channel lane link) ps →
             IfOk result (λ u. IsUpOf all (lane_up lane u) ps [] 0) }
     {
         Ok(Up {
-            directives: UpLane::new(alloc, link)?,
-            file_data: UpLane::new(alloc, link.of_lane(Lane::Data))?,
+            directives: UpLane::new(alloc, ChannelConfig::of(link, Lane::Directives))?,
+            file_data: UpLane::new(alloc, ChannelConfig::of(link, Lane::Data))?,
         })
     }
 
@@ -91,7 +89,7 @@ impl Up {
     /// place of what the zone tells: a front of its PDUs was appended, the lane's begun packet and
     /// the rest of the zone are discarded, and its next zone is read from its pointer, as if this
     /// frame had been lost.
-    pub fn take(&mut self, frame: &[u8], out: &mut Vec<Vec<u8>>)
+    pub fn receive(&mut self, frame: &[u8], out: &mut Vec<Vec<u8>>)
         // The end of its lane takes it, and the other one stays as it was.
         ensures taken { LaneTakes frame.now (lane_up (lane_of self.old frame.now) self.old)
             (lane_up (lane_of self.old frame.now) self.new) (octets_of_each out.old.items)

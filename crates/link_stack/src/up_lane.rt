@@ -1,22 +1,25 @@
 //! One lane of the way up: the frames of one virtual channel to PDUs.
-ghost use Rattle.std.specs.Prelude.{◌≡◌, ℕ, ◌+◌, ◌-◌, ◌==◌, ◌<◌, ◌≤◌, ◌⊎◌, ◌++◌, List, Bool, [], ◌∷◌, true, false, length, take, drop, replicate, Some, None, IfOk, OnErr};
-ghost use Rattle.aos_frame.specs.Frame.{IsLink};
+ghost use Rattle.std.specs.Prelude.{◌≡◌, ℕ, ◌+◌, ◌-◌, ◌==◌, ◌<◌, ◌≤◌, ◌⊎◌, ◌++◌, List, Bool, []};
+ghost use Rattle.std.specs.Prelude.{◌∷◌, true, false, length, take, drop, replicate, Some, None};
+ghost use Rattle.std.specs.Prelude.{IfOk, OnErr};
 ghost use Rattle.mpdu.specs.Feeding.{octets_of_each};
 ghost use Rattle.mpdu.specs.MpduHeader.{pointer_of};
 ghost use Rattle.mpdu.specs.Stream.{ArePackets, survivors};
 ghost use Rattle.link_stack.specs.Frames.{packet_drop, AreOfLink, pdus_in};
 ghost use Rattle.cfd_bits.specs.Counting.{raised};
 ghost use Rattle.link_stack.specs.Drops.{counted, all_counted, count_of};
-ghost use Rattle.link_stack.specs.Upward.{AreLong, pdus_of, drops_of, zone_drops, packets_read, mpdu_read, frame_read, HasZone, LaneTakes, Takes, TakesFront, IsUpOf, first_lane_up};
+ghost use Rattle.link_stack.specs.Upward.{AreLong, pdus_of, drops_of, zone_drops, packets_read};
+ghost use Rattle.link_stack.specs.Upward.{mpdu_read, frame_read, HasZone, LaneTakes, Takes};
+ghost use Rattle.link_stack.specs.Upward.{TakesFront, IsUpOf, first_lane_up};
 ghost use Rattle.link_stack.specs.declared.drops.LinkDrop.TheVariants.{BadPacket, NoMemory};
 
-use crate::UNSEGMENTED;
 use crate::drops::LinkDrop;
-use aos_frame::{FrameError, LinkConfig, VcMonitor, decode};
+use aos_frame::{ChannelConfig, FrameError, VcMonitor, decode};
 use mpdu::{MPDU_HEADER_LEN, Notes, ONLY_IDLE, Reassembler, read_pointer};
-use space_packet::header;
+use space_packet::{SequenceFlags, header};
 use std::alloc::{AllocError, Global};
 use std::marker::Model;
+use valid_config::Valid;
 
 /// The causes that drops are counted under.
 const CAUSES: usize = 11;
@@ -96,14 +99,15 @@ fn count_bad(bad: u8, drops: &mut Drops)
 
 /// Why a whole packet that isn't idle carries no PDU of the link, if it doesn't.
 #[tactic(auto, unfolding(crate::specs::Frames::packet_drop))]
-fn packet_drop_of(link: &LinkConfig, packet: &[u8]) -> Option<LinkDrop>
+fn packet_drop_of(link: &ChannelConfig, packet: &[u8]) -> Option<LinkDrop>
     requires { 6 ≤ length packet.now }
     ensures { result ≡ packet_drop link.now packet.now }
 {
     if header::apid(packet) != link.apid {
         return Some(LinkDrop::OtherApid);
     }
-    if header::sequence_flags(packet) != UNSEGMENTED || header::has_secondary_header(packet) {
+    let flags = header::sequence_flags(packet);
+    if flags != SequenceFlags::Unsegmented || header::has_secondary_header(packet) {
         return Some(LinkDrop::Segmented);
     }
     None
@@ -121,7 +125,7 @@ fn drop_header(packet: &mut Vec<u8>)
 /// Makes the packet at a place its PDU, or takes it out and counts why it carries none. Answers the
 /// place of the next.
 fn unpack_one(
-    link: &LinkConfig,
+    link: &ChannelConfig,
     packets: &mut Vec<Vec<u8>>,
     place: usize,
     drops: &mut Drops,
@@ -147,7 +151,7 @@ fn unpack_one(
 }
 
 /// Makes the packets from a place on their PDUs, and takes out and counts those that carry none.
-fn unpack(link: &LinkConfig, packets: &mut Vec<Vec<u8>>, first: usize, drops: &mut Drops)
+fn unpack(link: &ChannelConfig, packets: &mut Vec<Vec<u8>>, first: usize, drops: &mut Drops)
     requires there { first ≤ length packets.old.items }
     requires long { AreLong (drop first (octets_of_each packets.old.items)) }
     ensures pdus { octets_of_each packets.new.items ≡ take first (octets_of_each packets.old.items)
@@ -165,15 +169,14 @@ fn unpack(link: &LinkConfig, packets: &mut Vec<Vec<u8>>, first: usize, drops: &m
 /// of whose frames came, in order.
 #[derive(Debug, Drop)]
 pub(crate) struct UpLane {
-    // as the lane has it
-    link: LinkConfig,
+    link: ChannelConfig,
     monitor: VcMonitor,
     reassembler: Reassembler,
     drops: Drops,
 }
 
 impl Model for UpLane {
-    ghost use Rattle.aos_frame.specs.Frame.{IsLink};
+    ghost use Rattle.aos_frame.specs.Frame.{IsChannel};
     ghost use Rattle.link_stack.specs.Upward.{LinkReceiverState};
 
     ghost Value = { LinkReceiverState };
@@ -186,20 +189,19 @@ impl Model for UpLane {
           u.drops;
     } };
 
-    ghost invariant = { λ u. IsLink u.link };
+    ghost invariant = { λ u. IsChannel u.link };
 }
 
 impl UpLane {
-    /// A lane that has taken no frame, of the link as it has it.
-    pub(crate) fn new(alloc: Global, link: LinkConfig) -> Result<Self, AllocError>
-        requires { IsLink link }
+    /// A lane that has taken no frame.
+    pub(crate) fn new(alloc: Global, link: Valid<ChannelConfig>) -> Result<Self, AllocError>
         ensures new { IfOk result (λ u. u ≡ first_lane_up link) }
         // It is as no frame of a stream of the lane leaves it.
         ensures stream { (all : Bool) (ps : List (List ℕ)) → ArePackets ps → AreOfLink link ps →
             IfOk result (λ u. IsUpOf all u ps [] 0) }
     {
         Ok(UpLane {
-            link,
+            link: link.get(),
             monitor: VcMonitor::new(),
             reassembler: Reassembler::new(alloc)?,
             drops: Drops::new(),

@@ -2,8 +2,9 @@
 use Rattle.std.proofs.Common.{◌≡◌, ℕ, zero, suc, ◌+◌, ◌≤◌, true, false, ◌&&◌, nat_le, ◌==◌, List, [], ◌∷◌, ◌++◌, length, take, drop, refl, sym, ap, ◌∙◌, arith, inl, inr, subst, Bool, length-append, length-drop}
 use Rattle.std.proofs.lemmas.Bool.{le-leb, lt-leb, leb-true, cases_Bool, eqb-true}
 use Rattle.cfd_bits.specs.Field.{field}
+use Rattle.cfd_bits.proofs.BitFields.{field-below}
 use Rattle.space_packet.specs.Packet.{Parts, SpellsPacket}
-use Rattle.space_packet.proofs.Spelling.{spelled}
+use Rattle.space_packet.proofs.Spelling.{spelled, type_of, flags_of}
 use Rattle.std.proofs.lemmas.List.{append_assoc, append-nil, take_at, drop_at, take-append-le, take-append-drop, length-take-le}
 use Rattle.mpdu.specs.Stream.{stream, header_len, header_ok, IsPacket, ArePackets}
 use Rattle.mpdu.proofs.Scan.{header_len-same, header_ok-same, packet_version, packet_size, packet_long, header_len-long}
@@ -74,9 +75,11 @@ front_is_packet text e =
     let version : field text 0 3 ≡ 0 = eqb-true (field text 0 3) 0 ok in
     let body : List ℕ = drop 6 (take n text) in
     let size : 6 + length body ≡ n = omega (arith, length-drop 6 (take n text), length-take-le n text room) in
-    let parts : Parts = record { apid = field text 5 11; kind = field text 3 1 == 1; secondary = field text 4 1 == 1; flags = field text 16 2; count = field text 18 14; body = body } in
-    let s : SpellsPacket parts (take (6 + length body) text) = spelled text n (field text 5 11) (field text 16 2) (field text 18 14) (field text 3 1 == 1)
-    (field text 4 1 == 1) body version refl room refl refl refl refl refl refl in
+    let t = type_of (field text 3 1) (field-below text 3 1) in
+    let f = flags_of (field text 16 2) (field-below text 16 2) in
+    let parts : Parts = record { apid = field text 5 11; packet_type = t.0; has_secondary_header = field text 4 1 == 1; sequence_flags = f.0; count = field text 18 14; body = body } in
+    let s : SpellsPacket parts (take (6 + length body) text) = spelled text n (field text 5 11) (field text 18 14) t.0 (field text 4 1 == 1) f.0
+    body version refl room refl t.1 refl f.1 refl refl in
     record { parts = parts; spelled = subst (λ k. SpellsPacket parts (take k text)) size s }
 
 -- All of it is read: what is left begins with no packet.

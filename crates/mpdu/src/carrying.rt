@@ -1,5 +1,6 @@
 //! Packets down to zones and up again, over a list of losses.
-ghost use Rattle.std.specs.Prelude.{◌≡◌, ℕ, ◌+◌, ◌<◌, ◌≤◌, ◌++◌, List, IsTrue, ◌↔◌, false, length, min, slice_index_or as get_or, IfOk, OnOk};
+ghost use Rattle.std.specs.Prelude.{◌≡◌, ℕ, ◌+◌, ◌<◌, ◌≤◌, ◌++◌, List, IsTrue, ◌↔◌, false, length};
+ghost use Rattle.std.specs.Prelude.{min, slice_index_or as get_or, IfOk, OnOk};
 ghost use Rattle.mpdu.specs.Stream.{ArePackets};
 ghost use Rattle.mpdu.specs.Feeding.{octets_of_each};
 ghost use Rattle.mpdu.specs.Carrying.{AreFewInARow, AreSurvivors, fill_of};

@@ -1,6 +1,8 @@
 //! Laws of streams over zones, each the contract of a function that does nothing.
-ghost use Rattle.std.specs.Prelude.{◌≡◌, ℕ, ◌+◌, ◌*◌, ◌<◌, ◌≤◌, ◌↔◌, ◌⊎◌, ◌++◌, List, [], ◌∷◌, Bool, true, false, length, drop, slice_index_or, Contains};
-ghost use Rattle.mpdu.specs.Stream.{IsPacket, ArePackets, stream, zone, arrived, survivors, begun, first_header_pointer};
+ghost use Rattle.std.specs.Prelude.{◌≡◌, ℕ, ◌+◌, ◌*◌, ◌<◌, ◌≤◌, ◌↔◌, ◌⊎◌, ◌++◌, List, [], ◌∷◌};
+ghost use Rattle.std.specs.Prelude.{Bool, true, false, length, drop, slice_index_or, Contains};
+ghost use Rattle.mpdu.specs.Stream.{IsPacket, ArePackets, stream, zone, arrived, survivors, begun};
+ghost use Rattle.mpdu.specs.Stream.{first_header_pointer};
 ghost use Rattle.mpdu.specs.MpduHeader.{pointer_of, pointer_octets};
 ghost use Rattle.mpdu.specs.Packets.{packets_of, begins_with_packet, busy};
 ghost use Rattle.mpdu.specs.Parts.{IsPartOf, AreAmong, CompletesMore};

@@ -1,5 +1,7 @@
 //! Packets into zones.
-ghost use Rattle.std.specs.Prelude.{◌≡◌, ℕ, ◌+◌, ◌-◌, ◌<◌, ◌≤◌, ◌↔◌, ◌⊎◌, ◌++◌, List, [], ◌∷◌, false, true, length, take, drop, get_or, IfOk, OnOk, OnErr, IsErr, IsNone, IfNone, IfSome};
+ghost use Rattle.std.specs.Prelude.{◌≡◌, ℕ, ◌+◌, ◌-◌, ◌<◌, ◌≤◌, ◌↔◌, ◌⊎◌, ◌++◌, List, [], ◌∷◌};
+ghost use Rattle.std.specs.Prelude.{false, true, length, take, drop, get_or, IfOk, OnOk, OnErr};
+ghost use Rattle.std.specs.Prelude.{IsErr, IsNone, IfNone, IfSome};
 ghost use Rattle.circular_buffer.specs.Buffer.{buffer};
 ghost use Rattle.mpdu.specs.Stream.{IsPacket, stream, header_len};
 ghost use Rattle.mpdu.specs.Reading.{pointer_after};

@@ -1,7 +1,10 @@
 //! Packets out of zones.
-ghost use Rattle.std.specs.Prelude.{◌≡◌, ◌≢◌, ℕ, ◌+◌, ◌-◌, ◌<◌, ◌≤◌, ◌==◌, ◌&&◌, ◌++◌, List, Bool, [], ◌∷◌, false, true, not, length, take, drop, IfOk, OnOk, OnErr, vec_capacity};
+ghost use Rattle.std.specs.Prelude.{◌≡◌, ◌≢◌, ℕ, ◌+◌, ◌-◌, ◌<◌, ◌≤◌, ◌==◌, ◌&&◌, ◌++◌, List, Bool};
+ghost use Rattle.std.specs.Prelude.{[], ◌∷◌, false, true, not, length, take, drop, IfOk, OnOk};
+ghost use Rattle.std.specs.Prelude.{OnErr, vec_capacity};
 ghost use Rattle.mpdu.specs.Stream.{keep, is_idle, header_ok, header_len};
-ghost use Rattle.mpdu.specs.Reading.{scan, step, reading, to_read, goes_on, turns_bad, pointer_after, held_at, is_some, resync, bad_count};
+ghost use Rattle.mpdu.specs.Reading.{scan, step, reading, to_read, goes_on, turns_bad};
+ghost use Rattle.mpdu.specs.Reading.{pointer_after, held_at, is_some, resync, bad_count};
 ghost use Rattle.mpdu.specs.Joining.{IsBegun, Heads, IsSplit};
 ghost use Rattle.mpdu.specs.Feeding.{octets_of_each, IsNext, IsTaken, IsFrontTaken};
 

@@ -4,13 +4,17 @@ use Rattle.cfd_bits.specs.Field.{field, octets, flag}
 use Rattle.space_packet.specs.declared.error.PacketError.{PacketError}
 use Rattle.space_packet.specs.declared.error.PacketError.TheVariants.{Short, Version}
 use Rattle.space_packet.specs.declared.packet.Packet.{Packet}
+use Rattle.space_packet.specs.declared.packet.PacketType.{PacketType}
+use Rattle.space_packet.specs.declared.packet.PacketType.TheVariants.{Telemetry, Telecommand}
+use Rattle.space_packet.specs.declared.packet.SequenceFlags.{SequenceFlags}
+use Rattle.space_packet.specs.declared.packet.SequenceFlags.TheVariants.{Continuation, First, Last, Unsegmented}
 
 -- the parts of a packet, its body as a list
 pub record Parts : Type 0 where
   pub apid : ℕ
-  pub kind : Bool
-  pub secondary : Bool
-  pub flags : ℕ
+  pub packet_type : PacketType
+  pub has_secondary_header : Bool
+  pub sequence_flags : SequenceFlags
   pub count : ℕ
   pub body : List ℕ
 
@@ -18,13 +22,24 @@ pub record Parts : Type 0 where
 abbrev pub view : Packet → Parts
 view p = record {
   apid = p.apid;
-  kind = p.kind;
-  secondary = p.secondary;
-  flags = p.flags;
-  count =
-      p.count;
+  packet_type = p.packet_type;
+  has_secondary_header = p.has_secondary_header;
+  sequence_flags = p.sequence_flags;
+  count = p.count;
   body = p.body.now;
 }
+
+-- 4.1.3.3.2, the bit of the packet type
+abbrev pub type_bit : PacketType → ℕ
+type_bit Telemetry = 0
+type_bit Telecommand = 1
+
+-- 4.1.3.4.2, the two bits of the sequence flags
+abbrev pub flag_bits : SequenceFlags → ℕ
+flag_bits Continuation = 0
+flag_bits First = 1
+flag_bits Last = 2
+flag_bits Unsegmented = 3
 
 -- octets of a packet: the primary header and the data field (4.1.2)
 abbrev pub packet_len : Parts → ℕ
@@ -60,10 +75,10 @@ length_field text = field text 32 16
 -- field says, so that none is empty.
 pub record SpellsPacket (p : Parts) (text : List ℕ) : Type 0 where
   pub version : version_field text ≡ 0
-  pub kind : type_field text ≡ flag p.kind
-  pub secondary : secondary_field text ≡ flag p.secondary
+  pub packet_type : type_field text ≡ type_bit p.packet_type
+  pub secondary_header : secondary_field text ≡ flag p.has_secondary_header
   pub apid : apid_field text ≡ p.apid
-  pub flags : flags_field text ≡ p.flags
+  pub sequence_flags : flags_field text ≡ flag_bits p.sequence_flags
   pub count : count_field text ≡ p.count
   pub data_length : length_field text + 1 ≡ length p.body
   -- 4.1.4, the packet data field
@@ -73,7 +88,6 @@ pub record SpellsPacket (p : Parts) (text : List ℕ) : Type 0 where
 -- what can be written: each part fits its field
 pub record IsWritable (p : Parts) : Type 0 where
   pub apid : p.apid < 2048
-  pub flags : p.flags < 4
   pub count : p.count < 16384
   pub some : 1 ≤ length p.body
   pub fits : length p.body ≤ 65536
@@ -81,8 +95,8 @@ pub record IsWritable (p : Parts) : Type 0 where
 -- the primary header of a packet with so many octets of data
 abbrev pub header_octets : Parts → ℕ → List ℕ
 header_octets p data_octets =
-    octets 2 (4096 * flag p.kind + 2048 * flag p.secondary + p.apid)
-    ++ octets 2 (16384 * p.flags + p.count) ++ octets 2 (data_octets - 1)
+    octets 2 (4096 * type_bit p.packet_type + 2048 * flag p.has_secondary_header + p.apid)
+    ++ octets 2 (16384 * flag_bits p.sequence_flags + p.count) ++ octets 2 (data_octets - 1)
 
 -- the written spelling of a packet
 abbrev pub packet_octets : Parts → List ℕ
@@ -96,12 +110,11 @@ IsPacketLen len = (7 ≤ len) × (len ≤ 65542)
 abbrev pub idle : ℕ → Parts
 idle len = record {
   apid = 2047;
-  kind = false;
-  secondary = false;
-  flags = 3;
+  packet_type = Telemetry;
+  has_secondary_header = false;
+  sequence_flags = Unsegmented;
   count = 0;
-  body =
-      replicate (len - 6) 0;
+  body = replicate (len - 6) 0;
 }
 
 -- why octets begin with no packet, or none

@@ -4,8 +4,11 @@
 //! The octets are 6 at least: the header's. What stands behind them, and how much of it, says
 //! nothing here.
 ghost use Rattle.std.specs.Prelude.{◌≡◌, ◌==◌, ◌+◌, ◌<◌, ◌≤◌, length};
-ghost use Rattle.space_packet.specs.Packet.{version_field, type_field, secondary_field, apid_field, flags_field, count_field, length_field};
+ghost use Rattle.space_packet.specs.Packet.{version_field, type_field, type_bit, secondary_field};
+ghost use Rattle.space_packet.specs.Packet.{apid_field, flags_field, flag_bits, count_field};
+ghost use Rattle.space_packet.specs.Packet.{length_field};
 
+use crate::packet::{PacketType, SequenceFlags};
 use cfd_bits::get;
 
 /// Octets of a packet's primary header.
@@ -20,12 +23,15 @@ pub fn version(octets: &[u8]) -> u8
     get(octets, 0, 3) as u8
 }
 
-/// The packet type: true for telecommand, false for telemetry.
-pub fn is_telecommand(octets: &[u8]) -> bool
+/// The packet type, telemetry or telecommand.
+pub fn packet_type(octets: &[u8]) -> PacketType
     requires { 6 ≤ length octets.now }
-    ensures { result ≡ (type_field octets.now == 1) }
+    ensures { type_bit result ≡ type_field octets.now }
 {
-    get(octets, 3, 1) == 1
+    match get(octets, 3, 1) {
+        0 => PacketType::Telemetry,
+        _ => PacketType::Telecommand,
+    }
 }
 
 /// Whether the packet's data begin with a secondary header.
@@ -45,13 +51,17 @@ pub fn apid(octets: &[u8]) -> u16
     get(octets, 5, 11) as u16
 }
 
-/// The sequence flags, 0 to 3: 0 a continuation, 1 the first and 2 the last segment, 3 unsegmented.
-pub fn sequence_flags(octets: &[u8]) -> u8
+/// The sequence flags: which part of the user's data the packet has.
+pub fn sequence_flags(octets: &[u8]) -> SequenceFlags
     requires { 6 ≤ length octets.now }
-    ensures value { result ≡ flags_field octets.now }
-    ensures below { result < 4 }
+    ensures { flag_bits result ≡ flags_field octets.now }
 {
-    get(octets, 16, 2) as u8
+    match get(octets, 16, 2) {
+        0 => SequenceFlags::Continuation,
+        1 => SequenceFlags::First,
+        2 => SequenceFlags::Last,
+        _ => SequenceFlags::Unsegmented,
+    }
 }
 
 /// The sequence count, 0 to 16,383.

@@ -6,7 +6,14 @@
 //! A packet is written into octets of the caller's, and read from them; behind it may stand more:
 //!
 //! ```
-//! let packet = Packet { apid: 100, kind: false, secondary: false, flags: 3, count: 0, body: b"hello" };
+//! let packet = Packet {
+//!     apid: 100,
+//!     packet_type: PacketType::Telemetry,
+//!     has_secondary_header: false,
+//!     sequence_flags: SequenceFlags::Unsegmented,
+//!     count: 0,
+//!     body: b"hello",
+//! };
 //! let mut octets = [0u8; 16];
 //! if packet.is_writable() {
 //!     let len = encode(&packet, &mut octets);   // 11
@@ -17,9 +24,11 @@
 //! Tested by `tests/transcripts/packets.txt`.
 #![tactic(auto)]
 
-ghost use Rattle.std.specs.Prelude.{◌≡◌, ℕ, ◌<◌, ◌≤◌, ◌++◌, List, length, take, drop, IfOk, IsOkAnd};
+ghost use Rattle.std.specs.Prelude.{◌≡◌, ℕ, ◌<◌, ◌≤◌, ◌++◌, List, length, take, drop, IfOk};
+ghost use Rattle.std.specs.Prelude.{IsOkAnd};
 ghost use Rattle.std.specs.Result.{result_err};
-ghost use Rattle.space_packet.specs.Packet.{Parts, SpellsPacket, IsWritable, fault, idle, header_octets, packet_octets, packet_len, view};
+ghost use Rattle.space_packet.specs.Packet.{Parts, SpellsPacket, IsWritable, fault, idle};
+ghost use Rattle.space_packet.specs.Packet.{header_octets, packet_octets, packet_len, view};
 
 mod count;
 mod error;
@@ -32,7 +41,7 @@ pub use count::{Counter, SEQUENCE_COUNTS, Watch};
 pub use error::PacketError;
 use header::HEADER_LEN;
 pub use laws::{a_packet_has_one_spelling, no_packet_begins_another, written_packet_is_read};
-pub use packet::{IDLE_APID, Packet, is_packet_len};
+pub use packet::{IDLE_APID, Packet, PacketType, SequenceFlags, is_packet_len};
 
 /// The packet in front, and the octets behind it.
 ///
@@ -63,9 +72,9 @@ pub fn decode(bytes: &[u8]) -> Result<(Packet<'_>, &[u8]), PacketError>
     let (front, rest) = bytes.split_at(len);
     let packet = Packet {
         apid: header::apid(bytes),
-        kind: header::is_telecommand(bytes),
-        secondary: header::has_secondary_header(bytes),
-        flags: header::sequence_flags(bytes),
+        packet_type: header::packet_type(bytes),
+        has_secondary_header: header::has_secondary_header(bytes),
+        sequence_flags: header::sequence_flags(bytes),
         count: header::sequence_count(bytes),
         body: &front[HEADER_LEN..],
     };
@@ -100,9 +109,9 @@ pub fn encode_idle(len: usize, out: &mut [u8])
 {
     let packet = Packet {
         apid: IDLE_APID,
-        kind: false,
-        secondary: false,
-        flags: 3,
+        packet_type: PacketType::Telemetry,
+        has_secondary_header: false,
+        sequence_flags: SequenceFlags::Unsegmented,
         count: 0,
         body: &[],
     };
@@ -114,7 +123,6 @@ pub fn encode_idle(len: usize, out: &mut [u8])
 /// Writes the primary header of a packet with so many octets of data, and says where it ends.
 fn put_header(packet: &Packet<'_>, data_octets: usize, out: &mut [u8]) -> usize
     requires apid { packet.now.apid < 2048 }
-    requires flags { packet.now.flags < 4 }
     requires count { packet.now.count < 16384 }
     requires some { 1 ≤ data_octets }
     requires fits { data_octets ≤ 65536 }
@@ -122,10 +130,10 @@ fn put_header(packet: &Packet<'_>, data_octets: usize, out: &mut [u8]) -> usize
     ensures end { result ≡ 6 }
     ensures written { take 6 out.new ≡ header_octets (view packet.now) data_octets }
 {
-    let identification = 4096 * u64::from(packet.kind)
-        + 2048 * u64::from(packet.secondary)
+    let identification = 4096 * u64::from(packet.packet_type.bit())
+        + 2048 * u64::from(packet.has_secondary_header)
         + u64::from(packet.apid);
-    let control = 16384 * u64::from(packet.flags) + u64::from(packet.count);
+    let control = 16384 * u64::from(packet.sequence_flags.bits()) + u64::from(packet.count);
     let at = put_uint(out, 0, 2, identification);
     let at = put_uint(out, at, 2, control);
     put_uint(out, at, 2, data_octets as u64 - 1)

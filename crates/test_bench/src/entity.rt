@@ -38,6 +38,7 @@ use cfdp_header::TransactionId;
 use cfdp_store::{FuseInbox, FuseOutbox, Inbox, MemoryInbox, MemoryOutbox};
 use std::alloc::{AllocError, Global};
 use std::marker::Model;
+use valid_config::Config;
 
 /// The first transaction of entity 1.
 const FIRST: TransactionId = TransactionId {
@@ -181,7 +182,7 @@ impl Keeper for EntityBench {
 impl Target for EntityBench {
     fn tries(&mut self, octets: &[u8]) -> Fate {
         let before = self.seen();
-        if self.entity.hear(octets).is_ok() {
+        if self.entity.receive(octets).is_ok() {
             Fate::Taken
         } else if self.seen().is_one_drop_more_than(before) {
             Fate::Refused
@@ -258,9 +259,9 @@ impl EntityBench {
         outbox: FuseOutbox<MemoryOutbox>,
         inbox: FuseInbox<MemoryInbox>,
     ) -> Result<EntityBench, AllocError> {
-        if !config.is_valid() {
+        let Ok(config) = config.validate() else {
             return Err(AllocError);
-        }
+        };
         let entity = Entity::new(alloc, config, outbox, inbox)?;
         Ok(EntityBench { alloc, entity })
     }
@@ -346,7 +347,7 @@ impl EntityBench {
 
     /// Hears a PDU, and says why it was dropped, or that it wasn't.
     fn hear(&mut self, pdu: &[u8]) -> &'static str {
-        match self.entity.hear(pdu) {
+        match self.entity.receive(pdu) {
             Ok(()) => "taken",
             Err(e) => e.name(),
         }

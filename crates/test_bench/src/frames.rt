@@ -10,7 +10,7 @@
 //!     valid SPACECRAFT CHANNEL DATA ZONE PROCESS  whether there is such a link, with that channel
 //!                                                 for file data
 //!     lane LANE                                   the channel of a lane, `dir` or `data`, and that
-//!                                                 of the other; then both as the lane has them
+//!                                                 of the other; then its spacecraft, zone and APID
 //!     next                                        to tell the next count
 //!     see COUNT CYCLE, follows COUNT CYCLE        to hear of a frame, and to tell what is missing
 //!
@@ -21,10 +21,11 @@ ghost use Rattle.aos_frame.specs.Frame.{FitsHeader};
 use crate::bench::{Bench, played, unknown};
 use crate::words::{flag, half, lane, narrow, octet, octets, pair, tell_octets, word};
 use aos_frame::{
-    Continuity, FrameError, FrameHeader, Lane, LinkConfig, VcCounter, VcMonitor, decode, encode,
-    written_frame_is_read,
+    ChannelConfig, Continuity, FrameError, FrameHeader, Lane, LinkConfig, VcCounter, VcMonitor,
+    decode, encode, written_frame_is_read,
 };
 use std::alloc::{AllocError, Global};
+use valid_config::Config;
 
 /// The link.
 pub const LINK: LinkConfig = LinkConfig {
@@ -86,7 +87,7 @@ fn says(alloc: Global, verb: &str, words: &str, out: &mut String) -> Result<(), 
     match verb {
         "any" => reads_any(alloc, words, out),
         "writable" => write!(out, " {}\n", header(words).is_writable()),
-        "valid" => write!(out, " {}\n", link(words).is_valid()),
+        "valid" => write!(out, " {}\n", link(words).amiss().is_none()),
         "lane" => tell_lane(lane(words), out),
         _ => unknown(out),
     }
@@ -100,12 +101,11 @@ fn tell_missing(seen: Continuity, out: &mut String) -> Result<(), AllocError> {
 }
 
 fn tell_lane(lane: Lane, out: &mut String) -> Result<(), AllocError> {
-    let (channel, other) = (LINK.channel_of(lane), LINK.channel_of(lane.other()));
-    let own = LINK.of_lane(lane);
+    let (own, other) = (LINK.lane(lane), LINK.lane(lane.other()));
     write!(
         out,
-        " {channel} {other}\n {} {}\n",
-        own.channel, own.data_channel
+        " {} {}\n {} {} {}\n",
+        own.channel, other.channel, own.spacecraft, own.zone, own.apid
     )
 }
 
@@ -159,30 +159,38 @@ fn count_again(count: u32, cycle: bool, octets: &mut [u8]) -> u32 {
     if octets.len() != FRAME_LEN || !header.is_writable() {
         return u32::MAX;
     }
-    written_and_read(&header, octets, &LINK)
+    written_and_read(&header, octets, &LINK.lane(Lane::Directives))
 }
 
 /// A caller that needs no lemma, but only the law of written frames: the header that it writes it
 /// reads.
-fn written_and_read(header: &FrameHeader, frame: &mut [u8], link: &LinkConfig) -> u32
+fn written_and_read(header: &FrameHeader, frame: &mut [u8], config: &ChannelConfig) -> u32
     requires fits { FitsHeader header.now }
-    requires spacecraft { header.now.spacecraft ≡ link.now.spacecraft }
-    requires channel { header.now.channel ≡ link.now.channel }
-    requires whole { length frame.old ≡ 8 + link.now.zone }
+    requires spacecraft { header.now.spacecraft ≡ config.now.spacecraft }
+    requires channel { header.now.channel ≡ config.now.channel }
+    requires whole { length frame.old ≡ 8 + config.now.zone }
     ensures { result ≡ header.now.count }
 {
     encode(header, frame);
     written_frame_is_read();
-    match decode(frame, link) {
+    match decode(frame, config) {
         Ok((read, _)) => read.count,
         Err(_) => unreachable!(),
     }
 }
 
 fn reads(octets: &[u8], alloc: Global, out: &mut String) -> Result<(), AllocError> {
-    match decode(octets, &LINK) {
+    match decode(octets, &LINK.lane(lane_of(octets))) {
         Ok((header, rest)) => tell_read(alloc, header, rest, out),
         Err(e) => tell_refusal(e, out),
+    }
+}
+
+/// The lane whose channel a frame has; that of directives where it has neither.
+fn lane_of(octets: &[u8]) -> Lane {
+    match FrameHeader::read(octets, LINK.zone) {
+        Ok((header, _)) if header.channel == LINK.data_channel => Lane::Data,
+        _ => Lane::Directives,
     }
 }
 

@@ -15,6 +15,7 @@ use cfdp_entity::{Entity, EntityPolled, Rooms};
 use cfdp_store::{MemoryInbox, Outbox, StoreError};
 use std::alloc::{AllocError, Global};
 use std::marker::Model;
+use valid_config::Config;
 
 /// Room for each PDU.
 const ROOM: usize = 5000;
@@ -39,10 +40,9 @@ pub fn play(
 
 /// The first entity, with the longest segments and this file.
 pub fn sending(alloc: Global, file: LongFile) -> Result<Entity<LongFile, MemoryInbox>, AllocError> {
-    let config = first_entity("segment 4096").config;
-    if !config.is_valid() {
+    let Ok(config) = first_entity("segment 4096").config.validate() else {
         return Err(AllocError);
-    }
+    };
     Entity::new(alloc, config, file, MemoryInbox::new(alloc))
 }
 
@@ -120,7 +120,7 @@ impl LargeBench {
 
     fn hears(&mut self, text: &str, out: &mut String) -> Result<(), AllocError> {
         let pdu = octets(self.alloc, text)?;
-        match self.entity.hear(&pdu) {
+        match self.entity.receive(&pdu) {
             Ok(()) => write!(out, " taken\n"),
             Err(e) => write!(out, " {}\n", e.name()),
         }

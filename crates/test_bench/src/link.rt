@@ -25,9 +25,10 @@ ghost use Rattle.link_stack.specs.declared.drops.LinkDrop.TheVariants.{NoMemory}
 use crate::bench::{Bench, played, unknown};
 use crate::frames::{FRAME_LEN, LINK};
 use crate::words::{count, lane, lane_word, octets, pair, tell_octets};
-use aos_frame::FrameError;
+use aos_frame::{FrameError, LinkConfig};
 use link_stack::{Down, Lane, LinkDrop, Up};
 use std::alloc::{AllocError, Global};
+use valid_config::{Config, Valid};
 
 /// Plays a transcript, where the sending end has so much room.
 pub fn play(
@@ -53,7 +54,7 @@ fn take_alone(up: &mut Up, frame: &[u8], out: &mut Vec<Vec<u8>>)
         ⊎ (new.drops ≡ counted old.drops NoMemory) }
 {
     out.clear();
-    up.take(frame, out);
+    up.receive(frame, out);
 }
 
 /// Both ends, what was sent, and the frames that were taken of it.
@@ -82,14 +83,22 @@ impl Bench for Link {
     }
 }
 
+/// The link; it is valid.
+fn valid_link() -> Result<Valid<LinkConfig>, AllocError> {
+    match LINK.validate() {
+        Ok(link) => Ok(link),
+        Err(_) => Err(AllocError),
+    }
+}
+
 impl Link {
     fn open(alloc: Global, capacity: usize) -> Result<Link, AllocError>
         requires { capacity ≤ 65536 }
     {
         Ok(Link {
             alloc,
-            down: Down::new(alloc, LINK, capacity)?,
-            up: Up::new(alloc, LINK)?,
+            down: Down::new(alloc, valid_link()?, capacity)?,
+            up: Up::new(alloc, valid_link()?)?,
             sent: Vec::new(alloc),
             frames: Vec::new(alloc),
         })
@@ -156,7 +165,7 @@ impl Link {
 
     fn ends(&mut self, out: &mut String) -> Result<(), AllocError> {
         tell_drops(&self.up, out)?;
-        self.up = Up::new(self.alloc, LINK)?;
+        self.up = Up::new(self.alloc, valid_link()?)?;
         Ok(())
     }
 
@@ -169,7 +178,7 @@ impl Link {
     }
 
     fn gives(&mut self, marks: u8, out: &mut String) -> Result<(), AllocError> {
-        self.up = Up::new(self.alloc, LINK)?;
+        self.up = Up::new(self.alloc, valid_link()?)?;
         let mut came = Vec::new(self.alloc);
         take_marked(&mut self.up, &self.frames, marks, &mut came);
         tell_places(&self.sent, &came, out)
@@ -198,7 +207,7 @@ fn take_marked(up: &mut Up, frames: &[Vec<u8>], marks: u8, out: &mut Vec<Vec<u8>
     let mut left = marks;
     for frame in frames {
         if left % 2 == 1 {
-            up.take(frame, out);
+            up.receive(frame, out);
         }
         left /= 2;
     }

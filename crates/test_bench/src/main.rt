@@ -1,4 +1,4 @@
-//! `test_bench`: plays transcripts of questions and answers on fifteen crates of the product, of
+//! `test_bench`: plays transcripts of questions and answers on sixteen crates of the product, of
 //! which it is no part.
 //!
 //! It reads a transcript on standard input, and writes it anew on standard output. A line that

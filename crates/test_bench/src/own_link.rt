@@ -1,5 +1,7 @@
 //! How a program drives a station over a link of its own. README.md shows it.
-use cfdp_station::{EntityConfig, Inbox, LinkConfig, Outbox, Station, StationConfig};
+use cfdp_station::{
+    Config, EntityConfig, Inbox, LinkConfig, Outbox, Station, StationConfig, StationField,
+};
 use std::alloc::{AllocError, Global};
 
 /// A link that a program has.
@@ -11,27 +13,49 @@ pub trait Link {
     fn receive(&mut self) -> Option<Vec<u8>>;
 }
 
+/// Why there is no station.
+#[derive(Debug, Drop)]
+pub enum NoStation {
+    /// A field of its configuration isn't as it has to be.
+    Field(StationField),
+    /// There is no memory for it.
+    Memory(AllocError),
+}
+
+impl From<StationField> for NoStation {
+    fn from(field: StationField) -> NoStation {
+        NoStation::Field(field)
+    }
+}
+
+impl From<AllocError> for NoStation {
+    fn from(error: AllocError) -> NoStation {
+        NoStation::Memory(error)
+    }
+}
+
 /// Entity 1, whose peer is entity 2. The other station has the same with both ids exchanged, and
-/// what is `down` here as its `up`.
+/// what is `sends` here as its `receives`.
 pub fn default_station<O: Outbox, I: Inbox>(
     alloc: Global,
     outbox: O,
     inbox: I,
-) -> Result<Station<O, I>, AllocError> {
-    let down = LinkConfig {
+) -> Result<Station<O, I>, NoStation> {
+    let sends = LinkConfig {
         spacecraft: 42,
         channel: 1,
         data_channel: 3,
         zone: 1024,
         apid: 100,
     };
-    let up = LinkConfig {
+    let receives = LinkConfig {
         channel: 2,
         data_channel: 4,
-        ..down
+        ..sends
     };
-    let config = StationConfig::new(EntityConfig::new(1, 2), down, up);
-    Station::new(alloc, config, outbox, inbox)
+    let config = StationConfig::new(EntityConfig::new(1, 2), sends, receives).validate()?;
+    let station = Station::new(alloc, config, outbox, inbox)?;
+    Ok(station)
 }
 
 /// One turn of a station: it is told the time, hears a frame, and sends the next one that is due.

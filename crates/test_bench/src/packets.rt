@@ -1,5 +1,6 @@
 //! Space packets (`space_packet`). PACKET is a packet by its parts: its process, whether it is a
-//! telecommand, whether it has a secondary header, its flags, its count, and its data field.
+//! telecommand, whether it has a secondary header, its flags as a number, its count, and its data
+//! field. No packet has flags above 3.
 //!
 //!     decode OCTETS             to read a packet: its parts, whether it is idle, its data field,
 //!                               and what stands behind it
@@ -18,7 +19,8 @@ ghost use Rattle.space_packet.specs.Packet.{IsWritable, packet_len, view};
 use crate::bench::{Bench, played, unknown};
 use crate::words::{count, flag, half, octet, octets, pair, tell_octets, word};
 use space_packet::{
-    Counter, Packet, SEQUENCE_COUNTS, Watch, decode, encode, encode_idle, header, is_packet_len,
+    Counter, Packet, PacketType, SEQUENCE_COUNTS, SequenceFlags, Watch, decode, encode,
+    encode_idle, header, is_packet_len,
 };
 use std::alloc::{AllocError, Global};
 
@@ -82,7 +84,11 @@ fn tell_packet(alloc: Global, packet: &Packet<'_>, out: &mut String) -> Result<(
     write!(
         out,
         " {} {} {} {} {} idle {idle}\n",
-        packet.apid, packet.kind, packet.secondary, packet.flags, packet.count
+        packet.apid,
+        is_telecommand(packet.packet_type),
+        packet.has_secondary_header,
+        packet.sequence_flags.bits(),
+        packet.count
     )?;
     tell_octets(alloc, packet.body, out)
 }
@@ -95,10 +101,10 @@ fn tell_header(octets: &[u8], out: &mut String) -> Result<(), AllocError> {
         out,
         " {} {} {} {} {} {} {}\n",
         header::version(octets),
-        header::is_telecommand(octets),
+        is_telecommand(header::packet_type(octets)),
         header::has_secondary_header(octets),
         header::apid(octets),
-        header::sequence_flags(octets),
+        header::sequence_flags(octets).bits(),
         header::sequence_count(octets),
         header::packet_len(octets)
     )
@@ -121,10 +127,16 @@ fn writes(alloc: Global, verb: &str, words: &str, out: &mut String) -> Result<()
     let body = octets(alloc, word(words, 5))?;
     let packet = packet_of(words, &body);
     match verb {
-        "writable" => write!(out, " {}\n", packet.is_writable()),
+        "writable" => {
+            let writable = packet.is_some_and(|p: Packet<'_>| p.is_writable());
+            write!(out, " {writable}\n")
+        }
         "encode" => {
             let mut octets = octets(alloc, word(words, 6))?;
-            let (len, apid) = write_packet(&packet, &mut octets);
+            let (len, apid) = match packet {
+                Some(packet) => write_packet(&packet, &mut octets),
+                None => (0, 0),
+            };
             write!(out, " {len} {apid}\n")?;
             tell_octets(alloc, &octets, out)
         }
@@ -132,15 +144,34 @@ fn writes(alloc: Global, verb: &str, words: &str, out: &mut String) -> Result<()
     }
 }
 
-/// The packet that five words and its data field describe.
-fn packet_of<'a>(words: &str, body: &'a [u8]) -> Packet<'a> {
-    Packet {
+/// The packet that five words and its data field describe, if its flags are any.
+fn packet_of<'a>(words: &str, body: &'a [u8]) -> Option<Packet<'a>> {
+    Some(Packet {
         apid: half(word(words, 0)),
-        kind: flag(word(words, 1)),
-        secondary: flag(word(words, 2)),
-        flags: octet(word(words, 3)),
+        packet_type: if flag(word(words, 1)) {
+            PacketType::Telecommand
+        } else {
+            PacketType::Telemetry
+        },
+        has_secondary_header: flag(word(words, 2)),
+        sequence_flags: flags_of(octet(word(words, 3)))?,
         count: half(word(words, 4)),
         body,
+    })
+}
+
+fn is_telecommand(packet_type: PacketType) -> bool {
+    packet_type == PacketType::Telecommand
+}
+
+/// The sequence flags with these bits.
+fn flags_of(bits: u8) -> Option<SequenceFlags> {
+    match bits {
+        0 => Some(SequenceFlags::Continuation),
+        1 => Some(SequenceFlags::First),
+        2 => Some(SequenceFlags::Last),
+        3 => Some(SequenceFlags::Unsegmented),
+        _ => None,
     }
 }
 

@@ -9,9 +9,9 @@
 use crate::bench::{Bench, played, unknown};
 use crate::words::{half, octets, pair, tell_octets, text};
 use cfdp_directives::{
-    Addressing, Pairs, Pdu, Tlvs, can_write, decode, direction_fits, encode, is_for,
+    Addressing, Pdu, SegmentRequests, Tlvs, can_write, decode, direction_fits, encode, is_for,
 };
-use cfdp_header::{Header, fits_width};
+use cfdp_header::{Direction, Header, PduType, fits_width};
 use std::alloc::{AllocError, Global};
 
 /// Room for the longest PDU of the transcripts, and for what stays behind it.
@@ -89,15 +89,13 @@ fn tell(alloc: Global, octets: &[u8], out: &mut String) -> Result<(), AllocError
 }
 
 fn tell_fields(header: &Header, out: &mut String) -> Result<(), AllocError> {
-    let kind = if header.file_data {
-        "data"
-    } else {
-        "directive"
+    let kind = match header.pdu_type {
+        PduType::FileData => "data",
+        PduType::FileDirective => "directive",
     };
-    let end = if header.toward_sender {
-        "sender"
-    } else {
-        "receiver"
+    let end = match header.direction {
+        Direction::TowardSender => "sender",
+        Direction::TowardReceiver => "receiver",
     };
     let behind = match (header.segment_metadata, header.large) {
         (true, true) => ", segment metadata, large",
@@ -136,7 +134,11 @@ fn tell_way(header: &Header, pdu: &Pdu<'_>, out: &mut String) -> Result<(), Allo
 fn tell_pdu(pdu: &Pdu<'_>, out: &mut String) -> Result<(), AllocError> {
     match pdu {
         Pdu::FileData { offset, bytes } => tell_data(*offset, bytes, out),
-        Pdu::Nak { start, end, pairs } => tell_nak(*start, *end, pairs, out),
+        Pdu::Nak {
+            start,
+            end,
+            requests,
+        } => tell_nak(*start, *end, requests, out),
         Pdu::Ack {
             of,
             condition,
@@ -199,7 +201,12 @@ fn tell_data(offset: u64, octets: &[u8], out: &mut String) -> Result<(), AllocEr
     write!(out, "\n")
 }
 
-fn tell_nak(start: u64, end: u64, pairs: &Pairs<'_>, out: &mut String) -> Result<(), AllocError> {
+fn tell_nak(
+    start: u64,
+    end: u64,
+    pairs: &SegmentRequests<'_>,
+    out: &mut String,
+) -> Result<(), AllocError> {
     write!(out, " nak {start} {end}, {} pairs\n", pairs.len())?;
     for (start, end) in pairs {
         write!(out, " {start}-{end}\n")?;
@@ -275,8 +282,12 @@ fn is_made_as(
     pdu: &Pdu<'_>,
 ) -> Result<bool, AllocError> {
     match pdu {
-        Pdu::Nak { start, end, pairs } => {
-            let given: Vec<(u64, u64)> = pairs.iter().collect(alloc)?;
+        Pdu::Nak {
+            start,
+            end,
+            requests,
+        } => {
+            let given: Vec<(u64, u64)> = requests.iter().collect(alloc)?;
             Ok(is_same(
                 octets,
                 header,
@@ -284,7 +295,7 @@ fn is_made_as(
                 &Pdu::Nak {
                     start: *start,
                     end: *end,
-                    pairs: Pairs::of(&given),
+                    requests: SegmentRequests::of(&given),
                 },
             ))
         }

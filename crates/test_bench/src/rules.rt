@@ -21,11 +21,11 @@ ghost use Rattle.std.specs.Prelude.{◌<◌};
 use crate::bench::{Bench, played, unknown};
 use crate::words::{count, half, id, narrow, number, octet, octets, pair, plain, text, word};
 use cfdp_directives::{
-    Checksum, ChecksumKind, Condition, Handler, Octets, Pairs, Pdu, Policy, Times, ack_len,
-    can_write, eof_len, fault_location_len, file_data_len, finished_len, is_file_name,
+    Checksum, ChecksumKind, Condition, Handler, Octets, Pdu, Policy, SegmentRequests, Times,
+    ack_len, can_write, eof_len, fault_location_len, file_data_len, finished_len, is_file_name,
     is_file_size, keep_alive_len, metadata_len, nak_len, prompt_len,
 };
-use cfdp_header::{Header, TransactionId, fits_width};
+use cfdp_header::{Direction, Header, PduType, TransactionId, fits_width};
 use std::alloc::{AllocError, Global};
 
 /// Plays a transcript.
@@ -120,8 +120,8 @@ fn is_so(verb: &str, words: &str) -> bool {
 /// The header of an ACK, toward the file's sender.
 fn of_ack(words: &str) -> Header {
     Header {
-        file_data: false,
-        toward_sender: true,
+        pdu_type: PduType::FileDirective,
+        direction: Direction::TowardSender,
         large: false,
         length: 3,
         segment_metadata: false,
@@ -232,7 +232,7 @@ fn tell_policy(policy: Policy, out: &mut String) -> Result<(), AllocError> {
 
 fn tell_pairs(alloc: Global, large: bool, words: &str, out: &mut String) -> Result<(), AllocError> {
     let given = ranges_of(alloc, words)?;
-    let pairs = Pairs::of(&given);
+    let pairs = SegmentRequests::of(&given);
     let fit = pairs.fit(large);
     write!(out, " {fit} {} {}\n", pairs.len(), pairs.iter().count())
 }

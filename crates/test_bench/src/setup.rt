@@ -8,7 +8,7 @@
 use crate::bench::{Bench, played, unknown};
 use crate::words::{number, pair};
 use cfdp_directives::{ChecksumKind, Handler, Handlers, Limits, Policy, Times};
-use cfdp_station::{EntityConfig, LinkConfig, StationConfig};
+use cfdp_station::{Config, EntityConfig, LinkConfig, StationConfig};
 use std::alloc::AllocError;
 
 /// Plays a transcript of setups.
@@ -23,7 +23,7 @@ struct SetupBench;
 impl Bench for SetupBench {
     fn does(&mut self, verb: &str, words: &str, out: &mut String) -> Result<(), AllocError> {
         match verb {
-            "valid" => write!(out, " {}\n", first_station(words).is_valid()),
+            "valid" => write!(out, " {}\n", first_station(words).amiss().is_none()),
             "amiss" => tell_amiss(&first_station(words), out),
             "new" => tell_new(words, out),
             _ => unknown(out),
@@ -45,16 +45,16 @@ fn tell_new(words: &str, out: &mut String) -> Result<(), AllocError> {
         out,
         " {} octets an id, {}\n",
         config.id_width,
-        config.is_valid()
+        config.amiss().is_none()
     )
 }
 
 /// The keys, in the order of their numbers. `octets` says how much of `hello` is in `a.txt`. From
 /// the calls with the last two numbers on, the outbox and the inbox of an entity fail.
 const KEYS: &str = "entity peer id_width number_width first_number segment checksum eof_time \
-    nak_time finished_time inactivity_time down_channel down_zone down_apid up_channel up_zone \
-    up_apid capacity eof_limit nak_limit finished_limit ack_handler octets outbox_call inbox_call \
-    down_data_channel up_data_channel";
+    nak_time finished_time inactivity_time sends_channel sends_zone sends_apid receives_channel receives_zone \
+    receives_apid capacity eof_limit nak_limit finished_limit ack_handler octets outbox_call inbox_call \
+    sends_data_channel receives_data_channel";
 
 /// A number for each key.
 type Setup = [u64; 27];
@@ -152,8 +152,8 @@ fn link(channel: u64, data_channel: u64, zone: u64, apid: u64) -> LinkConfig {
 fn station(setup: &Setup) -> StationConfig {
     StationConfig {
         entity: entity(setup),
-        down: link(setup[11], setup[25], setup[12], setup[13]),
-        up: link(setup[14], setup[26], setup[15], setup[16]),
+        sends: link(setup[11], setup[25], setup[12], setup[13]),
+        receives: link(setup[14], setup[26], setup[15], setup[16]),
         capacity: usize::try_from(setup[17]).unwrap_or(0),
     }
 }

@@ -26,6 +26,7 @@
 //!     own         to make a station as the documentation does, and to write that
 //!     drops       to tell what was dropped, of the link and of the PDUs that came up, by number
 //!     why         to tell what was dropped, in words, with the refusal of the octets
+//!     counters    to tell how many PDUs were sent: file data, those again, NAKs, other directives
 //!     inbox       to tell each published file, with its length and its checksum
 //!
 //! And of lines that are parted by `; `, which new stations go through for each number N from 0 on
@@ -52,6 +53,7 @@ use std::alloc::{AllocError, Global};
 use std::collections::VecDeque;
 use std::fmt::{Debug, Display};
 use std::marker::Model;
+use valid_config::{Config, Valid};
 
 /// The most PDUs sent at once, and frames taken.
 const MOST: u8 = 200;
@@ -271,8 +273,10 @@ fn counted(alloc: Global) -> Result<Vec<u8>, AllocError> {
 
 /// Makes a station as the documentation does, and writes it.
 fn tell_own(alloc: Global, out: &mut String) -> Result<(), AllocError> {
-    let station = own_link::default_station(alloc, files(alloc)?, MemoryInbox::new(alloc))?;
-    write!(out, " {station:?}\n")
+    match own_link::default_station(alloc, files(alloc)?, MemoryInbox::new(alloc)) {
+        Ok(station) => write!(out, " {station:?}\n"),
+        Err(none) => write!(out, " {none:?}\n"),
+    }
 }
 
 /// Tells a cause that dropped something, and its source where it has one.
@@ -440,10 +444,10 @@ impl Side for StationBench {
 impl StationBench {
     /// A station that was asked nothing.
     pub fn open(alloc: Global, config: StationConfig) -> Result<StationBench, AllocError> {
-        if !config.is_valid() {
+        let Ok(config) = config.validate() else {
             return Err(AllocError);
-        }
-        let up = Up::new(alloc, config.up)?;
+        };
+        let up = Up::new(alloc, Valid::known(config.get().receives))?;
         let station = Station::new(alloc, config, files(alloc)?, MemoryInbox::new(alloc))?;
         Ok(StationBench {
             alloc,
@@ -504,6 +508,7 @@ impl StationBench {
             "debug" => write!(out, " {:?}\n", self.station),
             "own" => tell_own(self.alloc, out),
             "why" => self.tells_why(out),
+            "counters" => self.tells_sent(out),
             _ => unknown(out),
         }
     }
@@ -528,15 +533,25 @@ impl StationBench {
     }
 
     fn tells_why(&self, out: &mut String) -> Result<(), AllocError> {
-        for number in 0..=u8::MAX {
-            if let Some(by) = LinkDrop::from_number(number) {
-                tell_why(self.station.link_drops(by), &by, &by.source(), out)?;
+        for number in 1..=17 {
+            if let Some(by) = LinkDrop::ALL.iter().find(|by| by.number() == number) {
+                tell_why(self.station.link_drops(*by), by, &by.source(), out)?;
             }
-            if let Some(by) = EntityDrop::from_number(number) {
-                tell_why(self.station.drops(by), &by, &by.source(), out)?;
+            if let Some(by) = EntityDrop::ALL.iter().find(|by| by.number() == number) {
+                tell_why(self.station.drops(*by), by, &by.source(), out)?;
             }
         }
         Ok(())
+    }
+
+    fn tells_sent(&self, out: &mut String) -> Result<(), AllocError> {
+        let sent = self.station.counters().sent;
+        let (data, again) = (sent.file_data, sent.file_data_again);
+        let (naks, other) = (sent.naks, sent.other_directives);
+        write!(
+            out,
+            " data {data} again {again} naks {naks} other {other}\n"
+        )
     }
 
     fn puts(&mut self, source: &str, out: &mut String) -> Result<(), AllocError> {
@@ -588,7 +603,7 @@ impl StationBench {
     /// Takes a frame. The PDUs that it gives come out of a receiving end of its own too.
     pub fn receive(&mut self, frame: &[u8]) {
         self.came.clear();
-        self.up.take(frame, &mut self.came);
+        self.up.receive(frame, &mut self.came);
         self.station.receive(frame);
     }
 
@@ -614,12 +629,12 @@ impl StationBench {
     }
 
     fn tells_drops(&self, out: &mut String) -> Result<(), AllocError> {
-        for number in 0..=u8::MAX {
-            if let Some(by) = LinkDrop::from_number(number) {
-                tell_count("link", number, self.station.link_drops(by), out)?;
+        for number in 1..=17 {
+            if let Some(by) = LinkDrop::ALL.iter().find(|by| by.number() == number) {
+                tell_count("link", number, self.station.link_drops(*by), out)?;
             }
-            if let Some(by) = EntityDrop::from_number(number) {
-                tell_count("pdu", number, self.station.drops(by), out)?;
+            if let Some(by) = EntityDrop::ALL.iter().find(|by| by.number() == number) {
+                tell_count("pdu", number, self.station.drops(*by), out)?;
             }
         }
         Ok(())

@@ -31,6 +31,7 @@ use link_sim::{
 };
 use std::alloc::{AllocError, Global};
 use std::marker::Model;
+use valid_config::Config;
 
 /// What takes frames and publishes files.
 trait Replay: Drop {
@@ -106,15 +107,16 @@ impl WorldBench {
         config: WorldConfig,
         calls: &EntitySetup,
     ) -> Result<WorldBench, AllocError> {
-        if !config.is_valid() {
+        let two = config.two;
+        let Ok(config) = config.validate() else {
             return Err(AllocError);
-        }
+        };
         let outboxes = (outbox(alloc, calls)?, outbox(alloc, calls)?);
         let inboxes = (inbox(alloc, calls), inbox(alloc, calls));
         let world = World::new(alloc, config, outboxes, inboxes, ())?;
         Ok(WorldBench {
             alloc,
-            two: config.two,
+            two,
             world,
             losses: LossRun::new(),
         })

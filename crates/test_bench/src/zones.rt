@@ -21,7 +21,7 @@ use mpdu::{
     NO_START, Notes, Packer, Reassembler, are_few_in_a_row, are_packets, carry, is_packet,
     put_pointer, read_pointer,
 };
-use space_packet::{Packet, encode};
+use space_packet::{Packet, PacketType, SequenceFlags, encode};
 use std::alloc::{AllocError, Global};
 use std::marker::Model;
 
@@ -47,9 +47,9 @@ fn packet(alloc: Global, len: usize, octet: u8) -> Result<Vec<u8>, AllocError> {
     let body = vec![in alloc; octet; len - 6]?;
     let packet = Packet {
         apid: 100,
-        kind: false,
-        secondary: false,
-        flags: 3,
+        packet_type: PacketType::Telemetry,
+        has_secondary_header: false,
+        sequence_flags: SequenceFlags::Unsegmented,
         count: 0,
         body: &body,
     };

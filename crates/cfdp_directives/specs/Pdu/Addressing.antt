@@ -1,19 +1,21 @@
 -- The header of each PDU of a transaction, from what they have in common.
 use Rattle.std.specs.Prelude.{ℕ, ◌+◌, ◌^◌, ◌<◌, Bool, false}
+use Rattle.cfdp_header.specs.declared.value.Direction.{Direction}
 use Rattle.cfdp_header.specs.declared.value.Header.{Header}
+use Rattle.cfdp_header.specs.declared.value.PduType.{PduType}
 use Rattle.cfdp_header.specs.declared.value.TransactionId.{TransactionId}
 use Rattle.cfdp_header.specs.Header.{IsWidth, header_len}
 use Rattle.cfdp_directives.specs.declared.pdu.addressing.Addressing.{Addressing}
 use Rattle.cfdp_directives.specs.Pdu.Codes.{file_size_octets}
-use Rattle.cfdp_directives.specs.Pdu.Content.{Content, is_file_data}
+use Rattle.cfdp_directives.specs.Pdu.Content.{Content, pdu_type_of}
 use Rattle.cfdp_directives.specs.Pdu.Written.{content_len}
-use Rattle.cfdp_directives.specs.Pdu.Direction.{goes_toward_sender}
+use Rattle.cfdp_directives.specs.Pdu.Direction.{direction_of}
 
--- a header with this large file flag, of this kind, direction and length
-abbrev pub header_by : Addressing → Bool → Bool → Bool → ℕ → Header
-header_by a large file_data toward_sender length = record {
-  file_data = file_data;
-  toward_sender = toward_sender;
+-- a header with this large file flag, PDU type, direction and length
+abbrev pub header_by : Addressing → Bool → PduType → Direction → ℕ → Header
+header_by a large pdu_type direction length = record {
+  pdu_type = pdu_type;
+  direction = direction;
   large = large;
   length = length;
   segment_metadata = false;
@@ -25,7 +27,7 @@ header_by a large file_data toward_sender length = record {
 
 -- the header of a PDU that says this, with this large file flag
 abbrev pub header_of : Addressing → Bool → Content → Header
-header_of a large v = header_by a large (is_file_data v) (goes_toward_sender v)
+header_of a large v = header_by a large (pdu_type_of v) (direction_of v)
     (content_len (file_size_octets large) v)
 
 -- octets of a file data PDU in front of its data

@@ -1,5 +1,7 @@
 -- What a PDU says, without where it lies in memory.
-use Rattle.std.specs.Prelude.{ℕ, Bool, true, false, List}
+use Rattle.std.specs.Prelude.{ℕ, Bool, List}
+use Rattle.cfdp_header.specs.declared.value.PduType.{PduType}
+use Rattle.cfdp_header.specs.declared.value.PduType.TheVariants as types
 use Rattle.cfdp_directives.specs.declared.pdu.codes.Delivery.{Delivery}
 use Rattle.cfdp_directives.specs.declared.pdu.codes.FileStatus.{FileStatus}
 use Rattle.cfdp_directives.specs.declared.pdu.codes.TransactionStatus.{TransactionStatus}
@@ -30,7 +32,7 @@ view (pdu.Nak start end pairs) = Nak start end pairs
 view (pdu.Prompt keep_alive) = Prompt keep_alive
 view (pdu.KeepAlive progress) = KeepAlive progress
 
--- whether it is file data, and no directive
-abbrev pub is_file_data : Content → Bool
-is_file_data (FileData offset bytes) = true
-is_file_data _ = false
+-- the PDU type of its header (CCSDS 727.0-B-5, table 5-1)
+abbrev pub pdu_type_of : Content → PduType
+pdu_type_of (FileData offset bytes) = types.FileData
+pdu_type_of _ = types.FileDirective

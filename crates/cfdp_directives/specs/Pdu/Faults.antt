@@ -80,9 +80,10 @@ directive_fault w d =
     else if field d 0 8 == 12 then length_fault (1 + w) d
     else Some Directive
 
-abbrev pub content_fault : ℕ → Bool → Bool → List ℕ → Option PduError
-content_fault w file_data segment_metadata d =
-    if file_data then file_data_fault w segment_metadata d else directive_fault w d
+-- of a data field behind a header with this bit of the PDU type
+abbrev pub content_fault : ℕ → ℕ → Bool → List ℕ → Option PduError
+content_fault w pdu_type segment_metadata d =
+    if pdu_type == 1 then file_data_fault w segment_metadata d else directive_fault w d
 
 -- what is wrong with the header comes first
 abbrev after_header : Option HeaderError → Option PduError → Option PduError
@@ -93,7 +94,7 @@ after_header (Some e) next = Some (Header e)
 abbrev pub pdu_fault : List ℕ → Option PduError
 pdu_fault text =
     after_header (header_fault text)
-    (content_fault (file_size_octets (field text 7 1 == 1)) (field text 3 1 == 1)
+    (content_fault (file_size_octets (field text 7 1 == 1)) (field text 3 1)
     (field text 28 1 == 1) (drop (header_len_told text) text))
 
 -- the number of a refusal

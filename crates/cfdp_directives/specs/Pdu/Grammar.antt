@@ -12,7 +12,7 @@ use Rattle.cfdp_directives.specs.declared.pdu.codes.Acknowledged.{Acknowledged}
 use Rattle.cfdp_directives.specs.Pdu.Codes.{file_size_octets, is_refused, delivery_code, file_status_code, transaction_status_code, acknowledged_code}
 use Rattle.cfdp_directives.specs.Pdu.Tlv.{Tlv, tlv}
 use Rattle.cfdp_directives.specs.Pdu.Pair.{ArePairs}
-use Rattle.cfdp_directives.specs.Pdu.Content.{Content, FileData, Metadata, Eof, Finished, Ack, Nak, Prompt, KeepAlive, is_file_data}
+use Rattle.cfdp_directives.specs.Pdu.Content.{Content, FileData, Metadata, Eof, Finished, Ack, Nak, Prompt, KeepAlive, pdu_type_of}
 
 -- octets of a file-size field, FSS, in a PDU with this header (CCSDS 727.0-B-5, 5.1.10)
 abbrev pub fss : Header → ℕ
@@ -110,7 +110,7 @@ IsContent w segment_metadata (KeepAlive progress) d = IsKeepAlive w progress d
 
 -- The data field d of a PDU with this header says this.
 abbrev pub Says : Header → Content → List ℕ → Type 0
-Says h v d = (h.file_data ≡ is_file_data v) × IsContent (fss h) h.segment_metadata v d
+Says h v d = (h.pdu_type ≡ pdu_type_of v) × IsContent (fss h) h.segment_metadata v d
 
 -- The octets, all of them, are this PDU.
 pub record SpellsPdu (h : Header) (v : Content) (text : List ℕ) : Type 0 where

@@ -7,7 +7,7 @@ use Rattle.cfdp_header.specs.Header.{FitsHeader, header_octets}
 use Rattle.cfdp_directives.specs.Pdu.Codes.{IsCondition, delivery_code, file_status_code, transaction_status_code, acknowledged_code, acknowledged_subtype}
 use Rattle.cfdp_directives.specs.Pdu.Tlv.{tlv}
 use Rattle.cfdp_directives.specs.Pdu.Pair.{pair, IsPair}
-use Rattle.cfdp_directives.specs.Pdu.Content.{Content, FileData, Metadata, Eof, Finished, Ack, Nak, Prompt, KeepAlive, is_file_data}
+use Rattle.cfdp_directives.specs.Pdu.Content.{Content, FileData, Metadata, Eof, Finished, Ack, Nak, Prompt, KeepAlive, pdu_type_of}
 use Rattle.cfdp_directives.specs.Pdu.Grammar.{lv, fss}
 
 -- the data field; file-size fields have w octets
@@ -62,14 +62,14 @@ FitsContent w (KeepAlive progress) = progress < 256 ^ w
 pub record CanWrite (h : Header) (v : Content) : Type 0 where
   pub header : FitsHeader h
   pub content : FitsContent (fss h) v
-  pub kind : h.file_data ≡ is_file_data v
+  pub kind : h.pdu_type ≡ pdu_type_of v
   pub no_segment_metadata : h.segment_metadata ≡ false
   pub len : h.length ≡ content_len (fss h) v
 
 -- The header tells of the kind and the length of this content.
 abbrev pub IsHeaderOf : Header → Content → Type 0
 IsHeaderOf h v =
-    (h.file_data ≡ is_file_data v)
+    (h.pdu_type ≡ pdu_type_of v)
     × (h.segment_metadata ≡ false)
     × (h.length ≡ content_len (fss h) v)
 

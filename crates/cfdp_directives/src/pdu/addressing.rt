@@ -1,17 +1,20 @@
-ghost use Rattle.std.specs.Prelude.{◌≡◌, ◌+◌, ◌^◌, ◌<◌, ◌≤◌, ◌↔◌, ◌++◌, ℕ, Bool, List, length, take, drop, true, false, IsTrue};
+ghost use Rattle.std.specs.Prelude.{◌≡◌, ◌+◌, ◌^◌, ◌<◌, ◌≤◌, ◌↔◌, ◌++◌, ℕ, Bool, List, length};
+ghost use Rattle.std.specs.Prelude.{take, drop, true, false, IsTrue};
+ghost use Rattle.cfdp_header.specs.declared.value.Direction.TheVariants.{TowardReceiver};
+ghost use Rattle.cfdp_header.specs.declared.value.Direction.TheVariants.{TowardSender};
 ghost use Rattle.cfdp_directives.specs.declared.pdu.addressing.Addressing.{Addressing};
 ghost use Rattle.cfdp_directives.specs.Pdu.Content.{Content, FileData, view};
 ghost use Rattle.cfdp_directives.specs.Pdu.Written.{content_len, FitsContent, CanWrite, pdu_octets};
 ghost use Rattle.cfdp_directives.specs.Pdu.Codes.{file_size_octets};
 ghost use Rattle.cfdp_directives.specs.Pdu.Direction as directions;
-ghost use Rattle.cfdp_directives.specs.Pdu.Direction.{goes_toward_sender};
+ghost use Rattle.cfdp_directives.specs.Pdu.Direction.{direction_of};
 ghost use Rattle.cfdp_directives.specs.Pdu.Addressing as addressings;
 ghost use Rattle.cfdp_directives.specs.Pdu.Addressing.{addressing_of, FitsAddressing};
 
 use crate::pdu::content::Pdu;
 use crate::pdu::file_size::{file_size_octets, put_file_size};
 use crate::pdu::writing::encode;
-use cfdp_header::{Header, TransactionId, fits_width};
+use cfdp_header::{Direction, Header, PduType, TransactionId, fits_width};
 
 /// What the headers of a transaction's PDUs have in common: the two entities, the transaction's
 /// number, and how wide they are written (CCSDS 727.0-B-5, table 5-1). It makes the header of each
@@ -59,18 +62,18 @@ impl Addressing {
     {
         self.header(
             large,
-            pdu.is_file_data(),
-            pdu.goes_toward_sender(),
+            pdu.pdu_type(),
+            pdu.direction(),
             pdu.len(large) as u16,
         )
     }
 
-    fn header(&self, large: bool, file_data: bool, toward_sender: bool, length: u16) -> Header
-        ensures { result ≡ addressings.header_by self.now large file_data toward_sender length }
+    fn header(&self, large: bool, pdu_type: PduType, direction: Direction, length: u16) -> Header
+        ensures { result ≡ addressings.header_by self.now large pdu_type direction length }
     {
         Header {
-            file_data,
-            toward_sender,
+            pdu_type,
+            direction,
             large,
             length,
             segment_metadata: false,
@@ -121,7 +124,8 @@ impl Addressing {
             take result out.new ++ octets ≡ pdu_octets (addressings.header_of self.now large v) v }
         ensures behind { drop result out.new ≡ drop result out.old }
     {
-        let header = self.header(large, true, false, (file_size_octets(large) + count) as u16);
+        let length = (file_size_octets(large) + count) as u16;
+        let header = self.header(large, PduType::FileData, Direction::TowardReceiver, length);
         let at = cfdp_header::encode(&header, out);
         put_file_size(out, at, large, offset)
     }
@@ -143,9 +147,9 @@ pub fn addressed_pdu_goes_to_the_other_end()
     ensures fits { (a : Addressing) (large : Bool) (v : Content) →
         directions.direction_fits (addressings.header_of a large v) v ≡ true }
     ensures toward_sender { (a : Addressing) (large : Bool) (v : Content) →
-        goes_toward_sender v ≡ true
+        direction_of v ≡ TowardSender
         → directions.is_for a.id.source a.destination (addressings.header_of a large v) ≡ true }
     ensures toward_receiver { (a : Addressing) (large : Bool) (v : Content) →
-        goes_toward_sender v ≡ false
+        direction_of v ≡ TowardReceiver
         → directions.is_for a.destination a.id.source (addressings.header_of a large v) ≡ true }
 {}

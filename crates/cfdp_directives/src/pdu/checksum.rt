@@ -1,5 +1,6 @@
 ghost use Rattle.std.specs.Prelude.{◌≡◌, ℕ, ◌+◌, ◌%◌, ◌^◌, List, sum_by};
-ghost use Rattle.cfdp_directives.specs.Pdu.Checksum.{sum_at, modular_checksum, Piece, Cuts, added, sum_of};
+ghost use Rattle.cfdp_directives.specs.Pdu.Checksum.{sum_at, modular_checksum, Piece, Cuts, added};
+ghost use Rattle.cfdp_directives.specs.Pdu.Checksum.{sum_of};
 
 use std::marker::Model;
 

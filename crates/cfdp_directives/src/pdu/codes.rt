@@ -1,6 +1,8 @@
 // The numbers of the standard that have names.
 ghost use Rattle.std.specs.Prelude.{◌≡◌, ℕ, ◌<◌, ◌↔◌, IsSome, IfSome};
-ghost use Rattle.cfdp_directives.specs.Pdu.Codes.{IsCondition, delivery_code, file_status_code, transaction_status_code, acknowledged_code, acknowledged_subtype};
+ghost use Rattle.cfdp_directives.specs.Pdu.Codes.{IsCondition, delivery_code, file_status_code};
+ghost use Rattle.cfdp_directives.specs.Pdu.Codes.{transaction_status_code, acknowledged_code};
+ghost use Rattle.cfdp_directives.specs.Pdu.Codes.{acknowledged_subtype};
 
 use std::marker::Model;
 

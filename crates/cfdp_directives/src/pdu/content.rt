@@ -1,14 +1,15 @@
 ghost use Rattle.std.specs.Prelude.{◌≡◌, ◌^◌, ◌<◌, ◌↔◌, IsTrue};
 ghost use Rattle.cfdp_directives.specs.Pdu.Codes.{file_size_octets};
-ghost use Rattle.cfdp_directives.specs.Pdu.Content.{view, is_file_data};
+ghost use Rattle.cfdp_directives.specs.Pdu.Content.{view, pdu_type_of};
 ghost use Rattle.cfdp_directives.specs.Pdu.Written.{content_len, FitsContent};
 
 use crate::pdu::codes::{
     Acknowledged, ChecksumKind, Condition, Delivery, FileStatus, TransactionStatus,
 };
 use crate::pdu::file_size::{file_size_octets, is_file_size};
-use crate::pdu::pairs::Pairs;
+use crate::pdu::pairs::SegmentRequests;
 use crate::pdu::tlv::Tlvs;
+use cfdp_header::PduType;
 
 /// What a PDU says (CCSDS 727.0-B-5, 5.2 and 5.3). Texts, data, pairs and options of a PDU that was
 /// read lie in its octets.
@@ -63,8 +64,8 @@ pub enum Pdu<'a> {
         start: u64,
         /// The offset at which its scope ends.
         end: u64,
-        /// The ranges that are asked for. (0, 0) asks for Metadata.
-        pairs: Pairs<'a>,
+        /// The segment requests: the ranges that are asked for. (0, 0) asks for Metadata.
+        requests: SegmentRequests<'a>,
     },
     /// The sender asks for a NAK or a Keep Alive.
     Prompt {
@@ -97,17 +98,20 @@ impl Pdu<'_> {
             Pdu::Eof { tlvs, .. } => 6 + width + tlvs.octets().len(),
             Pdu::Finished { tlvs, .. } => 2 + tlvs.octets().len(),
             Pdu::Ack { .. } => 3,
-            Pdu::Nak { pairs, .. } => 1 + 2 * width + 2 * width * pairs.len(),
+            Pdu::Nak { requests, .. } => 1 + 2 * width + 2 * width * requests.len(),
             Pdu::Prompt { .. } => 2,
             Pdu::KeepAlive { .. } => 1 + width,
         }
     }
 
-    /// Whether it is file data, and no directive: the `file_data` of its header.
-    pub(crate) fn is_file_data(&self) -> bool
-        ensures { result ≡ is_file_data (view self.now) }
+    /// Whether it is file data or a directive: the `pdu_type` of its header.
+    pub(crate) fn pdu_type(&self) -> PduType
+        ensures { result ≡ pdu_type_of (view self.now) }
     {
-        matches!(self, Pdu::FileData { .. })
+        match self {
+            Pdu::FileData { .. } => PduType::FileData,
+            _ => PduType::FileDirective,
+        }
     }
 
     /// Whether its content can be written: sizes and offsets fit a file-size field, and names have
@@ -143,9 +147,11 @@ impl Pdu<'_> {
                 let _any_condition_fits = condition.code();
                 true
             }
-            Pdu::Nak { start, end, pairs } => {
-                is_file_size(large, *start) && is_file_size(large, *end) && pairs.fit(large)
-            }
+            Pdu::Nak {
+                start,
+                end,
+                requests,
+            } => { is_file_size(large, *start) && is_file_size(large, *end) && requests.fit(large) }
             Pdu::Prompt { .. } => true,
             Pdu::KeepAlive { progress } => is_file_size(large, *progress),
         }
@@ -177,7 +183,7 @@ impl Pdu<'_> {
                 source.len() <= most && destination.len() <= most && options.octets().len() <= most
             }
             Pdu::Eof { tlvs, .. } | Pdu::Finished { tlvs, .. } => tlvs.octets().len() <= most,
-            Pdu::Nak { pairs, .. } => pairs.len() <= most,
+            Pdu::Nak { requests, .. } => requests.len() <= most,
             Pdu::Ack { .. } | Pdu::Prompt { .. } | Pdu::KeepAlive { .. } => true,
         }
     }

@@ -5,21 +5,25 @@ ghost use Rattle.cfdp_directives.specs.Pdu.Direction as directions;
 
 use crate::pdu::codes::Acknowledged;
 use crate::pdu::content::Pdu;
-use cfdp_header::Header;
+use cfdp_header::{Direction, Header};
 
 impl Pdu<'_> {
-    /// Whether it goes from the file's receiver to its sender: a Finished, a NAK, a Keep Alive and
-    /// an ACK of EOF do. All others go from the sender to the receiver (CCSDS 727.0-B-5, table
-    /// 5-1).
-    pub fn goes_toward_sender(&self) -> bool
-        ensures { result ≡ directions.goes_toward_sender (view self.now) }
+    /// Which way it goes: a Finished, a NAK, a Keep Alive and an ACK of EOF toward the file's
+    /// sender, all others toward its receiver (CCSDS 727.0-B-5, table 5-1).
+    pub fn direction(&self) -> Direction
+        ensures { result ≡ directions.direction_of (view self.now) }
     {
         match self {
             Pdu::FileData { .. } | Pdu::Metadata { .. } | Pdu::Eof { .. } | Pdu::Prompt { .. } => {
-                false
+                Direction::TowardReceiver
             }
-            Pdu::Finished { .. } | Pdu::Nak { .. } | Pdu::KeepAlive { .. } => true,
-            Pdu::Ack { of, .. } => *of == Acknowledged::Eof,
+            Pdu::Finished { .. } | Pdu::Nak { .. } | Pdu::KeepAlive { .. } => {
+                Direction::TowardSender
+            }
+            Pdu::Ack { of, .. } => match of {
+                Acknowledged::Eof => Direction::TowardSender,
+                Acknowledged::Finished => Direction::TowardReceiver,
+            },
         }
     }
 }
@@ -29,9 +33,9 @@ impl Pdu<'_> {
 pub fn direction_fits(header: &Header, pdu: &Pdu<'_>) -> bool
     ensures value { result ≡ directions.direction_fits header.now (view pdu.now) }
     ensures same { IsTrue result
-        ↔ (header.now.toward_sender ≡ directions.goes_toward_sender (view pdu.now)) }
+        ↔ (header.now.direction ≡ directions.direction_of (view pdu.now)) }
 {
-    header.toward_sender == pdu.goes_toward_sender()
+    header.direction == pdu.direction()
 }
 
 /// Whether a PDU with this header is for the entity `own`, and comes from the entity `peer`. By the
@@ -40,9 +44,8 @@ pub fn direction_fits(header: &Header, pdu: &Pdu<'_>) -> bool
 pub fn is_for(own: u64, peer: u64, header: &Header) -> bool
     ensures { result ≡ directions.is_for own peer header.now }
 {
-    if header.toward_sender {
-        header.id.source == own && header.destination == peer
-    } else {
-        header.id.source == peer && header.destination == own
+    match header.direction {
+        Direction::TowardSender => header.id.source == own && header.destination == peer,
+        Direction::TowardReceiver => header.id.source == peer && header.destination == own,
     }
 }

@@ -1,6 +1,7 @@
 // The octets of a file-size field, as an offset, and the greatest size of a file: their numbers
 // stand here alone.
-ghost use Rattle.std.specs.Prelude.{◌≡◌, ◌+◌, ◌*◌, ◌^◌, ◌<◌, ◌≤◌, ◌++◌, ◌↔◌, false, length, take, drop, IsTrue};
+ghost use Rattle.std.specs.Prelude.{◌≡◌, ◌+◌, ◌*◌, ◌^◌, ◌<◌, ◌≤◌, ◌++◌, ◌↔◌, false, length, take};
+ghost use Rattle.std.specs.Prelude.{drop, IsTrue};
 ghost use Rattle.cfd_bits.specs.Field.{field, octets};
 ghost use Rattle.cfdp_directives.specs.Pdu.Codes as codes;
 

@@ -7,7 +7,8 @@ ghost use Rattle.cfdp_directives.specs.declared.pdu.codes.Delivery.{Delivery};
 ghost use Rattle.cfdp_directives.specs.declared.pdu.codes.FileStatus.{FileStatus};
 ghost use Rattle.cfdp_directives.specs.declared.pdu.codes.TransactionStatus.{TransactionStatus};
 ghost use Rattle.cfdp_directives.specs.Pdu.Codes.{file_size_octets};
-ghost use Rattle.cfdp_directives.specs.Pdu.Content.{FileData, Metadata, Eof, Finished, Ack, Nak, Prompt, KeepAlive};
+ghost use Rattle.cfdp_directives.specs.Pdu.Content.{FileData, Metadata, Eof, Finished, Ack, Nak};
+ghost use Rattle.cfdp_directives.specs.Pdu.Content.{Prompt, KeepAlive};
 ghost use Rattle.cfdp_directives.specs.Pdu.Tlv.{Tlv, tlv, fault_location};
 ghost use Rattle.cfdp_directives.specs.Pdu.Written.{content_len};
 

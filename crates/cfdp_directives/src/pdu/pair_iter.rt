@@ -2,14 +2,14 @@ ghost use Rattle.std.specs.Prelude.{◌≡◌, Some, length, drop, IfSome};
 ghost use Rattle.std.specs.Iterator.{at_most, item_count, UpTo, YieldsFirst};
 ghost use Rattle.std.specs.Iterator.SizeHint.{IsWithinCount};
 
-use crate::pdu::pairs::Pairs;
+use crate::pdu::pairs::SegmentRequests;
 use std::marker::Model;
 
 /// The requested ranges of a NAK one by one, each the offset where it starts and the one where it
 /// ends. Contracts see it as the list of those that are left.
 #[derive(Debug, Drop)]
 pub struct PairIter<'a> {
-    pairs: Pairs<'a>,
+    pairs: SegmentRequests<'a>,
     // How many of them were given.
     given: usize,
 }
@@ -24,7 +24,7 @@ impl<'a> Model for PairIter<'a> {
 
 impl<'a> PairIter<'a> {
     /// Over these pairs.
-    pub(crate) fn over(pairs: Pairs<'a>) -> Self
+    pub(crate) fn over(pairs: SegmentRequests<'a>) -> Self
         ensures { result ≡ pairs.entry }
     {
         PairIter { pairs, given: 0 }

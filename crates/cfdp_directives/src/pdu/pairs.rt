@@ -1,11 +1,14 @@
-ghost use Rattle.std.specs.Prelude.{◌≡◌, ℕ, ◌+◌, ◌==◌, ◌*◌, ◌/◌, ◌%◌, ◌<◌, ◌≤◌, ◌++◌, [], ◌∷◌, false, length, take, drop, is_some, IsTrue, ◌↔◌, nat_eq, IfSome, IfNone};
+ghost use Rattle.std.specs.Prelude.{◌≡◌, ℕ, ◌+◌, ◌==◌, ◌*◌, ◌/◌, ◌%◌, ◌<◌, ◌≤◌, ◌++◌, [], ◌∷◌};
+ghost use Rattle.std.specs.Prelude.{false, length, take, drop, is_some, IsTrue, ◌↔◌, nat_eq};
+ghost use Rattle.std.specs.Prelude.{IfSome, IfNone};
 ghost use Rattle.std.specs.Cmp.{partial_equiv_from_equiv};
 ghost use Rattle.std.specs.Cmp.Lexicographic.{on_texts_equal, pointwise};
 ghost use Rattle.std.specs.Ordering.{on};
 ghost use Rattle.std.specs.List.{flat_map, AllByRecursion};
 ghost use Rattle.cfdp_directives.specs.Pdu.Codes.{file_size_octets};
 ghost use Rattle.cfdp_directives.specs.Pdu.Pair as specified;
-ghost use Rattle.cfdp_directives.specs.Pdu.Pair.{pair, pairs_read, ArePairs, IsPair, numbers, pairs_in, IsWhole};
+ghost use Rattle.cfdp_directives.specs.Pdu.Pair.{pair, pairs_read, ArePairs, IsPair, numbers};
+ghost use Rattle.cfdp_directives.specs.Pdu.Pair.{pairs_in, IsWhole};
 
 use crate::pdu::file_size::{file_size_octets, is_file_size, put_file_size, read_file_size};
 use crate::pdu::pair_iter::PairIter;
@@ -36,11 +39,11 @@ enum Form<'a> {
 /// The requested ranges of a NAK (CCSDS 727.0-B-5, 5.2.6): pairs of offsets, each the start of a
 /// range and its end. Those of a NAK that was read lie in its octets. Contracts see them as a list.
 #[derive(Debug, Drop)]
-pub struct Pairs<'a> {
+pub struct SegmentRequests<'a> {
     form: Form<'a>,
 }
 
-impl<'a> Model for Pairs<'a> {
+impl<'a> Model for SegmentRequests<'a> {
     ghost use Rattle.std.specs.Prelude.{List, ℕ};
     ghost use Rattle.cfdp_directives.specs.Pdu.Pair.{pairs_in, IsWhole};
 
@@ -51,12 +54,12 @@ impl<'a> Model for Pairs<'a> {
     ghost invariant = { λ p. IsWhole p.form };
 }
 
-impl<'a> Pairs<'a> {
+impl<'a> SegmentRequests<'a> {
     /// Ranges with these starts and ends. To be written, each number has to fit a file-size field.
     pub fn of(pairs: &'a [(u64, u64)]) -> Self
         ensures { result ≡ pairs.now }
     {
-        Pairs {
+        SegmentRequests {
             form: Form::Given(pairs),
         }
     }
@@ -69,7 +72,7 @@ impl<'a> Pairs<'a> {
             ≡ (length octets.now % specified.pair_octets large == 0) }
     {
         if octets.len() % pair_octets(large) == 0 {
-            Some(Pairs::filling(large, octets))
+            Some(SegmentRequests::filling(large, octets))
         } else {
             None
         }
@@ -80,7 +83,7 @@ impl<'a> Pairs<'a> {
         requires { length octets.now % specified.pair_octets large ≡ 0 }
         ensures { result ≡ pairs_read large octets.now }
     {
-        Pairs {
+        SegmentRequests {
             form: if large {
                 Form::Large(octets)
             } else {
@@ -101,7 +104,7 @@ impl<'a> Pairs<'a> {
     }
 
     /// The start and the end of the first range, and the pairs behind it.
-    pub fn split_first(&self) -> Option<(u64, u64, Pairs<'a>)>
+    pub fn split_first(&self) -> Option<(u64, u64, SegmentRequests<'a>)>
         ensures some { IfSome result (λ x. self.now ≡ (x.0, x.1) ∷ x.2) }
         ensures none { IfNone result (self.now ≡ []) }
     {
@@ -109,7 +112,11 @@ impl<'a> Pairs<'a> {
             Form::Small(octets) => split_read(false, octets),
             Form::Large(octets) => split_read(true, octets),
             Form::Given([]) => None,
-            Form::Given([(start, end), rest @ ..]) => Some((*start, *end, Pairs::of(rest))),
+            Form::Given([(start, end), rest @ ..]) => Some((
+                *start,
+                *end,
+                SegmentRequests::of(rest),
+            )),
         }
     }
 
@@ -128,7 +135,7 @@ impl<'a> Pairs<'a> {
     pub fn iter(&self) -> PairIter<'a>
         ensures { result ≡ self.now }
     {
-        PairIter::over(Pairs { form: self.form })
+        PairIter::over(SegmentRequests { form: self.form })
     }
 
     /// Whether they can be written: each number fits a file-size field, as those of a NAK that was
@@ -162,7 +169,7 @@ impl<'a> Pairs<'a> {
     }
 }
 
-impl PartialEq for Pairs<'_> {
+impl PartialEq for SegmentRequests<'_> {
     ghost eq = { on numbers (pointwise nat_eq) };
 
     ghost laws = { partial_equiv_from_equiv (on_texts_equal numbers) };
@@ -172,11 +179,11 @@ impl PartialEq for Pairs<'_> {
     }
 }
 
-impl Eq for Pairs<'_> {
+impl Eq for SegmentRequests<'_> {
     ghost laws = { on_texts_equal numbers };
 }
 
-impl<'a> IntoIterator for &Pairs<'a> {
+impl<'a> IntoIterator for &SegmentRequests<'a> {
     type Item = (u64, u64);
 
     type IntoIter = PairIter<'a>;
@@ -214,7 +221,7 @@ fn count_read(large: bool, octets: &[u8]) -> usize
 
 /// The start and the end of the first of the pairs that fill the octets, and those behind it.
 #[tactic(auto, using(crate::proofs::Ranges::first_pair, crate::proofs::Ranges::no_pair, crate::proofs::Options::field_behind))]
-fn split_read(large: bool, octets: &[u8]) -> Option<(u64, u64, Pairs<'_>)>
+fn split_read(large: bool, octets: &[u8]) -> Option<(u64, u64, SegmentRequests<'_>)>
     requires { length octets.now % specified.pair_octets large ≡ 0 }
     ensures some { IfSome result (λ x. pairs_read large octets.now ≡ (x.0, x.1) ∷ x.2) }
     ensures none { IfNone result (pairs_read large octets.now ≡ []) }
@@ -227,7 +234,7 @@ fn split_read(large: bool, octets: &[u8]) -> Option<(u64, u64, Pairs<'_>)>
     Some((
         read_file_size(large, octets),
         read_file_size(large, end),
-        Pairs::filling(large, rest),
+        SegmentRequests::filling(large, rest),
     ))
 }
 
@@ -300,7 +307,7 @@ fn pairs_over(large: bool, octets: &[u8]) -> PairIter<'_>
     requires { length octets.now % specified.pair_octets large ≡ 0 }
     ensures { result ≡ pairs_read large octets.now }
 {
-    PairIter::over(Pairs::filling(large, octets))
+    PairIter::over(SegmentRequests::filling(large, octets))
 }
 
 /// Whether each number that is left fits a file-size field.

@@ -1,12 +1,18 @@
-ghost use Rattle.std.specs.Prelude.{◌≡◌, ℕ, ◌+◌, ◌*◌, ◌<◌, ◌≤◌, ◌++◌, Bool, length, drop, Some, None, is_some, IfSome, IfOk, IsOkAnd, true, false, if◌then◌else◌};
+ghost use Rattle.std.specs.Prelude.{◌≡◌, ℕ, ◌+◌, ◌*◌, ◌<◌, ◌≤◌, ◌++◌, Bool, length, drop, Some};
+ghost use Rattle.std.specs.Prelude.{None, is_some, IfSome, IfOk, IsOkAnd, true, false};
+ghost use Rattle.std.specs.Prelude.{if◌then◌else◌};
 ghost use Rattle.std.specs.Result.{result_err};
 ghost use Rattle.cfd_bits.specs.Field.{field};
 ghost use Rattle.cfdp_header.specs.declared.value.Header.{Header};
+ghost use Rattle.cfdp_header.specs.declared.value.PduType.TheVariants as types;
 ghost use Rattle.cfdp_directives.specs.declared.pdu.error.PduError.TheVariants as errors;
 ghost use Rattle.cfdp_directives.specs.Pdu.Codes.{is_refused};
 ghost use Rattle.cfdp_directives.specs.Pdu.Content.{Content, view};
 ghost use Rattle.cfdp_directives.specs.Pdu.Grammar.{Says, SpellsPdu, lv, fss};
-ghost use Rattle.cfdp_directives.specs.Pdu.Faults.{has_lv, after_lv, file_data_fault, metadata_fault, eof_fault, finished_fault, ack_fault, nak_fault, length_fault, directive_fault, content_fault, pdu_fault};
+ghost use Rattle.cfdp_directives.specs.Pdu.Faults.{has_lv, after_lv, file_data_fault};
+ghost use Rattle.cfdp_directives.specs.Pdu.Faults.{metadata_fault, eof_fault, finished_fault};
+ghost use Rattle.cfdp_directives.specs.Pdu.Faults.{ack_fault, nak_fault, length_fault};
+ghost use Rattle.cfdp_directives.specs.Pdu.Faults.{directive_fault, content_fault, pdu_fault};
 
 use crate::pdu::codes::{
     Acknowledged, ChecksumKind, Condition, Delivery, FileStatus, TransactionStatus,
@@ -14,10 +20,10 @@ use crate::pdu::codes::{
 use crate::pdu::content::Pdu;
 use crate::pdu::error::PduError;
 use crate::pdu::file_size::{file_size_octets, read_file_size};
-use crate::pdu::pairs::Pairs;
+use crate::pdu::pairs::SegmentRequests;
 use crate::pdu::tlv::Tlvs;
 use cfd_bits::get;
-use cfdp_header::Header;
+use cfdp_header::{Header, PduType};
 
 /// The condition with this code, where it is one.
 fn condition(code: u64) -> Result<Condition, PduError>
@@ -51,7 +57,7 @@ fn split_lv(bytes: &[u8]) -> Option<(&[u8], &[u8])>
 
 #[tactic(auto, using(crate::proofs::Options::field_behind))]
 fn file_data<'a>(header: &Header, body: &'a [u8]) -> Result<Pdu<'a>, PduError>
-    requires { header.now.file_data ≡ true }
+    requires { header.now.pdu_type ≡ types.FileData }
     ensures found { IfOk result (λ v. Says header.now (view v) body.now) }
     ensures refused { result_err result
         ≡ file_data_fault (fss header.now) header.now.segment_metadata body.now }
@@ -77,7 +83,7 @@ fn file_data<'a>(header: &Header, body: &'a [u8]) -> Result<Pdu<'a>, PduError>
 
 #[tactic(auto, using(crate::proofs::Options::spelled_so, crate::proofs::Ranges::behind_two))]
 fn metadata<'a>(header: &Header, body: &'a [u8]) -> Result<Pdu<'a>, PduError>
-    requires kind { header.now.file_data ≡ false }
+    requires kind { header.now.pdu_type ≡ types.FileDirective }
     requires code { field body.now 0 8 ≡ 7 }
     ensures found { IfOk result (λ v. Says header.now (view v) body.now) }
     ensures refused { result_err result ≡ metadata_fault (fss header.now) body.now }
@@ -116,7 +122,7 @@ fn checksum_kind(code: u64) -> ChecksumKind
 
 #[tactic(auto, using(crate::proofs::Options::spelled_so, crate::proofs::Ranges::behind_six))]
 fn eof<'a>(header: &Header, body: &'a [u8]) -> Result<Pdu<'a>, PduError>
-    requires kind { header.now.file_data ≡ false }
+    requires kind { header.now.pdu_type ≡ types.FileDirective }
     requires code { field body.now 0 8 ≡ 4 }
     ensures found { IfOk result (λ v. Says header.now (view v) body.now) }
     ensures refused { result_err result ≡ eof_fault (fss header.now) body.now }
@@ -141,7 +147,7 @@ fn eof<'a>(header: &Header, body: &'a [u8]) -> Result<Pdu<'a>, PduError>
 
 #[tactic(auto, using(crate::proofs::Options::spelled_so))]
 fn finished<'a>(header: &Header, body: &'a [u8]) -> Result<Pdu<'a>, PduError>
-    requires kind { header.now.file_data ≡ false }
+    requires kind { header.now.pdu_type ≡ types.FileDirective }
     requires code { field body.now 0 8 ≡ 5 }
     ensures found { IfOk result (λ v. Says header.now (view v) body.now) }
     ensures refused { result_err result ≡ finished_fault body.now }
@@ -173,7 +179,7 @@ fn finished<'a>(header: &Header, body: &'a [u8]) -> Result<Pdu<'a>, PduError>
 }
 
 fn ack<'a>(header: &Header, body: &'a [u8]) -> Result<Pdu<'a>, PduError>
-    requires kind { header.now.file_data ≡ false }
+    requires kind { header.now.pdu_type ≡ types.FileDirective }
     requires code { field body.now 0 8 ≡ 6 }
     ensures found { IfOk result (λ v. Says header.now (view v) body.now) }
     ensures refused { result_err result ≡ ack_fault body.now }
@@ -205,7 +211,7 @@ fn ack<'a>(header: &Header, body: &'a [u8]) -> Result<Pdu<'a>, PduError>
 
 #[tactic(auto, using(crate::proofs::Ranges::behind_one, crate::proofs::Ranges::scope_end))]
 fn nak<'a>(header: &Header, body: &'a [u8]) -> Result<Pdu<'a>, PduError>
-    requires kind { header.now.file_data ≡ false }
+    requires kind { header.now.pdu_type ≡ types.FileDirective }
     requires code { field body.now 0 8 ≡ 8 }
     ensures found { IfOk result (λ v. Says header.now (view v) body.now) }
     ensures refused { result_err result ≡ nak_fault (fss header.now) body.now }
@@ -217,18 +223,18 @@ fn nak<'a>(header: &Header, body: &'a [u8]) -> Result<Pdu<'a>, PduError>
     let (_, start) = body.split_at(1);
     let (_, end) = body.split_at(1 + width);
     let (_, behind) = body.split_at(1 + 2 * width);
-    let Some(pairs) = Pairs::read(header.large, behind) else {
+    let Some(requests) = SegmentRequests::read(header.large, behind) else {
         return Err(PduError::Truncated);
     };
     Ok(Pdu::Nak {
         start: read_file_size(header.large, start),
         end: read_file_size(header.large, end),
-        pairs,
+        requests,
     })
 }
 
 fn prompt<'a>(header: &Header, body: &'a [u8]) -> Result<Pdu<'a>, PduError>
-    requires kind { header.now.file_data ≡ false }
+    requires kind { header.now.pdu_type ≡ types.FileDirective }
     requires code { field body.now 0 8 ≡ 9 }
     ensures found { IfOk result (λ v. Says header.now (view v) body.now) }
     ensures refused { result_err result ≡ length_fault 2 body.now }
@@ -246,7 +252,7 @@ fn prompt<'a>(header: &Header, body: &'a [u8]) -> Result<Pdu<'a>, PduError>
 
 #[tactic(auto, using(crate::proofs::Ranges::behind_one))]
 fn keep_alive<'a>(header: &Header, body: &'a [u8]) -> Result<Pdu<'a>, PduError>
-    requires kind { header.now.file_data ≡ false }
+    requires kind { header.now.pdu_type ≡ types.FileDirective }
     requires code { field body.now 0 8 ≡ 12 }
     ensures found { IfOk result (λ v. Says header.now (view v) body.now) }
     ensures refused { result_err result ≡ length_fault (1 + fss header.now) body.now }
@@ -265,7 +271,7 @@ fn keep_alive<'a>(header: &Header, body: &'a [u8]) -> Result<Pdu<'a>, PduError>
 }
 
 fn directive<'a>(header: &Header, body: &'a [u8]) -> Result<Pdu<'a>, PduError>
-    requires { header.now.file_data ≡ false }
+    requires { header.now.pdu_type ≡ types.FileDirective }
     ensures found { IfOk result (λ v. Says header.now (view v) body.now) }
     ensures refused { result_err result ≡ directive_fault (fss header.now) body.now }
 {
@@ -289,10 +295,9 @@ fn pdu(bytes: &[u8]) -> Result<(Header, Pdu<'_>), PduError>
     ensures refused { result_err result ≡ pdu_fault bytes.now }
 {
     let (header, body) = cfdp_header::decode(bytes)?;
-    let content = if header.file_data {
-        file_data(&header, body)
-    } else {
-        directive(&header, body)
+    let content = match header.pdu_type {
+        PduType::FileData => file_data(&header, body),
+        PduType::FileDirective => directive(&header, body),
     };
     match content {
         Ok(pdu) => Ok((header, pdu)),

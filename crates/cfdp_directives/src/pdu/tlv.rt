@@ -1,10 +1,12 @@
-ghost use Rattle.std.specs.Prelude.{◌≡◌, ◌+◌, ◌<◌, ◌^◌, ◌∷◌, [], length, Some, unwrap_or, is_some, IfSome, IfNone, true, false, nat_eq};
+ghost use Rattle.std.specs.Prelude.{◌≡◌, ◌+◌, ◌<◌, ◌^◌, ◌∷◌, [], length, Some, unwrap_or, is_some};
+ghost use Rattle.std.specs.Prelude.{IfSome, IfNone, true, false, nat_eq};
 ghost use Rattle.std.specs.Cmp.{partial_equiv_from_equiv};
 ghost use Rattle.std.specs.Cmp.Lexicographic.{on_texts_equal, pointwise};
 ghost use Rattle.std.specs.List.{flat_map};
 ghost use Rattle.std.specs.Ordering.{on};
 ghost use Rattle.cfdp_header.specs.Header.{IsWidth};
-ghost use Rattle.cfdp_directives.specs.Pdu.Tlv.{tlv, tlvs_of, location_of, fault_location, octets_in, IsWhole};
+ghost use Rattle.cfdp_directives.specs.Pdu.Tlv.{tlv, tlvs_of, location_of, fault_location};
+ghost use Rattle.cfdp_directives.specs.Pdu.Tlv.{octets_in, IsWhole};
 
 use crate::pdu::tlv_iter::TlvIter;
 use cfd_bits::{get, put_uint};

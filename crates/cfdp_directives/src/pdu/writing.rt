@@ -1,16 +1,19 @@
-ghost use Rattle.std.specs.Prelude.{◌≡◌, ℕ, ◌+◌, ◌*◌, ◌^◌, ◌<◌, ◌≤◌, ◌++◌, false, List, length, take, drop, IsTrue, ◌↔◌};
+ghost use Rattle.std.specs.Prelude.{◌≡◌, ℕ, ◌+◌, ◌*◌, ◌^◌, ◌<◌, ◌≤◌, ◌++◌, false, List, length};
+ghost use Rattle.std.specs.Prelude.{take, drop, IsTrue, ◌↔◌};
 ghost use Rattle.cfdp_header.specs.Header.{header_len};
 ghost use Rattle.cfdp_directives.specs.Pdu.Codes.{file_size_octets};
-ghost use Rattle.cfdp_directives.specs.Pdu.Content.{Content, FileData, Metadata, Eof, Finished, Ack, Nak, Prompt, KeepAlive, view};
+ghost use Rattle.cfdp_directives.specs.Pdu.Content.{Content, FileData, Metadata, Eof, Finished};
+ghost use Rattle.cfdp_directives.specs.Pdu.Content.{Ack, Nak, Prompt, KeepAlive, view};
 ghost use Rattle.cfdp_directives.specs.Pdu.Grammar.{lv};
-ghost use Rattle.cfdp_directives.specs.Pdu.Written.{content_octets, content_len, FitsContent, CanWrite, IsHeaderOf, pdu_octets};
+ghost use Rattle.cfdp_directives.specs.Pdu.Written.{content_octets, content_len, FitsContent};
+ghost use Rattle.cfdp_directives.specs.Pdu.Written.{CanWrite, IsHeaderOf, pdu_octets};
 
 use crate::pdu::codes::{
     Acknowledged, ChecksumKind, Condition, Delivery, FileStatus, TransactionStatus,
 };
 use crate::pdu::content::Pdu;
 use crate::pdu::file_size::put_file_size;
-use crate::pdu::pairs::Pairs;
+use crate::pdu::pairs::SegmentRequests;
 use crate::pdu::tlv::Tlvs;
 use cfd_bits::{put_bytes, put_uint};
 use cfdp_header::Header;
@@ -141,7 +144,14 @@ fn put_ack(
     put_uint(out, at, 1, third)
 }
 
-fn put_nak(out: &mut [u8], at: usize, large: bool, start: u64, end: u64, pairs: &Pairs<'_>) -> usize
+fn put_nak(
+    out: &mut [u8],
+    at: usize,
+    large: bool,
+    start: u64,
+    end: u64,
+    pairs: &SegmentRequests<'_>,
+) -> usize
     requires fits { FitsContent (file_size_octets large) (Nak start end pairs.now) }
     requires room { at + content_len (file_size_octets large) (Nak start end pairs.now)
         ≤ length out.old }
@@ -189,7 +199,7 @@ pub fn can_write(header: &Header, pdu: &Pdu<'_>) -> bool
 fn is_header_of(header: &Header, pdu: &Pdu<'_>) -> bool
     ensures { IsTrue result ↔ IsHeaderOf header.now (view pdu.now) }
 {
-    header.file_data == pdu.is_file_data()
+    header.pdu_type == pdu.pdu_type()
         && !header.segment_metadata
         && pdu.has_len(header.large, header.length)
 }
@@ -197,7 +207,7 @@ fn is_header_of(header: &Header, pdu: &Pdu<'_>) -> bool
 /// Writes the PDU into the first octets of `out`, spare bits as 0, and says how many they are. The
 /// octets behind stay.
 ///
-/// `header.length` has to be `pdu.len()`, and `header.file_data` has to say what kind of PDU it is:
+/// `header.length` has to be `pdu.len()`, and `header.pdu_type` has to say what kind of PDU it is:
 /// `can_write` tells.
 #[tactic(auto, using(crate::proofs::Spelling::behind_data))]
 pub fn encode(header: &Header, pdu: &Pdu<'_>, out: &mut [u8]) -> usize
@@ -261,7 +271,11 @@ fn put_content(out: &mut [u8], at: usize, large: bool, pdu: &Pdu<'_>) -> usize
             condition,
             status,
         } => put_ack(out, at, *of, *condition, *status),
-        Pdu::Nak { start, end, pairs } => put_nak(out, at, large, *start, *end, pairs),
+        Pdu::Nak {
+            start,
+            end,
+            requests,
+        } => put_nak(out, at, large, *start, *end, requests),
         Pdu::Prompt { keep_alive } => put_prompt(out, at, *keep_alive),
         Pdu::KeepAlive { progress } => put_keep_alive(out, at, large, *progress),
     }

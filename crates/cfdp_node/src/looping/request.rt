@@ -2,7 +2,9 @@
 ghost use Rattle.std.specs.Prelude.{◌≡◌, false, IfOk, option_map};
 ghost use Rattle.clap.specs.Matches.{found_of};
 ghost use Rattle.clap.specs.Walk.{rows_of, rule_of};
-ghost use Rattle.cfdp_node.specs.Looping.Request.{drop_rule, files_app, folders_app, loop_app, loop_asked, loop_of, number_of_word, numbers_app, place_rule, tuned_rule, turns_rule, words_asked};
+ghost use Rattle.cfdp_node.specs.Looping.Request.{drop_rule, files_app, folders_app, loop_app};
+ghost use Rattle.cfdp_node.specs.Looping.Request.{loop_asked, loop_of, number_of_word, numbers_app};
+ghost use Rattle.cfdp_node.specs.Looping.Request.{place_rule, tuned_rule, turns_rule, words_asked};
 ghost use Rattle.cfdp_node.specs.Looping.Request as requests;
 ghost use Rattle.cfdp_node.specs.Request.{IsCommand};
 ghost use Rattle.cfdp_node.specs.Shown.{asked_shown, shown_of};

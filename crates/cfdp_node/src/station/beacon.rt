@@ -19,9 +19,9 @@ pub struct Beacon {
     /// The id of its entity, and that of its peer's.
     pub id: u64,
     pub peer: u64,
-    /// The frames that it sends, and those that it takes.
-    pub down: LinkConfig,
-    pub up: LinkConfig,
+    /// The frames that it sends, and those that it receives.
+    pub sends: LinkConfig,
+    pub receives: LinkConfig,
 }
 
 impl Beacon {
@@ -30,15 +30,15 @@ impl Beacon {
         Beacon {
             id: config.entity.entity,
             peer: config.entity.peer,
-            down: config.down,
-            up: config.up,
+            sends: config.sends,
+            receives: config.receives,
         }
     }
 
     /// What there is to agree on, in words, with this beacon's value and that of the other station.
     pub fn beside(&self, other: &Beacon) -> [(&'static str, u64, u64); 10] {
-        let (from, here) = (numbers(&self.down), numbers(&other.up));
-        let (to, there) = (numbers(&other.down), numbers(&self.up));
+        let (from, here) = (numbers(&self.sends), numbers(&other.receives));
+        let (to, there) = (numbers(&other.sends), numbers(&self.receives));
         [
             ("the zone", from[0], here[0]),
             ("the spacecraft", from[1], here[1]),
@@ -63,18 +63,18 @@ impl Beacon {
     /// The octets of its frame: the header, of version 1 and channel 63, the mark, and the numbers.
     pub fn octets(&self) -> [u8; BEACON_LEN] {
         let mut octets = [0u8; BEACON_LEN];
-        octets[0] = 0x40 | self.down.spacecraft >> 2;
-        octets[1] = (self.down.spacecraft & 3) << 6 | 63;
+        octets[0] = 0x40 | self.sends.spacecraft >> 2;
+        octets[1] = (self.sends.spacecraft & 3) << 6 | 63;
         octets[6..14].copy_from_slice(&MARK);
         octets[14..22].copy_from_slice(&self.id.to_be_bytes());
         octets[22..30].copy_from_slice(&self.peer.to_be_bytes());
-        octets[30..32].copy_from_slice(&self.down.zone.to_be_bytes());
-        octets[32] = self.down.channel;
-        octets[33] = self.down.data_channel;
-        octets[34..36].copy_from_slice(&self.down.apid.to_be_bytes());
-        octets[36] = self.up.channel;
-        octets[37] = self.up.data_channel;
-        octets[38..40].copy_from_slice(&self.up.apid.to_be_bytes());
+        octets[30..32].copy_from_slice(&self.sends.zone.to_be_bytes());
+        octets[32] = self.sends.channel;
+        octets[33] = self.sends.data_channel;
+        octets[34..36].copy_from_slice(&self.sends.apid.to_be_bytes());
+        octets[36] = self.receives.channel;
+        octets[37] = self.receives.data_channel;
+        octets[38..40].copy_from_slice(&self.receives.apid.to_be_bytes());
         octets
     }
 
@@ -86,24 +86,24 @@ impl Beacon {
         {
             return None;
         }
-        let down = LinkConfig {
+        let sends = LinkConfig {
             spacecraft: datagram[0] << 2 | datagram[1] >> 6,
             channel: datagram[32],
             data_channel: datagram[33],
             zone: short(datagram, 30),
             apid: short(datagram, 34),
         };
-        let up = LinkConfig {
+        let receives = LinkConfig {
             channel: datagram[36],
             data_channel: datagram[37],
             apid: short(datagram, 38),
-            ..down
+            ..sends
         };
         Some(Beacon {
             id: long(datagram, 14),
             peer: long(datagram, 22),
-            down,
-            up,
+            sends,
+            receives,
         })
     }
 }

@@ -154,7 +154,7 @@ impl<'a> Notices<'a> {
 
     /// Looks at the header of a datagram that came.
     fn looks_at(&mut self, datagram: &[u8]) {
-        let up = self.config.up;
+        let up = self.config.receives;
         let [first, second, ..] = datagram else {
             self.foreign.len = datagram.len();
             return;
@@ -201,7 +201,7 @@ impl<'a> Notices<'a> {
     }
 
     fn tell_link_drop(&self, by: LinkDrop, count: u64) {
-        let (up, foreign) = (self.config.up, self.foreign);
+        let (up, foreign) = (self.config.receives, self.foreign);
         self.lookout.progress.yields();
         let _ = match by {
             LinkDrop::Frame(FrameError::Length) => eprintln!(self.rt;

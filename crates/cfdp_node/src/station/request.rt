@@ -3,7 +3,11 @@ ghost use Rattle.std.specs.Prelude.{◌≡◌, [], false, map, unwrap_or, IfOk, 
 ghost use Rattle.clap.specs.Matches.{found_of};
 ghost use Rattle.clap.specs.Walk.{all_of, rows_of, rule_of};
 ghost use Rattle.cfdp_node.specs.Request.{IsCommand};
-ghost use Rattle.cfdp_node.specs.Station.Request.{addresses_app, first_number_rule, lists_app, names_app, numbered_app, numbers_of, own_numbers_app, pairs_rule, said_number_rule, said_rule, station_app, station_asked, station_of, stores_app, words_asked};
+ghost use Rattle.cfdp_node.specs.Station.Request.{addresses_app, first_number_rule, lists_app};
+ghost use Rattle.cfdp_node.specs.Station.Request.{names_app, numbered_app, numbers_of};
+ghost use Rattle.cfdp_node.specs.Station.Request.{own_numbers_app, pairs_rule, said_number_rule};
+ghost use Rattle.cfdp_node.specs.Station.Request.{said_rule, station_app, station_asked};
+ghost use Rattle.cfdp_node.specs.Station.Request.{station_of, stores_app, words_asked};
 
 use crate::arguments::{file_for, owned_word, word_of};
 use crate::looping::request::{drop_argument, number_in, tuned};

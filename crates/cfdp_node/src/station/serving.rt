@@ -2,16 +2,20 @@
 ghost use Rattle.std.specs.Io.Buffered.{writer_buffer, writer_contents};
 ghost use Rattle.std.specs.Io.KnownBytes.{Appends};
 ghost use Rattle.std.specs.List.{flat_map};
-ghost use Rattle.std.specs.Prelude.{◌≡◌, ◌+◌, ◌<◌, ◌≤◌, ◌==◌, ◌&&◌, Bool, List, [], Option, count_by, false, length, not, IfOk, OnOk};
+ghost use Rattle.std.specs.Prelude.{◌≡◌, ◌+◌, ◌<◌, ◌≤◌, ◌==◌, ◌&&◌, Bool, List, [], Option};
+ghost use Rattle.std.specs.Prelude.{count_by, false, length, not, IfOk, OnOk};
 ghost use Rattle.cfdp_report.specs.Exit.{IsFlushedAt};
 ghost use Rattle.cfdp_node.specs.Looping.Turns.{IsTold};
 ghost use Rattle.cfdp_report.specs.Report.Lines.{answer_text, indication_line, is_own_completion};
 ghost use Rattle.cfdp_report.specs.declared.report.answer.Answer.{Answer};
-ghost use Rattle.cfdp_node.specs.Station.Serving.{AddsTo, Answers, EndsStation, IsReport, Line, MakesMore, MakesNext, MakesPut, Prepares, PutsFile, Serves, ServesTo, TakesTurns, completed, line_text, once_told, said_by, starts, told_by};
+ghost use Rattle.cfdp_node.specs.Station.Serving.{AddsTo, Answers, EndsStation, IsReport, Line};
+ghost use Rattle.cfdp_node.specs.Station.Serving.{MakesMore, MakesNext, MakesPut, Prepares};
+ghost use Rattle.cfdp_node.specs.Station.Serving.{PutsFile, Serves, ServesTo, TakesTurns};
+ghost use Rattle.cfdp_node.specs.Station.Serving.{completed, line_text, once_told, said_by, starts};
+ghost use Rattle.cfdp_node.specs.Station.Serving.{told_by};
 ghost use Rattle.cfdp_port.specs.Calls.{Rested};
 ghost use Rattle.cfdp_port.specs.Gains.{Gains};
 ghost use Rattle.cfdp_port.specs.Port.{AtStation, all_closed, table_of};
-ghost use Rattle.cfdp_station.specs.Config.{IsStationConfig};
 
 use crate::dropping::let_go;
 use crate::looping::{Ended, have_failed, refused, write_count};
@@ -24,6 +28,7 @@ use link_sim::Side;
 use std::alloc::{AllocError, Global};
 use std::io;
 use std::io::{BufWriter, Write};
+use valid_config::Valid;
 
 /// A file that is to be sent.
 #[derive(Drop)]
@@ -38,7 +43,7 @@ pub struct PutNames {
 #[derive(Drop)]
 pub struct StationOptions {
     /// How it is set up.
-    pub config: StationConfig,
+    pub config: Valid<StationConfig>,
     /// The count of its first frame in either lane, modulo 2^28.
     pub frame_count: u32,
     /// The files that it sends, in the order of their puts.
@@ -91,7 +96,6 @@ pub fn run_station<O: SeekingOutbox, I: Inbox, W: PeerWire, V: Write + Drop, L: 
     out: &mut BufWriter<V>,
     lookout: &mut L,
 ) -> Exit
-    requires { IsStationConfig options.config }
     ensures ends { IsTold result (EndsStation W.steps options.config.entity.entity
         options.puts.items options.frame_count result options.config (O.stands ends.outbox)
         (O.files ends.outbox) (I.published ends.inbox) ends.wire
@@ -109,7 +113,6 @@ fn run_new<O: SeekingOutbox, I: Inbox, W: PeerWire, V: Write, L: Lookout>(
     out: &mut V,
     lookout: &mut L,
 ) -> Exit
-    requires { IsStationConfig options.now.config }
     ensures { IsTold result (EndsStation W.steps options.now.config.entity.entity
         options.now.puts.items options.now.frame_count result options.now.config
         (O.stands ends.outbox) (O.files ends.outbox) (I.published ends.inbox) ends.wire
@@ -180,7 +183,7 @@ fn serve<O: SeekingOutbox, I: Inbox, W: PeerWire, V: Write, L: Lookout>(
         complete: 0,
     };
     let halted = serve_turns(options, port, &mut served, out, lookout)?;
-    let own = options.config.entity.entity;
+    let own = options.config.get().entity.entity;
     tell(own, port, &mut served.complete, out, lookout)?;
     write_count(out, served.complete, options.puts.as_slice().len())?;
     served.short |= halted;
@@ -256,7 +259,7 @@ fn prepare<O: SeekingOutbox, I: Inbox, W: PeerWire, V: Write, L: Lookout>(
     ensures wire { port.new.wire ≡ port.old.wire }
 {
     make_puts(options, port, served, out, lookout)?;
-    let own = options.config.entity.entity;
+    let own = options.config.get().entity.entity;
     tell(own, port, &mut served.complete, out, lookout)?;
     port.forget_closed();
     Ok(())

@@ -1,10 +1,10 @@
 //! What the words behind `--set` set.
 ghost use Rattle.std.specs.Prelude.{IfSome};
-ghost use Rattle.link_sim.specs.Stations.{IsWorldConfig};
 
 use cfdp_report::{Setting, Settings, parse_setting};
 use cfdp_station::LinkConfig;
 use link_sim::WorldConfig;
+use valid_config::Valid;
 
 /// The frames of one direction, as numbers that may fit no frame.
 #[derive(Clone, Copy)]
@@ -96,14 +96,12 @@ impl StationSetup {
 
     /// The configuration of this station and its peer, of which that with the lesser id is the
     /// first; `None` where they can't be set up so.
-    pub fn config(&self, id: u64, peer: u64) -> Option<WorldConfig>
-        ensures { IfSome result IsWorldConfig }
-    {
-        let (down, up) = (self.link(self.own)?, self.link(self.peer)?);
+    pub fn config(&self, id: u64, peer: u64) -> Option<Valid<WorldConfig>> {
+        let (sends, receives) = (self.link(self.own)?, self.link(self.peer)?);
         if id < peer {
-            self.settings.pair(id, peer, down, up)
+            self.settings.pair(id, peer, sends, receives)
         } else {
-            self.settings.pair(peer, id, up, down)
+            self.settings.pair(peer, id, receives, sends)
         }
     }
 

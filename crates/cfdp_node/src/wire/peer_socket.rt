@@ -43,7 +43,7 @@ pub struct Pace {
     /// After so many seconds in which nothing came and nothing was open it is silent; with 0 never.
     pub idle: u64,
     /// The frames that it takes.
-    pub up: LinkConfig,
+    pub receives: LinkConfig,
     /// What it tells its peer of how it is set up.
     pub beacon: Beacon,
 }
@@ -122,9 +122,9 @@ impl<'a> PeerSocket<'a> {
         socket.set_nonblocking(true).map_err(Unusable::Own)?;
         ask_for_room(&socket, &pace);
         let start = Instant::now(rt).map_err(Unusable::Own)?;
-        let kept = vec![in rt.alloc(); 0u8; frame_len(&pace.up)]?;
+        let kept = vec![in rt.alloc(); 0u8; frame_len(&pace.receives)]?;
         let mut beacon = Vec::from_slice(rt.alloc(), &pace.beacon.octets())?;
-        beacon.resize(frame_len(&pace.up).max(BEACON_LEN), 0)?;
+        beacon.resize(frame_len(&pace.receives).max(BEACON_LEN), 0)?;
         Ok(PeerSocket {
             rt,
             socket,
@@ -330,7 +330,7 @@ impl<'a> PeerSocket<'a> {
             self.exchange.beacon.set(Some(beacon));
             return false;
         }
-        if is_of_link(datagram, &self.pace.up) {
+        if is_of_link(datagram, &self.pace.receives) {
             self.quiet_since = self.since_start();
         }
         true
@@ -372,7 +372,7 @@ fn ask_for_room(socket: &UdpSocket, pace: &Pace) {
         pace.rate.max(64)
     };
     let octets = frames
-        .saturating_mul(DATAGRAM_COST + u64::from(pace.up.zone))
+        .saturating_mul(DATAGRAM_COST + u64::from(pace.receives.zone))
         .min(4 << 20);
     let mut value = [0u8; 16];
     value[..4].copy_from_slice(&(octets as u32).to_ne_bytes());

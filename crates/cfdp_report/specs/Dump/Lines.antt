@@ -3,6 +3,8 @@ use Rattle.std.specs.Prelude.{◌≡◌, ◌⊎◌, ℕ, ◌-◌, ◌/◌, ◌%�
 use Rattle.std.specs.List.{flat_map, AllZip}
 use Rattle.std.specs.Io.KnownBytes.{Appends}
 use Rattle.std.specs.Fmt.{digits}
+use Rattle.cfdp_header.specs.declared.value.Direction.{Direction}
+use Rattle.cfdp_header.specs.declared.value.Direction.TheVariants.{TowardReceiver, TowardSender}
 use Rattle.cfdp_header.specs.declared.value.Header.{Header}
 use Rattle.cfdp_header.specs.declared.value.TransactionId.{TransactionId}
 use Rattle.cfdp_directives.specs.declared.pdu.error.PduError.{PduError}
@@ -15,7 +17,7 @@ use Rattle.cfdp_directives.specs.Pdu.Grammar.{SpellsPdu}
 use Rattle.cfdp_directives.specs.Pdu.Tlv.{Tlv, location_of}
 use Rattle.aos_frame.specs.declared.header.FrameHeader.{FrameHeader}
 use Rattle.aos_frame.specs.declared.error.FrameError.{FrameError}
-use Rattle.aos_frame.specs.Frame.{SpellsFrame, frame_fault, own_link}
+use Rattle.aos_frame.specs.Frame.{SpellsFrame, frame_fault, own_channel}
 use Rattle.mpdu.specs.MpduHeader.{pointer_of}
 use Rattle.cfdp_report.specs.declared.dump.refusal.Refusal.TheVariants.{Pdu, Frame}
 use Rattle.cfdp_report.specs.Report.Name.{hex_digit, printed_octet}
@@ -93,8 +95,9 @@ location_text None = []
 location_text (Some entity) = codes " fault-location " ++ decimal entity
 
 -- the end of the transaction that a PDU goes to (5.1, table 5-1, direction)
-abbrev pub end_word : Bool → List ℕ
-end_word toward_sender = if toward_sender then codes "sender" else codes "receiver"
+abbrev pub end_word : Direction → List ℕ
+end_word TowardSender = codes "sender"
+end_word TowardReceiver = codes "receiver"
 
 -- whether file-size fields have 8 octets (5.1, table 5-1, large file flag)
 abbrev pub large_word : Bool → List ℕ
@@ -103,7 +106,7 @@ large_word large = if large then codes " large" else codes ""
 -- where the PDU goes, which entity receives the file, whether that is large, and the options
 abbrev pub long_text : Header → pdus.Pdu → List ℕ
 long_text h p =
-    codes " toward " ++ end_word h.toward_sender ++ codes " destination " ++ decimal h.destination
+    codes " toward " ++ end_word h.direction ++ codes " destination " ++ decimal h.destination
     ++ large_word h.large ++ location_text (location_of (options_of p))
     ++ flat_map option_text (options_of p)
 
@@ -152,13 +155,13 @@ pub record TellsPduFault (octets text : List ℕ) : Type 0 where
 -- header stand 5 spare bits and the 11 bits of the first header pointer (CCSDS 732.0-B-4, 4.1.4.2).
 pub record TellsFrame (long : Bool) (zone : ℕ) (octets text : List ℕ) : Type 0 where
   pub header : FrameHeader
-  pub spelled : SpellsFrame (own_link octets zone) header octets
+  pub spelled : SpellsFrame (own_channel octets zone) header octets
   pub words : text ≡ frame_line long header (pointer_of (drop 6 octets))
 
 -- The octets are no such frame, and this text says why.
 pub record TellsFrameFault (zone : ℕ) (octets text : List ℕ) : Type 0 where
   pub error : FrameError
-  pub fault : frame_fault octets (own_link octets zone) ≡ Some error
+  pub fault : frame_fault octets (own_channel octets zone) ≡ Some error
   pub words : text ≡ refusal_text (Frame error)
 
 -- This text is written for these octets, as a PDU.

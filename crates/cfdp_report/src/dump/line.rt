@@ -2,13 +2,16 @@
 ghost use Rattle.std.specs.Prelude.{◌≡◌, Some};
 ghost use Rattle.std.specs.List.{flat_map};
 ghost use Rattle.cfdp_directives.specs.Pdu.Tlv.{location_of};
-ghost use Rattle.cfdp_report.specs.Dump.Lines.{fields_text, frame_line, frame_text, hex_number_text, hex_octet_text, location_text, long_text, option_text, options_of, pdu_line, pdu_text, range_text};
+ghost use Rattle.cfdp_report.specs.Dump.Lines.{fields_text, frame_line, frame_text};
+ghost use Rattle.cfdp_report.specs.Dump.Lines.{hex_number_text, hex_octet_text, location_text};
+ghost use Rattle.cfdp_report.specs.Dump.Lines.{long_text, option_text, options_of, pdu_line};
+ghost use Rattle.cfdp_report.specs.Dump.Lines.{pdu_text, range_text};
 
 use crate::report::name::{Name, hex_digit};
 use crate::report::wording::{Id, delivery_word, status_word};
 use aos_frame::FrameHeader;
-use cfdp_directives::{Pairs, Pdu, Tlvs};
-use cfdp_header::{Header, TransactionId};
+use cfdp_directives::{Pdu, SegmentRequests, Tlvs};
+use cfdp_header::{Direction, Header, TransactionId};
 use std::fmt;
 
 /// A PDU as a dump tells it, in a long line or a short one.
@@ -117,7 +120,11 @@ impl fmt::Display for PduFields<'_> {
                 let (of, status) = (of.code(), status.code());
                 write!(f, "{of} {} {status}", condition.code())
             }
-            Pdu::Nak { start, end, pairs } => write!(f, "{start} {end}{}", Ranges(pairs)),
+            Pdu::Nak {
+                start,
+                end,
+                requests,
+            } => write!(f, "{start} {end}{}", Ranges(requests)),
             Pdu::Prompt { keep_alive: false } => write!(f, "nak"),
             Pdu::Prompt { keep_alive: true } => write!(f, "keep"),
             Pdu::KeepAlive { progress } => write!(f, "{progress}"),
@@ -127,7 +134,7 @@ impl fmt::Display for PduFields<'_> {
 
 /// The ranges that a NAK asks for, with a space before each.
 #[derive(Clone, Copy)]
-struct Ranges<'a>(&'a Pairs<'a>);
+struct Ranges<'a>(&'a SegmentRequests<'a>);
 
 impl fmt::Display for Ranges<'_> {
     ghost output = { λ ranges. Some (flat_map range_text ranges.0.now) };
@@ -157,7 +164,7 @@ impl fmt::Display for LongPart<'_> {
     ghost output = { λ part. Some (long_text part.header part.pdu.now) };
 
     fn fmt<W: fmt::Write>(&self, f: &mut fmt::Formatter<W>) -> fmt::Result {
-        let (end, destination) = (end_word(self.header.toward_sender), self.header.destination);
+        let (end, destination) = (end_word(self.header.direction), self.header.destination);
         let large = large_word(self.header.large);
         let (location, options) = (Location(fault_location(self.pdu)), Options(self.pdu));
         write!(
@@ -168,10 +175,13 @@ impl fmt::Display for LongPart<'_> {
 }
 
 /// The word for the end of a transaction that a PDU goes to.
-fn end_word(toward_sender: bool) -> &'static str
-    ensures { result.now ≡ Rattle.cfdp_report.specs.Dump.Lines.end_word toward_sender }
+fn end_word(direction: Direction) -> &'static str
+    ensures { result.now ≡ Rattle.cfdp_report.specs.Dump.Lines.end_word direction }
 {
-    if toward_sender { "sender" } else { "receiver" }
+    match direction {
+        Direction::TowardSender => "sender",
+        Direction::TowardReceiver => "receiver",
+    }
 }
 
 /// The word for a PDU of a large file, with a space before it.

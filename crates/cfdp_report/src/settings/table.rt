@@ -2,6 +2,8 @@
 ghost use Rattle.std.specs.Prelude.{◌≡◌, map};
 ghost use Rattle.cfdp_report.specs.Settings.{is, key_among, row_key, setting_of};
 
+use aos_frame::{LEAST_ZONE, MOST_ZONE};
+use cfdp_entity::{MOST_SEGMENT, MOST_WIDTH};
 use std::fmt;
 
 /// What a script's `set` sets, for both stations.
@@ -61,28 +63,28 @@ pub const TABLE: [Row; 16] = [
     Row {
         setting: Setting::Zone,
         key: "zone",
-        range: Range::Between(16, 2040),
+        range: Range::Between(LEAST_ZONE as u64, MOST_ZONE as u64),
         default: 256,
         help: "octets of a frame's packet zone, 16 to 2040",
     },
     Row {
         setting: Setting::Segment,
         key: "segment",
-        range: Range::Between(1, 4096),
+        range: Range::Between(1, MOST_SEGMENT as u64),
         default: 1024,
         help: "octets of a file in one PDU at most, 1 to 4096",
     },
     Row {
         setting: Setting::IdWidth,
         key: "id_width",
-        range: Range::Between(1, 8),
+        range: Range::Between(1, MOST_WIDTH as u64),
         default: 2,
         help: "octets of an entity id, 1 to 8",
     },
     Row {
         setting: Setting::NumberWidth,
         key: "number_width",
-        range: Range::Between(1, 8),
+        range: Range::Between(1, MOST_WIDTH as u64),
         default: 4,
         help: "octets of a transaction's number, 1 to 8",
     },

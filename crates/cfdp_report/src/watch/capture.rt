@@ -4,7 +4,8 @@ ghost use Rattle.std.specs.Int.{to_be_bytes, w32};
 ghost use Rattle.std.specs.Io.Buffered.{writer_buffer, writer_contents};
 ghost use Rattle.std.specs.Io.KnownBytes.{Appends};
 ghost use Rattle.std.specs.List.{flat_map};
-ghost use Rattle.cfdp_report.specs.Watch.Capture.{CapturesSoFar, interface_of, packet_octets, record_octets};
+ghost use Rattle.cfdp_report.specs.Watch.Capture.{CapturesSoFar, interface_of, packet_octets};
+ghost use Rattle.cfdp_report.specs.Watch.Capture.{record_octets};
 ghost use Rattle.cfdp_report.specs.Watch.Continues.{Continues};
 
 use crate::watch::sighting::{Deed, Sighting};

@@ -1,11 +1,10 @@
 //! The frames of one direction, watched.
-ghost use Rattle.aos_frame.specs.Frame.{IsLink};
-
 use crate::watch::sighting::{Deed, Log};
 use cfdp_station::LinkConfig;
 use link_sim::{FrameLink, FrameLinks, Lane, Mark, Side};
 use link_stack::{LinkDrop, Up};
 use std::alloc::{AllocError, Global};
+use valid_config::Valid;
 
 /// How many frames of a lane were seen to leave, and how many to arrive or to be lost.
 #[derive(Clone, Copy)]
@@ -34,13 +33,11 @@ impl Watch {
     /// # Errors
     ///
     /// `AllocError` where there is no memory.
-    pub fn new(alloc: Global, from: Side, link: LinkConfig) -> Result<Watch, AllocError>
-        requires { IsLink link }
-    {
+    pub fn new(alloc: Global, from: Side, link: Valid<LinkConfig>) -> Result<Watch, AllocError> {
         Ok(Watch {
             alloc,
             from,
-            data_channel: link.data_channel,
+            data_channel: link.get().data_channel,
             directives: Counts { sent: 0, taken: 0 },
             file_data: Counts { sent: 0, taken: 0 },
             sending: Up::new(alloc, link)?,
@@ -140,7 +137,7 @@ impl Watch {
 fn note_pdus(alloc: Global, up: &mut Up, frame: &[u8], station: Side, deed: Deed, log: &mut Log) {
     let mut pdus = Vec::new(alloc);
     let before = up.drops(LinkDrop::NoMemory.number());
-    up.take(frame, &mut pdus);
+    up.receive(frame, &mut pdus);
     if up.drops(LinkDrop::NoMemory.number()) != before {
         log.note_short();
     }

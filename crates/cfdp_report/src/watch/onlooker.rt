@@ -1,5 +1,4 @@
 //! One who looks on at a run: at a script's, or at turns over two wires.
-ghost use Rattle.link_sim.specs.Stations.{IsWorldConfig};
 
 use crate::report::condition::Conditions;
 use crate::watch::dropped::Dropped;
@@ -11,6 +10,7 @@ use cfdp_station::Station;
 use cfdp_store::{Inbox, Outbox};
 use link_sim::{Event, FrameLinks, Passed, Side, Witness, WorldConfig};
 use std::alloc::{AllocError, Global};
+use valid_config::Valid;
 
 /// One who looks on at a run, or nobody.
 #[derive(Drop)]
@@ -30,11 +30,9 @@ impl<'a> Onlooker<'a> {
     /// `AllocError` where there is no memory.
     pub fn new(
         screen: Screen<'a>,
-        config: WorldConfig,
+        config: Valid<WorldConfig>,
         shown: &'a Shown,
-    ) -> Result<Onlooker<'a>, AllocError>
-        requires { IsWorldConfig config }
-    {
+    ) -> Result<Onlooker<'a>, AllocError> {
         if shown.is_watched() {
             Ok(Onlooker::Somebody(Seen::new(screen, config, shown)?))
         } else {
@@ -130,18 +128,19 @@ impl<'a> Seen<'a> {
     /// `AllocError` where there is no memory.
     fn new(
         screen: Screen<'a>,
-        config: WorldConfig,
+        config: Valid<WorldConfig>,
         shown: &'a Shown,
-    ) -> Result<Seen<'a>, AllocError>
-        requires { IsWorldConfig config }
-    {
+    ) -> Result<Seen<'a>, AllocError> {
         let alloc = screen.rt.alloc();
+        let config = config.get();
+        let one = Watch::new(alloc, Side::One, Valid::known(config.one.sends))?;
+        let two = Watch::new(alloc, Side::Two, Valid::known(config.two.sends))?;
         Ok(Seen {
             log: Log::new(alloc),
             conditions: Conditions::new(),
-            one: SeenStation::new(Side::One, Watch::new(alloc, Side::One, config.one.down)?),
-            two: SeenStation::new(Side::Two, Watch::new(alloc, Side::Two, config.two.down)?),
-            recorder: Recorder::new(screen, shown, config.one.down.zone),
+            one: SeenStation::new(Side::One, one),
+            two: SeenStation::new(Side::Two, two),
+            recorder: Recorder::new(screen, shown, config.one.sends.zone),
         })
     }
 

@@ -1,5 +1,6 @@
 //! What is seen by one who looks on at all that passes at two stations.
-ghost use Rattle.std.specs.Prelude.{◌≡◌, ◌+◌, ◌-◌, ◌^◌, ◌↔◌, [], min, true, IfOk, IsErr, OnErr, OnOk};
+ghost use Rattle.std.specs.Prelude.{◌≡◌, ◌+◌, ◌-◌, ◌^◌, ◌↔◌, [], min, true, IfOk, IsErr, OnErr};
+ghost use Rattle.std.specs.Prelude.{OnOk};
 ghost use Rattle.cfdp_report.specs.Watch.Sighting.{Forgets, Notes, NotesNone, NotesOne};
 ghost use Rattle.cfdp_report.specs.Report.Lines.{told_text};
 ghost use Rattle.cfdp_report.specs.declared.watch.sighting.Deed.TheVariants as deeds;

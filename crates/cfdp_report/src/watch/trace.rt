@@ -3,7 +3,8 @@ ghost use Rattle.std.specs.Io.Buffered.{writer_buffer, writer_contents};
 ghost use Rattle.std.specs.Prelude.{◌≡◌, [], OnOk};
 ghost use Rattle.cfdp_report.specs.Dump.Lines.{WritesLine, WritesLines};
 ghost use Rattle.cfdp_report.specs.Watch.Continues.{Continues};
-ghost use Rattle.cfdp_report.specs.Watch.Trace.{TellsDeed, TellsSighting, TellsWords, TracesSoFar, deed_word};
+ghost use Rattle.cfdp_report.specs.Watch.Trace.{TellsDeed, TellsSighting, TellsWords, TracesSoFar};
+ghost use Rattle.cfdp_report.specs.Watch.Trace.{deed_word};
 
 use crate::dump::{write_frame, write_pdu};
 use crate::watch::sighting::{Deed, Sighting};

@@ -2,7 +2,12 @@ ghost use Rattle.std.specs.Prelude.{◌≡◌};
 ghost use Rattle.std.specs.Result.{result_ok};
 ghost use Rattle.cfdp_report.specs.Numbers.{number_of, octet_of};
 ghost use Rattle.cfdp_script.specs.Script.Words.{left};
-ghost use Rattle.cfdp_script.specs.Script.Lines.{Reads, both, line_of, meaning, set_of, file_of, fill_of, fill_count, command_of, put_of, call_of, motion_of, round_of, station_words, transaction_words, number_words, frames_of, which_of, count_of, lane_of, prompt_of, asked_of, id_of, station_of};
+ghost use Rattle.cfdp_script.specs.Script.Lines.{Reads, both, line_of, meaning, set_of, file_of};
+ghost use Rattle.cfdp_script.specs.Script.Lines.{fill_of, fill_count, command_of, put_of, call_of};
+ghost use Rattle.cfdp_script.specs.Script.Lines.{motion_of, round_of, station_words};
+ghost use Rattle.cfdp_script.specs.Script.Lines.{transaction_words, number_words, frames_of};
+ghost use Rattle.cfdp_script.specs.Script.Lines.{which_of, count_of, lane_of, prompt_of, asked_of};
+ghost use Rattle.cfdp_script.specs.Script.Lines.{id_of, station_of};
 
 use crate::script::words::{Words, cut_at_first};
 use cfdp_directives::Octets;

@@ -1,5 +1,6 @@
 ghost use Rattle.link_sim.specs.declared.event.Event.{Event};
-ghost use Rattle.cfdp_script.specs.Script.Run.{HappensOften, HappensOnce, HappensToFirst, HappensToFirsts, Performs};
+ghost use Rattle.cfdp_script.specs.Script.Run.{HappensOften, HappensOnce, HappensToFirst};
+ghost use Rattle.cfdp_script.specs.Script.Run.{HappensToFirsts, Performs};
 
 use crate::script::command::{Command, Fate};
 use cfdp_report::Answer;

@@ -8,7 +8,8 @@ ghost use Rattle.std.specs.Ordering.{nat_cmp};
 ghost use Rattle.std.specs.Prelude.{◌≡◌, ◌≤◌, OnOk, map};
 ghost use Rattle.cfdp_directives.specs.Pdu.Checksum.{modular_checksum};
 ghost use Rattle.cfdp_script.specs.Script.Run as runs;
-ghost use Rattle.cfdp_script.specs.Script.Report.{inbox_line, puts_asked, puts_completed, report_text};
+ghost use Rattle.cfdp_script.specs.Script.Report.{inbox_line, puts_asked, puts_completed};
+ghost use Rattle.cfdp_script.specs.Script.Report.{report_text};
 
 use crate::script::Step;
 use crate::script::command::Command;

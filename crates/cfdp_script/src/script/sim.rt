@@ -7,7 +7,6 @@ ghost use Rattle.link_sim.specs.declared.side.Side.TheVariants as sides;
 ghost use Rattle.cfdp_script.specs.Script.Outboxes.{outbox_of};
 ghost use Rattle.cfdp_script.specs.Script.Ending.{EndsRun};
 ghost use Rattle.cfdp_report.specs.Exit.{IsFlushedAt};
-ghost use Rattle.link_sim.specs.Stations.{IsWorldConfig};
 ghost use Rattle.cfdp_script.specs.Script.Simulated.{EndsFrom, EndsScript, EndsText, IsSilentAt};
 
 use crate::input::{MAX_SCRIPT, read_script};
@@ -20,6 +19,7 @@ use cfdp_store::{MemoryInbox, MemoryOutbox};
 use link_sim::{World, WorldConfig, worlds_keep_the_promises};
 use std::alloc::{AllocError, Global};
 use std::io::{BufWriter, Read, Write};
+use valid_config::Valid;
 
 /// A world in memory, and who looks on.
 type Watched<'a> = World<MemoryOutbox, MemoryInbox, Onlooker<'a>>;
@@ -90,12 +90,11 @@ fn run_text<W: Write>(rt: &HostRuntime, shown: &Shown, text: &[u8], out: &mut W)
 fn run_commands<W: Write>(
     rt: &HostRuntime,
     shown: &Shown,
-    config: WorldConfig,
+    config: Valid<WorldConfig>,
     files: &[FileLine],
     steps: &[Step],
     out: &mut W,
 ) -> Ran
-    requires { IsWorldConfig config }
     ensures { EndsFrom result.exit config files.now steps.now
         (W.contents out.old) (W.contents out.new) }
 {
@@ -113,10 +112,9 @@ fn run_commands<W: Write>(
 fn first_world<'a>(
     rt: &'a HostRuntime,
     shown: &'a Shown,
-    config: WorldConfig,
+    config: Valid<WorldConfig>,
     files: &[FileLine],
 ) -> Result<Watched<'a>, AllocError>
-    requires { IsWorldConfig config }
     ensures { IfOk result (IsFirst config
         (outbox_of sides.One files.now, outbox_of sides.Two files.now) (map.empty, map.empty)) }
 {

@@ -2,7 +2,8 @@
 ghost use Rattle.std.specs.Prelude.{◌≡◌, ◌≢◌, ◌∷◌, ◌++◌, [], All, MatchOption, is_some};
 ghost use Rattle.std.specs.Option.{option_map, option_map_or};
 ghost use Rattle.std.specs.Result.{result_ok};
-ghost use Rattle.cfdp_script.specs.Script.Words.{parts, words_of, left, next_word, nothing_of, text_of, one_of, two_of, three_of, four_of};
+ghost use Rattle.cfdp_script.specs.Script.Words.{parts, words_of, left, next_word, nothing_of};
+ghost use Rattle.cfdp_script.specs.Script.Words.{text_of, one_of, two_of, three_of, four_of};
 
 use cfdp_report::LineError;
 

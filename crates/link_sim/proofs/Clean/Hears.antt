@@ -6,6 +6,7 @@ use Rattle.std.specs.FinMap as map
 use Rattle.std.proofs.lemmas.Bool.{or_parts, or_from}
 use Rattle.std.proofs.lemmas.List.{get_or-set_other}
 use Rattle.std.proofs.lemmas.List.Quantifiers.{position-Some}
+use Rattle.cfdp_header.specs.declared.value.Direction.TheVariants.{TowardReceiver}
 use Rattle.cfdp_header.specs.declared.value.Header.{Header}
 use Rattle.cfdp_header.specs.declared.value.TransactionId.{TransactionId}
 use Rattle.cfdp_header.specs.Files.{FileMap}
@@ -16,7 +17,7 @@ use Rattle.cfdp_directives.specs.declared.user.limits.Times.{Times}
 use Rattle.cfdp_directives.specs.Pdu.Addressing.{addressing_of as addressing_in}
 use Rattle.cfdp_directives.specs.Pdu.Codes.{is_large, size_limit}
 use Rattle.cfdp_directives.specs.Pdu.Content.{Content, FileData, Metadata, Eof, Finished, Ack, Nak, Prompt, KeepAlive}
-use Rattle.cfdp_directives.specs.Pdu.Direction.{goes_toward_sender}
+use Rattle.cfdp_directives.specs.Pdu.Direction.{direction_of}
 use Rattle.cfdp_directives.specs.User.Put.{Put, IsTruthful}
 use Rattle.cfdp_directives.proofs.FileSizes.{own_allows}
 use Rattle.cfdp_store.specs.declared.stored.Stored.{Stored}
@@ -136,7 +137,7 @@ pub record IsFine (put_of : TransactionId → Option Put) (heard : List (List �
   pub truth : IsTruthful put p.1 × IsAmong put heard p.1
 
 -- such a PDU goes toward the receiver
-pub forth-away : (put : Put) (v : Content) → IsTrueForth put v → goes_toward_sender v ≡ false
+pub forth-away : (put : Put) (v : Content) → IsTrueForth put v → direction_of v ≡ TowardReceiver
 forth-away put (FileData offset bytes) t = refl
 forth-away put (Metadata kind size source destination options) t = refl
 forth-away put (Eof condition checksum size tlvs) t = refl

@@ -4,14 +4,14 @@ use Rattle.std.proofs.Common.{◌≡◌, ℕ, zero, suc, ◌<◌, ◌≤◌, con
 use Rattle.std.specs.Prelude.{Contains, IsSome}
 use Rattle.std.specs.FinMap.{get}
 use Rattle.std.specs.List.{list_any}
-use Rattle.std.proofs.lemmas.Bool.{cases_Bool, or_parts}
+use Rattle.std.proofs.lemmas.Bool.{or_parts}
 use Rattle.cfdp_header.specs.declared.value.Header.{Header}
 use Rattle.cfdp_header.specs.declared.value.TransactionId.{TransactionId}
 use Rattle.cfdp_header.specs.Ids.{same_id}
 use Rattle.cfdp_header.proofs.Ids.{same_id-itself}
 use Rattle.cfdp_directives.specs.Pdu.Codes.{modular, null}
 use Rattle.cfdp_directives.specs.Pdu.Content.{Content, FileData, Metadata, Eof, Finished, Ack, Nak, Prompt, KeepAlive}
-use Rattle.cfdp_directives.specs.Pdu.Direction.{goes_toward_sender}
+use Rattle.cfdp_directives.specs.Pdu.Direction.{direction_of}
 use Rattle.cfdp_directives.specs.Pdu.Grammar.{SpellsPdu}
 use Rattle.cfdp_directives.specs.User.Put.{Put, IsTruthful, IsOfPut, SaysTruth, SomePdu, IsMetadataOf, IsEofOf, Brings}
 use Rattle.cfdp_receiver.specs.Sound.{IsReceivable}
@@ -40,7 +40,7 @@ use Rattle.link_sim.specs.Work.{AreWithin, IsSeenWithin, most_offset}
 use Rattle.link_sim.specs.World.State.{WorldState, entity_at, on_way_from}
 use Rattle.link_sim.proofs.Clean.Hears.{IsFine, IsFineForth, flag-allows, not-cancelling}
 use Rattle.link_sim.proofs.Events.Keeping.{other-other}
-use Rattle.link_sim.proofs.EveryPut.Routes.{directed-own, directed-peer}
+use Rattle.link_sim.proofs.EveryPut.Routes.{either-way, directed-own, directed-peer}
 use Rattle.link_sim.proofs.Clean.NotBad.{none-weaker, spoils-bad, pauses-bad}
 use Rattle.link_sim.proofs.Found.Puts.{puts-by-id}
 use Rattle.link_sim.proofs.Work.Within.{within-at}
@@ -256,7 +256,7 @@ module _ (s : Side) (w : WorldState) (sound : IsSound w) (clean : IsClean w) (si
       let id : put.id ≡ p.0.id = puts-by-id (seen w) p.0.id put found.1 in
       let named : put_of (seen w) put.id ≡ Some put = ap (put_of (seen w)) id ∙ found.1 in
       let own : same_id put.id p.0.id ≡ true = ap (λ i. same_id i p.0.id) id ∙ same_id-itself p.0.id in
-      let says : IsFineForth put p ⊎ IsTrueBack p.1 = elim (cases_Bool (goes_toward_sender p.1)) [
+      let says : IsFineForth put p ⊎ IsTrueBack p.1 = elim (either-way (direction_of p.1)) [
         | inl toward ↦ (let mine : put.id.source ≡ there.config.entity = ap (λ (i : TransactionId). i.source) id ∙ directed-own (put_of (seen w)) there p.0 p.1 d toward in
             let o = on-course (other s) w c.back c.forth clean c.puts_back put named mine in
             inr (of-id-at IsTrueBack put.id c.forth n p o.course.truth.true_back at own))

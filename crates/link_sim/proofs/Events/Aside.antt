@@ -3,9 +3,10 @@
 use Rattle.std.proofs.Common.{◌≡◌, ℕ, zero, suc, ◌+◌, ◌*◌, ◌<◌, ◌≤◌, true, false, List, [], ◌∷◌, ◌++◌, length, drop, get_or, replicate, refl, sym, ap, subst, ◌∙◌, inl, inr, arith, length-append}
 use Rattle.std.proofs.lemmas.List.{append-nil, append_assoc}
 use Rattle.aos_frame.specs.Counts.{frame_counts}
-use Rattle.aos_frame.specs.Frame.{IsLink, lane_link, other_lane}
+use Rattle.aos_frame.specs.Frame.{IsChannel, IsLink, lane_channel, other_lane}
 use Rattle.aos_frame.specs.declared.config.Lane.{Lane}
 use Rattle.aos_frame.specs.declared.config.Lane.TheVariants.{Directives, Data}
+use Rattle.aos_frame.specs.declared.config.ChannelConfig.{ChannelConfig}
 use Rattle.aos_frame.specs.declared.config.LinkConfig.{LinkConfig}
 use Rattle.cfdp_header.specs.Files.{FileMap}
 use Rattle.cfdp_header.specs.declared.value.TransactionId.{TransactionId}
@@ -468,7 +469,7 @@ no_link-none d Directives = (refl, refl, refl)
 no_link-none d Data = (refl, refl, refl)
 
 -- an end that sent nothing, and one that took nothing
-none_down : (link : LinkConfig) (capacity : ℕ) → IsDown (first_lane_down link capacity) [] 0
+none_down : (link : ChannelConfig) (capacity : ℕ) → IsDown (first_lane_down link capacity) [] 0
 none_down link capacity =
     let none : 0 * link.zone ≡ 0 = omega arith in
     record {
@@ -482,18 +483,18 @@ none_down link capacity =
       counted = refl;
     }
 
-none_up : (link : LinkConfig) → IsUp (first_lane_up link) [] [] 0
+none_up : (link : ChannelConfig) → IsUp (first_lane_up link) [] [] 0
 none_up link = new_is true link [] (replicate 11 0) refl tt tt
 
-lane_carries : (d : LinkSenderState) (u : LinkReceiverState) (link : LinkConfig) (capacity : ℕ) → IsLink link → d ≡ first_lane_down link capacity → u ≡ first_lane_up link → IsCarried d (no_lane d) u
+lane_carries : (d : LinkSenderState) (u : LinkReceiverState) (link : ChannelConfig) (capacity : ℕ) → IsChannel link → d ≡ first_lane_down link capacity → u ≡ first_lane_up link → IsCarried d (no_lane d) u
 lane_carries d u link capacity valid down up =
     first_carried d u (no_lane d) link capacity (8 + d.link.zone) valid down (subst (λ (x : LinkSenderState). IsDown x [] 0) (sym down) (none_down link capacity))
     up (subst (λ (x : LinkReceiverState). IsUp x [] [] 0) (sym up) (none_up link)) refl refl
 
 first_carries : (d : DownState) (u : UpState) (link : LinkConfig) (capacity : ℕ) → IsLink link → d ≡ first_down link capacity → u ≡ first_up link → AreCarried d (no_link d) u
 first_carries d u link capacity valid down up = each-lane (λ (x : Lane). IsCarried (lane_down x d) (lane_of_links x (no_link d)) (lane_up x u))
-    (lane_carries d.directives u.directives link capacity valid (ap (λ (x : DownState). x.directives) down) (ap (λ (x : UpState). x.directives) up))
-    (lane_carries d.file_data u.file_data (lane_link Data link) capacity (lane-valid Data link valid) (ap (λ (x : DownState). x.file_data) down) (ap (λ (x : UpState). x.file_data) up))
+    (lane_carries d.directives u.directives (lane_channel Directives link) capacity (lane-valid Directives link valid) (ap (λ (x : DownState). x.directives) down) (ap (λ (x : UpState). x.directives) up))
+    (lane_carries d.file_data u.file_data (lane_channel Data link) capacity (lane-valid Data link valid) (ap (λ (x : DownState). x.file_data) down) (ap (λ (x : UpState). x.file_data) up))
 
 -- no frame of either lane was taken
 abbrev pub none_taken : Lane → ℕ
@@ -504,8 +505,8 @@ pub first_joined : (c : WorldConfig) (outboxes inboxes : FileMap × FileMap) (a 
     AreJoined a b (no_link a.down) (no_link b.down) none_taken × IsFirst c outboxes inboxes (world_of a b (no_link a.down) (no_link b.down) [] 0)
 first_joined c outboxes inboxes a b valid one two = (
   record {
-    forth = first_carries a.down b.up c.one.down c.one.capacity valid.one.down one.down (two.up ∙ ap first_up (sym valid.down));
-    back = first_carries b.down a.up c.two.down c.two.capacity valid.two.down two.down (one.up ∙ ap first_up valid.up);
+    forth = first_carries a.down b.up c.one.sends c.one.capacity valid.one.sends one.down (two.up ∙ ap first_up (sym valid.sends));
+    back = first_carries b.down a.up c.two.sends c.two.capacity valid.two.sends two.down (one.up ∙ ap first_up valid.receives);
     marks = λ (x : Lane). (no_link-none a.down x).1;
     run = λ (x : Lane). (no_link-none a.down x).2;
   },

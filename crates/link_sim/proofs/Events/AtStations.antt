@@ -8,7 +8,8 @@ use Rattle.mpdu.specs.Stream.{stream}
 use Rattle.mpdu.proofs.Packed.{idle_len-low}
 use Rattle.cfd_bits.specs.Field.{field}
 use Rattle.link_stack.specs.Frames.{frame_of, packet_of}
-use Rattle.aos_frame.specs.Frame.{IsLink, lane_link, other_lane}
+use Rattle.aos_frame.specs.Frame.{IsChannel, IsLink, lane_channel, other_lane}
+use Rattle.aos_frame.specs.declared.config.ChannelConfig.{ChannelConfig}
 use Rattle.aos_frame.specs.declared.config.LinkConfig.{LinkConfig}
 use Rattle.aos_frame.specs.declared.config.Lane.{Lane}
 use Rattle.aos_frame.specs.declared.config.Lane.TheVariants.{Directives, Data}
@@ -34,7 +35,7 @@ use Rattle.link_sim.proofs.Ways.Sending.{new_way, way_is}
 use Rattle.link_sim.proofs.Ways.Sends.{sends, flushes}
 
 -- ---- at first
-pub first_carried : (d : LinkSenderState) (u : LinkReceiverState) (k : FrameLinkState) (link : LinkConfig) (capacity len : ℕ) → IsLink link → d ≡ first_lane_down link capacity → IsDown d [] 0 →
+pub first_carried : (d : LinkSenderState) (u : LinkReceiverState) (k : FrameLinkState) (link : ChannelConfig) (capacity len : ℕ) → IsChannel link → d ≡ first_lane_down link capacity → IsDown d [] 0 →
     u ≡ first_lane_up link → IsUp u [] [] 0 → k ≡ record { frames = []; places = []; marks = []; run = 0; blanks = 0; len = len } → len ≡ 8 + d.link.zone → IsCarried d k u
 first_carried d u k link capacity len valid e down f up new fits =
     let n : FrameLinkState = record { frames = []; places = []; marks = []; run = 0; blanks = 0; len = len } in
@@ -50,7 +51,7 @@ pub first-lanes : (d : DownState) (u : UpState) (k : FrameLinksState) (link : Li
     ((l : Lane) → IsDown (lane_down l d) [] 0) → u ≡ first_up link → ((l : Lane) → IsUp (lane_up l u) [] [] 0) →
     ((l : Lane) → lane_of_links l k ≡ record { frames = []; places = []; marks = []; run = 0; blanks = 0; len = len }) → ((l : Lane) → len ≡ 8 + (lane_down l d).link.zone) → AreCarried d k u
 first-lanes d u k link capacity len valid down sent up taken none fits l =
-    first_carried (lane_down l d) (lane_up l u) (lane_of_links l k) (lane_link l link) capacity len (lane-valid l link valid)
+    first_carried (lane_down l d) (lane_up l u) (lane_of_links l k) (lane_channel l link) capacity len (lane-valid l link valid)
     (ap (λ (x : DownState). lane_down l x) down ∙ first-down_lane l link capacity) (sent l) (ap (λ (x : UpState). lane_up l x) up ∙ first-up_lane l link) (taken l) (none l) (fits l)
 
 -- ---- what is sent

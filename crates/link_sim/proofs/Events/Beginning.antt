@@ -49,17 +49,17 @@ config-at One c = c.one
 config-at Two c = c.two
 
 -- nothing was sent in a lane of a direction
-none-in-lane : (l : Lane) (c e : StationConfig) → (pdus_sent (way (lane_down l (first_down c.down c.capacity)) (on_lane l no_lanes) (lane_up l (first_up e.up))) ≡ [])
-    × (pdus_delivered (way (lane_down l (first_down c.down c.capacity)) (on_lane l no_lanes) (lane_up l (first_up e.up))) ≡ [])
+none-in-lane : (l : Lane) (c e : StationConfig) → (pdus_sent (way (lane_down l (first_down c.sends c.capacity)) (on_lane l no_lanes) (lane_up l (first_up e.receives))) ≡ [])
+    × (pdus_delivered (way (lane_down l (first_down c.sends c.capacity)) (on_lane l no_lanes) (lane_up l (first_up e.receives))) ≡ [])
 unfolding packets_of packets.first_packets
 none-in-lane Directives c e = (refl, refl)
 none-in-lane Data c e = (refl, refl)
 
-none-sent : (l : Lane) (c e : StationConfig) (s t : StationState) (k : LanesState) → s.down ≡ first_down c.down c.capacity → t.up ≡ first_up e.up → k ≡ no_lanes →
+none-sent : (l : Lane) (c e : StationConfig) (s t : StationState) (k : LanesState) → s.down ≡ first_down c.sends c.capacity → t.up ≡ first_up e.receives → k ≡ no_lanes →
     (pdus_sent (way (lane_down l s.down) (on_lane l k) (lane_up l t.up)) ≡ []) × (pdus_delivered (way (lane_down l s.down) (on_lane l k) (lane_up l t.up)) ≡ [])
 none-sent l c e s t k down up link =
-    let is : way (lane_down l s.down) (on_lane l k) (lane_up l t.up) ≡ way (lane_down l (first_down c.down c.capacity)) (on_lane l no_lanes) (lane_up l (first_up e.up)) =
-    lane-same l (first_down c.down c.capacity) s.down no_lanes k (first_up e.up) t.up down link up in
+    let is : way (lane_down l s.down) (on_lane l k) (lane_up l t.up) ≡ way (lane_down l (first_down c.sends c.capacity)) (on_lane l no_lanes) (lane_up l (first_up e.receives)) =
+    lane-same l (first_down c.sends c.capacity) s.down no_lanes k (first_up e.receives) t.up down link up in
     (ap pdus_sent is ∙ (none-in-lane l c e).0, ap pdus_delivered is ∙ (none-in-lane l c e).1)
 
 module _ (c : WorldConfig) (outboxes inboxes : FileMap × FileMap) (w : WorldState) (valid : IsWorldConfig c) (is : IsFirst c outboxes inboxes w) where

@@ -9,7 +9,7 @@ use Rattle.cfd_bits.proofs.Fields.{length-octets}
 use Rattle.aos_frame.specs.Counts.{frame_counts}
 use Rattle.aos_frame.specs.declared.header.FrameHeader.{FrameHeader}
 use Rattle.aos_frame.specs.Frame.{header_octets, other_lane}
-use Rattle.aos_frame.specs.declared.config.LinkConfig.{LinkConfig}
+use Rattle.aos_frame.specs.declared.config.ChannelConfig.{ChannelConfig}
 use Rattle.aos_frame.specs.declared.config.Lane.{Lane}
 use Rattle.aos_frame.specs.declared.config.Lane.TheVariants.{Directives, Data}
 use Rattle.aos_frame.proofs.Spelling.{length-header_octets}
@@ -34,7 +34,7 @@ use Rattle.link_sim.proofs.Ways.Sends.{one_at_most}
 
 -- ---- all whole zones become frames
 -- behind its two headers a frame has its zone
-behind_headers : (link : LinkConfig) (ps : List (List ℕ)) (n : ℕ) → drop 8 (frame_of link ps n) ≡ zone link.zone (n * link.zone) (stream ps)
+behind_headers : (link : ChannelConfig) (ps : List (List ℕ)) (n : ℕ) → drop 8 (frame_of link ps n) ≡ zone link.zone (n * link.zone) (stream ps)
 behind_headers link ps n =
     let h : FrameHeader = record { spacecraft = link.spacecraft; channel = link.channel; count = n % frame_counts; cycle = true } in
     let p : List ℕ = pointer_octets (first_header_pointer link.zone (n * link.zone) 0 ps) in
@@ -234,7 +234,7 @@ pub record GoesDown (l_now d : LinkSenderState) (k : FrameLinkState) (u : LinkRe
   pub grows : link.frames ≡ k.frames ++ more
 
 -- all are of the link, with one more that is
-all_of_link : (link : LinkConfig) (ps : List (List ℕ)) (q : List ℕ) → AreOfLink link ps → ((is_idle q ≡ true) ⊎ (packet_drop link q ≡ None)) → AreOfLink link (ps ++ q ∷ [])
+all_of_link : (link : ChannelConfig) (ps : List (List ℕ)) (q : List ℕ) → AreOfLink link ps → ((is_idle q ≡ true) ⊎ (packet_drop link q ≡ None)) → AreOfLink link (ps ++ q ∷ [])
 all_of_link link [] q all is = (is, tt)
 all_of_link link (p ∷ ps) q all is = (all.0, all_of_link link ps q all.1 is)
 
@@ -258,7 +258,7 @@ same_flush : (x y : LinkSenderState) → x.flushed ≡ y.flushed → length x.wa
 same_flush x y flushed rest link =
     ap (λ f. flush_by f (length x.waiting % x.link.zone) x.link.zone) flushed
     ∙ ap (λ n. flush_by y.flushed n x.link.zone) rest
-    ∙ ap (λ (c : LinkConfig). flush_by y.flushed (length y.waiting % y.link.zone) c.zone) link
+    ∙ ap (λ (c : ChannelConfig). flush_by y.flushed (length y.waiting % y.link.zone) c.zone) link
 
 module _ (l l_now d : LinkSenderState) (k : FrameLinkState) (u : LinkReceiverState) (sent : ℕ) (is : IsBehind l d k u sent) where
   abbrev before : List (List ℕ)
@@ -268,7 +268,7 @@ module _ (l l_now d : LinkSenderState) (k : FrameLinkState) (u : LinkReceiverSta
   its_packet : (q : List ℕ) → IsDown l_now (before ++ q ∷ []) sent → l_now.link ≡ l.link → IsPacket q × ((is_idle q ≡ true) ⊎ (packet_drop d.link q ≡ None))
   its_packet q down link = (
     last_whole before q down.packed.packets_whole,
-    subst (λ (x : LinkConfig). (is_idle q ≡ true) ⊎ (packet_drop x q ≡ None)) (link ∙ sym is.link) (last_of_link l_now.link before q down.of_link),
+    subst (λ (x : ChannelConfig). (is_idle q ≡ true) ⊎ (packet_drop x q ≡ None)) (link ∙ sym is.link) (last_of_link l_now.link before q down.of_link),
   )
 
   pub pdu_goes : (pdu : List ℕ) (count : ℕ) → SendsPdu pdu count l l_now → GoesDown l_now d k u sent (packet_of d.link count pdu ∷ []) (pdu ∷ [])
@@ -334,7 +334,7 @@ module _ (l l_now d : LinkSenderState) (k : FrameLinkState) (u : LinkReceiverSta
       let waits : l_now.waiting ≡ l.waiting ++ q = f.waiting ∙ ap (λ x. l.waiting ++ stream x) all ∙ ap (λ x. l.waiting ++ x) (append-nil q) in
       let rest : length e.waiting % e.link.zone ≡ length l_now.waiting % l_now.link.zone =
       ap (λ n. n % d.link.zone) (length-append d.waiting q) ∙ sym (same_rest l d k u sent is (length q))
-      ∙ ap (λ n. n % l.link.zone) (sym (length-append l.waiting q)) ∙ ap (λ x. length x % l.link.zone) (sym waits) ∙ ap (λ (c : LinkConfig). length l_now.waiting % c.zone) (sym f.fixed.0) in
+      ∙ ap (λ n. n % l.link.zone) (sym (length-append l.waiting q)) ∙ ap (λ x. length x % l.link.zone) (sym waits) ∙ ap (λ (c : ChannelConfig). length l_now.waiting % c.zone) (sym f.fixed.0) in
       let goes : Flushes d e = record {
         sends = λ (ps : List (List ℕ)) (made : ℕ) (at : IsDown d ps made).
             subst (λ (x : List (List ℕ)). IsDown e (ps ++ x) made) (sym one) (given_is d q l_now.flushed its.0 its.1 ps made at);

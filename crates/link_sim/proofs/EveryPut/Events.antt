@@ -115,16 +115,16 @@ kept-as P N m m1 th th1 a a1 b b1 im ith ia ib k =
 
 -- ---- at first
 -- nothing is on its way
-none-in-lane : (l : Lane) (c e : StationConfig) → on_way (way (lane_down l (first_down c.down c.capacity)) (on_lane l no_lanes) (lane_up l (first_up e.up))) ≡ []
+none-in-lane : (l : Lane) (c e : StationConfig) → on_way (way (lane_down l (first_down c.sends c.capacity)) (on_lane l no_lanes) (lane_up l (first_up e.receives))) ≡ []
 unfolding packets_of packets.first_packets
 none-in-lane Directives c e = refl
 none-in-lane Data c e = refl
 
-none-on-lane : (l : Lane) (c e : StationConfig) (s t : StationState) (k : LanesState) → s.down ≡ first_down c.down c.capacity → t.up ≡ first_up e.up → k ≡ no_lanes →
+none-on-lane : (l : Lane) (c e : StationConfig) (s t : StationState) (k : LanesState) → s.down ≡ first_down c.sends c.capacity → t.up ≡ first_up e.receives → k ≡ no_lanes →
     on_way (way (lane_down l s.down) (on_lane l k) (lane_up l t.up)) ≡ []
-none-on-lane l c e s t k down up link = ap on_way (lane-same l (first_down c.down c.capacity) s.down no_lanes k (first_up e.up) t.up down link up) ∙ none-in-lane l c e
+none-on-lane l c e s t k down up link = ap on_way (lane-same l (first_down c.sends c.capacity) s.down no_lanes k (first_up e.receives) t.up down link up) ∙ none-in-lane l c e
 
-none-on-way : (c e : StationConfig) (s t : StationState) (k : LanesState) → s.down ≡ first_down c.down c.capacity → t.up ≡ first_up e.up → k ≡ no_lanes →
+none-on-way : (c e : StationConfig) (s t : StationState) (k : LanesState) → s.down ≡ first_down c.sends c.capacity → t.up ≡ first_up e.receives → k ≡ no_lanes →
     on_way (way (lane_down Directives s.down) (on_lane Directives k) (lane_up Directives t.up)) ++ on_way (way (lane_down Data s.down) (on_lane Data k) (lane_up Data t.up)) ≡ []
 none-on-way c e s t k down up link =
     lanes-same (λ l. []) (λ l. on_way (way (lane_down l s.down) (on_lane l k) (lane_up l t.up))) (λ l. none-on-lane l c e s t k down up link)

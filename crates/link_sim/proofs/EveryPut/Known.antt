@@ -5,9 +5,11 @@ use Rattle.std.specs.FinSet as set
 use Rattle.std.specs.Prelude.{IsSome, nat_lt, nat_le, if◌then◌else◌}
 use Rattle.std.specs.FinMap.{empty, get}
 use Rattle.std.specs.Option.{option_or}
-use Rattle.std.specs.Bool.{beq}
-use Rattle.std.proofs.lemmas.Bool.{eq-eqb, false≢true, leb-false, ne_eqb}
+use Rattle.std.proofs.lemmas.Bool.{eq-eqb, leb-false, ne_eqb}
+use Rattle.cfdp_header.specs.declared.value.Direction.{Direction}
+use Rattle.cfdp_header.specs.declared.value.Direction.TheVariants.{TowardReceiver, TowardSender}
 use Rattle.cfdp_header.specs.declared.value.Header.{Header}
+use Rattle.cfdp_header.specs.Header.{direction_bit}
 use Rattle.cfdp_header.specs.declared.value.TransactionId.{TransactionId}
 use Rattle.cfdp_header.specs.Files.{FileMap}
 use Rattle.cfdp_header.specs.Ids.{same_id}
@@ -15,7 +17,7 @@ use Rattle.cfdp_directives.specs.declared.pdu.addressing.Addressing.{Addressing}
 use Rattle.cfdp_directives.specs.Pdu.Addressing.{header_of, addressing_of as addressing_in}
 use Rattle.cfdp_directives.specs.Pdu.Codes.{is_large}
 use Rattle.cfdp_directives.specs.Pdu.Content.{Content}
-use Rattle.cfdp_directives.specs.Pdu.Direction.{goes_toward_sender, is_for}
+use Rattle.cfdp_directives.specs.Pdu.Direction.{direction_of, goes_to, is_for}
 use Rattle.cfdp_directives.specs.User.FileName.{is_file_name}
 use Rattle.cfdp_directives.specs.Pdu.Grammar.{SpellsPdu}
 use Rattle.cfdp_directives.specs.User.Put.{Put}
@@ -297,13 +299,13 @@ turn-says e none s = by (next_due e.cursor e.table.records) (turn-none e none) (
     by (Some place) is s = entry-says e place (slice_get e.table.records place) is refl s
 
 -- ---- a PDU that a sender has due goes to the receiver, and names a file if it is Metadata
-down-says : (octets : List ℕ) (x : SenderState) (d : SenderDue) → goes_toward_sender (pdu_says octets x d) ≡ false
+down-says : (octets : List ℕ) (x : SenderState) (d : SenderDue) → direction_of (pdu_says octets x d) ≡ TowardReceiver
 down-says octets x (sender_dues.AckOfFinished condition) = refl
 down-says octets x (sender_dues.Prompt keep_alive) = refl
 down-says octets x sender_dues.Metadata = refl
 down-says octets x (sender_dues.AskedData start end) = refl
 down-says octets x (sender_dues.NewData start end) = refl
-down-says octets x sender_dues.Eof = elim x.phase as (λ p. goes_toward_sender (eof_says p x) ≡ false) [
+down-says octets x sender_dues.Eof = elim x.phase as (λ p. direction_of (eof_says p x) ≡ TowardReceiver) [
   | sending.Sending ↦ refl
   | sending.Cancelling ↦ refl
   | sending.Closed ↦ refl
@@ -321,7 +323,7 @@ named-says octets x sender_dues.Eof named = elim x.phase as (λ p. names_no_file
   | sending.Closed ↦ refl
 ]
 
-up-says : (r : ReceiverState) (d : Due) → (goes_toward_sender (receiver_says r d) ≡ true) × (names_no_file (receiver_says r d) ≡ false)
+up-says : (r : ReceiverState) (d : Due) → (direction_of (receiver_says r d) ≡ TowardSender) × (names_no_file (receiver_says r d) ≡ false)
 up-says r (receiver_dues.AckOfEof condition) = (refl, refl)
 up-says r (receiver_dues.Nak cursor) = (refl, refl)
 up-says r receiver_dues.KeepAlive = (refl, refl)
@@ -329,36 +331,38 @@ up-says r (receiver_dues.Finished o) = (refl, refl)
 
 -- where something is due, and is this
 sender-down : (file : List ℕ) (x : SenderState) (o : Option SenderDue) (v : Content) → sender_content file x o ≡ Some v → ((length x.source == 0) || (length x.destination == 0)) ≡ false
-    → (goes_toward_sender v ≡ false) × (names_no_file v ≡ false)
+    → (direction_of v ≡ TowardReceiver) × (names_no_file v ≡ false)
 sender-down file x None v is named = absurd cc
 sender-down file x (Some d) v is named =
     let same : sender_says file x d ≡ v = cc in
-    subst (λ w. (goes_toward_sender w ≡ false) × (names_no_file w ≡ false)) same (down-says (carried file d) x d, named-says (carried file d) x d named)
+    subst (λ w. (direction_of w ≡ TowardReceiver) × (names_no_file w ≡ false)) same (down-says (carried file d) x d, named-says (carried file d) x d named)
 
-receiver-up : (r : ReceiverState) (o : Option Due) (v : Content) → receiver_content r o ≡ Some v → (goes_toward_sender v ≡ true) × (names_no_file v ≡ false)
+receiver-up : (r : ReceiverState) (o : Option Due) (v : Content) → receiver_content r o ≡ Some v → (direction_of v ≡ TowardSender) × (names_no_file v ≡ false)
 receiver-up r None v is = absurd cc
 receiver-up r (Some d) v is =
     let same : receiver_says r d ≡ v = cc in
-    subst (λ w. (goes_toward_sender w ≡ true) × (names_no_file w ≡ false)) same (up-says r d)
+    subst (λ w. (direction_of w ≡ TowardSender) × (names_no_file w ≡ false)) same (up-says r d)
 
 -- ---- for whom it is
-beq-itself : (b : Bool) → beq b b ≡ true
-beq-itself true = refl
-beq-itself false = refl
+fits-itself : (d : Direction) → (direction_bit d == direction_bit d) ≡ true
+fits-itself TowardSender = refl
+fits-itself TowardReceiver = refl
+
+opposite : (d : Direction) → d ≡ TowardReceiver → d ≡ TowardSender → ⊥
+opposite TowardReceiver a b = absurd cc
+opposite TowardSender a b = absurd cc
 
 both-true : (p q : Bool) → p ≡ true → q ≡ true → (p && q) ≡ true
 both-true true q a b = b
 both-true false q a b = absurd cc
 
-is-for-own : (b : Bool) (source destination own peer : ℕ) → b ≡ true → source ≡ own → destination ≡ peer →
-    (if b then (source == own) && (destination == peer) else (source == peer) && (destination == own)) ≡ true
-is-for-own true source destination own peer is s d = both-true (source == own) (destination == peer) (eq-eqb source own s) (eq-eqb destination peer d)
-is-for-own false source destination own peer is s d = absurd cc
+is-for-own : (d : Direction) (source destination own peer : ℕ) → d ≡ TowardSender → source ≡ own → destination ≡ peer → goes_to d source destination own peer ≡ true
+is-for-own TowardSender source destination own peer is s d = both-true (source == own) (destination == peer) (eq-eqb source own s) (eq-eqb destination peer d)
+is-for-own TowardReceiver source destination own peer is s d = absurd cc
 
-is-for-peer : (b : Bool) (source destination own peer : ℕ) → b ≡ false → source ≡ peer → destination ≡ own →
-    (if b then (source == own) && (destination == peer) else (source == peer) && (destination == own)) ≡ true
-is-for-peer false source destination own peer is s d = both-true (source == peer) (destination == own) (eq-eqb source peer s) (eq-eqb destination own d)
-is-for-peer true source destination own peer is s d = absurd cc
+is-for-peer : (d : Direction) (source destination own peer : ℕ) → d ≡ TowardReceiver → source ≡ peer → destination ≡ own → goes_to d source destination own peer ≡ true
+is-for-peer TowardReceiver source destination own peer is s d = both-true (source == peer) (destination == own) (eq-eqb source peer s) (eq-eqb destination own d)
+is-for-peer TowardSender source destination own peer is s d = absurd cc
 
 -- what the record at a place has due is for the other entity
 module _ (put_of : TransactionId → Option Put) (heard : List (List ℕ)) (mine theirs : EntityState) (peers : ArePeers mine theirs) (id : TransactionId) (v : Content) where
@@ -377,8 +381,8 @@ module _ (put_of : TransactionId → Option Put) (heard : List (List ℕ)) (mine
   directed-seen (Sends x) due peer knows sends =
       let says = sender-down (octets_in mine.table.sources x.source) x (sender_due x) v due peer.1 in
       record {
-        fits = beq-itself (goes_toward_sender v);
-        addressed = is-for-peer (goes_toward_sender v) x.addressing.id.source x.addressing.destination theirs.config.entity theirs.config.peer says.0
+        fits = fits-itself (direction_of v);
+        addressed = is-for-peer (direction_of v) x.addressing.id.source x.addressing.destination theirs.config.entity theirs.config.peer says.0
             (ap (λ (i : TransactionId). i.source) knows.0 ∙ knows.1 ∙ sym peers.of_theirs) (peer.0 ∙ peers.of_mine);
         named = says.1;
         of_put = some-put x.addressing.id id sends.put knows.0 sends.is_put;
@@ -387,12 +391,12 @@ module _ (put_of : TransactionId → Option Put) (heard : List (List ℕ)) (mine
   directed-seen (Receives r m) due peer knows sends =
       let says = receiver-up r (receiver_due r) v due in
       record {
-        fits = beq-itself (goes_toward_sender v);
-        addressed = is-for-own (goes_toward_sender v) r.addressing.id.source r.addressing.destination theirs.config.entity theirs.config.peer says.0
+        fits = fits-itself (direction_of v);
+        addressed = is-for-own (direction_of v) r.addressing.id.source r.addressing.destination theirs.config.entity theirs.config.peer says.0
             (peer.0 ∙ peers.of_mine) (peer.1 ∙ sym peers.of_theirs);
         named = says.1;
         of_put = some-put r.addressing.id id knows.put knows.same_id knows.is_put;
-        flag = λ down put found. absurd (false≢true (sym down ∙ says.0));
+        flag = λ down put found. absurd (opposite (direction_of v) down says.0);
       }
 
 pub directed-due : (put_of : TransactionId → Option Put) (heard : List (List ℕ)) (first : FileMap) (mine theirs : EntityState) (forth : List Pdu) (place : ℕ) (e : Entry) (v : Content) →

@@ -133,14 +133,14 @@ told-len h v text s = let q = s.header in rw (q.id_width, q.number_width) refl
 
 pub text-work : (most : ℕ) (h : Header) (v : Content) (text : List ℕ) → SpellsPdu h v text → text_work most text ≡ content_work most v
 unfolding text_work
-text-work most h (FileData offset bytes) text s = rw (s.header.file_data, s.content.0) refl
-text-work most h (Metadata kind size source destination options) text s = rw (s.header.file_data, s.content.0, told-len h (Metadata kind size source destination options) text s, s.content.1.code) refl
-text-work most h (Eof condition checksum size tlvs) text s = rw (s.header.file_data, s.content.0, told-len h (Eof condition checksum size tlvs) text s, s.content.1.code) (omega arith)
-text-work most h (Finished condition delivery status tlvs) text s = rw (s.header.file_data, s.content.0, told-len h (Finished condition delivery status tlvs) text s, s.content.1.code) refl
-text-work most h (Ack of condition status) text s = rw (s.header.file_data, s.content.0, told-len h (Ack of condition status) text s, s.content.1.code) refl
-text-work most h (Nak start end pairs) text s = rw (s.header.file_data, s.content.0, told-len h (Nak start end pairs) text s, s.content.1.code) (omega arith)
-text-work most h (Prompt keep_alive) text s = rw (s.header.file_data, s.content.0, told-len h (Prompt keep_alive) text s, s.content.1.code) (omega arith)
-text-work most h (KeepAlive progress) text s = rw (s.header.file_data, s.content.0, told-len h (KeepAlive progress) text s, s.content.1.code) refl
+text-work most h (FileData offset bytes) text s = rw (s.header.pdu_type, s.content.0) refl
+text-work most h (Metadata kind size source destination options) text s = rw (s.header.pdu_type, s.content.0, told-len h (Metadata kind size source destination options) text s, s.content.1.code) refl
+text-work most h (Eof condition checksum size tlvs) text s = rw (s.header.pdu_type, s.content.0, told-len h (Eof condition checksum size tlvs) text s, s.content.1.code) (omega arith)
+text-work most h (Finished condition delivery status tlvs) text s = rw (s.header.pdu_type, s.content.0, told-len h (Finished condition delivery status tlvs) text s, s.content.1.code) refl
+text-work most h (Ack of condition status) text s = rw (s.header.pdu_type, s.content.0, told-len h (Ack of condition status) text s, s.content.1.code) refl
+text-work most h (Nak start end pairs) text s = rw (s.header.pdu_type, s.content.0, told-len h (Nak start end pairs) text s, s.content.1.code) (omega arith)
+text-work most h (Prompt keep_alive) text s = rw (s.header.pdu_type, s.content.0, told-len h (Prompt keep_alive) text s, s.content.1.code) (omega arith)
+text-work most h (KeepAlive progress) text s = rw (s.header.pdu_type, s.content.0, told-len h (KeepAlive progress) text s, s.content.1.code) refl
 
 folded : (most n : ℕ) (texts : List (List ℕ)) (pdus : List Pdu) → AreSpelled texts pdus → fold (λ a x. a + text_work most x) n texts ≡ fold (λ a (p : Pdu). a + content_work most p.1) n pdus
 folded most n [] [] s = refl

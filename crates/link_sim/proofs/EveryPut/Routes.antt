@@ -1,18 +1,20 @@
 -- What an entity does with a PDU that is for it and of an accepted put: its record makes its step,
 -- one is opened, or it is dropped. No acknowledgement of a transaction without a record is queued.
 use Rattle.std.proofs.Common.{◌≡◌, ◌≢◌, ℕ, ◌<◌, ◌≤◌, ◌==◌, ◌&&◌, Bool, true, false, List, length, Option, Some, None, ◌⊎◌, inl, inr, refl, ap, subst, ◌∙◌, arith}
-use Rattle.std.specs.Prelude.{nat_lt, if◌then◌else◌}
-use Rattle.std.specs.Bool.{beq}
+use Rattle.std.specs.Prelude.{nat_lt}
 use Rattle.std.specs.FinSet as set
 use Rattle.std.proofs.lemmas.Bool.{eqb-true, ltb-true, ltb-false}
+use Rattle.cfdp_header.specs.declared.value.Direction.{Direction}
+use Rattle.cfdp_header.specs.declared.value.Direction.TheVariants.{TowardReceiver, TowardSender}
 use Rattle.cfdp_header.specs.declared.value.Header.{Header}
+use Rattle.cfdp_header.specs.Header.{direction_bit}
 use Rattle.cfdp_header.specs.declared.value.TransactionId.{TransactionId}
 use Rattle.cfdp_header.specs.Ids.{id_cmp}
 use Rattle.cfdp_forgotten.specs.Forgotten.{IdSet}
 use Rattle.cfdp_directives.specs.declared.pdu.codes.Acknowledged.TheVariants as acknowledged
 use Rattle.cfdp_directives.specs.Pdu.Addressing.{addressing_of as addressing_in}
 use Rattle.cfdp_directives.specs.Pdu.Content.{Content, FileData, Metadata, Eof, Finished, Ack, Nak, Prompt, KeepAlive}
-use Rattle.cfdp_directives.specs.Pdu.Direction.{goes_toward_sender}
+use Rattle.cfdp_directives.specs.Pdu.Direction.{direction_of, goes_to}
 use Rattle.cfdp_directives.specs.User.Put.{Put}
 use Rattle.cfdp_entity.specs.declared.error.EntityDrop.{EntityDrop}
 use Rattle.cfdp_entity.specs.declared.error.EntityDrop.TheVariants as drops
@@ -27,34 +29,37 @@ use Rattle.link_sim.specs.Work.{opening_work}
 use Rattle.link_sim.proofs.EveryPut.Pdus.{HearsOne}
 
 -- ---- for whom a PDU is
-beq-same : (a b : Bool) → beq a b ≡ true → a ≡ b
-beq-same true true is = refl
-beq-same false false is = refl
-beq-same true false is = absurd cc
-beq-same false true is = absurd cc
+fits-same : (a b : Direction) → (direction_bit a == direction_bit b) ≡ true → a ≡ b
+fits-same TowardSender TowardSender is = refl
+fits-same TowardReceiver TowardReceiver is = refl
+fits-same TowardSender TowardReceiver is = absurd cc
+fits-same TowardReceiver TowardSender is = absurd cc
+
+pub either-way : (d : Direction) → (d ≡ TowardSender) ⊎ (d ≡ TowardReceiver)
+either-way TowardSender = inl refl
+either-way TowardReceiver = inr refl
 
 pub and-parts : (p q : Bool) → (p && q) ≡ true → (p ≡ true) × (q ≡ true)
 and-parts true q is = (refl, is)
 and-parts false q is = absurd cc
 
 -- toward the sender it is of a transaction of this entity, and else of one of the peer
-pub toward-own : (b : Bool) (source destination own peer : ℕ) → b ≡ true → (if b then (source == own) && (destination == peer) else (source == peer) && (destination == own)) ≡ true → source ≡ own
-toward-own true source destination own peer toward is = eqb-true source own (and-parts (source == own) (destination == peer) is).0
-toward-own false source destination own peer toward is = absurd cc
+pub toward-own : (way : Direction) (source destination own peer : ℕ) → way ≡ TowardSender → goes_to way source destination own peer ≡ true → source ≡ own
+toward-own TowardSender source destination own peer toward is = eqb-true source own (and-parts (source == own) (destination == peer) is).0
+toward-own TowardReceiver source destination own peer toward is = absurd cc
 
-pub from-peer : (b : Bool) (source destination own peer : ℕ) → b ≡ false → (if b then (source == own) && (destination == peer) else (source == peer) && (destination == own)) ≡ true → (source ≡ peer)
-    × (destination ≡ own)
-from-peer true source destination own peer toward is = absurd cc
-from-peer false source destination own peer toward is =
+pub from-peer : (way : Direction) (source destination own peer : ℕ) → way ≡ TowardReceiver → goes_to way source destination own peer ≡ true → (source ≡ peer) × (destination ≡ own)
+from-peer TowardSender source destination own peer toward is = absurd cc
+from-peer TowardReceiver source destination own peer toward is =
     let parts = and-parts (source == peer) (destination == own) is in
     (eqb-true source peer parts.0, eqb-true destination own parts.1)
 
 module _ (put_of : TransactionId → Option Put) (e : EntityState) (h : Header) (v : Content) (d : IsDirected put_of e (h, v)) where
-  pub directed-own : goes_toward_sender v ≡ true → h.id.source ≡ e.config.entity
-  directed-own toward = toward-own h.toward_sender h.id.source h.destination e.config.entity e.config.peer (beq-same h.toward_sender (goes_toward_sender v) d.fits ∙ toward) d.addressed
+  pub directed-own : direction_of v ≡ TowardSender → h.id.source ≡ e.config.entity
+  directed-own toward = toward-own h.direction h.id.source h.destination e.config.entity e.config.peer (fits-same h.direction (direction_of v) d.fits ∙ toward) d.addressed
 
-  pub directed-peer : goes_toward_sender v ≡ false → (h.id.source ≡ e.config.peer) × (h.destination ≡ e.config.entity)
-  directed-peer toward = from-peer h.toward_sender h.id.source h.destination e.config.entity e.config.peer (beq-same h.toward_sender (goes_toward_sender v) d.fits ∙ toward) d.addressed
+  pub directed-peer : direction_of v ≡ TowardReceiver → (h.id.source ≡ e.config.peer) × (h.destination ≡ e.config.entity)
+  directed-peer toward = from-peer h.direction h.id.source h.destination e.config.entity e.config.peer (fits-same h.direction (direction_of v) d.fits ∙ toward) d.addressed
 
   pub directed-route : route h v e ≡ route_by (place_of h.id e.table.records) h v e
   directed-route = rw (d.fits, d.addressed, d.named) refl
@@ -71,7 +76,7 @@ pub record OpensRecord (h : Header) (v : Content) (old new : Counted) : Type 0 w
   pub none : place_of h.id old.state.table.records ≡ None
   pub room : length old.state.table.records < most_records
   pub opening : opening_work v ≢ 0
-  pub down : goes_toward_sender v ≡ false
+  pub down : direction_of v ≡ TowardReceiver
   pub opens : OpensOne (addressing_in h) h.large v old new
 
 -- It was dropped, where its transaction has no record: if none is opened for it that is cause 14, and by cause 15
@@ -104,7 +109,7 @@ module _ (h : Header) (old new : Counted) (none : place_of h.id old.state.table.
   same-inbox e is = let same : new.inbox_failures ≡ old.inbox_failures = ap (λ (c : Counted). c.inbox_failures) is in omega (arith, same)
 
   -- a PDU that opens a record, if the table isn't full
-  module _ (v : Content) (opening : opening_work v ≢ 0) (down : goes_toward_sender v ≡ false) where
+  module _ (v : Content) (opening : opening_work v ≢ 0) (down : direction_of v ≡ TowardReceiver) where
     open-takes : (b : Bool) → nat_lt (length old.state.table.records) most_records ≡ b → Takes (opens_record old.state) h v old new → HeardSo h v old new
     open-takes true is t =
         let f : Takes (opens_record old.state) h v old new → OpensOne (addressing_in h) h.large v old new = rw is (λ o. o) in
@@ -133,7 +138,7 @@ module _ (h : Header) (old new : Counted) (none : place_of h.id old.state.table.
   lost-heard v opening (inr d) = unheard v drops.Unknown (omega arith) (inl opening) (inl refl) (λ h. omega (arith, h)) (ap (λ (c : Counted). c.state) d.1.1)
       (same-inbox (dropped drops.Unknown old.state) d.1.1)
 
-  pub new-heard : (v : Content) → (goes_toward_sender v ≡ true → ⊥) → Takes (route_new h v old.state) h v old new ⊎ ((by : EntityDrop) × DropsBy (route_new h v old.state) by v old new) →
+  pub new-heard : (v : Content) → (direction_of v ≡ TowardSender → ⊥) → Takes (route_new h v old.state) h v old new ⊎ ((by : EntityDrop) × DropsBy (route_new h v old.state) by v old new) →
       HeardSo h v old new
   new-heard (FileData offset bytes) own t = open-heard (FileData offset bytes) (λ e. omega (arith, e)) refl t
   new-heard (Metadata kind size source destination options) own t = open-heard (Metadata kind size source destination options) (λ e. omega (arith, e)) refl t
@@ -148,7 +153,7 @@ module _ (h : Header) (old new : Counted) (none : place_of h.id old.state.table.
 module _ (put_of : TransactionId → Option Put) (theirs : EntityState) (forth : List Pdu) (h : Header) (v : Content) (old new : Counted) (own : IsKnown put_of old.state theirs forth)
     (d : IsDirected put_of old.state (h, v)) where
   -- a PDU toward the sender is of a put of this entity, which has its record
-  pub has-record : place_of h.id old.state.table.records ≡ None → goes_toward_sender v ≡ true → ⊥
+  pub has-record : place_of h.id old.state.table.records ≡ None → direction_of v ≡ TowardSender → ⊥
   has-record none toward =
       let sends = own.sends h.id d.of_put (directed-own put_of old.state h v d toward) in
       subst IsSending (no-record old.state.table.records h.id none).0 sends

@@ -1,6 +1,6 @@
 -- What holds of one lane and of the other one holds of both.
-use Rattle.std.proofs.Common.{◌≡◌, refl, sym}
-use Rattle.aos_frame.specs.Frame.{IsLink, lane_link, other_lane}
+use Rattle.std.proofs.Common.{◌≡◌, refl}
+use Rattle.aos_frame.specs.Frame.{IsChannel, IsLink, lane_channel, other_lane}
 use Rattle.aos_frame.specs.declared.config.Lane.{Lane}
 use Rattle.aos_frame.specs.declared.config.Lane.TheVariants.{Directives, Data}
 use Rattle.aos_frame.specs.declared.config.LinkConfig.{LinkConfig}
@@ -17,13 +17,16 @@ either-lane P Directives here there Data = there
 either-lane P Data here there Directives = there
 either-lane P Data here there Data = here
 
--- the link as a lane has it can be
-pub lane-valid : (l : Lane) (link : LinkConfig) → IsLink link → IsLink (lane_link l link)
-lane-valid Directives link valid = valid
+-- a lane of a link that can be, can be
+pub lane-valid : (l : Lane) (link : LinkConfig) → IsLink link → IsChannel (lane_channel l link)
+lane-valid Directives link valid = record {
+  channel = valid.channel;
+  least_zone = valid.least_zone;
+  most_zone = valid.most_zone;
+  apid = valid.apid;
+}
 lane-valid Data link valid = record {
   channel = valid.data_channel;
-  data_channel = valid.channel;
-  apart = λ e. valid.apart (sym e);
   least_zone = valid.least_zone;
   most_zone = valid.most_zone;
   apid = valid.apid;

@@ -5,11 +5,11 @@ use Rattle.cfd_bits.specs.Field.{field}
 use Rattle.cfd_bits.specs.Field as bits
 use Rattle.cfd_bits.proofs.Fields.{field_in_octet}
 use Rattle.aos_frame.specs.Counts.{frame_counts}
-use Rattle.aos_frame.specs.Frame.{IsLink, header_octets}
+use Rattle.aos_frame.specs.Frame.{IsChannel, header_octets}
 use Rattle.aos_frame.specs.declared.header.FrameHeader.{FrameHeader}
 use Rattle.aos_frame.specs.declared.config.Lane.{Lane}
 use Rattle.aos_frame.specs.declared.config.Lane.TheVariants.{Directives, Data}
-use Rattle.aos_frame.specs.declared.config.LinkConfig.{LinkConfig}
+use Rattle.aos_frame.specs.declared.config.ChannelConfig.{ChannelConfig}
 use Rattle.aos_frame.proofs.Spelling.{length-header_octets}
 use Rattle.link_stack.specs.Downward.{DownState, frame_lane, has_whole, lane_down}
 use Rattle.link_stack.specs.Frames.{frame_of, mpdu_of}
@@ -63,11 +63,11 @@ none-is_whole d is Data = elim (cases_Bool (has_whole d.directives)) [
 ]
 
 -- ---- the channel in a frame
-second_octet : (link : LinkConfig) (ps : List (List ℕ)) (n : ℕ) → get_or (frame_of link ps n) 1 0 ≡ (16384 + 64 * link.spacecraft + link.channel) % 256
+second_octet : (link : ChannelConfig) (ps : List (List ℕ)) (n : ℕ) → get_or (frame_of link ps n) 1 0 ≡ (16384 + 64 * link.spacecraft + link.channel) % 256
 unfolding bits.octets
 second_octet link ps n = refl
 
-pub frame-channel : (link : LinkConfig) (ps : List (List ℕ)) (n : ℕ) → IsLink link → (2 ≤ length (frame_of link ps n)) × (field (frame_of link ps n) 10 6 ≡ link.channel)
+pub frame-channel : (link : ChannelConfig) (ps : List (List ℕ)) (n : ℕ) → IsChannel link → (2 ≤ length (frame_of link ps n)) × (field (frame_of link ps n) 10 6 ≡ link.channel)
 frame-channel link ps n valid =
     let h : FrameHeader = record { spacecraft = link.spacecraft; channel = link.channel; count = n % frame_counts; cycle = true } in
     let k : ℕ = (16384 + 64 * link.spacecraft + link.channel) % 256 in (

@@ -4,7 +4,7 @@ use Rattle.std.proofs.lemmas.Bool.{cases_lt}
 use Rattle.std.proofs.lemmas.List.{map-append, append_assoc, take-append-drop}
 use Rattle.std.proofs.Math.ListN.{get_or-append}
 use Rattle.std.proofs.Math.Seq.{get_or-append_seam}
-use Rattle.aos_frame.specs.Frame.{IsLink}
+use Rattle.aos_frame.specs.Frame.{IsChannel}
 use Rattle.mpdu.specs.Stream.{stream, survivors}
 use Rattle.mpdu.proofs.Later.{stream-push}
 use Rattle.link_stack.specs.Frames.{frame_of, pdus_in}
@@ -39,7 +39,7 @@ pulls l d frame is (text, inside, down) cut rest link =
     let after : IsOneWayOf new ps = record {
       same_link = is.same_link ∙ sym link;
       sent = record {
-        valid = subst IsLink (sym link) is.sent.valid;
+        valid = subst IsChannel (sym link) is.sent.valid;
         made = subst (λ k. IsDown d ps k) (sym more) down;
         frames = each;
         octets = same ∙ is.sent.octets;

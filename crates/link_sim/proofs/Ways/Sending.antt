@@ -2,8 +2,8 @@
 use Rattle.std.proofs.Common.{◌≡◌, ℕ, ◌+◌, ◌*◌, ◌<◌, ◌≤◌, Bool, true, false, not, None, List, [], ◌∷◌, ◌++◌, ◌⊎◌, length, drop, refl, sym, ap, subst, ◌∙◌, inl, arith}
 use Rattle.std.proofs.lemmas.List.{append_assoc, map-append}
 use Rattle.std.proofs.Math.Nat.{mul-le-mul_right}
-use Rattle.aos_frame.specs.Frame.{IsLink}
-use Rattle.aos_frame.specs.declared.config.LinkConfig.{LinkConfig}
+use Rattle.aos_frame.specs.Frame.{IsChannel}
+use Rattle.aos_frame.specs.declared.config.ChannelConfig.{ChannelConfig}
 use Rattle.mpdu.specs.Stream.{stream, survivors, keep, is_idle, IsPacket, ArePackets}
 use Rattle.mpdu.proofs.Later.{stream-push}
 use Rattle.mpdu.proofs.Later.{survivors-push}
@@ -24,14 +24,14 @@ pub way_is : (l : OneWayState) (ps : List (List ℕ)) → IsOneWayOf l ps → Is
 way_is l ps is = subst (λ qs. IsOneWayOf l qs) (sym (spells l ps is)) is
 
 -- nothing was sent yet
-pub new_way : (d : LinkSenderState) (u : LinkReceiverState) (link : LinkConfig) (capacity : ℕ) → IsLink link →
+pub new_way : (d : LinkSenderState) (u : LinkReceiverState) (link : ChannelConfig) (capacity : ℕ) → IsChannel link →
     d ≡ first_lane_down link capacity → IsDown d [] 0 → u ≡ first_lane_up link → IsUp u [] [] 0 →
     IsOneWayOf (record { down = d; up = u; frames = []; marks = []; run = 0 }) []
 new_way d u link capacity valid e down f up =
     record {
       same_link = ap (λ x. x.link) f ∙ sym (ap (λ x. x.link) e);
       sent = record {
-        valid = subst IsLink (sym (ap (λ x. x.link) e)) valid;
+        valid = subst IsChannel (sym (ap (λ x. x.link) e)) valid;
         made = down;
         frames = λ n h. absurd (omega arith);
         octets = ap (λ x. x.waiting) e;
@@ -65,7 +65,7 @@ pub last_whole : (ps : List (List ℕ)) (q : List ℕ) → ArePackets (ps ++ q �
 last_whole [] q h = h.0
 last_whole (p ∷ ps) q h = last_whole ps q h.1
 
-pub last_of_link : (link : LinkConfig) (ps : List (List ℕ)) (q : List ℕ) → AreOfLink link (ps ++ q ∷ []) → (is_idle q ≡ true) ⊎ (packet_drop link q ≡ None)
+pub last_of_link : (link : ChannelConfig) (ps : List (List ℕ)) (q : List ℕ) → AreOfLink link (ps ++ q ∷ []) → (is_idle q ≡ true) ⊎ (packet_drop link q ≡ None)
 last_of_link link [] q h = h.0
 last_of_link link (p ∷ ps) q h = last_of_link link ps q h.1
 
@@ -96,7 +96,7 @@ sent_more l d ps q is down waits link =
     record {
       same_link = is.same_link ∙ sym link;
       sent = record {
-        valid = subst IsLink (sym link) is.sent.valid;
+        valid = subst IsChannel (sym link) is.sent.valid;
         made = down;
         frames = λ n h. is.sent.frames n h ∙ sym (frame-push l.down.link ps q n (frame_inside l ps is.sent n h)) ∙ ap (λ k. frame_of k (ps ++ q ∷ []) n) (sym link);
         octets = ap (λ w. zones_of l.frames ++ w) waits ∙ sym (append_assoc (zones_of l.frames) l.down.waiting q) ∙ ap (λ w. w ++ q) is.sent.octets ∙ sym (stream-push ps q);

@@ -112,8 +112,8 @@ no_lanes = record { directives = no_frames; file_data = no_frames }
 pub record IsNewAt (c : StationConfig) (stands : Bool) (sources files : FileMap) (s : StationState)
     : Type 0 where
   pub entity : s.entity.state ≡ entity_standing stands (first_entity sources files c.entity)
-  pub down : s.down ≡ first_down c.down c.capacity
-  pub up : s.up ≡ first_up c.up
+  pub down : s.down ≡ first_down c.sends c.capacity
+  pub up : s.up ≡ first_up c.receives
 
 -- One whose files stand.
 abbrev pub IsFirstAt : StationConfig → (sources files : FileMap) → StationState → Type 0

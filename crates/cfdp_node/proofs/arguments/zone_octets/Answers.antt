@@ -4,7 +4,7 @@ use Rattle.cfdp_node.proofs.arguments.zone_octets.Goals as goal
 pub returns-in-Ok-clause-zone : goal.returns-in-Ok-clause-zone
 returns-in-Ok-clause-zone c =
     let read = c.in-Ok.ensures.value.0 in
-    zone-found c.args.word.now c.in-Ok.zone read.0.0 read.1 c.if-zone-ge16.true c.if-zone-le2040.true
+    zone-found c.args.word.now c.in-Ok.zone read.0.0 read.1 c.if-zone-ge-LEAST_ZONE.true c.if-zone-le-MOST_ZONE.true
 
 pub returns-in_default-3-clause-zone : goal.returns-in_default-3-clause-zone
 returns-in_default-3-clause-zone c = zone-none c.args.word.now c.in_default.ensures.value.0

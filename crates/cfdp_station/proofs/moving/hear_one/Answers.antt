@@ -2,4 +2,4 @@ use Rattle.cfdp_station.proofs.Hears.{hears_either}
 use Rattle.cfdp_station.proofs.moving.hear_one.Goals as goal
 
 pub returns : goal.returns
-returns g c = hears_either c.hear.result c.args.pdu.now c.args.entity.now c.hear.new.self c.hear.ensures.heard c.hear.ensures.dropped
+returns g c = hears_either c.receive.result c.args.pdu.now c.args.entity.now c.receive.new.self c.receive.ensures.heard c.receive.ensures.dropped

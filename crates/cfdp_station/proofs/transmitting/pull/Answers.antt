@@ -1,6 +1,6 @@
 use Rattle.std.proofs.Common.{◌∙◌, Bool, false, true, ap, subst}
 use Rattle.aos_frame.specs.declared.config.Lane.TheVariants.{Directives}
-use Rattle.aos_frame.specs.declared.config.LinkConfig.{LinkConfig}
+use Rattle.aos_frame.specs.declared.config.ChannelConfig.{ChannelConfig}
 use Rattle.cfdp_station.specs.Transmitting.{PollsDry}
 use Rattle.cfdp_station.proofs.transmitting.pull.Goals as goal
 
@@ -27,4 +27,4 @@ returns-else-branch-clause-ok g c = record {
 
 pub returns-else-branch-clause-zone : goal.returns-else-branch-clause-zone
 returns-else-branch-clause-zone g c =
-    ap (λ (l : LinkConfig). l.zone) (c.flush.ensures.flushed.lanes Directives).fixed.0 ∙ c.in_ok-poll_dry.ensures.zone
+    ap (λ (l : ChannelConfig). l.zone) (c.flush.ensures.flushed.lanes Directives).fixed.0 ∙ c.in_ok-poll_dry.ensures.zone

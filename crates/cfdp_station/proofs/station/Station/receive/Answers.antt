@@ -7,6 +7,6 @@ use Rattle.cfdp_station.proofs.station.Station.receive.Goals as goal
 pub returns : goal.returns
 returns g c =
     let i = c.self.inside in
-    takes_frame c.args.frame.now i.entity c.hear_all.new.entity i.down i.up c.take.new.self c.clear.new.self.items
-    (octets_of_each c.take.new.out.items) c.clear.ensures.items c.take.ensures.taken c.take.ensures.other c.take.ensures.lane
+    takes_frame c.args.frame.now i.entity c.hear_all.new.entity i.down i.up c.receive.new.self c.clear.new.self.items
+    (octets_of_each c.receive.new.out.items) c.clear.ensures.items c.receive.ensures.taken c.receive.ensures.other c.receive.ensures.lane
     (subst (λ (vs : List (Vec ℕ Global)). HearsAll (octets_of_each vs) i.entity c.hear_all.new.entity) c.deref.ensures.value c.hear_all.ensures) c.args.self.now c.self.view_is

@@ -1,6 +1,6 @@
 use Rattle.std.proofs.Common.{◌≡◌, ℕ, ◌+◌, ◌*◌, ◌≤◌, ◌%◌, ◌++◌, length, take, ap, sym, subst, ◌∙◌, arith}
 use Rattle.aos_frame.specs.Counts.{frame_counts}
-use Rattle.aos_frame.specs.declared.config.LinkConfig.{LinkConfig}
+use Rattle.aos_frame.specs.declared.config.ChannelConfig.{ChannelConfig}
 use Rattle.mpdu.specs.Stream.{stream}
 use Rattle.mpdu.specs.Packing.{IsAt, ZoneOf}
 use Rattle.link_stack.specs.Frames.{frame_of}
@@ -28,8 +28,8 @@ returns-clause-stream c ps made is done =
     written_frame link ps made c.next.result c.in-Some.pointer c.put_headers.new.out c.zone.new.out count c.put_headers.ensures zo in
     let inside : made * link.zone + link.zone ≤ length (stream ps) = zo.inside in
     let ours : link ≡ d.link = ap (λ x. x.link) c.self.view_is in (
-      subst (λ (l : LinkConfig). c.put_headers.new.out ++ c.zone.new.out ≡ frame_of l ps made) ours text,
-      subst (λ (l : LinkConfig). made * l.zone + l.zone ≤ length (stream ps)) ours inside,
+      subst (λ (l : ChannelConfig). c.put_headers.new.out ++ c.zone.new.out ≡ frame_of l ps made) ours text,
+      subst (λ (l : ChannelConfig). made * l.zone + l.zone ≤ length (stream ps)) ours inside,
       down_is d link p c.zone.new.self c.self.inside.frames c.next.new.self ps ps made (made + 1) (sym c.self.view_is) (c.zone.ensures.fixed.0 ∙ size)
           (λ all. all)
           (λ e. next_count c.self.inside.frames c.next.new.self made e c.next.ensures.after) is both.1,

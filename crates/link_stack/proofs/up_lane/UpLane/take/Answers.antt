@@ -1,5 +1,5 @@
 use Rattle.std.proofs.Common.{ap, subst, arith}
-use Rattle.aos_frame.specs.Frame.{IsLink}
+use Rattle.aos_frame.specs.Frame.{IsChannel}
 use Rattle.mpdu.specs.Feeding.{octets_of_each}
 use Rattle.link_stack.specs.Upward.{LinkReceiverState}
 use Rattle.link_stack.proofs.Streams.{lane_takes}
@@ -8,5 +8,5 @@ use Rattle.link_stack.proofs.up_lane.UpLane.take.Goals as goal
 pub returns : goal.returns
 returns c =
     lane_takes c.read_frame-whole.result c.args.self.now c.read_frame-whole.new.self c.args.frame.now (octets_of_each c.args.out.now.items) (octets_of_each c.read_frame-whole.new.out.items)
-    (subst (λ (u : LinkReceiverState). IsLink u.link) c.self.view_is c.self.invariant) (omega (arith, ap (λ (u : LinkReceiverState). u.link.spacecraft) c.self.view_is))
+    (subst (λ (u : LinkReceiverState). IsChannel u.link) c.self.view_is c.self.invariant) (omega (arith, ap (λ (u : LinkReceiverState). u.link.spacecraft) c.self.view_is))
     c.read_frame-whole.ensures.all c.read_frame-whole.ensures.front
