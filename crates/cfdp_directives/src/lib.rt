@@ -44,4 +44,4 @@ pub use user::indication::Indication;
 pub use user::limits::{Limits, Times};
 pub use user::phase::Phase;
 pub use user::policy::Policy;
-pub use user::telling::{Outcome, another_try, tell, tell_fault};
+pub use user::telling::{Outcome, another_try, indicate, indicate_fault};

@@ -11,8 +11,8 @@ ghost use Rattle.cfdp_receiver.specs.Does.{Advances, IsOpen, LetsGo, Performs, t
 use crate::receiver::Receiver;
 use crate::state::{Ending, FileInfo, ReceiverPhase};
 use cfdp_directives::{
-    Checksum, ChecksumKind, Condition, Delivery, FileStatus, Handler, Indication, Outcome, tell,
-    tell_fault,
+    Checksum, ChecksumKind, Condition, Delivery, FileStatus, Handler, Indication, Outcome,
+    indicate, indicate_fault,
 };
 use cfdp_header::TransactionId;
 use cfdp_store::{Inbox, Stored};
@@ -85,7 +85,7 @@ impl Receiver {
         ensures lets_go { LetsGo I.Inbox self.old.addressing.id inbox.old inbox.new }
     {
         self.discard(inbox);
-        tell_fault(told, Handler::Cancel, self.addressing.id, condition);
+        indicate_fault(told, Handler::Cancel, self.addressing.id, condition);
         self.finish(
             told,
             condition,
@@ -162,7 +162,7 @@ pub(crate) fn tell_finished(
         (record { condition = condition; delivery = delivery; status = status }) ∷ [] }
     ensures told_room { UsesAtMost 1 told.old told.new }
 {
-    tell(
+    indicate(
         told,
         Indication::Finished {
             id,

@@ -24,8 +24,8 @@ use crate::receiver::Receiver;
 use crate::staging::stage;
 use crate::state::{Ending, FileInfo, ReceiverPhase};
 use cfdp_directives::{
-    ChecksumKind, Condition, Delivery, FileStatus, Indication, Octets, Outcome, Policy, size_limit,
-    tell,
+    ChecksumKind, Condition, Delivery, FileStatus, Indication, Octets, Outcome, Policy, indicate,
+    size_limit,
 };
 use cfdp_store::{Inbox, Stored};
 use cfdp_timers::{Effects, Kind, Timers};
@@ -66,7 +66,7 @@ impl Receiver {
         let source = Octets::copied(self.alloc, metadata.source)?;
         let destination = Octets::copied(self.alloc, metadata.destination)?;
         let name = Octets::copied(self.alloc, metadata.destination)?;
-        tell(
+        indicate(
             &mut effects.told,
             Indication::MetadataRecv {
                 id: self.addressing.id,
@@ -300,7 +300,7 @@ impl Receiver {
             (first_eof result large ending.checksum ending.size)
             self.old self.new effects.old effects.new inbox.old inbox.new }
     {
-        tell(&mut effects.told, Indication::EofRecv(self.addressing.id));
+        indicate(&mut effects.told, Indication::EofRecv(self.addressing.id));
         self.ack_due = Some(Condition::NO_ERROR);
         if self.contradicts(large, ending.size) {
             self.fault(&mut effects.told, inbox, Condition::FILE_SIZE_ERROR);

@@ -13,7 +13,8 @@ ghost use Rattle.cfdp_receiver.specs.Storing.{Settles};
 use crate::receiver::Receiver;
 use crate::state::ReceiverPhase;
 use cfdp_directives::{
-    Condition, Delivery, FileStatus, Handler, Indication, Policy, another_try, tell, tell_fault,
+    Condition, Delivery, FileStatus, Handler, Indication, Policy, another_try, indicate,
+    indicate_fault,
 };
 use cfdp_store::{Inbox, Stored};
 use cfdp_timers::{Effects, Kind};
@@ -36,17 +37,17 @@ impl Receiver {
         match handler {
             Handler::Cancel => self.fault(told, inbox, condition),
             Handler::Suspend => {
-                tell_fault(told, Handler::Suspend, self.addressing.id, condition);
+                indicate_fault(told, Handler::Suspend, self.addressing.id, condition);
                 self.suspended = true;
             }
             Handler::Ignore => {
-                tell_fault(told, Handler::Ignore, self.addressing.id, condition);
+                indicate_fault(told, Handler::Ignore, self.addressing.id, condition);
                 self.nak_count = 0;
                 self.finished_count = 0;
             }
             Handler::Abandon => {
                 self.discard(inbox);
-                tell_fault(told, Handler::Abandon, self.addressing.id, condition);
+                indicate_fault(told, Handler::Abandon, self.addressing.id, condition);
                 self.end(ReceiverPhase::Closed);
             }
         }
@@ -86,7 +87,7 @@ impl Receiver {
             }
             None => {
                 let condition = Condition::POSITIVE_ACK_LIMIT;
-                tell_fault(told, Handler::Abandon, self.addressing.id, condition);
+                indicate_fault(told, Handler::Abandon, self.addressing.id, condition);
                 self.end(ReceiverPhase::Closed);
             }
         }
@@ -160,7 +161,7 @@ impl Receiver {
     {
         if self.phase == ReceiverPhase::Receiving && !self.suspended {
             self.suspended = true;
-            tell(
+            indicate(
                 &mut effects.told,
                 Indication::Suspended(self.addressing.id, Condition::SUSPEND_REQUEST),
             );
@@ -180,7 +181,7 @@ impl Receiver {
             self.suspended = false;
             self.nak_count = 0;
             self.finished_count = 0;
-            tell(&mut effects.told, Indication::Resumed(self.addressing.id));
+            indicate(&mut effects.told, Indication::Resumed(self.addressing.id));
         }
         self.set_timers(&mut effects.timers, policy, None);
     }

@@ -6,7 +6,7 @@ ghost use Rattle.cfdp_sender.specs.Does.{HasTimers, Does};
 
 use crate::phase::SenderPhase;
 use crate::sender::Sender;
-use cfdp_directives::{Condition, Indication, Policy, tell};
+use cfdp_directives::{Condition, Indication, Policy, indicate};
 use cfdp_timers::Effects;
 
 impl Sender {
@@ -41,7 +41,7 @@ impl Sender {
             self.suspended = true;
             let id = self.addressing.id;
             let suspended = Indication::Suspended(id, Condition::SUSPEND_REQUEST);
-            tell(&mut effects.told, suspended);
+            indicate(&mut effects.told, suspended);
         }
         self.set_timers(None, &mut effects.timers, &policy.times);
     }
@@ -58,7 +58,7 @@ impl Sender {
         if self.phase == SenderPhase::Sending && self.suspended {
             self.suspended = false;
             self.count = 0;
-            tell(&mut effects.told, Indication::Resumed(self.addressing.id));
+            indicate(&mut effects.told, Indication::Resumed(self.addressing.id));
         }
         self.set_timers(None, &mut effects.timers, &policy.times);
     }

@@ -7,7 +7,7 @@ ghost use Rattle.cfdp_sender.specs.Does.{Leaves, Does};
 
 use crate::phase::SenderPhase;
 use crate::sender::Sender;
-use cfdp_directives::{Condition, Handler, Indication, Policy, another_try, tell_fault};
+use cfdp_directives::{Condition, Handler, Indication, Policy, another_try, indicate_fault};
 use cfdp_timers::{Effects, Kind};
 
 impl Sender {
@@ -66,7 +66,7 @@ impl Sender {
         ensures told_room { UsesAtMost 2 told.old told.new }
     {
         let condition = Condition::POSITIVE_ACK_LIMIT;
-        tell_fault(told, handler, self.addressing.id, condition);
+        indicate_fault(told, handler, self.addressing.id, condition);
         match handler {
             Handler::Cancel => self.enter_cancelling(condition),
             Handler::Suspend => self.suspended = true,
@@ -85,7 +85,7 @@ impl Sender {
         ensures told_room { UsesAtMost 2 told.old told.new }
     {
         let condition = Condition::INACTIVITY;
-        tell_fault(told, handler, self.addressing.id, condition);
+        indicate_fault(told, handler, self.addressing.id, condition);
         match handler {
             Handler::Cancel => self.enter_cancelling(condition),
             Handler::Suspend => self.suspended = true,

@@ -7,7 +7,7 @@ ghost use Rattle.cfdp_sender.specs.Does.{HasTimers, Leaves, Does, AsksSome};
 
 use crate::phase::SenderPhase;
 use crate::sender::Sender;
-use cfdp_directives::{Condition, Indication, Outcome, Policy, SegmentRequests, tell};
+use cfdp_directives::{Condition, Indication, Outcome, Policy, SegmentRequests, indicate};
 use cfdp_timers::{Effects, Kind};
 use std::alloc::AllocError;
 
@@ -40,7 +40,7 @@ impl Sender {
             }
             SenderPhase::Cancelling => {
                 if condition == self.condition {
-                    tell(told, self.cancelled().indication(self.addressing.id));
+                    indicate(told, self.cancelled().indication(self.addressing.id));
                     self.close();
                 }
             }
@@ -79,9 +79,9 @@ impl Sender {
             ≡ told.old.items ++ steps.end_told self.now.phase outcome.now self.now }
     {
         match self.phase {
-            SenderPhase::Sending => tell(told, outcome.indication(self.addressing.id)),
+            SenderPhase::Sending => indicate(told, outcome.indication(self.addressing.id)),
             SenderPhase::Cancelling => {
-                tell(told, self.cancelled().indication(self.addressing.id));
+                indicate(told, self.cancelled().indication(self.addressing.id));
             }
             SenderPhase::Closed => {}
         }
@@ -97,7 +97,7 @@ impl Sender {
             self.new effects.old effects.new }
     {
         if self.phase == SenderPhase::Sending {
-            tell(
+            indicate(
                 &mut effects.told,
                 Indication::Progress(self.addressing.id, progress),
             );

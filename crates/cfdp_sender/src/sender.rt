@@ -15,7 +15,7 @@ use crate::phase::SenderPhase;
 use crate::transfer::Transfer;
 use cfdp_directives::{
     Addressing, Checksum, ChecksumKind, Condition, Delivery, FileStatus, Indication, Outcome,
-    Phase, Times, tell,
+    Phase, Times, indicate,
 };
 use cfdp_extents::Extents;
 use cfdp_header::TransactionId;
@@ -98,7 +98,7 @@ impl Sender {
     {
         let id = transfer.addressing.id;
         effects.timers.room(id)?;
-        tell(&mut effects.told, Indication::Transaction(id));
+        indicate(&mut effects.told, Indication::Transaction(id));
         Ok(Sender {
             addressing: transfer.addressing,
             checksum_kind: transfer.checksum_kind,

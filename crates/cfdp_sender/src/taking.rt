@@ -22,7 +22,7 @@ use crate::due::SenderDue;
 use crate::phase::SenderPhase;
 use crate::sender::Sender;
 use crate::taken::Taken;
-use cfdp_directives::{Condition, Handler, Indication, Policy, tell, tell_fault};
+use cfdp_directives::{Condition, Handler, Indication, Policy, indicate, indicate_fault};
 use cfdp_store::{Outbox, StoreError};
 use cfdp_timers::{Effects, Kind};
 
@@ -157,7 +157,7 @@ impl Sender {
             told.new }
     {
         let condition = Condition::FILESTORE_REJECTION;
-        tell_fault(told, Handler::Cancel, self.addressing.id, condition);
+        indicate_fault(told, Handler::Cancel, self.addressing.id, condition);
         self.enter_cancelling(condition);
     }
 
@@ -200,7 +200,7 @@ impl Sender {
             told.new }
     {
         if self.phase == SenderPhase::Sending && !self.eof_taken {
-            tell(told, Indication::EofSent(self.addressing.id));
+            indicate(told, Indication::EofSent(self.addressing.id));
         }
         self.eof_due = false;
         self.eof_taken = true;

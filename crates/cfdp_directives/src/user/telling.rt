@@ -34,7 +34,7 @@ impl Outcome {
 }
 
 /// Adds an indication to those told. Takes no memory: the caller made room for it.
-pub fn tell(told: &mut Vec<Indication>, indication: Indication)
+pub fn indicate(told: &mut Vec<Indication>, indication: Indication)
     requires { vec_len told.old < vec_capacity told.old }
     ensures tells { told.new.items ≡ told.old.items ++ indication ∷ [] }
     ensures len { vec_len told.new ≡ vec_len told.old + 1 }
@@ -43,9 +43,9 @@ pub fn tell(told: &mut Vec<Indication>, indication: Indication)
     let _ = told.push(indication);
 }
 
-/// Tells a fault, and what the handler does about it: that the transaction is suspended, or
+/// Indicates a fault, and what the handler does about it: that the transaction is suspended, or
 /// abandoned. Takes no memory: the caller made room for two indications.
-pub fn tell_fault(
+pub fn indicate_fault(
     told: &mut Vec<Indication>,
     handler: Handler,
     id: TransactionId,
@@ -56,10 +56,10 @@ pub fn tell_fault(
     ensures len { vec_len told.new ≡ vec_len told.old + length (fault_told handler id condition) }
     ensures room { vec_capacity told.old ≤ vec_capacity told.new }
 {
-    tell(told, Indication::Fault(id, condition));
+    indicate(told, Indication::Fault(id, condition));
     match handler {
-        Handler::Suspend => tell(told, Indication::Suspended(id, condition)),
-        Handler::Abandon => tell(told, Indication::Abandoned(id, condition)),
+        Handler::Suspend => indicate(told, Indication::Suspended(id, condition)),
+        Handler::Abandon => indicate(told, Indication::Abandoned(id, condition)),
         Handler::Cancel | Handler::Ignore => {}
     }
 }

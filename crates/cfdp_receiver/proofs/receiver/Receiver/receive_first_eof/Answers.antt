@@ -8,7 +8,7 @@ returns g c = record {
   advances = record {
     does = first_eof_does c.complete.result c.args.large c.args.ending.checksum c.args.ending.size _ _
         (at g.I.Inbox c.args.self.now c.args.effects.now c.args.inbox.now) (at g.I.Inbox c.complete.new.self c.complete.new.effects c.complete.new.inbox)
-        c.self.view_is (sym c.contradicts.ensures.value ∙ c.if-contradicts.false) c.tell.ensures.tells c.complete.ensures.advances.does;
+        c.self.view_is (sym c.contradicts.ensures.value ∙ c.if-contradicts.false) c.indicate.ensures.tells c.complete.ensures.advances.does;
     kept = search rules;
     calls = search rules;
   };
