@@ -279,7 +279,7 @@ typedef struct cfdp_pdu_drops {
     uint64_t no_file;         /* a file name of it is empty */
 } cfdp_pdu_drops;
 
-/* How many PDUs were sent, each counted once. */
+/* How many PDUs were sent, each counted once: as it is polled, before its frames leave. */
 typedef struct cfdp_sent_pdus {
     uint64_t file_data;        /* file data that were not sent before */
     uint64_t file_data_again;  /* those that were, and again since a NAK asked for them */
