@@ -321,7 +321,7 @@ class Bindings:
             ids = ["--id", "2", "--peer", "1", "--inbox", folder, "--idle", "4"]
             settings = stations.PATIENT.items()
             sets = [it for key, value in settings for it in ("--set", key, str(value))]
-            node = [self.program, "station", *ids, *words, *sets]
+            node = [self.program, "station", "--no-time", *ids, *words, *sets]
             with subprocess.Popen(node, stdout=subprocess.PIPE, stderr=subprocess.STDOUT) as peer:
                 yield from run_mistakes([made, "udp", str(ports[0]), str(ports[1]), str(octets)])
                 told = peer.communicate(timeout=SECONDS)[0].decode()

@@ -122,7 +122,9 @@ def change_mistakes(program, change):
         if "1 finished 1:8 0 complete retained\n" not in out:
             yield f"the second file isn't complete: {out!r}"
         status, out, err = receiver.ended()
-        if status or stations.unheard(err) or "2 finished 1:7 4 incomplete discarded\n" not in out:
+        # A file that didn't come whole shows in its status.
+        is_told = "2 finished 1:7 4 incomplete discarded\n" in out
+        if status != 1 or stations.unheard(err) or not is_told:
             yield f"the receiver: status {status}, {out!r}, {err!r}"
         if stations.files_at(link.folder, 2) != {"b": b"hello"}:
             yield f"in its folder lies {stations.files_at(link.folder, 2).keys()}"
@@ -214,7 +216,7 @@ def again_mistakes(program):
         receiver = link.starts(2, ["--inbox", "to", "--rate", "0"], settings)
         files = link.puts(1, {"a": b"before", "x": b""})
         words = [*files[:2], "--put", "a", "first", *["--put", "x", "x"] * 3071]
-        words += ["--put", "a", "second", "--put", "late", "late", "--rate", "0"]
+        words += ["--put", "a", "second", "--put", "late", "late", "--rate", "0", "--at-once", "3072"]
         how = {"preexec_fn": stations.many_words}
         sender = link.starts(1, words, settings, waits=False, **how)
         for number in (1, 2):

@@ -397,7 +397,8 @@ def place_mistakes(program):
             yield f"it left {left()} beside the folders, {ended}"
         plain = ["--inbox", "to", "--idle", "1"]
         yield from idle_mistakes(link.starts(1, plain, faults="denied=to.state"))
-        yield from idle_mistakes(link.starts(1, plain, faults="disk=0"))
+        full = link.starts(1, plain, faults="disk=0")
+        yield from refused_mistakes(full, "to: no space left on the device")
         with contextlib.suppress(FileNotFoundError):
             os.remove(f"{folder}/to.state")
         os.mkdir(f"{folder}/to.state")
@@ -439,7 +440,8 @@ def many_mistakes(program):
                 yield f"{count} puts from number {begun[:1]} on, reserved below {behind}"
     with Link(program) as link:
         once = {"number_width": 1, "eof_time": 1, "eof_limit": 0}
-        words = link.puts(1, {"a": b"hello"}) + ["--put", "a", "a"] * 84 + ["--idle", "1"]
+        words = link.puts(1, {"a": b"hello"}) + ["--put", "a", "a"] * 84
+        words += ["--idle", "1", "--at-once", "3072"]
         texts = [link.starts(1, words, once).ended(30)[1] for _ in range(4)]
         used = [int(it) for it in re.findall(r"transaction 1:(\d+)", "".join(texts))]
         if used != list(range(1, 256)) or texts[3].count(" NumbersSpent\n") != 85:
@@ -670,10 +672,10 @@ def misfit_mistakes(program, key, values, word):
 MISFITS = (
     ("zone", (256, 512), "zone"),
     ("spacecraft", (42, 43), "spacecraft"),
-    ("peer_channel", (5, 9), "channel"),
-    ("peer_data_channel", (7, 11), "channel"),
+    ("peer_virtual_channel", (5, 9), "channel"),
+    ("peer_data_virtual_channel", (7, 11), "channel"),
     ("peer_apid", (100, 77), "APID"),
-    ("channel", (6, 10), "channel"),
+    ("virtual_channel", (6, 10), "channel"),
     ("apid", (101, 66), "APID"),
     ("id", (2, 3), "id"),
 )

@@ -62,7 +62,8 @@ class Station:
         addresses = ["--listen", f"127.0.0.1:{ports[own]}", "--to", f"127.0.0.1:{ports[peer]}"]
         sets = [word for key, value in settings.items() for word in ("--set", key, str(value))]
         ids = ["--id", str(own), "--peer", str(peer)]
-        whole = [program.path, "station", *ids, *addresses, *sets, *words]
+        plain = [] if {"--no-time", "--json"} & {*words} else ["--no-time"]
+        whole = [program.path, "station", *ids, *addresses, *sets, *words, *plain]
         how = {"cwd": f"{folder}/{own}", "env": {"PATH": "/usr/bin:/bin"}}
         pipes = {"stdout": subprocess.PIPE, "stderr": subprocess.PIPE}
         with ALONE:
@@ -177,7 +178,8 @@ def restart_mistakes(program):
             yield f"the new station: status {status}, {out[-300:]!r}, {err[-300:]!r}"
         status, out, err = receiver.ended()
         begun = re.search(r"2 metadata (1:\d+) first first 1048576\n", out)
-        if status or unheard(err) or not begun or not out.endswith("complete 0 of 0\n"):
+        # The first file didn't come whole, which shows in the status.
+        if status != 1 or unheard(err) or not begun or not out.endswith("complete 0 of 0\n"):
             yield f"the receiver: status {status}, {out[-300:]!r}, {err[-300:]!r}"
         elif not re.search(rf"2 (fault|abandoned) {begun[1]} ", out):
             yield f"the receiver told no fault of the first file: {out!r}"
@@ -214,7 +216,7 @@ def address_mistakes(program):
 
 def refused_mistakes(program, inbox, name, wanted):
     """What is wrong where a file comes under this name to a station with these words for its inbox,
-    which can't take it, and is to tell that on standard error."""
+    which can't take it, and is to tell that on standard error, in a line of this pattern."""
     with tempfile.TemporaryDirectory(dir=program.room) as folder:
         ports = dict(zip((1, 2), free_ports(2)))
         put(folder, 1, "a", b"hello")
@@ -225,7 +227,8 @@ def refused_mistakes(program, inbox, name, wanted):
         if status != 1 or unheard(err) or not out.endswith("complete 0 of 1\n"):
             yield f"the sender: status {status}, {out!r}, {err!r}"
         status, out, err = receiver.ended()
-        if status != 3 or unheard(err) != wanted or not re.search(r"2 fault 1:\d+ 4\n", out):
+        is_told = re.fullmatch(wanted, unheard(err))
+        if status != 3 or not is_told or not re.search(r"2 fault 1:\d+ 4\n", out):
             yield f"the receiver: status {status}, {out!r}, {err!r}"
         if files_at(folder, 2):
             yield f"it left {sorted(files_at(folder, 2))}"
@@ -417,7 +420,8 @@ def all_mistakes(program):
     yield "an address in use", address_mistakes(program)
     no_inbox = "error: a file came, and there is no --inbox\n"
     yield "a file for which there is no folder", refused_mistakes(program, [], "b", no_inbox)
-    inbox, no_name = ["--inbox", "to"], "error: to/a/b: a file can't have that name here\n"
+    no_name = r"error: to/a/b: a file can't have that name here \(transaction 1:\d+\)\n"
+    inbox = ["--inbox", "to"]
     yield "a name that no folder takes", refused_mistakes(program, inbox, "a/b", no_name)
     yield "a report and a line on one terminal", terminal_mistakes(program)
     yield "a put that finds no memory", memory_mistakes(program)

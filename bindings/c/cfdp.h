@@ -80,12 +80,12 @@ enum {
     CFDP_BAD_FINISHED_TIME = 79,
     CFDP_BAD_INACTIVITY_TIME = 80,
     CFDP_BAD_CAPACITY = 81,
-    CFDP_BAD_SENDS_CHANNEL = 82,
-    CFDP_BAD_SENDS_DATA_CHANNEL = 83, /* also where it is that of directives */
+    CFDP_BAD_SENDS_VIRTUAL_CHANNEL = 82,
+    CFDP_BAD_SENDS_DATA_VIRTUAL_CHANNEL = 83, /* also where it is that of directives */
     CFDP_BAD_SENDS_ZONE = 84,
     CFDP_BAD_SENDS_APID = 85,
-    CFDP_BAD_RECEIVES_CHANNEL = 86,
-    CFDP_BAD_RECEIVES_DATA_CHANNEL = 87,
+    CFDP_BAD_RECEIVES_VIRTUAL_CHANNEL = 86,
+    CFDP_BAD_RECEIVES_DATA_VIRTUAL_CHANNEL = 87,
     CFDP_BAD_RECEIVES_ZONE = 88,
     CFDP_BAD_RECEIVES_APID = 89,
     CFDP_BAD_ON_ACK_LIMIT = 90,
@@ -104,8 +104,8 @@ typedef struct cfdp_link {
     uint16_t zone;        /* octets of the packet zone, 16 to 2040; a frame has 8 more */
     uint16_t apid;        /* application process of the packets, 0 to 2046 */
     uint8_t spacecraft;   /* spacecraft of the frames */
-    uint8_t channel;      /* virtual channel of directives, 0 to 62 */
-    uint8_t data_channel; /* virtual channel of file data, 0 to 62, another than channel */
+    uint8_t virtual_channel;      /* that of directives, 0 to 62 */
+    uint8_t data_virtual_channel; /* that of file data, 0 to 62, another than virtual_channel */
 } cfdp_link;
 
 typedef struct cfdp_config {
@@ -432,14 +432,14 @@ static inline const char *cfdp_answer_text(cfdp_answer answer)
     case CFDP_BAD_FINISHED_TIME: return "finished_time is 0";
     case CFDP_BAD_INACTIVITY_TIME: return "inactivity_time is 0";
     case CFDP_BAD_CAPACITY: return "capacity is not 8192 to 65536";
-    case CFDP_BAD_SENDS_CHANNEL: return "sends.channel is not 0 to 62";
-    case CFDP_BAD_SENDS_DATA_CHANNEL:
-        return "sends.data_channel is not 0 to 62, or is sends.channel";
+    case CFDP_BAD_SENDS_VIRTUAL_CHANNEL: return "sends.virtual_channel is not 0 to 62";
+    case CFDP_BAD_SENDS_DATA_VIRTUAL_CHANNEL:
+        return "sends.data_virtual_channel is not 0 to 62, or is sends.virtual_channel";
     case CFDP_BAD_SENDS_ZONE: return "sends.zone is not 16 to 2040";
     case CFDP_BAD_SENDS_APID: return "sends.apid is not 0 to 2046";
-    case CFDP_BAD_RECEIVES_CHANNEL: return "receives.channel is not 0 to 62";
-    case CFDP_BAD_RECEIVES_DATA_CHANNEL:
-        return "receives.data_channel is not 0 to 62, or is receives.channel";
+    case CFDP_BAD_RECEIVES_VIRTUAL_CHANNEL: return "receives.virtual_channel is not 0 to 62";
+    case CFDP_BAD_RECEIVES_DATA_VIRTUAL_CHANNEL:
+        return "receives.data_virtual_channel is not 0 to 62, or is receives.virtual_channel";
     case CFDP_BAD_RECEIVES_ZONE: return "receives.zone is not 16 to 2040";
     case CFDP_BAD_RECEIVES_APID: return "receives.apid is not 0 to 2046";
     case CFDP_BAD_ON_ACK_LIMIT: return "on_ack_limit is not 0 to 3";

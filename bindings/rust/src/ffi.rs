@@ -9,15 +9,16 @@ pub const OK: u32 = 0;
 pub const NOTHING: u32 = 6;
 pub const FULL: u32 = 41;
 
-/// One direction of a link. Directives go on `channel`, file data on `data_channel`.
+/// One direction of a link. Directives go on `virtual_channel`, file data on
+/// `data_virtual_channel`.
 #[repr(C)]
 #[derive(Clone, Copy, Debug, Default, PartialEq, Eq)]
 pub struct Link {
     pub zone: u16,
     pub apid: u16,
     pub spacecraft: u8,
-    pub channel: u8,
-    pub data_channel: u8,
+    pub virtual_channel: u8,
+    pub data_virtual_channel: u8,
 }
 
 /// How a station is set up; `cfdp.h` has the ranges.

@@ -134,7 +134,8 @@ impl Station {
     }
 
     /// Moves the PDU whose turn it is into the frames of its lane: file data into those of
-    /// [`Link::data_channel`], all other PDUs, the directives, into those of [`Link::channel`].
+    /// [`Link::data_virtual_channel`], all other PDUs, the directives, into those of
+    /// [`Link::virtual_channel`].
     pub fn poll(&mut self) -> Result<Polled, Error> {
         match self.handle.poll() {
             ffi::OK => Ok(Polled::Moved),

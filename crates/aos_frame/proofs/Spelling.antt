@@ -34,7 +34,7 @@ signals false count few =
 
 pub length-header_octets : (h : FrameHeader) → length (header_octets h) ≡ 6
 length-header_octets h =
-    let n : ℕ = 16384 + 64 * h.spacecraft + h.channel in
+    let n : ℕ = 16384 + 64 * h.spacecraft + h.virtual_channel in
     let k : ℕ = h.count % short_counts in
     let s : ℕ = signaling h.cycle h.count in
     let a = length-octets 2 n in
@@ -42,10 +42,10 @@ length-header_octets h =
     let d = length-octets 1 s in
     omega (arith, length-append (octets 2 n) (octets 3 k), length-append (octets 2 n ++ octets 3 k) (octets 1 s))
 
-pub written_frame_is_read : (c : ChannelConfig) (h : FrameHeader) (rest : List ℕ) → FitsHeader h → h.spacecraft ≡ c.spacecraft → h.channel ≡ c.channel →
+pub written_frame_is_read : (c : ChannelConfig) (h : FrameHeader) (rest : List ℕ) → FitsHeader h → h.spacecraft ≡ c.spacecraft → h.virtual_channel ≡ c.virtual_channel →
     length rest ≡ 2 + c.zone → SpellsFrame c h (frame_octets h rest) × (drop 6 (frame_octets h rest) ≡ rest)
 written_frame_is_read c h rest fits ours here long =
-    let n : ℕ = 16384 + 64 * h.spacecraft + h.channel in
+    let n : ℕ = 16384 + 64 * h.spacecraft + h.virtual_channel in
     let k : ℕ = h.count % short_counts in
     let s : ℕ = signaling h.cycle h.count in
     let text : List ℕ = octets 2 n ++ (octets 3 k ++ (octets 1 s ++ rest)) in
@@ -56,7 +56,7 @@ written_frame_is_read c h rest fits ours here long =
     let ab = length-append (octets 2 n) (octets 3 k) in
     let size : length text ≡ 6 + length rest = ap length (sym grouped) ∙ length-append (header_octets h) rest ∙ ap (λ k. k + length rest) six in
     let craft = fits.spacecraft in
-    let v = fits.channel in
+    let v = fits.virtual_channel in
     let told : Signals h.cycle h.count = signals h.cycle h.count fits.count in
     let below : s < 128 = told.below in
     let bits : s / 16 % 4 ≡ 0 = told.two_bits in
@@ -71,7 +71,7 @@ written_frame_is_read c h rest fits ours here long =
         size = omega arith;
         version = omega (arith, first 0 2 (omega arith));
         spacecraft = omega (arith, first 2 8 (omega arith));
-        channel = omega (arith, first 10 6 (omega arith));
+        virtual_channel = omega (arith, first 10 6 (omega arith));
         count = told.all text lower upper;
         not_replayed = omega (arith, last 40 0 1 (omega arith) (omega arith));
         cycle = ap (λ n. n == 1) (last 41 1 1 (omega arith) (omega arith)) ∙ told.told;

@@ -22,16 +22,16 @@ frame_len c = 6 + 2 + c.zone
 
 -- A channel that can be: its frames carry packets, none of which is idle.
 pub record IsChannel (c : ChannelConfig) : Type 0 where
-  pub channel : c.channel < idle_channel
+  pub virtual_channel : c.virtual_channel < idle_channel
   pub least_zone : 16 ≤ c.zone
   pub most_zone : c.zone ≤ 2040
   pub apid : c.apid ≤ 2046
 
 -- A link that can be: its two channels can, and are two.
 pub record IsLink (link : LinkConfig) : Type 0 where
-  pub channel : link.channel < idle_channel
-  pub data_channel : link.data_channel < idle_channel
-  pub apart : link.data_channel ≢ link.channel
+  pub virtual_channel : link.virtual_channel < idle_channel
+  pub data_virtual_channel : link.data_virtual_channel < idle_channel
+  pub apart : link.data_virtual_channel ≢ link.virtual_channel
   pub least_zone : 16 ≤ link.zone
   pub most_zone : link.zone ≤ 2040
   pub apid : link.apid ≤ 2046
@@ -43,14 +43,14 @@ other_lane Data = Directives
 
 -- the virtual channel of a lane
 abbrev pub channel_of : Lane → LinkConfig → ℕ
-channel_of Directives link = link.channel
-channel_of Data link = link.data_channel
+channel_of Directives link = link.virtual_channel
+channel_of Data link = link.data_virtual_channel
 
 -- one lane of a link: a channel of its own, and all else as the link has it
 abbrev pub lane_channel : Lane → LinkConfig → ChannelConfig
 lane_channel lane link = record {
   spacecraft = link.spacecraft;
-  channel = channel_of lane link;
+  virtual_channel = channel_of lane link;
   zone = link.zone;
   apid = link.apid;
 }
@@ -58,7 +58,7 @@ lane_channel lane link = record {
 -- Two channels are the lanes of one link: they differ, and in nothing else.
 pub record AreLanes (one other : ChannelConfig) : Type 0 where
   pub spacecraft : other.spacecraft ≡ one.spacecraft
-  pub channel : other.channel ≢ one.channel
+  pub virtual_channel : other.virtual_channel ≢ one.virtual_channel
   pub zone : other.zone ≡ one.zone
   pub apid : other.apid ≡ one.apid
 
@@ -84,7 +84,7 @@ pub record SpellsFrame (c : ChannelConfig) (h : FrameHeader) (text : List ℕ) :
   pub version : field text 0 2 ≡ 1
   pub spacecraft : field text 2 8 ≡ h.spacecraft
   -- 4.1.2.3, the virtual channel identifier
-  pub channel : field text 10 6 ≡ h.channel
+  pub virtual_channel : field text 10 6 ≡ h.virtual_channel
   -- 4.1.2.4, the virtual channel frame count
   pub count : count_in h.cycle text ≡ h.count
   -- 4.1.2.5, the signaling field: no replay, the usage flag, and the two bits behind it
@@ -93,8 +93,8 @@ pub record SpellsFrame (c : ChannelConfig) (h : FrameHeader) (text : List ℕ) :
   pub two_bits : field text 42 2 ≡ 0
   -- it is one of this channel's
   pub our_spacecraft : h.spacecraft ≡ c.spacecraft
-  pub our_channel : h.channel ≡ c.channel
-  pub carries_packets : h.channel < idle_channel
+  pub our_channel : h.virtual_channel ≡ c.virtual_channel
+  pub carries_packets : h.virtual_channel < idle_channel
 
 -- what is wrong with octets that are no frame of the channel: the first cause in this order, or
 -- none
@@ -106,14 +106,14 @@ frame_fault text c =
     else if not (field text 42 2 == 0) then Some OtherProfile
     else if not (field text 2 8 == c.spacecraft) then Some OtherSpacecraft
     else if field text 10 6 == idle_channel then Some OnlyIdle
-    else if not (field text 10 6 == c.channel) then Some OtherChannel
+    else if not (field text 10 6 == c.virtual_channel) then Some OtherChannel
     else None
 
 -- the channel that the header of a frame names, its packet zones of so many octets
 abbrev pub own_channel : List ℕ → ℕ → ChannelConfig
 own_channel text zone = record {
   spacecraft = field text 2 8;
-  channel = field text 10 6;
+  virtual_channel = field text 10 6;
   zone = zone;
   apid = 0;
 }
@@ -121,7 +121,7 @@ own_channel text zone = record {
 -- the header can be written: each part fits its field, and its frame isn't for idle data only
 pub record FitsHeader (h : FrameHeader) : Type 0 where
   pub spacecraft : h.spacecraft < 256
-  pub channel : h.channel < idle_channel
+  pub virtual_channel : h.virtual_channel < idle_channel
   pub count : h.count < counts_of h.cycle
 
 -- the written signaling field: the usage flag with the upper 4 bits of the count, or neither
@@ -132,7 +132,7 @@ signaling false count = 0
 -- the written spelling of a header
 abbrev pub header_octets : FrameHeader → List ℕ
 header_octets h =
-    octets 2 (16384 + 64 * h.spacecraft + h.channel) ++ octets 3 (h.count % short_counts)
+    octets 2 (16384 + 64 * h.spacecraft + h.virtual_channel) ++ octets 3 (h.count % short_counts)
     ++ octets 1 (signaling h.cycle h.count)
 
 -- the written spelling of a frame, from the M_PDU header and the packet zone

@@ -46,10 +46,10 @@ pub struct LinkConfig {
     /// The spacecraft identifier of the frames, 0 to 255.
     pub spacecraft: u8,
     /// The virtual channel identifier of the frames that carry directives, 0 to 62.
-    pub channel: u8,
+    pub virtual_channel: u8,
     /// The virtual channel identifier of the frames that carry file data, 0 to 62: another than
-    /// `channel`.
-    pub data_channel: u8,
+    /// `virtual_channel`.
+    pub data_virtual_channel: u8,
     /// Octets of the packet zone, 16 to 2,040. A frame has 8 octets more.
     pub zone: u16,
     /// The application process identifier of the packets, 0 to 2,046; 2,047 is that of idle
@@ -63,7 +63,7 @@ pub struct ChannelConfig {
     /// The spacecraft identifier of the frames, 0 to 255.
     pub spacecraft: u8,
     /// The virtual channel identifier, 0 to 62.
-    pub channel: u8,
+    pub virtual_channel: u8,
     /// Octets of the packet zone, 16 to 2,040. A frame has 8 octets more.
     pub zone: u16,
     /// The application process identifier of the packets, 0 to 2,046.
@@ -75,10 +75,10 @@ pub struct ChannelConfig {
 pub enum LinkField {
     /// The virtual channel, in a link that of directives.
     #[error("the virtual channel is not 0 to 62")]
-    Channel,
+    VirtualChannel,
     /// The virtual channel of file data.
     #[error("the virtual channel of file data is not 0 to 62, or is that of directives")]
-    DataChannel,
+    DataVirtualChannel,
     /// The octets of the packet zone.
     #[error("the packet zone does not have 16 to 2040 octets")]
     Zone,
@@ -95,10 +95,12 @@ impl Config for LinkConfig {
     ghost Fits = { FitsLink };
 
     fn amiss(&self) -> Option<LinkField> {
-        if IDLE_CHANNEL <= self.channel {
-            Some(LinkField::Channel)
-        } else if IDLE_CHANNEL <= self.data_channel || self.data_channel == self.channel {
-            Some(LinkField::DataChannel)
+        if IDLE_CHANNEL <= self.virtual_channel {
+            Some(LinkField::VirtualChannel)
+        } else if IDLE_CHANNEL <= self.data_virtual_channel
+            || self.data_virtual_channel == self.virtual_channel
+        {
+            Some(LinkField::DataVirtualChannel)
         } else if !(LEAST_ZONE..=MOST_ZONE).contains(&self.zone) {
             Some(LinkField::Zone)
         } else if MOST_APID < self.apid {
@@ -117,8 +119,8 @@ impl Config for ChannelConfig {
     ghost Fits = { FitsChannel };
 
     fn amiss(&self) -> Option<LinkField> {
-        if IDLE_CHANNEL <= self.channel {
-            Some(LinkField::Channel)
+        if IDLE_CHANNEL <= self.virtual_channel {
+            Some(LinkField::VirtualChannel)
         } else if !(LEAST_ZONE..=MOST_ZONE).contains(&self.zone) {
             Some(LinkField::Zone)
         } else if MOST_APID < self.apid {
@@ -138,9 +140,9 @@ impl LinkConfig {
     {
         ChannelConfig {
             spacecraft: self.spacecraft,
-            channel: match lane {
-                Lane::Directives => self.channel,
-                Lane::Data => self.data_channel,
+            virtual_channel: match lane {
+                Lane::Directives => self.virtual_channel,
+                Lane::Data => self.data_virtual_channel,
             },
             zone: self.zone,
             apid: self.apid,

@@ -25,7 +25,7 @@ pub struct FrameHeader {
     pub spacecraft: u8,
     /// The virtual channel identifier, 0 to 62. Frames of [`IDLE_CHANNEL`] are neither written nor
     /// read.
-    pub channel: u8,
+    pub virtual_channel: u8,
     /// The virtual channel frame count: below [`FRAME_COUNTS`](crate::FRAME_COUNTS) where `cycle`
     /// is true, else below [`SHORT_COUNTS`](crate::SHORT_COUNTS).
     pub count: u32,
@@ -62,7 +62,7 @@ impl FrameHeader {
         }
         let own = ChannelConfig {
             spacecraft: get(frame, 2, 8) as u8,
-            channel: get(frame, 10, 6) as u8,
+            virtual_channel: get(frame, 10, 6) as u8,
             zone,
             apid: 0,
         };
@@ -75,6 +75,6 @@ impl FrameHeader {
         ensures { IsTrue result ↔ FitsHeader self.now }
     {
         let header = *self;
-        header.channel < IDLE_CHANNEL && header.count < counts_of(header.cycle)
+        header.virtual_channel < IDLE_CHANNEL && header.count < counts_of(header.cycle)
     }
 }

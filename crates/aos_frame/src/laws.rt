@@ -9,7 +9,7 @@ ghost use Rattle.aos_frame.specs.Frame.{SpellsFrame, FitsHeader, frame_octets};
 /// spells that header, so `decode` answers it and what stands behind it.
 pub fn written_frame_is_read()
     ensures { (c : ChannelConfig) (h : FrameHeader) (rest : List ℕ) → FitsHeader h
-        → h.spacecraft ≡ c.spacecraft → h.channel ≡ c.channel
+        → h.spacecraft ≡ c.spacecraft → h.virtual_channel ≡ c.virtual_channel
         → length rest ≡ 2 + c.zone → SpellsFrame c h (frame_octets h rest)
         × (drop 6 (frame_octets h rest) ≡ rest) }
 {}

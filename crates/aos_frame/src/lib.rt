@@ -104,17 +104,17 @@ pub fn decode<'a>(
     if spacecraft != config.spacecraft {
         return Err(FrameError::OtherSpacecraft);
     }
-    let channel = get(bytes, 10, 6) as u8;
-    if channel == IDLE_CHANNEL {
+    let virtual_channel = get(bytes, 10, 6) as u8;
+    if virtual_channel == IDLE_CHANNEL {
         return Err(FrameError::OnlyIdle);
     }
-    if channel != config.channel {
+    if virtual_channel != config.virtual_channel {
         return Err(FrameError::OtherChannel);
     }
     let cycle = get(bytes, 41, 1) == 1;
     let header = FrameHeader {
         spacecraft,
-        channel,
+        virtual_channel,
         count: count_in(bytes, cycle),
         cycle,
     };
@@ -141,7 +141,9 @@ pub fn encode(header: &FrameHeader, out: &mut [u8])
     requires room { 6 ≤ length out.old }
     ensures { out.new ≡ frame_octets header.now (drop 6 out.old) }
 {
-    let identification = 16_384 + 64 * u64::from(header.spacecraft) + u64::from(header.channel);
+    let identification = 16_384
+        + 64 * u64::from(header.spacecraft)
+        + u64::from(header.virtual_channel);
     let out = &mut out[..HEADER_LEN];
     let at = put_uint(out, 0, 2, identification);
     let at = put_uint(out, at, 3, u64::from(header.count % SHORT_COUNTS));

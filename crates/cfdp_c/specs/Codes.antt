@@ -125,8 +125,8 @@ entity_number entity.FinishedTime = 79
 entity_number entity.InactivityTime = 80
 
 abbrev pub link_number : LinkField → ℕ
-link_number links.Channel = 82
-link_number links.DataChannel = 83
+link_number links.VirtualChannel = 82
+link_number links.DataVirtualChannel = 83
 link_number links.Zone = 84
 link_number links.Apid = 85
 

@@ -52,8 +52,8 @@ entity_of c = record {
 abbrev pub link_of : CfdpLink → LinkConfig
 link_of l = record {
   spacecraft = l.spacecraft;
-  channel = l.channel;
-  data_channel = l.data_channel;
+  virtual_channel = l.virtual_channel;
+  data_virtual_channel = l.data_virtual_channel;
   zone = l.zone;
   apid = l.apid;
 }
@@ -99,8 +99,20 @@ default_config = record {
   nak_time = 10;
   finished_time = 10;
   inactivity_time = 100;
-  sends = record { zone = 256; apid = 100; spacecraft = 42; channel = 5; data_channel = 7 };
-  receives = record { zone = 256; apid = 101; spacecraft = 42; channel = 6; data_channel = 8 };
+  sends = record {
+    zone = 256;
+    apid = 100;
+    spacecraft = 42;
+    virtual_channel = 5;
+    data_virtual_channel = 7;
+  };
+  receives = record {
+    zone = 256;
+    apid = 101;
+    spacecraft = 42;
+    virtual_channel = 6;
+    data_virtual_channel = 8;
+  };
   segment = 1024;
   id_width = 2;
   number_width = 4;

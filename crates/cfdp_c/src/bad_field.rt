@@ -69,8 +69,8 @@ fn link_number(field: LinkField) -> u32
     ensures names { (82 ≤ result) × (result ≤ 85) }
 {
     match field {
-        LinkField::Channel => 82,
-        LinkField::DataChannel => 83,
+        LinkField::VirtualChannel => 82,
+        LinkField::DataVirtualChannel => 83,
         LinkField::Zone => 84,
         LinkField::Apid => 85,
     }

@@ -18,9 +18,9 @@ pub struct CfdpLink {
     /// The spacecraft of the frames.
     pub spacecraft: u8,
     /// The virtual channel of the frames that carry directives: 0 to 62.
-    pub channel: u8,
-    /// That of the frames that carry file data: 0 to 62, another than `channel`.
-    pub data_channel: u8,
+    pub virtual_channel: u8,
+    /// That of the frames that carry file data: 0 to 62, another than `virtual_channel`.
+    pub data_virtual_channel: u8,
 }
 
 /// A [`StationConfig`] as a plain struct.
@@ -75,8 +75,8 @@ impl CfdpLink {
     {
         LinkConfig {
             spacecraft: self.spacecraft,
-            channel: self.channel,
-            data_channel: self.data_channel,
+            virtual_channel: self.virtual_channel,
+            data_virtual_channel: self.data_virtual_channel,
             zone: self.zone,
             apid: self.apid,
         }
@@ -191,15 +191,15 @@ pub extern "C" fn cfdp_defaults(config: &mut CfdpConfig)
             zone: 256,
             apid: 100,
             spacecraft: 42,
-            channel: 5,
-            data_channel: 7,
+            virtual_channel: 5,
+            data_virtual_channel: 7,
         },
         receives: CfdpLink {
             zone: 256,
             apid: 101,
             spacecraft: 42,
-            channel: 6,
-            data_channel: 8,
+            virtual_channel: 6,
+            data_virtual_channel: 8,
         },
         segment: 1024,
         id_width: 2,

@@ -3,8 +3,13 @@ use Rattle.std.proofs.Common.{◌≡◌, true, false, List, [], ◌∷◌, codes
 use Rattle.clap.specs.Walk.{Text}
 use Rattle.clap.specs.declared.error.kind.ErrorKind.TheVariants.{DisplayHelp, DisplayHelpOnMissingArgumentOrSubcommand, InvalidValue, MissingRequiredArgument, UnknownArgument, ValueValidation}
 use Rattle.clap.proofs.OnLiterals.{clap_on_literals}
-use Rattle.cfdp_node.specs.Request.{asked_of, dump, loop, refusals, sim, station, version}
+use Rattle.cfdp_node.specs.Request.{ask, asked_of, dump, loop, refusals, sim, station, version}
 use Rattle.cfdp_node.specs.Shown.{ShownAsked}
+use Rattle.cfdp_node.specs.Station.Request.{StationAsked}
+use Rattle.cfdp_node.specs.declared.station.request.CarrierKind.TheVariants.{Frames as FramesCarried, Packets, Pdus as PdusCarried}
+use Rattle.cfdp_node.specs.declared.station.request.StationFlags.{StationFlags}
+use Rattle.cfdp_node.specs.declared.station.request.StationLimits.{StationLimits}
+use Rattle.cfdp_node.specs.declared.station.request.TimeUnit.TheVariants.{Milliseconds, Seconds}
 use Rattle.cfdp_script.specs.declared.dump.DumpKind.TheVariants.{Pdus, Frames}
 
 -- words behind the program's name
@@ -100,43 +105,118 @@ no_turn = refl
 
 -- ---- station
 
-plain_station : (refusals (line (codes "station" ∷ codes "--id" ∷ codes "1" ∷ codes "--peer" ∷ codes "2" ∷ codes "--listen" ∷ codes "a" ∷ codes "--to" ∷ codes "b" ∷ [])) ≡ [])
-    × (asked_of (line (codes "station" ∷ codes "--id" ∷ codes "1" ∷ codes "--peer" ∷ codes "2" ∷ codes "--listen" ∷ codes "a" ∷ codes "--to" ∷ codes "b" ∷ []))
-    ≡ Some (station (record {
-      numbers = record { id = 1; peer = 2; idle = 0; first_number = 0; rate = 1000; drop_every = 0 };
-      listen = codes "a";
-      to = codes "b";
-      inbox = None;
-      outbox = None;
-      state = None;
-      puts = [];
-      sets = [];
-      shown = nothing;
-    })))
+-- what is meant where no option says else
+abbrev plain_limits : StationLimits
+plain_limits = record { retries = 3; at_once = 4; most_size = 0; most_open = 0 }
+
+abbrev no_flags : StationFlags
+no_flags = record { remove_sent = false; no_overwrite = false; commands = false; no_time = false; json = false }
+
+-- words that say who the station is
+abbrev named : List Text → List Text
+named words = line (codes "station" ∷ codes "--id" ∷ codes "1" ∷ codes "--peer" ∷ codes "2" ∷ codes "--listen" ∷ codes "a" ∷ codes "--to" ∷ codes "b" ∷ words)
+
+abbrev plain : StationAsked
+plain = record {
+  numbers = record { id = 1; peer = 2; idle = 0; first_number = 0; rate = 1000; drop_every = 0 };
+  limits = plain_limits;
+  flags = no_flags;
+  carrier = FramesCarried;
+  unit = Seconds;
+  listen = codes "a";
+  to = codes "b";
+  inbox = None;
+  outbox = None;
+  spool = None;
+  state = None;
+  control = None;
+  puts = [];
+  sets = [];
+  shown = nothing;
+}
+
+plain_station : (refusals (named []) ≡ []) × (asked_of (named []) ≡ Some (station plain))
 unfolding clap_on_literals
 plain_station = (refl, refl)
+
+-- each default said gives what nothing said gives
+abbrev defaults : List Text
+defaults = codes "--idle" ∷ codes "0" ∷ codes "--first-number" ∷ codes "0" ∷ codes "--rate" ∷ codes "1000" ∷ codes "--drop" ∷ codes "0" ∷ codes "--carrier" ∷ codes "frames" ∷ codes "--unit" ∷
+    codes "s" ∷ codes "--retries" ∷ codes "3" ∷ codes "--at-once" ∷ codes "4" ∷ codes "--most-size" ∷ codes "0" ∷ codes "--most-open" ∷ codes "0" ∷ []
+
+defaults_said : (refusals (named defaults) ≡ []) × (asked_of (named defaults) ≡ Some (station plain))
+unfolding clap_on_literals
+defaults_said = (refl, refl)
 
 sending_station : (refusals (line (codes "station" ∷ codes "--put" ∷ codes "x" ∷ codes "y" ∷ codes "--id" ∷ codes "3" ∷ codes "--peer" ∷ codes "4" ∷ codes "--set" ∷ codes "zone" ∷ codes "512" ∷ codes
     "--listen" ∷ codes "a" ∷ codes "--to" ∷ codes "b" ∷ codes "--put" ∷ codes "v" ∷ codes "w" ∷ codes "--outbox" ∷ codes "o" ∷ codes "--state" ∷ codes "s" ∷ codes "--idle" ∷ codes "9" ∷ [])) ≡ [])
     × (asked_of (line (codes "station" ∷ codes "--put" ∷ codes "x" ∷ codes "y" ∷ codes "--id" ∷ codes "3" ∷ codes "--peer" ∷ codes "4" ∷ codes "--set" ∷ codes "zone" ∷ codes "512" ∷ codes "--listen" ∷
     codes "a" ∷ codes "--to" ∷ codes "b" ∷ codes "--put" ∷ codes "v" ∷ codes "w" ∷ codes "--outbox" ∷ codes "o" ∷ codes "--state" ∷ codes "s" ∷ codes "--idle" ∷ codes "9" ∷ []))
-    ≡ Some (station (record {
+    ≡ Some (station (record plain {
       numbers = record { id = 3; peer = 4; idle = 9; first_number = 0; rate = 1000; drop_every = 0 };
-      listen = codes "a";
-      to = codes "b";
-      inbox = None;
       outbox = Some (codes "o");
       state = Some (codes "s");
       puts = codes "x" ∷ codes "y" ∷ codes "v" ∷ codes "w" ∷ [];
       sets = codes "zone" ∷ codes "512" ∷ [];
-      shown = nothing;
     })))
 unfolding clap_on_literals
 sending_station = (refl, refl)
 
+abbrev operating : List Text
+operating = codes "--spool" ∷ codes "s" ∷ codes "--remove-sent" ∷ codes "--retries" ∷ codes "0" ∷ codes "--at-once" ∷ codes "3072" ∷ codes "--most-size" ∷ codes "281474976710656" ∷ codes "--most-open" ∷
+    codes "4096" ∷ codes "--no-overwrite" ∷ codes "--commands" ∷ codes "--control" ∷ codes "c" ∷ codes "--no-time" ∷ codes "--json" ∷ codes "--carrier" ∷ codes "pdus" ∷ codes "--unit" ∷ codes "ms" ∷ []
+
+operated_station : (refusals (named operating) ≡ [])
+    × (asked_of (named operating)
+    ≡ Some (station (record plain {
+      limits = record { retries = 0; at_once = 3072; most_size = 281474976710656; most_open = 4096 };
+      flags = record { remove_sent = true; no_overwrite = true; commands = true; no_time = true; json = true };
+      carrier = PdusCarried;
+      unit = Milliseconds;
+      spool = Some (codes "s");
+      control = Some (codes "c");
+    })))
+unfolding clap_on_literals
+operated_station = (refl, refl)
+
+packets_carried : (refusals (named (codes "--carrier=packets" ∷ [])) ≡ []) × (asked_of (named (codes "--carrier=packets" ∷ [])) ≡ Some (station (record plain { carrier = Packets })))
+unfolding clap_on_literals
+packets_carried = (refl, refl)
+
+other_carrier : refusals (named (codes "--carrier" ∷ codes "Frames" ∷ [])) ≡ InvalidValue ∷ []
+unfolding clap_on_literals
+other_carrier = refl
+
+other_unit : refusals (named (codes "--unit" ∷ codes "us" ∷ [])) ≡ InvalidValue ∷ []
+unfolding clap_on_literals
+other_unit = refl
+
+none_at_once : refusals (named (codes "--at-once" ∷ codes "0" ∷ [])) ≡ ValueValidation ∷ []
+unfolding clap_on_literals
+none_at_once = refl
+
+many_retries : refusals (named (codes "--retries" ∷ codes "1001" ∷ [])) ≡ ValueValidation ∷ []
+unfolding clap_on_literals
+many_retries = refl
+
 no_peer : refusals (line (codes "station" ∷ codes "--id" ∷ codes "1" ∷ codes "--listen" ∷ codes "a" ∷ codes "--to" ∷ codes "b" ∷ [])) ≡ MissingRequiredArgument ∷ []
 unfolding clap_on_literals
 no_peer = refl
+
+-- ---- ask
+
+asked_list : (refusals (line (codes "ask" ∷ codes "a" ∷ codes "list" ∷ [])) ≡ []) × (asked_of (line (codes "ask" ∷ codes "a" ∷ codes "list" ∷ [])) ≡ Some (ask (codes "a") (codes "list" ∷ [])))
+unfolding clap_on_literals
+asked_list = (refl, refl)
+
+asked_put : (refusals (line (codes "ask" ∷ codes "a" ∷ codes "put" ∷ codes "x" ∷ codes "y" ∷ [])) ≡ [])
+    × (asked_of (line (codes "ask" ∷ codes "a" ∷ codes "put" ∷ codes "x" ∷ codes "y" ∷ [])) ≡ Some (ask (codes "a") (codes "put" ∷ codes "x" ∷ codes "y" ∷ [])))
+unfolding clap_on_literals
+asked_put = (refl, refl)
+
+asked_nothing : refusals (line (codes "ask" ∷ codes "a" ∷ [])) ≡ MissingRequiredArgument ∷ []
+unfolding clap_on_literals
+asked_nothing = refl
 
 -- ---- the program alone, and mistakes
 

@@ -13,8 +13,8 @@ pub fit : FitFields loop_settings
 fit = (lit< tt, (lit< tt, lit< tt, lit< tt, lit< tt), ((lit< tt, lit< tt, lit< tt), (lit< tt, lit< tt, lit< tt, lit< tt), (lit< tt, lit< tt, lit< tt)))
 
 good_link : (s : Side) → IsLink (link_of s 256)
-good_link One = record { channel = lit< tt; data_channel = lit< tt; apart = λ e. cc; least_zone = lit≤ tt; most_zone = lit≤ tt; apid = lit≤ tt }
-good_link Two = record { channel = lit< tt; data_channel = lit< tt; apart = λ e. cc; least_zone = lit≤ tt; most_zone = lit≤ tt; apid = lit≤ tt }
+good_link One = record { virtual_channel = lit< tt; data_virtual_channel = lit< tt; apart = λ e. cc; least_zone = lit≤ tt; most_zone = lit≤ tt; apid = lit≤ tt }
+good_link Two = record { virtual_channel = lit< tt; data_virtual_channel = lit< tt; apart = λ e. cc; least_zone = lit≤ tt; most_zone = lit≤ tt; apid = lit≤ tt }
 
 good_entity : (s : Side) → IsConfig (entity_of loop_settings s)
 good_entity One = record {

@@ -1,5 +1,5 @@
 -- What a command line asks for. Its first word is the program's name.
-use Rattle.std.specs.Prelude.{◌≡◌, ◌⊎◌, ◌≤◌, ⊤, ℕ, Bool, true, false, List, [], ◌∷◌, codes, Option, Some, None, is_some, option_map, option_and_then, if◌then◌else◌}
+use Rattle.std.specs.Prelude.{◌≡◌, ◌⊎◌, ◌≤◌, ⊤, ℕ, Bool, true, false, List, [], ◌∷◌, codes, map, Option, Some, None, is_some, option_map, option_and_then, if◌then◌else◌}
 use Rattle.std.specs.Str.{bytes_eq}
 use Rattle.std.specs.Str.Parse.{digits_value, without_leading_plus}
 use Rattle.clap.specs.ValueTests.{is_unsigned_in}
@@ -7,7 +7,9 @@ use Rattle.clap.specs.Faults.{fault_of}
 use Rattle.clap.specs.Kinds.{IsAmong, Kinds, or_else}
 use Rattle.clap.specs.Matches.{found_of}
 use Rattle.clap.specs.Simple.{App, app_of, new_app, new_rule, on_top, subcommand_of, with_rule, with_subcommand}
+use Rattle.clap.specs.Lexer.{usize_max}
 use Rattle.clap.specs.Walk.{Row, Rule, Text, first_of, rows_of}
+use Rattle.clap.specs.declared.builder.action.ArgAction.TheVariants.{Append}
 use Rattle.clap.specs.declared.builder.command.Command.{Command}
 use Rattle.clap.specs.declared.builder.command.Command.TheViews.{out-Command}
 use Rattle.clap.specs.declared.builder.value_parser.ValueParser.TheVariants.{Unsigned}
@@ -16,11 +18,11 @@ use Rattle.clap.specs.declared.error.kind.ErrorKind.TheVariants.{DisplayHelp, Di
 use Rattle.clap.specs.declared.parser.matches.ArgMatches.{ArgMatches}
 use Rattle.cfdp_script.specs.declared.dump.DumpRequest.{DumpRequest}
 use Rattle.cfdp_node.specs.declared.arguments.Request.{Request}
-use Rattle.cfdp_node.specs.declared.arguments.Request.TheVariants.{Sim, Dump, Loop, Station, Version}
+use Rattle.cfdp_node.specs.declared.arguments.Request.TheVariants.{Sim, Dump, Loop, Station, Ask, Version}
 use Rattle.cfdp_script.specs.declared.dump.DumpKind.{DumpKind}
 use Rattle.cfdp_script.specs.declared.dump.DumpKind.TheVariants.{Pdus, Frames}
-use Rattle.cfdp_node.specs.Looping.Request.{LoopAsked, loop_app, loop_asked, loop_of}
-use Rattle.cfdp_node.specs.Station.Request.{StationAsked, station_app, station_asked, station_of}
+use Rattle.cfdp_node.specs.Looping.Request.{LoopAsked, loop_app, loop_asked, loop_of, place_rule}
+use Rattle.cfdp_node.specs.Station.Request.{StationAsked, station_app, station_asked, station_of, words_for}
 use Rattle.cfdp_node.specs.Shown.{ShownAsked, asked_shown, flag_rule, is_given, shown_of, with_shown}
 
 -- ---- the grammar
@@ -54,15 +56,34 @@ lines_app = with_rule (with_rule (new_app (codes "dump")) kind_rule) zone_rule
 abbrev pub dump_app : App
 dump_app = with_rule (with_rule lines_app (flag_rule (codes "long"))) input_rule
 
+-- the address of a station that takes commands
+abbrev pub address_rule : Rule
+address_rule = place_rule (codes "address")
+
+-- and the words of a command, one or more
+abbrev pub words_rule : Rule
+words_rule = record (new_rule (codes "words")) {
+  action = Some Append;
+  range = Some (record { start_inclusive = 1; end_inclusive = usize_max });
+  value_names = 1;
+  required = true;
+}
+
+abbrev pub address_app : App
+address_app = with_rule (new_app (codes "ask")) address_rule
+
+abbrev pub ask_app : App
+ask_app = with_rule address_app words_rule
+
 -- the program alone, which shows its help where it gets no word
 abbrev pub top_app : App
 top_app = with_rule (on_top (λ s. record s { arg_required_else_help = true })
     (new_app (codes "cfdp_node"))) (flag_rule (codes "version"))
 
 abbrev pub program_app : App
-program_app = with_subcommand (with_subcommand
+program_app = with_subcommand (with_subcommand (with_subcommand
     (with_subcommand (with_subcommand top_app sim_app.top) dump_app.top) loop_app.top)
-    station_app.top
+    station_app.top) ask_app.top
 
 -- No argument of the command is one of its subcommands too.
 abbrev pub HasNoGlobals : Command → Type 0
@@ -79,13 +100,14 @@ abbrev pub Lines : Type 0
 Lines = DumpKind × ℕ × Bool
 
 -- To run a script, and what is shown of it; to tell lines, and how; to send a file, and how; to run
--- a station, and how; or the version. A file that is read is said by its name; without one standard
--- input is read.
+-- a station, and how; to send a command to the station at an address; or the version. A file that
+-- is read is said by its name; without one standard input is read.
 pub data Asked : Type 0 where
   sim : ShownAsked → (file : Option Text) → Asked
   dump : (lines : Lines) → (file : Option Text) → Asked
   loop : LoopAsked → Asked
   station : StationAsked → Asked
+  ask : (address : Text) → (words : List Text) → Asked
   version : Asked
 
 -- what a subcommand's words gave for the argument of this name
@@ -115,6 +137,10 @@ lines_of rows = option_and_then (λ kind. option_map
 abbrev pub dump_of : List Row → Option Asked
 dump_of rows = option_map (λ lines. dump lines (first_of (codes "file") rows)) (lines_of rows)
 
+abbrev pub ask_of : List Row → Option Asked
+ask_of rows = option_map (λ address. ask address (words_for (codes "words") rows))
+    (first_of (codes "address") rows)
+
 -- what a subcommand of this name asks for, by what its words gave
 abbrev pub asked_by : Option (Text × List Row) → Option Asked
 asked_by None = Some version
@@ -123,14 +149,15 @@ asked_by (Some found) =
     else (if bytes_eq found.0 (codes "dump") then dump_of found.1
     else (if bytes_eq found.0 (codes "loop") then option_map loop (loop_of found.1)
     else (if bytes_eq found.0 (codes "station") then option_map station (station_of found.1)
-    else None)))
+    else (if bytes_eq found.0 (codes "ask") then ask_of found.1
+    else None))))
 
 -- what words that fit the grammar ask for
 abbrev pub asked_of : List Text → Option Asked
 asked_of words = asked_by (subcommand_of program_app words)
 
 -- Why words are not done: help was asked for, or they don't fit the grammar, or the kind of the
--- lines is none. Words that are done have no such reason.
+-- lines, a carrier or a unit is none. Words that are done have no such reason.
 abbrev pub refusals : List Text → Kinds
 refusals words = or_else (fault_of program_app words)
     (if is_some (asked_of words) then [] else InvalidValue ∷ [])
@@ -146,6 +173,7 @@ asked (Sim request) = sim (asked_shown request.shown)
 asked (Dump lines file) = dump (asked_lines lines) (option_map (λ name. name.bytes.items) file)
 asked (Loop request) = loop (loop_asked request)
 asked (Station request) = station (station_asked request)
+asked (Ask address words) = ask address.bytes.items (map (λ word. word.bytes.items) words.items)
 asked Version = version
 
 -- A packet zone that is asked for has a length that it may have.
@@ -154,6 +182,7 @@ HasZone (Sim request) = ⊤
 HasZone (Dump lines file) = (16 ≤ lines.zone) × (lines.zone ≤ 2040)
 HasZone (Loop request) = ⊤
 HasZone (Station request) = ⊤
+HasZone (Ask address words) = ⊤
 HasZone Version = ⊤
 
 -- the exit status of the process where its arguments are not done

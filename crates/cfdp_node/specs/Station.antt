@@ -1,3 +1,2 @@
 -- A station that serves its peer.
 pub mod Request
-pub mod Serving

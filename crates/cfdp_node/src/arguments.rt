@@ -10,18 +10,20 @@ ghost use Rattle.clap.specs.Simple.{subcommand_rows_of};
 ghost use Rattle.cfdp_node.specs.Request.{HasNoGlobals, HasZone, IsCommand, IsStatusOf, RefusedBy};
 ghost use Rattle.cfdp_node.specs.Request.{asked, asked_by, asked_of, dump_app, dump_of};
 ghost use Rattle.cfdp_node.specs.Request.{kind_of_word, kind_rule, input_rule, asked_lines};
-ghost use Rattle.cfdp_node.specs.Request.{lines_of, program_app, refusals, sim_app, sim_of};
+ghost use Rattle.cfdp_node.specs.Request.{address_app, address_rule, ask_app, ask_of, lines_of};
+ghost use Rattle.cfdp_node.specs.Request.{program_app, refusals, sim_app, sim_of, words_rule};
 ghost use Rattle.cfdp_node.specs.Request.{lines_app, top_app, zone_of_word, zone_rule};
 ghost use Rattle.cfdp_node.specs.Request as asks;
 ghost use Rattle.cfdp_node.specs.Looping.Request.{loop_app, loop_of};
-ghost use Rattle.cfdp_node.specs.Station.Request.{station_of};
+ghost use Rattle.cfdp_node.specs.Station.Request.{station_app, station_of};
 ghost use Rattle.cfdp_node.specs.Shown.{file_rule, flag_rule};
 ghost use Rattle.cfdp_node.specs.Shown as showing;
 
 use crate::dropping::let_go;
 use crate::looping::request::{LoopRequest, loop_command, loop_request};
 use crate::shown::{shown_by, shown_command};
-use crate::station::request::{StationRequest, station_command, station_request};
+use crate::station::request::{StationRequest, owned_words, station_command, station_request};
+use crate::station::settings_file::with_settings;
 use aos_frame::{LEAST_ZONE, MOST_ZONE};
 use cfdp_report::{SettingsHelp, Shown};
 use cfdp_script::{DumpKind, DumpRequest};
@@ -44,6 +46,12 @@ pub enum Request {
     Loop(LoopRequest),
     /// To run one station over a socket.
     Station(StationRequest),
+    /// To send a command to a station that takes commands on this TCP address.
+    Ask {
+        address: String,
+        /// The command, one or more words.
+        words: Vec<String>,
+    },
     /// To print the version.
     Version,
 }
@@ -164,12 +172,22 @@ write, or no memory (told on standard error).
 Example, which prints 'eof 1:1 0 D7656C6C 5':
   echo 20000A1300010000000100020400D7656C6C00000005 | cfdp_node dump pdus";
 
+const ASK_HELP: &str = "\
+Connects to a station that runs with '--control ADDR', and sends it the words as
+one line. What it answers goes to standard output.
+
+Exit status: 0 it answered, 1 it refused the command, 2 bad arguments, 3 nothing
+answers there (told on standard error).
+
+Example:
+  cfdp_node ask 127.0.0.1:5101 list";
+
 /// Reads the process's arguments.
 ///
 /// # Errors
 ///
-/// The status with which the process ends, where there is nothing to do: help, which went to
-/// standard output, or a mistake, which was told on standard error.
+/// The status with which the process ends, where there is nothing to do: help or a settings file,
+/// which went to standard output, or a mistake, which was told on standard error.
 pub fn read(rt: &HostRuntime) -> Result<Request, u8>
     ensures zone { IfOk result HasZone }
     ensures status { IfErr result (λ status. (status ≡ 0) ⊎ (status ≡ 2) ⊎ (status ≡ 3)) }
@@ -181,7 +199,20 @@ pub fn read(rt: &HostRuntime) -> Result<Request, u8>
         },
         Err(error) => return Err(unread_status(rt, &error)),
     };
-    request_of(rt, words.as_slice())
+    let words = with_settings(rt, words)?;
+    match with_line_apart(rt.alloc(), words) {
+        Ok(words) => request_of(rt, words.as_slice()),
+        Err(AllocError) => Err(NO_MEMORY),
+    }
+}
+
+/// The words of a command line, with `--` in front of those that `ask` sends: so none of these is
+/// taken for an option of the program.
+fn with_line_apart(alloc: Global, mut words: Vec<String>) -> Result<Vec<String>, AllocError> {
+    if words.len() > 3 && words[1].as_str() == "ask" && words[3].as_str() != "--" {
+        words.insert(3, String::from_str(alloc, "--")?)?;
+    }
+    Ok(words)
 }
 
 /// What these words ask for. The first is the program's name. Help and mistakes are told.
@@ -247,11 +278,23 @@ fn parse_by<'a>(
 {
     match matched(alloc, command, words)? {
         Some(request) => Ok(request),
-        None => Err(command.error(ErrorKind::InvalidValue, "KIND is pdus or frames")?),
+        None => Err(command.error(ErrorKind::InvalidValue, misfit(words))?),
     }
 }
 
-/// What these words ask for by the program's grammar, `None` where KIND is no kind.
+/// What the words have to say in the place of one that says nothing. The first is the program's
+/// name, the second that of a command.
+fn misfit(words: &[String]) -> &'static str {
+    match words {
+        [_, command, ..] if command.as_str() == "station" => {
+            "--carrier is frames, packets or pdus, and --unit is s or ms"
+        }
+        _ => "KIND is pdus or frames",
+    }
+}
+
+/// What these words ask for by the program's grammar, `None` where KIND, a carrier or a unit is
+/// none.
 ///
 /// # Errors
 ///
@@ -272,7 +315,7 @@ fn matched<'a>(
     Ok(requested(alloc, &matches)?)
 }
 
-/// What the words that were found ask for, `None` where KIND is no kind.
+/// What the words that were found ask for, `None` where KIND, a carrier or a unit is none.
 fn requested(alloc: Global, matches: &ArgMatches<'_>) -> Result<Option<Request>, AllocError>
     ensures asked { IfOk result (λ found. option_map asked found
         ≡ asked_by (subcommand_rows_of matches.now)) }
@@ -283,6 +326,7 @@ fn requested(alloc: Global, matches: &ArgMatches<'_>) -> Result<Option<Request>,
         Some(("dump", arguments)) => dump_request(alloc, arguments),
         Some(("loop", arguments)) => transfer_request(alloc, arguments),
         Some(("station", arguments)) => serving_request(alloc, arguments),
+        Some(("ask", arguments)) => ask_request(alloc, arguments),
         Some(_) => Ok(None),
         None => Ok(Some(Request::Version)),
     }
@@ -313,7 +357,21 @@ fn transfer_request(
     Ok(loop_request(alloc, arguments)?.map(Request::Loop))
 }
 
-/// What the words behind `station` ask for, `None` where a number is out of its range.
+/// What the words behind `ask` ask for.
+fn ask_request(alloc: Global, arguments: &ArgMatches<'_>) -> Result<Option<Request>, AllocError>
+    ensures asked { IfOk result (λ found. option_map asked found
+        ≡ ask_of (rows_of (found_of arguments.now))) }
+    ensures zone { IfOk result (λ found. IfSome found HasZone) }
+{
+    let words = owned_words(alloc, arguments, "words")?;
+    match owned_word(alloc, arguments, "address")? {
+        Some(address) => Ok(Some(Request::Ask { address, words })),
+        None => Ok(None),
+    }
+}
+
+/// What the words behind `station` ask for, `None` where a number is out of its range, or a carrier
+/// or a unit is none.
 fn serving_request(alloc: Global, arguments: &ArgMatches<'_>) -> Result<Option<Request>, AllocError>
     ensures asked { IfOk result (λ found. option_map asked found
         ≡ option_map asks.station (station_of (rows_of (found_of arguments.now)))) }
@@ -413,6 +471,21 @@ fn sim_help(alloc: Global) -> Result<String, AllocError> {
 fn grammar<'a>(alloc: Global, sim_help: &'a str) -> Result<Command<'a>, AllocError>
     ensures { IfOk result (IsCommand program_app) }
 {
+    let told = stations_grammar(alloc, sim_help)?;
+    match ask_command(alloc) {
+        Ok(ask) => told.subcommand(ask),
+        Err(AllocError) => {
+            let_go(told);
+            Err(AllocError)
+        }
+    }
+}
+
+/// The same without `ask`.
+fn stations_grammar<'a>(alloc: Global, sim_help: &'a str) -> Result<Command<'a>, AllocError>
+    ensures { IfOk result (IsCommand (with_subcommand (with_subcommand (with_subcommand
+        (with_subcommand top_app sim_app.top) dump_app.top) loop_app.top) station_app.top)) }
+{
     let told = files_grammar(alloc, sim_help)?;
     match station_command(alloc) {
         Ok(station) => told.subcommand(station),
@@ -423,7 +496,7 @@ fn grammar<'a>(alloc: Global, sim_help: &'a str) -> Result<Command<'a>, AllocErr
     }
 }
 
-/// The same without `station`.
+/// The same without `station` too.
 fn files_grammar<'a>(alloc: Global, sim_help: &'a str) -> Result<Command<'a>, AllocError>
     ensures { IfOk result (IsCommand (with_subcommand (with_subcommand (with_subcommand top_app
         sim_app.top) dump_app.top) loop_app.top)) }
@@ -474,7 +547,7 @@ fn top_command<'a>(alloc: Global) -> Result<Command<'a>, AllocError>
         .bin_name("cfdp_node")?
         .about("Sends files by the CCSDS File Delivery Protocol, between two stations or as one")
         .after_help(
-            "'cfdp_node sim --help' shows the commands of a script, 'cfdp_node dump --help' the lines of a dump, 'cfdp_node loop --help' what is sent how, 'cfdp_node station --help' how one station runs.",
+            "'cfdp_node sim --help' shows the commands of a script, 'cfdp_node dump --help' the lines of a dump, 'cfdp_node loop --help' what is sent how, 'cfdp_node station --help' how one station runs, 'cfdp_node ask --help' how a station that runs is told what to do.",
         )
         .arg_required_else_help(true)
         .arg(flag(alloc, "version", "Prints the version"))
@@ -512,6 +585,22 @@ fn lines_command<'a>(alloc: Global) -> Result<Command<'a>, AllocError>
         .arg(zone_argument(alloc))
 }
 
+fn ask_command<'a>(alloc: Global) -> Result<Command<'a>, AllocError>
+    ensures { IfOk result (IsCommand ask_app) }
+{
+    address_command(alloc)?.arg(words_argument(alloc))
+}
+
+/// `ask` without the words of a command.
+fn address_command<'a>(alloc: Global) -> Result<Command<'a>, AllocError>
+    ensures { IfOk result (IsCommand address_app) }
+{
+    Command::new(alloc, "ask")
+        .about("Sends a command to a station, and prints what it answers")
+        .after_help(ASK_HELP)
+        .arg(address_argument(alloc))
+}
+
 /// A command with one argument more.
 pub fn with_argument<'a>(command: Command<'a>, argument: Arg<'a>) -> Result<Command<'a>, AllocError>
     requires command { HasNoGlobals command }
@@ -547,6 +636,26 @@ fn input_argument<'a>(alloc: Global) -> Arg<'a>
     Arg::new(alloc, "file")
         .value_name("FILE")
         .help("What is read; standard input without it")
+}
+
+fn address_argument<'a>(alloc: Global) -> Arg<'a>
+    ensures { (rule_of result ≡ address_rule) × (result.global ≡ false) }
+{
+    Arg::new(alloc, "address")
+        .value_name("ADDR")
+        .help("The address of --control of that station")
+        .required(true)
+}
+
+fn words_argument<'a>(alloc: Global) -> Arg<'a>
+    ensures { (rule_of result ≡ words_rule) × (result.global ≡ false) }
+{
+    Arg::new(alloc, "words")
+        .value_name("WORD")
+        .help("The words of the command; help lists all commands")
+        .action(ArgAction::Append)
+        .num_args(1..)
+        .required(true)
 }
 
 fn kind_argument<'a>(alloc: Global) -> Arg<'a>

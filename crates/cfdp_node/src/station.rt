@@ -4,30 +4,31 @@ ghost use Rattle.std.specs.Prelude.{IfOk};
 pub mod beacon;
 pub mod exchange;
 pub mod notices;
+pub mod operation;
+pub mod operator;
 pub mod request;
-pub mod serving;
+pub mod settings_file;
 pub mod setup;
 pub mod state_file;
 
 use crate::looping::folders::{check_file, check_name, folder, folder_outbox, tell_untold};
-use crate::looping::held_folder::HeldFolder;
-use crate::looping::telling::{LoopLookout, TellingInbox, TellingNoInbox, TellingOutbox};
 use crate::station::beacon::Beacon;
 use crate::station::exchange::Exchange;
-use crate::station::notices::Notices;
-use crate::station::request::{StationNumbers, StationRequest};
-use crate::station::serving::{PutNames, StationEnds, StationOptions, run_station};
+use crate::station::operation::{Context, StationParts, StationSpool, ran};
+use crate::station::request::{CarrierKind, StationNumbers, StationRequest, TimeUnit};
 use crate::station::setup::StationSetup;
 use crate::station::state_file::{Reservation, StateError};
-use crate::wire::peer_socket::{Pace, PeerSocket, Unusable};
-use cfdp_port::{Lookout, LossyWire};
-use cfdp_report::{Exit, Fault, Name, Onlooker, Progress, Ran, Screen, parse_number, shown_status};
+use crate::wire::peer_socket::{Pace, PeerSocket, Unit, Unusable};
+use cfdp_host::carrier::Carrier;
+use cfdp_host::{
+    FolderSpool, HeldFolder, LineSources, StandardErrorTeller, address_cause, cause_text,
+    try_folder,
+};
+use cfdp_report::{Progress, parse_number, shown_status};
 use cfdp_station::StationConfig;
-use cfdp_store::{Inbox, SeekingOutbox};
 use link_sim::{Side, WorldConfig};
-use std::alloc::{AllocError, Global};
 use std::cell::Cell;
-use std::io::{BufWriter, ErrorKind};
+use std::io::ErrorKind;
 use std::{fs, io};
 use valid_config::Valid;
 
@@ -44,41 +45,80 @@ struct Prepared<'a> {
     reservation: Reservation<'a>,
     /// The folder of its inbox, if it has one.
     held: Option<HeldFolder>,
-}
-
-/// What a station needs to run.
-#[derive(Drop)]
-struct StationParts<'a> {
-    socket: PeerSocket<'a>,
-    /// The count of its first frame in either lane.
-    frame_count: u32,
+    /// Its spool, if it has one.
+    spool: Option<StationSpool<'a>>,
 }
 
 /// Runs the station that is asked for, writes the report to standard output, and says on standard
 /// error what went wrong. Answers the exit status.
 ///
-/// What may be wrong is looked for in this order: what is set, the names of files that are to be
-/// sent, the folders, those files, the file of reserved numbers, the addresses.
+/// What may be wrong is looked for in this order: the control address, what is set, the names of
+/// files that are to be sent, the folders, those files, the file of reserved numbers, the addresses.
 pub fn station_status(rt: &HostRuntime, request: &StationRequest) -> u8 {
-    let setup = match set_up(rt, request) {
-        Ok(setup) => setup,
-        Err(status) => return status,
+    match started_status(rt, request) {
+        Ok(status) | Err(status) => status,
+    }
+}
+
+/// Starts the station, and runs it.
+///
+/// # Errors
+///
+/// The exit status, where something is wrong at its start, which was told on standard error.
+fn started_status(rt: &HostRuntime, request: &StationRequest) -> Result<u8, u8> {
+    // First of all: a process that was given no standard input has none once a file is opened.
+    let sources = sources(rt, request)?;
+    let setup = set_up(rt, request)?;
+    let Prepared {
+        config,
+        reservation,
+        held: _held,
+        spool,
+    } = begun(rt, request, &setup)?;
+    let exchange = Exchange::new();
+    exchange.numbers_left.set(reservation.numbers_left());
+    let frame_count = reservation.frame_count();
+    let own = WorldConfig::station(config, side_of(request)).get();
+    let parts = StationParts {
+        socket: socket(rt, request, &own, reservation, &exchange)?,
+        frame_count,
+        sources,
+        config,
     };
-    match begun(rt, request, &setup) {
-        Ok(
-            Prepared {
-                config,
-                reservation,
-                held: _held,
-            },
-        ) => {
-            let exchange = Exchange::new();
-            match parts(rt, request, config, reservation, &exchange) {
-                Ok(parts) => ran_status(rt, request, config, parts, &exchange),
-                Err(status) => status,
-            }
+    Ok(ran_status(rt, request, parts, spool, &exchange))
+}
+
+/// Where commands come from.
+///
+/// # Errors
+///
+/// The exit status, where the control address can't be had, which was told on standard error.
+fn sources<'a>(rt: &'a HostRuntime, request: &StationRequest) -> Result<LineSources<'a>, u8> {
+    let control = match &request.control {
+        Some(address) => Some(address.as_str()),
+        None => None,
+    };
+    let sources = match LineSources::new(rt, request.flags.commands, control) {
+        Ok(sources) => sources,
+        Err(error) => {
+            let address = control.unwrap_or("");
+            let _ = eprintln!(rt; "error: --control {address}: {error}");
+            return Err(DEVICE);
         }
-        Err(status) => status,
+    };
+    if has_any_port(control)
+        && let Some(address) = sources.control_address()
+    {
+        let _ = eprintln!(rt; "note: commands are taken at {address}");
+    }
+    Ok(sources)
+}
+
+/// Whether an address leaves its port to the system.
+fn has_any_port(address: Option<&str>) -> bool {
+    match address {
+        Some(address) => address.ends_with(":0"),
+        None => false,
     }
 }
 
@@ -96,6 +136,7 @@ fn begun<'a>(
     let _ = configuration(rt, request, setup)?;
     let held = held_inbox(rt, request)?;
     check_outbox(rt, request)?;
+    let spool = spool(rt, request)?;
     let reservation = reserved(rt, request, setup)?;
     let setup = setup.beginning_at(reservation.number());
     let config = configuration(rt, request, &setup)?;
@@ -103,7 +144,30 @@ fn begun<'a>(
         config,
         reservation,
         held,
+        spool,
     })
+}
+
+/// Takes the folder of the spool, if there is one.
+///
+/// # Errors
+///
+/// The exit status, where it can't be had, which was told on standard error.
+fn spool<'a>(
+    rt: &'a HostRuntime,
+    request: &StationRequest,
+) -> Result<Option<StationSpool<'a>>, u8> {
+    let Some(path) = &request.spool else {
+        return Ok(None);
+    };
+    if request.outbox.is_some() {
+        let _ = eprintln!(rt; "error: a station sends from one folder: --spool or --outbox");
+        return Err(MISTAKE);
+    }
+    let _ = folder(rt, path.as_str())?;
+    let teller = StandardErrorTeller(rt);
+    let spool = FolderSpool::open(rt, path.as_str(), request.flags.remove_sent, teller)?;
+    Ok(Some(spool))
 }
 
 /// How the station and its peer are set up.
@@ -120,23 +184,20 @@ fn configuration(
     match setup.config(id, peer) {
         Some(config) => Ok(config),
         None => {
-            tell_bad(rt, setup);
+            tell_bad(rt, setup, id, peer);
             Err(MISTAKE)
         }
     }
 }
 
 /// Says why a station can't be set up so.
-fn tell_bad(rt: &HostRuntime, setup: &StationSetup) {
+fn tell_bad(rt: &HostRuntime, setup: &StationSetup, id: u64, peer: u64) {
     let _ = match setup.out_of_range() {
         Some(setting) => {
             let (key, range) = (setting.key(), setting.range());
             eprintln!(rt; "error: {key} is out of its range, {range}")
         }
-        None => eprintln!(rt;
-            "error: the ids are one or don't fit id_width, a channel or an APID fits no frame, \
-             or a direction has one channel for both lanes"
-        ),
+        None => eprintln!(rt; "error: {}", setup.misfit(id, peer)),
     };
 }
 
@@ -199,11 +260,23 @@ fn reserved<'a>(
     if said.is_some() {
         return Ok(Reservation::by_clock(rt, said));
     }
-    match (&request.outbox, &request.inbox) {
-        (Some(folder), _) | (None, Some(folder)) => {
-            reserved_beside(rt, folder.as_str(), puts, width)
+    match numbers_folder(request) {
+        Some(folder) => {
+            let is_needed = puts > 0 || request.spool.is_some();
+            reserved_beside(rt, folder, is_needed, puts, width)
         }
-        (None, None) => Ok(Reservation::by_clock(rt, None)),
+        None => Ok(Reservation::by_clock(rt, None)),
+    }
+}
+
+/// The folder beside which the file of reserved numbers lies: that of the outbox or of the spool, or
+/// of the inbox where there is none of these.
+fn numbers_folder(request: &StationRequest) -> Option<&str> {
+    match (&request.outbox, &request.spool, &request.inbox) {
+        (Some(path), _, _) | (None, Some(path), _) | (None, None, Some(path)) => {
+            Some(path.as_str())
+        }
+        (None, None, None) => None,
     }
 }
 
@@ -216,6 +289,7 @@ fn reserved<'a>(
 fn reserved_beside<'a>(
     rt: &'a HostRuntime,
     folder: &str,
+    is_needed: bool,
     puts: u64,
     width: u64,
 ) -> Result<Reservation<'a>, u8> {
@@ -225,7 +299,7 @@ fn reserved_beside<'a>(
     };
     match Reservation::take(rt, path.as_str(), None, width, puts) {
         Ok(reservation) => Ok(reservation),
-        Err(StateError::System(_)) if puts == 0 => Ok(Reservation::by_clock(rt, None)),
+        Err(StateError::System(_)) if !is_needed => Ok(Reservation::by_clock(rt, None)),
         Err(error) => Err(tell_state(rt, path.as_str(), &error)),
     }
 }
@@ -245,8 +319,8 @@ fn beside(rt: &HostRuntime, folder: &str) -> io::Result<String> {
     Ok(format!(in rt.alloc(); "{}.state", path.display())?)
 }
 
-/// Looks at the names of files that are to be sent, and takes the folder of the inbox, if there is
-/// one.
+/// Looks at the names of files that are to be sent, and takes the folder of the inbox and tries it,
+/// if there is one.
 ///
 /// # Errors
 ///
@@ -258,30 +332,12 @@ fn held_inbox(rt: &HostRuntime, request: &StationRequest) -> Result<Option<HeldF
     match &request.inbox {
         Some(path) => {
             let _ = folder(rt, path.as_str())?;
-            Ok(Some(HeldFolder::take(rt, path.as_str())?))
+            let held = HeldFolder::take(rt, path.as_str())?;
+            try_folder(rt, path.as_str(), !request.flags.no_overwrite)?;
+            Ok(Some(held))
         }
         None => Ok(None),
     }
-}
-
-/// Opens the socket, which notes the counts of its frames.
-///
-/// # Errors
-///
-/// The exit status, where it can't be had, which was told on standard error.
-fn parts<'a>(
-    rt: &'a HostRuntime,
-    request: &StationRequest,
-    config: Valid<WorldConfig>,
-    reservation: Reservation<'a>,
-    exchange: &'a Exchange,
-) -> Result<StationParts<'a>, u8> {
-    let frame_count = reservation.frame_count();
-    let config = WorldConfig::station(config, side_of(request)).get();
-    Ok(StationParts {
-        socket: socket(rt, request, &config, reservation, exchange)?,
-        frame_count,
-    })
 }
 
 /// Looks at the folder of the outbox, and whether what has the names of files that are to be sent
@@ -291,15 +347,23 @@ fn parts<'a>(
 ///
 /// The exit status, where something is wrong, which was told on standard error.
 fn check_outbox(rt: &HostRuntime, request: &StationRequest) -> Result<(), u8> {
-    let Some(path) = &request.outbox else {
+    let Some(path) = outbox_of(request) else {
         if request.puts.is_empty() {
             return Ok(());
         }
         let _ = eprintln!(rt; "error: --put wants a folder of files, --outbox FOLDER");
         return Err(MISTAKE);
     };
-    let _ = folder(rt, path.as_str())?;
-    check_files(rt, path.as_str(), request.puts.as_slice())
+    let _ = folder(rt, path)?;
+    check_files(rt, path, request.puts.as_slice())
+}
+
+/// The folder that files are sent from: that of the outbox, or of the spool.
+pub fn outbox_of(request: &StationRequest) -> Option<&str> {
+    match (&request.outbox, &request.spool) {
+        (Some(path), _) | (None, Some(path)) => Some(path.as_str()),
+        (None, None) => None,
+    }
 }
 
 /// Looks at the files of a folder that are to be sent, by pairs of words.
@@ -309,7 +373,7 @@ fn check_outbox(rt: &HostRuntime, request: &StationRequest) -> Result<(), u8> {
 /// The exit status, where one can't be sent, which was told on standard error.
 fn check_files(rt: &HostRuntime, path: &str, words: &[String]) -> Result<(), u8> {
     let Ok(mut outbox) = folder_outbox(rt, path) else {
-        let _ = eprintln!(rt; "error: {path}: {}", ErrorKind::OutOfMemory);
+        let _ = eprintln!(rt; "error: {path}: {}", cause_text(ErrorKind::OutOfMemory));
         return Err(DEVICE);
     };
     for put in 0..words.len() / 2 {
@@ -331,175 +395,54 @@ fn socket<'a>(
         rate: request.numbers.rate,
         idle: request.numbers.idle,
         receives: config.receives,
+        carrier: carrier_of(request),
         beacon: Beacon::of(config),
+        unit: unit_of(request),
     };
     match PeerSocket::bind(rt, listen, to, pace, reservation, exchange) {
-        Ok(socket) => Ok(socket),
+        Ok(socket) => {
+            if has_any_port(Some(listen))
+                && let Ok(address) = socket.local_address()
+            {
+                let _ = eprintln!(rt; "note: listens at {address}");
+            }
+            Ok(socket)
+        }
         Err(unusable) => {
             let _ = match unusable {
-                Unusable::Own(error) => eprintln!(rt; "error: --listen {listen}: {}", error.kind()),
-                Unusable::Peer(error) => eprintln!(rt; "error: --to {to}: {}", error.kind()),
+                Unusable::Own(error) => eprintln!(rt;
+                    "error: --listen {listen}: {}",
+                    address_cause(error.kind())
+                ),
+                Unusable::Peer(error) => eprintln!(rt;
+                    "error: --to {to}: {}",
+                    address_cause(error.kind())
+                ),
             };
             Err(DEVICE)
         }
     }
 }
 
-/// Runs the station, shows what is seen of that, and answers the exit status.
-fn ran_status(
-    rt: &HostRuntime,
-    request: &StationRequest,
-    config: Valid<WorldConfig>,
-    parts: StationParts<'_>,
-    exchange: &Exchange,
-) -> u8 {
-    let (told, progress) = (Cell::new(false), Progress::new(rt));
-    let context = Context {
-        rt,
-        request,
-        exchange,
-        progress: &progress,
-    };
-    let ran = ran(context, config, parts, &told);
-    tell_untold(rt, ran.exit, &told);
-    shown_status(rt, &request.shown, &ran)
-}
-
-/// What a run is shown by, and what was asked for.
-#[derive(Clone, Copy)]
-struct Context<'a> {
-    rt: &'a HostRuntime,
-    request: &'a StationRequest,
-    exchange: &'a Exchange,
-    progress: &'a Progress<'a>,
-}
-
-/// Runs the station over the folder of its outbox. Without one it has no put, and asks for no file.
-fn ran(
-    context: Context<'_>,
-    config: Valid<WorldConfig>,
-    parts: StationParts<'_>,
-    told: &Cell<bool>,
-) -> Ran {
-    let rt = context.rt;
-    let path = match &context.request.outbox {
-        Some(path) => path.as_str(),
-        None => "",
-    };
-    match folder_outbox(rt, path) {
-        Ok(outbox) => {
-            let outbox = TellingOutbox::over(rt, path, outbox, told, context.progress);
-            ran_from(context, config, parts, outbox, told)
-        }
-        Err(AllocError) => Ran::unseen(Exit::Device(Fault::NoMemoryAtStart)),
+/// What a datagram is.
+pub fn carrier_of(request: &StationRequest) -> Carrier {
+    match request.carrier {
+        CarrierKind::Frames => Carrier::Frames,
+        CarrierKind::Packets => Carrier::Packets,
+        CarrierKind::Pdus => Carrier::Pdus,
     }
 }
 
-/// Runs the station over this outbox and the folder of its inbox; without one it takes no file.
-fn ran_from<O: SeekingOutbox>(
-    context: Context<'_>,
-    config: Valid<WorldConfig>,
-    parts: StationParts<'_>,
-    outbox: O,
-    told: &Cell<bool>,
-) -> Ran {
-    let rt = context.rt;
-    match &context.request.inbox {
-        Some(path) => match TellingInbox::new(rt, path.as_str(), told, context.progress) {
-            Ok(inbox) => ran_over(context, config, parts, outbox, inbox),
-            Err(AllocError) => Ran::unseen(Exit::Device(Fault::NoMemoryAtStart)),
-        },
-        None => {
-            let inbox = TellingNoInbox::new(rt, told, context.progress);
-            ran_over(context, config, parts, outbox, inbox)
-        }
+/// The unit of times that are set.
+fn unit_of(request: &StationRequest) -> Unit {
+    match request.unit {
+        TimeUnit::Seconds => Unit::Seconds,
+        TimeUnit::Milliseconds => Unit::Milliseconds,
     }
-}
-
-/// Runs the station over these stores. One looks on if that is asked for.
-fn ran_over<O: SeekingOutbox, I: Inbox>(
-    context: Context<'_>,
-    config: Valid<WorldConfig>,
-    parts: StationParts<'_>,
-    outbox: O,
-    inbox: I,
-) -> Ran {
-    let Context {
-        rt,
-        request,
-        exchange,
-        progress,
-    } = context;
-    let screen = Screen {
-        rt,
-        progress: Some(progress),
-    };
-    match Onlooker::new(screen, config, &request.shown) {
-        Ok(onlooker) => {
-            let own = WorldConfig::station(config, side_of(request)).get();
-            let lookout = LoopLookout { onlooker, progress };
-            let mut notices = Notices::new(rt, lookout, exchange, own, request.to.as_str());
-            let exit = reported(context, config, parts, (outbox, inbox), &mut notices);
-            Ran {
-                exit,
-                seen: notices.lookout.onlooker.into_summary(),
-            }
-        }
-        Err(AllocError) => Ran::unseen(Exit::Device(Fault::NoMemoryAtStart)),
-    }
-}
-
-/// Runs the station, and writes the report to standard output. Its buffer is there before the first
-/// turn.
-fn reported<O: SeekingOutbox, I: Inbox, L: Lookout>(
-    context: Context<'_>,
-    config: Valid<WorldConfig>,
-    parts: StationParts<'_>,
-    stores: (O, I),
-    lookout: &mut L,
-) -> Exit {
-    let Context { rt, request, .. } = context;
-    let alloc = rt.alloc();
-    let StationParts {
-        socket,
-        frame_count,
-    } = parts;
-    let Ok(options) = options(alloc, request, config, frame_count) else {
-        return Exit::Device(Fault::NoMemoryAtStart);
-    };
-    let Ok(mut out) = BufWriter::new(alloc, io::writer(rt)) else {
-        return Exit::Device(Fault::NoMemoryAtStart);
-    };
-    let (outbox, inbox) = stores;
-    let ends = StationEnds {
-        outbox,
-        inbox,
-        wire: LossyWire::new(socket, request.numbers.drop_every),
-    };
-    let exit = run_station(alloc, options, ends, &mut out, lookout);
-    // What a failed write left in the buffer is let go: a `BufWriter` would write it once more.
-    let _ = out.into_parts();
-    exit
-}
-
-/// How the station is set up, and what it is to send.
-fn options(
-    alloc: Global,
-    request: &StationRequest,
-    config: Valid<WorldConfig>,
-    frame_count: u32,
-) -> Result<StationOptions, AllocError> {
-    let side = side_of(request);
-    Ok(StationOptions {
-        config: WorldConfig::station(config, side),
-        frame_count,
-        puts: put_names(alloc, request.puts.as_slice())?,
-        side,
-    })
 }
 
 /// Which of both stations it is.
-fn side_of(request: &StationRequest) -> Side {
+pub fn side_of(request: &StationRequest) -> Side {
     if request.numbers.id < request.numbers.peer {
         Side::One
     } else {
@@ -507,14 +450,23 @@ fn side_of(request: &StationRequest) -> Side {
     }
 }
 
-/// The files that are to be sent, by pairs of words.
-fn put_names(alloc: Global, words: &[String]) -> Result<Vec<PutNames>, AllocError> {
-    let mut puts = Vec::new(alloc);
-    for pair in 0..words.len() / 2 {
-        puts.push(PutNames {
-            source: Vec::from_slice(alloc, words[2 * pair].as_bytes())?,
-            destination: Vec::from_slice(alloc, words[2 * pair + 1].as_bytes())?,
-        })?;
-    }
-    Ok(puts)
+/// Runs the station, shows what is seen of that, and answers the exit status.
+fn ran_status<'a>(
+    rt: &'a HostRuntime,
+    request: &'a StationRequest,
+    parts: StationParts<'a>,
+    spool: Option<StationSpool<'a>>,
+    exchange: &'a Exchange,
+) -> u8 {
+    let (told, progress) = (Cell::new(false), Progress::new(rt));
+    let context = Context {
+        rt,
+        request,
+        exchange,
+        progress: &progress,
+        told: &told,
+    };
+    let ran = ran(context, parts, spool);
+    tell_untold(rt, ran.exit, &told);
+    shown_status(rt, &request.shown, &ran)
 }

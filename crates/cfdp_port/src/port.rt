@@ -2,6 +2,7 @@
 ghost use Rattle.std.specs.Prelude.{◌≡◌, drop, is_some, IfOk, OnErr, OnOk};
 ghost use Rattle.std.specs.FinMap as map;
 ghost use Rattle.cfdp_entity.specs.Entity.{phase_told};
+ghost use Rattle.cfdp_station.specs.Requests.{StationAnswers};
 ghost use Rattle.link_sim.specs.World.State.{IsNewAt};
 ghost use Rattle.cfdp_port.specs.Asking.{CountsFrom, FailsToLook, ForgetsTold, LetsGo, LooksAt};
 ghost use Rattle.cfdp_port.specs.Asking.{Puts};
@@ -20,7 +21,7 @@ use aos_frame::HEADER_LEN as FRAME_HEADER_LEN;
 use cfdp_directives::{Indication, Phase};
 use cfdp_entity::an_entity_goes_on;
 use cfdp_header::TransactionId;
-use cfdp_station::{PutError, Station, StationConfig};
+use cfdp_station::{PutError, Request, RequestError, Station, StationConfig};
 use cfdp_store::{Inbox, Outbox, SeekingOutbox, StoreError};
 use link_sim::{Passed, Side};
 use mpdu::MPDU_HEADER_LEN;
@@ -173,6 +174,19 @@ impl<O: Outbox, I: Inbox, W: Wire> Port<O, I, W> {
             Err(_) => {}
         }
         answer
+    }
+
+    /// Does what is asked of a transaction, as [`Station::request`] says.
+    ///
+    /// # Errors
+    ///
+    /// Those of [`Station::request`].
+    pub fn request(&mut self, id: TransactionId, request: Request) -> Result<(), RequestError>
+        ensures answers { AtStation (StationAnswers request id result) self.old self.new }
+        ensures gains { Gains (table_of self.old.station) (table_of self.new.station) }
+    {
+        an_entity_goes_on();
+        self.station.request(id, request)
     }
 
     /// Lets go of the records of all transactions that are over, as far as there is memory to note

@@ -133,15 +133,15 @@ entity_of s side = record {
 abbrev pub link_of : Side → ℕ → LinkConfig
 link_of One zone = record {
   spacecraft = 42;
-  channel = 5;
-  data_channel = 7;
+  virtual_channel = 5;
+  data_virtual_channel = 7;
   zone = zone;
   apid = 100;
 }
 link_of Two zone = record {
   spacecraft = 42;
-  channel = 6;
-  data_channel = 8;
+  virtual_channel = 6;
+  data_virtual_channel = 8;
   zone = zone;
   apid = 101;
 }

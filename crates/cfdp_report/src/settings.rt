@@ -256,14 +256,14 @@ fn handler(number: u64) -> Option<Handler>
 fn link(side: Side, zone: u16) -> LinkConfig
     ensures { result ≡ link_of side zone }
 {
-    let (channel, data_channel, apid) = match side {
+    let (virtual_channel, data_virtual_channel, apid) = match side {
         Side::One => (5, 7, 100),
         Side::Two => (6, 8, 101),
     };
     LinkConfig {
         spacecraft: 42,
-        channel,
-        data_channel,
+        virtual_channel,
+        data_virtual_channel,
         zone,
         apid,
     }

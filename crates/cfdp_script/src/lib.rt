@@ -8,4 +8,6 @@ mod input;
 mod script;
 
 pub use dump::{DumpKind, DumpRequest, run_dump};
+pub use script::command::{Unread, parse_asked, parse_id};
 pub use script::sim::run_sim;
+pub use script::words::{Words, cut_at_first};

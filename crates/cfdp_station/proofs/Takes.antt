@@ -14,7 +14,7 @@ use Rattle.cfdp_station.specs.Taking.{HearsAll, TakesFrame}
 pub takes_frame : (frame : List ℕ) (entity entity_now : Counted) (down : DownState) (up up_now : UpState) (none : List (Vec ℕ Global)) (pdus : List (List ℕ)) → none ≡ [] →
     LaneTakes frame (lane_up (lane_of up frame) up) (lane_up (lane_of up frame) up_now) (octets_of_each none) pdus →
     lane_up (other_lane (lane_of up frame)) up_now ≡ lane_up (other_lane (lane_of up frame)) up →
-    ((l : Lane) → 2 ≤ length frame → field frame 10 6 ≡ (lane_up l up).link.channel → lane_of up frame ≡ l) →
+    ((l : Lane) → 2 ≤ length frame → field frame 10 6 ≡ (lane_up l up).link.virtual_channel → lane_of up frame ≡ l) →
     HearsAll pdus entity entity_now → (old : StationState) → record { entity = entity; down = down; up = up } ≡ old →
     TakesFrame frame old (record { entity = entity_now; down = down; up = up_now })
 takes_frame frame entity entity_now down up up_now none pdus is_none takes other lane heard old is =

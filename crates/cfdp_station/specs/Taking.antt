@@ -34,5 +34,6 @@ pub record TakesFrame (frame : List ℕ) (old new : StationState) : Type 0 where
   pub down : new.down ≡ old.down
   pub other : lane_up (other_lane (lane_of old.up frame)) new.up
       ≡ lane_up (other_lane (lane_of old.up frame)) old.up
-  pub lane : (l : Lane) → 2 ≤ length frame → field frame 10 6 ≡ (lane_up l old.up).link.channel →
+  pub lane : (l : Lane) → 2 ≤ length frame →
+      field frame 10 6 ≡ (lane_up l old.up).link.virtual_channel →
       lane_of old.up frame ≡ l

@@ -26,7 +26,7 @@ pub record IsDecoded (all : Bool) (link : ChannelConfig) (ps : List (List ℕ)) 
 -- what spells a frame has no fault
 pub no_fault : (link : ChannelConfig) (h : FrameHeader) (text : List ℕ) → SpellsFrame link h text → frame_fault text link ≡ None
 no_fault link h text s =
-    let busy : field text 10 6 ≡ 63 → ⊥ = λ (e : field text 10 6 ≡ 63). omega (arith, e, s.channel, s.carries_packets) in
+    let busy : field text 10 6 ≡ 63 → ⊥ = λ (e : field text 10 6 ≡ 63). omega (arith, e, s.virtual_channel, s.carries_packets) in
     rw (
       eq-eqb (length text) (6 + 2 + link.zone) s.size,
       eq-eqb (field text 0 2) 1 s.version,
@@ -34,7 +34,7 @@ no_fault link h text s =
       eq-eqb (field text 42 2) 0 s.two_bits,
       eq-eqb (field text 2 8) link.spacecraft (s.spacecraft ∙ s.our_spacecraft),
       ne_eqb (field text 10 6) 63 busy,
-      eq-eqb (field text 10 6) link.channel (s.channel ∙ s.our_channel),
+      eq-eqb (field text 10 6) link.virtual_channel (s.virtual_channel ∙ s.our_channel),
     ) refl
 
 -- what a header that is spelled tells of its count
@@ -64,14 +64,14 @@ pub made_is_next : (link : ChannelConfig) (ps : List (List ℕ)) (marks : List B
     IsNextFrameOf true link ps marks frame
 made_is_next link ps marks frame valid byte next =
     let n : ℕ = length marks in
-    let h : FrameHeader = record { spacecraft = link.spacecraft; channel = link.channel; count = n % frame_counts; cycle = true } in
+    let h : FrameHeader = record { spacecraft = link.spacecraft; virtual_channel = link.virtual_channel; count = n % frame_counts; cycle = true } in
     let p : ℕ = first_header_pointer link.zone (n * link.zone) 0 ps in
     let body : List ℕ = zone link.zone (n * link.zone) (stream ps) in
     let long : length body ≡ link.zone = long_zone link ps n next.inside in
     let two : length (pointer_octets p) ≡ 2 = length-octets 2 p in
     let all : length (mpdu_of link ps n) ≡ 2 + link.zone = omega (arith, length-append (pointer_octets p) body) in
     let read : SpellsFrame link h (frame_of link ps n) × (drop 6 (frame_of link ps n) ≡ mpdu_of link ps n) =
-    written_frame_is_read link h (mpdu_of link ps n) (record { spacecraft = byte; channel = valid.channel; count = omega arith }) refl refl all in
+    written_frame_is_read link h (mpdu_of link ps n) (record { spacecraft = byte; virtual_channel = valid.virtual_channel; count = omega arith }) refl refl all in
     let s : SpellsFrame link h frame = subst (SpellsFrame link h) (sym next.octets) read.0 in
     let behind : drop 6 frame ≡ pointer_octets p ++ body = ap (λ l. drop 6 l) next.octets ∙ read.1 in
     let again = written_pointer p body (pointer_fits link.zone (n * link.zone) 0 ps valid.most_zone) in

@@ -48,7 +48,7 @@ new_is all link ps counts size whole ours_all =
 
 pub frame-push : (link : ChannelConfig) (ps : List (List ℕ)) (q : List ℕ) (n : ℕ) → n * link.zone + link.zone ≤ length (stream ps) → frame_of link (ps ++ q ∷ []) n ≡ frame_of link ps n
 frame-push link ps q n h =
-    let header : FrameHeader = record { spacecraft = link.spacecraft; channel = link.channel; count = n % frame_counts; cycle = true } in
+    let header : FrameHeader = record { spacecraft = link.spacecraft; virtual_channel = link.virtual_channel; count = n % frame_counts; cycle = true } in
     let e : ℕ = n * link.zone in
     ap (λ p. frame_octets header (octets 2 p ++ zone link.zone e (stream (ps ++ q ∷ [])))) (pointer-push link.zone e 0 ps q (omega (arith, h)))
     ∙ ap (λ l. frame_octets header (octets 2 (first_header_pointer link.zone e 0 ps) ++ l)) (zone-push link.zone e ps q h)

@@ -38,10 +38,10 @@ idle_of_link link [] (q ∷ qs) none all =
 
 -- the octets of a frame that is written
 pub written_frame : (link : ChannelConfig) (ps : List (List ℕ)) (made count pointer : ℕ) (headers body : List ℕ) → count ≡ made % frame_counts →
-    headers ≡ frame_octets (record { spacecraft = link.spacecraft; channel = link.channel; count = count; cycle = true }) (pointer_octets pointer) →
+    headers ≡ frame_octets (record { spacecraft = link.spacecraft; virtual_channel = link.virtual_channel; count = count; cycle = true }) (pointer_octets pointer) →
     ZoneOf ps made link.zone pointer body → headers ++ body ≡ frame_of link ps made
 written_frame link ps made count pointer headers body counted written zo =
-    let h : ℕ → List ℕ = λ (n : ℕ). header_octets (record { spacecraft = link.spacecraft; channel = link.channel; count = n; cycle = true }) in
+    let h : ℕ → List ℕ = λ (n : ℕ). header_octets (record { spacecraft = link.spacecraft; virtual_channel = link.virtual_channel; count = n; cycle = true }) in
     let same : pointer_octets pointer ++ body ≡ mpdu_of link ps made =
     ap (λ n. pointer_octets n ++ body) zo.pointed ∙ ap (λ l. pointer_octets (first_header_pointer link.zone (made * link.zone) 0 ps) ++ l) zo.cut_out in
     ap (λ l. l ++ body) written ∙ append_assoc (h count) (pointer_octets pointer) body ∙ ap (λ n. h n ++ (pointer_octets pointer ++ body)) counted ∙ ap (λ l. h (made % frame_counts) ++ l) same

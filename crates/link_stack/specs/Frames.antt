@@ -57,7 +57,7 @@ abbrev pub frame_of : ChannelConfig → List (List ℕ) → ℕ → List ℕ
 frame_of link ps n =
     frame_octets (record {
       spacecraft = link.spacecraft;
-      channel = link.channel;
+      virtual_channel = link.virtual_channel;
       count =
           n % frame_counts;
       cycle = true;

@@ -225,7 +225,7 @@ first_up link = record {
 -- to the lane of directives, which drops and counts it.
 abbrev pub lane_of : UpState → List ℕ → Lane
 lane_of u frame =
-    if nat_le 2 (length frame) && field frame 10 6 == u.file_data.link.channel then Data
+    if nat_le 2 (length frame) && field frame 10 6 == u.file_data.link.virtual_channel then Data
     else Directives
 
 -- how often a cause was counted: on either lane, save at the greatest value

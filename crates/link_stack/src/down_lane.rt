@@ -190,7 +190,7 @@ impl DownLane {
         };
         let frame = FrameHeader {
             spacecraft: self.link.spacecraft,
-            channel: self.link.channel,
+            virtual_channel: self.link.virtual_channel,
             count: self.frames.next(),
             cycle: true,
         };

@@ -69,7 +69,7 @@ impl Up {
     fn lane_of(&self, frame: &[u8]) -> Lane
         ensures { result ≡ lane_of self.now frame.now }
     {
-        if frame.len() >= 2 && get(frame, 10, 6) == u64::from(self.file_data.channel()) {
+        if frame.len() >= 2 && get(frame, 10, 6) == u64::from(self.file_data.virtual_channel()) {
             Lane::Data
         } else {
             Lane::Directives
@@ -98,7 +98,7 @@ impl Up {
             ≡ lane_up (other_lane (lane_of self.old frame.now)) self.old }
         // A lane's frames have its channel, and so come to it.
         ensures lane { (lane : Lane) → 2 ≤ length frame.now →
-            field frame.now 10 6 ≡ (lane_up lane self.old).link.channel →
+            field frame.now 10 6 ≡ (lane_up lane self.old).link.virtual_channel →
             lane_of self.old frame.now ≡ lane }
     {
         match self.lane_of(frame) {

@@ -216,10 +216,10 @@ impl UpLane {
     }
 
     /// The virtual channel of the lane.
-    pub(crate) fn channel(&self) -> u8
-        ensures { result ≡ self.now.link.channel }
+    pub(crate) fn virtual_channel(&self) -> u8
+        ensures { result ≡ self.now.link.virtual_channel }
     {
-        self.link.channel
+        self.link.virtual_channel
     }
 
     /// Reads a zone whose first header pointer may be any but that of idle data. False where it

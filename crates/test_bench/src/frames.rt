@@ -30,8 +30,8 @@ use valid_config::Config;
 /// The link.
 pub const LINK: LinkConfig = LinkConfig {
     spacecraft: 42,
-    channel: 5,
-    data_channel: 7,
+    virtual_channel: 5,
+    data_virtual_channel: 7,
     zone: 32,
     apid: 100,
 };
@@ -105,7 +105,7 @@ fn tell_lane(lane: Lane, out: &mut String) -> Result<(), AllocError> {
     write!(
         out,
         " {} {}\n {} {} {}\n",
-        own.channel, other.channel, own.spacecraft, own.zone, own.apid
+        own.virtual_channel, other.virtual_channel, own.spacecraft, own.zone, own.apid
     )
 }
 
@@ -113,7 +113,7 @@ fn tell_lane(lane: Lane, out: &mut String) -> Result<(), AllocError> {
 fn header(words: &str) -> FrameHeader {
     FrameHeader {
         spacecraft: octet(word(words, 0)),
-        channel: octet(word(words, 1)),
+        virtual_channel: octet(word(words, 1)),
         count: narrow(word(words, 2)),
         cycle: flag(word(words, 3)),
     }
@@ -123,8 +123,8 @@ fn header(words: &str) -> FrameHeader {
 fn link(words: &str) -> LinkConfig {
     LinkConfig {
         spacecraft: octet(word(words, 0)),
-        channel: octet(word(words, 1)),
-        data_channel: octet(word(words, 2)),
+        virtual_channel: octet(word(words, 1)),
+        data_virtual_channel: octet(word(words, 2)),
         zone: half(word(words, 3)),
         apid: half(word(words, 4)),
     }
@@ -152,7 +152,7 @@ fn encodes_again(alloc: Global, words: &str, out: &mut String) -> Result<(), All
 fn count_again(count: u32, cycle: bool, octets: &mut [u8]) -> u32 {
     let header = FrameHeader {
         spacecraft: 42,
-        channel: 5,
+        virtual_channel: 5,
         count,
         cycle,
     };
@@ -167,7 +167,7 @@ fn count_again(count: u32, cycle: bool, octets: &mut [u8]) -> u32 {
 fn written_and_read(header: &FrameHeader, frame: &mut [u8], config: &ChannelConfig) -> u32
     requires fits { FitsHeader header.now }
     requires spacecraft { header.now.spacecraft ≡ config.now.spacecraft }
-    requires channel { header.now.channel ≡ config.now.channel }
+    requires virtual_channel { header.now.virtual_channel ≡ config.now.virtual_channel }
     requires whole { length frame.old ≡ 8 + config.now.zone }
     ensures { result ≡ header.now.count }
 {
@@ -189,7 +189,7 @@ fn reads(octets: &[u8], alloc: Global, out: &mut String) -> Result<(), AllocErro
 /// The lane whose channel a frame has; that of directives where it has neither.
 fn lane_of(octets: &[u8]) -> Lane {
     match FrameHeader::read(octets, LINK.zone) {
-        Ok((header, _)) if header.channel == LINK.data_channel => Lane::Data,
+        Ok((header, _)) if header.virtual_channel == LINK.data_virtual_channel => Lane::Data,
         _ => Lane::Directives,
     }
 }
@@ -209,8 +209,16 @@ fn tell_read(
     rest: &[u8],
     out: &mut String,
 ) -> Result<(), AllocError> {
-    let (spacecraft, channel, count) = (header.spacecraft, header.channel, header.count);
-    write!(out, " {spacecraft} {channel} {count} {}\n", header.cycle)?;
+    let (spacecraft, virtual_channel, count) = (
+        header.spacecraft,
+        header.virtual_channel,
+        header.count,
+    );
+    write!(
+        out,
+        " {spacecraft} {virtual_channel} {count} {}\n",
+        header.cycle
+    )?;
     tell_octets(alloc, rest, out)
 }
 

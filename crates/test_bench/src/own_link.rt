@@ -43,14 +43,14 @@ pub fn default_station<O: Outbox, I: Inbox>(
 ) -> Result<Station<O, I>, NoStation> {
     let sends = LinkConfig {
         spacecraft: 42,
-        channel: 1,
-        data_channel: 3,
+        virtual_channel: 1,
+        data_virtual_channel: 3,
         zone: 1024,
         apid: 100,
     };
     let receives = LinkConfig {
-        channel: 2,
-        data_channel: 4,
+        virtual_channel: 2,
+        data_virtual_channel: 4,
         ..sends
     };
     let config = StationConfig::new(EntityConfig::new(1, 2), sends, receives).validate()?;

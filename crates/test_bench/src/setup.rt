@@ -139,11 +139,11 @@ fn entity(setup: &Setup) -> EntityConfig {
     }
 }
 
-fn link(channel: u64, data_channel: u64, zone: u64, apid: u64) -> LinkConfig {
+fn link(virtual_channel: u64, data_virtual_channel: u64, zone: u64, apid: u64) -> LinkConfig {
     LinkConfig {
         spacecraft: 42,
-        channel: octet(channel),
-        data_channel: octet(data_channel),
+        virtual_channel: octet(virtual_channel),
+        data_virtual_channel: octet(data_virtual_channel),
         zone: half_word(zone),
         apid: half_word(apid),
     }

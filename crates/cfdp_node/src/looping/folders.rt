@@ -1,9 +1,9 @@
 //! A file sent from one folder into another, by two stations over two sockets of this machine.
-use crate::looping::held_folder::HeldFolder;
 use crate::looping::request::LoopRequest;
 use crate::looping::telling::{LoopLookout, TellingInbox, TellingOutbox};
 use crate::looping::{LoopEnds, LoopOptions, loop_config, run_loop};
 use crate::wire::udp::UdpWire;
+use cfdp_host::{HeldFolder, cause_text, fault_text};
 use cfdp_port::{Lookout, LossyWire, Wire};
 use cfdp_report::{Exit, Fault, Input, Name, Onlooker, Progress, Ran, Screen, shown_status};
 use cfdp_store::{FolderError, FolderOutbox, Inbox, Outbox, SeekingOutbox, is_folder_name};
@@ -72,7 +72,10 @@ fn way(rt: &HostRuntime, request: &LoopRequest) -> Result<(LossyWires, HeldFolde
             Ok((wires, held))
         }
         Err(error) => {
-            let _ = eprintln!(rt; "error: a socket of 127.0.0.1: {error}");
+            let _ = eprintln!(rt;
+                "error: a socket of 127.0.0.1: {}",
+                cause_text(error.kind())
+            );
             Err(DEVICE)
         }
     }
@@ -106,7 +109,7 @@ pub fn folder(rt: &HostRuntime, path: &str) -> Result<Metadata, u8> {
             let _ = eprintln!(rt; "error: {path}: it is no folder");
         }
         Err(error) => {
-            let _ = eprintln!(rt; "error: {path}: {}", error.kind());
+            let _ = eprintln!(rt; "error: {path}: {}", cause_text(error.kind()));
         }
     }
     Err(DEVICE)
@@ -169,7 +172,7 @@ pub fn check_file(
 
 /// Says on standard error what is wrong with a file of a folder.
 pub fn tell_of_file(rt: &HostRuntime, path: &str, name: &str, fault: FolderError) {
-    let _ = eprintln!(rt; "error: {path}/{name}: {fault}");
+    let _ = eprintln!(rt; "error: {path}/{name}: {}", fault_text(fault));
 }
 
 /// Sends the file, shows what is seen of that, and answers the exit status.
@@ -208,7 +211,7 @@ fn sent<O: Outbox, W: Wire>(
     told: &Cell<bool>,
     progress: &Progress<'_>,
 ) -> Ran {
-    match TellingInbox::new(rt, request.to.as_str(), told, progress) {
+    match TellingInbox::new(rt, request.to.as_str(), true, told, progress) {
         Ok(inbox) => {
             let ends = LoopEnds {
                 outbox,

@@ -1,5 +1,6 @@
 //! Stores in folders that say on standard error why a call failed, and one who looks on at turns.
 use cfdp_header::TransactionId;
+use cfdp_host::{InboxFiles, fault_text};
 use cfdp_port::{Lookout, Passed};
 use cfdp_report::{Name, Onlooker, Progress, Reception};
 use cfdp_station::{Polled, Station};
@@ -47,7 +48,7 @@ impl Lookout for LoopLookout<'_> {
 pub struct TellingInbox<'a> {
     rt: &'a HostRuntime,
     folder: &'a str,
-    inbox: FolderInbox<&'a HostRuntime>,
+    inbox: FolderInbox<InboxFiles<'a>>,
     /// Whether it said so.
     told: &'a Cell<bool>,
     progress: &'a Progress<'a>,
@@ -55,7 +56,9 @@ pub struct TellingInbox<'a> {
 }
 
 impl<'a> TellingInbox<'a> {
-    /// An inbox over this folder, which is there. It sets `told` once it said so.
+    /// An inbox over this folder, which is there. Where it `replaces`, a file that comes takes the
+    /// place of the one that has its name; else it is refused, and the other stays. It sets `told`
+    /// once it said so.
     ///
     /// # Errors
     ///
@@ -63,36 +66,43 @@ impl<'a> TellingInbox<'a> {
     pub fn new(
         rt: &'a HostRuntime,
         folder: &'a str,
+        replaces: bool,
         told: &'a Cell<bool>,
         progress: &'a Progress<'a>,
     ) -> Result<TellingInbox<'a>, AllocError> {
         Ok(TellingInbox {
             rt,
             folder,
-            inbox: FolderInbox::new(rt, rt.alloc(), folder)?,
+            inbox: FolderInbox::new(InboxFiles::new(rt, replaces), rt.alloc(), folder)?,
             told,
             progress,
             reception: Reception::new(rt.alloc(), progress),
         })
     }
 
-    /// Says why a call failed, if it did, of a file that has no name yet.
-    fn tell_unnamed(&self, answer: Result<(), StoreError>) {
+    /// Says why a call of this transaction failed, if it did, of a file that has no name yet.
+    fn tell_unnamed(&self, answer: Result<(), StoreError>, id: TransactionId) {
         if answer.is_err()
             && let Some(fault) = self.inbox.fault()
         {
             self.begins_to_tell();
-            let _ = eprintln!(self.rt; "error: {}: {fault}", self.folder);
+            let (folder, cause) = (self.folder, fault_text(fault));
+            let TransactionId { source, number } = id;
+            let _ = eprintln!(self.rt; "error: {folder}: {cause} (transaction {source}:{number})");
         }
     }
 
-    /// Says why a file could not be published, if that is so.
-    fn tell(&self, answer: Result<(), StoreError>, name: &[u8]) {
+    /// Says why the file of this transaction could not be published, if that is so.
+    fn tell(&self, answer: Result<(), StoreError>, id: TransactionId, name: &[u8]) {
         if answer.is_err()
             && let Some(fault) = self.inbox.fault()
         {
             self.begins_to_tell();
-            let _ = eprintln!(self.rt; "error: {}/{}: {fault}", self.folder, Name(name));
+            let (folder, name, cause) = (self.folder, Name(name), fault_text(fault));
+            let TransactionId { source, number } = id;
+            let _ = eprintln!(self.rt;
+                "error: {folder}/{name}: {cause} (transaction {source}:{number})"
+            );
         }
     }
 
@@ -103,38 +113,38 @@ impl<'a> TellingInbox<'a> {
 }
 
 impl<'a> Inbox for TellingInbox<'a> {
-    ghost published = { λ i. ⟦<FolderInbox<&'a HostRuntime> as Inbox>⟧.published i.inbox };
+    ghost published = { λ i. ⟦<FolderInbox<InboxFiles<'a>> as Inbox>⟧.published i.inbox };
 
-    ghost staged = { λ i. ⟦<FolderInbox<&'a HostRuntime> as Inbox>⟧.staged i.inbox };
+    ghost staged = { λ i. ⟦<FolderInbox<InboxFiles<'a>> as Inbox>⟧.staged i.inbox };
 
-    ghost failures = { λ i. ⟦<FolderInbox<&'a HostRuntime> as Inbox>⟧.failures i.inbox };
+    ghost failures = { λ i. ⟦<FolderInbox<InboxFiles<'a>> as Inbox>⟧.failures i.inbox };
 
-    ghost steps = { λ i call j. ⟦<FolderInbox<&'a HostRuntime> as Inbox>⟧.steps i.inbox call
+    ghost steps = { λ i call j. ⟦<FolderInbox<InboxFiles<'a>> as Inbox>⟧.steps i.inbox call
         j.inbox };
 
     fn begin(&mut self, id: TransactionId) -> Result<(), StoreError> {
         self.reception.begins(id);
         let answer = self.inbox.begin(id);
-        self.tell_unnamed(answer);
+        self.tell_unnamed(answer, id);
         answer
     }
 
     fn write(&mut self, id: TransactionId, offset: u64, octets: &[u8]) -> Result<(), StoreError> {
         self.reception.notes(id, offset, octets.len());
         let answer = self.inbox.write(id, offset, octets);
-        self.tell_unnamed(answer);
+        self.tell_unnamed(answer, id);
         answer
     }
 
     fn publish(&mut self, id: TransactionId, name: &[u8], size: u64) -> Result<(), StoreError> {
         let answer = self.inbox.publish(id, name, size);
-        self.tell(answer, name);
+        self.tell(answer, id, name);
         answer
     }
 
     fn discard(&mut self, id: TransactionId) -> Result<(), StoreError> {
         let answer = self.inbox.discard(id);
-        self.tell_unnamed(answer);
+        self.tell_unnamed(answer, id);
         answer
     }
 
@@ -245,7 +255,8 @@ impl<'a> TellingOutbox<'a> {
         if let Some(fault) = self.outbox.fault() {
             self.told.set(true);
             self.progress.yields();
-            let _ = eprintln!(self.rt; "error: {}/{}: {fault}", self.folder, Name(name));
+            let (folder, cause) = (self.folder, fault_text(fault));
+            let _ = eprintln!(self.rt; "error: {folder}/{}: {cause}", Name(name));
         }
     }
 }

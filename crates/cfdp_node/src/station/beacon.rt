@@ -69,11 +69,11 @@ impl Beacon {
         octets[14..22].copy_from_slice(&self.id.to_be_bytes());
         octets[22..30].copy_from_slice(&self.peer.to_be_bytes());
         octets[30..32].copy_from_slice(&self.sends.zone.to_be_bytes());
-        octets[32] = self.sends.channel;
-        octets[33] = self.sends.data_channel;
+        octets[32] = self.sends.virtual_channel;
+        octets[33] = self.sends.data_virtual_channel;
         octets[34..36].copy_from_slice(&self.sends.apid.to_be_bytes());
-        octets[36] = self.receives.channel;
-        octets[37] = self.receives.data_channel;
+        octets[36] = self.receives.virtual_channel;
+        octets[37] = self.receives.data_virtual_channel;
         octets[38..40].copy_from_slice(&self.receives.apid.to_be_bytes());
         octets
     }
@@ -88,14 +88,14 @@ impl Beacon {
         }
         let sends = LinkConfig {
             spacecraft: datagram[0] << 2 | datagram[1] >> 6,
-            channel: datagram[32],
-            data_channel: datagram[33],
+            virtual_channel: datagram[32],
+            data_virtual_channel: datagram[33],
             zone: short(datagram, 30),
             apid: short(datagram, 34),
         };
         let receives = LinkConfig {
-            channel: datagram[36],
-            data_channel: datagram[37],
+            virtual_channel: datagram[36],
+            data_virtual_channel: datagram[37],
             apid: short(datagram, 38),
             ..sends
         };
@@ -114,8 +114,8 @@ fn numbers(link: &LinkConfig) -> [u64; 5] {
     [
         u64::from(link.zone),
         u64::from(link.spacecraft),
-        u64::from(link.channel),
-        u64::from(link.data_channel),
+        u64::from(link.virtual_channel),
+        u64::from(link.data_virtual_channel),
         u64::from(link.apid),
     ]
 }

@@ -1,5 +1,7 @@
 //! What the socket of a station and those who look on tell each other.
 use crate::station::beacon::Beacon;
+use cfdp_host::carrier::CarrierTally;
+use cfdp_host::{FrameGaps, Watched};
 use std::cell::Cell;
 use std::io::ErrorKind;
 
@@ -15,6 +17,23 @@ pub struct Exchange {
     pub failed: Cell<Option<ErrorKind>>,
     /// Whether no more frames leave, since their counts can't be noted.
     pub is_stopped: Cell<bool>,
+    /// Whether the link is down by plan: nothing leaves, what comes is thrown away, and the time
+    /// that the station is told stands still.
+    pub is_frozen: Cell<bool>,
+    /// What else a wait looks at, so that it ends once a command may have come.
+    pub watched: Cell<Watched>,
+    /// How many transaction numbers are reserved and not used.
+    pub numbers_left: Cell<u64>,
+    /// Whether more are wanted.
+    pub wants_numbers: Cell<bool>,
+    /// Whether something was asked of the station, so that the next wait is none.
+    pub is_stirred: Cell<bool>,
+    /// The time that the station was told last.
+    pub told: Cell<u64>,
+    /// How many frames were found missing, and how many datagrams were thrown away.
+    pub gaps: FrameGaps,
+    /// How often datagrams were dropped of which nothing was given to the station.
+    pub dropped: CarrierTally,
 }
 
 impl Exchange {
@@ -25,6 +44,14 @@ impl Exchange {
             beacon: Cell::new(None),
             failed: Cell::new(None),
             is_stopped: Cell::new(false),
+            is_frozen: Cell::new(false),
+            watched: Cell::new(Watched::nothing()),
+            numbers_left: Cell::new(0),
+            wants_numbers: Cell::new(false),
+            is_stirred: Cell::new(false),
+            told: Cell::new(0),
+            gaps: FrameGaps::new(),
+            dropped: CarrierTally::new(),
         }
     }
 }

@@ -5,6 +5,8 @@ use crate::station::exchange::Exchange;
 use crate::wire::peer_socket::frame_len;
 use cfdp_directives::{Indication, Phase};
 use cfdp_header::TransactionId;
+use cfdp_host::FrameMonitor;
+use cfdp_host::carrier::CarrierDrop;
 use cfdp_port::{Lookout, Passed};
 use cfdp_station::{EntityDrop, FrameError, LinkDrop, Station, StationConfig};
 use cfdp_store::{Inbox, Outbox};
@@ -78,7 +80,7 @@ fn is_over(at: &mut Option<u64>, now: u64) -> bool {
 struct Foreign {
     len: usize,
     spacecraft: u8,
-    channel: u8,
+    virtual_channel: u8,
 }
 
 /// One who looks on at a station, and tells its operator on standard error what is wrong with the
@@ -94,6 +96,7 @@ pub struct Notices<'a> {
     foreign: Foreign,
     link: [Tally; 11],
     pdus: [Tally; 17],
+    datagrams: [Tally; 7],
     // When something of the link came last, when it was looked what is waited for, and when what
     // was told last.
     heard: u64,
@@ -105,6 +108,7 @@ pub struct Notices<'a> {
     // How many indications were looked at, and whose EOF was sent, as far as they may be open.
     told: u64,
     ended: Vec<TransactionId>,
+    monitor: FrameMonitor<'a>,
 }
 
 impl<'a> Notices<'a> {
@@ -126,10 +130,11 @@ impl<'a> Notices<'a> {
             foreign: Foreign {
                 len: 0,
                 spacecraft: 0,
-                channel: 0,
+                virtual_channel: 0,
             },
             link: [Tally::NONE; 11],
             pdus: [Tally::NONE; 17],
+            datagrams: [Tally::NONE; 7],
             heard: 0,
             looked: 0,
             beacon_at: None,
@@ -138,6 +143,7 @@ impl<'a> Notices<'a> {
             waits_at: None,
             told: 0,
             ended: Vec::new(rt.alloc()),
+            monitor: FrameMonitor::new(config.receives, &exchange.gaps),
         }
     }
 
@@ -159,15 +165,17 @@ impl<'a> Notices<'a> {
             self.foreign.len = datagram.len();
             return;
         };
-        let (spacecraft, channel) = (*first << 2 | *second >> 6, *second & 63);
+        let (spacecraft, virtual_channel) = (*first << 2 | *second >> 6, *second & 63);
         if datagram.len() != frame_len(&up) {
             self.foreign.len = datagram.len();
         } else if spacecraft != up.spacecraft {
             self.foreign.spacecraft = spacecraft;
-        } else if channel == up.channel || channel == up.data_channel {
+        } else if virtual_channel == up.virtual_channel
+            || virtual_channel == up.data_virtual_channel
+        {
             self.heard = self.now();
-        } else if channel != 63 {
-            self.foreign.channel = channel;
+        } else if virtual_channel != 63 {
+            self.foreign.virtual_channel = virtual_channel;
         }
     }
 
@@ -200,6 +208,17 @@ impl<'a> Notices<'a> {
         }
     }
 
+    /// Tells which datagrams were dropped of which nothing was given to the station.
+    fn tell_datagram_drops(&mut self, now: u64) {
+        for (place, by) in CarrierDrop::ALL.iter().enumerate() {
+            let _ = self.datagrams[place].grows(self.exchange.dropped.of(*by));
+            if let Some(count) = self.datagrams[place].news(now) {
+                self.lookout.progress.yields();
+                let _ = eprintln!(self.rt; "note: {count} dropped: {by}");
+            }
+        }
+    }
+
     fn tell_link_drop(&self, by: LinkDrop, count: u64) {
         let (up, foreign) = (self.config.receives, self.foreign);
         self.lookout.progress.yields();
@@ -216,7 +235,7 @@ impl<'a> Notices<'a> {
             ),
             LinkDrop::Frame(FrameError::OtherChannel) => eprintln!(self.rt;
                 "note: {count} dropped: a frame is of channel {}, and here {} and {} are taken",
-                foreign.channel, up.channel, up.data_channel
+                foreign.virtual_channel, up.virtual_channel, up.data_virtual_channel
             ),
             LinkDrop::OtherApid => eprintln!(self.rt;
                 "note: {count} dropped: a packet is of another APID, and here {} is taken",
@@ -304,7 +323,8 @@ impl<'a> Notices<'a> {
 
     /// Tells which file the peer doesn't tell to be finished, where nothing has come for a while.
     fn tell_waiting<O: Outbox, I: Inbox>(&mut self, now: u64, station: &Station<O, I>) {
-        if now == self.looked || now < self.heard.saturating_add(QUIET) {
+        let is_early = now == self.looked || now < self.heard.saturating_add(QUIET);
+        if is_early || self.exchange.is_frozen.get() {
             return;
         }
         self.looked = now;
@@ -366,10 +386,14 @@ impl Lookout for Notices<'_> {
     ) {
         self.note_ended(station);
         match passed {
-            Passed::Took(datagram) => self.looks_at(datagram),
+            Passed::Took(datagram) => {
+                self.monitor.takes(datagram);
+                self.looks_at(datagram);
+            }
             Passed::Ticked(_) => {
                 let now = self.now();
                 self.tell_drops(now, station);
+                self.tell_datagram_drops(now);
                 self.tell_beacon(now);
                 self.tell_failure(now);
                 self.tell_stop(now);

@@ -4,14 +4,61 @@ ghost use Rattle.std.specs.Prelude.{IfSome};
 use cfdp_report::{Setting, Settings, parse_setting};
 use cfdp_station::LinkConfig;
 use link_sim::WorldConfig;
+use std::fmt;
 use valid_config::Valid;
 
 /// The frames of one direction, as numbers that may fit no frame.
 #[derive(Clone, Copy)]
 struct Direction {
-    channel: u64,
-    data_channel: u64,
+    virtual_channel: u64,
+    data_virtual_channel: u64,
     apid: u64,
+}
+
+/// The greatest virtual channel, APID and spacecraft of frames.
+const MOST_CHANNEL: u64 = 62;
+/// See [`MOST_CHANNEL`].
+const MOST_APID: u64 = 2046;
+/// See [`MOST_CHANNEL`].
+const MOST_SPACECRAFT: u64 = 255;
+
+/// What is wrong with the ids of a station and its peer, and with their link.
+#[derive(Clone, Copy)]
+pub enum Misfit {
+    /// Both ids are one.
+    OneId,
+    /// The id of this option doesn't fit the octets that `id_width` sets.
+    WideId(&'static str),
+    /// The value of this key is greater than that.
+    TooGreat(&'static str, u64),
+    /// Both lanes of a direction have one channel, by these keys.
+    OneChannel(&'static str, &'static str),
+    /// Something else is.
+    Other,
+}
+
+impl fmt::Display for Misfit {
+    fn fmt<W: fmt::Write>(&self, f: &mut fmt::Formatter<W>) -> fmt::Result {
+        match self {
+            Misfit::OneId => f.write_str("--id and --peer are one, and have to differ"),
+            Misfit::WideId(option) => {
+                write!(
+                    f,
+                    "--{option} doesn't fit the octets of an id: set id_width, 1 to 8"
+                )
+            }
+            Misfit::TooGreat(key, most) => write!(f, "{key} is out of its range, 0 to {most}"),
+            Misfit::OneChannel(one, other) => {
+                write!(f, "{one} and {other} are one, and have to differ")
+            }
+            Misfit::Other => f.write_str("the station can't be set up so"),
+        }
+    }
+}
+
+/// Whether an id fits so many octets.
+fn fits(id: u64, width: u64) -> bool {
+    width >= 8 || id >> (8 * width) == 0
 }
 
 /// What is set of a station and its link.
@@ -28,13 +75,13 @@ impl StationSetup {
     /// of a script.
     pub fn new(is_lesser: bool) -> StationSetup {
         let one = Direction {
-            channel: 5,
-            data_channel: 7,
+            virtual_channel: 5,
+            data_virtual_channel: 7,
             apid: 100,
         };
         let two = Direction {
-            channel: 6,
-            data_channel: 8,
+            virtual_channel: 6,
+            data_virtual_channel: 8,
             apid: 101,
         };
         let (own, peer) = if is_lesser { (one, two) } else { (two, one) };
@@ -53,16 +100,16 @@ impl StationSetup {
     pub fn set(&mut self, key: &str, value: u64) -> bool {
         if key == "spacecraft" {
             self.spacecraft = value;
-        } else if key == "channel" {
-            self.own.channel = value;
-        } else if key == "data_channel" {
-            self.own.data_channel = value;
+        } else if key == "virtual_channel" {
+            self.own.virtual_channel = value;
+        } else if key == "data_virtual_channel" {
+            self.own.data_virtual_channel = value;
         } else if key == "apid" {
             self.own.apid = value;
-        } else if key == "peer_channel" {
-            self.peer.channel = value;
-        } else if key == "peer_data_channel" {
-            self.peer.data_channel = value;
+        } else if key == "peer_virtual_channel" {
+            self.peer.virtual_channel = value;
+        } else if key == "peer_data_virtual_channel" {
+            self.peer.data_virtual_channel = value;
         } else if key == "peer_apid" {
             self.peer.apid = value;
         } else if let Some(setting) = parse_setting(key.as_bytes()) {
@@ -94,6 +141,46 @@ impl StationSetup {
         self.settings.out_of_range()
     }
 
+    /// What is wrong with the ids and the link of a station that can't be set up so.
+    pub fn misfit(&self, id: u64, peer: u64) -> Misfit {
+        let (own, other, width) = (self.own, self.peer, self.settings.id_width);
+        let ranges = [
+            ("spacecraft", self.spacecraft, MOST_SPACECRAFT),
+            ("virtual_channel", own.virtual_channel, MOST_CHANNEL),
+            (
+                "data_virtual_channel",
+                own.data_virtual_channel,
+                MOST_CHANNEL,
+            ),
+            ("apid", own.apid, MOST_APID),
+            ("peer_virtual_channel", other.virtual_channel, MOST_CHANNEL),
+            (
+                "peer_data_virtual_channel",
+                other.data_virtual_channel,
+                MOST_CHANNEL,
+            ),
+            ("peer_apid", other.apid, MOST_APID),
+        ];
+        for (key, value, most) in ranges {
+            if value > most {
+                return Misfit::TooGreat(key, most);
+            }
+        }
+        if id == peer {
+            Misfit::OneId
+        } else if !fits(id, width) {
+            Misfit::WideId("id")
+        } else if !fits(peer, width) {
+            Misfit::WideId("peer")
+        } else if own.virtual_channel == own.data_virtual_channel {
+            Misfit::OneChannel("virtual_channel", "data_virtual_channel")
+        } else if other.virtual_channel == other.data_virtual_channel {
+            Misfit::OneChannel("peer_virtual_channel", "peer_data_virtual_channel")
+        } else {
+            Misfit::Other
+        }
+    }
+
     /// The configuration of this station and its peer, of which that with the lesser id is the
     /// first; `None` where they can't be set up so.
     pub fn config(&self, id: u64, peer: u64) -> Option<Valid<WorldConfig>> {
@@ -109,8 +196,8 @@ impl StationSetup {
     fn link(&self, direction: Direction) -> Option<LinkConfig> {
         Some(LinkConfig {
             spacecraft: u8::try_from(self.spacecraft).ok()?,
-            channel: u8::try_from(direction.channel).ok()?,
-            data_channel: u8::try_from(direction.data_channel).ok()?,
+            virtual_channel: u8::try_from(direction.virtual_channel).ok()?,
+            data_virtual_channel: u8::try_from(direction.data_virtual_channel).ok()?,
             zone: u16::try_from(self.settings.zone).ok()?,
             apid: u16::try_from(direction.apid).ok()?,
         })

@@ -1,7 +1,7 @@
 //! The numbers that a station has reserved, in a small file, so that none comes back when it is
 //! killed and started anew.
-use crate::lock::{LockError, lock};
 use aos_frame::FRAME_COUNTS;
+use cfdp_host::{LockError, cause_text, lock};
 use cfdp_report::parse_number;
 use std::alloc::AllocError;
 use std::fs::File;
@@ -18,6 +18,9 @@ const MOST_OCTETS: u64 = 4096;
 
 /// How many frame counts are reserved at a time.
 const FRAMES: u64 = 1 << 20;
+
+/// How many transaction numbers are reserved at a time, where they have four octets or more.
+const NUMBERS: u64 = 1024;
 
 /// What is reserved: all numbers below these.
 #[derive(Clone, Copy)]
@@ -53,7 +56,7 @@ pub enum StateError {
 impl fmt::Display for StateError {
     fn fmt<W: fmt::Write>(&self, f: &mut fmt::Formatter<W>) -> fmt::Result {
         match self {
-            StateError::System(error) => write!(f, "{}", error.kind()),
+            StateError::System(error) => f.write_str(cause_text(error.kind())),
             StateError::InUse => f.write_str("another station runs with this file"),
             StateError::Damaged => {
                 f.write_str("no station wrote this; remove it where its numbers may come back")
@@ -91,6 +94,8 @@ pub struct StateFile<'a> {
     path: String,
     file: File,
     reserved: Reserved,
+    // the first number behind those that are reserved for this station
+    numbers_end: u64,
 }
 
 impl<'a> StateFile<'a> {
@@ -127,6 +132,7 @@ impl<'a> StateFile<'a> {
             path: String::from_str(rt.alloc(), path)?,
             file,
             reserved,
+            numbers_end: behind,
         };
         state.write(reserved)?;
         Ok((state, beginning))
@@ -147,6 +153,23 @@ impl<'a> StateFile<'a> {
         };
         self.write(reserved)?;
         self.reserved = reserved;
+        Ok(())
+    }
+
+    /// Reserves so many transaction numbers more.
+    ///
+    /// # Errors
+    ///
+    /// `StateError`; what was reserved stays so then.
+    pub fn adds_numbers(&mut self, more: u64) -> Result<(), StateError> {
+        let end = self.numbers_end.checked_add(more).ok_or(StateError::Spent)?;
+        let reserved = Reserved {
+            numbers: end.max(self.reserved.numbers),
+            ..self.reserved
+        };
+        self.write(reserved)?;
+        self.reserved = reserved;
+        self.numbers_end = end;
         Ok(())
     }
 
@@ -255,6 +278,9 @@ pub struct Reservation<'a> {
     beginning: Beginning,
     /// How many frames have left.
     left: u64,
+    /// How many numbers are reserved at the start, and how many at a time behind these.
+    numbers: u64,
+    step: u64,
 }
 
 impl<'a> Reservation<'a> {
@@ -275,6 +301,8 @@ impl<'a> Reservation<'a> {
             file: Some(file),
             beginning,
             left: 0,
+            numbers: puts,
+            step: if width < 4 { 1 } else { NUMBERS },
         })
     }
 
@@ -288,6 +316,8 @@ impl<'a> Reservation<'a> {
                 frames: now,
             },
             left: 0,
+            numbers: u64::MAX,
+            step: u64::MAX,
         }
     }
 
@@ -299,6 +329,22 @@ impl<'a> Reservation<'a> {
     /// The count of the first frame in either lane.
     pub fn frame_count(&self) -> u32 {
         (self.beginning.frames % u64::from(FRAME_COUNTS)) as u32
+    }
+
+    /// How many transaction numbers are reserved at the start.
+    pub fn numbers_left(&self) -> u64 {
+        self.numbers
+    }
+
+    /// Reserves more transaction numbers, behind those that are. Answers how many; 0 where none can
+    /// be.
+    pub fn adds_numbers(&mut self) -> u64 {
+        if let Some(file) = &mut self.file
+            && file.adds_numbers(self.step).is_err()
+        {
+            return 0;
+        }
+        self.step
     }
 
     /// Notes that one frame more leaves, in either lane. False where its count can't be reserved:

@@ -1,14 +1,15 @@
-//! A wire of one UDP socket, with the peer's at another address: one frame in each datagram.
-ghost use Rattle.std.specs.Prelude.{◌≡◌};
+//! A wire of one UDP socket, with the peer's at another address: datagrams.
+ghost use Rattle.std.specs.Prelude.{◌≡◌, ◌<◌};
 
 use crate::station::beacon::{BEACON_LEN, Beacon};
 use crate::station::exchange::Exchange;
 use crate::station::state_file::Reservation;
+use crate::wire::link_clock::LinkClock;
 use crate::wire::pacer::{Pacer, SECOND};
+use cfdp_host::carrier::Carrier;
 use cfdp_port::{PeerWire, Wire, WireFault};
 use cfdp_station::LinkConfig;
 use libc::net::{self, POLLIN, POLLOUT, SO_RCVBUF, SO_SNDBUF, SOL_SOCKET};
-use libc::types::pollfd;
 use std::alloc::AllocError;
 use std::io::ErrorKind;
 use std::net::{SocketAddr, ToSocketAddrs, UdpSocket};
@@ -28,12 +29,49 @@ const MOST_IN_TURN: u32 = 64;
 /// The time, in nanoseconds, after which a turn takes no more: files are published meanwhile.
 const MOST_TURN_TIME: u64 = 10 * MILLISECOND;
 
+/// The longest wait, in nanoseconds, where timers run in milliseconds: so late one fires at most.
+const MOST_REST: u64 = 50 * MILLISECOND;
+
 /// By how much the time that a station is told may lag while datagrams wait in the socket: what
 /// came in time is taken before a timer expires for want of it.
 const MOST_LAG: u64 = 2 * SECOND;
 
 /// The octets of a datagram for which room is asked beside those of its frame.
 const DATAGRAM_COST: u64 = 768;
+
+/// The unit of the time that a station is told, in which its timers are set.
+#[derive(Clone, Copy, PartialEq, Eq)]
+pub enum Unit {
+    /// Whole seconds: a timer fires less than a second late.
+    Seconds,
+    /// Whole milliseconds: a timer fires at most 50 milliseconds late.
+    Milliseconds,
+}
+
+impl Unit {
+    /// How many nanoseconds it has.
+    fn nanoseconds(self) -> u64
+        ensures { 0 < result }
+    {
+        match self {
+            Unit::Seconds => SECOND,
+            Unit::Milliseconds => MILLISECOND,
+        }
+    }
+
+    /// How long a wait lasts at most that begins at this time: the times at which it ends lie a
+    /// second apart, or 50 milliseconds.
+    fn longest_wait(self, now: u64) -> u64
+        ensures { 0 < result }
+    {
+        match self {
+            Unit::Seconds => SECOND - now % SECOND,
+            Unit::Milliseconds => MOST_REST - now % MOST_REST,
+        }
+    }
+}
+/// The octets of the longest packet that leaves: a PDU has 4,132 at most.
+const MOST_PACKET: usize = 4138;
 
 /// How long a socket waits for its peer, how fast it sends, and the link whose frames it takes.
 #[derive(Clone, Copy)]
@@ -44,16 +82,24 @@ pub struct Pace {
     pub idle: u64,
     /// The frames that it takes.
     pub receives: LinkConfig,
+    /// What a datagram is.
+    pub carrier: Carrier,
     /// What it tells its peer of how it is set up.
     pub beacon: Beacon,
+    /// The unit of the time that it tells the station.
+    pub unit: Unit,
 }
 
 /// A UDP socket at an address of this machine, connected to the peer's: the system drops what comes
 /// from others.
 ///
 /// It waits as it is asked for what came, and only where nothing was sent and nothing came since it
-/// was asked before: until a datagram comes, a frame may leave, or the second is over by its clock.
-/// A frame that the system has no room for is kept, and none may leave until it has gone.
+/// was asked before: until a datagram comes, a frame may leave, a command may have come, or the
+/// second is over by its clock. A frame that the system has no room for is kept, and none may leave
+/// until it has gone.
+///
+/// While the link is down by plan nothing leaves, what comes is thrown away, and the time that the
+/// station is told stands still.
 #[derive(Drop)]
 pub struct PeerSocket<'a> {
     rt: &'a HostRuntime,
@@ -63,17 +109,19 @@ pub struct PeerSocket<'a> {
     pace: Pace,
     pacer: Pacer,
     start: Instant,
+    clock: LinkClock,
     // A frame that the system had no room for, and how many octets it has; 0 where there is none.
     kept: Vec<u8>,
     kept_len: usize,
     // The frame that tells the peer how this station is set up.
     beacon: Vec<u8>,
-    // All times are in nanoseconds since the start: until when no frame may leave, since when it has
-    // been silent, and when it sent its beacon last.
+    // Times in nanoseconds since the start: until when no frame may leave, and when it sent its
+    // beacon last.
     blocked_until: u64,
-    quiet_since: u64,
     beacon_sent: Option<u64>,
-    // At what time nothing waited in the socket last, and how many seconds the station was told.
+    // Times of the link, in nanoseconds: since when it has been silent, and when nothing waited in
+    // the socket last. And what time the station was told, in its unit.
+    quiet_since: u64,
     drained: u64,
     told: u64,
     // Whether a transaction was open when that was told last.
@@ -122,7 +170,7 @@ impl<'a> PeerSocket<'a> {
         socket.set_nonblocking(true).map_err(Unusable::Own)?;
         ask_for_room(&socket, &pace);
         let start = Instant::now(rt).map_err(Unusable::Own)?;
-        let kept = vec![in rt.alloc(); 0u8; frame_len(&pace.receives)]?;
+        let kept = vec![in rt.alloc(); 0u8; most_octets(&pace)]?;
         let mut beacon = Vec::from_slice(rt.alloc(), &pace.beacon.octets())?;
         beacon.resize(frame_len(&pace.receives).max(BEACON_LEN), 0)?;
         Ok(PeerSocket {
@@ -133,6 +181,7 @@ impl<'a> PeerSocket<'a> {
             pace,
             pacer: Pacer::new(pace.rate),
             start,
+            clock: LinkClock::START,
             kept,
             kept_len: 0,
             beacon,
@@ -147,6 +196,26 @@ impl<'a> PeerSocket<'a> {
             has_sent: true,
             is_held: false,
         })
+    }
+
+    /// The address of the socket, with its port.
+    ///
+    /// # Errors
+    ///
+    /// That of the system.
+    pub fn local_address(&self) -> io::Result<SocketAddr> {
+        self.socket.local_addr()
+    }
+
+    /// Whether the link is down by plan.
+    fn is_frozen(&self) -> bool {
+        self.exchange.is_frozen.get()
+    }
+
+    /// The time of the link, in nanoseconds.
+    fn link_time(&mut self) -> u64 {
+        let (now, is_frozen) = (self.since_start(), self.is_frozen());
+        self.clock.at(now, is_frozen)
     }
 
     /// The time in nanoseconds since the start.
@@ -176,7 +245,7 @@ impl<'a> PeerSocket<'a> {
     fn fails(&mut self, kind: ErrorKind) {
         self.exchange.failed.set(Some(kind));
         self.blocked_until = self
-            .now()
+            .since_start()
             .saturating_add(AFTER_FAILURE.saturating_mul(MILLISECOND));
     }
 
@@ -185,7 +254,7 @@ impl<'a> PeerSocket<'a> {
         if self.kept_len == 0 {
             return true;
         }
-        if self.until_ready(self.since_start()) > 0 {
+        if self.is_frozen() || self.until_ready(self.since_start()) > 0 {
             return false;
         }
         let answer = self
@@ -199,7 +268,7 @@ impl<'a> PeerSocket<'a> {
         answer.is_ok()
     }
 
-    /// Keeps a frame that there was no room for. It fits, since all frames are as long.
+    /// Keeps a datagram that there was no room for. It fits, since none is longer.
     fn keep(&mut self, frame: &[u8]) {
         if frame.len() <= self.kept.len() {
             self.kept[..frame.len()].copy_from_slice(frame);
@@ -210,7 +279,10 @@ impl<'a> PeerSocket<'a> {
     /// Tells the peer how this station is set up, where the peer seems to be set up otherwise and
     /// wasn't told within a second.
     fn tell_peer(&mut self) {
-        if !self.exchange.differs.get() {
+        if self.pace.carrier != Carrier::Frames
+            || !self.exchange.differs.get()
+            || self.is_frozen()
+        {
             return;
         }
         let now = self.since_start();
@@ -257,27 +329,39 @@ impl<'a> PeerSocket<'a> {
         self.tell_peer();
     }
 
-    /// Waits until a datagram comes, a frame that waits may leave, or the second is over.
+    /// Waits until a datagram comes, a frame that waits may leave, a command may have come, or the
+    /// second is over.
     fn rests(&mut self) {
+        let (wait, events) = self.awaits();
+        let watched = self.exchange.watched.get();
+        let mut places = watched.beside(self.socket.as_raw_fd(), events);
+        let is_stirred = self.exchange.is_stirred.take() || self.exchange.wants_numbers.get();
+        let milliseconds = if watched.is_due() || is_stirred {
+            0
+        } else {
+            i32::try_from(wait.div_ceil(MILLISECOND)).unwrap_or(1)
+        };
+        if net::poll(&mut places, milliseconds) < 0 {
+            self.pauses();
+        }
+    }
+
+    /// How long it waits, in nanoseconds, and for what of its socket.
+    fn awaits(&mut self) -> (u64, i16) {
         let now = self.since_start();
-        let mut wait = SECOND - now % SECOND;
-        let mut events = POLLIN;
+        if self.is_frozen() {
+            return (self.pace.unit.longest_wait(now), POLLIN);
+        }
+        let wait = self.pace.unit.longest_wait(self.link_time());
         let until_ready = self.until_ready(now);
         if until_ready > 0 {
-            wait = wait.min(until_ready);
+            (wait.min(until_ready), POLLIN)
         } else if self.kept_len > 0 {
-            events |= POLLOUT;
+            (wait, POLLIN | POLLOUT)
         } else if self.is_held {
-            wait = 0;
-        }
-        let mut asked = [pollfd {
-            fd: self.socket.as_raw_fd(),
-            events,
-            revents: 0,
-        }];
-        let milliseconds = i32::try_from(wait.div_ceil(MILLISECOND)).unwrap_or(1);
-        if net::poll(&mut asked, milliseconds) < 0 {
-            self.pauses();
+            (0, POLLIN)
+        } else {
+            (wait, POLLIN)
         }
     }
 
@@ -299,7 +383,7 @@ impl<'a> PeerSocket<'a> {
             self.ends_turn();
             return Ok(());
         }
-        self.drained = self.since_start();
+        self.drained = self.link_time();
         if self.has_sent || self.came > 0 {
             self.ends_turn();
             return Ok(());
@@ -310,6 +394,15 @@ impl<'a> PeerSocket<'a> {
         }
         self.has_sent = true;
         Err(WireFault)
+    }
+
+    /// Reserves transaction numbers where some are wanted; else they are wanted again.
+    fn adds_numbers(&mut self) {
+        if self.exchange.wants_numbers.take() {
+            self.exchange
+                .numbers_left
+                .set(self.reservation.adds_numbers());
+        }
     }
 
     /// Leaves the socket alone for a while.
@@ -324,14 +417,21 @@ impl<'a> PeerSocket<'a> {
             .max(self.blocked_until.saturating_sub(now))
     }
 
-    /// What came of a datagram of so many octets: whether it is for the station. A beacon isn't.
+    /// What came of a datagram of so many octets: whether it is for the station. A beacon isn't, and
+    /// nothing is while the link is down by plan.
     fn hears(&mut self, datagram: &[u8]) -> bool {
-        if let Some(beacon) = Beacon::read(datagram) {
+        if self.is_frozen() {
+            self.exchange.gaps.throws_away();
+            return false;
+        }
+        if self.pace.carrier == Carrier::Frames
+            && let Some(beacon) = Beacon::read(datagram)
+        {
             self.exchange.beacon.set(Some(beacon));
             return false;
         }
-        if is_of_link(datagram, &self.pace.receives) {
-            self.quiet_since = self.since_start();
+        if is_of_link(datagram, &self.pace) {
+            self.quiet_since = self.link_time();
         }
         true
     }
@@ -350,14 +450,27 @@ pub fn frame_len(link: &LinkConfig) -> usize {
     8 + usize::from(link.zone)
 }
 
-/// Whether a datagram looks like a frame that carries packets of the link: it has the length and one
-/// of both channels.
-fn is_of_link(datagram: &[u8], link: &LinkConfig) -> bool {
+/// The octets of the longest datagram that leaves.
+fn most_octets(pace: &Pace) -> usize {
+    match pace.carrier {
+        Carrier::Frames => frame_len(&pace.receives),
+        Carrier::Packets | Carrier::Pdus => MOST_PACKET,
+    }
+}
+
+/// Whether a datagram is of the link. A frame looks like one that carries packets: it has the length
+/// and one of both channels. Else there is a PDU in it that is for the station.
+fn is_of_link(datagram: &[u8], pace: &Pace) -> bool {
+    if let Some(carrier) = pace.carrier.of_pdus() {
+        return carrier.pdu_in(pace.receives.apid, datagram).is_ok();
+    }
+    let link = &pace.receives;
     match datagram.get(1) {
         Some(octet) => {
-            let channel = octet & 63;
+            let virtual_channel = octet & 63;
             datagram.len() == frame_len(link)
-                && (channel == link.channel || channel == link.data_channel)
+                && (virtual_channel == link.virtual_channel
+                    || virtual_channel == link.data_virtual_channel)
         }
         None => false,
     }
@@ -372,7 +485,7 @@ fn ask_for_room(socket: &UdpSocket, pace: &Pace) {
         pace.rate.max(64)
     };
     let octets = frames
-        .saturating_mul(DATAGRAM_COST + u64::from(pace.receives.zone))
+        .saturating_mul(DATAGRAM_COST.saturating_add(most_octets(pace) as u64))
         .min(4 << 20);
     let mut value = [0u8; 16];
     value[..4].copy_from_slice(&(octets as u32).to_ne_bytes());
@@ -422,35 +535,43 @@ impl Wire for PeerSocket<'_> {
 }
 
 impl PeerWire for PeerSocket<'_> {
-    /// The whole seconds since the start. While datagrams wait in the socket it is the time at which
-    /// none did, at most two seconds late. Where the clock can't be read it stands still.
+    /// The whole seconds since the start, or milliseconds, in which the link wasn't down by plan and
+    /// the process ran. While datagrams wait in the socket it is the time at which none did, at most
+    /// two seconds late. Where the clock can't be read it stands still.
     fn now(&mut self) -> u64 {
-        let now = nanoseconds(self.rt, self.start, self.told.saturating_mul(SECOND));
-        let drained = self.drained.max(now.saturating_sub(MOST_LAG));
-        self.told = self.told.max(drained / SECOND);
+        let drained = self.drained.max(self.link_time().saturating_sub(MOST_LAG));
+        self.told = self.told.max(drained / self.pace.unit.nanoseconds());
+        self.exchange.told.set(self.told);
+        self.adds_numbers();
         self.told
     }
 
     fn is_ready(&mut self) -> bool {
         let now = self.since_start();
-        let may_leave = self.sends_kept() && self.until_ready(now) == 0 && self.covers_next(now);
+        let may_leave = !self.is_frozen()
+            && self.sends_kept()
+            && self.until_ready(now) == 0
+            && self.covers_next(now);
         self.is_held = !may_leave;
         if may_leave {
             self.pacer.passes(now);
+            // A carrier may find that a frame has no PDU yet, and come back in the next turn.
+            self.has_sent = true;
         }
         may_leave
     }
 
     fn is_silent(&mut self, is_open: bool) -> bool {
+        let now = self.link_time();
         // What is closed now was open until this turn.
-        if is_open || self.was_open {
-            self.quiet_since = self.since_start();
+        if is_open || self.was_open || self.is_frozen() {
+            self.quiet_since = now;
         }
         self.was_open = is_open;
-        if is_open {
+        if is_open || self.is_frozen() {
             return false;
         }
-        let quiet = self.since_start().saturating_sub(self.quiet_since);
+        let quiet = now.saturating_sub(self.quiet_since);
         self.pace.idle > 0 && quiet >= self.pace.idle.saturating_mul(SECOND)
     }
 }

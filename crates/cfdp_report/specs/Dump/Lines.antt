@@ -117,7 +117,7 @@ pdu_line long h p = if long then pdu_text h.id p ++ long_text h p else pdu_text 
 -- a frame with this header and first header pointer
 abbrev pub frame_text : FrameHeader → ℕ → List ℕ
 frame_text h pointer =
-    codes "frame " ++ decimal h.spacecraft ++ codes " " ++ decimal h.channel ++ codes " "
+    codes "frame " ++ decimal h.spacecraft ++ codes " " ++ decimal h.virtual_channel ++ codes " "
     ++ decimal h.count ++ codes " " ++ decimal pointer
 
 -- the lane of a virtual channel: scripts, and stations that aren't told others, send directives on
@@ -135,7 +135,7 @@ cycle_word cycle = if cycle then codes " cycle" else codes ""
 -- the line of a frame: a long one tells too its lane, and that its count has 28 bits
 abbrev pub frame_line : Bool → FrameHeader → ℕ → List ℕ
 frame_line long h pointer =
-    if long then frame_text h pointer ++ lane_word h.channel ++ cycle_word h.cycle
+    if long then frame_text h pointer ++ lane_word h.virtual_channel ++ cycle_word h.cycle
     else frame_text h pointer
 
 -- The octets are a PDU, and this text says which.

@@ -319,7 +319,7 @@ impl fmt::Display for DumpedFrame {
     fn fmt<W: fmt::Write>(&self, f: &mut fmt::Formatter<W>) -> fmt::Result {
         let frame = self.frame;
         if self.long {
-            let lane = lane_word(frame.header.channel);
+            let lane = lane_word(frame.header.virtual_channel);
             let cycle = cycle_word(frame.header.cycle);
             write!(f, "{frame}{lane}{cycle}")
         } else {
@@ -362,10 +362,14 @@ impl fmt::Display for FrameLine {
     fn fmt<W: fmt::Write>(&self, f: &mut fmt::Formatter<W>) -> fmt::Result {
         let FrameHeader {
             spacecraft,
-            channel,
+            virtual_channel,
             count,
             ..
         } = self.header;
-        write!(f, "frame {spacecraft} {channel} {count} {}", self.pointer)
+        write!(
+            f,
+            "frame {spacecraft} {virtual_channel} {count} {}",
+            self.pointer
+        )
     }
 }

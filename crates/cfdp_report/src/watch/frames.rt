@@ -19,7 +19,7 @@ pub struct Watch {
     alloc: Global,
     from: Side,
     // The virtual channel of frames that carry file data.
-    data_channel: u8,
+    data_virtual_channel: u8,
     directives: Counts,
     file_data: Counts,
     // What finds the PDUs in the frames that left, and in those that arrived.
@@ -37,7 +37,7 @@ impl Watch {
         Ok(Watch {
             alloc,
             from,
-            data_channel: link.get().data_channel,
+            data_virtual_channel: link.get().data_virtual_channel,
             directives: Counts { sent: 0, taken: 0 },
             file_data: Counts { sent: 0, taken: 0 },
             sending: Up::new(alloc, link)?,
@@ -109,7 +109,7 @@ impl Watch {
     /// Notes that octets came over a wire, and which PDUs arrived with them. Their lane is that
     /// which takes them: what is of neither channel, or no frame, goes to the lane of directives.
     pub fn comes(&mut self, frame: &[u8], log: &mut Log) {
-        let is_data = frame.len() >= 2 && frame[1] % 64 == self.data_channel;
+        let is_data = frame.len() >= 2 && frame[1] % 64 == self.data_virtual_channel;
         let lane = if is_data {
             Lane::Data
         } else {

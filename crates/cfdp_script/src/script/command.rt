@@ -378,8 +378,12 @@ fn parse_prompt(words: Words<'_>) -> Result<Command, LineError>
     }))
 }
 
-/// Whether a prompt asks for a Keep Alive, or else for a NAK.
-fn parse_asked(word: &[u8]) -> Result<bool, LineError>
+/// Whether a prompt asks for a Keep Alive, or else for a NAK: `keep` or `nak`.
+///
+/// # Errors
+///
+/// `UnknownPrompt`.
+pub fn parse_asked(word: &[u8]) -> Result<bool, LineError>
     ensures { result_ok result ≡ asked_of word.now }
 {
     if word == b"nak".as_slice() {
@@ -403,7 +407,12 @@ fn parse_octet(word: &[u8]) -> Result<u8, LineError>
     parse_hex_octet(word).ok_or(LineError::BadOctet)
 }
 
-fn parse_id(word: &[u8]) -> Result<TransactionId, LineError>
+/// A transaction: two numbers with a colon between, as in `1:7`.
+///
+/// # Errors
+///
+/// `BadId`.
+pub fn parse_id(word: &[u8]) -> Result<TransactionId, LineError>
     ensures { result_ok result ≡ id_of word.now }
 {
     let (source, behind) = cut_at_first(word, b':');

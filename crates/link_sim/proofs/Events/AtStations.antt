@@ -148,9 +148,9 @@ comes_to : (l : Lane) (d : LinkSenderState) (k : FrameLinkState) (old new : Stat
 comes_to l d k old new frame is there e taken =
     let ps : List (List ℕ) = packets_sent (one_way d k (lane_up l old.up)) in
     let made : frame ≡ frame_of d.link ps (length k.marks) = e ∙ is.way.sent.frames (length k.marks) there in
-    let channel : (2 ≤ length (frame_of d.link ps (length k.marks))) × (field (frame_of d.link ps (length k.marks)) 10 6 ≡ d.link.channel) = frame-channel d.link ps (length k.marks) is.way.sent.valid in
-    taken.lane l (subst (λ (f : List ℕ). 2 ≤ length f) (sym made) channel.0)
-    (ap (λ (f : List ℕ). field f 10 6) made ∙ channel.1 ∙ ap (λ x. x.channel) (sym is.way.same_link))
+    let virtual_channel : (2 ≤ length (frame_of d.link ps (length k.marks))) × (field (frame_of d.link ps (length k.marks)) 10 6 ≡ d.link.virtual_channel) = frame-channel d.link ps (length k.marks) is.way.sent.valid in
+    taken.lane l (subst (λ (f : List ℕ). 2 ≤ length f) (sym made) virtual_channel.0)
+    (ap (λ (f : List ℕ). field f 10 6) made ∙ virtual_channel.1 ∙ ap (λ x. x.virtual_channel) (sym is.way.same_link))
 
 pub delivered_at : (l : Lane) (d : LinkSenderState) (k : FrameLinkState) (old new : StationState) (frame : List ℕ) → IsCarried d k (lane_up l old.up) → length k.marks < length k.frames →
     frame ≡ oldest k → TakesFrame frame old new → HearsAt l d k (record k { marks = k.marks ++ true ∷ []; run = 0 }) old new

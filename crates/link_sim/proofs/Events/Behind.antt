@@ -36,7 +36,7 @@ use Rattle.link_sim.proofs.Ways.Sends.{one_at_most}
 -- behind its two headers a frame has its zone
 behind_headers : (link : ChannelConfig) (ps : List (List ℕ)) (n : ℕ) → drop 8 (frame_of link ps n) ≡ zone link.zone (n * link.zone) (stream ps)
 behind_headers link ps n =
-    let h : FrameHeader = record { spacecraft = link.spacecraft; channel = link.channel; count = n % frame_counts; cycle = true } in
+    let h : FrameHeader = record { spacecraft = link.spacecraft; virtual_channel = link.virtual_channel; count = n % frame_counts; cycle = true } in
     let p : List ℕ = pointer_octets (first_header_pointer link.zone (n * link.zone) 0 ps) in
     let body : List ℕ = zone link.zone (n * link.zone) (stream ps) in
     let size : length (header_octets h ++ p) ≡ 8 = omega (arith, length-append (header_octets h) p, length-header_octets h, length-octets 2 (first_header_pointer link.zone (n * link.zone) 0 ps)) in

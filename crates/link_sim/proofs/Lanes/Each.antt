@@ -20,13 +20,13 @@ either-lane P Data here there Data = here
 -- a lane of a link that can be, can be
 pub lane-valid : (l : Lane) (link : LinkConfig) → IsLink link → IsChannel (lane_channel l link)
 lane-valid Directives link valid = record {
-  channel = valid.channel;
+  virtual_channel = valid.virtual_channel;
   least_zone = valid.least_zone;
   most_zone = valid.most_zone;
   apid = valid.apid;
 }
 lane-valid Data link valid = record {
-  channel = valid.data_channel;
+  virtual_channel = valid.data_virtual_channel;
   least_zone = valid.least_zone;
   most_zone = valid.most_zone;
   apid = valid.apid;

@@ -63,14 +63,14 @@ none-is_whole d is Data = elim (cases_Bool (has_whole d.directives)) [
 ]
 
 -- ---- the channel in a frame
-second_octet : (link : ChannelConfig) (ps : List (List ℕ)) (n : ℕ) → get_or (frame_of link ps n) 1 0 ≡ (16384 + 64 * link.spacecraft + link.channel) % 256
+second_octet : (link : ChannelConfig) (ps : List (List ℕ)) (n : ℕ) → get_or (frame_of link ps n) 1 0 ≡ (16384 + 64 * link.spacecraft + link.virtual_channel) % 256
 unfolding bits.octets
 second_octet link ps n = refl
 
-pub frame-channel : (link : ChannelConfig) (ps : List (List ℕ)) (n : ℕ) → IsChannel link → (2 ≤ length (frame_of link ps n)) × (field (frame_of link ps n) 10 6 ≡ link.channel)
+pub frame-channel : (link : ChannelConfig) (ps : List (List ℕ)) (n : ℕ) → IsChannel link → (2 ≤ length (frame_of link ps n)) × (field (frame_of link ps n) 10 6 ≡ link.virtual_channel)
 frame-channel link ps n valid =
-    let h : FrameHeader = record { spacecraft = link.spacecraft; channel = link.channel; count = n % frame_counts; cycle = true } in
-    let k : ℕ = (16384 + 64 * link.spacecraft + link.channel) % 256 in (
+    let h : FrameHeader = record { spacecraft = link.spacecraft; virtual_channel = link.virtual_channel; count = n % frame_counts; cycle = true } in
+    let k : ℕ = (16384 + 64 * link.spacecraft + link.virtual_channel) % 256 in (
       omega (arith, length-append (header_octets h) (mpdu_of link ps n), length-header_octets h),
-      omega (arith, valid.channel, field_in_octet (frame_of link ps n) 10 6 1 2 k refl (omega arith) (second_octet link ps n)),
+      omega (arith, valid.virtual_channel, field_in_octet (frame_of link ps n) 10 6 1 2 k refl (omega arith) (second_octet link ps n)),
     )

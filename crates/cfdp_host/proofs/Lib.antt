@@ -1,0 +1,3 @@
+pub mod JournalLines
+mod AskingRows
+mod CarrierLemmas

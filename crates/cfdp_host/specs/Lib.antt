@@ -1,0 +1,5 @@
+pub mod Asking
+pub mod Lines
+pub mod Journal
+pub mod Carrier
+pub mod CarrierWire

@@ -1,0 +1,93 @@
+//! A spool over a folder: files that are put into it are sent.
+ghost use Rattle.std.specs.Prelude.{◌≡◌, []};
+
+mod folder;
+mod notice;
+mod queue;
+mod scan;
+mod stamp;
+
+use cfdp_service::Spool;
+pub use folder::{SpoolFolder, Way, tell_spool};
+pub use notice::{SpoolNews, SpoolNotice, SpoolTeller, StandardErrorTeller};
+use past::Past;
+use queue::Queue;
+
+/// The exit status where a folder failed.
+const DEVICE: u8 = 3;
+
+/// A spool over a folder. The plain files in it that can be sent are given in the order in which
+/// they were written last, and then in that of their names; a file can be sent whose name is 1 to
+/// 64 of `A-Z a-z 0-9 . _ -`. What has another name, or is no plain file, is left alone, and so is
+/// all whose name begins with a point. So who writes a file writes it as `.NAME`, or in another
+/// folder of the file system, and renames it once it is whole.
+///
+/// A file that was sent is moved to the folder `.sent` in it, or removed; one that couldn't be is
+/// moved to `.failed`; each in the place of an older one of that name. `.leaving` has what is
+/// between both, and its lock keeps other stations away. Where the system refuses the move, that is
+/// told once, and tried again each second; the file isn't given again meanwhile.
+///
+/// A file that came under the name of one that is being sent stays, and is given too. It isn't
+/// moved: its predecessor was gone with that rename. What lies in the folder when the program ends,
+/// however that ends, is given anew by the next start.
+///
+/// The folder is looked through once a second at most, and not before all are given that the last
+/// look found, which are 1,024 at most. No more than 4,096 files are known at a time: those that
+/// are being sent, were put back, or can't be moved away.
+#[derive(Drop)]
+pub struct FolderSpool<'a, T: SpoolTeller> {
+    queue: Queue<'a, T>,
+    gone: Past<Past<u8>>,
+}
+
+impl<'a, T: SpoolTeller> FolderSpool<'a, T> {
+    /// A spool over this folder, which is there. Files that were sent are removed from it where
+    /// `removes_sent`. Of what an operator has to know `teller` is told.
+    ///
+    /// # Errors
+    ///
+    /// The exit status, where the folder can't be had, or its files can't be moved, which was told
+    /// on standard error.
+    pub fn open(
+        rt: &'a HostRuntime,
+        path: &str,
+        removes_sent: bool,
+        teller: T,
+    ) -> Result<FolderSpool<'a, T>, u8> {
+        match SpoolFolder::take(rt, path, removes_sent) {
+            Ok(folder) => Ok(FolderSpool {
+                queue: Queue::new(rt, folder, teller),
+                gone: Past::new(),
+            }),
+            Err(error) => {
+                tell_spool(rt, path, &error);
+                Err(DEVICE)
+            }
+        }
+    }
+}
+
+impl<'a, T: SpoolTeller> Spool for FolderSpool<'a, T> {
+    ghost sent = { λ s. s.gone };
+
+    fn has_next(&mut self) -> bool {
+        self.queue.has_next()
+    }
+
+    fn next(&mut self) -> Option<Vec<u8>> {
+        self.queue.next()
+    }
+
+    fn sent(&mut self, name: &[u8]) {
+        self.queue.leaves(name, Way::Sent);
+        self.gone.put(&Past::of(name));
+    }
+
+    fn failed(&mut self, name: &[u8]) {
+        self.queue.leaves(name, Way::Failed);
+    }
+
+    fn put_back(&mut self, name: &[u8]) {
+        self.queue.put_back(name);
+    }
+}

@@ -1,0 +1,80 @@
+//! The files of an inbox, where a file that came may not take the place of another.
+use std::alloc::Allocator;
+use std::fs::{File, Files, Metadata, OpenOptions};
+use std::io;
+
+/// The files of the system, for an inbox that replaces files, or keeps those that are there.
+///
+/// Where it keeps them, a rename is a link, which the system refuses where anything has that name,
+/// and then the removal of the old name: both names are of one whole file meanwhile, so nothing
+/// partial is seen, and there is no time between a look and a rename in which another program could
+/// make a file of that name. So the file system needs to have links.
+#[derive(Drop)]
+pub struct InboxFiles<'a> {
+    rt: &'a HostRuntime,
+    replaces: bool,
+}
+
+impl<'a> InboxFiles<'a> {
+    /// Those of the system. Where it doesn't replace, no rename takes a name that is there.
+    pub fn new(rt: &'a HostRuntime, replaces: bool) -> InboxFiles<'a> {
+        InboxFiles { rt, replaces }
+    }
+}
+
+impl Files for InboxFiles<'_> {
+    type File = File;
+
+    type Dir = <HostRuntime as Files>::Dir;
+
+    fn open_file(&self, how: &OpenOptions, path: &str) -> io::Result<File> {
+        self.rt.open_file(how, path)
+    }
+
+    fn open_dir(&self, path: &str) -> io::Result<<HostRuntime as Files>::Dir> {
+        self.rt.open_dir(path)
+    }
+
+    fn metadata(&self, path: &str) -> io::Result<Metadata> {
+        self.rt.metadata(path)
+    }
+
+    fn symlink_metadata(&self, path: &str) -> io::Result<Metadata> {
+        self.rt.symlink_metadata(path)
+    }
+
+    fn copy(&self, from: &str, to: &str) -> io::Result<u64> {
+        self.rt.copy(from, to)
+    }
+
+    /// Where the old name can't be removed behind the link, the file has both: it is there under
+    /// the new one, and the next start removes the other.
+    fn rename(&self, from: &str, to: &str) -> io::Result<()> {
+        if self.replaces {
+            return self.rt.rename(from, to);
+        }
+        self.rt.hard_link(from, to)?;
+        let _ = self.rt.remove_file(from);
+        Ok(())
+    }
+
+    fn remove_file(&self, path: &str) -> io::Result<()> {
+        self.rt.remove_file(path)
+    }
+
+    fn create_dir(&self, path: &str) -> io::Result<()> {
+        self.rt.create_dir(path)
+    }
+
+    fn remove_dir(&self, path: &str) -> io::Result<()> {
+        self.rt.remove_dir(path)
+    }
+
+    fn remove_dir_all<B: Allocator>(&self, alloc: B, path: &str) -> io::Result<()> {
+        self.rt.remove_dir_all(alloc, path)
+    }
+
+    fn hard_link(&self, original: &str, link: &str) -> io::Result<()> {
+        self.rt.hard_link(original, link)
+    }
+}

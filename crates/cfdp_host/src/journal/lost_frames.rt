@@ -1,0 +1,99 @@
+//! The frames that were lost on their way to a station.
+use aos_frame::{Continuity, Lane, LinkConfig, VcMonitor, decode};
+use std::cell::Cell;
+
+/// A frame whose count is so far behind the last one came late: what seems to be missing isn't.
+const LATE: u32 = 8_388_608;
+
+/// How often frames were missing between those that came to a station, and how many, and how many
+/// datagrams were thrown away: shared by who counts them and who tells it. Each count stays at the greatest `u64`.
+#[derive(Drop)]
+pub struct FrameGaps {
+    gaps: Cell<u64>,
+    missing: Cell<u64>,
+    thrown_away: Cell<u64>,
+}
+
+impl FrameGaps {
+    /// None so far.
+    pub fn new() -> FrameGaps {
+        FrameGaps {
+            gaps: Cell::new(0),
+            missing: Cell::new(0),
+            thrown_away: Cell::new(0),
+        }
+    }
+
+    /// How often some were missing.
+    pub fn gaps(&self) -> u64 {
+        self.gaps.get()
+    }
+
+    /// How many were missing in all.
+    pub fn missing(&self) -> u64 {
+        self.missing.get()
+    }
+
+    /// How many datagrams were thrown away while the link was down by plan.
+    pub fn thrown_away(&self) -> u64 {
+        self.thrown_away.get()
+    }
+
+    /// Counts one more of these.
+    pub fn throws_away(&self) {
+        self.thrown_away
+            .set(self.thrown_away.get().saturating_add(1));
+    }
+
+    fn adds(&self, missing: u32) {
+        self.gaps.set(self.gaps.get().saturating_add(1));
+        self.missing
+            .set(self.missing.get().saturating_add(u64::from(missing)));
+    }
+}
+
+/// Looks at the frames of a link that come to a station, and counts those that are missing between
+/// them, by the virtual channel frame counts in their headers (CCSDS 732.0-B-4, 4.1.2.4). A peer
+/// that is started anew leaves counts out, up to 1,048,576 in each lane, which seem to be missing.
+#[derive(Drop)]
+pub struct FrameMonitor<'a> {
+    link: LinkConfig,
+    directives: VcMonitor,
+    file_data: VcMonitor,
+    found: &'a FrameGaps,
+}
+
+impl<'a> FrameMonitor<'a> {
+    /// Before the first frame of this link. What it finds, it adds there.
+    pub fn new(link: LinkConfig, found: &'a FrameGaps) -> FrameMonitor<'a> {
+        FrameMonitor {
+            link,
+            directives: VcMonitor::new(),
+            file_data: VcMonitor::new(),
+            found,
+        }
+    }
+
+    /// Looks at a frame that came. One that isn't of the link is left out.
+    pub fn takes(&mut self, frame: &[u8]) {
+        let (link, found) = (&self.link, self.found);
+        look_at(link, Lane::Directives, &mut self.directives, found, frame);
+        look_at(link, Lane::Data, &mut self.file_data, found, frame);
+    }
+}
+
+/// Looks at a frame, if it is of this lane.
+fn look_at(
+    link: &LinkConfig,
+    lane: Lane,
+    monitor: &mut VcMonitor,
+    found: &FrameGaps,
+    frame: &[u8],
+) {
+    if let Ok((header, _)) = decode(frame, &link.lane(lane))
+        && let Continuity::Gap(missing) = monitor.see(header.count, header.cycle)
+        && missing < LATE
+    {
+        found.adds(missing);
+    }
+}

@@ -1,0 +1,74 @@
+//! What a wait looks at.
+use libc::types::pollfd;
+use std::os::fd::RawFd;
+
+/// The most descriptors that are looked at, with that of whoever waits.
+const PLACES: usize = 16;
+
+/// The descriptors of which something may come while one waits for something else, and whether
+/// something lies there already. No one of them stays ready: what they have is taken, or they are
+/// left out.
+#[derive(Clone, Copy)]
+pub struct Watched {
+    // The first place is for the descriptor of whoever waits.
+    places: [pollfd; 16],
+    count: usize,
+    is_due: bool,
+}
+
+/// A place with no descriptor, at which the system doesn't look.
+const FREE: pollfd = pollfd {
+    fd: -1,
+    events: 0,
+    revents: 0,
+};
+
+impl Watched {
+    /// Nothing is looked at.
+    pub fn nothing() -> Watched {
+        Watched {
+            places: [FREE; 16],
+            count: 1,
+            is_due: false,
+        }
+    }
+
+    /// Looks at one more, for these events of `poll`; for none it is left out. Up to 15 fit.
+    pub fn watch(&mut self, fd: RawFd, events: i16) {
+        if events != 0 && self.count < PLACES {
+            self.places[self.count] = pollfd {
+                fd,
+                events,
+                revents: 0,
+            };
+            self.count += 1;
+        }
+    }
+
+    /// Something lies there already, so that nobody is to wait.
+    pub fn is_due(&self) -> bool {
+        self.is_due
+    }
+
+    /// Notes whether something lies there already.
+    pub fn set_due(&mut self, is_due: bool) {
+        self.is_due = is_due;
+    }
+
+    /// What `poll` is asked by one who waits for these events of this descriptor, which stands in
+    /// the first place.
+    pub fn beside(&self, fd: RawFd, events: i16) -> [pollfd; 16] {
+        let mut places = self.places;
+        places[0] = pollfd {
+            fd,
+            events,
+            revents: 0,
+        };
+        places
+    }
+
+    /// What `poll` is asked by one who waits for nothing else.
+    pub fn alone(&self) -> [pollfd; 16] {
+        self.places
+    }
+}

@@ -1,0 +1,271 @@
+//! A station that serves its operator over its stores, from its first turn to its last.
+use crate::looping::folders::folder_outbox;
+use crate::looping::telling::{LoopLookout, TellingInbox, TellingNoInbox, TellingOutbox};
+use crate::station::exchange::Exchange;
+use crate::station::notices::Notices;
+use crate::station::operator::OperatorConsole;
+use crate::station::request::StationRequest;
+use crate::station::{carrier_of, outbox_of, side_of};
+use crate::wire::peer_socket::PeerSocket;
+use cfdp_host::carrier::CarrierWire;
+use cfdp_host::{
+    FolderSpool, Form, Journal, JournalSetup, LineSources, Log, StandardErrorTeller, Style,
+};
+use cfdp_port::{Lookout, LossyWire, PeerWire};
+use cfdp_report::{Exit, Fault, Onlooker, Progress, Ran, Screen};
+use cfdp_service::{
+    Clerk, ClerkLimits, NoSpool, PutNames, ServiceEnds, ServiceOptions, Spool, run,
+};
+use cfdp_store::{Inbox, SeekingOutbox};
+use link_sim::WorldConfig;
+use std::alloc::{AllocError, Global};
+use std::cell::Cell;
+use std::io;
+use std::io::{BufWriter, Write};
+use valid_config::Valid;
+
+/// A spool over a folder, which tells what its operator has to know on standard error.
+pub type StationSpool<'a> = FolderSpool<'a, StandardErrorTeller<'a>>;
+
+/// What a station needs to run.
+#[derive(Drop)]
+pub struct StationParts<'a> {
+    pub socket: PeerSocket<'a>,
+    /// The count of its first frame in either lane.
+    pub frame_count: u32,
+    /// Where commands come from.
+    pub sources: LineSources<'a>,
+    /// How both stations are set up.
+    pub config: Valid<WorldConfig>,
+}
+
+/// What a run is shown by, and what was asked for.
+#[derive(Clone, Copy)]
+pub struct Context<'a> {
+    pub rt: &'a HostRuntime,
+    pub request: &'a StationRequest,
+    pub exchange: &'a Exchange,
+    pub progress: &'a Progress<'a>,
+    /// Whether it was said why a store failed.
+    pub told: &'a Cell<bool>,
+}
+
+/// Runs the station over the folder that it sends from. Without one it has no put, and asks for no
+/// file.
+pub fn ran(context: Context<'_>, parts: StationParts<'_>, spool: Option<StationSpool<'_>>) -> Ran {
+    let rt = context.rt;
+    let path = outbox_of(context.request).unwrap_or("");
+    match folder_outbox(rt, path) {
+        Ok(outbox) => {
+            let outbox = TellingOutbox::over(rt, path, outbox, context.told, context.progress);
+            match spool {
+                Some(spool) => ran_from(context, parts, outbox, spool),
+                None => ran_from(context, parts, outbox, NoSpool::new()),
+            }
+        }
+        Err(AllocError) => Ran::unseen(Exit::Device(Fault::NoMemoryAtStart)),
+    }
+}
+
+/// Runs the station over this outbox and the folder of its inbox; without one it takes no file.
+fn ran_from<'a, O: SeekingOutbox, S: Spool>(
+    context: Context<'a>,
+    parts: StationParts<'a>,
+    outbox: O,
+    spool: S,
+) -> Ran {
+    let Context {
+        rt,
+        request,
+        progress,
+        told,
+        ..
+    } = context;
+    match &request.inbox {
+        Some(path) => {
+            let replaces = !request.flags.no_overwrite;
+            match TellingInbox::new(rt, path.as_str(), replaces, told, progress) {
+                Ok(inbox) => ran_over(context, parts, (outbox, inbox), spool),
+                Err(AllocError) => Ran::unseen(Exit::Device(Fault::NoMemoryAtStart)),
+            }
+        }
+        None => {
+            let inbox = TellingNoInbox::new(rt, told, progress);
+            ran_over(context, parts, (outbox, inbox), spool)
+        }
+    }
+}
+
+/// Runs the station over these stores. One looks on if that is asked for.
+fn ran_over<'a, O: SeekingOutbox, I: Inbox, S: Spool>(
+    context: Context<'a>,
+    parts: StationParts<'a>,
+    stores: (O, I),
+    spool: S,
+) -> Ran {
+    let Context {
+        rt,
+        request,
+        exchange,
+        progress,
+        ..
+    } = context;
+    let config = parts.config;
+    let screen = Screen {
+        rt,
+        progress: Some(progress),
+    };
+    match Onlooker::new(screen, config, &request.shown) {
+        Ok(onlooker) => {
+            let own = WorldConfig::station(config, side_of(request)).get();
+            let lookout = LoopLookout { onlooker, progress };
+            let mut notices = Notices::new(rt, lookout, exchange, own, request.to.as_str());
+            let exit = wired(context, parts, stores, spool, &mut notices);
+            Ran {
+                exit,
+                seen: notices.lookout.onlooker.into_summary(),
+            }
+        }
+        Err(AllocError) => Ran::unseen(Exit::Device(Fault::NoMemoryAtStart)),
+    }
+}
+
+/// Runs the station over its carrier, which loses some of its datagrams if that is asked for.
+fn wired<'a, O: SeekingOutbox, I: Inbox, S: Spool, L: Lookout>(
+    context: Context<'a>,
+    parts: StationParts<'a>,
+    stores: (O, I),
+    spool: S,
+    lookout: &mut L,
+) -> Exit {
+    let Context {
+        rt,
+        request,
+        exchange,
+        ..
+    } = context;
+    let StationParts {
+        socket,
+        frame_count,
+        sources,
+        config,
+    } = parts;
+    let side = side_of(request);
+    let options = ServiceOptions {
+        config: WorldConfig::station(config, side),
+        frame_count,
+        side,
+    };
+    let lossy = LossyWire::new(socket, request.numbers.drop_every);
+    let carrier = carrier_of(request);
+    let wire = CarrierWire::new(
+        rt.alloc(),
+        carrier,
+        options.config,
+        lossy,
+        &exchange.dropped,
+    );
+    match wire {
+        Ok(wire) => {
+            let (outbox, inbox) = stores;
+            let ends = ServiceEnds {
+                outbox,
+                inbox,
+                wire,
+            };
+            operated(context, options, ends, spool, sources, lookout)
+        }
+        Err(AllocError) => Exit::Device(Fault::NoMemoryAtStart),
+    }
+}
+
+/// Runs the station for its operator. The buffer of its log is there before the first turn.
+fn operated<'a, O: SeekingOutbox, I: Inbox, W: PeerWire, S: Spool, L: Lookout>(
+    context: Context<'a>,
+    options: ServiceOptions,
+    ends: ServiceEnds<O, I, W>,
+    spool: S,
+    sources: LineSources<'a>,
+    lookout: &mut L,
+) -> Exit {
+    let Context {
+        rt,
+        request,
+        exchange,
+        progress,
+        ..
+    } = context;
+    let Ok(out) = BufWriter::new(rt.alloc(), io::writer(rt)) else {
+        return Exit::Device(Fault::NoMemoryAtStart);
+    };
+    let Ok(journal) = Journal::new(journal_setup(context), out) else {
+        return Exit::Device(Fault::NoMemoryAtStart);
+    };
+    let form = if request.flags.json {
+        Form::Json
+    } else {
+        Form::Text
+    };
+    let console = OperatorConsole::new(rt, sources, journal, exchange, progress, form);
+    let own = request.numbers.id;
+    let mut clerk = Clerk::new(rt.alloc(), own, limits(request), spool, console);
+    if add_puts(rt.alloc(), &mut clerk, request.puts.as_slice()).is_err() {
+        return Exit::Device(Fault::NoMemoryAtStart);
+    }
+    let exit = match run(rt.alloc(), options, ends, &mut clerk, lookout) {
+        Ok(ended) => clerk.console().exit(ended.is_short, ended.has_failed),
+        Err(AllocError) => Exit::Device(Fault::NoMemoryAtStart),
+    };
+    // What a failed write left in the buffer is let go: a `BufWriter` would write it once more.
+    let _ = clerk.into_console().into_writer().into_parts();
+    exit
+}
+
+/// How the log is written.
+fn journal_setup(context: Context<'_>) -> JournalSetup<'_> {
+    let Context {
+        rt,
+        request,
+        exchange,
+        ..
+    } = context;
+    let flags = request.flags;
+    let style = match (flags.json, flags.no_time) {
+        (true, no_time) => Style::Json { has_time: !no_time },
+        (false, true) => Style::Plain,
+        (false, false) => Style::Text,
+    };
+    let own = request.numbers.id;
+    JournalSetup {
+        log: Log { rt, own, style },
+        outbox: outbox_of(request),
+        gaps: &exchange.gaps,
+    }
+}
+
+/// What limits the station's clerk.
+fn limits(request: &StationRequest) -> ClerkLimits {
+    let limits = request.limits;
+    ClerkLimits {
+        at_once: limits.at_once as usize,
+        retries: u32::try_from(limits.retries).unwrap_or(u32::MAX),
+        most_size: limits.most_size,
+        most_open: limits.most_open as usize,
+    }
+}
+
+/// Asks for the files that are to be sent, by pairs of words.
+fn add_puts<S: Spool, V: Write + Drop>(
+    alloc: Global,
+    clerk: &mut Clerk<S, OperatorConsole<'_, V>>,
+    words: &[String],
+) -> Result<(), AllocError> {
+    for pair in 0..words.len() / 2 {
+        let names = PutNames {
+            source: Vec::from_slice(alloc, words[2 * pair].as_bytes())?,
+            destination: Vec::from_slice(alloc, words[2 * pair + 1].as_bytes())?,
+        };
+        clerk.add(names, false)?;
+    }
+    Ok(())
+}

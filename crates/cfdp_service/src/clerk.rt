@@ -1,0 +1,537 @@
+//! A user that sends files in their order, so many at a time.
+ghost use Rattle.std.specs.Prelude.{◌≡◌, ◌⊎◌, ◌++◌, ◌∷◌, ℕ, List, [], None, Some, Contains};
+ghost use Rattle.std.specs.Prelude.{IfOk, IfSome, IsTrue};
+ghost use Rattle.cfdp_service.specs.Clerk.{ClerkState, ClerkSteps, Completes, KeepsFiles};
+ghost use Rattle.cfdp_service.specs.Clerk.{OpensNone};
+ghost use Rattle.cfdp_service.specs.Clerk.{WishesAsked, WishesFile, asked_file};
+
+use crate::console::{Command, Console, Outcome};
+use crate::spool::Spool;
+use crate::tries::Tries;
+use crate::user::{Intent, User};
+use crate::wish::{PutNames, Reply, Wish};
+use cfdp_directives::{Condition, Delivery, FileStatus, Indication};
+use cfdp_header::TransactionId;
+use cfdp_station::{PutError, Request, Station};
+use cfdp_store::{Inbox, Outbox};
+use std::alloc::{AllocError, Global};
+use std::collections::VecDeque;
+use std::marker::Model;
+
+/// So many records of a station are left free: for what the peer sends, and since what is over here
+/// may not be so at the peer yet, which has as many.
+const LEFT_FREE: usize = 1024;
+
+/// The most commands that are taken before one turn.
+const MOST_COMMANDS: u32 = 64;
+
+/// So many turns a station that was told to stop takes once its puts are over and nothing waits, so
+/// that its last acknowledgements leave.
+const LAST_TURNS: u8 = 3;
+
+/// What limits a clerk.
+#[derive(Clone, Copy)]
+pub struct ClerkLimits {
+    /// The most puts that are open at a time.
+    pub at_once: usize,
+    /// How often a file of the spool is sent once more after a fault that may pass.
+    pub retries: u32,
+    /// The most octets of a file that is received; 0 for any number.
+    pub most_size: u64,
+    /// The most files that are received at a time; 0 for any number.
+    pub most_open: usize,
+}
+
+/// A file of the spool whose put is open.
+#[derive(Drop)]
+pub struct OpenFile {
+    /// The put's transaction.
+    pub id: TransactionId,
+    /// The name of the file.
+    pub name: Vec<u8>,
+}
+
+/// The put that was wished last.
+#[derive(Drop)]
+struct AskedPut {
+    names: PutNames,
+    // Whether its file lies in the spool, and whether it was put before.
+    is_file: bool,
+    is_again: bool,
+}
+
+/// What a clerk was told of the end.
+#[derive(Clone, Copy, PartialEq, Eq)]
+enum Stage {
+    /// Nothing: it goes on.
+    Serving,
+    /// To take no more files, and to end once its puts are over. For so many turns now they are.
+    Stopping(u8),
+    /// To end at once.
+    Halted,
+}
+
+/// A user that sends files: those that were asked for before it began, those that are commanded at
+/// its console, and those that lie in its spool, in this order, and no more at a time than its
+/// limits say. A file leaves the spool as sent only once the station indicated that its put is
+/// complete. A file that comes and is beyond the limits is cancelled as soon as its Metadata are
+/// indicated.
+#[derive(Drop)]
+pub struct Clerk<S: Spool, C: Console> {
+    alloc: Global,
+    own: u64,
+    limits: ClerkLimits,
+    spool: S,
+    console: C,
+    waiting: VecDeque<PutNames>,
+    asked: Option<AskedPut>,
+    files: Vec<OpenFile>,
+    // the open puts of other files, and the files that are received
+    puts: Vec<TransactionId>,
+    receptions: Vec<TransactionId>,
+    // receptions that are to be cancelled
+    refused: Vec<TransactionId>,
+    tries: Tries,
+    stage: Stage,
+    // whether nothing waits in the station for its link
+    is_drained: bool,
+}
+
+impl<S: Spool, C: Console> Model for Clerk<S, C> {
+    ghost use Rattle.cfdp_service.specs.Clerk.{ClerkState, asked_file};
+
+    ghost Value = { ClerkState S };
+
+    ghost view = { λ c. record {
+      own = c.own;
+      asked = asked_file c.asked;
+      files = c.files.items;
+      spool = c.spool;
+    } };
+}
+
+impl<S: Spool, C: Console> Clerk<S, C> {
+    /// One that wishes nothing yet, of the entity `own`.
+    pub fn new(alloc: Global, own: u64, limits: ClerkLimits, spool: S, console: C) -> Self
+        ensures { result ≡ record { own = own; asked = None; files = []; spool = spool } }
+    {
+        Clerk {
+            alloc,
+            own,
+            limits,
+            spool,
+            console,
+            waiting: VecDeque::new(alloc),
+            asked: None,
+            files: Vec::new(alloc),
+            puts: Vec::new(alloc),
+            receptions: Vec::new(alloc),
+            refused: Vec::new(alloc),
+            tries: Tries::new(alloc),
+            stage: Stage::Serving,
+            is_drained: false,
+        }
+    }
+
+    /// Its console, lent.
+    pub fn console(&self) -> &C {
+        &self.console
+    }
+
+    /// Its console.
+    pub fn into_console(self) -> C {
+        self.console
+    }
+
+    /// Asks for a file to be sent: behind all others that wait, or ahead of them.
+    ///
+    /// # Errors
+    ///
+    /// `AllocError` where there is no memory for it.
+    pub fn add(&mut self, names: PutNames, is_first: bool) -> Result<(), AllocError>
+        ensures { self.new ≡ self.old }
+    {
+        if is_first {
+            self.waiting.push_front(names)?;
+        } else {
+            self.waiting.push_back(names)?;
+        }
+        Ok(())
+    }
+
+    /// How many puts are open.
+    fn open_count(&self) -> usize {
+        self.files.len().saturating_add(self.puts.len())
+    }
+
+    /// Takes commands until one changes a transaction, at most 64: that is its wish.
+    fn commanded<O: Outbox, I: Inbox>(&mut self, station: &Station<O, I>) -> Option<Wish>
+        ensures same { self.new ≡ self.old }
+    {
+        for _command in 0..MOST_COMMANDS {
+            let waiting = self.waiting.len();
+            match self.console.next(station, waiting) {
+                Some(Command::Put { names, is_first }) => {
+                    let _ = self.add(names, is_first);
+                }
+                Some(Command::Change(id, request)) => return Some(Wish::Change(id, request)),
+                Some(Command::Stop) => self.stage = self.stage.stopped(),
+                Some(Command::StopNow) => self.stage = Stage::Halted,
+                None => return None,
+            }
+        }
+        None
+    }
+}
+
+/// What is wished next, and the file of the spool that it is about.
+impl<S: Spool, C: Console> Clerk<S, C> {
+    /// The next put, if one may be made.
+    fn next_put(&mut self, records_left: usize) -> Option<Wish>
+        requires { self.old.asked ≡ None }
+        ensures files { self.new.files ≡ self.old.files }
+        ensures own { self.new.own ≡ self.old.own }
+        ensures sent { KeepsFiles S.sent self.old self.new }
+        ensures asked { WishesAsked self.new.asked result }
+    {
+        if self.stage == Stage::Halted
+            || self.open_count() >= self.limits.at_once
+            || records_left <= LEFT_FREE
+            || !self.has_next()
+            || !self.console.may_put()
+        {
+            return None;
+        }
+        match self.waiting.pop_front() {
+            Some(names) => self.wishes_put(names),
+            None => self.next_file(),
+        }
+    }
+
+    /// Whether a file waits that may be put.
+    fn has_next(&mut self) -> bool
+        ensures own { self.new.own ≡ self.old.own }
+        ensures asked { self.new.asked ≡ self.old.asked }
+        ensures files { self.new.files ≡ self.old.files }
+        ensures sent { KeepsFiles S.sent self.old self.new }
+    {
+        !self.waiting.is_empty() || self.stage == Stage::Serving && self.spool.has_next()
+    }
+
+    /// The put of the next file of the spool, if there is one, and no end was asked for.
+    fn next_file(&mut self) -> Option<Wish>
+        requires { self.old.asked ≡ None }
+        ensures files { self.new.files ≡ self.old.files }
+        ensures own { self.new.own ≡ self.old.own }
+        ensures sent { KeepsFiles S.sent self.old self.new }
+        ensures asked { WishesAsked self.new.asked result }
+    {
+        if self.stage != Stage::Serving {
+            return None;
+        }
+        let name = self.spool.next()?;
+        let is_again = self.tries.count(name.as_slice()) > 0;
+        match file_names(self.alloc, name.as_slice()) {
+            Ok((names, wished)) => {
+                self.asked = Some(AskedPut {
+                    names,
+                    is_file: true,
+                    is_again,
+                });
+                Some(Wish::Put(wished))
+            }
+            Err(AllocError) => {
+                self.spool.put_back(name.as_slice());
+                None
+            }
+        }
+    }
+
+    /// A put of these names. Where there is no memory for it, it waits once more.
+    fn wishes_put(&mut self, names: PutNames) -> Option<Wish>
+        requires { self.old.asked ≡ None }
+        ensures files { self.new.files ≡ self.old.files }
+        ensures own { self.new.own ≡ self.old.own }
+        ensures sent { KeepsFiles S.sent self.old self.new }
+        ensures asked { self.new.asked ≡ None }
+    {
+        match names.copy(self.alloc) {
+            Ok(wished) => {
+                self.asked = Some(AskedPut {
+                    names,
+                    is_file: false,
+                    is_again: false,
+                });
+                Some(Wish::Put(wished))
+            }
+            Err(AllocError) => {
+                let _ = self.waiting.push_front(names);
+                None
+            }
+        }
+    }
+}
+
+/// The names of a file that is to have its own name at the peer, twice.
+fn file_names(alloc: Global, name: &[u8]) -> Result<(PutNames, PutNames), AllocError>
+    ensures { IfOk result (λ both. (both.1.source.items ≡ both.0.source.items)
+        × (both.1.destination.items ≡ both.0.source.items)) }
+{
+    let names = PutNames::alike(alloc, name)?;
+    let wished = names.copy(alloc)?;
+    Ok((names, wished))
+}
+
+/// What became of a put.
+impl<S: Spool, C: Console> Clerk<S, C> {
+    /// A put was accepted as this transaction.
+    fn opened(&mut self, names: PutNames, is_file: bool, id: TransactionId)
+        ensures own { self.new.own ≡ self.old.own }
+        ensures asked { self.new.asked ≡ self.old.asked }
+        ensures sent { KeepsFiles S.sent self.old self.new }
+        ensures files { (file : OpenFile) → Contains self.new.files file →
+            Contains self.old.files file
+            ⊎ (IsTrue is_file × (names.source.items ≡ file.name.items) × (file.id ≡ id)) }
+    {
+        let PutNames { source, .. } = names;
+        if is_file {
+            // Without memory it isn't known any more that it is open: it stays in the spool.
+            let _ = self.files.push(OpenFile { id, name: source });
+        } else {
+            let _ = self.puts.push(id);
+        }
+    }
+
+    /// A put was refused by this cause.
+    fn refused(&mut self, put: &AskedPut, by: PutError)
+        ensures own { self.new.own ≡ self.old.own }
+        ensures asked { self.new.asked ≡ self.old.asked }
+        ensures sent { KeepsFiles S.sent self.old self.new }
+        ensures files { self.new.files ≡ self.old.files }
+    {
+        if put.is_file {
+            self.gives_up(put.names.source.as_slice(), may_pass_refusal(by));
+        }
+    }
+
+    /// A file of the spool wasn't sent: it is given once more if the cause may pass and it wasn't
+    /// tried too often, else it leaves the spool as failed.
+    fn gives_up(&mut self, name: &[u8], may_pass: bool)
+        ensures own { self.new.own ≡ self.old.own }
+        ensures asked { self.new.asked ≡ self.old.asked }
+        ensures sent { KeepsFiles S.sent self.old self.new }
+        ensures files { self.new.files ≡ self.old.files }
+    {
+        if may_pass && self.tries.count(name) < self.limits.retries {
+            self.tries.counts(self.alloc, name);
+            self.spool.put_back(name);
+            self.console.ends_file(name, Outcome::PutBack);
+        } else {
+            self.tries.forget(name);
+            self.spool.failed(name);
+            self.console.ends_file(name, Outcome::Failed);
+        }
+    }
+
+    /// The put of a file is complete: it leaves the spool.
+    fn completes(&mut self, name: &[u8])
+        ensures own { self.new.own ≡ self.old.own }
+        ensures asked { self.new.asked ≡ self.old.asked }
+        ensures sent { S.sent self.new.spool ≡ S.sent self.old.spool ++ (name.now ∷ []) }
+        ensures files { self.new.files ≡ self.old.files }
+    {
+        self.tries.forget(name);
+        self.spool.sent(name);
+        self.console.ends_file(name, Outcome::Sent);
+    }
+
+    /// The open file of this transaction, which isn't open from now on.
+    fn take_file(&mut self, id: TransactionId) -> Option<OpenFile>
+        ensures own { self.new.own ≡ self.old.own }
+        ensures asked { self.new.asked ≡ self.old.asked }
+        ensures spool { self.new.spool ≡ self.old.spool }
+        ensures none { OpensNone S.sent self.old self.new }
+        ensures found { IfSome result (λ file. Contains self.old.files file × (file.id ≡ id)) }
+    {
+        let place = self.files.iter().position(|file| file.id == id)?;
+        let file = self.files.remove(place);
+        if file.id == id { Some(file) } else { None }
+    }
+
+    /// A transaction is over: whether its file was delivered, and whether a fault may pass.
+    fn over(&mut self, id: TransactionId, is_complete: bool, may_pass: bool)
+        ensures own { self.new.own ≡ self.old.own }
+        ensures asked { self.new.asked ≡ self.old.asked }
+        ensures none { OpensNone S.sent self.old self.new }
+        ensures sent { KeepsFiles S.sent self.old self.new
+            ⊎ (IsTrue is_complete × ((file : OpenFile) × Contains self.old.files file
+            × (file.id ≡ id)
+            × (S.sent self.new.spool ≡ S.sent self.old.spool ++ (file.name.items ∷ [])))) }
+    {
+        forget_id(&mut self.puts, id);
+        forget_id(&mut self.receptions, id);
+        if let Some(file) = self.take_file(id) {
+            self.leaves(&file, is_complete, may_pass);
+        }
+    }
+
+    /// The put of a file is over.
+    fn leaves(&mut self, file: &OpenFile, is_complete: bool, may_pass: bool)
+        ensures own { self.new.own ≡ self.old.own }
+        ensures asked { self.new.asked ≡ self.old.asked }
+        ensures files { self.new.files ≡ self.old.files }
+        ensures sent { KeepsFiles S.sent self.old self.new ⊎ (IsTrue is_complete
+            × (S.sent self.new.spool
+            ≡ S.sent self.old.spool ++ (file.now.name.items ∷ []))) }
+    {
+        if is_complete {
+            self.completes(file.name.as_slice());
+        } else {
+            self.gives_up(file.name.as_slice(), may_pass);
+        }
+    }
+
+    /// Metadata came: where the file is beyond the limits, it is to be cancelled.
+    fn comes(&mut self, id: TransactionId, size: u64)
+        ensures { self.new ≡ self.old }
+    {
+        if id.source == self.own || self.receptions.contains(&id) {
+            return;
+        }
+        let is_great = self.limits.most_size > 0 && size > self.limits.most_size;
+        let is_one_more = self.limits.most_open > 0
+            && self.receptions.len() >= self.limits.most_open;
+        if is_great || is_one_more {
+            let _ = self.refused.push(id);
+        } else if self.limits.most_open > 0 {
+            let _ = self.receptions.push(id);
+        }
+    }
+}
+
+/// Takes a transaction from a list, where it stands there.
+fn forget_id(ids: &mut Vec<TransactionId>, id: TransactionId) {
+    if let Some(place) = ids.iter().position(|other| *other == id) {
+        let _ = ids.remove(place);
+    }
+}
+
+/// Whether a put that was refused by this cause may be accepted later.
+fn may_pass_refusal(by: PutError) -> bool {
+    match by {
+        PutError::TableFull | PutError::SourceFault | PutError::NoMemory => true,
+        PutError::NoSuchFile | PutError::Name | PutError::TooLarge | PutError::NumbersSpent =>
+            false,
+    }
+}
+
+/// The conditions of transactions that may end otherwise when they are tried once more: a limit was
+/// reached, the peer was silent, its disk was full, or the file changed or was damaged on its way.
+const MAY_PASS: [Condition; 7] = [
+    Condition::POSITIVE_ACK_LIMIT,
+    Condition::KEEP_ALIVE_LIMIT,
+    Condition::FILESTORE_REJECTION,
+    Condition::FILE_CHECKSUM_FAILURE,
+    Condition::NAK_LIMIT,
+    Condition::INACTIVITY,
+    Condition::CHECK_LIMIT,
+];
+
+/// Whether the entity `own` is told by this that this transaction, which it sends, is complete.
+fn is_completion(own: u64, id: TransactionId, indication: &Indication) -> bool
+    ensures { IsTrue result → Completes own id indication.now }
+{
+    match indication {
+        Indication::Finished {
+            id: finished,
+            condition,
+            delivery: Delivery::Complete,
+            status: FileStatus::Retained,
+        } => *finished == id && id.source == own && condition.code() == 0,
+        _ => false,
+    }
+}
+
+impl Stage {
+    /// The stage once it was told to stop.
+    fn stopped(self) -> Stage {
+        match self {
+            Stage::Serving => Stage::Stopping(0),
+            Stage::Stopping(_) | Stage::Halted => self,
+        }
+    }
+}
+
+impl<S: Spool, C: Console> User for Clerk<S, C> {
+    ghost steps = { λ old call new. ClerkSteps S.sent old call new };
+
+    fn asks<O: Outbox, I: Inbox>(&mut self, station: &Station<O, I>) -> Option<Wish> {
+        self.asked = None;
+        self.is_drained = station.next_lane().is_none();
+        if let Some(id) = self.refused.pop() {
+            return Some(Wish::Change(id, Request::Cancel));
+        }
+        match self.commanded(station) {
+            Some(wish) => Some(wish),
+            None => self.next_put(station.records_left()),
+        }
+    }
+
+    fn answered(&mut self, reply: Reply) {
+        match (self.asked.take(), reply) {
+            (Some(put), Reply::Put(answer)) => {
+                self.console.put_answered(&put.names, reply, put.is_again);
+                match answer {
+                    Ok(id) => {
+                        let AskedPut { names, is_file, .. } = put;
+                        self.opened(names, is_file, id);
+                    }
+                    Err(by) => self.refused(&put, by),
+                }
+            }
+            (_, _) => self.console.change_answered(reply),
+        }
+    }
+
+    fn hears(&mut self, indication: &Indication) {
+        self.asked = None;
+        self.console.hears(indication);
+        match indication {
+            Indication::Finished { id, condition, .. } => {
+                let is_complete = is_completion(self.own, *id, indication);
+                self.over(*id, is_complete, MAY_PASS.contains(condition));
+            }
+            Indication::Abandoned(id, condition) => {
+                self.over(*id, false, MAY_PASS.contains(condition));
+            }
+            Indication::MetadataRecv { id, size, .. } => self.comes(*id, *size),
+            _ => {}
+        }
+    }
+
+    fn intends(&mut self) -> Intent {
+        self.asked = None;
+        if self.stage == Stage::Halted || self.console.has_failed() {
+            return Intent::Halt;
+        }
+        if self.open_count() > 0 || !self.waiting.is_empty() {
+            return Intent::GoOn;
+        }
+        match self.stage {
+            Stage::Stopping(turns) if self.is_drained => {
+                if turns >= LAST_TURNS {
+                    return Intent::Halt;
+                }
+                self.stage = Stage::Stopping(turns + 1);
+                Intent::GoOn
+            }
+            Stage::Stopping(_) => Intent::GoOn,
+            Stage::Serving | Stage::Halted => Intent::End,
+        }
+    }
+
+    fn ends<O: Outbox, I: Inbox>(&mut self, station: &Station<O, I>) {
+        self.asked = None;
+        self.console.ends(station);
+    }
+}

@@ -1,0 +1,72 @@
+//! Where an operator stands.
+ghost use Rattle.cfdp_service.specs.Calls.{ConsoleCall, Gives, Heard, Replied, Tells};
+
+use crate::wish::{PutNames, Reply};
+use cfdp_directives::Indication;
+use cfdp_header::TransactionId;
+use cfdp_station::{Request, Station};
+use cfdp_store::{Inbox, Outbox};
+
+/// What an operator says to a station that runs, as far as it changes what the station does.
+#[derive(Drop)]
+pub enum Command {
+    /// To send a file: ahead of all others that wait where `is_first`, else behind them.
+    Put { names: PutNames, is_first: bool },
+    /// To change a transaction.
+    Change(TransactionId, Request),
+    /// To take no more files, and to end once those that it has are over.
+    Stop,
+    /// To end at once.
+    StopNow,
+}
+
+/// What became of a file that lay in a spool.
+#[derive(Clone, Copy, PartialEq, Eq)]
+pub enum Outcome {
+    /// It lies at the peer.
+    Sent,
+    /// It couldn't be sent.
+    Failed,
+    /// It is to be sent once more.
+    PutBack,
+}
+
+/// Where an operator stands: it brings commands, and what the station does is told there.
+pub trait Console: Drop {
+    /// What a call may do, as with [`User`](crate::User).
+    ghost steps: { Self → ConsoleCall → Self → Type 0 } = { λ _ _ _. Unit {0} };
+
+    /// The next command that came; `None` where none has. It is lent the station, and told how many
+    /// files wait for their put, so that it answers questions of the operator by itself.
+    fn next<O: Outbox, I: Inbox>(
+        &mut self,
+        station: &Station<O, I>,
+        waiting: usize,
+    ) -> Option<Command>
+        ensures { steps self.old (Gives result) self.new };
+
+    /// Whether one put more may be made: the number of its transaction is reserved.
+    fn may_put(&mut self) -> bool;
+
+    /// Hears that a put of these names was answered so. `is_again` where the file was put before.
+    fn put_answered(&mut self, names: &PutNames, reply: Reply, is_again: bool)
+        ensures { steps self.old (Replied reply) self.new };
+
+    /// Hears how the change of a transaction was answered that was commanded last.
+    fn change_answered(&mut self, reply: Reply)
+        ensures { steps self.old (Replied reply) self.new };
+
+    /// Hears what the station indicates.
+    fn hears(&mut self, indication: &Indication)
+        ensures { steps self.old (Heard indication.now) self.new };
+
+    /// Hears what became of a file that lay in the spool.
+    fn ends_file(&mut self, name: &[u8], outcome: Outcome)
+        ensures { steps self.old Tells self.new };
+
+    /// Hears that the station has ended, which it is lent for the last time.
+    fn ends<O: Outbox, I: Inbox>(&mut self, station: &Station<O, I>);
+
+    /// Whether what it is told can't be written any more: the station ends.
+    fn has_failed(&self) -> bool;
+}

@@ -1,0 +1,514 @@
+"""Commands to a station that runs: on its standard input, and on a control address."""
+import fcntl
+import os
+import pty
+import random
+import re
+import select
+import socket
+import subprocess
+import termios
+import threading
+import time
+
+import links
+import stations
+from links import SLACK, Link, Relay
+from stations import PATIENT
+
+# A station at rest wakes less often than so many times a second.
+MOST_WAKES = 20
+
+# So long, in seconds, an answer may take.
+SOON = 0.3 + SLACK
+
+
+def free_port():
+    """A port of 127.0.0.1 for connections that nobody has."""
+    with stations.ALONE, socket.socket() as it:
+        it.bind(("127.0.0.1", 0))
+        return it.getsockname()[1]
+
+
+class Client:
+    """A connection to a control address; with little room for what comes if it `is_deaf`."""
+
+    def __init__(self, port, is_deaf=False):
+        self.socket, self.rest = socket.socket(), b""
+        if is_deaf:
+            self.socket.setsockopt(socket.SOL_SOCKET, socket.SO_RCVBUF, 4096)
+        self.socket.settimeout(10)
+        self.socket.connect(("127.0.0.1", port))
+
+    def __enter__(self):
+        return self
+
+    def __exit__(self, *_):
+        self.socket.close()
+
+    def says(self, octets):
+        self.socket.sendall(octets)
+
+    def babbles(self, seconds):
+        """Asks for help, and reads no answer, until for so long it can't any more."""
+        self.socket.settimeout(seconds)
+        try:
+            while True:
+                self.socket.sendall(b"help\n" * 2000)
+        except TimeoutError:
+            pass
+
+    def breaks_off(self):
+        """Resets the connection."""
+        self.socket.setsockopt(socket.SOL_SOCKET, socket.SO_LINGER, b"\x01" + bytes(7))
+        self.socket.close()
+
+    def hears(self):
+        """The next answer, without the empty line at its end; None where none comes."""
+        while b"\n\n" not in self.rest:
+            try:
+                octets = self.socket.recv(65536)
+            except (ConnectionError, TimeoutError):
+                return None
+            if not octets:
+                return None
+            self.rest += octets
+        answer, self.rest = self.rest.split(b"\n\n", 1)
+        return answer.decode() + "\n"
+
+    def asks(self, line):
+        self.says(line.encode() + b"\n")
+        return self.hears()
+
+    def is_left(self):
+        """Whether the station has ended the connection, with nothing more said."""
+        try:
+            return self.socket.recv(1) == b""
+        except ConnectionError:
+            return True
+        except TimeoutError:
+            return False
+
+
+def controlled(link, end, words, settings=None, **ways):
+    """A station that takes commands at an address, and the port of that."""
+    port = free_port()
+    it = link.starts(end, [*words, "--control", f"127.0.0.1:{port}"], settings, **ways)
+    stop = time.monotonic() + 10
+    while time.monotonic() < stop:
+        try:
+            socket.create_connection(("127.0.0.1", port), timeout=1).close()
+            break
+        except OSError:
+            time.sleep(0.02)
+    return it, port
+
+
+def asked(program, port, *words):
+    """What `ask` answers: its status, and both outputs."""
+    whole = [program.path, "ask", f"127.0.0.1:{port}", *words]
+    with stations.ALONE:
+        it = subprocess.Popen(whole, stdout=subprocess.PIPE, stderr=subprocess.PIPE)
+    out, err = it.communicate(timeout=30)
+    return it.returncode, out.decode(), err.decode()
+
+
+# ---- what is asked, and the answer
+
+
+# Words, the status of `ask`, and what the answer is to have.
+ASKED = (
+    (("help",), 0, r"(?m)^put .*\n(.*\n)*^ok\n\Z"),
+    (("counters",), 0, r"ok\n\Z"),
+    (("list",), 0, r"ok\n\Z"),
+    (("lst",), 1, r"\Aerror: .*\blist\b.*\n\Z"),
+    (("nothing",), 1, r"\Aerror: .*put, .*help\n\Z"),
+    (("put", "a"), 1, r"\Aerror: .*put .*SRC DST\n\Z"),
+    (("put", "--first", "a"), 1, r"\Aerror: .*put .*SRC DST\n\Z"),
+    (("put", "a", "b", "c"), 1, r"\Aerror: .*put .*SRC DST\n\Z"),
+    (("put", "a b", "c"), 1, r"\Aerror: .*put .*SRC DST\n\Z"),
+    (("cancel", "7"), 1, r"\Aerror: .*cancel ID\n\Z"),
+    (("cancel", "1:x"), 1, r"\Aerror: .*cancel ID\n\Z"),
+    (("prompt", "1:7", "both"), 1, r"\Aerror: .*nak.*keep.*\n\Z"),
+    (("stop", "later"), 1, r"\Aerror: .*stop .*\n\Z"),
+    (("freeze", "now"), 1, r"\Aerror: .*freeze\n\Z"),
+    ((), 2, r"\A\Z"),
+    (("list\nlist",), 2, r"\A\Z"),
+)
+
+
+def ask_mistakes(program):
+    """What is wrong with the answers to `ask`, its status, and that where no station is."""
+    with Link(program) as link:
+        _, port = controlled(link, 2, ["--inbox", "to"])
+        for words, status, wanted in ASKED:
+            began = time.monotonic()
+            found = asked(program, port, *words)
+            if found[0] != status or not re.search(wanted, found[1]) or (status < 2 and found[2]):
+                yield f"{words}: {found}"
+            if time.monotonic() - began > SOON + 1:
+                yield f"{words}: an answer after {time.monotonic() - began:.1f} s"
+    status, out, err = asked(program, port, "list")
+    if status != 3 or out or not err.startswith("error: "):
+        yield f"where no station is: {(status, out, err)}"
+    with socket.socket() as silent:
+        silent.bind(("127.0.0.1", 0))
+        silent.listen()
+        began = time.monotonic()
+        status, out, err = asked(program, silent.getsockname()[1], "list")
+        took = time.monotonic() - began
+    if status != 3 or out or not err or not 8 < took < 11 + SLACK:
+        yield f"where nobody answers: {(status, out, err)} after {took:.1f} s"
+
+
+def address_mistakes(program):
+    """What is wrong where a control address could be reached from other machines, or is in use."""
+    for address in ("0.0.0.0:0", "[::]:0", "192.0.2.1:5000", "nonsense"):
+        with Link(program) as link:
+            it = link.starts(2, ["--inbox", "to", "--control", address], waits=False)
+            status, out, err = it.ended(10)
+        if status not in (2, 3) or out or not err.startswith("error: --control"):
+            yield f"{address}: status {status}, {out!r}, {err!r}"
+    with Link(program) as link, socket.socket() as other:
+        other.bind(("127.0.0.1", 0))
+        other.listen()
+        address = f"127.0.0.1:{other.getsockname()[1]}"
+        it = link.starts(2, ["--inbox", "to", "--control", address], waits=False)
+        status, out, err = it.ended(10)
+    if status not in (2, 3) or out or not err.startswith("error: --control"):
+        yield f"one in use: status {status}, {out!r}, {err!r}"
+
+
+# ---- lines
+
+
+# What is written at once, with pauses at `|`, and how each answer begins that comes.
+WRITTEN = (
+    (b"counters\n", ["ok|"]),
+    (b"counters  \t \r\n", ["ok|"]),
+    (b"cou|nte|rs\n", ["ok|"]),
+    (b"counters\nlst\ncounters\n", ["ok|", "error: ", "ok|"]),
+    (b"counters\ncoun|ters\n", ["ok|", "ok|"]),
+    (b"\n", ["error: "]),
+    (b" counters\n", ["error: "]),
+    (b"\xff\xfe\x00\x80\ncounters\n", ["error: the line isn't UTF-8", "ok|"]),
+    (b"\x00\ncounters\n", ["error: ", "ok|"]),
+    (b"put \xc3\xa4 b c\ncounters\n", ["error: ", "ok|"]),
+    (b"x" * 4096 + b"\ncounters\n", ["error: there is no such command", "ok|"]),
+    (b"x" * 4096 + b"\r\ncounters\n", ["error: the line has more than 4,096 octets", None]),
+    (b"x" * 5000 + b"\ncounters\n", ["error: the line has more than 4,096 octets", None]),
+    (b"POST / HTTP/1.1\r\nHost: a\r\n\r\nfreeze\n", ["error: this is no web server", None]),
+    (b"x" * 300_000, ["error: the line has more than 4,096 octets", None]),
+)
+
+
+def line_mistakes(program):
+    """What is wrong with the answers to lines that come in parts, many at once, or as no lines."""
+    with Link(program) as link:
+        it, port = controlled(link, 2, ["--inbox", "to"])
+        for octets, answers in WRITTEN:
+            with Client(port) as client:
+                for part in octets.split(b"|"):
+                    client.says(part)
+                    time.sleep(0.05)
+                for begins in answers:
+                    answer = client.hears()
+                    if not fits(answer, begins):
+                        yield f"{octets[:40]!r}: {answer!r}, and not {begins!r}"
+        with Client(port) as client:
+            client.says(b"counters\nstop n")
+            client.socket.shutdown(socket.SHUT_WR)
+            told = client.hears(), client.hears()
+            if not fits(told[0], "ok|") or not fits(told[1], "error: the last line has no"):
+                yield f"a line without an end: {told}"
+            if not client.is_left():
+                yield "a connection is not left whose client has ended"
+        if it.process.poll() is not None:
+            yield f"the station ended: {it.ended()}"
+
+
+def fits(answer, begins):
+    """Whether an answer begins so, is done ("ok|"), or isn't there (None)."""
+    if answer is None or begins is None:
+        return answer is begins
+    return answer.endswith("ok\n") if begins == "ok|" else answer.startswith(begins)
+
+
+def input_mistakes(program):
+    """What is wrong with commands on standard input: their answers come on standard output, and its
+    end is no command."""
+    with Link(program) as link:
+        words = ["--inbox", "to", "--commands"]
+        it = link.starts(2, words, stdin=subprocess.PIPE)
+        for octets in (b"coun", b"ters\nlst\n", b"\xff\n" + b"x" * 5000, b"\ncounters\nstop"):
+            it.process.stdin.write(octets)
+            it.process.stdin.flush()
+            time.sleep(0.2)
+        it.process.stdin.close()
+        time.sleep(1)
+        found = re.findall(r"(?m)^(?:ok$|error: .*)", it.text("stdout"))
+        wanted = ["ok", "error: ", "error: the line isn't", "error: the line has more", "ok"]
+        if len(found) != 5 or not all(it.startswith(to) for it, to in zip(found, wanted)):
+            yield f"its answers: {found}"
+        if it.process.poll() is not None:
+            yield f"it ended with its input: {it.ended()}"
+    for text in ("counters\n", ""):
+        with Link(program) as link, open(f"{link.program.room}/lines", "w+") as lines:
+            lines.write(text)
+            lines.seek(0)
+            it = link.starts(2, words, stdin=lines)
+            time.sleep(0.5)
+            found = it.text("stdout").count("ok\n")
+            if found != text.count("\n") or it.process.poll() is not None:
+                yield f"a file of commands: {found} answers, {it.process.poll()}"
+
+
+# A shell that has a station in the background of its terminal for three seconds, then before it.
+BACKGROUND = "set -m; {} & sleep 3; fg"
+
+
+def terminal_mistakes(program):
+    """What is wrong where the commands come from a terminal, in whose background the station is at
+    first: it isn't stopped for reading there, and what is typed is taken once it is before it."""
+    with Link(program) as link:
+        words = [program.path, "station", "--id", "2", "--peer", "1", "--inbox", ".", "--commands"]
+        for option, port in zip(("--listen", "--to"), stations.free_ports(2)):
+            words += [option, f"127.0.0.1:{port}"]
+        outer, inner = pty.openpty()
+        own = lambda: fcntl.ioctl(0, termios.TIOCSCTTY, 0)
+        ways = {"stdin": inner, "stderr": inner, "stdout": subprocess.PIPE, "preexec_fn": own}
+        with stations.ALONE:
+            shell = ["bash", "-c", BACKGROUND.format(" ".join(words))]
+            it = subprocess.Popen(shell, cwd=link.folder, start_new_session=True, **ways)
+        time.sleep(1)
+        os.write(outer, b"counters\n")
+        time.sleep(1)
+        if select.select([it.stdout], [], [], 0)[0]:
+            yield f"in the background it writes {os.read(it.stdout.fileno(), 4096)!r}"
+        time.sleep(3)
+        os.write(outer, b"\x03")
+        out, _ = it.communicate(timeout=10)
+        if not out.decode().endswith("ok\n") or b"topped" in out:
+            yield f"in front it writes {out!r}"
+        for fd in (outer, inner):
+            os.close(fd)
+
+
+# ---- many and bad clients
+
+
+def crowd_mistakes(program):
+    """What is wrong where a ninth connection comes: it is told that it is one too many, until
+    another one ends."""
+    with Link(program) as link:
+        _, port = controlled(link, 2, ["--inbox", "to"])
+        time.sleep(0.2)
+        clients = [Client(port) for _ in range(8)]
+        told = [it.asks("counters") for it in clients]
+        if not all(fits(it, "ok|") for it in told):
+            yield f"eight connections are told {told}"
+        for _ in range(20):
+            with Client(port) as more:
+                answer = more.asks("counters")
+                if not fits(answer, "error: 8 connections"):
+                    yield f"the ninth is told {answer!r}"
+        clients.pop().socket.close()
+        time.sleep(0.2)
+        with Client(port) as more:
+            answer = more.asks("counters")
+            if not fits(answer, "ok|"):
+                yield f"where one has ended the next is told {answer!r}"
+        told = [it.asks("counters") for it in clients]
+        if not all(fits(it, "ok|") for it in told):
+            yield f"the seven that are left are told {told}"
+        for it in clients:
+            it.socket.close()
+
+
+def deaf_mistakes(program):
+    """What is wrong where clients never read, close in the midst of an answer, or are reset: others
+    are answered all the same, and little memory is taken."""
+    with Link(program) as link:
+        it, port = controlled(link, 2, ["--inbox", "to"])
+        deaf = [Client(port, is_deaf=True) for _ in range(4)]
+        before = stations.peak_of(it.process)
+        babblers = [threading.Thread(target=client.babbles, args=(8,)) for client in deaf]
+        for thread in babblers:
+            thread.start()
+        for _ in range(300):
+            with Client(port) as client:
+                began = time.monotonic()
+                answer = client.asks("counters")
+                took = time.monotonic() - began
+                if not fits(answer, "ok|") or took > SOON:
+                    yield f"beside clients that don't read: {answer!r} after {took:.2f} s"
+                client.says(b"help\n" * 100)
+                if random.random() < 0.5:
+                    client.breaks_off()
+        for thread in babblers:
+            thread.join()
+        grown = stations.peak_of(it.process) - before
+        if grown > 16 << 20:
+            yield f"it has taken {grown} octets for clients that don't read"
+        for client in deaf:
+            client.socket.close()
+        with Client(port) as client:
+            if not fits(client.asks("counters"), "ok|"):
+                yield "once they have gone it doesn't answer"
+        if it.process.poll() is not None:
+            yield f"the station ended: {it.ended()}"
+
+
+def burst_mistakes(program):
+    """What is wrong where 10,000 lines come in a burst as a file is sent: each is answered, in
+    order, and frames leave all the while."""
+    octets = random.Random(43).randbytes(1_000_000)
+    with Link(program, Relay()) as link:
+        receiver = link.starts(2, ["--inbox", "to"], PATIENT)
+        words = link.puts(1, {"a": octets}) + ["--rate", "1000"]
+        _, port = controlled(link, 1, words, PATIENT)
+        with Client(port) as client:
+            client.says(b"list\nlst\n" * 5000)
+            answers = []
+            while len(answers) < 10_000 and (not answers or answers[-1] is not None):
+                answers.append(client.hears())
+        wrong = [it for at, it in enumerate(answers) if not fits(it, ("ok|", "error: ")[at % 2])]
+        if wrong or len(answers) != 10_000:
+            yield f"{len(answers)} answers, of which {len(wrong)} are others: {wrong[:2]}"
+        if receiver.comes_to("finished .* 0 complete retained", 30) is None:
+            yield "the file didn't come"
+        times = sorted(when for when, own, _ in list(link.relay.came) if own == 1)
+        yield from links.silence_mistakes(times[:4000], 1000)
+
+
+# ---- at rest
+
+
+def wakes(process, seconds):
+    """How often a process woke in a second, and what part of it it ran."""
+    before, began = counts_of(process), time.monotonic()
+    time.sleep(seconds)
+    after, took = counts_of(process), time.monotonic() - began
+    return tuple((late - early) / took for early, late in zip(before, after))
+
+
+def counts_of(process):
+    """How often a process has waited so far, and how many seconds it ran."""
+    with open(f"/proc/{process.pid}/status", encoding="ascii") as it:
+        waits = int(re.search(r"(?m)^voluntary_ctxt_switches:\s+(\d+)", it.read())[1])
+    with open(f"/proc/{process.pid}/stat", encoding="ascii") as it:
+        parts = it.read().rsplit(") ", 1)[1].split()
+    return waits, (int(parts[11]) + int(parts[12])) / os.sysconf("SC_CLK_TCK")
+
+
+def rest_mistakes(program):
+    """What is wrong where a station has nothing to do, and its standard input is at its end, or
+    connections lie idle, are full of answers, or were reset: it has to rest."""
+    with Link(program) as link:
+        with open(os.devnull, "rb") as nothing:
+            words = ["--inbox", "to", "--commands"]
+            it, port = controlled(link, 2, words, stdin=nothing)
+        clients = [Client(port, is_deaf=at == 7) for at in range(8)]
+        for client in clients[:4]:
+            client.asks("counters")
+        clients[4].says(b"half a li")
+        clients[5].breaks_off()
+        clients[6].socket.shutdown(socket.SHUT_WR)
+        clients[7].babbles(2)
+        # What was asked so far is answered as far as there is room for that.
+        stop = time.monotonic() + 40
+        while wakes(it.process, 0.5)[1] > 0.05 and time.monotonic() < stop:
+            pass
+        for what in ("as it is", "while it is frozen"):
+            often, part = wakes(it.process, 3)
+            if often >= MOST_WAKES or part > 0.1:
+                yield f"{what} it wakes {often:.1f} times a second, and runs {part:.2f} of it"
+            answer = clients[0].asks("freeze")
+            if not fits(answer, "ok|"):
+                yield f"freeze is answered {answer!r}"
+        began = time.monotonic()
+        for _ in range(20):
+            clients[1].asks("counters")
+        took = time.monotonic() - began
+        if took > 1 + SLACK:
+            yield f"20 answers at rest take {took:.1f} s"
+
+
+# ---- a link that is down by plan
+
+
+def freeze_mistakes(program):
+    """What is wrong where a link is down by plan for longer than all timers: no frame leaves, no
+    timer runs, what comes is thrown away, and once it is up again all goes on."""
+    octets = random.Random(44).randbytes(60_000)
+    soon = {"eof_time": 1, "eof_limit": 2, "nak_time": 1, "nak_limit": 2, "finished_time": 1}
+    soon |= {"finished_limit": 2, "inactivity_time": 4}
+    with Link(program, Relay()) as link:
+        receiver, there = controlled(link, 2, ["--inbox", "to", "--idle", "3"], soon)
+        words = link.puts(1, {"a": octets}) + ["--rate", "100", "--idle", "3"]
+        sender, here = controlled(link, 1, words, soon)
+        while len(link.relay.came) < 60 and sender.process.poll() is None:
+            time.sleep(0.01)
+        for port in (here, there):
+            answer = asked(program, port, "freeze")
+            if answer[:2] != (0, "ok\n"):
+                yield f"freeze is answered {answer}"
+        time.sleep(0.2)
+        began = time.time()
+        for count in range(50):
+            link.relay.give(1, links.idle_frame(count))
+        time.sleep(7)
+        late = link.relay.first(began)
+        if late is not None:
+            yield f"a frame left {late - began:.2f} s after the link was down"
+        for it in (sender, receiver):
+            if it.process.poll() is not None or re.search("fault|suspended", it.text("stdout")):
+                yield f"station {it.own}: {it.process.poll()}, {it.text('stdout')!r}"
+        counters = asked(program, here, "counters")
+        if not re.search(r"\b50\b", counters[1]):
+            yield f"50 frames were thrown away, and it counted {counters[1]!r}"
+        for port in (there, here):
+            if asked(program, port, "thaw")[:2] != (0, "ok\n"):
+                yield "thaw isn't answered ok"
+        if receiver.comes_to("finished .* 0 complete retained", 20) is None:
+            yield f"the file didn't come: {receiver.text('stdout')!r}"
+        ends = sender.ended(20), receiver.ended(20)
+        if any(status or "fault" in out for status, out, _ in ends):
+            yield f"they ended so: {ends}"
+        if stations.files_at(link.folder, 2) != {"a": octets}:
+            yield "another file came"
+
+
+def stop_mistakes(program):
+    """What is wrong where a station is told to stop: it ends once what it has is over, or at once."""
+    with Link(program, Relay()) as link:
+        link.starts(2, ["--inbox", "to"], PATIENT)
+        words = link.puts(1, {"a": bytes(50_000)}) + ["--rate", "100"]
+        sender, port = controlled(link, 1, words, PATIENT)
+        if asked(program, port, "stop")[0] != 0:
+            yield "stop isn't answered ok"
+        status, out, err = sender.ended(20)
+        if status or not out.endswith("complete 1 of 1\n"):
+            yield f"stop: status {status}, {out!r}, {err!r}"
+        slow = link.puts(1, {"b": bytes(500_000)}) + ["--rate", "10"]
+        sender, port = controlled(link, 1, slow, PATIENT)
+        began = time.monotonic()
+        asked(program, port, "stop", "now")
+        status, out, err = sender.ended(20)
+        if time.monotonic() - began > 2 + SLACK or not out.endswith("complete 0 of 1\n"):
+            yield f"stop now: status {status}, {out!r}, {err!r}"
+
+
+def all_mistakes(program):
+    """What is tried, with what is wrong in it."""
+    yield "the answers to ask", ask_mistakes(program)
+    yield "a control address that won't do", address_mistakes(program)
+    yield "lines of commands", line_mistakes(program)
+    yield "commands on standard input", input_mistakes(program)
+    yield "commands from a terminal", terminal_mistakes(program)
+    yield "nine connections", crowd_mistakes(program)
+    yield "clients that don't read", deaf_mistakes(program)
+    yield "10,000 commands in a burst", burst_mistakes(program)
+    yield "a station at rest with clients", rest_mistakes(program)
+    yield "a link that is down by plan", freeze_mistakes(program)
+    yield "a station that is told to stop", stop_mistakes(program)

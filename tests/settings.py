@@ -1,0 +1,123 @@
+"""The settings file that `station --print-config` prints, and the man page, beside the help."""
+import os
+import re
+import subprocess
+import sys
+import tempfile
+import tomllib
+
+import stations
+
+TOP = os.path.dirname(os.path.dirname(os.path.abspath(__file__)))
+SECONDS = 60
+
+# Options that name a settings file, and those of every command.
+NO_KEYS = {"config", "print-config", "help"}
+
+# What a station has in place of a script's default; and what it says by an option of its own.
+OTHERS = {"number_width": 8}
+NO_SETTINGS = {"first_number"}
+
+
+def told(program, *words):
+    """What the program prints."""
+    how = {"capture_output": True, "text": True, "timeout": SECONDS, "check": True}
+    return subprocess.run([program.path, *words], **how).stdout
+
+
+def options_of(text):
+    """The options of a help with their defaults, None where they have none."""
+    found = {}
+    for line in text.split("\n"):
+        option = re.match(r"  (?:-h, |    )--([a-z-]+)", line)
+        if option:
+            default = re.search(r"\[default: (.*)\]$", line)
+            found[option[1]] = default[1] if default else None
+    return found
+
+
+def settings_of(text):
+    """The settings that the help of scripts lists, with their defaults."""
+    part = text.partition("Settings, with their defaults:\n")[2].partition("\n\n")[0]
+    return {key: int(value) for key, value in re.findall(r"(?:^|, )\s*([a-z_]+) (\d+)\b(?!\^)", part, re.M)}
+
+
+def printed_mistakes(program):
+    """What is wrong with the settings file that is printed."""
+    text, help_text = told(program, "station", "--print-config"), told(program, "station", "--help")
+    values = tomllib.loads(text)
+    commented = set(re.findall(r"^# ([a-z_-]+) = ", text, re.M))
+    for name, default in options_of(help_text).items():
+        if name in NO_KEYS or name == "set":
+            continue
+        if default is None and not (name in commented or values.get(name) in (False, [])):
+            yield f"of --{name} it says {values.get(name)}, and the help nothing"
+        if default is not None and str(values.get(name)) != default:
+            yield f"of --{name} it says {values.get(name)}, and the help {default}"
+    wanted = {**settings_of(told(program, "sim", "--help")), **OTHERS}
+    if len(wanted) < 16:
+        yield f"the help of scripts has only {wanted}"
+    for key, value in wanted.items():
+        if key not in NO_SETTINGS and values["set"].get(key) != value:
+            yield f"of the key {key} it says {values['set'].get(key)}, and the help {value}"
+    for line in text.split("\n"):
+        if len(line) > 100:
+            yield f"it has a long line: {line}"
+
+
+def read_again_mistakes(program):
+    """What is wrong where a station reads the printed file: it does what one does without. What
+    stands there in comments is read too."""
+    text = told(program, "station", "--print-config")
+    whole = re.sub(r"^# ([a-z_-]+ = )", r"\1", text, flags=re.M)
+    # A station sends from one folder.
+    whole = re.sub(r"(?m)^spool = .*$", "", whole)
+    ran = []
+    for settings in (None, text, whole):
+        with tempfile.TemporaryDirectory(dir=program.room) as folder:
+            own, peer = stations.free_ports(2)
+            words = ["--id", "1", "--peer", "2", "--listen", f"127.0.0.1:{own}", "--idle", "1"]
+            words += ["--to", f"127.0.0.1:{peer}", "--outbox", "FILES", "--inbox", "RECEIVED"]
+            words += ["--put", "a", "b", "--trace", "--drop", "0", "--no-time", "--rate", "0"]
+            for name in ("FILES", "RECEIVED"):
+                os.mkdir(f"{folder}/{name}")
+            if settings is not None:
+                with open(f"{folder}/a.toml", "w", encoding="utf-8") as it:
+                    it.write(settings.replace('control = "127.0.0.1:5101"', 'control = "127.0.0.1:0"'))
+                os.mkdir(f"{folder}/SEND")
+                words += ["--config", "a.toml"]
+            how = {"cwd": folder, "capture_output": True, "text": True, "timeout": SECONDS}
+            it = subprocess.run([program.path, "station", *words], **how)
+            ran.append((it.returncode, it.stdout, it.stderr))
+    if ran[0] != ran[1]:
+        yield f"with the printed file it ended so: {ran[1]}, and without it so: {ran[0]}"
+    if ran[2][0] == 2:
+        yield f"what stands in comments is refused: {ran[2][2][:500]}"
+
+
+def page_mistakes(program):
+    """What is wrong with the man page: it is what the help of this program makes."""
+    words = [sys.executable, f"{TOP}/packaging/make-man", "--check", "--program", program.path]
+    it = subprocess.run(words, capture_output=True, text=True, timeout=SECONDS)
+    if it.returncode:
+        yield it.stderr.strip()
+
+
+def example_mistakes(program):
+    """What is wrong with the settings of the example unit: all are known and in their ranges."""
+    with tempfile.TemporaryDirectory(dir=program.room) as folder:
+        for name in ("inbox", "spool"):
+            os.mkdir(f"{folder}/{name}")
+        words = ["--config", f"{TOP}/packaging/station.toml", "--listen", "127.0.0.1:0", "--idle", "1"]
+        how = {"cwd": folder, "capture_output": True, "text": True, "timeout": SECONDS}
+        it = subprocess.run([program.path, "station", *words, "--to", "127.0.0.1:9"], **how)
+        if it.returncode:
+            yield f"with status {it.returncode} it wrote {it.stderr[-500:]}"
+
+
+def all_mistakes(program):
+    """Titles with what is wrong."""
+    yield "the printed settings file", printed_mistakes(program)
+    yield "the printed settings file, read again", read_again_mistakes(program)
+    yield "the settings of packaging/", example_mistakes(program)
+    yield "the man page of packaging/", page_mistakes(program)
