@@ -48,10 +48,13 @@ def checksum_of(octets):
 
 class Peer:
     """An entity that sends one file to a station and takes others from it, over a socket, with one
-    PDU in each datagram. Nothing is lost on its way. `faults` has what is wrong with what came."""
+    PDU in each datagram. Nothing is lost on its way. `faults` has what is wrong with what came.
+    `form` has what `--set` says of the station's packets."""
 
-    def __init__(self, carrier, own, ports):
+    def __init__(self, carrier, own, ports, form=None):
         self.carrier, self.own, self.station = carrier, own, 3 - own
+        self.form = {"packet_type": 0, "secondary_header": 0, "peer_secondary_header": 0}
+        self.form |= form or {}
         self.socket = links.bound(ports[own])
         self.to = ("127.0.0.1", ports[3 - own])
         self.sent, self.awaited = 0, None
@@ -66,8 +69,10 @@ class Peer:
     def give(self, pdu):
         """Sends a PDU."""
         if self.carrier == "packets":
-            count = 0xC000 | self.sent % 16384
-            pdu = struct.pack(">HHH", APIDS[self.own], count, len(pdu) - 1) + pdu
+            count, header = 0xC000 | self.sent % 16384, self.form["peer_secondary_header"]
+            first = APIDS[self.own] | 0x1000 * (self.sent % 2) | (0x0800 if header else 0)
+            body = random.Random(self.sent).randbytes(header) + pdu
+            pdu = struct.pack(">HHH", first, count, len(body) - 1) + body
         self.sent += 1
         self.socket.sendto(pdu, self.to)
 
@@ -76,13 +81,15 @@ class Peer:
         if self.carrier == "pdus":
             return datagram
         first, control, length = struct.unpack_from(">HHH", datagram)
-        wanted = (APIDS[self.station], len(datagram) - 7)
-        if (first, length) != wanted:
+        header = self.form["secondary_header"]
+        whole = APIDS[self.station] | self.form["packet_type"] << 12 | (0x0800 if header else 0)
+        wanted = (whole, len(datagram) - 7)
+        if (first, length) != wanted or any(datagram[6 : 6 + header]):
             self.faults.append(f"a packet begins with {datagram[:6].hex()}, its length is {length}")
         if self.awaited not in (None, control):
             self.faults.append(f"a packet has the control {control:04X}, not {self.awaited:04X}")
         self.awaited = 0xC000 | (control + 1) % 16384
-        return datagram[6:]
+        return datagram[6 + header :]
 
     def serve(self, seconds, is_over):
         """Takes what comes until this is so, or the time is over."""
@@ -211,17 +218,17 @@ def pace_mistakes(program, carrier, zone, segment, size, rate):
         yield f"for {longest:.2f} s none left"
 
 
-def plain_mistakes(program, carrier, own):
+def plain_mistakes(program, carrier, own, form=None):
     """What is wrong between a station and a plain peer: the station sends files, and the peer one."""
     sizes, pieces = (0, 1, 100_000), {"small": b"hello, station"}
     with tempfile.TemporaryDirectory(dir=program.room) as folder:
         ports = dict(zip((1, 2), stations.free_ports(2)))
-        peer = Peer(carrier, 3 - own, ports)
+        peer = Peer(carrier, 3 - own, ports, form)
         words = ["--carrier", carrier, "--inbox", "to", "--outbox", "from", "--idle", "2"]
         for size in sizes:
             stations.put(folder, own, f"f{size}", octets_of(size))
             words += ["--put", f"f{size}", f"of{size}"]
-        settings = {"first_number": 7, "segment": 1000}
+        settings = {"first_number": 7, "segment": 1000, **(form or {})}
         station = stations.Station(program, folder, own, 3 - own, ports, words, settings)
         station.comes_up()
         peer.send_file(3, b"small", pieces["small"])
@@ -253,13 +260,17 @@ MISFITS = {
     "a datagram goes on behind its packet": ["0065C00000004141"],
     "the packet version number is not 0": ["2065C000000041", "E065C000000041"],
     "a packet is of another APID": ["0064C000000041", "07FFC000000041"],
-    "a packet is a segment, or has a secondary header": [
-        "00650000000041",
-        "00654000000041",
-        "00658000000041",
-        "0865C000000041",
-    ],
+    "a packet is a segment": ["00650000000041", "00654000000041", "00658000000041"],
+    "a packet has a secondary header where none is set, or none where one is": ["0865C000000041"],
 }
+
+# What packets are between a station and flight software with the headers of cFS; at the greatest
+# length of these; and with headers one way only.
+FORMS = [
+    {"packet_type": 1, "secondary_header": 2, "peer_secondary_header": 10},
+    {"packet_type": 0, "secondary_header": 63, "peer_secondary_header": 63},
+    {"packet_type": 0, "secondary_header": 0, "peer_secondary_header": 1},
+]
 
 
 def foreign_datagrams(carrier):
@@ -333,3 +344,6 @@ def all_mistakes(program):
         for own in (1, 2):
             yield f"station {own} and a plain peer, by {it}", plain_mistakes(program, it, own)
         yield f"octets by chance, for a station that takes {it}", chance_mistakes(program, it)
+    for form in FORMS:
+        headed = plain_mistakes(program, "packets", 1, form)
+        yield f"a plain peer by packets with secondary headers: {form}", headed

@@ -486,6 +486,29 @@ def restarted_mistakes(program):
             yield f"{sorted(set(again) & sent)} were sent again"
 
 
+def set_back_mistakes(program):
+    """What is wrong where the clock is set back at each start of a spool's station, which is killed
+    in between: no number comes back, and each file comes with what it has."""
+    files = {f"f{number:02}": bytes([number]) * 20_000 for number in range(40)}
+    slow = ["--spool", "from", "--no-time", "--rate", "400", "--at-once", "4"]
+    began, ids = 1_700_000_000, []
+    with spool_of(program) as (link, spool):
+        receiver = link.starts(2, INBOX, PATIENT | {"inactivity_time": 4})
+        spool.drops(files)
+        for run in range(8):
+            sender = link.starts(1, slow, PATIENT, faults=f"clock=at:{began - run * 3600}")
+            sender.comes_to("finished", 10)
+            ids += re.findall(r"transaction (\S+)", sender.killed())
+        link.starts(1, SPOOL, PATIENT, faults=f"clock=at:{began - 86400}")
+        yield from spool.mistakes(files, 60)
+        ids += re.findall(r"transaction (\S+)", link.started[-1].killed())
+        if len(ids) < len(files) or len(set(ids)) < len(ids):
+            yield f"of {len(ids)} numbers {len(set(ids))} were others: {sorted(ids)[:9]}"
+        heard = re.findall(r"metadata (\S+) \S+ (\S+)", receiver.text("stdout"))
+        if len(set(heard)) < len({it for it, _ in heard}):
+            yield f"a number came with two names: {heard[:9]}"
+
+
 def refused_mistakes(program):
     """What is wrong where another station has the spool, or where it can't be used: a station has
     to end at once, and say why."""
@@ -543,5 +566,6 @@ def all_mistakes(program):
     yield "a spool: a peer that comes late", away_mistakes(program)
     yield "a spool: files that can't be sent", failed_mistakes(program)
     yield "a spool: a start in the middle", restarted_mistakes(program)
+    yield "a spool: a clock set back at each start", set_back_mistakes(program)
     yield "a spool that can't be had", refused_mistakes(program)
     yield "a spool: a file that can't be moved away", stays_mistakes(program)

@@ -68,6 +68,10 @@ on_ack_limit = 0                # where no ACK comes: 0 cancel, 1 suspend, 2 ign
 on_nak_limit = 0                # the same where nothing comes after NAKs
 on_inactivity = 0               # the same where nothing at all comes
 spacecraft = 42                 # of both directions, 0 to 255
+packet_type = 0                 # of packets that leave by carrier = 'packets': 0 telemetry, 1
+                                # telecommands
+secondary_header = 0            # octets of their secondary header, all zero, 0 to 63
+peer_secondary_header = 0       # the same of packets that come, which are passed over
 # What follows is so for the station with the lesser id; for the other one it is exchanged.
 # virtual_channel = 5           # of the frames that it sends, with directives, 0 to 62
 # data_virtual_channel = 7      # the same with file data

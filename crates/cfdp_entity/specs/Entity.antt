@@ -12,7 +12,7 @@ use Rattle.cfdp_entity.specs.declared.sent.SentPdus.{SentPdus}
 use Rattle.cfdp_entity.specs.Errors.{drop_number}
 use Rattle.cfdp_entity.specs.Sent.{none_sent}
 use Rattle.cfdp_entity.specs.Strays.{StrayAck}
-use Rattle.cfdp_entity.specs.Table.{Entry, TableState, place_of, first_table, phase_in, standing, table_lent}
+use Rattle.cfdp_entity.specs.Table.{Entry, TableState, place_of, first_table, phase_in, progress_in, standing, table_lent}
 
 -- The table, the stray acknowledgements in their order, the place behind the record served last,
 -- the number of the next put, the counts of drops by their number and of what was sent, how it is
@@ -96,3 +96,10 @@ phase_by None t = None
 
 abbrev pub phase_told : TransactionId → TableState → Option Phase
 phase_told id t = phase_by (place_of id t.records) t
+
+abbrev pub progress_by : Option ℕ → TableState → Option ℕ
+progress_by (Some place) t = progress_in (slice_get t.records place)
+progress_by None t = None
+
+abbrev pub progress_told : TransactionId → TableState → Option ℕ
+progress_told id t = progress_by (place_of id t.records) t

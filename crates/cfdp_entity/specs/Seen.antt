@@ -2,6 +2,7 @@
 use Rattle.std.specs.Prelude.{ℕ, Bool, false, List, [], is_some, Option, Some, None, unwrap_or, if◌then◌else◌}
 use Rattle.std.specs.FinMap as map
 use Rattle.cfdp_header.specs.Files.{FileMap}
+use Rattle.cfdp_extents.specs.Terms.{end_of}
 use Rattle.cfdp_directives.specs.declared.pdu.addressing.Addressing.{Addressing}
 use Rattle.cfdp_directives.specs.declared.user.phase.Phase.{Phase}
 use Rattle.cfdp_directives.specs.Pdu.Addressing.{header_of, written_len}
@@ -88,3 +89,9 @@ sends_file name (Receives r m) = false
 abbrev pub phase_of : Seen → Phase
 phase_of (Sends x) = sends.phase_told x.phase
 phase_of (Receives r m) = public_phase r.phase
+
+-- up to which offset octets of the file were sent, or came: what a Keep Alive says of these
+-- (CCSDS 727.0-B-5, 5.2.8)
+abbrev pub progress_of : Seen → ℕ
+progress_of (Sends x) = x.sent
+progress_of (Receives r m) = end_of r.held

@@ -20,7 +20,7 @@ use Rattle.cfdp_timers.specs.Armed.{Armed}
 use Rattle.cfdp_timers.specs.Due.{AreDue, still_armed}
 use Rattle.cfdp_sender.specs.declared.transfer.Transfer.{Transfer}
 use Rattle.cfdp_entity.specs.declared.request.Request.{Request}
-use Rattle.cfdp_entity.specs.Seen.{Seen, is_due, due_octets, due_len, carries_data, phase_of}
+use Rattle.cfdp_entity.specs.Seen.{Seen, is_due, due_octets, due_len, carries_data, phase_of, progress_of}
 use Rattle.cfdp_entity.specs.Steps.{After, with_waits, hears, expires, calls, takes, Spoils}
 use Rattle.cfdp_entity.specs.Opening.{puts, opens}
 
@@ -89,6 +89,10 @@ data_at place st = data_due (slice_get st.records place)
 abbrev pub phase_in : Option Entry → Option Phase
 phase_in (Some e) = Some (phase_of e.1)
 phase_in None = None
+
+abbrev pub progress_in : Option Entry → Option ℕ
+progress_in (Some e) = Some (progress_of e.1)
+progress_in None = None
 
 -- ---- one step of the record at a place; no other record changes
 abbrev pub stepped : ℕ → TransactionId → After → TableState → TableState

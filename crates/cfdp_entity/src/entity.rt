@@ -3,6 +3,7 @@ ghost use Rattle.cfdp_timers.specs.ButInactivity.{OnlyInactivity, IsLeastOther};
 ghost use Rattle.cfdp_entity.specs.Config.{IsConfig};
 ghost use Rattle.cfdp_entity.specs.Errors.{drop_number};
 ghost use Rattle.cfdp_entity.specs.Entity.{entity_standing, first_entity, phase_told, dropped};
+ghost use Rattle.cfdp_entity.specs.Entity.{progress_told};
 
 use crate::config::EntityConfig;
 use crate::error::EntityDrop;
@@ -114,6 +115,18 @@ impl<O: Outbox, I: Inbox> Entity<O, I> {
     {
         match self.table.place_of(id) {
             Some(place) => self.table.phase_at(place),
+            None => None,
+        }
+    }
+
+    /// Up to which offset octets of a transaction's file were sent by this entity, whether or not
+    /// they came, or have come to it, some of which may be missing: what a Keep Alive says (CCSDS
+    /// 727.0-B-5, 5.2.8). `None` where the transaction has no record here.
+    pub fn progress(&self, id: TransactionId) -> Option<u64>
+        ensures { result ≡ progress_told id self.now.state.table }
+    {
+        match self.table.place_of(id) {
+            Some(place) => self.table.progress_at(place),
             None => None,
         }
     }

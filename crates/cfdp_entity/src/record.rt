@@ -120,6 +120,16 @@ impl Record {
         }
     }
 
+    /// Up to which offset octets of the file were sent, or came.
+    pub(crate) fn progress(&self) -> u64
+        ensures { (staged : Option OctetMap) → result ≡ seens.progress_of (seen staged self.now) }
+    {
+        match self {
+            Record::Sends(sender) => sender.progress(),
+            Record::Receives(receiver) => receiver.progress(),
+        }
+    }
+
     /// Why it can't be let go, if it can't.
     pub(crate) fn forget_refusal(&self) -> Option<ForgetError>
         ensures { (staged : Option OctetMap) → result

@@ -35,7 +35,7 @@ ghost use Rattle.cfdp_entity.specs.Table as tables;
 ghost use Rattle.cfdp_entity.specs.Table.{next_told, without_told, heard_at, expired_at, called_at};
 ghost use Rattle.cfdp_entity.specs.Table.{data_at, len_at, put_in, opened_by, next_due};
 ghost use Rattle.cfdp_entity.specs.Table.{first_table, all_expired, at_time, Ticks, phase_in};
-ghost use Rattle.cfdp_entity.specs.Table.{standing, ShowsIf};
+ghost use Rattle.cfdp_entity.specs.Table.{progress_in, standing, ShowsIf};
 
 use crate::desk::Desk;
 use crate::error::{AddError, ForgetError, RequestError};
@@ -215,6 +215,17 @@ impl<O: Outbox, I: Inbox> Table<O, I> {
     {
         match self.records.get_index(place) {
             Some((_, held)) => Some(held.phase()),
+            None => None,
+        }
+    }
+
+    /// Up to which offset octets of the file were sent, or came, of the transaction whose record is
+    /// at a place.
+    pub fn progress_at(&self, place: usize) -> Option<u64>
+        ensures { result ≡ progress_in (slice_get self.now.state.records place) }
+    {
+        match self.records.get_index(place) {
+            Some((_, held)) => Some(held.progress()),
             None => None,
         }
     }

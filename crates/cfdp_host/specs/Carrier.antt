@@ -1,41 +1,45 @@
 -- The datagrams that carry one PDU each.
-use Rattle.std.specs.Prelude.{◌≡◌, ℕ, ◌+◌, ◌%◌, ◌≤◌, ◌==◌, if◌then◌else◌, false, List, [], ◌∷◌, Option, Some, Result, length}
+use Rattle.std.specs.Prelude.{◌≡◌, ℕ, ◌+◌, ◌%◌, ◌≤◌, ◌==◌, if◌then◌else◌, not, List, [], ◌∷◌, ◌++◌, Option, Some, Result, length, replicate}
 use Rattle.cfd_bits.specs.Field.{field}
 use Rattle.aos_frame.specs.Frame.{other_lane}
 use Rattle.aos_frame.specs.declared.config.Lane.{Lane}
 use Rattle.aos_frame.specs.declared.config.Lane.TheVariants.{Directives, Data}
 use Rattle.space_packet.specs.Packet.{IsWritable, Parts, SpellsPacket, packet_octets}
 use Rattle.space_packet.specs.declared.packet.PacketType.{PacketType}
-use Rattle.space_packet.specs.declared.packet.PacketType.TheVariants.{Telemetry}
 use Rattle.space_packet.specs.declared.packet.SequenceFlags.TheVariants.{Unsegmented}
 use Rattle.link_stack.specs.Downward.{DownState, Flushes, MakesFrame, SendsPdu, first_down, frame_lane, lane_down}
 use Rattle.link_stack.specs.Upward.{LaneTakes, UpState, first_up, lane_of, lane_up}
 use Rattle.cfdp_station.specs.declared.config.StationConfig.{StationConfig}
 use Rattle.cfdp_port.specs.Calls.{WireCall, Sent}
 use Rattle.cfdp_port.specs.declared.wire.WireFault.{WireFault}
+use Rattle.cfdp_host.specs.declared.carrier.datagram.PacketForm.{PacketForm}
 use Rattle.cfdp_host.specs.declared.carrier.datagram.PduCarrier.{PduCarrier}
 use Rattle.cfdp_host.specs.declared.carrier.datagram.PduCarrier.TheVariants.{Packets, Pdus}
 
--- a packet with a PDU alone: unsegmented, without a secondary header (CCSDS 133.0-B-2, 4.1.3)
-abbrev pub carrying : PacketType → (apid count : ℕ) → (pdu : List ℕ) → Parts
-carrying packet_type apid count pdu = record {
+-- an unsegmented packet with a PDU behind its secondary header, which it doesn't have where that has
+-- no octet (CCSDS 133.0-B-2, 4.1.3 and 4.1.4)
+abbrev pub carrying : PacketType → (apid count : ℕ) → (header pdu : List ℕ) → Parts
+carrying packet_type apid count header pdu = record {
   apid = apid;
   packet_type = packet_type;
-  has_secondary_header = false;
+  has_secondary_header = not (length header == 0);
   sequence_flags = Unsegmented;
   count = count;
-  body = pdu;
+  body = header ++ pdu;
 }
 
--- the datagram in which a PDU leaves; its packet, if it has one, has this APID and this count
-abbrev pub datagram_of : PduCarrier → (apid count : ℕ) → (pdu : List ℕ) → List ℕ
-datagram_of Packets apid count pdu = packet_octets (carrying Telemetry apid count pdu)
-datagram_of Pdus apid count pdu = pdu
+-- the packet in which a PDU leaves: all octets of its secondary header are zero
+abbrev pub sent_packet : PacketForm → (apid count : ℕ) → (pdu : List ℕ) → Parts
+sent_packet form apid count pdu =
+    carrying form.packet_type apid count (replicate form.secondary_header 0) pdu
 
--- The datagram is that of a PDU, of whatever type and count its packet is.
+-- The datagram is that of a PDU; its packet may have either type, any count, and any octets in a
+-- secondary header of the length that is set.
 abbrev pub Carries : PduCarrier → (apid : ℕ) → (pdu datagram : List ℕ) → Type 0
-Carries Packets apid pdu datagram = (packet_type : PacketType) × (count : ℕ)
-    × SpellsPacket (carrying packet_type apid count pdu) datagram
+Carries (Packets form) apid pdu datagram =
+    (packet_type : PacketType) × (count : ℕ) × (header : List ℕ)
+    × (length header ≡ form.peer_secondary_header) × (1 ≤ length pdu)
+    × SpellsPacket (carrying packet_type apid count header pdu) datagram
 Carries Pdus apid pdu datagram = (datagram ≡ pdu) × (1 ≤ length pdu)
 
 -- the lane of a PDU, by the type bit of its header (CCSDS 727.0-B-5, table 5-1)
@@ -77,15 +81,15 @@ pub record TakesFrame (frame : List ℕ) (old new : ConversionState) : Type 0 wh
 
 -- the count of the packet behind a datagram's
 abbrev pub next_count : PduCarrier → ℕ → ℕ
-next_count Packets count = (count + 1) % 16384
+next_count (Packets form) count = (count + 1) % 16384
 next_count Pdus count = count
 
 -- A wire was to send the datagram of a PDU; one that fits no packet is lost.
 abbrev pub SendsAs : {W : Type 0} (Steps : W → WireCall → W → Type 0) → PduCarrier
     → (apid count : ℕ) → (pdu : List ℕ) → Result (Unit {0}) WireFault → (old new : W) → Type 0
-SendsAs Steps Packets apid count pdu answer old new =
-    IsWritable (carrying Telemetry apid count pdu)
-    → Steps old (Sent (packet_octets (carrying Telemetry apid count pdu)) answer) new
+SendsAs Steps (Packets form) apid count pdu answer old new =
+    IsWritable (sent_packet form apid count pdu)
+    → Steps old (Sent (packet_octets (sent_packet form apid count pdu)) answer) new
 SendsAs Steps Pdus apid count pdu answer old new = Steps old (Sent pdu answer) new
 
 -- The first PDU that waited left over a wire, and the rest of them waits.

@@ -20,7 +20,7 @@ pub record CarrierState (W : Type 0) : Type 0 where
 -- how PDUs are carried, where a datagram has one
 abbrev pub pdu_carrier : Carrier → Option PduCarrier
 pdu_carrier Frames = None
-pdu_carrier Packets = Some pdu_carriers.Packets
+pdu_carrier (Packets form) = Some (pdu_carriers.Packets form)
 pdu_carrier Pdus = Some pdu_carriers.Pdus
 
 -- Nothing left a station with this configuration, and nothing came.

@@ -12,7 +12,7 @@ pub mod datagram;
 pub mod drops;
 pub mod wire;
 
-pub use datagram::PduCarrier;
+pub use datagram::{PacketForm, PduCarrier};
 pub use drops::{CarrierDrop, CarrierTally};
 pub use wire::CarrierWire;
 
@@ -22,7 +22,7 @@ pub enum Carrier {
     /// An AOS frame (CCSDS 732.0-B-4).
     Frames,
     /// A Space Packet (CCSDS 133.0-B-2) with one PDU.
-    Packets,
+    Packets(PacketForm),
     /// A PDU (CCSDS 727.0-B-5).
     Pdus,
 }
@@ -34,7 +34,7 @@ impl Carrier {
     {
         match self {
             Carrier::Frames => None,
-            Carrier::Packets => Some(PduCarrier::Packets),
+            Carrier::Packets(form) => Some(PduCarrier::Packets(form)),
             Carrier::Pdus => Some(PduCarrier::Pdus),
         }
     }

@@ -15,7 +15,7 @@ use crate::looping::folders::{check_file, check_name, folder, folder_outbox, tel
 use crate::station::beacon::Beacon;
 use crate::station::exchange::Exchange;
 use crate::station::operation::{Context, StationParts, StationSpool, ran};
-use crate::station::request::{CarrierKind, StationNumbers, StationRequest, TimeUnit};
+use crate::station::request::{StationNumbers, StationRequest, TimeUnit};
 use crate::station::setup::StationSetup;
 use crate::station::state_file::{Reservation, StateError};
 use crate::wire::peer_socket::{Pace, PeerSocket, Unit, Unusable};
@@ -42,6 +42,7 @@ const DEVICE: u8 = 3;
 #[derive(Drop)]
 struct Prepared<'a> {
     config: Valid<WorldConfig>,
+    carrier: Carrier,
     reservation: Reservation<'a>,
     /// The folder of its inbox, if it has one.
     held: Option<HeldFolder>,
@@ -71,6 +72,7 @@ fn started_status(rt: &HostRuntime, request: &StationRequest) -> Result<u8, u8> 
     let setup = set_up(rt, request)?;
     let Prepared {
         config,
+        carrier,
         reservation,
         held: _held,
         spool,
@@ -80,10 +82,11 @@ fn started_status(rt: &HostRuntime, request: &StationRequest) -> Result<u8, u8> 
     let frame_count = reservation.frame_count();
     let own = WorldConfig::station(config, side_of(request)).get();
     let parts = StationParts {
-        socket: socket(rt, request, &own, reservation, &exchange)?,
+        socket: socket(rt, request, (&own, carrier), reservation, &exchange)?,
         frame_count,
         sources,
         config,
+        carrier,
     };
     Ok(ran_status(rt, request, parts, spool, &exchange))
 }
@@ -139,9 +142,10 @@ fn begun<'a>(
     let spool = spool(rt, request)?;
     let reservation = reserved(rt, request, setup)?;
     let setup = setup.beginning_at(reservation.number());
-    let config = configuration(rt, request, &setup)?;
+    let (config, carrier) = configuration(rt, request, &setup)?;
     Ok(Prepared {
         config,
+        carrier,
         reservation,
         held,
         spool,
@@ -170,7 +174,7 @@ fn spool<'a>(
     Ok(Some(spool))
 }
 
-/// How the station and its peer are set up.
+/// How the station and its peer are set up, and what a datagram between them is.
 ///
 /// # Errors
 ///
@@ -179,11 +183,11 @@ fn configuration(
     rt: &HostRuntime,
     request: &StationRequest,
     setup: &StationSetup,
-) -> Result<Valid<WorldConfig>, u8> {
+) -> Result<(Valid<WorldConfig>, Carrier), u8> {
     let StationNumbers { id, peer, .. } = request.numbers;
-    match setup.config(id, peer) {
-        Some(config) => Ok(config),
-        None => {
+    match (setup.config(id, peer), setup.carrier(request.carrier)) {
+        (Some(config), Some(carrier)) => Ok((config, carrier)),
+        (None, _) | (_, None) => {
             tell_bad(rt, setup, id, peer);
             Err(MISTAKE)
         }
@@ -382,11 +386,11 @@ fn check_files(rt: &HostRuntime, path: &str, words: &[String]) -> Result<(), u8>
     Ok(())
 }
 
-/// The socket, with the peer's address.
+/// The socket, with the peer's address, of a station that is set up so, and what a datagram is.
 fn socket<'a>(
     rt: &'a HostRuntime,
     request: &StationRequest,
-    config: &StationConfig,
+    (config, carrier): (&StationConfig, Carrier),
     reservation: Reservation<'a>,
     exchange: &'a Exchange,
 ) -> Result<PeerSocket<'a>, u8> {
@@ -395,7 +399,7 @@ fn socket<'a>(
         rate: request.numbers.rate,
         idle: request.numbers.idle,
         receives: config.receives,
-        carrier: carrier_of(request),
+        carrier,
         beacon: Beacon::of(config),
         unit: unit_of(request),
     };
@@ -421,15 +425,6 @@ fn socket<'a>(
             };
             Err(DEVICE)
         }
-    }
-}
-
-/// What a datagram is.
-pub fn carrier_of(request: &StationRequest) -> Carrier {
-    match request.carrier {
-        CarrierKind::Frames => Carrier::Frames,
-        CarrierKind::Packets => Carrier::Packets,
-        CarrierKind::Pdus => Carrier::Pdus,
     }
 }
 

@@ -1,6 +1,7 @@
 ghost use Rattle.std.specs.Prelude.{◌≡◌, true, false};
 ghost use Rattle.std.specs.FinSet as set;
 ghost use Rattle.cfdp_directives.specs.Pdu.Addressing.{FitsAddressing};
+ghost use Rattle.cfdp_extents.specs.Terms.{end_of};
 ghost use Rattle.cfdp_timers.specs.Waits.{is_anew, wait_by};
 ghost use Rattle.cfdp_receiver.specs.State as states;
 ghost use Rattle.cfdp_receiver.specs.State.{opened_receiver};
@@ -123,6 +124,14 @@ impl Receiver {
             ReceiverPhase::Finishing => Phase::Finishing,
             ReceiverPhase::Closed => Phase::Closed,
         }
+    }
+
+    /// Up to which offset octets of the file came, some of which may be missing: what a Keep Alive
+    /// says (CCSDS 727.0-B-5, 5.2.8).
+    pub fn progress(&self) -> u64
+        ensures { result ≡ end_of self.now.held }
+    {
+        self.held_end()
     }
 
     /// Whether the transaction is suspended. It is then in Receiving.

@@ -132,6 +132,13 @@ impl Sender {
         }
     }
 
+    /// Up to which offset octets of the file were sent, whether or not they came.
+    pub fn progress(&self) -> u64
+        ensures { result ≡ self.now.sent }
+    {
+        self.sent
+    }
+
     /// The transaction.
     pub fn id(&self) -> TransactionId
         ensures { result ≡ self.now.addressing.id }

@@ -2,11 +2,13 @@
 ghost use Rattle.std.specs.Prelude.{◌≡◌, ◌+◌, ◌<◌, drop, length, MatchOption};
 ghost use Rattle.std.specs.FinMap as map;
 ghost use Rattle.cfdp_timers.specs.Due.{IsLeast};
+ghost use Rattle.cfdp_entity.specs.Entity.{progress_told};
 ghost use Rattle.cfdp_entity.specs.Walking.{phases_of};
 
 use crate::station::Station;
 use cfdp_directives::Indication;
 use cfdp_entity::Transactions;
+use cfdp_header::TransactionId;
 use cfdp_store::{Inbox, Outbox};
 use link_stack::Lane;
 use std::fmt;
@@ -18,6 +20,15 @@ impl<O: Outbox, I: Inbox> Station<O, I> {
         ensures { result ≡ phases_of self.now.entity.state.table }
     {
         self.entity.transactions()
+    }
+
+    /// Up to which offset octets of a transaction's file were sent by this station, whether or not
+    /// they came, or have come to it, some of which may be missing: what a Keep Alive says (CCSDS
+    /// 727.0-B-5, 5.2.8). `None` where the transaction has no record here.
+    pub fn progress(&self, id: TransactionId) -> Option<u64>
+        ensures { result ≡ progress_told id self.now.entity.state.table }
+    {
+        self.entity.progress(id)
     }
 
     /// How many more transactions there is room for: each has one of 4,096 records, which it keeps

@@ -5,7 +5,7 @@ use thiserror::Error;
 /// Why a datagram that came was dropped: nothing of it was given to the station.
 #[derive(Clone, Copy, Debug, PartialEq, Eq, Error)]
 pub enum CarrierDrop {
-    /// It has no octet.
+    /// It has no octet, or none of a PDU.
     #[error("a datagram is empty")]
     Empty,
     /// It has fewer octets than a packet's header, or than that says.
@@ -20,9 +20,12 @@ pub enum CarrierDrop {
     /// The packet is of another APID than those that the station takes, or idle.
     #[error("a packet is of another APID")]
     OtherApid,
-    /// The packet is a segment, or has a secondary header.
-    #[error("a packet is a segment, or has a secondary header")]
+    /// The packet is a segment of a longer one.
+    #[error("a packet is a segment")]
     Segmented,
+    /// The packet has a secondary header where none is set, or none where one is.
+    #[error("a packet has a secondary header where none is set, or none where one is")]
+    SecondaryHeader,
     /// The PDU is longer than any packet that the station's link has room for.
     #[error("a PDU is too long")]
     NoRoom,
@@ -30,13 +33,14 @@ pub enum CarrierDrop {
 
 impl CarrierDrop {
     /// All causes.
-    pub const ALL: [CarrierDrop; 7] = [
+    pub const ALL: [CarrierDrop; 8] = [
         CarrierDrop::Empty,
         CarrierDrop::Short,
         CarrierDrop::Long,
         CarrierDrop::Version,
         CarrierDrop::OtherApid,
         CarrierDrop::Segmented,
+        CarrierDrop::SecondaryHeader,
         CarrierDrop::NoRoom,
     ];
 }
@@ -46,7 +50,7 @@ impl CarrierDrop {
 #[derive(Drop)]
 pub struct CarrierTally {
     // in the order of `CarrierDrop::ALL`
-    counts: [Cell<u64>; 7],
+    counts: [Cell<u64>; 8],
 }
 
 impl CarrierTally {
@@ -54,6 +58,7 @@ impl CarrierTally {
     pub fn new() -> CarrierTally {
         CarrierTally {
             counts: [
+                Cell::new(0),
                 Cell::new(0),
                 Cell::new(0),
                 Cell::new(0),

@@ -16,7 +16,7 @@ ghost use Rattle.cfdp_host.specs.CarrierWire.{Carries, IsFirstOf, LeavesNext, Ma
 ghost use Rattle.cfdp_host.specs.CarrierWire.{SendsOut, pdu_carrier, waiting_of};
 
 use crate::carrier::Carrier;
-use crate::carrier::datagram::{PduCarrier, lane_of, put_packet};
+use crate::carrier::datagram::{PduCarrier, lane_of, put_pdu};
 use crate::carrier::drops::{CarrierDrop, CarrierTally};
 use cfdp_port::{PeerWire, Wire, WireFault};
 use cfdp_station::{LinkDrop, StationConfig};
@@ -35,20 +35,24 @@ const MOST_COMING: usize = 65_536;
 /// The most datagrams that leave in a turn, so that what comes is taken between.
 const MOST_IN_TURN: u32 = 64;
 
-/// The octets of the longest packet.
+/// The octets of the longest packet, and of its data field.
 const MOST_PACKET: usize = 65_542;
+/// See [`MOST_PACKET`].
+const MOST_BODY: usize = 65_536;
 
 /// Frames to datagrams with one PDU each, and back.
 #[derive(Drop)]
 struct Conversion {
     carrier: PduCarrier,
     // What leaves: the end that takes the station's frames, their PDUs that have still to leave, the
-    // oldest first, the APID and the count of their packets, and room for one of these.
+    // oldest first, the APID and the count of their packets, and room for one of these and for its
+    // data field.
     up: Up,
     queue: Vec<Vec<u8>>,
     apid: u16,
     packets: Counter,
     packet: Vec<u8>,
+    body: Vec<u8>,
     // What comes: the APID of its packets, and the end that fills frames for the station.
     peer_apid: u16,
     down: Down,
@@ -71,7 +75,7 @@ impl Model for Conversion {
       down = c.down;
     } };
 
-    ghost invariant = { λ c. (length c.packet.items ≡ 65542) };
+    ghost invariant = { λ c. (length c.packet.items ≡ 65542) × (length c.body.items ≡ 65536) };
 }
 
 impl Conversion {
@@ -90,6 +94,7 @@ impl Conversion {
             apid: config.sends.apid,
             packets: Counter::new(),
             packet: vec![in alloc; 0u8; MOST_PACKET]?,
+            body: vec![in alloc; 0u8; MOST_BODY]?,
             peer_apid: config.receives.apid,
             down: Down::new(alloc, Valid::known(config.receives), CAPACITY)?,
         })
@@ -128,9 +133,10 @@ impl Conversion {
         let pdu = self.queue.remove(0);
         match self.carrier {
             PduCarrier::Pdus => wire.send(&pdu),
-            PduCarrier::Packets => {
+            PduCarrier::Packets(form) => {
                 let count = self.packets.next();
-                match put_packet(self.apid, count, &pdu, &mut self.packet) {
+                let (body, packet) = (&mut self.body, &mut self.packet);
+                match put_pdu(form, self.apid, count, &pdu, body, packet) {
                     Some(len) => wire.send(&self.packet[..len]),
                     None => Err(WireFault),
                 }
@@ -184,7 +190,7 @@ fn conversion_of(
 {
     let carrier = match carrier {
         Carrier::Frames => return Ok(None),
-        Carrier::Packets => PduCarrier::Packets,
+        Carrier::Packets(form) => PduCarrier::Packets(form),
         Carrier::Pdus => PduCarrier::Pdus,
     };
     Ok(Some(Conversion::new(alloc, carrier, config)?))

@@ -34,6 +34,8 @@ pub struct Waiting {
 struct Open {
     id: TransactionId,
     phase: Phase,
+    /// Up to which offset octets of its file were sent, or came.
+    progress: Option<u64>,
 }
 
 /// Writes the transactions that are open, in order of their ids.
@@ -68,7 +70,12 @@ fn open_transactions<O: Outbox, I: Inbox>(
     let mut open = Vec::new(alloc);
     for (id, phase) in station.transactions() {
         if phase != Phase::Closed {
-            open.push(Open { id, phase })?;
+            let progress = station.progress(id);
+            open.push(Open {
+                id,
+                phase,
+                progress,
+            })?;
         }
     }
     open.sort_unstable_by_key(|it| it.id);
@@ -118,7 +125,11 @@ fn write_lines<W: fmt::Write>(
 
 /// Writes the line of a transaction.
 fn write_line<W: fmt::Write>(out: &mut W, open: Open, known: Option<&Known>) -> fmt::Result {
-    let Open { id, phase } = open;
+    let Open {
+        id,
+        phase,
+        progress,
+    } = open;
     write!(out, "{}:{} {}", id.source, id.number, phase_word(phase))?;
     match known.and_then(|known| known.names.as_ref()) {
         Some(names) => {
@@ -128,8 +139,10 @@ fn write_line<W: fmt::Write>(out: &mut W, open: Open, known: Option<&Known>) -> 
         None => write!(out, " - -")?,
     }
     let size = OrDash(known.and_then(|known| known.size));
-    let progress = OrDash(known.and_then(|known| known.progress));
-    write!(out, " {size} {progress}")?;
+    write!(out, " {size} {}", OrDash(progress))?;
+    if let Some(held) = known.and_then(|known| known.held) {
+        write!(out, " held {held}")?;
+    }
     if is_suspended(known) {
         write!(out, " suspended")?;
     }
@@ -166,7 +179,11 @@ fn write_array<W: fmt::Write>(
 
 /// Writes the object of a transaction.
 fn write_object<W: fmt::Write>(out: &mut W, open: Open, known: Option<&Known>) -> fmt::Result {
-    let Open { id, phase } = open;
+    let Open {
+        id,
+        phase,
+        progress,
+    } = open;
     let phase = phase_word(phase);
     write!(
         out,
@@ -179,11 +196,12 @@ fn write_object<W: fmt::Write>(out: &mut W, open: Open, known: Option<&Known>) -
         write!(out, ",\"source\":{from},\"destination\":{to}")?;
     }
     let size = OrNull(known.and_then(|known| known.size));
-    let progress = OrNull(known.and_then(|known| known.progress));
+    let progress = OrNull(progress);
+    let held = OrNull(known.and_then(|known| known.held));
     let suspended = is_suspended(known);
     write!(
         out,
-        ",\"size\":{size},\"progress\":{progress},\"suspended\":{suspended}}}"
+        ",\"size\":{size},\"progress\":{progress},\"held\":{held},\"suspended\":{suspended}}}"
     )
 }
 

@@ -17,8 +17,8 @@ pub struct Known {
     pub names: Option<PutNames>,
     /// Octets of the file.
     pub size: Option<u64>,
-    /// Up to which offset its receiver says that it holds the file.
-    pub progress: Option<u64>,
+    /// Up to which offset its receiver said that it holds the file, by a Keep Alive.
+    pub held: Option<u64>,
     /// Whether it is suspended.
     pub is_suspended: bool,
     /// What went wrong last, or why it is over.
@@ -33,7 +33,7 @@ impl Known {
         Known {
             names: None,
             size: None,
-            progress: None,
+            held: None,
             is_suspended: false,
             condition: None,
             is_over: false,
@@ -168,7 +168,7 @@ impl Register {
 
     fn comes_to(&mut self, id: TransactionId, octets: u64) {
         if let Some(known) = self.known.get_mut(&id) {
-            known.progress = Some(octets);
+            known.held = Some(octets);
         }
     }
 

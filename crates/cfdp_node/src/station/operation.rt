@@ -5,9 +5,9 @@ use crate::station::exchange::Exchange;
 use crate::station::notices::Notices;
 use crate::station::operator::OperatorConsole;
 use crate::station::request::StationRequest;
-use crate::station::{carrier_of, outbox_of, side_of};
+use crate::station::{outbox_of, side_of};
 use crate::wire::peer_socket::PeerSocket;
-use cfdp_host::carrier::CarrierWire;
+use cfdp_host::carrier::{Carrier, CarrierWire};
 use cfdp_host::{
     FolderSpool, Form, Journal, JournalSetup, LineSources, Log, StandardErrorTeller, Style,
 };
@@ -37,6 +37,8 @@ pub struct StationParts<'a> {
     pub sources: LineSources<'a>,
     /// How both stations are set up.
     pub config: Valid<WorldConfig>,
+    /// What a datagram between them is.
+    pub carrier: Carrier,
 }
 
 /// What a run is shown by, and what was asked for.
@@ -149,6 +151,7 @@ fn wired<'a, O: SeekingOutbox, I: Inbox, S: Spool, L: Lookout>(
         frame_count,
         sources,
         config,
+        carrier,
     } = parts;
     let side = side_of(request);
     let options = ServiceOptions {
@@ -157,7 +160,6 @@ fn wired<'a, O: SeekingOutbox, I: Inbox, S: Spool, L: Lookout>(
         side,
     };
     let lossy = LossyWire::new(socket, request.numbers.drop_every);
-    let carrier = carrier_of(request);
     let wire = CarrierWire::new(
         rt.alloc(),
         carrier,

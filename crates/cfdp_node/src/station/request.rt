@@ -197,6 +197,11 @@ Keys of --set, beside those of 'sim --help', which hold for this station alone:
   peer_virtual_channel 6, peer_data_virtual_channel 8, peer_apid 101
                            of those that it takes
 Of the two stations that with the greater id has channels and APIDs exchanged.
+  packet_type 0            of packets that leave by --carrier packets: 0 telemetry,
+                           1 telecommands
+  secondary_header 0, peer_secondary_header 0
+                           octets of the secondary header of those, all zero, and
+                           of those that come, which are passed over: 0 to 63
 number_width is 8 here. Times are in seconds, or with --unit ms in milliseconds.
 
 Report, as it happens: what the station tells its user, as in that of sim, with

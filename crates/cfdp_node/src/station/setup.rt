@@ -1,9 +1,12 @@
 //! What the words behind `--set` set.
 ghost use Rattle.std.specs.Prelude.{IfSome};
 
+use crate::station::request::CarrierKind;
+use cfdp_host::carrier::{Carrier, PacketForm};
 use cfdp_report::{Setting, Settings, parse_setting};
 use cfdp_station::LinkConfig;
 use link_sim::WorldConfig;
+use space_packet::PacketType;
 use std::fmt;
 use valid_config::Valid;
 
@@ -21,6 +24,18 @@ const MOST_CHANNEL: u64 = 62;
 const MOST_APID: u64 = 2046;
 /// See [`MOST_CHANNEL`].
 const MOST_SPACECRAFT: u64 = 255;
+/// The greatest number of a packet's type, which is a telecommand's.
+const MOST_PACKET_TYPE: u64 = 1;
+/// The most octets of a secondary header.
+const MOST_SECONDARY_HEADER: u64 = 63;
+
+/// What packets are that have one PDU each, as numbers that may fit none.
+#[derive(Clone, Copy)]
+struct PacketNumbers {
+    packet_type: u64,
+    secondary_header: u64,
+    peer_secondary_header: u64,
+}
 
 /// What is wrong with the ids of a station and its peer, and with their link.
 #[derive(Clone, Copy)]
@@ -68,6 +83,7 @@ pub struct StationSetup {
     spacecraft: u64,
     own: Direction,
     peer: Direction,
+    packets: PacketNumbers,
 }
 
 impl StationSetup {
@@ -93,6 +109,11 @@ impl StationSetup {
             spacecraft: 42,
             own,
             peer,
+            packets: PacketNumbers {
+                packet_type: 0,
+                secondary_header: 0,
+                peer_secondary_header: 0,
+            },
         }
     }
 
@@ -112,6 +133,12 @@ impl StationSetup {
             self.peer.data_virtual_channel = value;
         } else if key == "peer_apid" {
             self.peer.apid = value;
+        } else if key == "packet_type" {
+            self.packets.packet_type = value;
+        } else if key == "secondary_header" {
+            self.packets.secondary_header = value;
+        } else if key == "peer_secondary_header" {
+            self.packets.peer_secondary_header = value;
         } else if let Some(setting) = parse_setting(key.as_bytes()) {
             self.settings.set(setting, value);
         } else {
@@ -144,6 +171,7 @@ impl StationSetup {
     /// What is wrong with the ids and the link of a station that can't be set up so.
     pub fn misfit(&self, id: u64, peer: u64) -> Misfit {
         let (own, other, width) = (self.own, self.peer, self.settings.id_width);
+        let packets = self.packets;
         let ranges = [
             ("spacecraft", self.spacecraft, MOST_SPACECRAFT),
             ("virtual_channel", own.virtual_channel, MOST_CHANNEL),
@@ -160,6 +188,17 @@ impl StationSetup {
                 MOST_CHANNEL,
             ),
             ("peer_apid", other.apid, MOST_APID),
+            ("packet_type", packets.packet_type, MOST_PACKET_TYPE),
+            (
+                "secondary_header",
+                packets.secondary_header,
+                MOST_SECONDARY_HEADER,
+            ),
+            (
+                "peer_secondary_header",
+                packets.peer_secondary_header,
+                MOST_SECONDARY_HEADER,
+            ),
         ];
         for (key, value, most) in ranges {
             if value > most {
@@ -184,12 +223,42 @@ impl StationSetup {
     /// The configuration of this station and its peer, of which that with the lesser id is the
     /// first; `None` where they can't be set up so.
     pub fn config(&self, id: u64, peer: u64) -> Option<Valid<WorldConfig>> {
+        let _form = self.packet_form()?;
         let (sends, receives) = (self.link(self.own)?, self.link(self.peer)?);
         if id < peer {
             self.settings.pair(id, peer, sends, receives)
         } else {
             self.settings.pair(peer, id, receives, sends)
         }
+    }
+
+    /// What a datagram is, by the word for it; `None` where packets can't be set up so.
+    pub fn carrier(&self, kind: CarrierKind) -> Option<Carrier> {
+        match kind {
+            CarrierKind::Frames => Some(Carrier::Frames),
+            CarrierKind::Packets => Some(Carrier::Packets(self.packet_form()?)),
+            CarrierKind::Pdus => Some(Carrier::Pdus),
+        }
+    }
+
+    /// What packets are that have one PDU each, where each value is in its range.
+    fn packet_form(&self) -> Option<PacketForm> {
+        let packets = self.packets;
+        let packet_type = match packets.packet_type {
+            0 => PacketType::Telemetry,
+            1 => PacketType::Telecommand,
+            _ => return None,
+        };
+        if packets.secondary_header > MOST_SECONDARY_HEADER
+            || packets.peer_secondary_header > MOST_SECONDARY_HEADER
+        {
+            return None;
+        }
+        Some(PacketForm {
+            packet_type,
+            secondary_header: u8::try_from(packets.secondary_header).ok()?,
+            peer_secondary_header: u8::try_from(packets.peer_secondary_header).ok()?,
+        })
     }
 
     /// A direction of the link, where each value fits its field.

@@ -70,8 +70,9 @@ impl Unit {
         }
     }
 }
-/// The octets of the longest packet that leaves: a PDU has 4,132 at most.
-const MOST_PACKET: usize = 4138;
+/// The octets of the longest packet that leaves: 6 of its primary header, up to 63 of a secondary
+/// one, and a PDU of at most 4,132.
+const MOST_PACKET: usize = 4201;
 
 /// How long a socket waits for its peer, how fast it sends, and the link whose frames it takes.
 #[derive(Clone, Copy)]
@@ -454,7 +455,7 @@ pub fn frame_len(link: &LinkConfig) -> usize {
 fn most_octets(pace: &Pace) -> usize {
     match pace.carrier {
         Carrier::Frames => frame_len(&pace.receives),
-        Carrier::Packets | Carrier::Pdus => MOST_PACKET,
+        Carrier::Packets(_) | Carrier::Pdus => MOST_PACKET,
     }
 }
 
