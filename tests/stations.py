@@ -418,7 +418,7 @@ def all_mistakes(program):
     yield "a station killed and started anew", restart_mistakes(program)
     yield "datagrams of a stranger", stranger_mistakes(program)
     yield "an address in use", address_mistakes(program)
-    no_inbox = "error: a file came, and there is no --inbox\n"
+    no_inbox = r"error: a file came, and there is no --inbox \(transaction 1:\d+\)\n"
     yield "a file for which there is no folder", refused_mistakes(program, [], "b", no_inbox)
     no_name = r"error: to/a/b: a file can't have that name here \(transaction 1:\d+\)\n"
     inbox = ["--inbox", "to"]

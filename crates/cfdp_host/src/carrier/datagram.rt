@@ -164,13 +164,7 @@ fn put_body(header_len: u8, pdu: &[u8], out: &mut [u8]) -> Option<usize>
 /// Writes the packet with this data field, of this APID and with this count, into the first octets,
 /// and says how many they are; `None` where the field fits no packet, or the packet not into the
 /// octets. In front of the field's PDU stands the secondary header, if there is one.
-fn put_packet(
-    form: PacketForm,
-    apid: u16,
-    count: u16,
-    body: &[u8],
-    out: &mut [u8],
-) -> Option<usize>
+fn put_packet(form: PacketForm, apid: u16, count: u16, body: &[u8], out: &mut [u8]) -> Option<usize>
     ensures within { IfSome result (λ len. len ≤ length out.new) }
     ensures some { (pdu : List ℕ) → body.now ≡ replicate form.secondary_header 0 ++ pdu →
         IsWritable (sent_packet form apid count pdu) → 6 + length body.now ≤ length out.old →

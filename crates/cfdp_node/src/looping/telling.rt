@@ -178,12 +178,15 @@ impl<'a> TellingNoInbox<'a> {
         }
     }
 
-    /// Says that a file came, where that wasn't said.
-    fn tell(&self) {
+    /// Says that a file came, where that wasn't said: the first one, of this transaction.
+    fn tell(&self, id: TransactionId) {
         if self.inbox.failures() == 0 {
             self.told.set(true);
             self.progress.yields();
-            let _ = eprintln!(self.rt; "error: a file came, and there is no --inbox");
+            let TransactionId { source, number } = id;
+            let _ = eprintln!(self.rt;
+                "error: a file came, and there is no --inbox (transaction {source}:{number})"
+            );
         }
     }
 }
@@ -198,17 +201,17 @@ impl<'a> Inbox for TellingNoInbox<'a> {
     ghost steps = { λ i call j. ⟦<NoInbox as Inbox>⟧.steps i.inbox call j.inbox };
 
     fn begin(&mut self, id: TransactionId) -> Result<(), StoreError> {
-        self.tell();
+        self.tell(id);
         self.inbox.begin(id)
     }
 
     fn write(&mut self, id: TransactionId, offset: u64, octets: &[u8]) -> Result<(), StoreError> {
-        self.tell();
+        self.tell(id);
         self.inbox.write(id, offset, octets)
     }
 
     fn publish(&mut self, id: TransactionId, name: &[u8], size: u64) -> Result<(), StoreError> {
-        self.tell();
+        self.tell(id);
         self.inbox.publish(id, name, size)
     }
 
