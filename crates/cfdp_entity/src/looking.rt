@@ -8,7 +8,9 @@ use crate::entity::Entity;
 use crate::table::MOST_RECORDS;
 use crate::transactions::Transactions;
 use cfdp_directives::Indication;
+use cfdp_header::TransactionId;
 use cfdp_store::{Inbox, Outbox};
+use cfdp_timers::Kind;
 use std::fmt;
 
 impl<O: Outbox, I: Inbox> Entity<O, I> {
@@ -36,6 +38,14 @@ impl<O: Outbox, I: Inbox> Entity<O, I> {
             (λ deadline. IsLeast self.now.state.table.armed deadline) }
     {
         self.table.next_timeout()
+    }
+
+    /// When a timer of a transaction fires, in units of the clock that `tick` is told; `None` where
+    /// it isn't armed.
+    pub fn deadline_of(&self, id: TransactionId, kind: Kind) -> Option<u64>
+        ensures { result ≡ map.get self.now.state.table.armed (id, kind) }
+    {
+        self.table.deadline_of(id, kind)
     }
 
     /// What was indicated behind the first so many indications, in order: none where there are no

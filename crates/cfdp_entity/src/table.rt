@@ -427,6 +427,13 @@ impl<O: Outbox, I: Inbox> Table<O, I> {
         self.desk.effects.timers.next()
     }
 
+    /// The deadline of a timer, if it is armed.
+    pub fn deadline_of(&self, id: TransactionId, kind: Kind) -> Option<u64>
+        ensures { result ≡ map.get self.now.state.armed (id, kind) }
+    {
+        self.desk.effects.timers.deadline_of(id, kind)
+    }
+
     /// Tells the time: the timers that are due fire, one after another.
     pub fn tick(&mut self, now: u64) -> Result<(), AllocError>
         ensures ticked { OnOk result (Ticks now self.old.state self.new.state) }

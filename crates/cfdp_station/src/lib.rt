@@ -53,6 +53,7 @@ pub use cfdp_entity::{
 };
 pub use cfdp_header::{HeaderError, TransactionId};
 pub use cfdp_store::{Inbox, Outbox, SeekingOutbox, SteadyOutbox, StoreError};
+pub use cfdp_timers::Kind as Timer;
 pub use config::{DEFAULT_CAPACITY, LEAST_CAPACITY, MOST_CAPACITY, StationConfig};
 pub use counters::{Counters, FrameDrops, PduDrops};
 pub use link_stack::{Lane, LinkConfig, LinkDrop, LinkField};

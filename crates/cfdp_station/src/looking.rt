@@ -10,6 +10,7 @@ use cfdp_directives::Indication;
 use cfdp_entity::Transactions;
 use cfdp_header::TransactionId;
 use cfdp_store::{Inbox, Outbox};
+use cfdp_timers::Kind as Timer;
 use link_stack::Lane;
 use std::fmt;
 
@@ -47,6 +48,14 @@ impl<O: Outbox, I: Inbox> Station<O, I> {
             (λ deadline. IsLeast self.now.entity.state.table.armed deadline) }
     {
         self.entity.next_timeout()
+    }
+
+    /// When a timer of a transaction expires, in units of the clock that the station is told; `None`
+    /// where it isn't armed.
+    pub fn deadline_of(&self, id: TransactionId, timer: Timer) -> Option<u64>
+        ensures { result ≡ map.get self.now.entity.state.table.armed (id, timer) }
+    {
+        self.entity.deadline_of(id, timer)
     }
 
     /// What was indicated behind the first so many indications, in order: none where there are no
