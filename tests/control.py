@@ -479,6 +479,37 @@ def freeze_mistakes(program):
             yield "another file came"
 
 
+def list_mistakes(program):
+    """What is wrong with what `list` tells of a file on its way: how far both ends are, of which a
+    frame is lost, and for what each waits; and with what a Keep Alive adds."""
+    lost = lambda own, frame: own != 1 or len(link.relay.came) != 40
+    line = r"(1:\d+) (\w+) a b 60000 (\d+) (\d+) ([a-z-]+)( held \d+)?\n"
+    with Link(program, Relay(lost)) as link:
+        _, there = controlled(link, 2, ["--inbox", "to"], PATIENT)
+        stations.put(link.folder, 1, "a", random.Random(45).randbytes(60_000))
+        words = ["--outbox", "from", "--put", "a", "b", "--rate", "100"]
+        _, here = controlled(link, 1, words, PATIENT)
+        while len(link.relay.came) < 100:
+            time.sleep(0.02)
+        told = [asked(program, port, "list")[1] for port in (here, there)]
+        found = [re.fullmatch(r"open 1 waiting 0 timeout \d+\n" + line + "ok\n", it) for it in told]
+        if not all(found):
+            yield f"it is told {told}"
+            return
+        for it, phase, timer in zip(found, ("sending", "receiving"), ("inactivity",) * 2):
+            if it[2] != phase or it[5] != timer or not 5_000 < int(it[3]) < 60_000:
+                yield f"of a file on its way it is told {it[0]!r}"
+            if not 0 < int(it[4]) <= 100:
+                yield f"its next time-out is in {it[4]}"
+        asked(program, here, "prompt", found[0][1], "keep")
+        is_held = lambda: " held " in asked(program, here, "list")[1]
+        stop = time.monotonic() + 10
+        while not is_held() and time.monotonic() < stop:
+            time.sleep(0.05)
+        if not is_held():
+            yield "a Keep Alive isn't told"
+
+
 def stop_mistakes(program):
     """What is wrong where a station is told to stop: it ends once what it has is over, or at once."""
     with Link(program, Relay()) as link:
@@ -511,4 +542,5 @@ def all_mistakes(program):
     yield "10,000 commands in a burst", burst_mistakes(program)
     yield "a station at rest with clients", rest_mistakes(program)
     yield "a link that is down by plan", freeze_mistakes(program)
+    yield "the list of what is open", list_mistakes(program)
     yield "a station that is told to stop", stop_mistakes(program)

@@ -6,7 +6,7 @@ use crate::journal::register::{Known, Register, is_open};
 use crate::journal::totals::Totals;
 use cfdp_header::TransactionId;
 use cfdp_report::Name;
-use cfdp_station::{EntityDrop, LinkDrop, Phase, SentPdus, Station};
+use cfdp_station::{EntityDrop, LinkDrop, Phase, SentPdus, Station, Timer};
 use cfdp_store::{Inbox, Outbox};
 use std::alloc::{AllocError, Global};
 use std::fmt;
@@ -36,6 +36,55 @@ struct Open {
     phase: Phase,
     /// Up to which offset octets of its file were sent, or came.
     progress: Option<u64>,
+    /// Its timer that expires next.
+    next: Option<NextTimer>,
+}
+
+/// A timer, and in how many units of the clock it expires.
+#[derive(Clone, Copy)]
+struct NextTimer {
+    timer: Timer,
+    left: u64,
+}
+
+/// All timers of a transaction, in the order in which those of one deadline expire.
+const TIMERS: [Timer; 4] = [
+    Timer::EofAck,
+    Timer::Nak,
+    Timer::FinishedAck,
+    Timer::Inactivity,
+];
+
+/// The word for what a timer waits for.
+fn timer_word(timer: Timer) -> &'static str {
+    match timer {
+        Timer::EofAck => "eof-ack",
+        Timer::Nak => "nak",
+        Timer::FinishedAck => "finished-ack",
+        Timer::Inactivity => "inactivity",
+    }
+}
+
+/// The timer of a transaction that expires next; `None` where none is armed.
+fn next_timer<O: Outbox, I: Inbox>(
+    station: &Station<O, I>,
+    id: TransactionId,
+    now: u64,
+) -> Option<NextTimer> {
+    let mut next: Option<NextTimer> = None;
+    for timer in TIMERS {
+        if let Some(deadline) = station.deadline_of(id, timer) {
+            let left = deadline.saturating_sub(now);
+            let is_first = match next {
+                Some(before) => left < before.left,
+                None => true,
+            };
+            if is_first {
+                next = Some(NextTimer { timer, left });
+            }
+        }
+    }
+    next
 }
 
 /// Writes the transactions that are open, in order of their ids.
@@ -51,7 +100,7 @@ pub fn write_list<O: Outbox, I: Inbox, W: fmt::Write>(
     station: &Station<O, I>,
     waiting: Waiting,
 ) -> fmt::Result {
-    let open = open_transactions(alloc, station)?;
+    let open = open_transactions(alloc, station, waiting.now)?;
     let open = open.as_slice();
     let wait = station
         .next_timeout()
@@ -66,15 +115,16 @@ pub fn write_list<O: Outbox, I: Inbox, W: fmt::Write>(
 fn open_transactions<O: Outbox, I: Inbox>(
     alloc: Global,
     station: &Station<O, I>,
+    now: u64,
 ) -> Result<Vec<Open>, AllocError> {
     let mut open = Vec::new(alloc);
     for (id, phase) in station.transactions() {
         if phase != Phase::Closed {
-            let progress = station.progress(id);
             open.push(Open {
                 id,
                 phase,
-                progress,
+                progress: station.progress(id),
+                next: next_timer(station, id, now),
             })?;
         }
     }
@@ -129,6 +179,7 @@ fn write_line<W: fmt::Write>(out: &mut W, open: Open, known: Option<&Known>) -> 
         id,
         phase,
         progress,
+        next,
     } = open;
     write!(out, "{}:{} {}", id.source, id.number, phase_word(phase))?;
     match known.and_then(|known| known.names.as_ref()) {
@@ -140,6 +191,10 @@ fn write_line<W: fmt::Write>(out: &mut W, open: Open, known: Option<&Known>) -> 
     }
     let size = OrDash(known.and_then(|known| known.size));
     write!(out, " {size} {}", OrDash(progress))?;
+    match next {
+        Some(next) => write!(out, " {} {}", next.left, timer_word(next.timer))?,
+        None => write!(out, " - -")?,
+    }
     if let Some(held) = known.and_then(|known| known.held) {
         write!(out, " held {held}")?;
     }
@@ -183,6 +238,7 @@ fn write_object<W: fmt::Write>(out: &mut W, open: Open, known: Option<&Known>) -
         id,
         phase,
         progress,
+        next,
     } = open;
     let phase = phase_word(phase);
     write!(
@@ -201,8 +257,15 @@ fn write_object<W: fmt::Write>(out: &mut W, open: Open, known: Option<&Known>) -
     let suspended = is_suspended(known);
     write!(
         out,
-        ",\"size\":{size},\"progress\":{progress},\"held\":{held},\"suspended\":{suspended}}}"
-    )
+        ",\"size\":{size},\"progress\":{progress},\"held\":{held},\"suspended\":{suspended}"
+    )?;
+    match next {
+        Some(next) => {
+            let (left, word) = (next.left, timer_word(next.timer));
+            write!(out, ",\"timeout\":{left},\"timer\":\"{word}\"}}")
+        }
+        None => write!(out, ",\"timeout\":null,\"timer\":null}}"),
+    }
 }
 
 /// Writes the counters: a line for each in text, a member for each in JSON.
