@@ -223,3 +223,16 @@ def wire_mistakes(transfer, call, most=2000):
         if not shows:
             return
     yield f"it makes more than {most} such calls"
+
+
+def twin_mistakes(shown, call, lost, most=2000):
+    """What is wrong where the run in which a call of a wire fails isn't the one in which that frame
+    was lost, for each call in turn. `shown` runs a transfer with a fault, and gives all that it
+    shows of it, and whether the fault showed."""
+    for turn in range(1, most):
+        (failed, shows), (other, is_lost) = (shown(f"{it}={turn} mark") for it in (call, lost))
+        if failed != other or shows != is_lost:
+            yield f"where call {turn} fails it shows {failed}, and where that frame is lost {other}"
+        if not shows:
+            return
+    yield f"it makes more than {most} such calls"
