@@ -264,6 +264,28 @@ def replaces_mistakes(program):
             yield f"in the inbox lie {os.listdir(spool.inbox)}"
 
 
+def causes_mistakes(program):
+    """What is wrong where two files can't be published, each for a cause of its own: each is told,
+    and once."""
+    with Link(program) as link:
+        words = link.puts(1, {"a": b"hello", "b": b"hello"})
+        words[4:5], words[7:8] = ["there"], ["no/name"]
+        receiver = link.starts(2, ["--inbox", "to"], PATIENT)
+        os.makedirs(f"{link.folder}/2/to/there/in the way")
+        sender = link.starts(1, [*words, "--idle", "1"], PATIENT)
+        status, out, err = sender.ended(30)
+        told = re.sub(r"\d{6,}", "N", receiver.text("stderr"))
+        receiver.killed()
+    wanted = [
+        "error: to/no/name: a file can't have that name here (transaction 1:N)",
+        "error: to/there: it is a folder (transaction 1:N)",
+    ]
+    if sorted(stations.unheard(told).splitlines()) != wanted:
+        yield f"the receiver told {told!r}"
+    if status != 1 or not out.endswith("complete 0 of 2\n"):
+        yield f"the sender: status {status}, {out!r}, {err!r}"
+
+
 # ---- logs and counters
 
 # A name that means something in JSON and in markup, and how a log of objects has it.
@@ -405,6 +427,7 @@ def all_mistakes(program):
     yield "a spool: the order in which a file leaves", order_mistakes(program)
     yield "a spool: numbers with the clock set back", numbers_mistakes(program)
     yield "an inbox that keeps files: what is left of one", replaces_mistakes(program)
+    yield "two files that can't be published", causes_mistakes(program)
     yield "logs of objects", json_mistakes(program)
     yield "the times in logs", stamps_mistakes(program)
     yield "the counters of two stations", counters_mistakes(program)

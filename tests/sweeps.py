@@ -236,3 +236,20 @@ def twin_mistakes(shown, call, lost, most=2000):
         if not shows:
             return
     yield f"it makes more than {most} such calls"
+
+
+def folder_mistakes(shown, octets, most=2000):
+    """What is wrong where each growth of memory is refused in turn as a file goes from a folder
+    into another: it is there if it was told complete, and else nothing is; the status tells."""
+    for turn in range(1, most):
+        (status, report, _, came), shows = shown(f"memory={turn} mark")
+        told = b"\n2 finished 1:1 0 complete retained\n" in report
+        there = {path: it for path, it in came.items() if path.startswith("to/")}
+        if there != ({"to/b.bin": octets} if told else {}):
+            lengths = {path: len(it) for path, it in there.items()}
+            yield f"refusing growth {turn}, it told {report[-300:]}, and there lies {lengths}"
+        if status == 0 and not told or shows is False and status:
+            yield f"refusing growth {turn}, it ended with status {status}: {report[-300:]}"
+        if not shows:
+            return
+    yield f"it asks for memory more than {most} times"
