@@ -218,6 +218,36 @@ def kept_mistakes(program):
             yield f"it lies in none of {sorted(os.listdir(spool.folder))}"
 
 
+def replaced_mistakes(program):
+    """What is wrong where a file is replaced that has been sent, and isn't told complete yet: the
+    new one stays, and is sent too."""
+    with Link(program, Relay(deaf_to_answers)) as link:
+        spool = Spool(link)
+        spool.drops({"a": b"older"})
+        receiver = link.starts(2, INBOX, PATIENT)
+        link.starts(1, SPOOL, PATIENT)
+        receiver.comes_to("finished", 20)
+        spool.drops({"a": b"newer"})
+        link.relay.passes = lambda own, frame: True
+        waits_for(lambda: receiver.text("stdout").count("finished") == 2, 20)
+        yield from spool.mistakes({"a": b"newer"})
+
+
+def points_mistakes(program):
+    """What is wrong where files lie in a spool whose names begin with a point: nothing is told of
+    them, and they stay."""
+    with spool_of(program) as (link, spool):
+        for name in (".a", ".part-1-1"):
+            with open(f"{spool.folder}/{name}", "wb") as it:
+                it.write(b"hello")
+        sender = link.starts(1, SPOOL, PATIENT)
+        time.sleep(3)
+        if sender.text("stdout") or stations.unheard(sender.text("stderr")):
+            yield f"it told {sender.text('stdout')!r}, {sender.text('stderr')!r}"
+        if not {".a", ".part-1-1"} <= set(os.listdir(spool.folder)):
+            yield f"there lie {os.listdir(spool.folder)}"
+
+
 def order_mistakes(program):
     """What is wrong with the order in which a file leaves its spool: by a folder of its own, and
     then all three folders are flushed."""
@@ -497,6 +527,8 @@ def all_mistakes(program):
     yield "a spool whose station was killed as a file left", leaving_mistakes(program)
     yield "a spool out of which nothing can be moved", moves_mistakes(program)
     yield "a spool: a failed file where sent ones are removed", kept_mistakes(program)
+    yield "a spool: a file replaced once it was sent", replaced_mistakes(program)
+    yield "a spool: names that begin with a point", points_mistakes(program)
     yield "a spool: the order in which a file leaves", order_mistakes(program)
     for width in (2, 8):
         numbers = numbers_mistakes(program, width)
