@@ -403,6 +403,40 @@ static void transferred(void)
     IS(live, 0);
 }
 
+/* The greatest capacity, the longest names, and a file of 1 MiB and an octet. */
+static void at_the_limits(void)
+{
+    cfdp_station one = CFDP_STATION_INIT, two = CFDP_STATION_INIT;
+    cfdp_config first = config_of(1), second = config_of(2);
+    static uint8_t octets[(1 << 20) + 1], came[sizeof octets];
+    uint8_t names[2][CFDP_NAME], name[CFDP_NAME];
+    cfdp_file_info info = {0, 0};
+    size_t at;
+    cfdp_id id;
+
+    for (at = 0; at < sizeof octets; at++)
+        octets[at] = (uint8_t)(at % 251);
+    memset(names[0], 'a', sizeof names[0]);
+    memset(names[1], 'b', sizeof names[1]);
+    first.capacity = second.capacity = 65536;
+    IS(cfdp_open(&one, &first), CFDP_OK);
+    IS(cfdp_open(&two, &second), CFDP_OK);
+    IS(cfdp_add(&one, names[0], sizeof names[0], octets, sizeof octets), CFDP_OK);
+    IS(cfdp_put(&one, names[0], sizeof names[0], names[1], sizeof names[1], &id), CFDP_OK);
+    while (passed(&one, &two) + passed(&two, &one) != 0) {
+    }
+    IS(cfdp_file_count(&two), 1);
+    IS(cfdp_file(&two, 0, &info, name, sizeof name), CFDP_OK);
+    IS(info.size, sizeof octets);
+    IS(info.name_len, 255);
+    IS(memcmp(name, names[1], sizeof name), 0);
+    IS(cfdp_read_file(&two, 0, 0, came, sizeof came), CFDP_OK);
+    IS(memcmp(came, octets, sizeof came), 0);
+    cfdp_close(&one);
+    cfdp_close(&two);
+    IS(live, 0);
+}
+
 /* One call polls, fills up and gives frames, directives first, until nothing is due. */
 static void transmitted(void)
 {
@@ -624,6 +658,7 @@ int main(void)
     on_a_closed_handle();
     opened_so();
     transferred();
+    at_the_limits();
     transmitted();
     put_into_words();
     overtaken();

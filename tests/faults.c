@@ -24,8 +24,10 @@
  *   no-socket       no socket can be made
  *   send=K          the Kth datagram isn't sent, or with 0 none is
  *   receive=K       the Kth datagram that came is lost, or with 0 each is
+ *   lose=K          the Kth datagram is lost on its way, and nothing tells of it
+ *   swallow=K       the Kth datagram that came is thrown away, and nothing tells of it
  *   memory=N        the Nth growth of memory is refused
- *   mark            a file `refused` is made where one of the last three faults shows
+ *   mark            a file `refused` is made where one of the last five faults shows
  *   clock=N         the time of day is N seconds later, or with a minus earlier
  *   clock=at:N      the time of day is N seconds since 1970 as it is read first, and goes on
  *   order           a file `order` gets a line for each file or folder that is flushed to its
@@ -303,23 +305,27 @@ static int is_turn(const char *name, int *calls)
 ssize_t send(int fd, const void *from, size_t count, int flags)
 {
     ssize_t (*next)(int, const void *, size_t, int) = NEXT("send");
-    static int calls = 0;
+    static int calls = 0, calls_lost = 0;
     if (is_turn("send=", &calls)) {
         errno = ECONNREFUSED;
         return -1;
     }
+    if (fault("lose=") && is_turn("lose=", &calls_lost))
+        return (ssize_t)count;
     return next(fd, from, count, flags);
 }
 
 ssize_t recv(int fd, void *to, size_t count, int flags)
 {
     ssize_t (*next)(int, void *, size_t, int) = NEXT("recv");
-    static int calls = 0;
+    static int calls = 0, calls_swallowed = 0;
     ssize_t got = next(fd, to, count, flags);
     if (got >= 0 && is_turn("receive=", &calls)) {
         errno = ECONNREFUSED;
         return -1;
     }
+    if (got >= 0 && fault("swallow=") && is_turn("swallow=", &calls_swallowed))
+        return next(fd, to, count, flags);
     return got;
 }
 

@@ -409,6 +409,7 @@ def order_mistakes(program):
         receiver = link.starts(2, INBOX, PATIENT)
         link.starts(1, [*SPOOL, "--at-once", "1"], PATIENT)
         yield from spool.mistakes({it: it.encode() for it in names})
+        waits_for(lambda: receiver.text("stdout").count("metadata") >= len(names), 10)
         order = re.findall(r"metadata \S+ (\S+)", receiver.text("stdout"))
         if order != ["early", "a", "b", "late"]:
             yield f"they came in the order {order}"

@@ -223,3 +223,33 @@ def wire_mistakes(transfer, call, most=2000):
         if not shows:
             return
     yield f"it makes more than {most} such calls"
+
+
+def twin_mistakes(shown, call, lost, most=2000):
+    """What is wrong where the run in which a call of a wire fails isn't the one in which that frame
+    was lost, for each call in turn. `shown` runs a transfer with a fault, and gives all that it
+    shows of it, and whether the fault showed."""
+    for turn in range(1, most):
+        (failed, shows), (other, is_lost) = (shown(f"{it}={turn} mark") for it in (call, lost))
+        if failed != other or shows != is_lost:
+            yield f"where call {turn} fails it shows {failed}, and where that frame is lost {other}"
+        if not shows:
+            return
+    yield f"it makes more than {most} such calls"
+
+
+def folder_mistakes(shown, octets, most=2000):
+    """What is wrong where each growth of memory is refused in turn as a file goes from a folder
+    into another: it is there if it was told complete, and else nothing is; the status tells."""
+    for turn in range(1, most):
+        (status, report, _, came), shows = shown(f"memory={turn} mark")
+        told = b"\n2 finished 1:1 0 complete retained\n" in report
+        there = {path: it for path, it in came.items() if path.startswith("to/")}
+        if there != ({"to/b.bin": octets} if told else {}):
+            lengths = {path: len(it) for path, it in there.items()}
+            yield f"refusing growth {turn}, it told {report[-300:]}, and there lies {lengths}"
+        if status == 0 and not told or shows is False and status:
+            yield f"refusing growth {turn}, it ended with status {status}: {report[-300:]}"
+        if not shows:
+            return
+    yield f"it asks for memory more than {most} times"

@@ -1,0 +1,83 @@
+"""What is set of a station's link, as its frames show it, and which of them --drop loses."""
+import re
+import struct
+import time
+
+import carriers
+import links
+from links import Link, Relay
+
+# What is set of the link of station 2, each value unlike each other and unlike what else holds.
+OWN = {"virtual_channel": 10, "data_virtual_channel": 11, "apid": 200}
+PEER = {"peer_virtual_channel": 20, "peer_data_virtual_channel": 21, "peer_apid": 300}
+SPACECRAFT = {"spacecraft": 43}
+
+# Spacecraft, channel and APID of frames that come, of which only the first two are of that link.
+COMING = ((43, 20, 300), (43, 21, 300), (42, 20, 300), (43, 10, 300), (43, 11, 300), (43, 20, 200))
+
+
+def fields(frame):
+    """The spacecraft, the channel and the count of a frame, and the APID of its first packet."""
+    first, count, pointer = struct.unpack(">HIxH", frame[:2] + b"\0" + frame[2:5] + frame[5:8])
+    packet = 8 + (pointer & 2047)
+    apid = int.from_bytes(frame[packet : packet + 2], "big") & 2047
+    return first >> 6 & 255, first & 63, count, apid
+
+
+def packet_of(pdu, apid):
+    """A packet zone with this PDU in a packet of that APID."""
+    return links.filled(struct.pack(">HHH", apid, 0xC000, len(pdu) - 1) + pdu)
+
+
+def keys_mistakes(program):
+    """What is wrong where each key of the link is set: what leaves has these values, and of what
+    comes only what has them is taken."""
+    with Link(program, Relay(lambda own, frame: False)) as link:
+        words = [*link.puts(2, {"a": bytes(3000)}), "--inbox", "to"]
+        station = link.starts(2, words, {**OWN, **PEER, **SPACECRAFT})
+        for number, (spacecraft, channel, apid) in enumerate(COMING, 7):
+            zone = packet_of(links.eof(number), apid)
+            link.relay.give(2, links.frame_of(channel, 0, zone, spacecraft))
+        if station.comes_to("eof-recv 1:8", 10) is None or station.comes_to("eof-sent", 10) is None:
+            yield f"it told {station.text('stdout')!r}"
+        time.sleep(0.5)
+        left = {fields(frame)[:2] for _, own, frame in list(link.relay.came)}
+        # a frame that tells how the station is set up
+        left -= {(43, links.ONLY_IDLE)}
+        apids = {fields(frame)[3] for _, own, frame in list(link.relay.came)[:2]}
+        if left != {(43, 10), (43, 11)} or apids != {200}:
+            yield f"frames left of spacecraft and channel {left}, with packets of APID {apids}"
+        taken = re.findall(r"eof-recv 1:(\d+)", station.text("stdout"))
+        if sorted(taken) != ["7", "8"]:
+            yield f"the PDUs of frames {sorted(taken)} were taken"
+
+
+def lost_mistakes(program, every):
+    """What is wrong with the frames that are lost: each of that number is, and no other."""
+    with Link(program, Relay(lambda own, frame: False)) as link:
+        words = [*link.puts(1, {"a": bytes(20_000)}), "--trace", "--drop", str(every)]
+        station = link.starts(1, words)
+        station.comes_to("eof-sent", 10)
+        time.sleep(1)
+        left = [fields(frame)[1:3] for _, _, frame in list(link.relay.came)]
+    sent, lost = [], []
+    for deed, channel, count in re.findall(
+        r" (sends|loses) (?:dir|data) frame 42 (\d+) (\d+) ", station.text("stderr")
+    ):
+        (sent if deed == "sends" else lost).append((int(channel), int(count) % (1 << 24)))
+    wanted = sent[every - 1 :: every]
+    if len(sent) < 10 or lost != wanted:
+        yield f"of {len(sent)} frames {lost} were lost, and not {wanted}"
+    if sorted(left) != sorted(set(sent) - set(lost)):
+        yield f"of {len(sent)} frames {len(left)} left, though {len(lost)} were lost"
+
+
+def all_mistakes(program):
+    """What is tried, with what is wrong in it."""
+    yield "all that is set of a link", keys_mistakes(program)
+    for every in (1, 3):
+        yield f"a station that loses each frame of number {every}", lost_mistakes(program, every)
+    for zone in (16, 2040):
+        settings = {"zone": zone, "segment": 4096}
+        both = carriers.pair_mistakes(program, "frames", [], settings, {"one": 1, "some": 100_000})
+        yield f"files that go both ways in frames of {zone} octets", both
