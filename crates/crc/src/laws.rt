@@ -4,7 +4,8 @@ ghost use Rattle.crc.specs.Checks.{crc16_behind, crc16_of};
 
 /// The check of octets begins with that of the octets before them.
 pub fn a_check_goes_on()
-    ensures { (start : ℕ) (front back : List ℕ) → start < 2 ^ 16 → ((i : ℕ) → slice_index back i < 256)
+    ensures { (start : ℕ) (front back : List ℕ) → start < 2 ^ 16
+        → ((i : ℕ) → slice_index back i < 256)
         → crc16_behind (crc16_behind start front) back ≡ crc16_behind start (front ++ back) }
 {}
 
