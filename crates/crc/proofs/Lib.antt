@@ -1,0 +1,5 @@
+pub mod Xor
+pub mod Divisions
+pub mod Octets
+pub mod Joined
+pub mod Tables

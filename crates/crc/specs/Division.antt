@@ -1,0 +1,22 @@
+-- Division of polynomials over two elements. A polynomial is written as the number whose binary
+-- digit i, from the lowest, is its coefficient of x^i. So the sum of two is `bit_xor`, which is
+-- their difference, too, and 2 * n is n times x.
+use Rattle.std.specs.Prelude.{ℕ, zero, suc, ◌+◌, ◌*◌, ◌/◌, ◌%◌, ◌^◌, bit_xor}
+
+-- less the divisor, of that degree, where that goes into it: n has that degree at the most, and its
+-- coefficient there is n / 2 ^ degree
+abbrev pub reduced : ℕ → ℕ → ℕ → ℕ
+reduced degree divisor n = bit_xor n (n / 2 ^ degree * divisor)
+
+-- what is left of a division by hand: the coefficients of n, of which there are `count`, are
+-- brought down one by one, the highest first, and the divisor is taken off wherever it goes into
+-- what stands there
+unfoldable pub remainder : ℕ → ℕ → ℕ → ℕ → ℕ
+remainder degree divisor zero n = 0
+remainder degree divisor (suc count) n =
+    reduced degree divisor (2 * remainder degree divisor count (n / 2) + n % 2)
+
+-- what x^count times n leaves, for an n below that degree
+unfoldable pub moved : ℕ → ℕ → ℕ → ℕ → ℕ
+moved degree divisor zero n = n
+moved degree divisor (suc count) n = reduced degree divisor (2 * moved degree divisor count n)
