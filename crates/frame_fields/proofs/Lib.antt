@@ -1,0 +1,4 @@
+pub mod RoundTrip
+mod Powers
+mod Detection
+mod Intact

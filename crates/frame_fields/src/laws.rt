@@ -1,0 +1,26 @@
+//! Laws of frames and their fields, each the contract of a function that does nothing.
+ghost use Rattle.std.specs.Prelude.{◌≡◌, ℕ, ◌^◌, ◌<◌, ◌≤◌, true, if◌then◌else◌, List, Some, None};
+ghost use Rattle.std.specs.Prelude.{length, take, drop, replicate};
+ghost use Rattle.frame_fields.specs.declared.config.FrameFields.{FrameFields};
+ghost use Rattle.frame_fields.specs.declared.opening.FieldsFault.TheVariants.{Damaged};
+ghost use Rattle.frame_fields.specs.Damage.{IsDamaged};
+ghost use Rattle.frame_fields.specs.Fields.{control_in, fields_fault, insert_in, mpdu_in, sealed};
+
+/// What is sealed is opened again: nothing is wrong with it, and its parts are those of the bare
+/// frame, with zeros as the insert zone, and the operational control field that was sent.
+pub fn what_is_sealed_is_opened()
+    ensures { (fields : FrameFields) (bare : List ℕ) (control : ℕ) → 6 ≤ length bare →
+        control < 2 ^ 32 → let frame = sealed fields bare control in
+        (fields_fault fields frame ≡ None) × (take 6 frame ≡ take 6 bare)
+        × (insert_in fields frame ≡ replicate fields.insert_zone 0)
+        × (mpdu_in fields frame ≡ drop 6 bare)
+        × (control_in fields frame ≡ (if fields.control_field then Some control else None)) }
+{}
+
+/// A frame with error control of up to 2,048 octets of which one, two or three bits were turned, or
+/// any within 16 in a row, is refused as damaged.
+pub fn damage_is_seen()
+    ensures { (fields : FrameFields) (sent came : List ℕ) → fields.error_control ≡ true →
+        fields_fault fields sent ≡ None → length sent ≤ 2048 → IsDamaged sent came →
+        fields_fault fields came ≡ Some Damaged }
+{}

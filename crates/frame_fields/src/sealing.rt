@@ -1,0 +1,66 @@
+//! Bare frames to the frames of a link.
+ghost use Rattle.std.specs.Prelude.{◌≡◌, ◌+◌, ◌^◌, ◌<◌, ◌≤◌, ◌++◌, length, take, replicate};
+ghost use Rattle.frame_fields.specs.Fields.{check_len, control_len, control_octets, extra, guarded};
+ghost use Rattle.frame_fields.specs.Fields.{sealed};
+
+use crate::config::{CHECK_LEN, CONTROL_LEN, FrameFields};
+use cfd_bits::{put_bytes, put_uint};
+use crc::crc16;
+use valid_config::Valid;
+
+/// Octets of a frame's primary header, behind which the insert zone stands (CCSDS 732.0-B-4,
+/// 4.1.2).
+pub const HEADER_LEN: usize = 6;
+
+/// The octets of the longest insert zone, as they are sent.
+const ZEROS: [u8; 64] = [0; 64];
+
+/// Makes the frame of the link from a bare one, with this operational control field, if the link
+/// has one. It has [`extra`](FrameFields::extra) octets more.
+pub fn seal(fields: Valid<FrameFields>, bare: &[u8], control: u32, out: &mut [u8])
+    requires header { 6 ≤ length bare.now }
+    requires room { length out.old ≡ length bare.now + extra fields }
+    ensures { out.new ≡ sealed fields bare.now control }
+{
+    let fields = fields.get();
+    let (header, mpdu) = bare.split_at(HEADER_LEN);
+    let at = put_bytes(out, 0, header);
+    let at = put_bytes(out, at, zeros(fields.insert_zone));
+    let at = put_bytes(out, at, mpdu);
+    let at = put_control(fields, control, out, at);
+    put_check(fields, out, at);
+}
+
+/// So many zeros.
+fn zeros(count: u8) -> &'static [u8]
+    requires { count ≤ 64 }
+    ensures { result.now ≡ replicate count 0 }
+{
+    &ZEROS[..usize::from(count)]
+}
+
+/// Writes the operational control field from octet `at` on, if there is one, and says where it
+/// ends.
+fn put_control(fields: FrameFields, control: u32, out: &mut [u8], at: usize) -> usize
+    requires { at + control_len fields ≤ length out.old }
+    ensures end { result ≡ at + control_len fields }
+    ensures front { take result out.new ≡ take at out.old ++ control_octets fields control }
+    ensures len { length out.new ≡ length out.old }
+{
+    if fields.control_field {
+        put_uint(out, at, CONTROL_LEN, u64::from(control))
+    } else {
+        at
+    }
+}
+
+/// Writes the check of the octets before octet `at`, to the end, if there is one.
+fn put_check(fields: FrameFields, out: &mut [u8], at: usize)
+    requires { at + check_len fields ≡ length out.old }
+    ensures { out.new ≡ guarded fields (take at out.old) }
+{
+    if fields.error_control {
+        let check = crc16(&out[..at]);
+        put_uint(out, at, CHECK_LEN, u64::from(check));
+    }
+}
