@@ -515,6 +515,37 @@ def answers_mistakes(program):
                 yield f"ask ends with status {status} where it is refused"
 
 
+def frozen_mistakes(program):
+    """What is wrong where a link is down by plan for longer than answers are waited for: nothing is
+    told of that."""
+    with Link(program, Relay(deaf_to_answers)) as link:
+        sender, port = controlled(link, 1, link.puts(1, {"a": b"hello"}), {"eof_time": 100})
+        sender.comes_to("eof-sent", 10)
+        time.sleep(0.5)
+        asked(program, port, "freeze")
+        time.sleep(13)
+        told = [line for line in sender.text("stderr").splitlines() if "waits for" in line]
+        if told:
+            yield f"it told {told}"
+
+
+def stuck_mistakes(program):
+    """What is wrong where a client reads no answer for half a minute: its connection is dropped."""
+    with Link(program) as link:
+        _, port = controlled(link, 2, ["--inbox", "to"])
+        with control.Client(port, is_deaf=True) as client:
+            client.babbles(2)
+            time.sleep(33)
+            client.socket.settimeout(2)
+            try:
+                client.says(b"help\n" * 100_000)
+                yield "after 33 s it takes more of such a client"
+            except TimeoutError:
+                yield "after 33 s such a client's connection is there"
+            except ConnectionError:
+                pass
+
+
 def all_mistakes(program):
     """What is tried, with what is wrong in it."""
     yield "how often a file is sent again", retries_mistakes(program)
@@ -544,3 +575,5 @@ def all_mistakes(program):
     yield "a log that can't be written", unwritable_mistakes(program)
     yield "a list of transactions", list_mistakes(program)
     yield "answers for two clients", answers_mistakes(program)
+    yield "a link that is down by plan for long", frozen_mistakes(program)
+    yield "a client that reads nothing for half a minute", stuck_mistakes(program)
