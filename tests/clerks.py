@@ -116,7 +116,7 @@ def most_open_mistakes(program):
         if not waits_for(lambda: spool.in_folder(".failed") == {"c": b"hello"}, 20):
             yield f"in .failed lie {spool.in_folder('.failed')}: {receiver.text('stdout')!r}"
         relay.passes = lambda own, frame: True
-        waits_for(lambda: receiver.text("stdout").count("retained") == 2, 20)
+        waits_for(lambda: spool.in_folder(".sent").keys() == {"a", "b"}, 20)
         sender.killed()
         link.starts(1, ["--spool", "from", "--no-time", "--rate", "10"], PATIENT)
         for name in ("d", "e"):

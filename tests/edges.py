@@ -72,9 +72,26 @@ def lost_mistakes(program, every):
         yield f"of {len(sent)} frames {len(left)} left, though {len(lost)} were lost"
 
 
+def heard_mistakes(program):
+    """What is wrong where frames of the link come to a station that may end after 2 s, though they
+    begin nothing: it has to stay as long as they come, and for 2 s."""
+    with Link(program, Relay()) as link:
+        station = link.starts(2, ["--inbox", "to", "--idle", "2"])
+        for count in range(10):
+            zone = links.filled(b"")
+            link.relay.give(2, links.frame_of(links.DIRECTIVES, count, zone))
+            last = time.time()
+            time.sleep(0.5)
+        status, out, err = station.ended(10)
+        stayed = time.time() - last
+    if status or out != "complete 0 of 0\n" or not 1.5 < stayed < 4 + links.SLACK:
+        yield f"it ended {stayed:.1f} s after the last one: status {status}, {out!r}, {err!r}"
+
+
 def all_mistakes(program):
     """What is tried, with what is wrong in it."""
     yield "all that is set of a link", keys_mistakes(program)
+    yield "frames of the link that begin nothing", heard_mistakes(program)
     for every in (1, 3):
         yield f"a station that loses each frame of number {every}", lost_mistakes(program, every)
     for zone in (16, 2040):
