@@ -547,8 +547,10 @@ def stuck_mistakes(program):
 
 
 def all_mistakes(program):
-    """What is tried, with what is wrong in it."""
+    """What is tried, with what is wrong in it; first what takes longest."""
+    yield "a client that reads nothing for half a minute", stuck_mistakes(program)
     yield "how often a file is sent again", retries_mistakes(program)
+    yield "a link that is down by plan for long", frozen_mistakes(program)
     yield "a file whose sending is cancelled", once_mistakes(program)
     yield "how many puts are open at once", at_once_mistakes(program)
     yield "the most octets that are taken", size_mistakes(program)
@@ -575,5 +577,3 @@ def all_mistakes(program):
     yield "a log that can't be written", unwritable_mistakes(program)
     yield "a list of transactions", list_mistakes(program)
     yield "answers for two clients", answers_mistakes(program)
-    yield "a link that is down by plan for long", frozen_mistakes(program)
-    yield "a client that reads nothing for half a minute", stuck_mistakes(program)
