@@ -250,7 +250,8 @@ def points_mistakes(program):
 
 def order_mistakes(program):
     """What is wrong with the order in which a file leaves its spool: by a folder of its own, and
-    then all three folders are flushed."""
+    then both folders are flushed; and in which numbers are written: flushed, given their name, and
+    then their folder is flushed."""
     with spool_of(program) as (link, spool):
         link.starts(2, INBOX, PATIENT)
         link.starts(1, SPOOL, PATIENT, faults="order")
@@ -267,6 +268,9 @@ def order_mistakes(program):
     )
     if not re.search(wanted, calls):
         yield f"the calls were {calls!r}"
+    numbers = r"fsync (\S*)/from\.state\.new\nrename \1/from\.state\.new \1/from\.state\nfsync \1\n"
+    if not re.search(numbers, calls):
+        yield f"of numbers the calls were {calls!r}"
 
 
 def numbers_mistakes(program, width):

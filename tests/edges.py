@@ -88,10 +88,53 @@ def heard_mistakes(program):
         yield f"it ended {stayed:.1f} s after the last one: status {status}, {out!r}, {err!r}"
 
 
+def junk_mistakes(program):
+    """What is wrong where nothing but packets of another APID come to a station of packets that may
+    end after 2 s: it has to end all the same, and says what came."""
+    with Link(program, Relay()) as link:
+        station = link.starts(2, ["--inbox", "to", "--carrier", "packets", "--idle", "2"])
+        packet = struct.pack(">HHH", 77, 0xC000, 0) + b"A"
+        with links.Flood(packet, 10, [(link.relay.sockets[2], link.relay.listens[2])]):
+            status, out, err = station.ended(10)
+    if status or out != "complete 0 of 0\n" or "of another APID" not in err:
+        yield f"status {status}, {out!r}, {err!r}"
+
+
+def foreign_mistakes(program):
+    """What is wrong where a station of PDUs hears one of other ids: it tells its operator, and
+    sends nothing, as whatever it sends is a PDU."""
+    with Link(program, Relay()) as link:
+        station = link.starts(2, ["--inbox", "to", "--carrier", "pdus"])
+        pdu = struct.pack(">BHBHIHBBII", 0x20, 10, 0x13, 1, 7, 9, 4, 0, 7, 4)
+        link.relay.give(2, pdu)
+        yield from links.note_mistakes(station, ".*other ids", time.time(), 2)
+        time.sleep(2)
+        if link.relay.came:
+            yield f"it sent {[frame.hex() for _, _, frame in link.relay.came]}"
+
+
+def kept_mistakes(program, turn):
+    """What is wrong where the system has no room for a PDU that is longer than a frame: it leaves
+    all the same, and none is missing though nothing is asked for again."""
+    with Link(program, Relay(lambda own, frame: own == 1)) as link:
+        words = [*link.puts(1, {"a": bytes(5000)}), "--carrier", "pdus"]
+        sender = link.starts(1, words, {"eof_time": 100}, faults=f"send={turn}")
+        sender.comes_to("eof-sent", 10)
+        time.sleep(2)
+        left = [frame for _, own, frame in list(link.relay.came) if own == 1]
+    offsets = sorted(int.from_bytes(it[16:20], "big") for it in left if it[0] & 16)
+    if offsets != [0, 1024, 2048, 3072, 4096]:
+        yield f"file data left from the offsets {offsets}"
+
+
 def all_mistakes(program):
     """What is tried, with what is wrong in it."""
     yield "all that is set of a link", keys_mistakes(program)
     yield "frames of the link that begin nothing", heard_mistakes(program)
+    yield "packets of another APID alone", junk_mistakes(program)
+    yield "a PDU of other ids, for a station of PDUs", foreign_mistakes(program)
+    for turn in (3, 4):
+        yield f"a datagram of a PDU that the system refuses, number {turn}", kept_mistakes(program, turn)
     for every in (1, 3):
         yield f"a station that loses each frame of number {every}", lost_mistakes(program, every)
     for zone in (16, 2040):
