@@ -5,6 +5,7 @@ import time
 
 import carriers
 import links
+import stations
 from links import Link, Relay
 
 # What is set of the link of station 2, each value unlike each other and unlike what else holds.
@@ -127,14 +128,35 @@ def kept_mistakes(program, turn):
         yield f"file data left from the offsets {offsets}"
 
 
+def beacon_mistakes(program):
+    """What is wrong where frames are lost between stations that are set up alike: neither tells the
+    other how it is set up."""
+    seen = []
+
+    def passes(own, frame):
+        seen.append(frame)
+        return len(seen) % 11 != 0
+
+    with Link(program, Relay(passes)) as link:
+        receiver = link.starts(2, ["--inbox", "to"], stations.PATIENT)
+        link.starts(1, link.puts(1, {"a": bytes(30_000)}), stations.PATIENT)
+        if receiver.comes_to("finished .* 0 complete retained", 30) is None:
+            yield f"the file didn't come: {receiver.text('stdout')!r}"
+        told = [frame.hex() for frame in seen if fields(frame)[1] == links.ONLY_IDLE]
+    if told:
+        yield f"it sent {told}"
+
+
 def all_mistakes(program):
     """What is tried, with what is wrong in it."""
     yield "all that is set of a link", keys_mistakes(program)
     yield "frames of the link that begin nothing", heard_mistakes(program)
     yield "packets of another APID alone", junk_mistakes(program)
     yield "a PDU of other ids, for a station of PDUs", foreign_mistakes(program)
+    yield "lost frames between stations that are set up alike", beacon_mistakes(program)
     for turn in (3, 4):
-        yield f"a datagram of a PDU that the system refuses, number {turn}", kept_mistakes(program, turn)
+        kept = kept_mistakes(program, turn)
+        yield f"a datagram of a PDU that the system refuses, number {turn}", kept
     for every in (1, 3):
         yield f"a station that loses each frame of number {every}", lost_mistakes(program, every)
     for zone in (16, 2040):
