@@ -342,6 +342,19 @@ def causes_mistakes(program):
         yield f"the sender: status {status}, {out!r}, {err!r}"
 
 
+def no_inbox_mistakes(program):
+    """What is wrong where two files come to a station that takes none: that is told once."""
+    with Link(program) as link:
+        receiver = link.starts(2, [], PATIENT)
+        words = [*link.puts(1, {"a": b"hello", "b": b"hello"}), "--idle", "1"]
+        status, out, err = link.starts(1, words, PATIENT).ended(30)
+        told = stations.unheard(receiver.text("stderr"))
+    if told != "error: a file came, and there is no --inbox\n":
+        yield f"the receiver told {told!r}"
+    if status != 1 or not out.endswith("complete 0 of 2\n"):
+        yield f"the sender: status {status}, {out!r}, {err!r}"
+
+
 # ---- logs and counters
 
 # A name that means something in JSON and in markup, and how a log of objects has it.
@@ -573,6 +586,7 @@ def all_mistakes(program):
     yield "a spool: the eldest of 1,100 files", eldest_mistakes(program)
     yield "an inbox that keeps files: what is left of one", replaces_mistakes(program)
     yield "two files that can't be published", causes_mistakes(program)
+    yield "two files for which there is no folder", no_inbox_mistakes(program)
     yield "logs of objects", json_mistakes(program)
     yield "the times in logs", stamps_mistakes(program)
     yield "the counters of two stations", counters_mistakes(program)

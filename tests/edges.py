@@ -147,10 +147,26 @@ def beacon_mistakes(program):
         yield f"it sent {told}"
 
 
+def timer_mistakes(program):
+    """What is wrong where a timer of 8 s runs while 100 idle frames a second come: it expires in
+    its time, however many turns are taken."""
+    with Link(program, Relay()) as link:
+        words = link.puts(1, {"a": b"hello"})
+        sender = link.starts(1, words, {"eof_time": 8, "eof_limit": 0})
+        ways = [(link.relay.sockets[1], link.relay.listens[1])]
+        with links.Flood(links.idle_frame(0), 100, ways):
+            began = sender.comes_to("eof-sent", 10)
+            expired = sender.comes_to("fault", 20)
+    took = (expired or 0) - (began or 0)
+    if not 6.5 < took < 10 + links.SLACK:
+        yield f"it expired after {took:.1f} s"
+
+
 def all_mistakes(program):
     """What is tried, with what is wrong in it."""
     yield "all that is set of a link", keys_mistakes(program)
     yield "frames of the link that begin nothing", heard_mistakes(program)
+    yield "a timer in a flood of idle frames", timer_mistakes(program)
     yield "packets of another APID alone", junk_mistakes(program)
     yield "a PDU of other ids, for a station of PDUs", foreign_mistakes(program)
     yield "lost frames between stations that are set up alike", beacon_mistakes(program)
