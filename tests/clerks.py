@@ -116,7 +116,7 @@ def most_open_mistakes(program):
         if not waits_for(lambda: spool.in_folder(".failed") == {"c": b"hello"}, 20):
             yield f"in .failed lie {spool.in_folder('.failed')}: {receiver.text('stdout')!r}"
         relay.passes = lambda own, frame: True
-        waits_for(lambda: receiver.text("stdout").count("retained") == 2, 20)
+        waits_for(lambda: spool.in_folder(".sent").keys() == {"a", "b"}, 20)
         sender.killed()
         link.starts(1, ["--spool", "from", "--no-time", "--rate", "10"], PATIENT)
         for name in ("d", "e"):
@@ -250,7 +250,8 @@ def points_mistakes(program):
 
 def order_mistakes(program):
     """What is wrong with the order in which a file leaves its spool: by a folder of its own, and
-    then all three folders are flushed."""
+    then both folders are flushed; and in which numbers are written: flushed, given their name, and
+    then their folder is flushed."""
     with spool_of(program) as (link, spool):
         link.starts(2, INBOX, PATIENT)
         link.starts(1, SPOOL, PATIENT, faults="order")
@@ -267,6 +268,9 @@ def order_mistakes(program):
     )
     if not re.search(wanted, calls):
         yield f"the calls were {calls!r}"
+    numbers = r"fsync (\S*)/from\.state\.new\nrename \1/from\.state\.new \1/from\.state\nfsync \1\n"
+    if not re.search(numbers, calls):
+        yield f"of numbers the calls were {calls!r}"
 
 
 def numbers_mistakes(program, width):
@@ -333,6 +337,19 @@ def causes_mistakes(program):
         "error: to/there: it is a folder (transaction 1:N)",
     ]
     if sorted(stations.unheard(told).splitlines()) != wanted:
+        yield f"the receiver told {told!r}"
+    if status != 1 or not out.endswith("complete 0 of 2\n"):
+        yield f"the sender: status {status}, {out!r}, {err!r}"
+
+
+def no_inbox_mistakes(program):
+    """What is wrong where two files come to a station that takes none: that is told once."""
+    with Link(program) as link:
+        receiver = link.starts(2, [], PATIENT)
+        words = [*link.puts(1, {"a": b"hello", "b": b"hello"}), "--idle", "1"]
+        status, out, err = link.starts(1, words, PATIENT).ended(30)
+        told = stations.unheard(receiver.text("stderr"))
+    if told != "error: a file came, and there is no --inbox\n":
         yield f"the receiver told {told!r}"
     if status != 1 or not out.endswith("complete 0 of 2\n"):
         yield f"the sender: status {status}, {out!r}, {err!r}"
@@ -515,9 +532,42 @@ def answers_mistakes(program):
                 yield f"ask ends with status {status} where it is refused"
 
 
+def frozen_mistakes(program):
+    """What is wrong where a link is down by plan for longer than answers are waited for: nothing is
+    told of that."""
+    with Link(program, Relay(deaf_to_answers)) as link:
+        sender, port = controlled(link, 1, link.puts(1, {"a": b"hello"}), {"eof_time": 100})
+        sender.comes_to("eof-sent", 10)
+        time.sleep(0.5)
+        asked(program, port, "freeze")
+        time.sleep(13)
+        told = [line for line in sender.text("stderr").splitlines() if "waits for" in line]
+        if told:
+            yield f"it told {told}"
+
+
+def stuck_mistakes(program):
+    """What is wrong where a client reads no answer for half a minute: its connection is dropped."""
+    with Link(program) as link:
+        _, port = controlled(link, 2, ["--inbox", "to"])
+        with control.Client(port, is_deaf=True) as client:
+            client.babbles(2)
+            time.sleep(33)
+            client.socket.settimeout(2)
+            try:
+                client.says(b"help\n" * 100_000)
+                yield "after 33 s it takes more of such a client"
+            except TimeoutError:
+                yield "after 33 s such a client's connection is there"
+            except ConnectionError:
+                pass
+
+
 def all_mistakes(program):
-    """What is tried, with what is wrong in it."""
+    """What is tried, with what is wrong in it; first what takes longest."""
+    yield "a client that reads nothing for half a minute", stuck_mistakes(program)
     yield "how often a file is sent again", retries_mistakes(program)
+    yield "a link that is down by plan for long", frozen_mistakes(program)
     yield "a file whose sending is cancelled", once_mistakes(program)
     yield "how many puts are open at once", at_once_mistakes(program)
     yield "the most octets that are taken", size_mistakes(program)
@@ -536,6 +586,7 @@ def all_mistakes(program):
     yield "a spool: the eldest of 1,100 files", eldest_mistakes(program)
     yield "an inbox that keeps files: what is left of one", replaces_mistakes(program)
     yield "two files that can't be published", causes_mistakes(program)
+    yield "two files for which there is no folder", no_inbox_mistakes(program)
     yield "logs of objects", json_mistakes(program)
     yield "the times in logs", stamps_mistakes(program)
     yield "the counters of two stations", counters_mistakes(program)

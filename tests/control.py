@@ -465,7 +465,7 @@ def freeze_mistakes(program):
             if it.process.poll() is not None or re.search("fault|suspended", it.text("stdout")):
                 yield f"station {it.own}: {it.process.poll()}, {it.text('stdout')!r}"
         counters = asked(program, here, "counters")
-        if not re.search(r"\b50\b", counters[1]):
+        if not re.search(r"(?m)^datagrams_thrown_away 5\d$", counters[1]):
             yield f"50 frames were thrown away, and it counted {counters[1]!r}"
         for port in (there, here):
             if asked(program, port, "thaw")[:2] != (0, "ok\n"):

@@ -5,6 +5,7 @@ import time
 
 import carriers
 import links
+import stations
 from links import Link, Relay
 
 # What is set of the link of station 2, each value unlike each other and unlike what else holds.
@@ -72,9 +73,106 @@ def lost_mistakes(program, every):
         yield f"of {len(sent)} frames {len(left)} left, though {len(lost)} were lost"
 
 
+def heard_mistakes(program):
+    """What is wrong where frames of the link come to a station that may end after 2 s, though they
+    begin nothing: it has to stay as long as they come, and for 2 s."""
+    with Link(program, Relay()) as link:
+        station = link.starts(2, ["--inbox", "to", "--idle", "2"])
+        for count in range(10):
+            zone = links.filled(b"")
+            link.relay.give(2, links.frame_of(links.DIRECTIVES, count, zone))
+            last = time.time()
+            time.sleep(0.5)
+        status, out, err = station.ended(10)
+        stayed = time.time() - last
+    if status or out != "complete 0 of 0\n" or not 1.5 < stayed < 4 + links.SLACK:
+        yield f"it ended {stayed:.1f} s after the last one: status {status}, {out!r}, {err!r}"
+
+
+def junk_mistakes(program):
+    """What is wrong where nothing but packets of another APID come to a station of packets that may
+    end after 2 s: it has to end all the same, and says what came."""
+    with Link(program, Relay()) as link:
+        station = link.starts(2, ["--inbox", "to", "--carrier", "packets", "--idle", "2"])
+        packet = struct.pack(">HHH", 77, 0xC000, 0) + b"A"
+        with links.Flood(packet, 10, [(link.relay.sockets[2], link.relay.listens[2])]):
+            status, out, err = station.ended(10)
+    if status or out != "complete 0 of 0\n" or "of another APID" not in err:
+        yield f"status {status}, {out!r}, {err!r}"
+
+
+def foreign_mistakes(program):
+    """What is wrong where a station of PDUs hears one of other ids: it tells its operator, and
+    sends nothing, as whatever it sends is a PDU."""
+    with Link(program, Relay()) as link:
+        station = link.starts(2, ["--inbox", "to", "--carrier", "pdus"])
+        pdu = struct.pack(">BHBHIHBBII", 0x20, 10, 0x13, 1, 7, 9, 4, 0, 7, 4)
+        link.relay.give(2, pdu)
+        yield from links.note_mistakes(station, ".*other ids", time.time(), 2)
+        time.sleep(2)
+        if link.relay.came:
+            yield f"it sent {[frame.hex() for _, _, frame in link.relay.came]}"
+
+
+def kept_mistakes(program, turn):
+    """What is wrong where the system has no room for a PDU that is longer than a frame: it leaves
+    all the same, and none is missing though nothing is asked for again."""
+    with Link(program, Relay(lambda own, frame: own == 1)) as link:
+        words = [*link.puts(1, {"a": bytes(5000)}), "--carrier", "pdus"]
+        sender = link.starts(1, words, {"eof_time": 100}, faults=f"send={turn}")
+        sender.comes_to("eof-sent", 10)
+        time.sleep(2)
+        left = [frame for _, own, frame in list(link.relay.came) if own == 1]
+    offsets = sorted(int.from_bytes(it[16:20], "big") for it in left if it[0] & 16)
+    if offsets != [0, 1024, 2048, 3072, 4096]:
+        yield f"file data left from the offsets {offsets}"
+
+
+def beacon_mistakes(program):
+    """What is wrong where frames are lost between stations that are set up alike: neither tells the
+    other how it is set up."""
+    seen = []
+
+    def passes(own, frame):
+        seen.append(frame)
+        return len(seen) % 11 != 0
+
+    with Link(program, Relay(passes)) as link:
+        receiver = link.starts(2, ["--inbox", "to"], stations.PATIENT)
+        link.starts(1, link.puts(1, {"a": bytes(30_000)}), stations.PATIENT)
+        if receiver.comes_to("finished .* 0 complete retained", 30) is None:
+            yield f"the file didn't come: {receiver.text('stdout')!r}"
+        told = [frame.hex() for frame in seen if fields(frame)[1] == links.ONLY_IDLE]
+    if told:
+        yield f"it sent {told}"
+
+
+def timer_mistakes(program):
+    """What is wrong where a timer of 8 s runs while 100 idle frames a second come: it expires in
+    its time, however many turns are taken."""
+    with Link(program, Relay()) as link:
+        words = link.puts(1, {"a": b"hello"})
+        sender = link.starts(1, words, {"eof_time": 8, "eof_limit": 0})
+        ways = [(link.relay.sockets[1], link.relay.listens[1])]
+        with links.Flood(links.idle_frame(0), 100, ways):
+            began = sender.comes_to("eof-sent", 10)
+            expired = sender.comes_to("fault", 20)
+    took = (expired or 0) - (began or 0)
+    if not 6.5 < took < 10 + links.SLACK:
+        yield f"it expired after {took:.1f} s"
+
+
 def all_mistakes(program):
     """What is tried, with what is wrong in it."""
     yield "all that is set of a link", keys_mistakes(program)
+    yield "frames of the link that begin nothing", heard_mistakes(program)
+    yield "a timer in a flood of idle frames", timer_mistakes(program)
+    yield "packets of another APID alone", junk_mistakes(program)
+    yield "a PDU of other ids, for a station of PDUs", foreign_mistakes(program)
+    yield "lost frames between stations that are set up alike", beacon_mistakes(program)
+    for turn in (3, 4):
+        kept = kept_mistakes(program, turn)
+        yield f"a datagram of a PDU that the system refuses, number {turn}", kept
     for every in (1, 3):
         yield f"a station that loses each frame of number {every}", lost_mistakes(program, every)
     for zone in (16, 2040):

@@ -253,3 +253,30 @@ def folder_mistakes(shown, octets, most=2000):
         if not shows:
             return
     yield f"it asks for memory more than {most} times"
+
+
+# A script in which a frame is lost, and what is told where its trace breaks off.
+TRACED = """set zone 36
+file 1 a.txt hello
+put 1 a.txt b.txt
+burst 1
+strike 1
+tick 1 3
+recover
+"""
+SHORT = "error: there is not enough memory to show what passes\n"
+
+
+def trace_mistakes(program, most=5000):
+    """What is wrong where each growth of memory is refused in turn as a trace is written: where
+    the run is as ever, the trace is whole, or breaks off, and that is told."""
+    words = ["sim", "--trace"]
+    status, report, trace, _ = program.run(words, TRACED)
+    for turn in range(1, most):
+        now, told, shown, left = program.run(words, TRACED, f"memory={turn} mark")
+        is_cut = now == 3 and shown.endswith(SHORT) and trace.startswith(shown[: -len(SHORT)])
+        if told == report and (now, shown) != (status, trace) and not is_cut:
+            yield f"refusing growth {turn}, it ended with status {now} and wrote {shown!r}"
+        if "refused" not in left:
+            return
+    yield f"it asks for memory more than {most} times"
