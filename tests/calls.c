@@ -1,5 +1,6 @@
 /* Calls every export of cfdp.h, on closed and open handles, with good and bad values, and with each
- * growth of memory refused in turn. Prints what is wrong, and ends with the number of mistakes.
+ * growth of memory refused in turn; and looks which calls ask for none. Prints what is wrong, and
+ * ends with the number of mistakes.
  * tests/bindings.py builds and runs it. */
 #include "cfdp.h"
 
@@ -603,6 +604,91 @@ static void decodes(void)
     IS(it.kind, 0);
 }
 
+/* ---- calls that take no memory */
+
+/* How many growths of memory were asked for since this was asked last. */
+static long growths(void)
+{
+    static long before;
+    const long since = asked - before;
+
+    before = asked;
+    return since;
+}
+
+/* All that is due waits then. To take file data, new ones and such as were asked for, takes no
+ * memory, once there is room for what a step tells. */
+static void polled_without_memory(cfdp_station *s)
+{
+    uint8_t names[CFDP_NAMES];
+    cfdp_indication told;
+    cfdp_answer answer;
+
+    do {
+        const cfdp_counts before = counted(s);
+        cfdp_counts now;
+        long grown;
+
+        while (cfdp_next_indication(s, &told, names, sizeof names) == CFDP_OK) {
+        }
+        growths();
+        answer = cfdp_poll(s);
+        grown = growths();
+        now = counted(s);
+        if (now.sent.file_data != before.sent.file_data
+            || now.sent.file_data_again != before.sent.file_data_again)
+            IS(grown, 0);
+    } while (answer == CFDP_OK);
+    IS(answer, CFDP_NOTHING);
+}
+
+/* Begun frames are filled up, and all leave; but for one they arrive. */
+static void left_without_memory(cfdp_station *from, cfdp_station *to, unsigned lost)
+{
+    uint8_t frame[264];
+    unsigned count = 0;
+
+    growths();
+    IS(cfdp_flush(from), CFDP_OK);
+    IS(growths(), 0);
+    while (cfdp_next_frame(from, frame, sizeof frame) == CFDP_OK) {
+        IS(growths(), 0);
+        if (++count != lost)
+            IS(cfdp_receive(to, frame, sizeof frame), CFDP_OK);
+        growths();
+    }
+    IS(growths(), 0);
+    IS(count >= lost, 1);
+}
+
+/* A file of ten pieces, of which one is asked for again. */
+static void sent_without_memory(void)
+{
+    cfdp_station one = CFDP_STATION_INIT, two = CFDP_STATION_INIT;
+    const cfdp_config first = config_of(1), second = config_of(2);
+    uint8_t *octets = (uint8_t *)calloc(10, 1024);
+    cfdp_id id;
+    int round;
+
+    IS(cfdp_open(&one, &first), CFDP_OK);
+    IS(cfdp_open(&two, &second), CFDP_OK);
+    IS(cfdp_add(&one, NAME_A, 1, octets, 10 * 1024), CFDP_OK);
+    IS(cfdp_put(&one, NAME_A, 1, NAME_B, 1, &id), CFDP_OK);
+    for (round = 0; round < 3; round++) {
+        polled_without_memory(&one);
+        left_without_memory(&one, &two, round == 0 ? 20 : 0);
+        polled_without_memory(&two);
+        left_without_memory(&two, &one, 0);
+    }
+    IS(counted(&one).sent.file_data, 10);
+    IS(counted(&one).sent.file_data_again != 0, 1);
+    IS(cfdp_file_count(&two), 1);
+    cfdp_close(&one);
+    cfdp_close(&two);
+    free(octets);
+    IS(live, 0);
+}
+
 /* ---- memory refused */
 
 /* A transfer, in which a call may answer that there is no memory, and none anything else. */
@@ -664,6 +750,7 @@ int main(void)
     overtaken();
     filled();
     decodes();
+    sent_without_memory();
     asked = 0;
     short_of_memory();
     most = asked;
