@@ -9,8 +9,8 @@
 
 Compares cfdp.h and ffi.rs with the crate's sources, and the archive's names with them; compiles the
 header, the examples, calls.c and what stands in bindings/*/tests without warnings; runs them, also
-under AddressSanitizer and valgrind. Where a machine hasn't one of the compilers or checkers, a line
-says so. The last line is 'N passed, M failed'.
+under AddressSanitizer and valgrind; and makes the pages of the crate for Rust. Where a machine
+hasn't one of the compilers or checkers, a line says so. The last line is 'N passed, M failed'.
 """
 import os
 import re
@@ -201,6 +201,10 @@ def name_mistakes(archive):
     allowed |= {"memcpy", "memmove", "memset", "memcmp", "bcmp"}
     if not wanted <= allowed:
         yield f"the archive wants {sorted(wanted - allowed)}"
+    # So handles share nothing.
+    kept = {it for it in re.findall(r" [BbCDdGgSs] (\S+)", told)}
+    if kept:
+        yield f"the archive has data of its own that can change: {sorted(kept)}"
 
 
 def uncalled_mistakes():
@@ -266,6 +270,7 @@ class Bindings:
         """Each program in C, by each compiler and checker."""
         example = [f"{C}/examples/transfer.c", f"{C}/heap.c"]
         forgetting = [f"{C}/tests/forgetting.c"]
+        pool = [f"{C}/tests/in_a_pool.c", f"{C}/pool.c"]
         for name, flags, front in checkers(self.room):
             for octets in ("0", "1", "100000"):
                 what = f"transfer.c, {octets} octets{name}"
@@ -273,10 +278,14 @@ class Bindings:
             yield f"calls.c{name}", self.c_mistakes(C99, [f"{HERE}/calls.c"], flags, front, [])
             rounds = ["20"] if front else []
             yield f"forgetting.c{name}", self.c_mistakes(C99, forgetting, flags, front, rounds)
+            puts = ["200"] if front else []
+            yield f"in_a_pool.c{name}", self.c_mistakes(C99, pool, flags, front, puts)
+        yield "stack.c", self.c_mistakes(C99, [f"{C}/tests/stack.c", f"{C}/heap.c"], [], [], [])
         yield "a file of 1 MiB", self.c_mistakes(C99, example, [], [], ["1048576"])
         if shutil.which("c++"):
             yield "transfer.c as C++", self.c_mistakes(CPP, example, [], [], [])
             yield "forgetting.c as C++", self.c_mistakes(CPP, forgetting, [], [], [])
+            yield "in_a_pool.c as C++", self.c_mistakes(CPP, pool, [], [], ["200"])
         else:
             print("no c++: nothing is compiled as C++")
 
@@ -312,6 +321,26 @@ class Bindings:
         if shutil.which("valgrind"):
             words = ["valgrind", "-q", "--leak-check=full", "--error-exitcode=9"]
             yield "transfer.rs, valgrind", run_mistakes([*words, made, "20000"])
+
+    def cargo_mistakes(self, words, **how):
+        """What is wrong where cargo does this in a copy of the crate."""
+        folder = f"{self.room}/crate"
+        if not os.path.isdir(folder):
+            shutil.copytree(RUST, folder, ignore=shutil.ignore_patterns("target", "Cargo.lock"))
+        how = {**os.environ, **how}
+        yield from run_mistakes(["cargo", *words, "--offline"], cwd=folder, env=how)
+
+    def cargo_runs(self):
+        """The pages of the crate, and what its build says where the archive lacks."""
+        if not shutil.which("cargo"):
+            print("no cargo: the pages of the crate aren't made")
+            return
+        where = {"CFDP_LIB": os.path.dirname(self.archive)}
+        pages = self.cargo_mistakes(["doc", "--no-deps"], RUSTDOCFLAGS="-D warnings", **where)
+        yield "cargo doc", pages
+        said = [*self.cargo_mistakes(["check"], CFDP_LIB=f"{self.room}/nowhere")]
+        told = ["make it by `.ci/archive`" in it for it in said]
+        yield "a build without the archive", [] if told == [True] else [f"cargo says {said}"]
 
     def udp_mistakes(self, made):
         """What is wrong where a program's station sends a file to one of cfdp_node."""
@@ -355,19 +384,21 @@ class Bindings:
         else:
             print("no cc: nothing is compiled as C")
         yield from self.rust_runs()
+        yield from self.cargo_runs()
         if shutil.which("cc"):
             yield from self.udp_runs()
 
 
 def tell_figures(archive, room):
-    """Prints the sizes of the archive and of a stripped program, and what figures.c measures."""
+    """Prints the sizes of the archive and of a stripped program, and what the programs measure."""
     made = f"{room}/figures"
     files = [f"{C}/examples/transfer.c", f"{C}/heap.c", archive]
     subprocess.run([*C99, *files, "-s", "-Wl,--gc-sections", "-o", made], check=True)
     print(f"archive {os.path.getsize(archive)} octets, stripped transfer {os.path.getsize(made)}")
-    measured = ["cc", "-O2", f"-I{C}", f"{HERE}/figures.c", *files[1:], "-o", made]
-    subprocess.run(measured, check=True)
-    subprocess.run([made], check=True)
+    stack, pool = [f"{C}/tests/stack.c", f"{C}/heap.c"], [f"{C}/tests/in_a_pool.c", f"{C}/pool.c"]
+    for sources in ([f"{HERE}/figures.c", f"{C}/heap.c"], stack, pool):
+        subprocess.run([*C99, *sources, archive, "-o", made], check=True)
+        subprocess.run([made], check=True)
 
 
 def taken(words, name):

@@ -1,5 +1,5 @@
-/* What the static library takes: time for a frame down and up, beside memcpy of the same octets;
- * time for a whole file; stack. tests/bindings.py --figures builds and runs it. */
+/* What the static library takes: time for a frame down and up, beside memcpy of the same octets,
+ * and time for a whole file. tests/bindings.py --figures builds and runs it. */
 #define _POSIX_C_SOURCE 200809L
 #include "cfdp.h"
 
@@ -8,7 +8,7 @@
 #include <string.h>
 #include <time.h>
 
-enum { FILE_LEN = 1 << 20, MOST_FRAMES = 20000, ROUNDS = 5, PAINTED = 1 << 20 };
+enum { FILE_LEN = 1 << 20, MOST_FRAMES = 20000, ROUNDS = 5 };
 
 static double seconds(void)
 {
@@ -23,12 +23,12 @@ static cfdp_station opened(int number, unsigned zone, unsigned segment)
     cfdp_config config;
 
     cfdp_defaults(&config);
-    config.down.zone = config.up.zone = (uint16_t)zone;
+    config.sends.zone = config.receives.zone = (uint16_t)zone;
     config.segment = (uint16_t)segment;
     if (number == 2) {
-        const cfdp_link down = config.down;
-        config.down = config.up;
-        config.up = down;
+        const cfdp_link sends = config.sends;
+        config.sends = config.receives;
+        config.receives = sends;
         config.entity = 2;
         config.peer = 1;
     }
@@ -112,7 +112,7 @@ static void time_frames(const uint8_t *octets, unsigned zone, unsigned segment)
 }
 
 /* A file of 1 MiB from a put to both ends' Finished, over a link that loses nothing. */
-static void transfer(const uint8_t *octets, bool is_told)
+static void transfer(const uint8_t *octets)
 {
     cfdp_station one = opened(1, 256, 1024), two = opened(2, 256, 1024);
     uint8_t frame[264];
@@ -134,8 +134,7 @@ static void transfer(const uint8_t *octets, bool is_told)
     }
     if (cfdp_file_count(&two) != 1)
         exit(3);
-    if (is_told)
-        printf("a file of 1 MiB: %.1f ms\n", (seconds() - start) * 1e3);
+    printf("a file of 1 MiB: %.1f ms\n", (seconds() - start) * 1e3);
     cfdp_close(&one);
     cfdp_close(&two);
 }
@@ -152,29 +151,6 @@ static void time_call(void)
     cfdp_close(&one);
 }
 
-/* Fills the stack below, and tells later how much of it was written. */
-static uintptr_t lowest;
-
-__attribute__((noinline)) static void paint(void)
-{
-    volatile uint8_t room[PAINTED];
-    size_t at;
-
-    for (at = 0; at < PAINTED; at++)
-        room[at] = 0xA5;
-    lowest = (uintptr_t)room;
-}
-
-__attribute__((noinline)) static void tell_stack(void)
-{
-    const volatile uint8_t *room = (const volatile uint8_t *)lowest;
-    size_t at = 0;
-
-    while (at < PAINTED && room[at] == 0xA5)
-        at++;
-    printf("stack of a transfer: %lu octets\n", (unsigned long)(PAINTED - at));
-}
-
 int main(void)
 {
     uint8_t *octets = (uint8_t *)malloc(FILE_LEN);
@@ -184,10 +160,7 @@ int main(void)
         return 1;
     for (at = 0; at < FILE_LEN; at++)
         octets[at] = (uint8_t)(at * 7);
-    paint();
-    transfer(octets, false);
-    tell_stack();
-    transfer(octets, true);
+    transfer(octets);
     time_frames(octets, 256, 1024);
     time_frames(octets, 2040, 1500);
     time_frames(octets, 2040, 4096);

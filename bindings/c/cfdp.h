@@ -1,8 +1,10 @@
 /* A proved CFDP station (CCSDS 727.0-B-5, class 2) over AOS frames, for C and C++.
  *
- * Written by hand for crates/cfdp_c. tests/bindings.py compares both: names, arguments, fields and
- * numbers. The crate proves that each call does what stands here, provided that its caller keeps to
- * this; but that cfdp_close gives back all memory is tested, and not proved:
+ * Written by hand for crates/cfdp_c; tests/bindings.py compares both: names, arguments, fields and
+ * numbers.
+ *
+ * It is proved that each call does what stands here, provided that its caller keeps to this; but that
+ * cfdp_close gives back all memory is tested, and not proved:
  *
  * 1. A pointer isn't null, also where its length is 0, is aligned, and may be read or written for
  *    that length. No two arguments of a call overlap, but for two that are only read.

@@ -17,6 +17,12 @@ rattle_block rattle_alloc(size_t size, size_t align);
 rattle_block rattle_realloc(void *at, size_t old_size, size_t size, size_t align);
 void rattle_dealloc(void *at);
 
+/* What stands in front of each function: packaging/install makes a library of them that give way to
+ * a program's own. */
+#ifndef CFDP_HEAP
+#define CFDP_HEAP
+#endif
+
 static char nothing;
 
 static rattle_block block_at(void *at)
@@ -27,18 +33,18 @@ static rattle_block block_at(void *at)
     return block;
 }
 
-rattle_block rattle_alloc(size_t size, size_t align)
+CFDP_HEAP rattle_block rattle_alloc(size_t size, size_t align)
 {
     return block_at(align <= 16 ? malloc(size != 0 ? size : 1) : NULL);
 }
 
-rattle_block rattle_realloc(void *at, size_t old_size, size_t size, size_t align)
+CFDP_HEAP rattle_block rattle_realloc(void *at, size_t old_size, size_t size, size_t align)
 {
     (void)old_size;
     return block_at(align <= 16 ? realloc(at, size != 0 ? size : 1) : NULL);
 }
 
-void rattle_dealloc(void *at)
+CFDP_HEAP void rattle_dealloc(void *at)
 {
     free(at);
 }

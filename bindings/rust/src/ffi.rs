@@ -2,7 +2,6 @@
 //! method of [`Handle`] passes whole slices and references, so that no caller owes anything.
 
 use std::ffi::c_void;
-use std::marker::PhantomData;
 
 /// What a call answers, as `cfdp.h` names it.
 pub const OK: u32 = 0;
@@ -162,7 +161,6 @@ pub struct Pdu {
 pub struct Handle {
     at: *mut c_void,
     is_open: bool,
-    on_its_thread: PhantomData<*const ()>,
 }
 
 #[link(name = "cfdp_c", kind = "static")]
@@ -231,8 +229,7 @@ pub fn decode(pdu: &[u8], out: &mut Pdu) -> u32 {
 
 impl Handle {
     /// A closed one.
-    pub const CLOSED: Handle =
-        Handle { at: std::ptr::null_mut(), is_open: false, on_its_thread: PhantomData };
+    pub const CLOSED: Handle = Handle { at: std::ptr::null_mut(), is_open: false };
 
     pub fn open(&mut self, config: &Config) -> u32 {
         cfdp_open(self, config)

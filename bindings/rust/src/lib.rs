@@ -13,18 +13,19 @@
 //! ```
 //!
 //! Files, names and frames are any octets. A station lives on the thread that opened it. Its
-//! contracts, and what is proved of them, are those of `bindings/c/cfdp.h`; of this wrapper nothing
-//! is proved.
+//! contracts, and what is proved of them, are those of `cfdp.h`; of this wrapper nothing is proved.
 #![deny(unsafe_code)]
 
 mod error;
 #[allow(unsafe_code)]
 mod ffi;
 mod indication;
+mod lists;
 
 pub use error::Error;
 pub use ffi::{Config, Counters, FrameDrops, Id, Link, Pdu, PduDrops, SentPdus};
 pub use indication::{Indication, Indications};
+pub use lists::{Files, Frames};
 
 /// The number of the library's interface: `CFDP_VERSION` of the `cfdp.h` that it was made with.
 pub fn version() -> u32 {
@@ -52,7 +53,9 @@ pub enum Polled {
 /// A published file.
 #[derive(Clone, Debug, PartialEq, Eq)]
 pub struct File {
+    /// Its name, of 1 to 255 octets.
     pub name: Vec<u8>,
+    /// All that it has.
     pub octets: Vec<u8>,
 }
 
@@ -131,6 +134,12 @@ impl Station {
             ffi::NOTHING => Ok(None),
             other => Err(Error::of(other)),
         }
+    }
+
+    /// The frames that are to leave, as [`transmit`](Self::transmit) gives them, until there is
+    /// nothing to send or no memory.
+    pub fn frames(&mut self) -> Frames<'_> {
+        Frames::of(self)
     }
 
     /// Moves the PDU whose turn it is into the frames of its lane: file data into those of
@@ -220,6 +229,11 @@ impl Station {
         let mut octets = vec![0; info.size];
         let answer = self.handle.read_file(place, 0, &mut octets);
         (answer == ffi::OK).then_some(File { name, octets })
+    }
+
+    /// The published files, in ascending order of their names.
+    pub fn files(&mut self) -> Files<'_> {
+        Files::of(self)
     }
 
     /// Removes the published file of a name, and tells whether there was one. The places of those

@@ -1,0 +1,171 @@
+#!/usr/bin/env python3
+"""Installs what was built into an empty folder, by packaging/install and packaging/deb; uses it.
+
+    tests/installed.py                          the built program and library
+    tests/installed.py --program PATH --archive PATH ..    others
+    tests/installed.py --after 'A passed, B failed'        counts these in the last line
+
+In each case all files lie where they belong, the program runs, and `cc $(pkg-config --cflags --libs
+cfdp) YOURS.c` builds a program that transfers a file, with memory from malloc, and with memory of
+its own. Where a machine hasn't cc, pkg-config, dpkg-deb or man, a line says so. The last line is 'N
+passed, M failed'.
+"""
+import os
+import re
+import shutil
+import subprocess
+import sys
+import tempfile
+
+HERE = os.path.dirname(os.path.abspath(__file__))
+TOP = os.path.dirname(HERE)
+SECONDS = 120
+
+WANTED = """
+bin/cfdp_node include/cfdp.h lib/libcfdp_c.a lib/libcfdp_heap.a lib/pkgconfig/cfdp.pc
+lib/systemd/system/cfdp-station-watch.service lib/systemd/system/cfdp-station-watch.timer
+lib/systemd/system/cfdp-station.service share/cfdp/heap.c share/cfdp/pool.c share/cfdp/pool.h
+share/cfdp/transfer.c share/doc/cfdp/EMBEDDING.md share/doc/cfdp/FORMATS.md share/doc/cfdp/LICENSE
+share/doc/cfdp/README.md share/doc/cfdp/THIRD-PARTY share/doc/cfdp/station.toml
+share/man/man1/cfdp_node.1.gz share/man/man3/cfdp.3.gz
+""".split()
+OF_DEB = ["lib/sysusers.d/cfdp.conf", "share/doc/cfdp/copyright"]
+
+
+def run(words, **how):
+    """What a command printed; an exception where it fails."""
+    ran = subprocess.run(words, capture_output=True, text=True, timeout=SECONDS, **how)
+    if ran.returncode:
+        said = (ran.stdout + ran.stderr)[-2000:]
+        raise RuntimeError(f"{' '.join(words)}: status {ran.returncode}\n{said}")
+    return ran.stdout
+
+
+def has(*programs):
+    """Whether the machine has them all; a line says where it hasn't."""
+    lacks = [it for it in programs if not shutil.which(it)]
+    for it in lacks:
+        print(f"no {it}: what is installed isn't tried by it")
+    return not lacks
+
+
+class Tree:
+    """What was installed: the folder that a prefix lies in, and the prefix."""
+
+    def __init__(self, root, prefix, wanted):
+        self.root, self.prefix, self.wanted = root, prefix, wanted
+
+    def path(self, name):
+        return f"{self.root}{self.prefix}/{name}"
+
+    def file_mistakes(self):
+        """Where other files lie there, or a file can't be read by all."""
+        found = []
+        for top, _, files in os.walk(self.path("")):
+            for it in files:
+                path = os.path.join(top, it)
+                found.append(os.path.relpath(path, self.path("")))
+                if os.stat(path).st_mode & 0o444 != 0o444:
+                    yield f"{path} isn't for all to read"
+        if sorted(found) != sorted(self.wanted):
+            yield f"there lie {sorted({*found} ^ {*self.wanted})}, which shouldn't, or don't"
+
+    def program_mistakes(self):
+        """Where the program doesn't run, or isn't that of the units."""
+        told = run([self.path("bin/cfdp_node"), "--version"])
+        if not re.match(r"cfdp_node \d", told):
+            yield f"cfdp_node --version prints {told!r}"
+        with open(self.path("lib/systemd/system/cfdp-station.service"), encoding="utf-8") as it:
+            if f"ExecStart={self.prefix}/bin/cfdp_node station" not in it.read():
+                yield "the unit starts another program"
+
+    def build(self, made, *sources):
+        """Compiles these by the words that pkg-config gives."""
+        how = {**os.environ, "PKG_CONFIG_PATH": self.path("lib/pkgconfig")}
+        how |= {"PKG_CONFIG_SYSROOT_DIR": self.root, "PKG_CONFIG_ALLOW_SYSTEM_CFLAGS": "1"}
+        how |= {"PKG_CONFIG_ALLOW_SYSTEM_LIBS": "1"}
+        given = run(["pkg-config", "--cflags", "--libs", "cfdp"], env=how).split()
+        strict = ["-std=c99", "-Wall", "-Wextra", "-Werror"]
+        run(["cc", *given, *strict, *[self.path(f"share/cfdp/{it}") for it in sources], "-o", made])
+        return made
+
+    def use_mistakes(self, room):
+        """What is wrong where a program is built with it, and transfers a file."""
+        for sources in (["transfer.c"], ["transfer.c", "heap.c"], ["transfer.c", "pool.c"]):
+            run([self.build(f"{room}/made", *sources), "20000"])
+        yield from []
+
+    def page_mistakes(self):
+        """What man says of the pages."""
+        for it in ("man1/cfdp_node.1.gz", "man3/cfdp.3.gz"):
+            words = ["man", "--warnings", "-l", self.path(f"share/man/{it}")]
+            how = {**os.environ, "LC_ALL": "C.UTF-8", "MANROFFSEQ": "", "MANWIDTH": "100"}
+            ran = subprocess.run(words, capture_output=True, text=True, env=how, timeout=SECONDS)
+            if ran.returncode or ran.stderr or "CFDP" not in ran.stdout.upper():
+                yield f"{it}: {ran.stderr[-1000:]}"
+
+    def runs(self, what, room):
+        yield f"{what}: the files", self.file_mistakes()
+        yield f"{what}: the program", self.program_mistakes()
+        if has("cc", "pkg-config"):
+            yield f"{what}: a program with the library", self.use_mistakes(room)
+        if has("man"):
+            yield f"{what}: the man pages", self.page_mistakes()
+
+
+def installed(room, others):
+    root = f"{room}/installed"
+    run([f"{TOP}/packaging/install", f"{root}/opt/cfdp", *others])
+    return Tree("", f"{root}/opt/cfdp", WANTED)
+
+
+def packed(room, others):
+    """What a package has, unpacked."""
+    path = run([f"{TOP}/packaging/deb", room, *others]).strip()
+    told = run(["dpkg-deb", "--field", path, "Package", "Architecture", "Depends"])
+    if "Package: cfdp" not in told or "libc6" not in told:
+        raise RuntimeError(f"{path}: {told}")
+    run(["dpkg-deb", "-x", path, f"{room}/unpacked"])
+    return Tree(f"{room}/unpacked", "/usr", [*WANTED, *OF_DEB])
+
+
+def all_runs(room, others):
+    yield from installed(room, others).runs("packaging/install", room)
+    if has("dpkg-deb"):
+        yield from packed(room, others).runs("packaging/deb", room)
+
+
+def mistakes_of(mistakes):
+    """All mistakes, an exception among them."""
+    try:
+        yield from mistakes
+    except (OSError, RuntimeError, subprocess.TimeoutExpired) as error:
+        yield str(error)
+
+
+def taken(words, name):
+    """The word behind this one, if it is there."""
+    return words[words.index(name) + 1] if name in words else None
+
+
+def main(words):
+    counted = taken(words, "--after") or "0 passed, 0 failed"
+    passed, failed = map(int, re.search(r"(\d+) passed, (\d+) failed", counted).groups())
+    names = [it for it in ("--program", "--archive") if it in words]
+    others = [word for it in names for word in (it, os.path.abspath(taken(words, it)))]
+    with tempfile.TemporaryDirectory() as room:
+        try:
+            for what, mistakes in all_runs(room, others):
+                mistakes = [*mistakes_of(mistakes)]
+                for it in mistakes:
+                    print(f"{what}: {it}")
+                passed, failed = passed + (not mistakes), failed + bool(mistakes)
+        except RuntimeError as error:
+            print(error)
+            failed += 1
+    print(f"{passed} passed, {failed} failed")
+    return 1 if failed else 0
+
+
+if __name__ == "__main__":
+    sys.exit(main(sys.argv[1:]))
