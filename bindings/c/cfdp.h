@@ -3,8 +3,8 @@
  * Written by hand for crates/cfdp_c; tests/bindings.py compares both: names, arguments, fields and
  * numbers.
  *
- * It is proved that each call does what stands here, provided that its caller keeps to this; but that
- * cfdp_close gives back all memory is tested, and not proved:
+ * It is proved that each call does what stands here, provided that its caller keeps to this; but
+ * that cfdp_close gives back all memory is tested, and not proved:
  *
  * 1. A pointer isn't null, also where its length is 0, is aligned, and may be read or written for
  *    that length. No two arguments of a call overlap, but for two that are only read.
