@@ -32,7 +32,7 @@ are_packets : (z n : ℕ) → 7 ≤ z → z ≤ 2046 → ArePackets (idle_zones 
 are_packets z zero lo hi = tt
 are_packets z (suc n) lo hi = (idle_is z lo hi, are_packets z n lo hi)
 
-are_idle : (z n : ℕ) → 7 ≤ z → z ≤ 2046 → busy (idle_zones z n) ≡ []
+pub are_idle : (z n : ℕ) → 7 ≤ z → z ≤ 2046 → busy (idle_zones z n) ≡ []
 are_idle z zero lo hi = refl
 are_idle z (suc n) lo hi =
     let one : is_idle (idle_packet z) ≡ true = idle_is_idle z lo hi in

@@ -79,7 +79,7 @@ drops-none link [] all = refl
 drops-none link (p ∷ ps) all = ap (λ o. with_drop o (drops_of link ps)) all.0 ∙ drops-none link ps all.1
 
 -- a frame of the link with packets in its zone
-packets_are_read : (up : LinkReceiverState) (frame : List ℕ) → frame_fault frame up.link ≡ None → (pointer_of (mpdu_in frame) == 2046) ≡ false →
+pub packets_are_read : (up : LinkReceiverState) (frame : List ℕ) → frame_fault frame up.link ≡ None → (pointer_of (mpdu_in frame) == 2046) ≡ false →
     frame_read up frame ≡ packets_read (Some (seen_in frame)) up.begun (follows up.last (seen_in frame)) (pointer_of (mpdu_in frame)) (drop 2 (mpdu_in frame))
 packets_are_read up frame sound busy =
     let count : SeenCount = seen_in frame in

@@ -2,3 +2,5 @@ pub mod Frames
 pub mod Downward
 pub mod Drops
 pub mod Upward
+pub mod AnyOrder
+pub mod EndToEnd
