@@ -349,7 +349,8 @@ def no_inbox_mistakes(program):
         words = [*link.puts(1, {"a": b"hello", "b": b"hello"}), "--idle", "1"]
         status, out, err = link.starts(1, words, PATIENT).ended(30)
         told = stations.unheard(receiver.text("stderr"))
-    if told != "error: a file came, and there is no --inbox\n":
+    wanted = r"error: a file came, and there is no --inbox \(transaction 1:\d+\)\n"
+    if not re.fullmatch(wanted, told):
         yield f"the receiver told {told!r}"
     if status != 1 or not out.endswith("complete 0 of 2\n"):
         yield f"the sender: status {status}, {out!r}, {err!r}"

@@ -483,7 +483,7 @@ def list_mistakes(program):
     """What is wrong with what `list` tells of a file on its way: how far both ends are, of which a
     frame is lost, and for what each waits; and with what a Keep Alive adds."""
     lost = lambda own, frame: own != 1 or len(link.relay.came) != 40
-    line = r"(1:\d+) (\w+) a b 60000 (\d+) (\d+) ([a-z-]+)( held \d+)?\n"
+    line = r"open 1 waiting 0 timeout \S+\n(1:\d+) (\w+) a b 60000 (\d+) (\S+) (\S+)\nok\n"
     with Link(program, Relay(lost)) as link:
         _, there = controlled(link, 2, ["--inbox", "to"], PATIENT)
         stations.put(link.folder, 1, "a", random.Random(45).randbytes(60_000))
@@ -492,15 +492,16 @@ def list_mistakes(program):
         while len(link.relay.came) < 100:
             time.sleep(0.02)
         told = [asked(program, port, "list")[1] for port in (here, there)]
-        found = [re.fullmatch(r"open 1 waiting 0 timeout \d+\n" + line + "ok\n", it) for it in told]
+        found = [re.fullmatch(line, it) for it in told]
         if not all(found):
             yield f"it is told {told}"
             return
-        for it, phase, timer in zip(found, ("sending", "receiving"), ("inactivity",) * 2):
+        # A sender waits for nothing before its EOF.
+        for it, phase, timer in zip(found, ("sending", "receiving"), ("-", "inactivity")):
             if it[2] != phase or it[5] != timer or not 5_000 < int(it[3]) < 60_000:
                 yield f"of a file on its way it is told {it[0]!r}"
-            if not 0 < int(it[4]) <= 100:
-                yield f"its next time-out is in {it[4]}"
+        if found[0][4] != "-" or not 90 < int(found[1][4]) <= 100:
+            yield f"the next time-outs are in {[it[4] for it in found]}"
         asked(program, here, "prompt", found[0][1], "keep")
         is_held = lambda: " held " in asked(program, here, "list")[1]
         stop = time.monotonic() + 10
