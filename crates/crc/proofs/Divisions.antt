@@ -7,7 +7,7 @@ use Rattle.std.proofs.lemmas.Bool.{cases_lt}
 use Rattle.crc.specs.Division.{reduced, remainder, moved}
 use Rattle.crc.proofs.Xor.{xor_four, xor_digit, double_xor}
 
-digit : (n : ℕ) → n < 2 → (n ≡ 0) ⊎ (n ≡ 1)
+pub digit : (n : ℕ) → n < 2 → (n ≡ 0) ⊎ (n ≡ 1)
 digit zero h = inl refl
 digit (suc zero) h = inr refl
 digit (suc (suc n)) h = absurd (omega arith)
@@ -33,7 +33,7 @@ module _ (d g : ℕ) (least : 2 ^ d ≤ g) (most : g < 2 ^ (d + 1)) where
       let none : 0 * g ≡ 0 = omega arith in
       ap (λ t. bit_xor n (t * g)) top ∙ ap (bit_xor n) none ∙ xor_zero_r n
 
-  reduced_large : (n : ℕ) → 2 ^ d ≤ n → n < 2 ^ (d + 1) → reduced d g n ≡ bit_xor (n - 2 ^ d) (g - 2 ^ d)
+  pub reduced_large : (n : ℕ) → 2 ^ d ≤ n → n < 2 ^ (d + 1) → reduced d g n ≡ bit_xor (n - 2 ^ d) (g - 2 ^ d)
   reduced_large n low high =
       let p : 2 ^ (d + 1) ≡ 2 ^ d * 2 = pow_more 2 d in
       let r = n - 2 ^ d in

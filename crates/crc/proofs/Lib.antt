@@ -3,3 +3,8 @@ pub mod Divisions
 pub mod Octets
 pub mod Joined
 pub mod Tables
+pub mod Tables32
+pub mod Powers
+pub mod Lefts
+pub mod Spreads
+pub mod Gathered

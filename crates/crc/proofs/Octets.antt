@@ -2,7 +2,7 @@
 use Rattle.std.proofs.Common.{◌≡◌, ℕ, ◌+◌, ◌*◌, ◌/◌, ◌%◌, ◌^◌, ◌<◌, ◌≤◌, List, [], length, get_or, take, refl, sym, ap, ap₂, ◌∙◌, arith, zero-add}
 use Rattle.std.specs.Int.Bits.{bit_xor, xor_zero_r}
 use Rattle.std.proofs.Math.Nat.{mul-lt-mul_of_pos_right, add-mul, mul_assoc, zero-mul, mul-one}
-use Rattle.std.proofs.lemmas.Nat.{pow-add, pow_pos, mod_below, shr_split, shr_high, mod_low, xor_lt, xor_shr, xor_mod}
+use Rattle.std.proofs.lemmas.Nat.{xor_comm, pow-add, pow_pos, mod_below, shr_split, shr_high, mod_low, xor_lt, xor_shr, xor_mod}
 use Rattle.std.proofs.Math.Pow.{pow_mono}
 use Rattle.std.proofs.lemmas.List.{length-take-le}
 use lib.Bits.{xor_shifted}
@@ -105,3 +105,20 @@ module _ (e g : ℕ) (least : 2 ^ (e + 8) ≤ g) (most : g < 2 ^ (e + 8 + 1)) wh
       let high : t / 2 ^ e ≡ p = xor_shr c y e ∙ ap (bit_xor (c / 2 ^ e)) (ap (λ m. m / 2 ^ e) none ∙ shr_high b e 0 some) ∙ sym is in
       let low : t % 2 ^ e ≡ c % 2 ^ e = xor_mod c y e ∙ ap (bit_xor (c % 2 ^ e)) (ap (λ m. m % 2 ^ e) none ∙ mod_low b e 0 some) ∙ xor_zero_r (c % 2 ^ e) in
       moved_octet t fits ∙ ap₂ (λ m n. bit_xor (moved (e + 8) g 8 (m * 2 ^ e)) (n * 2 ^ 8)) high low
+
+  -- what a check begins with is moved by its octets
+  pub check_begun : (s : ℕ) (o : List ℕ) → s < 2 ^ (e + 8) → check_from (e + 8) g s o ≡ bit_xor (moved (e + 8) g (8 * length o) s) (check_from (e + 8) g 0 o)
+  unfolding check_from
+  check_begun s o h =
+      let k : ℕ = 8 * length o in
+      let c : ℕ = k + (e + 8) in
+      let text : ℕ = field o 0 k * 2 ^ (e + 8) in
+      let turned : c ≡ e + 8 + k = omega arith in
+      let start : remainder (e + 8) g c (s * 2 ^ k) ≡ moved (e + 8) g k s =
+      ap (λ m. remainder (e + 8) g m (s * 2 ^ k)) turned
+      ∙ remainder_moved (e + 8) g least most (e + 8) k s
+      ∙ ap (moved (e + 8) g k) (remainder_small (e + 8) g least most (e + 8) s h h) in
+      let none : bit_xor text (0 * 2 ^ k) ≡ text = ap (bit_xor text) (zero-mul (2 ^ k)) ∙ xor_zero_r text in
+      remainder_xor (e + 8) g least most c text (s * 2 ^ k)
+      ∙ xor_comm (remainder (e + 8) g c text) (remainder (e + 8) g c (s * 2 ^ k))
+      ∙ ap₂ bit_xor start (ap (remainder (e + 8) g c) (sym none))

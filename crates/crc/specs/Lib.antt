@@ -1,2 +1,5 @@
 pub mod Division
 pub mod Checks
+pub mod FileChecks
+pub mod Products
+pub mod Pieces

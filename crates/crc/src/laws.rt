@@ -1,6 +1,11 @@
 //! Laws of checks, each the contract of a function that does nothing.
-ghost use Rattle.std.specs.Prelude.{◌≡◌, ℕ, ◌^◌, ◌<◌, ◌++◌, ◌∷◌, [], List, slice_index};
+ghost use Rattle.std.specs.Prelude.{◌≡◌, ℕ, ◌^◌, ◌<◌, ◌++◌, ◌∷◌, [], List, length};
+ghost use Rattle.std.specs.Prelude.{slice_index};
 ghost use Rattle.crc.specs.Checks.{crc16_behind, crc16_of};
+ghost use Rattle.crc.specs.FileChecks.{crc32_of, written32};
+ghost use Rattle.crc.specs.Pieces.{kept_of, Cuts, Piece};
+ghost use Rattle.crc.specs.declared.thirty_two.Crc32.{Crc32};
+ghost use Rattle.crc.specs.declared.thirty_two.Crc32.TheVariants.{Castagnoli, Ieee};
 
 /// The check of octets begins with that of the octets before them.
 pub fn a_check_goes_on()
@@ -13,4 +18,19 @@ pub fn a_check_goes_on()
 /// give.
 pub fn the_worked_check()
     ensures { crc16_of (49 ∷ 50 ∷ 51 ∷ 52 ∷ 53 ∷ 54 ∷ 55 ∷ 56 ∷ 57 ∷ []) ≡ 10673 }
+{}
+
+/// However a file is cut, and in whatever order its pieces come, what is kept of them is its check.
+pub fn cut_file_has_its_check()
+    ensures { (kind : Crc32) (file : List ℕ) (pieces : List Piece)
+        → ((i : ℕ) → i < length file → slice_index file i < 256) → Cuts file pieces
+        → written32 kind (kept_of kind pieces).left ≡ crc32_of kind file }
+{}
+
+/// The checks of the text `123456789` that catalogues give: E3069283 and CBF43926, hexadecimal.
+pub fn the_worked_file_checks()
+    ensures castagnoli { crc32_of Castagnoli (49 ∷ 50 ∷ 51 ∷ 52 ∷ 53 ∷ 54 ∷ 55 ∷ 56 ∷ 57 ∷ [])
+        ≡ 3808858755 }
+    ensures ieee { crc32_of Ieee (49 ∷ 50 ∷ 51 ∷ 52 ∷ 53 ∷ 54 ∷ 55 ∷ 56 ∷ 57 ∷ [])
+        ≡ 3421780262 }
 {}

@@ -4,11 +4,25 @@
 //! ```rust
 //! assert_eq!(crc16(b"123456789"), 0x29B1);
 //! assert_eq!(crc16_more(crc16(b"1234"), b"56789"), 0x29B1);
+//!
+//! assert_eq!(Crc32::Ieee.of(b"123456789"), 0xCBF4_3926);
+//! let mut check = FileCheck::new(Crc32::Ieee);
+//! check.add(4, b"56789");
+//! check.add(0, b"1234");
+//! assert_eq!(check.value(), 0xCBF4_3926);
 //! ```
+//!
+//! Tested by the laws `the_worked_check` and `the_worked_file_checks`.
 #![tactic(auto)]
 
+mod file_check;
 mod laws;
+mod lookup;
+mod moving;
 mod sixteen;
+mod thirty_two;
 
-pub use laws::{a_check_goes_on, the_worked_check};
+pub use file_check::FileCheck;
+pub use laws::{a_check_goes_on, cut_file_has_its_check, the_worked_check, the_worked_file_checks};
 pub use sixteen::{crc16, crc16_more};
+pub use thirty_two::Crc32;

@@ -5,4 +5,4 @@ use Rattle.crc.proofs.laws.a_check_goes_on.Goals as goal
 
 pub returns : goal.returns
 unfolding crc16_behind
-returns c = λ start front back fits bytes. joined 8 divisor16 (omega arith) (omega arith) start front back fits bytes
+returns c = λ start front back fits bytes. joined 8 divisor16 (omega arith) (omega arith) start front back fits (λ i _. bytes i)

@@ -1,0 +1,103 @@
+//! The checks of thirty-two bits.
+ghost use Rattle.std.specs.Prelude.{◌≡◌, ℕ, ◌+◌, ◌*◌, ◌/◌, ◌%◌, ◌^◌, ◌<◌, bit_xor, slice_index};
+ghost use Rattle.crc.specs.Division.{moved};
+ghost use Rattle.crc.specs.FileChecks.{crc32_of, divisor32, left_behind, octet_read, start32};
+ghost use Rattle.crc.specs.FileChecks.{written32};
+
+use crate::lookup::{CASTAGNOLI, IEEE, PROXIMITY};
+
+/// A check of thirty-two bits that a file may have, each a checksum type of SANA's registry.
+#[derive(Clone, Copy)]
+pub enum Crc32 {
+    /// That of Proximity-1 (CCSDS 211.2-B): checksum type 1.
+    Proximity1,
+    /// CRC-32C, by the polynomial of Castagnoli: checksum type 2.
+    Castagnoli,
+    /// That of IEEE 802.3, as Ethernet and zip have it: checksum type 3.
+    Ieee,
+}
+
+impl Crc32 {
+    /// The check of the octets.
+    pub fn of(self, octets: &[u8]) -> u32
+        ensures { result ≡ crc32_of self octets.now }
+    {
+        self.written(self.more(self.start(), octets))
+    }
+
+    /// What is left of no octets.
+    pub(crate) fn start(self) -> u32
+        ensures { result ≡ start32 self }
+    {
+        match self {
+            Crc32::Proximity1 => 0,
+            Crc32::Castagnoli | Crc32::Ieee => u32::MAX,
+        }
+    }
+
+    /// What is left of octets, behind others of which this is left.
+    pub(crate) fn more(self, before: u32, octets: &[u8]) -> u32
+        ensures { result ≡ left_behind self before octets.now }
+    {
+        let table = self.table();
+        let mut left = before;
+        for octet in octets {
+            left = with_octet(table, left, self.octet_read(*octet));
+        }
+        left
+    }
+
+    /// How what is left is written.
+    pub(crate) fn written(self, left: u32) -> u32
+        ensures { result ≡ written32 self left }
+    {
+        match self {
+            Crc32::Proximity1 => left,
+            Crc32::Castagnoli | Crc32::Ieee => !left.reverse_bits(),
+        }
+    }
+
+    // An octet as it is divided.
+    #[inline(always)]
+    fn octet_read(self, octet: u8) -> u8
+        ensures { result ≡ octet_read self octet }
+    {
+        match self {
+            Crc32::Proximity1 => octet,
+            Crc32::Castagnoli | Crc32::Ieee => octet.reverse_bits(),
+        }
+    }
+
+    // What each octet leaves.
+    fn table(self) -> &'static [u32; 256]
+        ensures { (n : ℕ) → n < 256 → slice_index result.now n
+            ≡ moved 32 (divisor32 self) 8 (n * 2 ^ 24) }
+    {
+        match self {
+            Crc32::Proximity1 => &PROXIMITY,
+            Crc32::Castagnoli => &CASTAGNOLI,
+            Crc32::Ieee => &IEEE,
+        }
+    }
+
+    /// The divisor without its highest power, which is x^32.
+    pub(crate) fn divisor(self) -> u32
+        ensures { 2 ^ 32 + result ≡ divisor32 self }
+    {
+        match self {
+            Crc32::Proximity1 => 0x00A0_0805,
+            Crc32::Castagnoli => 0x1EDC_6F41,
+            Crc32::Ieee => 0x04C1_1DB7,
+        }
+    }
+}
+
+/// What is left with one octet more.
+#[inline(always)]
+fn with_octet(table: &[u32; 256], left: u32, octet: u8) -> u32
+    ensures { result ≡ bit_xor (slice_index table.now (bit_xor (left / 2 ^ 24) octet))
+        (left * 2 ^ 8 % 2 ^ 32) }
+{
+    let place = (left >> 24) as u8 ^ octet;
+    table[usize::from(place)] ^ (left << 8)
+}
