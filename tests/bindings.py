@@ -47,6 +47,7 @@ TYPES |= {"size_t": "usize", "bool": "bool", "void": "()", "cfdp_answer": "u32"}
 STRUCTS = {"cfdp_link": ("CfdpLink", "Link"), "cfdp_config": ("CfdpConfig", "Config")}
 STRUCTS |= {"cfdp_station": ("CfdpStation", "Handle"), "cfdp_id": ("CfdpId", "Id")}
 STRUCTS |= {"cfdp_indication": ("CfdpIndication", "Told"), "cfdp_pdu": ("CfdpPdu", "Pdu")}
+STRUCTS |= {"cfdp_transaction": ("CfdpTransaction", "Listed")}
 STRUCTS |= {"cfdp_file_info": ("CfdpFile", "FileInfo")}
 STRUCTS |= {"cfdp_frame_drops": ("CfdpFrameDrops", "FrameDrops")}
 STRUCTS |= {"cfdp_pdu_drops": ("CfdpPduDrops", "PduDrops")}

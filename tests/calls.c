@@ -90,7 +90,13 @@ static void defaults(void)
 {
     cfdp_config c;
     memset(&c, 0xA5, sizeof c);
+    cfdp_fill_defaults(&c);
+    IS(c.entity, 0xA5A5A5A5A5A5A5A5);
+    c.size = sizeof c - 1;
+    cfdp_fill_defaults(&c);
+    IS(c.entity, 0xA5A5A5A5A5A5A5A5);
     cfdp_defaults(&c);
+    IS(c.size, sizeof c);
     IS(c.entity, 1);
     IS(c.peer, 2);
     IS(c.first_number, 1);
@@ -127,8 +133,10 @@ static void on_a_closed_handle(void)
     cfdp_id id = {7, 8};
     cfdp_indication told;
     cfdp_file_info info = {7, 8};
+    cfdp_transaction listed = {{7, 8}, 9};
     cfdp_counts counts;
     uint64_t deadline = 9;
+    size_t cursor = 0;
     uint8_t room[16] = {1};
 
     memset(&told, 0x5A, sizeof told);
@@ -138,6 +146,8 @@ static void on_a_closed_handle(void)
     IS(cfdp_suspend(&s, &id), CFDP_CLOSED);
     IS(cfdp_resume(&s, &id), CFDP_CLOSED);
     IS(cfdp_prompt(&s, &id, true), CFDP_CLOSED);
+    IS(cfdp_transactions(&s, &cursor, &listed), CFDP_CLOSED);
+    IS(cfdp_records_left(&s), 0);
     IS(cfdp_transmit(&s, room, sizeof room), CFDP_CLOSED);
     IS(cfdp_poll(&s), CFDP_CLOSED);
     IS(cfdp_flush(&s), CFDP_CLOSED);
@@ -158,6 +168,8 @@ static void on_a_closed_handle(void)
     cfdp_close(&s);
     cfdp_close(&s);
     IS(id.source, 7);
+    IS(listed.phase, 9);
+    IS(cursor, 0);
     IS(info.size, 8);
     IS(deadline, 9);
     IS(told.kind, 0x5A);
@@ -177,6 +189,9 @@ static void opened_so(void)
     cfdp_station s = CFDP_STATION_INIT;
     cfdp_config c = config_of(1);
 
+    REFUSES(c.size = 0, SIZE);
+    REFUSES(c.size++, SIZE);
+    REFUSES((c.size--, c.id_width = 0), SIZE);
     REFUSES(c.peer = 1, PEER);
     REFUSES(c.entity = 65536, ENTITY);
     REFUSES(c.peer = 65536, PEER);
@@ -477,9 +492,78 @@ static void put_into_words(void)
             IS(strcmp(cfdp_answer_text(one), cfdp_answer_text(two)) == 0,
                strcmp(cfdp_answer_text(one), cfdp_answer_text(255)) == 0
                    && strcmp(cfdp_answer_text(two), cfdp_answer_text(255)) == 0);
-    for (one = CFDP_BAD_ID_WIDTH; one <= CFDP_BAD_ON_INACTIVITY; one++)
+    for (one = CFDP_BAD_SIZE; one <= CFDP_BAD_ON_INACTIVITY; one++)
         IS(strcmp(cfdp_answer_text(one), cfdp_answer_text(255)) != 0, 1);
     IS(strcmp(cfdp_answer_text(CFDP_BAD_PDU + 1), cfdp_answer_text(255)) != 0, 1);
+}
+
+/* Each cause has words of its own and the count of its field, and another number has neither. */
+static void counts_of_causes(void)
+{
+    cfdp_counts counts;
+    size_t one, two;
+
+    for (one = 0; one < sizeof counts / sizeof one; one++)
+        ((uint64_t *)&counts)[one] = one;
+    IS(CFDP_DROPS, (&counts.pdus.no_file - &counts.frames.bad_length) + 1);
+    for (one = 0; one < CFDP_DROPS; one++) {
+        IS(cfdp_dropped(&counts, one), counts.frames.bad_length + one);
+        IS(strcmp(cfdp_drop_text(one), "no cause") != 0, 1);
+        for (two = 0; two < one; two++)
+            IS(strcmp(cfdp_drop_text(one), cfdp_drop_text(two)) != 0, 1);
+    }
+    IS(cfdp_dropped(&counts, CFDP_DROPS), 0);
+    IS(cfdp_dropped(&counts, (size_t)-1), 0);
+    IS(strcmp(cfdp_drop_text(CFDP_DROPS), "no cause"), 0);
+    IS(strcmp(cfdp_drop_text(0), "the frame has another length"), 0);
+    IS(strcmp(cfdp_drop_text(CFDP_DROPS - 1), "a file name is empty"), 0);
+}
+
+/* The transactions, by a cursor, each with how far it has come. */
+static void listed(void)
+{
+    cfdp_station one = CFDP_STATION_INIT, two = CFDP_STATION_INIT;
+    const cfdp_config first = config_of(1), second = config_of(2);
+    cfdp_transaction it = {{0, 0}, 0};
+    cfdp_id id;
+    size_t cursor = 0;
+
+    IS(cfdp_open(&one, &first), CFDP_OK);
+    IS(cfdp_open(&two, &second), CFDP_OK);
+    IS(cfdp_transactions(&one, &cursor, &it), CFDP_NOTHING);
+    IS(cfdp_records_left(&one), 4096);
+    IS(cfdp_add(&one, NAME_A, 1, OCTETS, sizeof OCTETS), CFDP_OK);
+    IS(cfdp_put(&one, NAME_A, 1, NAME_B, 1, &id), CFDP_OK);
+    IS(cfdp_put(&one, NAME_A, 1, NAME_C, 1, &id), CFDP_OK);
+    IS(cfdp_cancel(&one, &id), CFDP_OK);
+    IS(cfdp_records_left(&one), 4094);
+    IS(cfdp_transactions(&one, &cursor, &it), CFDP_OK);
+    IS(it.id.number, 1);
+    IS(it.phase, CFDP_SENDING);
+    IS(cfdp_transactions(&one, &cursor, &it), CFDP_OK);
+    IS(it.id.number, 2);
+    IS(it.phase, CFDP_CANCELLING);
+    IS(cfdp_transactions(&one, &cursor, &it), CFDP_NOTHING);
+    IS(cursor, 2);
+    IS(it.id.number, 2);
+    cursor = (size_t)-1;
+    IS(cfdp_transactions(&one, &cursor, &it), CFDP_NOTHING);
+    IS(cursor, (size_t)-1);
+    passed(&one, &two);
+    cursor = 0;
+    IS(cfdp_transactions(&two, &cursor, &it), CFDP_OK);
+    IS(it.id.source, 1);
+    IS(it.phase, CFDP_FINISHING);
+    passed(&two, &one);
+    passed(&one, &two);
+    cursor = 0;
+    IS(cfdp_transactions(&one, &cursor, &it), CFDP_OK);
+    IS(it.phase, CFDP_OVER);
+    IS(cfdp_forget_closed(&one), CFDP_OK);
+    IS(cfdp_records_left(&one), 4096);
+    cfdp_close(&one);
+    cfdp_close(&two);
+    IS(live, 0);
 }
 
 /* Directives leave before file data, each in frames of their own channel. */
@@ -747,6 +831,8 @@ int main(void)
     at_the_limits();
     transmitted();
     put_into_words();
+    counts_of_causes();
+    listed();
     overtaken();
     filled();
     decodes();

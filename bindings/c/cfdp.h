@@ -26,13 +26,14 @@
 #include <stdbool.h>
 #include <stddef.h>
 #include <stdint.h>
+#include <string.h>
 
 #ifdef __cplusplus
 extern "C" {
 #endif
 
 /* The number of this interface. It grows by one wherever a call, a struct or a number changes. */
-#define CFDP_VERSION 2
+#define CFDP_VERSION 3
 
 /* That of the library that the program was linked with. */
 uint32_t cfdp_version(void);
@@ -71,6 +72,7 @@ enum {
     CFDP_FULL = 41, /* cfdp_poll: the PDU doesn't fit until frames were taken off */
 
     /* cfdp_open: the first field of the configuration that isn't in its range */
+    CFDP_BAD_SIZE = 70, /* the program was compiled with another cfdp.h than the library's */
     CFDP_BAD_ID_WIDTH = 71,
     CFDP_BAD_ENTITY = 72, /* it doesn't fit id_width */
     CFDP_BAD_PEER = 73,   /* nor does it, or it is the entity's own */
@@ -111,6 +113,7 @@ typedef struct cfdp_link {
 } cfdp_link;
 
 typedef struct cfdp_config {
+    size_t size;              /* octets of this struct, which cfdp_defaults fills in */
     uint64_t entity;          /* this entity */
     uint64_t peer;            /* the other one */
     uint64_t first_number;    /* sequence number of the first put */
@@ -133,11 +136,18 @@ typedef struct cfdp_config {
     uint8_t on_inactivity;
 } cfdp_config;
 
-/* Fills in the defaults: those of station 1 of a script, with ids 1 and 2, zones of 256 octets,
- * spacecraft 42, channels 5 and 7 (file data) and APID 100 for what it sends, 6, 8 and 101 for what
- * it receives, times of 10 and of 100 for inactivity, limits of 3. Station 2 has the ids, and the
- * links, the other way round. */
-void cfdp_defaults(cfdp_config *config);
+/* Fills in the defaults where size says that the struct is the library's, else nothing. */
+void cfdp_fill_defaults(cfdp_config *config);
+
+/* Fills in the size, and the defaults: those of station 1 of a script, with ids 1 and 2, zones of
+ * 256 octets, spacecraft 42, channels 5 and 7 (file data) and APID 100 for what it sends, 6, 8 and
+ * 101 for what it receives, times of 10 and of 100 for inactivity, limits of 3. Station 2 has the
+ * ids, and the links, the other way round. */
+static inline void cfdp_defaults(cfdp_config *config)
+{
+    config->size = sizeof *config;
+    cfdp_fill_defaults(config);
+}
 
 /* ---- A station. */
 
@@ -151,7 +161,7 @@ typedef struct cfdp_station {
 #define CFDP_STATION_INIT {NULL, false}
 
 /* Opens a closed handle on a station that has no transactions and no files. CFDP_OK,
- * CFDP_ALREADY_OPEN, CFDP_NO_MEMORY, or 71 to 92: that field of the configuration isn't in its
+ * CFDP_ALREADY_OPEN, CFDP_NO_MEMORY, or 70 to 92: that field of the configuration isn't in its
  * range. */
 cfdp_answer cfdp_open(cfdp_station *station, const cfdp_config *config);
 
@@ -207,6 +217,29 @@ cfdp_answer cfdp_forget_closed(cfdp_station *station);
 /* Tells whether the record of a transaction was let go: *was is 1 where it was, else 0. CFDP_OK or
  * CFDP_CLOSED. */
 cfdp_answer cfdp_was_forgotten(const cfdp_station *station, const cfdp_id *id, uint8_t *was);
+
+/* ---- What it has. */
+
+enum {
+    CFDP_SENDING = 1,    /* at the sender: the file goes out, until its receiver says Finished */
+    CFDP_CANCELLING = 2, /* at the sender: it was cancelled, which isn't acknowledged yet */
+    CFDP_RECEIVING = 3,  /* at the receiver: the file comes in */
+    CFDP_FINISHING = 4,  /* at the receiver: it is over, and Finished isn't acknowledged yet */
+    CFDP_OVER = 5        /* at either: nothing is waited for; the record stays until forgotten */
+};
+
+typedef struct cfdp_transaction {
+    cfdp_id id;
+    uint8_t phase; /* how far it has come */
+} cfdp_transaction;
+
+/* Tells the transaction at a cursor, and moves that on to the next one: begin with *cursor 0. They
+ * stand in order of opening, and one that is forgotten moves those behind it up by one. CFDP_OK,
+ * CFDP_CLOSED, or CFDP_NOTHING where all were told. */
+cfdp_answer cfdp_transactions(const cfdp_station *station, size_t *cursor, cfdp_transaction *out);
+
+/* How many more transactions there is room for, of 4,096 records; 0 of a closed handle. */
+size_t cfdp_records_left(const cfdp_station *station);
 
 /* ---- Down. */
 
@@ -298,6 +331,58 @@ typedef struct cfdp_counts {
 /* What the station counts, from 0 when it is opened: what it sent, and what it dropped of what
  * came. CFDP_OK or CFDP_CLOSED. */
 cfdp_answer cfdp_counters(const cfdp_station *station, cfdp_counts *counts);
+
+/* How many causes there are for which something is dropped: those of frames, then those of PDUs, in
+ * the order of the structs. */
+enum {
+    CFDP_DROPS = (sizeof(cfdp_frame_drops) + sizeof(cfdp_pdu_drops)) / sizeof(uint64_t)
+};
+
+/* How often something was dropped by one of them, 0 to CFDP_DROPS - 1; 0 of any other. */
+static inline uint64_t cfdp_dropped(const cfdp_counts *counts, size_t drop)
+{
+    uint64_t count = 0;
+
+    if (drop < CFDP_DROPS)
+        memcpy(&count, (const uint8_t *)&counts->frames + drop * sizeof count, sizeof count);
+    return count;
+}
+
+/* What one of them says, as a text that stays. */
+static inline const char *cfdp_drop_text(size_t drop)
+{
+    static const char *const texts[] = {
+        "the frame has another length",
+        "the version of the frame is another",
+        "the frame is replayed, or reserved bits are set",
+        "the frame is of another spacecraft",
+        "the frame is of another virtual channel",
+        "the frame holds only idle data",
+        "a begun packet was discarded",
+        "the version of the packet is another",
+        "the packet is of another application process",
+        "the packet is a segment, or has a secondary header",
+        "there was no memory for a packet",
+        "the PDU is shorter than a header",
+        "the version of the PDU is another",
+        "the PDU has a CRC",
+        "the PDU has another length than its header says",
+        "the PDU is of class 1",
+        "the directive code is none",
+        "the data field is too short",
+        "the data field is too long",
+        "a TLV is not whole",
+        "the condition code is none",
+        "the direction bit does not fit the PDU",
+        "the PDU is of other entities",
+        "the transaction is not known",
+        "the table is full",
+        "there was no memory for the PDU",
+        "a file name is empty",
+    };
+
+    return drop < sizeof texts / sizeof texts[0] ? texts[drop] : "no cause";
+}
 
 /* ---- Time, in any unit, from any start. */
 
@@ -423,6 +508,7 @@ static inline const char *cfdp_answer_text(cfdp_answer answer)
     case CFDP_STILL_OPEN: return "the transaction is not over";
     case CFDP_ANSWER_DUE: return "an acknowledgement is due";
     case CFDP_FULL: return "frames have to be taken off first";
+    case CFDP_BAD_SIZE: return "the program was compiled with another cfdp.h";
     case CFDP_BAD_ID_WIDTH: return "id_width is not 1 to 8";
     case CFDP_BAD_ENTITY: return "entity does not fit id_width";
     case CFDP_BAD_PEER: return "peer does not fit id_width, or is entity";

@@ -42,8 +42,9 @@ pub enum Error {
     Other(u32),
 }
 
-/// The fields of a configuration, by the numbers 71 to 92.
-const FIELDS: [&str; 22] = [
+/// The fields of a configuration, by the numbers 70 to 92.
+const FIELDS: [&str; 23] = [
+    "size",
     "id_width",
     "entity",
     "peer",
@@ -88,7 +89,7 @@ impl Error {
             35 => Error::StillOpen,
             36 => Error::AnswerDue,
             51..=61 => Error::BadPdu((answer - 50) as u8),
-            71..=92 => Error::BadField(FIELDS[(answer - 71) as usize]),
+            70..=92 => Error::BadField(FIELDS[(answer - 70) as usize]),
             other => Error::Other(other),
         }
     }

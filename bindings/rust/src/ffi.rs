@@ -24,6 +24,8 @@ pub struct Link {
 #[repr(C)]
 #[derive(Clone, Copy, Debug, Default, PartialEq, Eq)]
 pub struct Config {
+    /// Octets of this struct, which [`defaults`](crate::defaults) fills in.
+    pub size: usize,
     pub entity: u64,
     pub peer: u64,
     pub first_number: u64,
@@ -66,6 +68,14 @@ pub struct Told {
     pub condition: u8,
     pub delivery: u8,
     pub status: u8,
+}
+
+/// A transaction, and how far it has come.
+#[repr(C)]
+#[derive(Clone, Copy, Default)]
+pub struct Listed {
+    pub id: Id,
+    pub phase: u8,
 }
 
 /// How long the name of a file is, and the file.
@@ -113,6 +123,49 @@ pub struct PduDrops {
     pub table_full: u64,
     pub no_memory: u64,
     pub no_file: u64,
+}
+
+impl FrameDrops {
+    /// Each cause, by its name, with how often it was one.
+    pub fn causes(&self) -> [(&'static str, u64); 11] {
+        [
+            ("bad_length", self.bad_length),
+            ("bad_version", self.bad_version),
+            ("other_profile", self.other_profile),
+            ("other_spacecraft", self.other_spacecraft),
+            ("other_channel", self.other_channel),
+            ("only_idle", self.only_idle),
+            ("resync", self.resync),
+            ("bad_packet", self.bad_packet),
+            ("other_apid", self.other_apid),
+            ("segmented", self.segmented),
+            ("no_memory", self.no_memory),
+        ]
+    }
+}
+
+impl PduDrops {
+    /// Each cause, by its name, with how often it was one.
+    pub fn causes(&self) -> [(&'static str, u64); 16] {
+        [
+            ("too_short", self.too_short),
+            ("bad_version", self.bad_version),
+            ("crc_present", self.crc_present),
+            ("bad_length", self.bad_length),
+            ("unacknowledged", self.unacknowledged),
+            ("bad_directive", self.bad_directive),
+            ("truncated", self.truncated),
+            ("trailing", self.trailing),
+            ("bad_tlv", self.bad_tlv),
+            ("bad_condition", self.bad_condition),
+            ("wrong_direction", self.wrong_direction),
+            ("not_for_us", self.not_for_us),
+            ("unknown", self.unknown),
+            ("table_full", self.table_full),
+            ("no_memory", self.no_memory),
+            ("no_file", self.no_file),
+        ]
+    }
 }
 
 /// How many PDUs were sent, each counted once; `cfdp.h` explains each.
@@ -166,7 +219,7 @@ pub struct Handle {
 #[link(name = "cfdp_c", kind = "static")]
 unsafe extern "C" {
     safe fn cfdp_version() -> u32;
-    safe fn cfdp_defaults(config: &mut Config);
+    safe fn cfdp_fill_defaults(config: &mut Config);
     safe fn cfdp_open(station: &mut Handle, config: &Config) -> u32;
     safe fn cfdp_close(station: &mut Handle);
     fn cfdp_add(s: &mut Handle, name: *const u8, n: usize, octets: *const u8, m: usize) -> u32;
@@ -185,6 +238,8 @@ unsafe extern "C" {
     safe fn cfdp_forget(station: &mut Handle, id: &Id) -> u32;
     safe fn cfdp_forget_closed(station: &mut Handle) -> u32;
     safe fn cfdp_was_forgotten(station: &mut Handle, id: &Id, was: &mut u8) -> u32;
+    safe fn cfdp_transactions(s: &mut Handle, cursor: &mut usize, out: &mut Listed) -> u32;
+    safe fn cfdp_records_left(station: &mut Handle) -> usize;
     fn cfdp_transmit(station: &mut Handle, frame: *mut u8, room: usize) -> u32;
     safe fn cfdp_poll(station: &mut Handle) -> u32;
     safe fn cfdp_flush(station: &mut Handle) -> u32;
@@ -216,8 +271,8 @@ pub fn version() -> u32 {
 
 /// The defaults.
 pub fn defaults() -> Config {
-    let mut config = Config::default();
-    cfdp_defaults(&mut config);
+    let mut config = Config { size: size_of::<Config>(), ..Config::default() };
+    cfdp_fill_defaults(&mut config);
     config
 }
 
@@ -272,6 +327,14 @@ impl Handle {
 
     pub fn was_forgotten(&mut self, id: Id, was: &mut u8) -> u32 {
         cfdp_was_forgotten(self, &id, was)
+    }
+
+    pub fn transactions(&mut self, cursor: &mut usize, out: &mut Listed) -> u32 {
+        cfdp_transactions(self, cursor, out)
+    }
+
+    pub fn records_left(&mut self) -> usize {
+        cfdp_records_left(self)
     }
 
     pub fn transmit(&mut self, frame: &mut [u8]) -> u32 {

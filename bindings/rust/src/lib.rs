@@ -25,7 +25,7 @@ mod lists;
 pub use error::Error;
 pub use ffi::{Config, Counters, FrameDrops, Id, Link, Pdu, PduDrops, SentPdus};
 pub use indication::{Indication, Indications};
-pub use lists::{Files, Frames};
+pub use lists::{Files, Frames, Phase, Transactions};
 
 /// The number of the library's interface: `CFDP_VERSION` of the `cfdp.h` that it was made with.
 pub fn version() -> u32 {
@@ -123,6 +123,16 @@ impl Station {
     pub fn was_forgotten(&mut self, id: Id) -> bool {
         let mut was = 0;
         self.handle.was_forgotten(id, &mut was) == ffi::OK && was == 1
+    }
+
+    /// The transactions that have a record here, in order of opening, each with how far it has come.
+    pub fn transactions(&mut self) -> Transactions<'_> {
+        Transactions::of(&mut self.handle)
+    }
+
+    /// How many more transactions there is room for, of 4,096 records.
+    pub fn records_left(&mut self) -> usize {
+        self.handle.records_left()
     }
 
     /// The next frame that is to leave, those of directives first: it polls until a whole frame

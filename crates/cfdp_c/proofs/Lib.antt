@@ -1,2 +1,3 @@
 pub mod HeldAsBox
 pub mod Listed
+pub mod Placed

@@ -138,6 +138,7 @@ station_number (stations.Receives field) = link_number field + 4
 
 abbrev pub field_number : BadField → ℕ
 field_number (fields.Station field) = station_number field
+field_number fields.Size = 70
 field_number fields.Checksum = 76
 field_number fields.OnAckLimit = 90
 field_number fields.OnNakLimit = 91
@@ -145,4 +146,4 @@ field_number fields.OnInactivity = 92
 
 -- These numbers name one.
 abbrev pub NamesField : ℕ → Type 0
-NamesField number = (71 ≤ number) × (number ≤ 92)
+NamesField number = (70 ≤ number) × (number ≤ 92)

@@ -1,5 +1,5 @@
 -- How a caller says what a station is set up as.
-use Rattle.std.specs.Prelude.{ℕ, ◌<◌, ◌==◌, if◌then◌else◌}
+use Rattle.std.specs.Prelude.{ℕ, ◌≡◌, ◌<◌, ◌==◌, if◌then◌else◌}
 use Rattle.aos_frame.specs.declared.config.LinkConfig.{LinkConfig}
 use Rattle.cfdp_directives.specs.declared.user.handler.Handler.{Handler}
 use Rattle.cfdp_directives.specs.declared.user.handler.Handler.TheVariants as does
@@ -67,6 +67,10 @@ config_of c = record {
   capacity = c.capacity;
 }
 
+-- octets of a configuration: a program that was compiled with another header has others
+abbrev pub config_len : ℕ
+config_len = 88
+
 -- The numbers that stand for something do.
 pub record HasNames (c : CfdpConfig) : Type 0 where
   pub checksum : c.checksum < 16
@@ -76,6 +80,7 @@ pub record HasNames (c : CfdpConfig) : Type 0 where
 
 -- A station can be set up so.
 pub record IsUsable (c : CfdpConfig) : Type 0 where
+  pub size : c.size ≡ config_len
   pub names : HasNames c
   pub station : IsStationConfig (config_of c)
 
@@ -83,6 +88,7 @@ pub record IsUsable (c : CfdpConfig) : Type 0 where
 -- What each field has to be.
 abbrev pub Suits : BadField → CfdpConfig → Type 0
 Suits (fields.Station field) c = Fits field (config_of c)
+Suits fields.Size c = c.size ≡ config_len
 Suits fields.Checksum c = c.checksum < 16
 Suits fields.OnAckLimit c = c.on_ack_limit < 4
 Suits fields.OnNakLimit c = c.on_nak_limit < 4
@@ -91,6 +97,7 @@ Suits fields.OnInactivity c = c.on_inactivity < 4
 -- what a script's stations have before it sets anything, as station 1
 abbrev pub default_config : CfdpConfig
 default_config = record {
+  size = config_len;
   entity = 1;
   peer = 2;
   first_number = 1;

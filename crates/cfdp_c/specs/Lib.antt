@@ -7,3 +7,4 @@ pub mod Frames
 pub mod Told
 pub mod Files
 pub mod Counters
+pub mod Looking

@@ -9,6 +9,8 @@ use cfdp_station::{EntityField, LinkField, StationField};
 pub enum BadField {
     /// One that the station's own configuration has.
     Station(StationField),
+    /// Its size: it is that of another header.
+    Size,
     /// A number that no checksum has.
     Checksum,
     /// A number that no handler has.
@@ -18,13 +20,14 @@ pub enum BadField {
 }
 
 impl BadField {
-    /// The number that names it: 71 to 92.
+    /// The number that names it: 70 to 92.
     pub(crate) fn number(self) -> u32
         ensures number { result ≡ codes.field_number self }
         ensures names { codes.NamesField result }
     {
         match self {
             BadField::Station(field) => station_number(field),
+            BadField::Size => 70,
             BadField::Checksum => 76,
             BadField::OnAckLimit => 90,
             BadField::OnNakLimit => 91,

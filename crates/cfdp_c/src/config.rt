@@ -1,11 +1,15 @@
 //! How a caller says what a station is set up as.
-ghost use Rattle.std.specs.Prelude.{◌≡◌, ◌<◌, ◌↔◌, IsOk, IfOk, IfErr, IsSome, IfSome};
+ghost use Rattle.std.specs.Prelude.{◌≡◌, ◌≢◌, ◌<◌, ◌↔◌, IsOk, IfOk, IfErr, IsSome, IfSome};
 ghost use Rattle.cfdp_c.specs.Config.{config_of, entity_of, handler_of, policy_of, link_of};
-ghost use Rattle.cfdp_c.specs.Config.{default_config, HasNames, IsUsable, Suits};
+ghost use Rattle.cfdp_c.specs.Config.{config_len, default_config, HasNames, IsUsable, Suits};
 
 use crate::bad_field::BadField;
 use cfdp_directives::{ChecksumKind, Handler, Handlers, Limits, Policy, Times};
 use cfdp_station::{Config, DEFAULT_CAPACITY, EntityConfig, LinkConfig, StationConfig, Valid};
+use std::mem::size_of;
+
+/// Octets of a [`CfdpConfig`].
+const CONFIG_LEN: usize = size_of::<CfdpConfig>();
 
 /// One direction of a link, as [`LinkConfig`] has it.
 #[repr(C)]
@@ -27,6 +31,8 @@ pub struct CfdpLink {
 #[repr(C)]
 #[derive(Clone, Copy)]
 pub struct CfdpConfig {
+    /// Octets of this struct, as the caller's header has it: another one is refused.
+    pub size: usize,
     /// The id of this entity.
     pub entity: u64,
     /// The id of the other one.
@@ -91,6 +97,9 @@ impl CfdpConfig {
         ensures same { IfOk result (λ config. config ≡ config_of self.now) }
         ensures field { IfErr result (λ field. Suits field self.now → ⊥) }
     {
+        if self.size != CONFIG_LEN {
+            return Err(BadField::Size);
+        }
         let Some(entity) = self.entity() else {
             return Err(self.unnamed());
         };
@@ -172,13 +181,19 @@ fn handler(number: u8) -> Option<Handler>
 }
 
 /// Fills in the defaults: those of a script's station 1. Station 2 has both ids, and both links,
-/// the other way round.
+/// the other way round. It reads `size` first: where that is another, the caller's header has
+/// another struct, and nothing is written.
 #[unsafe(no_mangle)]
-pub extern "C" fn cfdp_defaults(config: &mut CfdpConfig)
-    ensures same { config.new ≡ default_config }
-    ensures usable { IsUsable config.new }
+pub extern "C" fn cfdp_fill_defaults(config: &mut CfdpConfig)
+    ensures same { config.old.size ≡ config_len → config.new ≡ default_config }
+    ensures usable { config.old.size ≡ config_len → IsUsable config.new }
+    ensures other { config.old.size ≢ config_len → config.new ≡ config.old }
 {
+    if config.size != CONFIG_LEN {
+        return;
+    }
     *config = CfdpConfig {
+        size: CONFIG_LEN,
         entity: 1,
         peer: 2,
         first_number: 1,

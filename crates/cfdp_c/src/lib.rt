@@ -20,6 +20,7 @@ mod frames;
 mod handle;
 mod held;
 mod indications;
+mod looking;
 mod parts;
 mod requests;
 mod room;
@@ -27,7 +28,7 @@ mod station_slot;
 mod version;
 
 pub use calls::{CfdpId, cfdp_add, cfdp_next_timeout, cfdp_put, cfdp_tick};
-pub use config::{CfdpConfig, CfdpLink, cfdp_defaults};
+pub use config::{CfdpConfig, CfdpLink, cfdp_fill_defaults};
 pub use counters::{CfdpCounters, CfdpFrameDrops, CfdpPduDrops, CfdpSentPdus, cfdp_counters};
 pub use decoding::{CfdpPdu, cfdp_decode};
 pub use files::{CfdpFile, cfdp_file, cfdp_file_count, cfdp_read_file, cfdp_remove_file};
@@ -38,5 +39,6 @@ pub use frames::{
 };
 pub use handle::{CfdpStation, cfdp_close, cfdp_open};
 pub use indications::{CfdpIndication, cfdp_next_indication};
+pub use looking::{CfdpTransaction, cfdp_records_left, cfdp_transactions};
 pub use requests::{cfdp_cancel, cfdp_prompt, cfdp_resume, cfdp_suspend};
 pub use version::cfdp_version;
