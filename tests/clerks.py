@@ -492,6 +492,20 @@ def unwritable_mistakes(program):
         yield f"it ended with status {it.returncode}, and told {told!r}"
 
 
+def ended_input_mistakes(program):
+    """What is wrong where the standard input of a station has ended that takes commands there: it
+    needs no processor for that."""
+    with Link(program) as link:
+        words = ["--inbox", "to", "--commands"]
+        it = link.starts(2, words, stdin=subprocess.DEVNULL)
+        time.sleep(1)
+        wakes, before = links.wakes_of(it), links.processor_seconds(it)
+        time.sleep(4)
+        wakes, spent = links.wakes_of(it) - wakes, links.processor_seconds(it) - before
+    if wakes > 80 or spent > 0.3:
+        yield f"in 4 s it wakes {wakes} times, and runs for {spent:.2f} s"
+
+
 def list_mistakes(program):
     """What is wrong with the list of a station's transactions: they stand in the order of their
     ids, and the time is what is left until the next timer."""
@@ -594,5 +608,6 @@ def all_mistakes(program):
     yield "the counters where a frame comes late", late_mistakes(program)
     yield "what a condition means", meanings_mistakes(program)
     yield "a log that can't be written", unwritable_mistakes(program)
+    yield "a standard input that has ended", ended_input_mistakes(program)
     yield "a list of transactions", list_mistakes(program)
     yield "answers for two clients", answers_mistakes(program)
