@@ -19,7 +19,7 @@ use crate::station::request::{CarrierKind, StationNumbers, StationRequest, TimeU
 use crate::station::setup::StationSetup;
 use crate::station::state_file::{Reservation, StateError};
 use crate::wire::peer_socket::{Pace, PeerSocket, Unit, Unusable};
-use cfdp_host::carrier::Carrier;
+use cfdp_host::carrier::{Carrier, LinkFields};
 use cfdp_host::{
     FolderSpool, HeldFolder, LineSources, StandardErrorTeller, address_cause, cause_text,
     try_folder,
@@ -69,6 +69,7 @@ fn started_status(rt: &HostRuntime, request: &StationRequest) -> Result<u8, u8> 
     // First of all: a process that was given no standard input has none once a file is opened.
     let sources = sources(rt, request)?;
     let setup = set_up(rt, request)?;
+    let fields = link_fields(rt, request, &setup)?;
     let Prepared {
         config,
         reservation,
@@ -79,11 +80,13 @@ fn started_status(rt: &HostRuntime, request: &StationRequest) -> Result<u8, u8> 
     exchange.numbers_left.set(reservation.numbers_left());
     let frame_count = reservation.frame_count();
     let own = WorldConfig::station(config, side_of(request)).get();
+    let extra = (fields.sends.get().extra(), fields.receives.get().extra());
     let parts = StationParts {
-        socket: socket(rt, request, &own, reservation, &exchange)?,
+        socket: socket(rt, request, (&own, extra), reservation, &exchange)?,
         frame_count,
         sources,
         config,
+        fields,
     };
     Ok(ran_status(rt, request, parts, spool, &exchange))
 }
@@ -188,6 +191,33 @@ fn configuration(
             Err(MISTAKE)
         }
     }
+}
+
+/// Which fields the frames of both directions have.
+///
+/// # Errors
+///
+/// The exit status, where they can't have these, or no frames leave, which was told on standard
+/// error.
+fn link_fields(
+    rt: &HostRuntime,
+    request: &StationRequest,
+    setup: &StationSetup,
+) -> Result<LinkFields, u8> {
+    let StationNumbers { id, peer, .. } = request.numbers;
+    let Some(fields) = setup.fields() else {
+        tell_bad(rt, setup, id, peer);
+        return Err(MISTAKE);
+    };
+    let extra = fields.sends.get().extra() + fields.receives.get().extra();
+    if extra > 0 && carrier_of(request) != Carrier::Frames {
+        let _ = eprintln!(rt;
+            "error: an insert zone, a control field and error control are of frames: --carrier \
+             frames"
+        );
+        return Err(MISTAKE);
+    }
+    Ok(fields)
 }
 
 /// Says why a station can't be set up so.
@@ -382,11 +412,12 @@ fn check_files(rt: &HostRuntime, path: &str, words: &[String]) -> Result<(), u8>
     Ok(())
 }
 
-/// The socket, with the peer's address.
+/// The socket, with the peer's address. It is told by how many octets the frames that leave and
+/// those that come are longer than bare ones.
 fn socket<'a>(
     rt: &'a HostRuntime,
     request: &StationRequest,
-    config: &StationConfig,
+    (config, (sends_extra, receives_extra)): (&StationConfig, (usize, usize)),
     reservation: Reservation<'a>,
     exchange: &'a Exchange,
 ) -> Result<PeerSocket<'a>, u8> {
@@ -395,6 +426,8 @@ fn socket<'a>(
         rate: request.numbers.rate,
         idle: request.numbers.idle,
         receives: config.receives,
+        sends_extra,
+        receives_extra,
         carrier: carrier_of(request),
         beacon: Beacon::of(config),
         unit: unit_of(request),

@@ -26,11 +26,17 @@ pub enum CarrierDrop {
     /// The PDU is longer than any packet that the station's link has room for.
     #[error("a PDU is too long")]
     NoRoom,
+    /// The frame is too short for a header and its fields.
+    #[error("a frame is too short for its fields")]
+    ShortFrame,
+    /// The frame's check differs from its frame error control field.
+    #[error("a frame was damaged on the way")]
+    Damaged,
 }
 
 impl CarrierDrop {
     /// All causes.
-    pub const ALL: [CarrierDrop; 7] = [
+    pub const ALL: [CarrierDrop; 9] = [
         CarrierDrop::Empty,
         CarrierDrop::Short,
         CarrierDrop::Long,
@@ -38,6 +44,8 @@ impl CarrierDrop {
         CarrierDrop::OtherApid,
         CarrierDrop::Segmented,
         CarrierDrop::NoRoom,
+        CarrierDrop::ShortFrame,
+        CarrierDrop::Damaged,
     ];
 }
 
@@ -46,7 +54,7 @@ impl CarrierDrop {
 #[derive(Drop)]
 pub struct CarrierTally {
     // in the order of `CarrierDrop::ALL`
-    counts: [Cell<u64>; 7],
+    counts: [Cell<u64>; 9],
 }
 
 impl CarrierTally {
@@ -54,6 +62,8 @@ impl CarrierTally {
     pub fn new() -> CarrierTally {
         CarrierTally {
             counts: [
+                Cell::new(0),
+                Cell::new(0),
                 Cell::new(0),
                 Cell::new(0),
                 Cell::new(0),

@@ -7,7 +7,7 @@ use crate::station::operator::OperatorConsole;
 use crate::station::request::StationRequest;
 use crate::station::{carrier_of, outbox_of, side_of};
 use crate::wire::peer_socket::PeerSocket;
-use cfdp_host::carrier::CarrierWire;
+use cfdp_host::carrier::{CarrierWire, LinkFields, SealedWire};
 use cfdp_host::{
     FolderSpool, Form, Journal, JournalSetup, LineSources, Log, StandardErrorTeller, Style,
 };
@@ -37,6 +37,8 @@ pub struct StationParts<'a> {
     pub sources: LineSources<'a>,
     /// How both stations are set up.
     pub config: Valid<WorldConfig>,
+    /// Which fields the frames of both directions have.
+    pub fields: LinkFields,
 }
 
 /// What a run is shown by, and what was asked for.
@@ -130,7 +132,8 @@ fn ran_over<'a, O: SeekingOutbox, I: Inbox, S: Spool>(
     }
 }
 
-/// Runs the station over its carrier, which loses some of its datagrams if that is asked for.
+/// Runs the station over its socket, which loses some of its datagrams if that is asked for, and
+/// whose frames have the fields of the link.
 fn wired<'a, O: SeekingOutbox, I: Inbox, S: Spool, L: Lookout>(
     context: Context<'a>,
     parts: StationParts<'a>,
@@ -149,6 +152,7 @@ fn wired<'a, O: SeekingOutbox, I: Inbox, S: Spool, L: Lookout>(
         frame_count,
         sources,
         config,
+        fields,
     } = parts;
     let side = side_of(request);
     let options = ServiceOptions {
@@ -157,14 +161,30 @@ fn wired<'a, O: SeekingOutbox, I: Inbox, S: Spool, L: Lookout>(
         side,
     };
     let lossy = LossyWire::new(socket, request.numbers.drop_every);
+    match SealedWire::new(rt.alloc(), fields, lossy, &exchange.dropped, &exchange.gaps) {
+        Ok(wire) => carried(context, options, wire, stores, spool, sources, lookout),
+        Err(AllocError) => Exit::Device(Fault::NoMemoryAtStart),
+    }
+}
+
+/// Runs the station over its carrier.
+fn carried<'a, O: SeekingOutbox, I: Inbox, W: PeerWire, S: Spool, L: Lookout>(
+    context: Context<'a>,
+    options: ServiceOptions,
+    wire: W,
+    stores: (O, I),
+    spool: S,
+    sources: LineSources<'a>,
+    lookout: &mut L,
+) -> Exit {
+    let Context {
+        rt,
+        request,
+        exchange,
+        ..
+    } = context;
     let carrier = carrier_of(request);
-    let wire = CarrierWire::new(
-        rt.alloc(),
-        carrier,
-        options.config,
-        lossy,
-        &exchange.dropped,
-    );
+    let wire = CarrierWire::new(rt.alloc(), carrier, options.config, wire, &exchange.dropped);
     match wire {
         Ok(wire) => {
             let (outbox, inbox) = stores;
