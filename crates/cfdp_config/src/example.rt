@@ -79,4 +79,10 @@ peer_secondary_header = 0       # the same of packets that come, which are passe
 # peer_virtual_channel = 6      # of those that it takes
 # peer_data_virtual_channel = 8
 # peer_apid = 101
+# insert_zone = 0               # octets of the insert zone in frames that it sends, 0 to 64
+# control_field = 0             # 1 where these have an operational control field
+# error_control = 0             # 1 where these have a frame error control field
+# peer_insert_zone = 0          # the same of frames that it takes
+# peer_control_field = 0
+# peer_error_control = 0
 ";

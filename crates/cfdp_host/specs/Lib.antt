@@ -3,3 +3,4 @@ pub mod Lines
 pub mod Journal
 pub mod Carrier
 pub mod CarrierWire
+pub mod SealedWire

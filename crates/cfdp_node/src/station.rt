@@ -15,11 +15,11 @@ use crate::looping::folders::{check_file, check_name, folder, folder_outbox, tel
 use crate::station::beacon::Beacon;
 use crate::station::exchange::Exchange;
 use crate::station::operation::{Context, StationParts, StationSpool, ran};
-use crate::station::request::{StationNumbers, StationRequest, TimeUnit};
+use crate::station::request::{CarrierKind, StationNumbers, StationRequest, TimeUnit};
 use crate::station::setup::StationSetup;
 use crate::station::state_file::{Reservation, StateError};
 use crate::wire::peer_socket::{Pace, PeerSocket, Unit, Unusable};
-use cfdp_host::carrier::Carrier;
+use cfdp_host::carrier::{Carrier, LinkFields};
 use cfdp_host::{
     FolderSpool, HeldFolder, LineSources, StandardErrorTeller, address_cause, cause_text,
     try_folder,
@@ -70,6 +70,7 @@ fn started_status(rt: &HostRuntime, request: &StationRequest) -> Result<u8, u8> 
     // First of all: a process that was given no standard input has none once a file is opened.
     let sources = sources(rt, request)?;
     let setup = set_up(rt, request)?;
+    let fields = link_fields(rt, request, &setup)?;
     let Prepared {
         config,
         carrier,
@@ -81,12 +82,14 @@ fn started_status(rt: &HostRuntime, request: &StationRequest) -> Result<u8, u8> 
     exchange.numbers_left.set(reservation.numbers_left());
     let frame_count = reservation.frame_count();
     let own = WorldConfig::station(config, side_of(request)).get();
+    let extra = (fields.sends.get().extra(), fields.receives.get().extra());
     let parts = StationParts {
-        socket: socket(rt, request, (&own, carrier), reservation, &exchange)?,
+        socket: socket(rt, request, (&own, carrier, extra), reservation, &exchange)?,
         frame_count,
         sources,
         config,
         carrier,
+        fields,
     };
     Ok(ran_status(rt, request, parts, spool, &exchange))
 }
@@ -192,6 +195,33 @@ fn configuration(
             Err(MISTAKE)
         }
     }
+}
+
+/// Which fields the frames of both directions have.
+///
+/// # Errors
+///
+/// The exit status, where they can't have these, or no frames leave, which was told on standard
+/// error.
+fn link_fields(
+    rt: &HostRuntime,
+    request: &StationRequest,
+    setup: &StationSetup,
+) -> Result<LinkFields, u8> {
+    let StationNumbers { id, peer, .. } = request.numbers;
+    let Some(fields) = setup.fields() else {
+        tell_bad(rt, setup, id, peer);
+        return Err(MISTAKE);
+    };
+    let extra = fields.sends.get().extra() + fields.receives.get().extra();
+    if extra > 0 && request.carrier != CarrierKind::Frames {
+        let _ = eprintln!(rt;
+            "error: an insert zone, a control field and error control are of frames: --carrier \
+             frames"
+        );
+        return Err(MISTAKE);
+    }
+    Ok(fields)
 }
 
 /// Says why a station can't be set up so.
@@ -386,11 +416,12 @@ fn check_files(rt: &HostRuntime, path: &str, words: &[String]) -> Result<(), u8>
     Ok(())
 }
 
-/// The socket, with the peer's address, of a station that is set up so, and what a datagram is.
+/// The socket, with the peer's address, of a station that is set up so, and what a datagram is. It
+/// is told by how many octets the frames that leave and those that come are longer than bare ones.
 fn socket<'a>(
     rt: &'a HostRuntime,
     request: &StationRequest,
-    (config, carrier): (&StationConfig, Carrier),
+    (config, carrier, extra): (&StationConfig, Carrier, (usize, usize)),
     reservation: Reservation<'a>,
     exchange: &'a Exchange,
 ) -> Result<PeerSocket<'a>, u8> {
@@ -399,6 +430,8 @@ fn socket<'a>(
         rate: request.numbers.rate,
         idle: request.numbers.idle,
         receives: config.receives,
+        sends_extra: extra.0,
+        receives_extra: extra.1,
         carrier,
         beacon: Beacon::of(config),
         unit: unit_of(request),

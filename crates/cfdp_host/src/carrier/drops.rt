@@ -29,11 +29,17 @@ pub enum CarrierDrop {
     /// The PDU is longer than any packet that the station's link has room for.
     #[error("a PDU is too long")]
     NoRoom,
+    /// The frame is too short for a header and its fields.
+    #[error("a frame is too short for its fields")]
+    ShortFrame,
+    /// The frame's check differs from its frame error control field.
+    #[error("a frame was damaged on the way")]
+    Damaged,
 }
 
 impl CarrierDrop {
     /// All causes.
-    pub const ALL: [CarrierDrop; 8] = [
+    pub const ALL: [CarrierDrop; 10] = [
         CarrierDrop::Empty,
         CarrierDrop::Short,
         CarrierDrop::Long,
@@ -42,6 +48,8 @@ impl CarrierDrop {
         CarrierDrop::Segmented,
         CarrierDrop::SecondaryHeader,
         CarrierDrop::NoRoom,
+        CarrierDrop::ShortFrame,
+        CarrierDrop::Damaged,
     ];
 }
 
@@ -50,7 +58,7 @@ impl CarrierDrop {
 #[derive(Drop)]
 pub struct CarrierTally {
     // in the order of `CarrierDrop::ALL`
-    counts: [Cell<u64>; 8],
+    counts: [Cell<u64>; 10],
 }
 
 impl CarrierTally {
@@ -58,6 +66,7 @@ impl CarrierTally {
     pub fn new() -> CarrierTally {
         CarrierTally {
             counts: [
+                Cell::new(0),
                 Cell::new(0),
                 Cell::new(0),
                 Cell::new(0),

@@ -5,12 +5,14 @@ use std::cell::Cell;
 /// A frame whose count is so far behind the last one came late: what seems to be missing isn't.
 const LATE: u32 = 8_388_608;
 
-/// How often frames were missing between those that came to a station, and how many, and how many
-/// datagrams were thrown away: shared by who counts them and who tells it. Each count stays at the greatest `u64`.
+/// How often frames were missing between those that came to a station, and how many; how many were
+/// damaged; and how many datagrams were thrown away: shared by who counts them and who tells it.
+/// Each count stays at the greatest `u64`.
 #[derive(Drop)]
 pub struct FrameGaps {
     gaps: Cell<u64>,
     missing: Cell<u64>,
+    damaged: Cell<u64>,
     thrown_away: Cell<u64>,
 }
 
@@ -20,6 +22,7 @@ impl FrameGaps {
         FrameGaps {
             gaps: Cell::new(0),
             missing: Cell::new(0),
+            damaged: Cell::new(0),
             thrown_away: Cell::new(0),
         }
     }
@@ -32,6 +35,16 @@ impl FrameGaps {
     /// How many were missing in all.
     pub fn missing(&self) -> u64 {
         self.missing.get()
+    }
+
+    /// How many were damaged on the way, and dropped.
+    pub fn damaged(&self) -> u64 {
+        self.damaged.get()
+    }
+
+    /// Counts one more of these.
+    pub fn adds_damaged(&self) {
+        self.damaged.set(self.damaged.get().saturating_add(1));
     }
 
     /// How many datagrams were thrown away while the link was down by plan.

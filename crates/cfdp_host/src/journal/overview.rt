@@ -312,7 +312,7 @@ pub fn write_counter_members<O: Outbox, I: Inbox, W: fmt::Write>(
 }
 
 /// The counters but for what was dropped, by their names.
-fn figures(totals: &Totals, gaps: &FrameGaps, sent: SentPdus) -> [(&'static str, u64); 14] {
+fn figures(totals: &Totals, gaps: &FrameGaps, sent: SentPdus) -> [(&'static str, u64); 15] {
     let pdus = sent
         .file_data
         .saturating_add(sent.file_data_again)
@@ -332,6 +332,7 @@ fn figures(totals: &Totals, gaps: &FrameGaps, sent: SentPdus) -> [(&'static str,
         ("naks_sent", sent.naks),
         ("frame_gaps", gaps.gaps()),
         ("frames_missing", gaps.missing()),
+        ("frames_damaged", gaps.damaged()),
         ("datagrams_thrown_away", gaps.thrown_away()),
     ]
 }

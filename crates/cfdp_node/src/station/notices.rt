@@ -96,7 +96,7 @@ pub struct Notices<'a> {
     foreign: Foreign,
     link: [Tally; 11],
     pdus: [Tally; 17],
-    datagrams: [Tally; 8],
+    datagrams: [Tally; 10],
     // When something of the link came last, when it was looked what is waited for, and when what
     // was told last.
     heard: u64,
@@ -134,7 +134,7 @@ impl<'a> Notices<'a> {
             },
             link: [Tally::NONE; 11],
             pdus: [Tally::NONE; 17],
-            datagrams: [Tally::NONE; 8],
+            datagrams: [Tally::NONE; 10],
             heard: 0,
             looked: 0,
             beacon_at: None,

@@ -7,7 +7,7 @@ use crate::station::operator::OperatorConsole;
 use crate::station::request::StationRequest;
 use crate::station::{outbox_of, side_of};
 use crate::wire::peer_socket::PeerSocket;
-use cfdp_host::carrier::{Carrier, CarrierWire};
+use cfdp_host::carrier::{Carrier, CarrierWire, LinkFields, SealedWire};
 use cfdp_host::{
     FolderSpool, Form, Journal, JournalSetup, LineSources, Log, StandardErrorTeller, Style,
 };
@@ -39,6 +39,8 @@ pub struct StationParts<'a> {
     pub config: Valid<WorldConfig>,
     /// What a datagram between them is.
     pub carrier: Carrier,
+    /// Which fields the frames of both directions have.
+    pub fields: LinkFields,
 }
 
 /// What a run is shown by, and what was asked for.
@@ -132,7 +134,8 @@ fn ran_over<'a, O: SeekingOutbox, I: Inbox, S: Spool>(
     }
 }
 
-/// Runs the station over its carrier, which loses some of its datagrams if that is asked for.
+/// Runs the station over its socket, which loses some of its datagrams if that is asked for, and
+/// whose frames have the fields of the link.
 fn wired<'a, O: SeekingOutbox, I: Inbox, S: Spool, L: Lookout>(
     context: Context<'a>,
     parts: StationParts<'a>,
@@ -152,6 +155,7 @@ fn wired<'a, O: SeekingOutbox, I: Inbox, S: Spool, L: Lookout>(
         sources,
         config,
         carrier,
+        fields,
     } = parts;
     let side = side_of(request);
     let options = ServiceOptions {
@@ -160,13 +164,32 @@ fn wired<'a, O: SeekingOutbox, I: Inbox, S: Spool, L: Lookout>(
         side,
     };
     let lossy = LossyWire::new(socket, request.numbers.drop_every);
-    let wire = CarrierWire::new(
-        rt.alloc(),
-        carrier,
-        options.config,
-        lossy,
-        &exchange.dropped,
-    );
+    match SealedWire::new(rt.alloc(), fields, lossy, &exchange.dropped, &exchange.gaps) {
+        Ok(wire) => carried(
+            context,
+            options,
+            (wire, carrier),
+            stores,
+            spool,
+            sources,
+            lookout,
+        ),
+        Err(AllocError) => Exit::Device(Fault::NoMemoryAtStart),
+    }
+}
+
+/// Runs the station over its carrier.
+fn carried<'a, O: SeekingOutbox, I: Inbox, W: PeerWire, S: Spool, L: Lookout>(
+    context: Context<'a>,
+    options: ServiceOptions,
+    (wire, carrier): (W, Carrier),
+    stores: (O, I),
+    spool: S,
+    sources: LineSources<'a>,
+    lookout: &mut L,
+) -> Exit {
+    let Context { rt, exchange, .. } = context;
+    let wire = CarrierWire::new(rt.alloc(), carrier, options.config, wire, &exchange.dropped);
     match wire {
         Ok(wire) => {
             let (outbox, inbox) = stores;

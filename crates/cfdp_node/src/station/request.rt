@@ -196,6 +196,12 @@ Keys of --set, beside those of 'sim --help', which hold for this station alone:
                            file data: 0 to 62, and 0 to 2046
   peer_virtual_channel 6, peer_data_virtual_channel 8, peer_apid 101
                            of those that it takes
+  insert_zone 0, control_field 0, error_control 0
+                           of the frames that it sends: octets of the insert
+                           zone, 0 to 64; 1 with an operational control field;
+                           1 with a frame error control field (CRC-16)
+  peer_insert_zone 0, peer_control_field 0, peer_error_control 0
+                           of those that it takes
 Of the two stations that with the greater id has channels and APIDs exchanged.
   packet_type 0            of packets that leave by --carrier packets: 0 telemetry,
                            1 telecommands

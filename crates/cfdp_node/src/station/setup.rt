@@ -2,13 +2,14 @@
 ghost use Rattle.std.specs.Prelude.{IfSome};
 
 use crate::station::request::CarrierKind;
-use cfdp_host::carrier::{Carrier, PacketForm};
+use cfdp_host::carrier::{Carrier, LinkFields, PacketForm};
 use cfdp_report::{Setting, Settings, parse_setting};
 use cfdp_station::LinkConfig;
+use frame_fields::FrameFields;
 use link_sim::WorldConfig;
 use space_packet::PacketType;
 use std::fmt;
-use valid_config::Valid;
+use valid_config::{Config, Valid};
 
 /// The frames of one direction, as numbers that may fit no frame.
 #[derive(Clone, Copy)]
@@ -17,6 +18,47 @@ struct Direction {
     data_virtual_channel: u64,
     apid: u64,
 }
+
+/// Which fields the frames of one direction have, as numbers that may fit none.
+#[derive(Clone, Copy)]
+struct FieldNumbers {
+    insert_zone: u64,
+    control_field: u64,
+    error_control: u64,
+}
+
+impl FieldNumbers {
+    /// Frames without them.
+    const NONE: FieldNumbers = FieldNumbers {
+        insert_zone: 0,
+        control_field: 0,
+        error_control: 0,
+    };
+
+    /// The fields, where each value fits.
+    fn fields(self) -> Option<Valid<FrameFields>> {
+        let fields = FrameFields {
+            insert_zone: u8::try_from(self.insert_zone).ok()?,
+            control_field: flag(self.control_field)?,
+            error_control: flag(self.error_control)?,
+        };
+        fields.validate().ok()
+    }
+}
+
+/// What 0 and 1 say.
+fn flag(value: u64) -> Option<bool> {
+    match value {
+        0 => Some(false),
+        1 => Some(true),
+        _ => None,
+    }
+}
+
+/// The most octets of an insert zone.
+const MOST_INSERT_ZONE: u64 = 64;
+/// What a field that may be there or not is set to at most.
+const MOST_FLAG: u64 = 1;
 
 /// The greatest virtual channel, APID and spacecraft of frames.
 const MOST_CHANNEL: u64 = 62;
@@ -84,6 +126,8 @@ pub struct StationSetup {
     own: Direction,
     peer: Direction,
     packets: PacketNumbers,
+    own_fields: FieldNumbers,
+    peer_fields: FieldNumbers,
 }
 
 impl StationSetup {
@@ -114,6 +158,8 @@ impl StationSetup {
                 secondary_header: 0,
                 peer_secondary_header: 0,
             },
+            own_fields: FieldNumbers::NONE,
+            peer_fields: FieldNumbers::NONE,
         }
     }
 
@@ -139,6 +185,18 @@ impl StationSetup {
             self.packets.secondary_header = value;
         } else if key == "peer_secondary_header" {
             self.packets.peer_secondary_header = value;
+        } else if key == "insert_zone" {
+            self.own_fields.insert_zone = value;
+        } else if key == "control_field" {
+            self.own_fields.control_field = value;
+        } else if key == "error_control" {
+            self.own_fields.error_control = value;
+        } else if key == "peer_insert_zone" {
+            self.peer_fields.insert_zone = value;
+        } else if key == "peer_control_field" {
+            self.peer_fields.control_field = value;
+        } else if key == "peer_error_control" {
+            self.peer_fields.error_control = value;
         } else if let Some(setting) = parse_setting(key.as_bytes()) {
             self.settings.set(setting, value);
         } else {
@@ -205,6 +263,9 @@ impl StationSetup {
                 return Misfit::TooGreat(key, most);
             }
         }
+        if let Some(misfit) = self.field_misfit() {
+            return misfit;
+        }
         if id == peer {
             Misfit::OneId
         } else if !fits(id, width) {
@@ -218,6 +279,33 @@ impl StationSetup {
         } else {
             Misfit::Other
         }
+    }
+
+    /// The first field of frames whose value is out of its range.
+    fn field_misfit(&self) -> Option<Misfit> {
+        let (own, peer) = (self.own_fields, self.peer_fields);
+        let ranges = [
+            ("insert_zone", own.insert_zone, MOST_INSERT_ZONE),
+            ("control_field", own.control_field, MOST_FLAG),
+            ("error_control", own.error_control, MOST_FLAG),
+            ("peer_insert_zone", peer.insert_zone, MOST_INSERT_ZONE),
+            ("peer_control_field", peer.control_field, MOST_FLAG),
+            ("peer_error_control", peer.error_control, MOST_FLAG),
+        ];
+        for (key, value, most) in ranges {
+            if value > most {
+                return Some(Misfit::TooGreat(key, most));
+            }
+        }
+        None
+    }
+
+    /// Which fields the frames of both directions have; `None` where a value doesn't fit.
+    pub fn fields(&self) -> Option<LinkFields> {
+        Some(LinkFields {
+            sends: self.own_fields.fields()?,
+            receives: self.peer_fields.fields()?,
+        })
     }
 
     /// The configuration of this station and its peer, of which that with the lesser id is the

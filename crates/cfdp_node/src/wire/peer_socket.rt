@@ -83,6 +83,9 @@ pub struct Pace {
     pub idle: u64,
     /// The frames that it takes.
     pub receives: LinkConfig,
+    /// By how many octets the frames that leave, and those that come, are longer than bare ones.
+    pub sends_extra: usize,
+    pub receives_extra: usize,
     /// What a datagram is.
     pub carrier: Carrier,
     /// What it tells its peer of how it is set up.
@@ -173,7 +176,8 @@ impl<'a> PeerSocket<'a> {
         let start = Instant::now(rt).map_err(Unusable::Own)?;
         let kept = vec![in rt.alloc(); 0u8; most_octets(&pace)]?;
         let mut beacon = Vec::from_slice(rt.alloc(), &pace.beacon.octets())?;
-        beacon.resize(frame_len(&pace.receives).max(BEACON_LEN), 0)?;
+        let len = frame_len(&pace.receives).saturating_add(pace.sends_extra);
+        beacon.resize(len.max(BEACON_LEN), 0)?;
         Ok(PeerSocket {
             rt,
             socket,
@@ -446,7 +450,7 @@ fn nanoseconds(rt: &HostRuntime, start: Instant, last: u64) -> u64 {
     }
 }
 
-/// The octets of each frame of a link.
+/// The octets of each bare frame of a link.
 pub fn frame_len(link: &LinkConfig) -> usize {
     8 + usize::from(link.zone)
 }
@@ -454,7 +458,9 @@ pub fn frame_len(link: &LinkConfig) -> usize {
 /// The octets of the longest datagram that leaves.
 fn most_octets(pace: &Pace) -> usize {
     match pace.carrier {
-        Carrier::Frames => frame_len(&pace.receives),
+        Carrier::Frames => frame_len(&pace.receives).saturating_add(
+            pace.sends_extra.max(pace.receives_extra),
+        ),
         Carrier::Packets(_) | Carrier::Pdus => MOST_PACKET,
     }
 }
@@ -469,7 +475,7 @@ fn is_of_link(datagram: &[u8], pace: &Pace) -> bool {
     match datagram.get(1) {
         Some(octet) => {
             let virtual_channel = octet & 63;
-            datagram.len() == frame_len(link)
+            datagram.len() == frame_len(link).saturating_add(pace.receives_extra)
                 && (virtual_channel == link.virtual_channel
                     || virtual_channel == link.data_virtual_channel)
         }

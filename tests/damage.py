@@ -1,0 +1,107 @@
+"""Frames with the fields that links have, over a link that turns bits on the way."""
+import binascii
+import random
+import time
+
+import links
+import stations
+from stations import PATIENT
+
+# How often a bit is turned.
+RATE = 1e-5
+
+# Octets of a bare frame's headers, of an operational control field, and of a check.
+HEADERS, CONTROL, CHECK = 8, 4, 2
+
+# Which fields the frames of each station have, where both directions differ in all of them: octets
+# of an insert zone, an operational control field, error control.
+FIELDS = {1: (5, 1, 1), 2: (0, 0, 1)}
+
+KEYS = ("insert_zone", "control_field", "error_control")
+
+
+def settings_of(own, fields):
+    """What a station is told of the fields of the frames that it sends, and of its peer's."""
+    ours = {key: value for key, value in zip(KEYS, fields[own])}
+    theirs = {f"peer_{key}": value for key, value in zip(KEYS, fields[3 - own])}
+    return {**PATIENT, **ours, **theirs}
+
+
+def frame_mistakes(own, frame, fields, zone):
+    """What is wrong with a frame that a station sent, by these words alone."""
+    insert, control, check = fields[own]
+    bare = HEADERS + zone
+    if len(frame) != bare + insert + CONTROL * control + CHECK * check:
+        yield f"a frame of station {own} has {len(frame)} octets"
+    if any(frame[6 : 6 + insert]):
+        yield f"an insert zone of station {own} is {frame[6:6 + insert].hex()}"
+    if control and any(frame[bare + insert : bare + insert + CONTROL]):
+        yield f"a control field of station {own} is no zeros: {frame[bare + insert:].hex()}"
+    if check and binascii.crc_hqx(frame[:-CHECK], 0xFFFF) != int.from_bytes(frame[-CHECK:], "big"):
+        yield f"a frame of station {own} has the check {frame[-CHECK:].hex()}"
+
+
+class Damaging(links.Relay):
+    """A relay that turns bits at this rate; `damaged` has how many frames it changed."""
+
+    def __init__(self, rate, seed):
+        self.chance, self.rate, self.damaged = random.Random(seed), rate, 0
+        super().__init__()
+
+    def give(self, own, frame):
+        turned = int.from_bytes(frame, "big")
+        place = -1
+        while True:
+            place += 1 + int(self.chance.expovariate(self.rate))
+            if place >= 8 * len(frame):
+                break
+            turned ^= 1 << place
+        came = turned.to_bytes(len(frame), "big")
+        self.damaged += came != frame
+        super().give(own, came)
+
+
+def damage_mistakes(program, rate, zone, count):
+    """What is wrong where so many files go each way over a link that turns bits."""
+    chance = random.Random(64)
+    with links.Link(program, Damaging(rate, 64)) as link:
+        files = {own: {f"{own}{number}": chance.randbytes(chance.randrange(1, 40_000))
+                       for number in range(count)} for own in (1, 2)}
+        words = {own: link.puts(own, files[own]) + ["--inbox", "to", "--idle", "3"]
+                 for own in (1, 2)}
+        sets = {own: {**settings_of(own, FIELDS), "zone": zone} for own in (1, 2)}
+        both = [link.starts(own, words[own], sets[own]) for own in (1, 2)]
+        for it in both:
+            status, out, err = it.ended()
+            if status or not out.endswith(f"complete {count} of {count}\n"):
+                yield f"station {it.own}: status {status}, {out[-300:]!r}, {err[-300:]!r}"
+            if "dropped: a frame was damaged on the way" not in err:
+                yield f"station {it.own} tells of no damage, but {err[-300:]!r}"
+        for own in (1, 2):
+            if stations.files_at(link.folder, own) != files[3 - own]:
+                yield f"what came to station {own} isn't what was sent"
+        for _, own, frame in list(link.relay.came):
+            yield from frame_mistakes(own, frame, FIELDS, zone)
+        if not link.relay.damaged:
+            yield "no frame was damaged"
+
+
+def misfit_mistakes(program):
+    """What is wrong where only one end has error control: nothing that comes is taken."""
+    with links.Link(program, links.Relay()) as link:
+        plain = {1: (0, 0, 0), 2: (0, 0, 0)}
+        fields = {1: (0, 0, 1), 2: (0, 0, 0)}
+        receiver = link.starts(2, ["--inbox", "to"], settings_of(2, fields))
+        link.starts(1, link.puts(1, {"a": b"hello"}), settings_of(1, plain))
+        since = time.time()
+        yield from links.note_mistakes(receiver, r"\d+ dropped: a frame was damaged", since, 5)
+        if stations.files_at(link.folder, 2):
+            yield "a file came"
+
+
+def all_mistakes(program):
+    """What is tried, with what is wrong in it."""
+    yield "bits turned at 1e-5, zones of 256", damage_mistakes(program, RATE, 256, 10)
+    yield "bits turned at 1e-5, zones of 2040", damage_mistakes(program, RATE, 2040, 10)
+    yield "bits turned at 1e-4, zones of 1024", damage_mistakes(program, 1e-4, 1024, 5)
+    yield "error control at one end", misfit_mistakes(program)
