@@ -75,6 +75,7 @@ impl CarrierTally {
                 Cell::new(0),
                 Cell::new(0),
                 Cell::new(0),
+                Cell::new(0),
             ],
         }
     }
