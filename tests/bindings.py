@@ -315,8 +315,9 @@ class Bindings:
         if not shutil.which("rustc"):
             print("no rustc: the wrapper, its tests and its example aren't compiled")
             return
-        builds, made = self.rust_program("tests/forgetting.rs", "forgetting_rs", "--test")
-        yield "forgetting.rs", run_mistakes(*builds, [made])
+        for name in ("forgetting", "lists"):
+            builds, made = self.rust_program(f"tests/{name}.rs", f"{name}_rs", "--test")
+            yield f"{name}.rs", run_mistakes(*builds, [made])
         builds, made = self.rust_example()
         yield "transfer.rs", run_mistakes(*builds, [made], [made, "0"])
         if shutil.which("valgrind"):

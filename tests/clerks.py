@@ -101,6 +101,22 @@ def size_mistakes(program):
             yield f"in .failed lie {sorted(spool.in_folder('.failed'))}"
 
 
+def quick_size_mistakes(program):
+    """What is wrong where such files come whole in one turn: the longer one isn't published."""
+    files = {"most": bytes(1000), "more": bytes(1001)}
+    with spool_of(program) as (link, spool):
+        spool.drops(files)
+        receiver = link.starts(2, [*INBOX, "--most-size", "1000", "--rate", "0"], PATIENT)
+        words = ["--spool", "from", "--no-time", "--rate", "0", "--retries", "0"]
+        link.starts(1, words, PATIENT)
+        if not waits_for(lambda: names_in(spool.folder) == set(), 20):
+            yield f"there stay {names_in(spool.folder)}: {receiver.text('stdout')!r}"
+        if spool.came() != {"most": files["most"]}:
+            yield f"there came {sorted(spool.came())}"
+        if spool.in_folder(".failed") != {"more": files["more"]}:
+            yield f"in .failed lie {sorted(spool.in_folder('.failed'))}"
+
+
 def most_open_mistakes(program):
     """What is wrong where more files come at a time than are taken, two, and again once they are
     over: the third is refused, and the fourth is taken."""
@@ -586,6 +602,7 @@ def all_mistakes(program):
     yield "a file whose sending is cancelled", once_mistakes(program)
     yield "how many puts are open at once", at_once_mistakes(program)
     yield "the most octets that are taken", size_mistakes(program)
+    yield "files as long as are taken, and one octet more, at once", quick_size_mistakes(program)
     yield "the most files that are taken at once", most_open_mistakes(program)
     yield "a put ahead of others", first_mistakes(program)
     yield "a station that is told to stop amid its files", stop_mistakes(program)

@@ -9,8 +9,8 @@ extern "C" {
 #endif
 
 /* How many octets the array has to have: CFDP_POOL_FOR the sum of what its stations take, of the
- * parts below. Half as much again is for the gaps between blocks. It was measured, and isn't proved:
- * docs/EMBEDDING.md, "A heap of fixed size". */
+ * parts below. Half as much again is for the gaps between blocks. It was measured, and isn't
+ * proved: docs/EMBEDDING.md, "A heap of fixed size". */
 #define CFDP_POOL_FOR(octets) ((octets) + (octets) / 2)
 
 /* A station, by the capacity of its configuration, with what it has to tell. */

@@ -125,7 +125,8 @@ impl Station {
         self.handle.was_forgotten(id, &mut was) == ffi::OK && was == 1
     }
 
-    /// The transactions that have a record here, in order of opening, each with how far it has come.
+    /// The transactions that have a record here, in order of opening, each with how far it has
+    /// come.
     pub fn transactions(&mut self) -> Transactions<'_> {
         Transactions::of(&mut self.handle)
     }

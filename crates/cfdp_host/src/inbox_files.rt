@@ -1,7 +1,9 @@
-//! The files of an inbox, where a file that came may not take the place of another.
+//! The files of an inbox, where a file that came may not take the place of another, nor be longer
+//! than a limit.
 use std::alloc::Allocator;
 use std::fs::{File, Files, Metadata, OpenOptions};
 use std::io;
+use std::io::ErrorKind;
 
 /// The files of the system, for an inbox that replaces files, or keeps those that are there.
 ///
@@ -13,12 +15,18 @@ use std::io;
 pub struct InboxFiles<'a> {
     rt: &'a HostRuntime,
     replaces: bool,
+    most_size: u64,
 }
 
 impl<'a> InboxFiles<'a> {
-    /// Those of the system. Where it doesn't replace, no rename takes a name that is there.
-    pub fn new(rt: &'a HostRuntime, replaces: bool) -> InboxFiles<'a> {
-        InboxFiles { rt, replaces }
+    /// Those of the system. Where it doesn't replace, no rename takes a name that is there; and none
+    /// gives a name to a file of more than `most_size` octets, unless that is 0.
+    pub fn new(rt: &'a HostRuntime, replaces: bool, most_size: u64) -> InboxFiles<'a> {
+        InboxFiles {
+            rt,
+            replaces,
+            most_size,
+        }
     }
 }
 
@@ -50,6 +58,9 @@ impl Files for InboxFiles<'_> {
     /// Where the old name can't be removed behind the link, the file has both: it is there under
     /// the new one, and the next start removes the other.
     fn rename(&self, from: &str, to: &str) -> io::Result<()> {
+        if self.most_size > 0 && self.rt.metadata(from)?.len() > self.most_size {
+            return Err(io::Error::from(ErrorKind::FileTooLarge));
+        }
         if self.replaces {
             return self.rt.rename(from, to);
         }

@@ -1,10 +1,12 @@
 -- Laws of the division: it keeps sums, and goes on digit by digit.
 use Rattle.std.proofs.Common.{◌≡◌, ℕ, zero, suc, ◌+◌, ◌-◌, ◌*◌, ◌/◌, ◌%◌, ◌^◌, ◌<◌, ◌≤◌, ◌⊎◌, inl, inr, ⊎_elim, mul_assoc, refl, sym, ap, ap₂, ◌∙◌, arith, add-one}
 use Rattle.std.specs.Int.Bits.{bit_xor, xor_self, xor_zero_r}
-use Rattle.std.proofs.lemmas.Nat.{xor_block, xor_lt, xor_shr, xor_mod, pow_pos, shr_high, div_below}
+use Rattle.std.proofs.lemmas.Nat.{xor_comm, xor_block, xor_lt, xor_shr, xor_mod, pow_pos, shr_high, div_below}
 use Rattle.std.proofs.lemmas.Grind.{pow_more}
+use Rattle.std.proofs.Math.Pow.{pow_mono}
+use lib.Bits.{xor_assoc}
 use Rattle.std.proofs.lemmas.Bool.{cases_lt}
-use Rattle.crc.specs.Division.{reduced, remainder, moved}
+use Rattle.crc.specs.Division.{reduced, remainder, moved, times, IsLeft}
 use Rattle.crc.proofs.Xor.{xor_four, xor_digit, double_xor}
 
 pub digit : (n : ℕ) → n < 2 → (n ≡ 0) ⊎ (n ≡ 1)
@@ -140,3 +142,127 @@ module _ (d g : ℕ) (least : 2 ^ d ≤ g) (most : g < 2 ^ (d + 1)) where
       let ih : moved d g k n ≡ n * 2 ^ k = moved_small k n (omega (arith, twice)) in
       let turned : 2 * (n * 2 ^ k) ≡ n * 2 ^ suc k = omega (arith, twice) in
       ap (λ r. reduced d g (2 * r)) ih ∙ ap (reduced d g) turned ∙ reduced_small (n * 2 ^ suc k) h
+
+  -- ---- it is the remainder
+
+  times_below : (m q : ℕ) → times m g q < 2 ^ (m + d + 1)
+  unfolding times
+  times_below zero q = pow_pos (0 + d + 1)
+  times_below (suc m) q =
+      let k : ℕ = m + d + 1 in
+      let more : suc m + d + 1 ≡ k + 1 = omega arith in
+      let power : 2 ^ (k + 1) ≡ 2 ^ k * 2 = pow_more 2 k in
+      let low : 2 * times m g (q / 2) < 2 ^ (k + 1) = omega (arith, power, times_below m (q / 2)) in
+      let wide : 2 ^ (d + 1) ≤ 2 ^ (k + 1) = pow_mono {i = d + 1} {j = k + 1} (omega arith) in
+      let high : q % 2 * g < 2 ^ (k + 1) = elim (digit (q % 2) (omega arith)) [
+        | inl e ↦ let none : 0 * g ≡ 0 = omega arith in rw (e, none) (pow_pos (k + 1))
+        | inr e ↦ let one : 1 * g ≡ g = omega arith in rw (e, one) (omega (arith, wide))
+      ] in
+      rw more (xor_lt (k + 1) (2 * times m g (q / 2)) (q % 2 * g) low high)
+
+  -- more coefficients, which are zeros, leave the same
+  remainder_more : (k j n : ℕ) → n < 2 ^ k → remainder d g (k + j) n ≡ remainder d g k n
+  unfolding remainder
+  remainder_more zero j n h =
+      let none : n ≡ 0 = omega arith in
+      let power : 0 < 2 ^ (0 + j) = pow_pos (0 + j) in
+      ap (remainder d g (0 + j)) none ∙ remainder_small (0 + j) 0 (pow_pos d) power
+  remainder_more (suc k) j n h =
+      let power : 2 ^ suc k ≡ 2 ^ k * 2 = ap (λ m. 2 ^ m) (sym (add-one k)) ∙ pow_more 2 k in
+      let more : suc k + j ≡ suc (k + j) = omega arith in
+      ap (λ c. remainder d g c n) more ∙ ap (λ r. reduced d g (2 * r + n % 2)) (remainder_more k j (n / 2) (omega (arith, power)))
+
+  divisor_left : (c : ℕ) → d ≤ c → remainder d g (suc c) g ≡ 0
+  unfolding remainder
+  divisor_left c deep =
+      let half : g / 2 < 2 ^ d = omega (arith, pow_more 2 d) in
+      let wide : 2 ^ d ≤ 2 ^ c = pow_mono {i = d} {j = c} deep in
+      let whole : 2 * (g / 2) + g % 2 ≡ g = omega arith in
+      let split : g ≡ 1 * 2 ^ d + (g - 2 ^ d) = omega arith in
+      let top : g / 2 ^ d ≡ 1 = ap (λ m. m / 2 ^ d) split ∙ shr_high 1 d (g - 2 ^ d) (omega (arith, pow_more 2 d)) in
+      let one : 1 * g ≡ g = omega arith in
+      ap (λ r. reduced d g (2 * r + g % 2)) (remainder_small c (g / 2) half (omega (arith, half, wide)))
+      ∙ ap (reduced d g) whole ∙ ap (λ t. bit_xor g (t * g)) top ∙ ap (bit_xor g) one ∙ xor_self g
+
+  multiple_left : (m q : ℕ) → remainder d g (m + d + 1) (times m g q) ≡ 0
+  unfolding times
+  multiple_left zero q = remainder_small (0 + d + 1) 0 (pow_pos d) (pow_pos (0 + d + 1))
+  multiple_left (suc m) q =
+      let k : ℕ = m + d + 1 in
+      let more : suc m + d + 1 ≡ suc k = omega arith in
+      let t : ℕ = times m g (q / 2) in
+      let turn : 2 * t ≡ t * 2 = omega arith in
+      let some : 0 < 2 ^ d = pow_pos d in
+      let even : remainder d g (suc k) (2 * t) ≡ 0 =
+      ap (remainder d g (suc k)) turn ∙ remainder_double k t ∙ ap (λ r. reduced d g (2 * r)) (multiple_left m (q / 2)) ∙ reduced_small 0 some in
+      let last : remainder d g (suc k) (q % 2 * g) ≡ 0 = elim (digit (q % 2) (omega arith)) [
+        | inl e ↦
+            let none : 0 * g ≡ 0 = omega arith in
+            ap (λ x. remainder d g (suc k) (x * g)) e ∙ ap (remainder d g (suc k)) none ∙ remainder_small (suc k) 0 some (pow_pos (suc k))
+        | inr e ↦
+            let one : 1 * g ≡ g = omega arith in
+            ap (λ x. remainder d g (suc k) (x * g)) e ∙ ap (remainder d g (suc k)) one ∙ divisor_left k (omega arith)
+      ] in
+      ap (λ c. remainder d g c (bit_xor (2 * t) (q % 2 * g))) more
+      ∙ remainder_xor (suc k) (2 * t) (q % 2 * g)
+      ∙ ap₂ bit_xor even last
+
+  -- whatever is left of n is its remainder
+  pub left_is_remainder : (c n r : ℕ) → n < 2 ^ c → IsLeft d g n r → r ≡ remainder d g c n
+  left_is_remainder c n r h is =
+      let m : ℕ = is.count in
+      let t : ℕ = times m g is.quotient in
+      let k : ℕ = m + d + 1 in
+      let deep : d ≤ k + c = omega arith in
+      let wide : 2 ^ d ≤ 2 ^ (k + c) = pow_mono {i = d} {j = k + c} deep in
+      let low : r < 2 ^ d = is.below in
+      let turn : c + k ≡ k + c = omega arith in
+      let whole : remainder d g (k + c) n ≡ remainder d g c n = ap (λ j. remainder d g j n) (sym turn) ∙ remainder_more c k n h in
+      let multiple : remainder d g (k + c) t ≡ 0 = remainder_more k c t (times_below m is.quotient) ∙ multiple_left m is.quotient in
+      sym (
+      sym whole
+      ∙ ap (remainder d g (k + c)) is.whole
+      ∙ remainder_xor (k + c) t r
+      ∙ ap₂ bit_xor multiple (remainder_small (k + c) r low (omega (arith, low, wide)))
+      )
+
+  -- and its remainder is left of it
+  pub remainder_is_left : (c n : ℕ) → n < 2 ^ c → IsLeft d g n (remainder d g c n)
+  unfolding remainder times
+  remainder_is_left zero n h = record {
+    count = 0;
+    quotient = 0;
+    below = pow_pos d;
+    whole = omega arith;
+  }
+  remainder_is_left (suc c) n h =
+      let power : 2 ^ suc c ≡ 2 ^ c * 2 = ap (λ m. 2 ^ m) (sym (add-one c)) ∙ pow_more 2 c in
+      let ih : IsLeft d g (n / 2) (remainder d g c (n / 2)) = remainder_is_left c (n / 2) (omega (arith, power)) in
+      let r : ℕ = remainder d g c (n / 2) in
+      let x : ℕ = n % 2 in
+      let hx : x < 2 = omega arith in
+      let hr : r < 2 ^ d = remainder_below c (n / 2) in
+      let stands : ℕ = 2 * r + x in
+      let fits : stands < 2 ^ (d + 1) = double_below r x hr hx in
+      let top : ℕ = stands / 2 ^ d in
+      let htop : top < 2 = top_below stands fits in
+      let t : ℕ = times ih.count g ih.quotient in
+      let q : ℕ = 2 * ih.quotient + top in
+      let half : q / 2 ≡ ih.quotient = omega (arith, htop) in
+      let odd : q % 2 ≡ top = omega (arith, htop) in
+      let turn : 2 * t + 0 ≡ 2 * t = omega arith in
+      let digits : n ≡ bit_xor (2 * t) stands =
+      (let e : n ≡ 2 * (n / 2) + x = omega arith in e)
+      ∙ ap (λ m. 2 * m + x) ih.whole
+      ∙ sym (xor_digit t r 0 x (omega arith) hx)
+      ∙ ap (λ m. bit_xor m stands) turn in
+      let back : stands ≡ bit_xor (top * g) (reduced d g stands) =
+      sym (xor_comm (top * g) (bit_xor stands (top * g)) ∙ xor_assoc stands (top * g) (top * g) ∙ ap (bit_xor stands) (xor_self (top * g)) ∙ xor_zero_r stands) in
+      let product : bit_xor (2 * t) (top * g) ≡ bit_xor (2 * times ih.count g (q / 2)) (q % 2 * g) =
+      ap₂ (λ a b. bit_xor (2 * times ih.count g a) (b * g)) (sym half) (sym odd) in
+      record {
+        count = suc ih.count;
+        quotient = q;
+        below = reduced_below stands fits;
+        whole = digits ∙ ap (bit_xor (2 * t)) back ∙ sym (xor_assoc (2 * t) (top * g) (reduced d g stands)) ∙ ap (λ m. bit_xor m (reduced d g stands)) product;
+      }

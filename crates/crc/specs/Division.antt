@@ -1,7 +1,7 @@
 -- Division of polynomials over two elements. A polynomial is written as the number whose binary
 -- digit i, from the lowest, is its coefficient of x^i. So the sum of two is `bit_xor`, which is
 -- their difference, too, and 2 * n is n times x.
-use Rattle.std.specs.Prelude.{ℕ, zero, suc, ◌+◌, ◌*◌, ◌/◌, ◌%◌, ◌^◌, bit_xor}
+use Rattle.std.specs.Prelude.{◌≡◌, ◌<◌, ℕ, zero, suc, ◌+◌, ◌*◌, ◌/◌, ◌%◌, ◌^◌, bit_xor}
 
 -- less the divisor, of that degree, where that goes into it: n has that degree at the most, and its
 -- coefficient there is n / 2 ^ degree
@@ -20,3 +20,16 @@ remainder degree divisor (suc count) n =
 unfoldable pub moved : ℕ → ℕ → ℕ → ℕ → ℕ
 moved degree divisor zero n = n
 moved degree divisor (suc count) n = reduced degree divisor (2 * moved degree divisor count n)
+
+-- n times m, by hand: for each of the `count` coefficients of m, the highest first, what stands
+-- there is taken times x, and n is added where the coefficient is one
+unfoldable pub times : ℕ → ℕ → ℕ → ℕ
+times zero n m = 0
+times (suc count) n m = bit_xor (2 * times count n (m / 2)) (m % 2 * n)
+
+-- n is a multiple of the divisor, and r over, which is below it in degree
+pub record IsLeft (degree divisor n r : ℕ) : Type 0 where
+  pub count : ℕ
+  pub quotient : ℕ
+  pub below : r < 2 ^ degree
+  pub whole : n ≡ bit_xor (times count divisor quotient) r

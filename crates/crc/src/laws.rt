@@ -1,11 +1,18 @@
 //! Laws of checks, each the contract of a function that does nothing.
-ghost use Rattle.std.specs.Prelude.{◌≡◌, ℕ, ◌^◌, ◌<◌, ◌++◌, ◌∷◌, [], List, length};
+ghost use Rattle.std.specs.Prelude.{◌≡◌, ℕ, ◌+◌, ◌^◌, ◌<◌, ◌≤◌, ◌↔◌, ◌++◌, ◌∷◌, [], List, length};
 ghost use Rattle.std.specs.Prelude.{slice_index};
 ghost use Rattle.crc.specs.Checks.{crc16_behind, crc16_of};
+ghost use Rattle.crc.specs.Division.{remainder, IsLeft};
 ghost use Rattle.crc.specs.FileChecks.{crc32_of, written32};
 ghost use Rattle.crc.specs.Pieces.{kept_of, Cuts, Piece};
 ghost use Rattle.crc.specs.declared.thirty_two.Crc32.{Crc32};
 ghost use Rattle.crc.specs.declared.thirty_two.Crc32.TheVariants.{Castagnoli, Ieee};
+
+/// What a division leaves is the remainder of it, and nothing else is.
+pub fn what_is_left_is_the_remainder()
+    ensures { (degree divisor count n r : ℕ) → 2 ^ degree ≤ divisor → divisor < 2 ^ (degree + 1)
+        → n < 2 ^ count → IsLeft degree divisor n r ↔ (r ≡ remainder degree divisor count n) }
+{}
 
 /// The check of octets begins with that of the octets before them.
 pub fn a_check_goes_on()

@@ -23,6 +23,9 @@ mod sixteen;
 mod thirty_two;
 
 pub use file_check::FileCheck;
-pub use laws::{a_check_goes_on, cut_file_has_its_check, the_worked_check, the_worked_file_checks};
+pub use laws::{
+    a_check_goes_on, cut_file_has_its_check, the_worked_check, the_worked_file_checks,
+    what_is_left_is_the_remainder,
+};
 pub use sixteen::{crc16, crc16_more};
 pub use thirty_two::Crc32;

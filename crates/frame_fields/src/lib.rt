@@ -16,7 +16,7 @@
 //!
 //! None of the calls takes memory.
 //!
-//! Tested by `tests/sealing.py`, through the program.
+//! Not tested yet: no program calls it.
 #![tactic(auto)]
 
 mod config;

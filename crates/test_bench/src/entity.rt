@@ -190,6 +190,10 @@ impl Target for EntityBench {
             Fate::Broken
         }
     }
+
+    fn tells_drops(&self, out: &mut String) -> Result<(), AllocError> {
+        self.tells_drops(out)
+    }
 }
 
 /// What is seen of an entity.

@@ -352,6 +352,10 @@ impl Target for StationBench {
         self.receive(octets);
         self.seen().fate(before, self.came.len() as u64)
     }
+
+    fn tells_drops(&self, out: &mut String) -> Result<(), AllocError> {
+        self.tells_drops(out)
+    }
 }
 
 /// What is seen of a station: how many frames it refused, how often it dropped something else of a

@@ -8,12 +8,16 @@
 //!     strike S         the frame that it sent first, of all that wait, is lost
 //!     strike S LANE    its oldest frame of a lane is lost
 //!     settle           all is settled
+//!     suspend S ID     a station's user suspends a transaction
+//!     recover          both stations make up for what was lost
+//!     ticks            how often a station was told the time
 //!     told S           to tell all that it indicated
 //!     frames S         how many of its frames, of both lanes, are delivered, lost, and on the way
 //!     inbox S          to tell each published file
 //!     replay           a station of its own takes the frames that were delivered to the second
 //!                      one, those of directives first, and tells each published file
-//!     fronts           another takes each proper prefix of these frames, as in `strangers`
+//!     fronts           another takes each proper prefix of these frames, as in `strangers`, and
+//!                      tells what it dropped, by number
 //!     losses N         so many frames were struck in a row
 //!     lose, arrive     whether one more may be struck; and one arrives
 use crate::bench::{Bench, played, unknown};
@@ -21,7 +25,7 @@ use crate::setup::{EntitySetup, first_entity, first_station, second_station};
 use crate::station::{StationBench, files};
 use crate::strangers;
 use crate::telling::tell;
-use crate::words::{narrow, number, pair, tell_octets, text};
+use crate::words::{id, narrow, number, pair, tell_octets, text};
 use cfdp_directives::Octets;
 use cfdp_station::StationConfig;
 use cfdp_store::{Files, FuseInbox, FuseOutbox, MemoryInbox, MemoryOutbox};
@@ -92,7 +96,9 @@ impl Bench for WorldBench {
             "spread" => self.world.spread(side(first)),
             "deliver" => self.delivers(side(first), rest, out),
             "strike" => self.strikes(side(first), rest, out),
+            "suspend" => self.applies(&suspension(words), out),
             "settle" => self.settles(out),
+            "recover" => self.recovers(out),
             "replay" => self.replays(out),
             "fronts" => self.cuts(out),
             _ => self.tells(verb, words, out),
@@ -125,6 +131,7 @@ impl WorldBench {
     fn tells(&mut self, verb: &str, words: &str, out: &mut String) -> Result<(), AllocError> {
         match verb {
             "told" => self.tells_all(side(words), out),
+            "ticks" => write!(out, " {}\n", self.world.ticks()),
             "frames" => tell_marks(self.world.frames(side(words)), out),
             "inbox" => {
                 tell_files(
@@ -193,6 +200,13 @@ impl WorldBench {
         }
     }
 
+    fn recovers(&mut self, out: &mut String) -> Result<(), AllocError> {
+        match self.world.recover() {
+            Ok(()) => write!(out, " ok\n"),
+            Err(e) => write!(out, " {}\n", e.name()),
+        }
+    }
+
     fn replays(&self, out: &mut String) -> Result<(), AllocError> {
         let frames = recorded(self.alloc, self.world.frames(Side::One))?;
         let station = StationBench::open(self.alloc, self.two)?;
@@ -226,6 +240,15 @@ fn put(alloc: Global, name: &str) -> Result<Event, AllocError> {
         source: Octets::copied(alloc, name.as_bytes())?,
         destination: Octets::copied(alloc, b"b.txt")?,
     })
+}
+
+/// What suspends a transaction, at the station that is named first.
+fn suspension(words: &str) -> Event {
+    let (at, name) = pair(words);
+    Event::Suspend {
+        at: side(at),
+        id: id(name),
+    }
 }
 
 /// The lane that the first of these words names, if it does, and the words behind it.

@@ -57,8 +57,8 @@ pub struct TellingInbox<'a> {
 
 impl<'a> TellingInbox<'a> {
     /// An inbox over this folder, which is there. Where it `replaces`, a file that comes takes the
-    /// place of the one that has its name; else it is refused, and the other stays. It sets `told`
-    /// once it said so.
+    /// place of the one that has its name; else it is refused, and the other stays. One of more than
+    /// `most_size` octets is refused, unless that is 0. It sets `told` once it said so.
     ///
     /// # Errors
     ///
@@ -66,14 +66,15 @@ impl<'a> TellingInbox<'a> {
     pub fn new(
         rt: &'a HostRuntime,
         folder: &'a str,
-        replaces: bool,
+        (replaces, most_size): (bool, u64),
         told: &'a Cell<bool>,
         progress: &'a Progress<'a>,
     ) -> Result<TellingInbox<'a>, AllocError> {
+        let files = InboxFiles::new(rt, replaces, most_size);
         Ok(TellingInbox {
             rt,
             folder,
-            inbox: FolderInbox::new(InboxFiles::new(rt, replaces), rt.alloc(), folder)?,
+            inbox: FolderInbox::new(files, rt.alloc(), folder)?,
             told,
             progress,
             reception: Reception::new(rt.alloc(), progress),

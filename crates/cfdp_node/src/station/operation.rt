@@ -87,8 +87,8 @@ fn ran_from<'a, O: SeekingOutbox, S: Spool>(
     } = context;
     match &request.inbox {
         Some(path) => {
-            let replaces = !request.flags.no_overwrite;
-            match TellingInbox::new(rt, path.as_str(), replaces, told, progress) {
+            let rules = (!request.flags.no_overwrite, request.limits.most_size);
+            match TellingInbox::new(rt, path.as_str(), rules, told, progress) {
                 Ok(inbox) => ran_over(context, parts, (outbox, inbox), spool),
                 Err(AllocError) => Ran::unseen(Exit::Device(Fault::NoMemoryAtStart)),
             }
