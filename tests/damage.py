@@ -103,5 +103,5 @@ def all_mistakes(program):
     """What is tried, with what is wrong in it."""
     yield "bits turned at 1e-5, zones of 256", damage_mistakes(program, RATE, 256, 10)
     yield "bits turned at 1e-5, zones of 2040", damage_mistakes(program, RATE, 2040, 10)
-    yield "bits turned at 1e-4, zones of 1024", damage_mistakes(program, 1e-4, 1024, 5)
+    yield "bits turned at 1e-4, zones of 256", damage_mistakes(program, 1e-4, 256, 5)
     yield "error control at one end", misfit_mistakes(program)

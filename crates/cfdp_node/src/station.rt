@@ -84,7 +84,7 @@ fn started_status(rt: &HostRuntime, request: &StationRequest) -> Result<u8, u8> 
     let own = WorldConfig::station(config, side_of(request)).get();
     let extra = (fields.sends.get().extra(), fields.receives.get().extra());
     let parts = StationParts {
-        socket: socket(rt, request, (&own, carrier, extra), reservation, &exchange)?,
+        socket: socket(rt, request, &own, carrier, extra, reservation, &exchange)?,
         frame_count,
         sources,
         config,
@@ -213,8 +213,8 @@ fn link_fields(
         tell_bad(rt, setup, id, peer);
         return Err(MISTAKE);
     };
-    let extra = fields.sends.get().extra() + fields.receives.get().extra();
-    if extra > 0 && request.carrier != CarrierKind::Frames {
+    let (sends, receives) = (fields.sends.get(), fields.receives.get());
+    if (sends.extra() > 0 || receives.extra() > 0) && request.carrier != CarrierKind::Frames {
         let _ = eprintln!(rt;
             "error: an insert zone, a control field and error control are of frames: --carrier \
              frames"
@@ -421,17 +421,20 @@ fn check_files(rt: &HostRuntime, path: &str, words: &[String]) -> Result<(), u8>
 fn socket<'a>(
     rt: &'a HostRuntime,
     request: &StationRequest,
-    (config, carrier, extra): (&StationConfig, Carrier, (usize, usize)),
+    config: &StationConfig,
+    carrier: Carrier,
+    extra: (usize, usize),
     reservation: Reservation<'a>,
     exchange: &'a Exchange,
 ) -> Result<PeerSocket<'a>, u8> {
     let (listen, to) = (request.listen.as_str(), request.to.as_str());
+    let (sends_extra, receives_extra) = extra;
     let pace = Pace {
         rate: request.numbers.rate,
         idle: request.numbers.idle,
         receives: config.receives,
-        sends_extra: extra.0,
-        receives_extra: extra.1,
+        sends_extra,
+        receives_extra,
         carrier,
         beacon: Beacon::of(config),
         unit: unit_of(request),

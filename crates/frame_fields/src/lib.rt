@@ -16,7 +16,7 @@
 //!
 //! None of the calls takes memory.
 //!
-//! Not tested yet: no program calls it.
+//! Tested by `tests/damage.py`, through the program.
 #![tactic(auto)]
 
 mod config;

@@ -211,7 +211,7 @@ fn sent<O: Outbox, W: Wire>(
     told: &Cell<bool>,
     progress: &Progress<'_>,
 ) -> Ran {
-    match TellingInbox::new(rt, request.to.as_str(), (true, 0), told, progress) {
+    match TellingInbox::new(rt, request.to.as_str(), true, 0, told, progress) {
         Ok(inbox) => {
             let ends = LoopEnds {
                 outbox,

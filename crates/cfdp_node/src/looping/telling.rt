@@ -66,7 +66,8 @@ impl<'a> TellingInbox<'a> {
     pub fn new(
         rt: &'a HostRuntime,
         folder: &'a str,
-        (replaces, most_size): (bool, u64),
+        replaces: bool,
+        most_size: u64,
         told: &'a Cell<bool>,
         progress: &'a Progress<'a>,
     ) -> Result<TellingInbox<'a>, AllocError> {

@@ -87,8 +87,9 @@ fn ran_from<'a, O: SeekingOutbox, S: Spool>(
     } = context;
     match &request.inbox {
         Some(path) => {
-            let rules = (!request.flags.no_overwrite, request.limits.most_size);
-            match TellingInbox::new(rt, path.as_str(), rules, told, progress) {
+            let replaces = !request.flags.no_overwrite;
+            let most = request.limits.most_size;
+            match TellingInbox::new(rt, path.as_str(), replaces, most, told, progress) {
                 Ok(inbox) => ran_over(context, parts, (outbox, inbox), spool),
                 Err(AllocError) => Ran::unseen(Exit::Device(Fault::NoMemoryAtStart)),
             }
@@ -164,32 +165,11 @@ fn wired<'a, O: SeekingOutbox, I: Inbox, S: Spool, L: Lookout>(
         side,
     };
     let lossy = LossyWire::new(socket, request.numbers.drop_every);
-    match SealedWire::new(rt.alloc(), fields, lossy, &exchange.dropped, &exchange.gaps) {
-        Ok(wire) => carried(
-            context,
-            options,
-            (wire, carrier),
-            stores,
-            spool,
-            sources,
-            lookout,
-        ),
-        Err(AllocError) => Exit::Device(Fault::NoMemoryAtStart),
-    }
-}
-
-/// Runs the station over its carrier.
-fn carried<'a, O: SeekingOutbox, I: Inbox, W: PeerWire, S: Spool, L: Lookout>(
-    context: Context<'a>,
-    options: ServiceOptions,
-    (wire, carrier): (W, Carrier),
-    stores: (O, I),
-    spool: S,
-    sources: LineSources<'a>,
-    lookout: &mut L,
-) -> Exit {
-    let Context { rt, exchange, .. } = context;
-    let wire = CarrierWire::new(rt.alloc(), carrier, options.config, wire, &exchange.dropped);
+    let (tally, gaps) = (&exchange.dropped, &exchange.gaps);
+    let wire = match SealedWire::new(rt.alloc(), fields, lossy, tally, gaps) {
+        Ok(wire) => CarrierWire::new(rt.alloc(), carrier, options.config, wire, tally),
+        Err(AllocError) => Err(AllocError),
+    };
     match wire {
         Ok(wire) => {
             let (outbox, inbox) = stores;
