@@ -1,0 +1,11 @@
+use Rattle.crc.proofs.Tables32.{proximity_table_3, castagnoli_table_3, ieee_table_3}
+use Rattle.crc.proofs.thirty_two.Crc32.third_table.Goals as goal
+
+pub returns-in-Proximity1 : goal.returns-in-Proximity1
+returns-in-Proximity1 c = proximity_table_3 c.args.self c.in-Proximity1.is
+
+pub returns-in-Castagnoli : goal.returns-in-Castagnoli
+returns-in-Castagnoli c = castagnoli_table_3 c.args.self c.in-Castagnoli.is
+
+pub returns-in-Ieee : goal.returns-in-Ieee
+returns-in-Ieee c = ieee_table_3 c.args.self c.in-Ieee.is
