@@ -1,4 +1,3 @@
 pub mod Hears
 pub mod Lent
 pub mod Takes
-pub mod AnyOrder
