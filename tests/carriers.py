@@ -177,7 +177,8 @@ def pair_mistakes(program, carrier, words, settings, sizes):
                 stations.put(folder, own, name, sent[own][f"{name}{own}"])
                 said += ["--put", name, f"{name}{own}"]
             both = {**stations.PATIENT, **settings}
-            begun.append(stations.Station(program, folder, own, 3 - own, ports, [*said, *words], both))
+            ends = (own, 3 - own, ports)
+            begun.append(stations.Station(program, folder, *ends, [*said, *words], both))
         for it in begun:
             status, out, err = it.ended()
             wanted = f"complete {len(sizes)} of {len(sizes)}\n"
@@ -219,7 +220,7 @@ def pace_mistakes(program, carrier, zone, segment, size, rate):
 
 
 def plain_mistakes(program, carrier, own, form=None):
-    """What is wrong between a station and a plain peer: the station sends files, and the peer one."""
+    """What is wrong between a station and a plain peer: the station sends files, the peer one."""
     sizes, pieces = (0, 1, 100_000), {"small": b"hello, station"}
     with tempfile.TemporaryDirectory(dir=program.room) as folder:
         ports = dict(zip((1, 2), stations.free_ports(2)))

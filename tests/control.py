@@ -512,7 +512,7 @@ def list_mistakes(program):
 
 
 def stop_mistakes(program):
-    """What is wrong where a station is told to stop: it ends once what it has is over, or at once."""
+    """What is wrong where a station is told to stop: it ends once what it has is over, or now."""
     with Link(program, Relay()) as link:
         link.starts(2, ["--inbox", "to"], PATIENT)
         words = link.puts(1, {"a": bytes(50_000)}) + ["--rate", "100"]

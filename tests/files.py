@@ -216,7 +216,8 @@ def again_mistakes(program):
         receiver = link.starts(2, ["--inbox", "to", "--rate", "0"], settings)
         files = link.puts(1, {"a": b"before", "x": b""})
         words = [*files[:2], "--put", "a", "first", *["--put", "x", "x"] * 3071]
-        words += ["--put", "a", "second", "--put", "late", "late", "--rate", "0", "--at-once", "3072"]
+        words += ["--put", "a", "second", "--put", "late", "late"]
+        words += ["--rate", "0", "--at-once", "3072"]
         how = {"preexec_fn": stations.many_words}
         sender = link.starts(1, words, settings, waits=False, **how)
         for number in (1, 2):

@@ -39,7 +39,8 @@ def options_of(text):
 def settings_of(text):
     """The settings that the help of scripts lists, with their defaults."""
     part = text.partition("Settings, with their defaults:\n")[2].partition("\n\n")[0]
-    return {key: int(value) for key, value in re.findall(r"(?:^|, )\s*([a-z_]+) (\d+)\b(?!\^)", part, re.M)}
+    found = re.findall(r"(?:^|, )\s*([a-z_]+) (\d+)\b(?!\^)", part, re.M)
+    return {key: int(value) for key, value in found}
 
 
 def printed_mistakes(program):
@@ -83,7 +84,7 @@ def read_again_mistakes(program):
                 os.mkdir(f"{folder}/{name}")
             if settings is not None:
                 with open(f"{folder}/a.toml", "w", encoding="utf-8") as it:
-                    it.write(settings.replace('control = "127.0.0.1:5101"', 'control = "127.0.0.1:0"'))
+                    it.write(settings.replace('"127.0.0.1:5101"', '"127.0.0.1:0"'))
                 os.mkdir(f"{folder}/SEND")
                 words += ["--config", "a.toml"]
             how = {"cwd": folder, "capture_output": True, "text": True, "timeout": SECONDS}
@@ -108,7 +109,8 @@ def example_mistakes(program):
     with tempfile.TemporaryDirectory(dir=program.room) as folder:
         for name in ("inbox", "spool"):
             os.mkdir(f"{folder}/{name}")
-        words = ["--config", f"{TOP}/packaging/station.toml", "--listen", "127.0.0.1:0", "--idle", "1"]
+        words = ["--config", f"{TOP}/packaging/station.toml", "--listen", "127.0.0.1:0"]
+        words += ["--idle", "1"]
         how = {"cwd": folder, "capture_output": True, "text": True, "timeout": SECONDS}
         it = subprocess.run([program.path, "station", *words, "--to", "127.0.0.1:9"], **how)
         if it.returncode:
