@@ -106,8 +106,9 @@ def quick_size_mistakes(program):
     files = {"most": bytes(1000), "more": bytes(1001)}
     with spool_of(program) as (link, spool):
         spool.drops(files)
-        receiver = link.starts(2, [*INBOX, "--most-size", "1000", "--rate", "0"], PATIENT)
-        words = ["--spool", "from", "--no-time", "--rate", "0", "--retries", "0"]
+        words = ["--no-time", "--rate", "0"]
+        receiver = link.starts(2, ["--inbox", "to", "--most-size", "1000", *words], PATIENT)
+        words += ["--spool", "from", "--retries", "0"]
         link.starts(1, words, PATIENT)
         if not waits_for(lambda: names_in(spool.folder) == set(), 20):
             yield f"there stay {names_in(spool.folder)}: {receiver.text('stdout')!r}"

@@ -267,6 +267,19 @@ def input_mistakes(program):
 BACKGROUND = "set -m; {} & sleep 3; fg"
 
 
+def interrupted(process, terminal):
+    """What a process writes that is in front of a terminal, or comes there in time, and is
+    interrupted from it."""
+    for _ in range(12):
+        os.write(terminal, b"\x03")
+        try:
+            return process.communicate(timeout=5)[0]
+        except subprocess.TimeoutExpired:
+            pass
+    process.kill()
+    return process.communicate()[0]
+
+
 def terminal_mistakes(program):
     """What is wrong where the commands come from a terminal, in whose background the station is at
     first: it isn't stopped for reading there, and what is typed is taken once it is before it."""
@@ -286,8 +299,7 @@ def terminal_mistakes(program):
         if select.select([it.stdout], [], [], 0)[0]:
             yield f"in the background it writes {os.read(it.stdout.fileno(), 4096)!r}"
         time.sleep(3)
-        os.write(outer, b"\x03")
-        out, _ = it.communicate(timeout=10)
+        out = interrupted(it, outer)
         if not out.decode().endswith("ok\n") or b"topped" in out:
             yield f"in front it writes {out!r}"
         for fd in (outer, inner):
