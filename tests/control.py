@@ -5,6 +5,7 @@ import pty
 import random
 import re
 import select
+import signal
 import socket
 import subprocess
 import termios
@@ -267,6 +268,13 @@ def input_mistakes(program):
 BACKGROUND = "set -m; {} & sleep 3; fg"
 
 
+def takes_terminal():
+    """Makes standard input the terminal of this session, which an interrupt ends, also where who
+    runs all this ignores one."""
+    signal.signal(signal.SIGINT, signal.SIG_DFL)
+    fcntl.ioctl(0, termios.TIOCSCTTY, 0)
+
+
 def interrupted(process, terminal):
     """What a process writes that is in front of a terminal, or comes there in time, and is
     interrupted from it."""
@@ -276,7 +284,8 @@ def interrupted(process, terminal):
             return process.communicate(timeout=5)[0]
         except subprocess.TimeoutExpired:
             pass
-    process.kill()
+    # Each process of that session, so that nobody has the output any more.
+    subprocess.run(["pkill", "-KILL", "-s", str(process.pid)], check=False)
     return process.communicate()[0]
 
 
@@ -288,8 +297,8 @@ def terminal_mistakes(program):
         for option, port in zip(("--listen", "--to"), stations.free_ports(2)):
             words += [option, f"127.0.0.1:{port}"]
         outer, inner = pty.openpty()
-        own = lambda: fcntl.ioctl(0, termios.TIOCSCTTY, 0)
-        ways = {"stdin": inner, "stderr": inner, "stdout": subprocess.PIPE, "preexec_fn": own}
+        ways = {"stdin": inner, "stderr": inner, "stdout": subprocess.PIPE}
+        ways["preexec_fn"] = takes_terminal
         with stations.ALONE:
             shell = ["bash", "-c", BACKGROUND.format(" ".join(words))]
             it = subprocess.Popen(shell, cwd=link.folder, start_new_session=True, **ways)
