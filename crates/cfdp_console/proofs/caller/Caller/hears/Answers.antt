@@ -1,0 +1,13 @@
+-- What is given was judged along the calls of the connection.
+use Rattle.std.specs.Prelude.{Some}
+use Rattle.std.proofs.Common.{◌∙◌, ap, sym, refl}
+use Rattle.cfdp_console.proofs.HearingLemmas.{from_ok, given_may, heard}
+use Rattle.cfdp_console.proofs.caller.Caller.hears.Goals as goal
+
+pub returns-in-Some : goal.returns-in-Some
+returns-in-Some c =
+    let calls = from_ok c.feed.result (sym c.is_err.ensures.value ∙ c.if-is_err.false)
+    c.feed.ensures in
+    given_may c.judged.result c.in-Some.asked c.args.guard.now
+    (λ ask is. heard calls.0 _ c.feed.new.service ask calls.1 refl
+    (c.in-Some.is ∙ ap Some is)) c.judged.ensures

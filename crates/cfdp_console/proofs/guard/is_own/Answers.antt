@@ -1,0 +1,23 @@
+-- The fields of the request are those of its head.
+use Rattle.std.specs.Prelude.{◌≡◌, codes, option_copied}
+use Rattle.std.proofs.Common.{rules, arith, ◌∙◌, ap, sym, subst}
+use Rattle.std.proofs.lemmas.Grind.{common_steps}
+use Rattle.http_header.specs.HeaderMap.{get}
+use Rattle.cfdp_console.specs.Guard.{IsOwnHost, OriginFits, field_of}
+use Rattle.cfdp_console.proofs.guard.is_own.Goals as goal
+
+pub returns : goal.returns
+returns c = λ yes.
+    let own : IsOwnHost c.as_bytes-host.result.now
+    = first_of (search rules, grind (arith, common_steps)) in
+    let origin : option_copied c.get-2.result ≡ field_of c.args.request.now (codes "origin")
+    = c.get-2.ensures.value ∙ ap (λ m. get m (codes "origin")) c.headers-headers.ensures in
+    record {
+      host = c.in-Some.host.now;
+      is_there = sym (c.in-Some.ensures.value
+          ∙ ap (λ m. get m (codes "host")) c.headers-headers.ensures);
+      own = subst IsOwnHost c.as_bytes-host.ensures.value own;
+      origin = subst (λ h. OriginFits (field_of c.args.request.now (codes "origin")) h)
+          c.as_bytes-host.ensures.value
+          (subst (λ o. OriginFits o c.as_bytes-host.result.now) origin (c.fits_origin.ensures yes));
+    }

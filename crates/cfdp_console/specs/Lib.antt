@@ -1,0 +1,4 @@
+pub mod Guard
+pub mod Asking
+pub mod Hearing
+pub mod Shown

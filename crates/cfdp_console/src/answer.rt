@@ -1,0 +1,197 @@
+//! What a request is answered.
+ghost use Rattle.std.specs.Prelude.{◌≡◌, ◌≤◌, IfOk, OnOk, Some, string_bytes};
+ghost use Rattle.serde_json.specs.Data.{depth};
+ghost use Rattle.serde_json.specs.Read.{max_depth, read};
+ghost use Rattle.serde_json.specs.View.{view};
+
+use crate::denial::Denial;
+use crate::documents::{history_value, log_value, open_value, status_value, transactions_value};
+use crate::look::Look;
+use crate::metrics::write_metrics;
+use crate::page::{PAGE, POLICY};
+use crate::shown::Shown;
+use bytes::{BufMut, Bytes};
+use http::{HeaderValue, Request, StatusCode, header};
+use http_server::{Response, Service};
+use serde_json::{Value, json};
+use std::alloc::{AllocError, Global};
+
+/// What the body of an answer is.
+#[derive(Clone, Copy, PartialEq, Eq)]
+pub enum Kind {
+    Page,
+    Json,
+    Metrics,
+}
+
+impl Kind {
+    fn media_type(self) -> HeaderValue {
+        match self {
+            Kind::Page => HeaderValue::from_static("text/html; charset=utf-8"),
+            Kind::Json => HeaderValue::from_static("application/json"),
+            Kind::Metrics => HeaderValue::from_static("text/plain; version=0.0.4"),
+        }
+    }
+}
+
+/// What a request is answered.
+#[derive(Drop)]
+pub struct Answer {
+    pub status: StatusCode,
+    pub kind: Kind,
+    pub body: String,
+}
+
+impl Answer {
+    /// That a command was done.
+    ///
+    /// # Errors
+    ///
+    /// `AllocError` where there is no memory for it.
+    pub fn done(alloc: Global) -> Result<Answer, AllocError>
+        ensures { IfOk result (λ answer. answer.status ≡ 200) }
+    {
+        json_answer(alloc, StatusCode::OK, &json!(in alloc; {"ok": true})?)
+    }
+
+    /// Why a command wasn't done: it changed nothing.
+    ///
+    /// # Errors
+    ///
+    /// `AllocError` where there is no memory for it.
+    pub fn refused(alloc: Global, why: &str) -> Result<Answer, AllocError>
+        ensures { IfOk result (λ answer. answer.status ≡ 409) }
+    {
+        json_answer(
+            alloc,
+            StatusCode::CONFLICT,
+            &json!(in alloc; {"error": why})?,
+        )
+    }
+
+    /// Why nothing was asked of the station.
+    ///
+    /// # Errors
+    ///
+    /// `AllocError` where there is no memory for it.
+    pub fn denied(alloc: Global, by: Denial) -> Result<Answer, AllocError> {
+        let why = by.meaning();
+        json_answer(alloc, by.status(), &json!(in alloc; {"error": why})?)
+    }
+
+    /// What is looked at.
+    ///
+    /// # Errors
+    ///
+    /// `AllocError` where there is no memory for it.
+    pub fn shows(alloc: Global, look: &Look, shown: Shown<'_>) -> Result<Answer, AllocError> {
+        let value = match look {
+            Look::Page => return page(alloc),
+            Look::Metrics => return metrics(alloc, shown),
+            Look::Transaction(id) => return transaction(alloc, id.as_slice(), shown),
+            Look::Token => return token(alloc, shown),
+            Look::Status => status_value(alloc, shown)?,
+            Look::History => history_value(alloc, shown.samples)?,
+            Look::Transactions(after) => transactions_value(alloc, shown, *after)?,
+            Look::Log(after) => log_value(alloc, shown, *after)?,
+        };
+        json_answer(alloc, StatusCode::OK, &value)
+    }
+}
+
+/// An answer of JSON.
+fn json_answer(alloc: Global, status: StatusCode, value: &Value) -> Result<Answer, AllocError>
+    ensures status { IfOk result (λ answer. answer.status ≡ status) }
+    ensures reads_back { IfOk result (λ answer. depth (view value.now) ≤ max_depth
+        → read (string_bytes answer.body) ≡ Some (view value.now)) }
+{
+    Ok(Answer {
+        status,
+        kind: Kind::Json,
+        body: value.to_string(alloc)?,
+    })
+}
+
+fn page(alloc: Global) -> Result<Answer, AllocError> {
+    Ok(Answer {
+        status: StatusCode::OK,
+        kind: Kind::Page,
+        body: String::from_str(alloc, PAGE)?,
+    })
+}
+
+fn metrics(alloc: Global, shown: Shown<'_>) -> Result<Answer, AllocError> {
+    let mut body = String::new(alloc);
+    if write_metrics(&mut body, shown.status).is_err() {
+        return Err(AllocError);
+    }
+    Ok(Answer {
+        status: StatusCode::OK,
+        kind: Kind::Metrics,
+        body,
+    })
+}
+
+/// The page's own token.
+fn token(alloc: Global, shown: Shown<'_>) -> Result<Answer, AllocError> {
+    match shown.token {
+        Some(token) => json_answer(alloc, StatusCode::OK, &json!(in alloc; {"token": token})?),
+        None => Answer::denied(alloc, Denial::NotFound),
+    }
+}
+
+/// One transaction that is open.
+fn transaction(alloc: Global, id: &[u8], shown: Shown<'_>) -> Result<Answer, AllocError> {
+    for open in shown.open {
+        if open.id.as_bytes() == id {
+            return json_answer(alloc, StatusCode::OK, &open_value(alloc, open)?);
+        }
+    }
+    Answer::denied(alloc, Denial::NotFound)
+}
+
+/// Gives an answer to a request, and closes the connection behind it.
+#[derive(Drop)]
+pub struct Answering<'a> {
+    pub answer: &'a Answer,
+}
+
+impl Service for Answering<'_> {
+    ghost answers = { λ old request response new. (new ≡ old)
+        × (response.status ≡ old.answer.now.status)
+        × (response.body.items ≡ string_bytes old.answer.now.body) };
+
+    fn call(
+        &mut self,
+        _request: &Request<Bytes>,
+        response: &mut Response,
+    ) -> Result<(), AllocError> {
+        let answer = self.answer;
+        add_fields(response, answer.kind)?;
+        response.status = answer.status;
+        response.body.put_slice(answer.body.as_bytes())
+    }
+}
+
+/// Adds the fields of the head: nothing of an answer is kept, taken for something else, or shown
+/// within another page; and a page has nothing run or loaded but what it has itself.
+fn add_fields(response: &mut Response, kind: Kind) -> Result<(), AllocError>
+    ensures { OnOk result (response.new.body ≡ response.old.body) }
+{
+    response.add_header(header::CONTENT_TYPE, kind.media_type())?;
+    response.add_header(header::CACHE_CONTROL, HeaderValue::from_static("no-store"))?;
+    response.add_header(
+        header::X_CONTENT_TYPE_OPTIONS,
+        HeaderValue::from_static("nosniff"),
+    )?;
+    response.add_header(
+        header::REFERRER_POLICY,
+        HeaderValue::from_static("no-referrer"),
+    )?;
+    response.add_header(
+        header::CONTENT_SECURITY_POLICY,
+        HeaderValue::from_static(POLICY),
+    )?;
+    response.add_header(header::CONNECTION, HeaderValue::from_static("close"))?;
+    Ok(())
+}

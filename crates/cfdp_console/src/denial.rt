@@ -1,0 +1,67 @@
+//! Why a request is denied.
+use http::StatusCode;
+use serde_json::Error;
+use std::alloc::AllocError;
+
+/// Why a request is denied. Nothing was asked of the station then.
+#[derive(Clone, Copy, PartialEq, Eq)]
+pub enum Denial {
+    /// There is nothing at its path.
+    NotFound,
+    /// Its method isn't one of that path.
+    WrongMethod,
+    /// It was sent to a foreign name, or by a page of another site.
+    Foreign,
+    /// It doesn't show the token.
+    NoToken,
+    /// Its body doesn't say what it is to say.
+    BadBody,
+    /// There is no memory for it.
+    NoMemory,
+}
+
+impl Denial {
+    /// The status of HTTP.
+    pub fn status(self) -> StatusCode {
+        match self {
+            Denial::NotFound => StatusCode::NOT_FOUND,
+            Denial::WrongMethod => StatusCode::METHOD_NOT_ALLOWED,
+            Denial::Foreign => StatusCode::FORBIDDEN,
+            Denial::NoToken => StatusCode::UNAUTHORIZED,
+            Denial::BadBody => StatusCode::BAD_REQUEST,
+            Denial::NoMemory => StatusCode::SERVICE_UNAVAILABLE,
+        }
+    }
+
+    /// What it says, in one line.
+    pub fn meaning(self) -> &'static str {
+        match self {
+            Denial::NotFound => "there is nothing at this path",
+            Denial::WrongMethod => "this path takes another method",
+            Denial::Foreign =>
+                "it was sent to a foreign name or by a page of another site; use the address in \
+                 digits, or localhost",
+            Denial::NoToken => "it shows no token, or another: Authorization: Bearer TOKEN",
+            Denial::BadBody =>
+                "the body is to be JSON with source, and destination and first where they are \
+                 wanted; names are words without a space",
+            Denial::NoMemory => "out of memory",
+        }
+    }
+}
+
+impl From<AllocError> for Denial {
+    fn from(_error: AllocError) -> Denial {
+        Denial::NoMemory
+    }
+}
+
+impl From<Error> for Denial {
+    fn from(error: Error) -> Denial {
+        if error.is_memory() {
+            Denial::NoMemory
+        } else {
+            Denial::BadBody
+        }
+    }
+}

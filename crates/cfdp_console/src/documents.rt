@@ -1,0 +1,275 @@
+//! What a station shows of itself, as JSON (RFC 8259).
+ghost use Rattle.std.specs.Prelude.{◌≡◌, IfOk};
+ghost use Rattle.serde_json.specs.View.{view};
+ghost use Rattle.cfdp_console.specs.Shown.{counters_data, dropped_data, link_data};
+ghost use Rattle.cfdp_console.specs.Shown.{number_or_null, open_data, text_or_null, way_text};
+
+use crate::ledger::{Closed, Way};
+use crate::log_lines::LogLine;
+use crate::samples::Samples;
+use crate::shown::{Counters, Dropped, LinkStatus, Open, Shown, Status};
+use serde_json::{Value, json};
+use std::alloc::{AllocError, Global};
+
+/// A number, or null where it isn't known.
+fn number(value: Option<u64>) -> Value
+    ensures { view result ≡ number_or_null value }
+{
+    match value {
+        Some(number) => Value::from(number),
+        None => Value::Null,
+    }
+}
+
+/// A text, or null where it isn't known.
+fn text(alloc: Global, value: &Option<String>) -> Result<Value, AllocError>
+    ensures { IfOk result (λ it. view it ≡ text_or_null value.now) }
+{
+    match value {
+        Some(text) => Ok(Value::String(String::from_str(alloc, text.as_str())?)),
+        None => Ok(Value::Null),
+    }
+}
+
+/// The word for which way a file goes.
+pub fn way_word(way: Way) -> &'static str
+    ensures { result.now ≡ way_text way }
+{
+    match way {
+        Way::Sends => "sends",
+        Way::Receives => "receives",
+    }
+}
+
+/// The object of an open transaction.
+///
+/// # Errors
+///
+/// `AllocError` where there is no memory for it.
+pub fn open_value(alloc: Global, it: &Open) -> Result<Value, AllocError>
+    ensures { IfOk result (λ value. view value ≡ open_data it.now) }
+{
+    let (source, destination) = (text(alloc, &it.source)?, text(alloc, &it.destination)?);
+    let (size, octets) = (number(it.size), number(it.octets));
+    json!(in alloc; {
+        "destination": destination,
+        "id": it.id.as_str(),
+        "octets": octets,
+        "phase": it.phase,
+        "size": size,
+        "source": source,
+        "suspended": it.is_suspended,
+        "waits_for": it.waits_for,
+        "way": way_word(it.way),
+    })
+}
+
+/// The object of a link.
+///
+/// # Errors
+///
+/// `AllocError` where there is no memory for it.
+pub fn link_value(alloc: Global, link: &LinkStatus) -> Result<Value, AllocError>
+    ensures { IfOk result (λ it. view it ≡ link_data link.now) }
+{
+    let silent = number(link.silent);
+    let state = if link.is_frozen { "frozen" } else { "up" };
+    json!(in alloc; {
+        "carrier": link.carrier,
+        "missing": link.frames.missing,
+        "received": link.frames.received,
+        "sent": link.frames.sent,
+        "silent": silent,
+        "state": state,
+        "thrown_away": link.thrown_away,
+        "to": link.to.as_str(),
+    })
+}
+
+/// The object of what a station counted.
+///
+/// # Errors
+///
+/// `AllocError` where there is no memory for it.
+pub fn counters_value(alloc: Global, counters: &Counters) -> Result<Value, AllocError>
+    ensures { IfOk result (λ it. view it ≡ counters_data counters.now) }
+{
+    json!(in alloc; {
+        "file_data_sent": counters.file_data_sent,
+        "file_data_sent_again": counters.file_data_sent_again,
+        "files_failed": counters.files_failed,
+        "files_received": counters.files_received,
+        "files_sent": counters.files_sent,
+        "naks_sent": counters.naks_sent,
+        "octets_received": counters.octets_received,
+        "octets_sent": counters.octets_sent,
+        "pdus_sent": counters.pdus_sent,
+        "puts_made": counters.puts_made,
+        "puts_refused": counters.puts_refused,
+    })
+}
+
+/// The object of a cause by which something was dropped.
+///
+/// # Errors
+///
+/// `AllocError` where there is no memory for it.
+pub fn dropped_value(alloc: Global, dropped: &Dropped) -> Result<Value, AllocError>
+    ensures { IfOk result (λ it. view it ≡ dropped_data dropped.now) }
+{
+    json!(in alloc; {
+        "cause": dropped.cause,
+        "count": dropped.count,
+        "layer": dropped.layer,
+        "number": dropped.number,
+    })
+}
+
+/// The object of a transaction that is over.
+///
+/// # Errors
+///
+/// `AllocError` where there is no memory for it.
+pub fn closed_value(alloc: Global, closed: &Closed) -> Result<Value, AllocError> {
+    let known = &closed.known;
+    let (source, destination) = match &known.names {
+        Some(names) => (
+            Some(names.source.as_str()),
+            Some(names.destination.as_str()),
+        ),
+        None => (None, None),
+    };
+    let (source, destination) = (str_value(alloc, source)?, str_value(alloc, destination)?);
+    let size = number(known.size);
+    let id = format!(in alloc; "{}:{}", closed.id.source, closed.id.number)?;
+    json!(in alloc; {
+        "complete": closed.is_complete,
+        "destination": destination,
+        "id": id.as_str(),
+        "number": closed.number,
+        "size": size,
+        "source": source,
+        "time": closed.time,
+        "way": way_word(known.way),
+        "why": closed.why,
+    })
+}
+
+/// A text, or null where it isn't known.
+fn str_value(alloc: Global, value: Option<&str>) -> Result<Value, AllocError> {
+    match value {
+        Some(text) => Ok(Value::String(String::from_str(alloc, text)?)),
+        None => Ok(Value::Null),
+    }
+}
+
+/// The object of `/status`.
+///
+/// # Errors
+///
+/// `AllocError` where there is no memory for it.
+pub fn status_value(alloc: Global, shown: Shown<'_>) -> Result<Value, AllocError> {
+    let status = shown.status;
+    let (link, counters) = (
+        link_value(alloc, &status.link)?,
+        counters_of(alloc, status)?,
+    );
+    let dropped = dropped_values(alloc, status.dropped.as_slice())?;
+    let timeout = number(status.timeout);
+    let (closed, lines) = (shown.ledger.closings(), shown.log.count());
+    json!(in alloc; {
+        "closed": closed,
+        "counters": counters,
+        "dropped": dropped,
+        "lines": lines,
+        "link": link,
+        "open": status.open,
+        "peer": status.peer,
+        "seconds": status.seconds,
+        "station": status.station,
+        "time": status.time,
+        "timeout": timeout,
+        "waiting": status.waiting,
+    })
+}
+
+fn counters_of(alloc: Global, status: &Status) -> Result<Value, AllocError> {
+    counters_value(alloc, &status.counters)
+}
+
+/// The array of the causes by which something was dropped.
+fn dropped_values(alloc: Global, dropped: &[Dropped]) -> Result<Value, AllocError> {
+    let mut values = Vec::new(alloc);
+    for it in dropped {
+        values.push(dropped_value(alloc, it)?)?;
+    }
+    Ok(Value::Array(values))
+}
+
+/// The object of `/transactions`: all that are open, and those that were closed behind this number.
+///
+/// # Errors
+///
+/// `AllocError` where there is no memory for it.
+pub fn transactions_value(
+    alloc: Global,
+    shown: Shown<'_>,
+    after: u64,
+) -> Result<Value, AllocError> {
+    let mut open = Vec::new(alloc);
+    for it in shown.open {
+        open.push(open_value(alloc, it)?)?;
+    }
+    let mut closed = Vec::new(alloc);
+    for it in shown.ledger.closed().iter() {
+        if it.number > after {
+            closed.push(closed_value(alloc, it)?)?;
+        }
+    }
+    let (open, closed) = (Value::Array(open), Value::Array(closed));
+    json!(in alloc; {"closed": closed, "open": open})
+}
+
+/// The object of `/log`: the lines behind this number.
+///
+/// # Errors
+///
+/// `AllocError` where there is no memory for it.
+pub fn log_value(alloc: Global, shown: Shown<'_>, after: u64) -> Result<Value, AllocError> {
+    let mut lines = Vec::new(alloc);
+    for line in shown.log.lines().iter() {
+        if line.number > after {
+            lines.push(line_value(alloc, line)?)?;
+        }
+    }
+    let lines = Value::Array(lines);
+    json!(in alloc; {"lines": lines})
+}
+
+/// The object of a line.
+fn line_value(alloc: Global, line: &LogLine) -> Result<Value, AllocError> {
+    json!(in alloc; {"number": line.number, "text": line.text.as_str()})
+}
+
+/// The object of `/history`: what passed in each second, up to the one whose number it tells.
+///
+/// # Errors
+///
+/// `AllocError` where there is no memory for it.
+pub fn history_value(alloc: Global, samples: &Samples) -> Result<Value, AllocError> {
+    let mut sent = Vec::new(alloc);
+    let mut received = Vec::new(alloc);
+    let mut lost = Vec::new(alloc);
+    for it in samples.each().iter() {
+        sent.push(Value::from(it.sent))?;
+        received.push(Value::from(it.received))?;
+        lost.push(Value::from(it.missing))?;
+    }
+    let (sent, received, lost) = (
+        Value::Array(sent),
+        Value::Array(received),
+        Value::Array(lost),
+    );
+    let seconds = samples.second();
+    json!(in alloc; {"lost": lost, "received": received, "seconds": seconds, "sent": sent})
+}

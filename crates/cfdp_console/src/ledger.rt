@@ -1,0 +1,220 @@
+//! What is known of the transactions of a station: those that are open, and the last that were
+//! closed.
+use cfdp_header::TransactionId;
+use indexmap::IndexMap;
+use std::alloc::{AllocError, Global};
+use std::collections::VecDeque;
+
+/// So many closed transactions are kept.
+pub const MOST_CLOSED: usize = 200;
+
+/// While more transactions are open, it isn't followed how far each file is read.
+const MOST_FOLLOWED: usize = 64;
+
+/// Which way a file goes.
+#[derive(Clone, Copy, PartialEq, Eq)]
+pub enum Way {
+    /// From this station to its peer.
+    Sends,
+    /// From the peer to this station.
+    Receives,
+}
+
+/// The names of a file, as a report prints them.
+#[derive(Drop)]
+pub struct Names {
+    /// At its sender.
+    pub source: String,
+    /// At its receiver.
+    pub destination: String,
+}
+
+impl Names {
+    /// The same in memory of its own.
+    ///
+    /// # Errors
+    ///
+    /// `AllocError` where there is none.
+    pub fn copy(&self, alloc: Global) -> Result<Names, AllocError> {
+        Ok(Names {
+            source: String::from_str(alloc, self.source.as_str())?,
+            destination: String::from_str(alloc, self.destination.as_str())?,
+        })
+    }
+}
+
+/// What is known of a transaction that isn't over.
+#[derive(Drop)]
+pub struct Known {
+    pub way: Way,
+    /// `None` until its Metadata came.
+    pub names: Option<Names>,
+    /// Octets of the file.
+    pub size: Option<u64>,
+    /// How many octets were read to be sent, or were written, up to the highest of them.
+    pub octets: Option<u64>,
+    pub is_suspended: bool,
+    /// Whether its EOF was sent or came.
+    pub has_eof: bool,
+}
+
+/// A transaction that is over.
+#[derive(Drop)]
+pub struct Closed {
+    /// The first one since the start is 1.
+    pub number: u64,
+    pub id: TransactionId,
+    pub known: Known,
+    /// Whether the file lies at its receiver.
+    pub is_complete: bool,
+    /// What its condition says.
+    pub why: &'static str,
+    /// When it was over, in milliseconds since 1970; 0 where the clock couldn't be read.
+    pub time: u64,
+}
+
+/// What is known of the transactions of a station. Where there is no memory, less is known.
+#[derive(Drop)]
+pub struct Ledger {
+    alloc: Global,
+    own: u64,
+    open: IndexMap<TransactionId, Known>,
+    closed: VecDeque<Closed>,
+    closings: u64,
+}
+
+impl Ledger {
+    /// Before the first transaction of the entity `own`.
+    pub fn new(alloc: Global, own: u64) -> Ledger {
+        Ledger {
+            alloc,
+            own,
+            open: IndexMap::new(alloc),
+            closed: VecDeque::new(alloc),
+            closings: 0,
+        }
+    }
+
+    /// What is known of a transaction, also where it is one of the last that were closed.
+    pub fn get(&self, id: TransactionId) -> Option<&Known> {
+        match self.open.get(&id) {
+            Some(known) => Some(known),
+            None => Some(&self.closed_one(id)?.known),
+        }
+    }
+
+    /// One of the last transactions that were closed.
+    pub fn closed_one(&self, id: TransactionId) -> Option<&Closed> {
+        self.closed.iter().find(|closed| closed.id == id)
+    }
+
+    /// The last transactions that were closed, the first one first.
+    pub fn closed(&self) -> &VecDeque<Closed> {
+        &self.closed
+    }
+
+    /// The number of the one that was closed last; 0 where none was.
+    pub fn closings(&self) -> u64 {
+        self.closings
+    }
+
+    /// Notes that a transaction began, of a file of these names, and of so many octets where that
+    /// is known.
+    pub fn begins(&mut self, id: TransactionId, names: Option<Names>, size: Option<u64>) {
+        if let Some(known) = self.known_mut(id) {
+            known.names = names;
+            known.size = size;
+        }
+    }
+
+    /// Notes that the file was read or written up to this offset.
+    pub fn moves(&mut self, id: TransactionId, offset: u64) {
+        if let Some(known) = self.known_mut(id) {
+            known.octets = Some(known.octets.unwrap_or(0).max(offset));
+        }
+    }
+
+    /// Notes that a file of this name was read, up to this offset, to be sent. Where more than 64
+    /// transactions are open, that isn't looked for.
+    pub fn reads(&mut self, source: &[u8], offset: u64) {
+        if self.open.len() > MOST_FOLLOWED {
+            return;
+        }
+        for known in self.open.values_mut() {
+            if is_sent_from(known, source) {
+                known.octets = Some(known.octets.unwrap_or(0).max(offset));
+            }
+        }
+    }
+
+    /// Notes that the EOF was sent or came.
+    pub fn notes_eof(&mut self, id: TransactionId) {
+        if let Some(known) = self.known_mut(id) {
+            known.has_eof = true;
+        }
+    }
+
+    /// Notes whether the transaction is suspended.
+    pub fn suspends(&mut self, id: TransactionId, is_suspended: bool) {
+        if let Some(known) = self.known_mut(id) {
+            known.is_suspended = is_suspended;
+        }
+    }
+
+    /// Notes that the transaction is over.
+    pub fn ends(&mut self, id: TransactionId, is_complete: bool, why: &'static str, time: u64) {
+        if self.closed_one(id).is_some() && !self.open.contains_key(&id) {
+            return;
+        }
+        let known = match self.open.shift_remove(&id) {
+            Some(known) => known,
+            None => nothing(self.own, id),
+        };
+        self.closings = self.closings.saturating_add(1);
+        if self.closed.len() >= MOST_CLOSED {
+            let _ = self.closed.pop_front();
+        }
+        let _ = self.closed.push_back(Closed {
+            number: self.closings,
+            id,
+            known,
+            is_complete,
+            why,
+            time,
+        });
+    }
+
+    /// What is known of a transaction, which is nothing where it is new; `None` where there is no
+    /// memory for it.
+    fn known_mut(&mut self, id: TransactionId) -> Option<&mut Known> {
+        let own = self.own;
+        match self.open.entry(id) {
+            Ok(entry) => Some(entry.or_insert(nothing(own, id))),
+            Err(_) => None,
+        }
+    }
+}
+
+/// Nothing is known of this transaction, but which way its file goes.
+fn nothing(own: u64, id: TransactionId) -> Known {
+    Known {
+        way: if id.source == own {
+            Way::Sends
+        } else {
+            Way::Receives
+        },
+        names: None,
+        size: None,
+        octets: None,
+        is_suspended: false,
+        has_eof: false,
+    }
+}
+
+/// Whether a file of this name is sent in a transaction.
+fn is_sent_from(known: &Known, source: &[u8]) -> bool {
+    match &known.names {
+        Some(names) => known.way == Way::Sends && names.source.as_bytes() == source,
+        None => false,
+    }
+}

@@ -1,0 +1,37 @@
+//! The console of a station: what a browser asks of it, and what it is shown.
+//!
+//! A [`Caller`] is one connection, as steps over octets. It gives what its request asks, an
+//! [`Ask`], if its sender may ask that by the [`Guard`]: to be shown something, or a command, in a
+//! line as the control address of a station takes it. The program does it, and gives an
+//! [`Answer`].
+//!
+//! No program uses it yet, and nothing tests it.
+#![tactic(auto)]
+
+mod answer;
+mod asking;
+mod caller;
+mod deed;
+mod denial;
+mod documents;
+mod guard;
+mod ledger;
+mod log_lines;
+mod look;
+mod metrics;
+mod octets;
+mod page;
+mod samples;
+mod shown;
+
+pub use answer::{Answer, Kind};
+pub use asking::{Ask, judge};
+pub use caller::Caller;
+pub use denial::Denial;
+pub use guard::Guard;
+pub use ledger::{Closed, Known, Ledger, Names, Way};
+pub use log_lines::{LogLine, LogLines};
+pub use look::Look;
+pub use page::PAGE;
+pub use samples::{FrameCounts, Samples};
+pub use shown::{Counters, Dropped, LinkStatus, Open, Shown, Status};

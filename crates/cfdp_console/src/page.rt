@@ -1,0 +1,611 @@
+//! The page of the console: everything in it, so that it works without a network.
+
+/// What the page may do, as `Content-Security-Policy`: its own style and script run, by their
+/// checksums (SHA-256 of what stands between their tags), and it asks nobody but the console.
+pub const POLICY: &str = "default-src 'none'; connect-src 'self'; img-src data:; \
+    style-src 'sha256-dCZun2PjeXbzz5zZhlfkNUDNf9TcQwHaqJk9NifswJg='; \
+    script-src 'sha256-+N77p9McmWzcwxf5dTEyTId5FQTEewacYdq5NAKNcxE='; \
+    base-uri 'none'; form-action 'none'; frame-ancestors 'none'";
+
+/// The page, in HTML.
+pub const PAGE: &str = r##"<!doctype html>
+<html lang="en">
+<head>
+<meta charset="utf-8">
+<meta name="viewport" content="width=device-width, initial-scale=1">
+<meta name="color-scheme" content="light dark">
+<title>Station</title>
+<link rel="icon" href="data:,">
+<style>
+:root {
+  color-scheme: light dark;
+  --back: #f3f5f8; --card: #ffffff; --line: #d5dbe4; --text: #16202c; --dim: #52606f;
+  --blue: #1558b0; --green: #12703a; --amber: #8a5300; --red: #b3261e; --track: #e3e8ef;
+  --on: #ffffff; --sent: #1558b0; --came: #12703a; --lost: #b3261e;
+}
+@media (prefers-color-scheme: dark) {
+  :root:not([data-form="light"]) {
+    --back: #0d131b; --card: #151e29; --line: #2a3746; --text: #e6edf5; --dim: #9fb0c2;
+    --blue: #7cb5ff; --green: #6fd394; --amber: #f2b65a; --red: #ff8e86; --track: #253242;
+    --on: #08111c; --sent: #7cb5ff; --came: #6fd394; --lost: #ff8e86;
+  }
+}
+:root[data-form="dark"] {
+  color-scheme: dark;
+  --back: #0d131b; --card: #151e29; --line: #2a3746; --text: #e6edf5; --dim: #9fb0c2;
+  --blue: #7cb5ff; --green: #6fd394; --amber: #f2b65a; --red: #ff8e86; --track: #253242;
+  --on: #08111c; --sent: #7cb5ff; --came: #6fd394; --lost: #ff8e86;
+}
+:root[data-form="light"] { color-scheme: light; }
+* { box-sizing: border-box; }
+html { -webkit-text-size-adjust: 100%; }
+body {
+  margin: 0; background: var(--back); color: var(--text);
+  font: 15px/1.45 system-ui, -apple-system, "Segoe UI", Roboto, "Noto Sans", sans-serif;
+}
+h1, h2, p, ul, ol, dl, dd, figure { margin: 0; padding: 0; }
+ul, ol { list-style: none; }
+h1 { font-size: 1.15rem; font-weight: 650; letter-spacing: -0.01em; }
+h2 { font-size: 0.95rem; font-weight: 650; }
+a.skip { position: absolute; left: -999px; }
+a.skip:focus { left: 1rem; top: 0.5rem; z-index: 9; background: var(--card);
+  padding: 0.4rem 0.8rem; }
+:focus-visible { outline: 3px solid var(--blue); outline-offset: 2px; border-radius: 6px; }
+header {
+  position: sticky; top: 0; z-index: 2; display: flex; flex-wrap: wrap; gap: 0.6rem 1rem;
+  align-items: center; padding: 0.7rem 1.1rem; background: var(--card);
+  border-bottom: 1px solid var(--line);
+}
+header .fill { flex: 1; }
+main {
+  display: grid; gap: 1rem; padding: 1rem 1.1rem 2rem; max-width: 84rem; margin: 0 auto;
+  grid-template-columns: minmax(0, 1.7fr) minmax(17rem, 1fr);
+}
+main > section { min-width: 0; }
+.wide { grid-column: 1 / -1; }
+section { background: var(--card); border: 1px solid var(--line); border-radius: 10px; }
+section > .head {
+  display: flex; flex-wrap: wrap; gap: 0.4rem 0.8rem; align-items: baseline;
+  padding: 0.75rem 1rem 0.4rem;
+}
+section > .head .dim { margin-left: auto; }
+.dim { color: var(--dim); }
+.num { font-variant-numeric: tabular-nums; }
+.pill {
+  display: inline-flex; align-items: center; gap: 0.45rem; font-weight: 600; font-size: 0.86rem;
+  border: 1px solid currentColor; border-radius: 99px; padding: 0.1rem 0.7rem 0.1rem 0.55rem;
+}
+.pill::before { content: ""; width: 0.6rem; height: 0.6rem; border-radius: 50%;
+  background: currentColor; }
+.is-up { color: var(--green); } .is-frozen { color: var(--blue); }
+.is-silent { color: var(--amber); } .is-gone { color: var(--red); }
+button, input { font: inherit; color: inherit; }
+button {
+  background: var(--card); border: 1px solid var(--line); border-radius: 7px; cursor: pointer;
+  min-height: 2.1rem; padding: 0.2rem 0.8rem;
+}
+button:hover { border-color: var(--blue); }
+button:disabled { opacity: 0.55; cursor: default; }
+button.main { background: var(--blue); border-color: var(--blue); color: var(--on);
+  font-weight: 600; }
+button.small { min-height: 1.9rem; padding: 0 0.6rem; font-size: 0.86rem; }
+button.harm { color: var(--red); }
+input[type="text"], input[type="password"], input[type="search"] {
+  background: var(--back); border: 1px solid var(--dim); border-radius: 7px;
+  min-height: 2.1rem; padding: 0.2rem 0.6rem; width: 100%; min-width: 0;
+}
+.figures { display: grid; grid-template-columns: repeat(4, minmax(0, 1fr)); gap: 1px;
+  background: var(--line); border-top: 1px solid var(--line); border-radius: 0 0 10px 10px;
+  overflow: hidden; }
+.figures > div { background: var(--card); padding: 0.55rem 1rem 0.65rem; }
+.figures dt { color: var(--dim); font-size: 0.82rem; }
+.figures dd { font-size: 1.3rem; font-weight: 600; font-variant-numeric: tabular-nums; }
+.figures dd.bad { color: var(--red); }
+figure { padding: 0 1rem 0.6rem; }
+canvas { display: block; width: 100%; height: 11.5rem; }
+figcaption { display: flex; flex-wrap: wrap; gap: 0.2rem 1.1rem; font-size: 0.86rem;
+  padding-top: 0.3rem; }
+.key::before { content: ""; display: inline-block; width: 1rem; height: 0; vertical-align: 0.28em;
+  margin-right: 0.4rem; border-top: 3px solid currentColor; }
+.key.sent { color: var(--sent); } .key.came { color: var(--came); }
+.key.lost { color: var(--lost); } .key.lost::before { border-top-style: dashed; }
+form.put { display: grid; gap: 0.55rem; padding: 0.2rem 1rem 1rem; }
+form.put label.line { display: grid; gap: 0.15rem; font-size: 0.86rem; color: var(--dim); }
+form.put .row { display: flex; flex-wrap: wrap; gap: 0.6rem; align-items: center; }
+form.put .row .main { margin-left: auto; }
+.rows { border-top: 1px solid var(--line); }
+.rows > li { padding: 0.6rem 1rem; border-bottom: 1px solid var(--line); }
+.rows > li:last-child { border-bottom: 0; }
+.top { display: flex; flex-wrap: wrap; gap: 0.15rem 0.8rem; align-items: baseline; }
+.name { font-weight: 600; overflow-wrap: anywhere; }
+.bar { display: flex; gap: 0.7rem; align-items: center; margin-top: 0.3rem; }
+progress { flex: 1; appearance: none; height: 0.6rem; border: 0; border-radius: 99px;
+  background: var(--track); overflow: hidden; min-width: 4rem; }
+progress::-webkit-progress-bar { background: var(--track); border-radius: 99px; }
+progress::-webkit-progress-value { background: var(--blue); border-radius: 99px;
+  transition: width 0.6s linear; }
+progress::-moz-progress-bar { background: var(--blue); }
+li.receives progress::-webkit-progress-value { background: var(--green); }
+li.receives progress::-moz-progress-bar { background: var(--green); }
+li.suspended progress::-webkit-progress-value { background: var(--amber); }
+li.suspended progress::-moz-progress-bar { background: var(--amber); }
+.share { min-width: 3.4rem; text-align: right; }
+.size { min-width: 14rem; text-align: right; }
+.acts { display: flex; gap: 0.4rem; margin-left: auto; }
+.none { padding: 0.7rem 1rem 1rem; color: var(--dim); }
+.scroll { max-height: 24rem; overflow: auto; border-top: 1px solid var(--line); }
+table { width: 100%; border-collapse: collapse; font-size: 0.9rem; }
+th, td { text-align: left; padding: 0.32rem 1rem; border-bottom: 1px solid var(--line);
+  vertical-align: top; }
+th { position: sticky; top: 0; background: var(--card); color: var(--dim); font-weight: 600;
+  font-size: 0.82rem; }
+td.num, th.num { text-align: right; white-space: nowrap; }
+tr:last-child td { border-bottom: 0; }
+td.file { overflow-wrap: anywhere; min-width: 8rem; }
+td.time { white-space: nowrap; font-variant-numeric: tabular-nums; }
+.good { color: var(--green); font-weight: 600; } .bad { color: var(--red); font-weight: 600; }
+#lines { font: 12.5px/1.5 ui-monospace, "SF Mono", Menlo, Consolas, "DejaVu Sans Mono", monospace;
+  padding: 0.5rem 1rem; }
+#lines li { white-space: pre-wrap; overflow-wrap: anywhere; }
+#lines li.bad { color: var(--red); font-weight: 400; }
+.tools { display: flex; gap: 0.6rem; align-items: center; margin-left: auto; white-space: nowrap; }
+.tools input { max-width: 14rem; }
+#said { position: fixed; left: 50%; bottom: 1rem; transform: translateX(-50%); z-index: 3;
+  max-width: min(40rem, 92vw); background: var(--text); color: var(--back); border-radius: 8px;
+  padding: 0.5rem 1rem; box-shadow: 0 4px 18px #0006; }
+#said:empty { display: none; }
+#ask { display: none; padding: 0.8rem 1rem 1rem; }
+#ask.shown { display: grid; gap: 0.6rem; max-width: 30rem; }
+@media (max-width: 52rem) {
+  main { grid-template-columns: minmax(0, 1fr); padding: 0.7rem 0.7rem 2rem; gap: 0.7rem; }
+  header { padding: 0.6rem 0.8rem; }
+  th, td { padding: 0.32rem 0.7rem; }
+  .acts { margin-left: 0; width: 100%; }
+  .acts button { flex: 1; min-height: 2.4rem; }
+  td.why, th.why, td.many, th.many { display: none; }
+  .figures { grid-template-columns: repeat(2, minmax(0, 1fr)); }
+  .bar { flex-wrap: wrap; gap: 0.15rem 0.7rem; }
+  progress { flex: 1 0 100%; }
+  .size { flex: 1; }
+  .share { min-width: 0; }
+}
+@media (prefers-reduced-motion: reduce) { progress::-webkit-progress-value { transition: none; } }
+</style>
+</head>
+<body>
+<a class="skip" href="#work">To the transactions</a>
+<header>
+  <h1 id="title">Station</h1>
+  <span id="state" class="pill is-gone" role="status">not reached yet</span>
+  <span id="heard" class="dim"></span>
+  <span class="fill"></span>
+  <span id="clock" class="dim num"></span>
+  <button id="freeze" type="button" title="Key: f">Freeze the link</button>
+  <button id="form" type="button" aria-label="Light or dark" title="Key: d">&#9680;</button>
+</header>
+<main>
+  <section class="wide" id="ask" aria-labelledby="ask-title">
+    <h2 id="ask-title">This console wants a token</h2>
+    <form id="ask-form" class="row">
+      <label>Token
+        <input id="token" type="password" autocomplete="current-password"></label>
+      <button class="main">Go on</button>
+    </form>
+  </section>
+  <section aria-labelledby="link-title">
+    <div class="head"><h2 id="link-title">Link</h2><span id="route" class="dim"></span></div>
+    <figure>
+      <canvas id="plot" role="img" aria-label="Frames a second in the last ten minutes"></canvas>
+      <figcaption>
+        <span class="key sent">sent a second</span><span class="key came">received a second</span>
+        <span class="key lost">lost a second</span><span class="dim">ten minutes</span>
+      </figcaption>
+    </figure>
+    <dl class="figures">
+      <div><dt>sent</dt><dd id="f-sent">-</dd></div>
+      <div><dt>received</dt><dd id="f-came">-</dd></div>
+      <div><dt>lost on the way</dt><dd id="f-lost">-</dd></div>
+      <div><dt>dropped here</dt><dd id="f-dropped">-</dd></div>
+      <div><dt>PDUs sent again</dt><dd id="f-again">-</dd></div>
+      <div><dt>files sent</dt><dd id="f-files-sent">-</dd></div>
+      <div><dt>files received</dt><dd id="f-files-came">-</dd></div>
+      <div><dt>files failed</dt><dd id="f-failed">-</dd></div>
+    </dl>
+  </section>
+  <section aria-labelledby="put-title">
+    <div class="head"><h2 id="put-title">Send a file</h2></div>
+    <form id="put" class="put">
+      <label class="line">Name in the outbox
+        <input id="source" type="text" required autocapitalize="off" autocomplete="off"
+          spellcheck="false" title="Key: p"></label>
+      <label class="line">Name at the peer, where it is to be another
+        <input id="destination" type="text" autocapitalize="off" autocomplete="off"
+          spellcheck="false"></label>
+      <div class="row">
+        <label><input id="first" type="checkbox"> ahead of all that wait</label>
+        <button class="main">Put</button>
+      </div>
+    </form>
+    <div class="head"><h2>Dropped, by cause</h2></div>
+    <p id="no-drops" class="none">Nothing was dropped.</p>
+    <table id="drops" hidden>
+      <thead><tr><th scope="col">Cause</th><th scope="col" class="num">How often</th></tr></thead>
+      <tbody></tbody>
+    </table>
+  </section>
+  <section class="wide" id="work" tabindex="-1" aria-labelledby="open-title">
+    <div class="head"><h2 id="open-title">Open transactions</h2>
+      <span id="open-count" class="dim"></span></div>
+    <p id="no-open" class="none">None is open.</p>
+    <ul id="open" class="rows" hidden></ul>
+  </section>
+  <section class="wide" aria-labelledby="closed-title">
+    <div class="head"><h2 id="closed-title">Closed transactions</h2>
+      <span class="dim">the last 200</span></div>
+    <p id="no-closed" class="none">None was closed yet.</p>
+    <div class="scroll" tabindex="0" role="region" aria-labelledby="closed-title"
+      id="closed-box" hidden>
+      <table>
+        <thead><tr><th scope="col">Time</th><th scope="col">Id</th><th scope="col">File</th>
+          <th scope="col" class="num many">Octets</th><th scope="col">Outcome</th>
+          <th scope="col" class="why">Why</th></tr></thead>
+        <tbody id="closed"></tbody>
+      </table>
+    </div>
+  </section>
+  <section class="wide" aria-labelledby="log-title">
+    <div class="head"><h2 id="log-title">Log</h2>
+      <span class="tools"><label for="filter" class="dim">shows lines with</label>
+        <input id="filter" type="search" title="Key: /"></span></div>
+    <div class="scroll" tabindex="0" role="region" aria-labelledby="log-title" id="log-box">
+      <ol id="lines"></ol>
+    </div>
+  </section>
+</main>
+<p id="said" role="alert"></p>
+<script>
+"use strict";
+// Names and lines of the log come from outside: they are put in as text, and never as markup.
+const at = (id) => document.getElementById(id);
+const SPAN = 600, CLOSED = 200, LINES = 1000;
+let token = null, status = null, before = null, samples = [], shownClosed = 0, shownLine = 0;
+let isAsking = false, drawn = 0, quiet = 0;
+
+function made(tag, text, className) {
+  const it = document.createElement(tag);
+  if (text !== undefined) it.textContent = text;
+  if (className) it.className = className;
+  return it;
+}
+function writes(it, text) { if (it.textContent !== text) it.textContent = text; }
+function grouped(number) {
+  return number === null || number === undefined ? "-" : number.toLocaleString("en-US");
+}
+function says(text) {
+  writes(at("said"), text);
+  clearTimeout(quiet);
+  if (text) quiet = setTimeout(() => writes(at("said"), ""), 6000);
+}
+function clock(time) { return time ? new Date(time).toISOString().slice(11, 19) : "-"; }
+
+async function asks(path, method, body) {
+  const headers = {};
+  if (token) headers.authorization = "Bearer " + token;
+  if (body) headers["content-type"] = "application/json";
+  const answer = await fetch(path, { method: method || "GET", headers, cache: "no-store",
+    body: body && JSON.stringify(body), signal: AbortSignal.timeout(8000) });
+  if (answer.status === 401) shows_token(true);
+  return answer;
+}
+async function does(path, what, body) {
+  try {
+    const answer = await asks(path, "POST", body);
+    if (answer.ok) { says(what); return true; }
+    const why = await answer.json().catch(() => ({}));
+    says("Not done: " + (why.error || "status " + answer.status));
+  } catch (error) { says("The station doesn't answer: " + error.message); }
+  return false;
+}
+function shows_token(is_asked) {
+  if (is_asked === isAsking) return;
+  isAsking = is_asked;
+  at("ask").classList.toggle("shown", is_asked);
+  if (is_asked) at("token").focus();
+}
+
+// ---- the link
+function shows_status() {
+  const link = status.link;
+  document.title = "Station " + status.station;
+  writes(at("title"), "Station " + status.station + " \u2192 peer " + status.peer);
+  const is_silent = link.silent !== null && link.silent >= 10;
+  const state = link.state === "frozen" ? "frozen" : is_silent ? "silent" : "up";
+  at("state").className = "pill is-" + state;
+  writes(at("state"), state === "frozen" ? "frozen by plan" : state === "silent"
+    ? "nothing is heard" : "link up");
+  writes(at("heard"), link.silent === null ? "" : "heard " + link.silent + " s ago");
+  writes(at("clock"), clock(status.time) + " UTC");
+  writes(at("route"), link.carrier + " to " + link.to);
+  writes(at("freeze"), state === "frozen" ? "Thaw the link" : "Freeze the link");
+  const counters = status.counters;
+  const figures = { "f-sent": link.sent, "f-came": link.received, "f-lost": link.missing,
+    "f-again": counters.file_data_sent_again, "f-files-sent": counters.files_sent,
+    "f-files-came": counters.files_received, "f-failed": counters.files_failed };
+  for (const [id, number] of Object.entries(figures)) writes(at(id), grouped(number));
+  let dropped = 0;
+  for (const it of status.dropped) dropped += it.count;
+  writes(at("f-dropped"), grouped(dropped));
+  at("f-lost").className = link.missing ? "bad" : "";
+  at("f-failed").className = counters.files_failed ? "bad" : "";
+  shows_drops();
+}
+function shows_drops() {
+  const body = at("drops").tBodies[0], all = status.dropped;
+  at("drops").hidden = all.length === 0;
+  at("no-drops").hidden = all.length > 0;
+  while (body.rows.length > all.length) body.deleteRow(-1);
+  all.forEach((it, place) => {
+    let row = body.rows[place];
+    if (!row) {
+      row = body.insertRow();
+      row.append(made("td", "", "file"), made("td", "", "num"));
+    }
+    writes(row.cells[0], it.layer + " " + it.number + " " + it.cause);
+    writes(row.cells[1], grouped(it.count));
+  });
+}
+function notes_sample() {
+  const link = status.link, now = status.seconds;
+  if (before && now > before.seconds) {
+    const span = now - before.seconds, was = before.link;
+    const each = { sent: (link.sent - was.sent) / span, came: (link.received - was.received) / span,
+      lost: (link.missing - was.missing) / span };
+    for (let second = before.seconds + 1; second <= now; second++) {
+      samples.push({ second, ...each });
+    }
+    while (samples.length > SPAN) samples.shift();
+  }
+  if (before && now < before.seconds) { samples = []; starts_anew(); }
+  if (!before || now !== before.seconds) before = status;
+}
+function starts_anew() {
+  shownClosed = 0; shownLine = 0; before = null;
+  at("closed").replaceChildren(); at("lines").replaceChildren();
+}
+function draws() {
+  const canvas = at("plot"), scale = window.devicePixelRatio || 1;
+  const width = canvas.clientWidth, height = canvas.clientHeight;
+  if (!width) return;
+  if (canvas.width !== Math.round(width * scale)) canvas.width = Math.round(width * scale);
+  if (canvas.height !== Math.round(height * scale)) canvas.height = Math.round(height * scale);
+  const pen = canvas.getContext("2d"), style = getComputedStyle(document.documentElement);
+  const color = (name) => style.getPropertyValue(name).trim();
+  pen.setTransform(scale, 0, 0, scale, 0, 0);
+  pen.clearRect(0, 0, width, height);
+  const left = 44, right = width - 6, top = 8, bottom = height - 20;
+  let most = 4;
+  for (const it of samples) most = Math.max(most, it.sent, it.came, it.lost);
+  const power = 10 ** Math.floor(Math.log10(most));
+  const step = [1, 2, 5, 10].map((it) => it * power / 2).find((it) => most / it <= 5) || power * 5;
+  const end = status ? status.seconds : SPAN;
+  const x = (second) => right - (end - second) / SPAN * (right - left);
+  const y = (count) => bottom - count / (Math.ceil(most / step) * step) * (bottom - top);
+  pen.font = "11px system-ui, sans-serif"; pen.lineWidth = 1;
+  pen.fillStyle = color("--dim"); pen.strokeStyle = color("--line");
+  pen.textAlign = "right"; pen.textBaseline = "middle";
+  for (let count = 0; count <= Math.ceil(most / step) * step + step / 9; count += step) {
+    pen.beginPath(); pen.moveTo(left, y(count)); pen.lineTo(right, y(count)); pen.stroke();
+    pen.fillText(grouped(Math.round(count * 10) / 10), left - 6, y(count));
+  }
+  pen.textAlign = "center"; pen.textBaseline = "top";
+  for (let minute = 0; minute <= 10; minute += width < 480 ? 5 : 2) {
+    const place = x(end - minute * 60);
+    pen.textAlign = minute === 0 ? "right" : minute === 10 ? "left" : "center";
+    pen.fillText(minute === 0 ? "now" : "-" + minute + " min", place, bottom + 5);
+  }
+  for (const [what, width, dash] of [["came", 1.8, []], ["sent", 1.8, []], ["lost", 1.8, [4, 3]]]) {
+    pen.strokeStyle = color("--" + what); pen.lineWidth = width; pen.setLineDash(dash);
+    pen.beginPath();
+    let last = null;
+    for (const it of samples) {
+      if (it.second <= end - SPAN) continue;
+      if (last === null || it.second > last + 1) pen.moveTo(x(it.second), y(it[what]));
+      else pen.lineTo(x(it.second), y(it[what]));
+      last = it.second;
+    }
+    pen.stroke();
+  }
+  pen.setLineDash([]);
+}
+
+// ---- transactions
+function open_row(it) {
+  const row = made("li");
+  row.dataset.id = it.id;
+  const top = made("div", undefined, "top");
+  top.append(made("span", it.id, "dim num"), made("span", "", "name"), made("span", "", "dim way"),
+    made("span", "", "waits"));
+  const acts = made("div", undefined, "acts");
+  const hold = made("button", "", "small hold"), cancel = made("button", "Cancel", "small harm");
+  hold.type = cancel.type = "button";
+  hold.addEventListener("click", () => {
+    const word = row.classList.contains("suspended") ? "resume" : "suspend";
+    does("/transactions/" + it.id + "/" + word, it.id + ": " + word + " was done").then(renews);
+  });
+  cancel.addEventListener("click", () => {
+    does("/transactions/" + it.id + "/cancel", it.id + ": cancel was done").then(renews);
+  });
+  acts.append(hold, cancel);
+  top.append(acts);
+  const bar = made("div", undefined, "bar"), progress = made("progress");
+  bar.append(progress, made("span", "", "share num"), made("span", "", "dim num size"));
+  row.append(top, bar);
+  return row;
+}
+function shows_open(all) {
+  const list = at("open"), rows = new Map();
+  for (const row of list.children) rows.set(row.dataset.id, row);
+  let place = null;
+  for (const it of all) {
+    let row = rows.get(it.id);
+    rows.delete(it.id);
+    if (!row) {
+      row = open_row(it);
+      list.insertBefore(row, place ? place.nextSibling : list.firstChild);
+    }
+    place = row;
+    fills_row(row, it);
+  }
+  for (const row of rows.values()) row.remove();
+  list.hidden = all.length === 0;
+  at("no-open").hidden = all.length > 0;
+  writes(at("open-count"), status ? grouped(status.open) + " open, " + grouped(status.waiting)
+    + " files wait" : "");
+}
+function fills_row(row, it) {
+  const to = it.destination && it.destination !== it.source ? " \u2192 " + it.destination : "";
+  const name = (it.source || "name not known yet") + to;
+  row.className = it.way + (it.suspended ? " suspended" : "");
+  writes(row.querySelector(".name"), name);
+  writes(row.querySelector(".way"), it.phase);
+  writes(row.querySelector(".waits"), it.waits_for ? "waits for " + it.waits_for : "");
+  const hold = row.querySelector(".hold"), progress = row.querySelector("progress");
+  writes(hold, it.suspended ? "Resume" : "Suspend");
+  hold.setAttribute("aria-label", hold.textContent + " " + it.id + ", " + name);
+  row.querySelector(".harm").setAttribute("aria-label", "Cancel " + it.id + ", " + name);
+  progress.setAttribute("aria-label", "How far " + it.id + " is");
+  const is_known = it.size !== null && it.octets !== null;
+  if (is_known) {
+    progress.max = Math.max(it.size, 1);
+    progress.value = it.size === 0 ? 1 : it.octets;
+    writes(row.querySelector(".share"), Math.floor(progress.value / progress.max * 100) + " %");
+  } else {
+    progress.removeAttribute("value");
+    writes(row.querySelector(".share"), "-");
+  }
+  writes(row.querySelector(".size"), grouped(it.octets) + " of " + grouped(it.size));
+}
+function adds_closed(all) {
+  const body = at("closed");
+  for (const it of all) {
+    if (it.number <= shownClosed) continue;
+    shownClosed = it.number;
+    const to = it.destination && it.destination !== it.source ? " \u2192 " + it.destination : "";
+    const row = made("tr");
+    row.append(made("td", clock(it.time), "time"), made("td", it.id, "time"),
+      made("td", (it.source || "-") + to, "file"), made("td", grouped(it.size), "num many"),
+      made("td", it.complete ? (it.way === "sends" ? "sent" : "received") : "failed",
+        it.complete ? "good" : "bad"),
+      made("td", it.complete ? "" : it.why, "why"));
+    body.insertBefore(row, body.firstChild);
+  }
+  while (body.rows.length > CLOSED) body.deleteRow(-1);
+  at("closed-box").hidden = body.rows.length === 0;
+  at("no-closed").hidden = body.rows.length > 0;
+}
+
+// ---- the log
+function fits(text) { return text.toLowerCase().includes(at("filter").value.toLowerCase()); }
+function adds_lines(all) {
+  const box = at("log-box"), list = at("lines");
+  const is_at_end = box.scrollTop + box.clientHeight >= box.scrollHeight - 8;
+  for (const it of all) {
+    if (it.number <= shownLine) continue;
+    shownLine = it.number;
+    const is_bad = / fault | abandoned | failed|incomplete/.test(it.text);
+    const line = made("li", it.text, is_bad ? "bad" : "");
+    line.hidden = !fits(it.text);
+    list.append(line);
+  }
+  while (list.children.length > LINES) list.firstChild.remove();
+  if (is_at_end) box.scrollTop = box.scrollHeight;
+}
+
+// ---- each second
+async function renews() {
+  try {
+    const answer = await asks("/status");
+    if (!answer.ok) throw new Error("status " + answer.status);
+    status = await answer.json();
+    shows_token(false);
+    notes_sample();
+    shows_status();
+    const both = await Promise.all([asks("/transactions?after=" + shownClosed),
+      asks("/log?after=" + shownLine)]);
+    const [transactions, log] = await Promise.all(both.map((it) => it.json()));
+    shows_open(transactions.open);
+    adds_closed(transactions.closed);
+    adds_lines(log.lines);
+  } catch (error) {
+    at("state").className = "pill is-gone";
+    writes(at("state"), isAsking ? "wants a token" : "the station doesn't answer");
+  }
+  draws();
+}
+async function begins() {
+  try {
+    const own = await fetch("/token", { cache: "no-store" });
+    if (own.ok) token = (await own.json()).token;
+  } catch (error) { says("The station doesn't answer: " + error.message); }
+  await takes_history();
+  await renews();
+}
+async function takes_history() {
+  try {
+    const answer = await asks("/history");
+    if (!answer.ok) return;
+    const past = await answer.json(), count = past.sent.length;
+    samples = past.sent.map((sent, place) => ({ second: past.seconds - count + 1 + place, sent,
+      came: past.received[place], lost: past.lost[place] }));
+  } catch (error) { samples = []; }
+}
+
+// ---- what the user does
+at("put").addEventListener("submit", async (event) => {
+  event.preventDefault();
+  const source = at("source").value.trim(), destination = at("destination").value.trim();
+  const body = { source, first: at("first").checked };
+  if (destination) body.destination = destination;
+  if (await does("/puts", source + " is to be sent", body)) {
+    at("source").value = at("destination").value = "";
+    at("first").checked = false;
+  }
+  renews();
+});
+at("ask-form").addEventListener("submit", async (event) => {
+  event.preventDefault();
+  token = at("token").value.trim();
+  await takes_history();
+  await renews();
+  if (isAsking) says("It is another token.");
+});
+at("freeze").addEventListener("click", async () => {
+  const word = status && status.link.state === "frozen" ? "thaw" : "freeze";
+  await does("/" + word, word === "thaw" ? "The link is up again" : "Nothing leaves until thaw");
+  renews();
+});
+at("form").addEventListener("click", () => {
+  const root = document.documentElement, dark = matchMedia("(prefers-color-scheme: dark)").matches;
+  const is_dark = root.dataset.form ? root.dataset.form === "dark" : dark;
+  root.dataset.form = is_dark ? "light" : "dark";
+  draws();
+});
+at("filter").addEventListener("input", () => {
+  for (const line of at("lines").children) line.hidden = !fits(line.textContent);
+});
+document.addEventListener("keydown", (event) => {
+  if (event.ctrlKey || event.metaKey || event.altKey) return;
+  const is_typing = event.target instanceof HTMLInputElement && event.target.type !== "checkbox";
+  if (event.key === "Escape") { event.target.blur(); return; }
+  if (is_typing) return;
+  const doings = { p: () => at("source").focus(), f: () => at("freeze").click(),
+    d: () => at("form").click(), "/": () => at("filter").focus() };
+  if (doings[event.key]) { event.preventDefault(); doings[event.key](); }
+});
+addEventListener("resize", draws);
+begins();
+setInterval(renews, 1000);
+</script>
+</body>
+</html>
+"##;
