@@ -1,3 +1,4 @@
 pub mod Hears
 pub mod Lent
 pub mod Takes
+pub mod AnyOrder

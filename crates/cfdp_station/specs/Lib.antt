@@ -4,6 +4,7 @@ pub mod Station
 pub mod Link
 pub mod Polling
 pub mod Taking
+pub mod AnyOrder
 pub mod Requests
 pub mod Transmitting
 pub mod Counters

@@ -216,7 +216,7 @@ pub record AreStreams (link : LinkConfig) (first : ℕ) (calls : List DownCall) 
   pub pdus : (lane : Lane) → pdus_in (busy (streams lane)) ≡ puts_of lane calls
   pub made : (lane : Lane) (i : ℕ) → i < length (made_of lane calls) → IsMadeFrame (lane_channel lane link) (streams lane) (first + i) (slice_index_or (made_of lane calls) i [])
 
-are_streams : (link : LinkConfig) (first : ℕ) (calls : List DownCall) (now : DownState) → IsLink link → link.spacecraft < 256 →
+pub are_streams : (link : LinkConfig) (first : ℕ) (calls : List DownCall) (now : DownState) → IsLink link → link.spacecraft < 256 →
     (s : (lane : Lane) → IsSomeStream (lane_channel lane link) first (lane_down lane now) (puts_of lane calls) (made_of lane calls)) → AreStreams link first calls (λ lane. (s lane).packets)
 are_streams link first calls now valid byte s =
     record {

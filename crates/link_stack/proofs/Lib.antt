@@ -9,3 +9,4 @@ pub mod AnyOrder
 pub mod AnyLanes
 pub mod Numbers
 pub mod EndToEnd
+mod Lives

@@ -4,3 +4,4 @@ pub mod Drops
 pub mod Upward
 pub mod AnyOrder
 pub mod EndToEnd
+pub mod Lives

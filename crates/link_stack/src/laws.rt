@@ -19,6 +19,8 @@ ghost use Rattle.link_stack.specs.AnyOrder.{Receives, ReceivesAll, TakesAny, Tak
 ghost use Rattle.link_stack.specs.AnyOrder.{no_last, octets_in};
 ghost use Rattle.link_stack.specs.EndToEnd.{AreComing, AreInWindow, AreNear, Coming, DoesAll};
 ghost use Rattle.link_stack.specs.EndToEnd.{DownCall, WerePut, coming_octets, places_of};
+ghost use Rattle.link_stack.specs.Lives.{AreApart, AreComingOf, ComingOf, IsLife, Life, WerePutIn};
+ghost use Rattle.link_stack.specs.Lives.{life_at, numbers_of, octets_coming};
 
 /// A frame that is struck changes nothing at the receiving end, completes no packet, and is one
 /// more missed. Fewer in a row are, than the counts tell apart.
@@ -150,4 +152,19 @@ pub fn what_comes_up_was_put_in()
         AreComing link calls came → ((lane : Lane) → AreNear None (places_of lane came)) →
         up ≡ first_up link → ReceivesAll (map (coming_octets calls) came) up new before after →
         WerePut calls before after }
+{}
+
+/// The same of a sending end that is made anew, again and again, as the station is that has it: all
+/// that comes up was put into one of them.
+///
+/// The frames of each are counted from a number above those of all before it, of which at least one
+/// is left out. Each frame that is taken, of whichever of them, is, of its lane, at most 2^28
+/// numbers in front of the one taken before it, and less than 2^28 - 1 behind it.
+pub fn what_comes_up_was_put_in_once()
+    ensures { (link : LinkConfig) (capacity : ℕ) (lives : List Life) (came : List ComingOf)
+        (up new : UpState) (before after : List (List ℕ)) → IsLink link → link.spacecraft < 256 →
+        ((k : ℕ) → k < length lives → IsLife link capacity (life_at lives k)) → AreApart lives →
+        AreComingOf link lives came → ((lane : Lane) → AreNear None (numbers_of lane lives came)) →
+        up ≡ first_up link → ReceivesAll (map (octets_coming lives) came) up new before after →
+        WerePutIn lives before after }
 {}

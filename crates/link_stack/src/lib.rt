@@ -37,7 +37,7 @@ pub use drops::LinkDrop;
 pub use laws::{
     a_frame_gives_what_was_sent, a_later_packet_changes_nothing, a_later_packet_leaves_deliveries,
     a_packet_carries_its_pdu, a_struck_frame_is_missed, near_frames_are_told,
-    what_comes_up_was_put_in, what_comes_up_was_sent,
+    what_comes_up_was_put_in, what_comes_up_was_put_in_once, what_comes_up_was_sent,
 };
 pub use mpdu::Full;
 pub use up::Up;

@@ -1,0 +1,14 @@
+mod Lists
+mod Lives
+mod Link
+mod Puts
+mod Kept
+mod Calls
+mod Promise
+mod Keeping
+mod Numbers
+mod Coming
+mod Happening
+mod Leading
+mod Sources
+mod Beginning

@@ -1,0 +1,5 @@
+pub mod Calls
+pub mod Promise
+pub mod Kept
+pub mod Refusing
+pub mod World

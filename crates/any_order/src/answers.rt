@@ -1,0 +1,34 @@
+//! What the calls of a world answer.
+use aos_frame::Lane;
+
+/// A frame that a station made: in which of its lives, from 0 on, in which lane, and at which place
+/// of those of that life and lane, from 0 on.
+#[derive(Clone, Copy, Debug, PartialEq, Eq)]
+pub struct SentFrame {
+    pub life: usize,
+    pub lane: Lane,
+    pub place: usize,
+}
+
+/// What became of a frame that was to reach a station.
+#[derive(Clone, Copy, Debug, PartialEq, Eq)]
+pub enum Delivered {
+    /// The station took it.
+    Taken,
+    /// The other station made no such frame.
+    NoSuchFrame,
+    /// It is too far from the frame of its lane that the station took last: more than 2^28 frames
+    /// in front of it, or 2^28 - 1 or more behind it, so that the counts would not tell it apart.
+    TooFar,
+}
+
+/// What became of a station that was to start anew.
+#[derive(Clone, Copy, Debug, PartialEq, Eq)]
+pub enum Restarted {
+    /// It started anew.
+    Done,
+    /// A put of it had this number, or a later one.
+    NumberUsed,
+    /// A frame of it had this number, or a later one, or the one before.
+    FrameUsed,
+}

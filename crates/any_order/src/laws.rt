@@ -1,0 +1,49 @@
+//! The law, the contract of a function that does nothing.
+ghost use Rattle.std.specs.Prelude.{◌≡◌, ℕ, List, []};
+ghost use Rattle.cfdp_header.specs.Files.{FileMap};
+ghost use Rattle.any_order.specs.Calls.{AreJoined, Event, Happen, IsNew, Pair, Setup, Side, at};
+ghost use Rattle.any_order.specs.Calls.{setup_of};
+ghost use Rattle.any_order.specs.Calls.{Call};
+ghost use Rattle.any_order.specs.Promise.{HoldsAt};
+ghost use Rattle.any_order.specs.World.{Happened, KeepsPromise, WorldKept, sources_at};
+
+use cfdp_entity::{an_entity_goes_on, an_entity_keeps_the_truth, an_entity_sends_the_truth};
+use link_stack::what_comes_up_was_put_in_once;
+
+/// What is promised of the delivery of files holds in whatever order and however often the frames
+/// of a lane come, whatever octets come among them of which no packet can come, and whenever either
+/// station starts anew.
+///
+/// Two stations are new, and set up to send to each other. Any calls are made at both. What a
+/// station receives is a copy of a frame that the other one gave, any of its frames; or octets that
+/// are no frame of the link, as a damaged frame is where there is frame error control, or a frame
+/// of idle data. Of two copies of a lane, of which the one is received right behind the other, the
+/// second is at most 2^28 frames in front of the first, and less than 2^28 - 1 behind it. A station
+/// that starts anew keeps the files of its inbox and those that it can send, and nothing else; it
+/// numbers its puts from a number on that it never used, and its frames so that at least one number
+/// is left out. Then for each station: its inbox is the first files, overwritten by those of the
+/// puts that it indicated complete, in that order, over all its lives; in one life no transaction
+/// was finished twice; each of those puts was heard in full; where a sender was told complete, the
+/// other station has completed the put, in some life; and what either says of a file is true.
+pub fn the_promise_holds_in_any_order()
+    ensures { (c : Setup) (counts : Side → ℕ) (sources files : Side → FileMap)
+        (events : List Event) (start now : Pair) → AreJoined c →
+        ((s : Side) → IsNew (setup_of s c) (counts s) (sources s) (files s) (at s start)) →
+        start.puts ≡ [] → Happen c events start now → (s : Side) → HoldsAt s (files s) now }
+{
+    what_comes_up_was_put_in_once();
+    an_entity_keeps_the_truth();
+    an_entity_goes_on();
+    an_entity_sends_the_truth();
+}
+
+/// The files that both stations can send stay, whatever is called: so those of stores over the same
+/// files are what [`UnorderedWorld::restart`](crate::UnorderedWorld::restart) asks for, at any time.
+pub fn the_files_to_send_stay()
+    ensures { (side : Side) (calls : List Call) (old new : WorldKept) → KeepsPromise old →
+        Happened side calls old new → (s : Side) → sources_at s new ≡ sources_at s old }
+{
+    an_entity_keeps_the_truth();
+    an_entity_goes_on();
+    an_entity_sends_the_truth();
+}

@@ -1,0 +1,238 @@
+//! The world of two stations over a link that keeps no order.
+ghost use Rattle.std.specs.Prelude.{◌≡◌, ◌<◌, ◌^◌, List, None, Some, IfOk, OnOk, MatchOption};
+ghost use Rattle.std.specs.Prelude.{length};
+ghost use Rattle.std.specs.Prelude.{slice_get};
+ghost use Rattle.any_order.specs.Calls.{Call, other, setup_of};
+ghost use Rattle.any_order.specs.Kept.{all_kept};
+ghost use Rattle.link_stack.specs.Downward.{frame_lane};
+ghost use Rattle.any_order.specs.Refusing.{AnswersFrame, AnswersOctets, AnswersStart};
+ghost use Rattle.any_order.specs.World.{ArePollCalls, AreFlushCalls, Happened, IsNewWorld};
+ghost use Rattle.any_order.specs.World.{KeepsPromise, deliver_calls, kept_at, octets_calls};
+ghost use Rattle.any_order.specs.World.{put_calls, request_calls, restart_calls, setup, side_of};
+ghost use Rattle.any_order.specs.World.{tick_calls};
+
+use crate::answers::{Delivered, Restarted, SentFrame};
+use crate::laws::the_promise_holds_in_any_order;
+use crate::life::LifeFrames;
+use crate::world::TwoEnds;
+use cfdp_entity::Request;
+use cfdp_header::TransactionId;
+use cfdp_station::{Inbox, Polled, PutError, RequestError, Station, SteadyOutbox};
+use link_sim::{Side, WorldConfig};
+use std::alloc::{AllocError, Global};
+use std::marker::Model;
+use valid_config::Valid;
+
+/// Two stations of CFDP, class 2, and all frames that each of them ever made, over a link that may
+/// deliver any of these, in any order, any number of times or never, and among them other octets;
+/// and either station may start anew.
+///
+/// Whatever calls are made, the promise holds: each inbox is the first one, overwritten by the
+/// files of the puts that its station indicated complete, over all its lives, in that order. In one
+/// life no transaction is indicated finished twice; a put that is completed was heard in full; a
+/// sender is told complete only of a put that the other station completed; and what a station says
+/// of a file is true.
+///
+/// Clauses see what is kept of both stations. The contract of a call says which calls of the
+/// stations were made in it, whatever was done before at both.
+#[derive(Drop)]
+pub struct UnorderedWorld<O: SteadyOutbox, I: Inbox> {
+    ends: TwoEnds<O, I>,
+}
+
+impl<O: SteadyOutbox, I: Inbox> Model for UnorderedWorld<O, I> {
+    ghost use Rattle.cfdp_entity.specs.Coded.{state_codes};
+    ghost use Rattle.any_order.specs.World.{HasRun, WorldKept};
+
+    ghost Value = { WorldKept };
+
+    ghost coded = { Prim.hlevel (state_codes) };
+
+    ghost view = { λ w. w.ends };
+
+    ghost invariant = { λ w. HasRun w.ends };
+}
+
+/// Shows that the spacecraft identifiers fit their field.
+fn show_spacecraft(config: Valid<WorldConfig>)
+    ensures one { config.one.sends.spacecraft < 2 ^ 8 }
+    ensures two { config.two.sends.spacecraft < 2 ^ 8 }
+{
+    let config = config.get();
+    let _one = config.one.sends.spacecraft;
+    let _two = config.two.sends.spacecraft;
+}
+
+impl<O: SteadyOutbox, I: Inbox> UnorderedWorld<O, I> {
+    /// Two stations at which nothing was done yet, over these stores, those of the first station
+    /// first. The frames of both are numbered from 0 on.
+    ///
+    /// # Errors
+    ///
+    /// `AllocError` only where the memory for a station was refused.
+    pub fn new(
+        alloc: Global,
+        config: Valid<WorldConfig>,
+        outboxes: (O, O),
+        inboxes: (I, I),
+    ) -> Result<Self, AllocError>
+        ensures { IfOk result (IsNewWorld config (O.files outboxes.0, O.files outboxes.1)
+            (I.published inboxes.0, I.published inboxes.1)) }
+    {
+        // For the prover: it is valid.
+        let _config = config.get();
+        show_spacecraft(config);
+        let ends = TwoEnds::new(alloc, config, outboxes, inboxes)?;
+        Ok(UnorderedWorld { ends })
+    }
+
+    /// Sends a file of a station's outbox, to be published by the other one under the second name.
+    ///
+    /// # Errors
+    ///
+    /// The station's, as `Station::put` tells them, and `NoMemory` too where there was no memory to
+    /// keep the names. No put was accepted then.
+    pub fn put(
+        &mut self,
+        side: Side,
+        source: &[u8],
+        destination: &[u8],
+    ) -> Result<TransactionId, PutError>
+        ensures { Happened (side_of side) (put_calls source.now destination.now result) self.old
+            self.new }
+    {
+        self.ends.put(side, source, destination)
+    }
+
+    /// Does what the user of a station asks of a transaction.
+    ///
+    /// # Errors
+    ///
+    /// The station's, as `Station::request` tells them; nothing changed then.
+    pub fn request(
+        &mut self,
+        side: Side,
+        id: TransactionId,
+        request: Request,
+    ) -> Result<(), RequestError>
+        ensures { Happened (side_of side) (request_calls id request result) self.old self.new }
+    {
+        self.ends.request(side, id, request)
+    }
+
+    /// Tells a station the time.
+    ///
+    /// # Errors
+    ///
+    /// The station's, as `Station::tick` tells them; nothing changed then.
+    pub fn tick(&mut self, side: Side, now: u64) -> Result<(), AllocError>
+        ensures { Happened (side_of side) (tick_calls now result) self.old self.new }
+    {
+        self.ends.tick(side, now)
+    }
+
+    /// Polls a station once, and takes all whole frames off that wait then; they are kept.
+    ///
+    /// # Errors
+    ///
+    /// `AllocError` where a poll found no memory, and nothing changed; or where there was none for
+    /// a frame. Then that frame and those behind it wait on, until the next poll or flush.
+    pub fn poll(&mut self, side: Side) -> Result<Polled, AllocError>
+        ensures happened { (calls : List Call) × ArePollCalls result calls
+            × Happened (side_of side) calls self.old self.new }
+        ensures none { OnOk result
+            (frame_lane (kept_at (side_of side) self.new).station.down ≡ None) }
+    {
+        self.ends.poll(side)
+    }
+
+    /// Fills the begun frame of each lane of a station, and takes all whole frames off, as `poll`.
+    ///
+    /// # Errors
+    ///
+    /// `AllocError` where there was no memory for a frame: that and those behind it wait on.
+    pub fn flush(&mut self, side: Side) -> Result<(), AllocError>
+        ensures happened { (calls : List Call) × AreFlushCalls calls
+            × Happened (side_of side) calls self.old self.new }
+        ensures none { OnOk result
+            (frame_lane (kept_at (side_of side) self.new).station.down ≡ None) }
+    {
+        self.ends.flush(side)
+    }
+
+    /// A frame that this station made, in any of its lives, reaches the other one: whether it was
+    /// delivered before or not, and whatever was delivered before it. Where the answer isn't `Taken`,
+    /// nothing changed.
+    pub fn deliver(&mut self, side: Side, which: SentFrame) -> Delivered
+        ensures happened { Happened (other (side_of side)) (deliver_calls which result) self.old
+            self.new }
+        ensures answers { AnswersFrame result which (kept_at (side_of side) self.old)
+            (kept_at (other (side_of side)) self.old) (self.new ≡ self.old) }
+    {
+        self.ends.deliver(side, which)
+    }
+
+    /// Octets come to the other station over this one's link, as a damaged frame does: whether it
+    /// took them. It doesn't where they are a frame of the link that doesn't tell that it has idle
+    /// data only; nothing changed then.
+    pub fn deliver_octets(&mut self, side: Side, octets: &[u8]) -> bool
+        ensures happened { Happened (other (side_of side)) (octets_calls octets.now result) self.old
+            self.new }
+        ensures answers { AnswersOctets result octets.now
+            (setup_of (other (side_of side)) (setup self.old.config)).receives
+            (self.new ≡ self.old) }
+    {
+        self.ends.deliver_octets(side, octets)
+    }
+
+    /// A station starts anew, over these stores, which have the files of those before: its puts are
+    /// numbered from the first number on, and its frames from the second one. Nothing changes but
+    /// where it answers `Done`.
+    ///
+    /// # Errors
+    ///
+    /// `AllocError` where the memory for the station was refused.
+    pub fn restart(
+        &mut self,
+        side: Side,
+        stores: (O, I),
+        first_number: u64,
+        first_frame: u32,
+    ) -> Result<Restarted, AllocError>
+        requires sources { O.files stores.0
+            ≡ (kept_at (side_of side) self.old).station.entity.state.table.sources }
+        requires files { I.published stores.1
+            ≡ (kept_at (side_of side) self.old).station.entity.state.table.files }
+        ensures happened { Happened (side_of side) (restart_calls first_frame first_number result)
+            self.old self.new }
+        ensures answers { AnswersStart first_frame first_number result
+            (kept_at (side_of side) self.old) (self.new ≡ self.old) }
+    {
+        self.ends.restart(side, stores, first_number, first_frame)
+    }
+
+    /// The inbox of a station, lent. The promise holds of it, and of all else.
+    pub fn inbox(&self, side: Side) -> &I
+        ensures files { I.published result.now
+            ≡ (kept_at (side_of side) self.now).station.entity.state.table.files }
+        ensures promised { KeepsPromise self.now }
+    {
+        the_promise_holds_in_any_order();
+        self.ends.end(side).station().inbox()
+    }
+
+    /// A station, lent.
+    pub fn station(&self, side: Side) -> &Station<O, I>
+        ensures { result.now ≡ (kept_at (side_of side) self.now).station }
+    {
+        self.ends.end(side).station()
+    }
+
+    /// The frames that a station made in one of its lives, from 0 on; `None` where there are fewer.
+    pub fn life(&self, side: Side, life: usize) -> Option<&LifeFrames>
+        ensures { MatchOption result (length (kept_at (side_of side) self.now).before < life)
+            (λ l. slice_get (all_kept (kept_at (side_of side) self.now)) life ≡ Some l.now) }
+    {
+        self.ends.end(side).life(life)
+    }
+}
