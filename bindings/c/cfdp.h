@@ -4,17 +4,20 @@
  * numbers.
  *
  * It is proved that each call does what stands here, provided that its caller keeps to this; but
- * that cfdp_close gives back all memory is tested, and not proved:
+ * that cfdp_close gives back all memory, and that another thread may go on with a handle, is
+ * tested, and not proved:
  *
  * 1. A pointer isn't null, also where its length is 0, is aligned, and may be read or written for
  *    that length. No two arguments of a call overlap, but for two that are only read.
  * 2. A handle begins as all zero octets (CFDP_STATION_INIT), which is a closed one. Nobody but
  *    these calls writes in it. It may be moved by memcpy if the old one isn't used again; of two
  *    copies of an open one only one may be used.
- * 3. One call at a time on a handle, by the thread that opened it. Calls on different handles may
- *    run side by side, if malloc may. No call from a signal handler.
- * 4. The program links malloc, realloc and free by rattle_alloc, rattle_realloc and rattle_dealloc
- *    (docs/EMBEDDING.md), and has 32 KiB of stack for a call.
+ * 3. One call at a time on a handle. Another thread may go on with it, ordered behind the one
+ *    before by a lock, or by a start or a join of a thread. Calls on different handles may run side
+ *    by side, if malloc may. No call from a signal handler.
+ * 4. The program links malloc, realloc and free by rattle_alloc, rattle_realloc and rattle_dealloc,
+ *    and errno by rattle_errno and rattle_set_errno (docs/EMBEDDING.md), and has 32 KiB of stack
+ *    for a call; 64 KiB for one on a handle with folders.
  *
  * There is nothing else to keep to: every value of every number is answered, every frame and every
  * PDU is taken, and a call on a closed handle answers CFDP_CLOSED. Where the answer isn't CFDP_OK,
@@ -33,7 +36,7 @@ extern "C" {
 #endif
 
 /* The number of this interface. It grows by one wherever a call, a struct or a number changes. */
-#define CFDP_VERSION 3
+#define CFDP_VERSION 4
 
 /* That of the library that the program was linked with. */
 uint32_t cfdp_version(void);
@@ -44,20 +47,26 @@ typedef uint32_t cfdp_answer;
 enum {
     CFDP_OK = 0,
     CFDP_CLOSED = 1,       /* the handle is closed */
-    CFDP_ALREADY_OPEN = 2, /* cfdp_open: the handle is open */
+    CFDP_ALREADY_OPEN = 2, /* cfdp_open, cfdp_open_folders: the handle is open */
     CFDP_BAD_ARGUMENT = 3, /* cfdp_read_file: the file ends before */
     CFDP_NO_MEMORY = 4,    /* there is no memory for it */
     CFDP_NO_ROOM = 5,      /* the lent room has too few octets, or the wrong number */
     CFDP_NOTHING = 6,      /* there is nothing of the kind */
+    CFDP_IN_FOLDERS = 7,   /* the call is of files in memory, and the station has folders */
     CFDP_NAME_TAKEN = 11,  /* cfdp_add: there is a file of that name */
+
+    /* cfdp_open_folders, the first that holds */
+    CFDP_NO_OUTBOX = 12,    /* the folder to send from isn't there, or can't be read */
+    CFDP_NO_INBOX = 13,     /* the folder to receive into isn't, or can't be */
+    CFDP_INBOX_IN_USE = 14, /* another station receives into it */
 
     /* cfdp_put: the first that holds, in the order 22, 24, 25, 26, 21, 23; then CFDP_NO_MEMORY */
     CFDP_NO_SUCH_FILE = 21,  /* the outbox has no file of that name */
-    CFDP_BAD_NAME = 22,      /* a name hasn't 1 to 255 octets */
+    CFDP_BAD_NAME = 22,      /* a name hasn't 1 to 255 octets, or no file of a folder may have it */
     CFDP_TOO_LARGE = 23,     /* the file has more than 2^48 octets */
     CFDP_TABLE_FULL = 24,    /* the station has 4,096 records; some have to be forgotten */
     CFDP_NUMBERS_SPENT = 25, /* the next number doesn't fit number_width */
-    CFDP_SOURCE_FAULT = 26,  /* the outbox failed; one in memory never does */
+    CFDP_SOURCE_FAULT = 26,  /* the outbox failed, as a folder may; one in memory never does */
 
     /* cfdp_cancel, cfdp_suspend, cfdp_resume, cfdp_prompt */
     CFDP_UNKNOWN = 31,        /* the transaction has no record here */
@@ -71,7 +80,7 @@ enum {
 
     CFDP_FULL = 41, /* cfdp_poll: the PDU doesn't fit until frames were taken off */
 
-    /* cfdp_open: the first field of the configuration that isn't in its range */
+    /* cfdp_open, cfdp_open_folders: the first field of the configuration that isn't in its range */
     CFDP_BAD_SIZE = 70, /* the program was compiled with another cfdp.h than the library's */
     CFDP_BAD_ID_WIDTH = 71,
     CFDP_BAD_ENTITY = 72, /* it doesn't fit id_width */
@@ -165,6 +174,19 @@ typedef struct cfdp_station {
  * range. */
 cfdp_answer cfdp_open(cfdp_station *station, const cfdp_config *config);
 
+/* Opens a closed handle on a station that sends the files of one folder and receives into another:
+ * of any size, in bounded memory. Both are there; each is named by its path in UTF-8, and no file
+ * of it is in memory. A file is looked for as it is put, read as it is sent, and written as it
+ * comes, under a name that begins with .part-, until all of it is there; it is flushed to the
+ * device before it gets its name, in the place of a file that has it. Names of files have 1 to 64
+ * of A-Z a-z 0-9 . _ - and don't begin with a point. A file mustn't change while it is sent: that
+ * is noticed where its length does. No other station, of whichever process, can receive into the
+ * inbox as long as the handle is open. CFDP_OK, CFDP_ALREADY_OPEN, 70 to 92 as cfdp_open,
+ * CFDP_NO_OUTBOX, CFDP_NO_INBOX, CFDP_INBOX_IN_USE or CFDP_NO_MEMORY. */
+cfdp_answer cfdp_open_folders(cfdp_station *station, const cfdp_config *config,
+                              const uint8_t *outbox, size_t outbox_len, const uint8_t *inbox,
+                              size_t inbox_len);
+
 /* Gives back all memory of the station. The handle is closed then; a closed one stays so. */
 void cfdp_close(cfdp_station *station);
 
@@ -177,13 +199,13 @@ typedef struct cfdp_id {
 } cfdp_id;
 
 /* Copies a file into the outbox, under a name that it has no file of. It stays there until the
- * station is closed. CFDP_OK, CFDP_CLOSED, CFDP_NAME_TAKEN or CFDP_NO_MEMORY. */
+ * station is closed. CFDP_OK, CFDP_CLOSED, CFDP_IN_FOLDERS, CFDP_NAME_TAKEN or CFDP_NO_MEMORY. */
 cfdp_answer cfdp_add(cfdp_station *station, const uint8_t *name, size_t name_len,
                      const uint8_t *octets, size_t octets_len);
 
 /* Sends a file of the outbox, which the peer publishes under the name destination; *id is the
- * transaction. CFDP_OK, CFDP_CLOSED, 21 to 26 or CFDP_NO_MEMORY; but for CFDP_OK no number is
- * used. */
+ * transaction. In a folder the file is looked for first. CFDP_OK, CFDP_CLOSED, 21 to 26 or
+ * CFDP_NO_MEMORY; but for CFDP_OK no number is used. */
 cfdp_answer cfdp_put(cfdp_station *station, const uint8_t *source, size_t source_len,
                      const uint8_t *destination, size_t destination_len, cfdp_id *id);
 
@@ -201,20 +223,20 @@ cfdp_answer cfdp_resume(cfdp_station *station, const cfdp_id *id);
  * NAK. */
 cfdp_answer cfdp_prompt(cfdp_station *station, const cfdp_id *id, bool keep_alive);
 
-/* ---- What it lets go. A station has room for 4,096 records of transactions at once. A transaction
+/* ---- What it forgets. A station has room for 4,096 records of transactions at once. A transaction
  * that is over keeps its record until it is forgotten. */
 
-/* Lets go of the record of a transaction that is over. It is never opened again: an EOF or a
+/* Forgets the record of a transaction that is over. It is never opened again: an EOF or a
  * Finished that still comes of it is acknowledged, and anything else is passed over. CFDP_OK,
  * CFDP_CLOSED, CFDP_UNKNOWN, CFDP_STILL_OPEN, CFDP_ANSWER_DUE or CFDP_NO_MEMORY, the first that
  * holds; but for CFDP_OK nothing has changed. */
 cfdp_answer cfdp_forget(cfdp_station *station, const cfdp_id *id);
 
-/* Lets go of the records of all transactions that are over, but for those with an acknowledgement
+/* Forgets the records of all transactions that are over, but for those with an acknowledgement
  * due. CFDP_OK, CFDP_CLOSED, or CFDP_NO_MEMORY: some of them may be gone then. */
 cfdp_answer cfdp_forget_closed(cfdp_station *station);
 
-/* Tells whether the record of a transaction was let go: *was is 1 where it was, else 0. CFDP_OK or
+/* Whether the record of a transaction was forgotten: *was is 1 where it was, else 0. CFDP_OK or
  * CFDP_CLOSED. */
 cfdp_answer cfdp_was_forgotten(const cfdp_station *station, const cfdp_id *id, uint8_t *was);
 
@@ -233,9 +255,9 @@ typedef struct cfdp_transaction {
     uint8_t phase; /* how far it has come */
 } cfdp_transaction;
 
-/* Tells the transaction at a cursor, and moves that on to the next one: begin with *cursor 0. They
+/* Gives the transaction at a cursor, and moves that on to the next one: begin with *cursor 0. They
  * stand in order of opening, and one that is forgotten moves those behind it up by one. CFDP_OK,
- * CFDP_CLOSED, or CFDP_NOTHING where all were told. */
+ * CFDP_CLOSED, or CFDP_NOTHING where there are no more. */
 cfdp_answer cfdp_transactions(const cfdp_station *station, size_t *cursor, cfdp_transaction *out);
 
 /* How many more transactions there is room for, of 4,096 records; 0 of a closed handle. */
@@ -244,8 +266,8 @@ size_t cfdp_records_left(const cfdp_station *station);
 /* ---- Down. */
 
 /* Writes the next frame that is to leave: polls until a whole frame waits, or nothing is due, and
- * fills up what is begun. Frames of directives go first; who wants to know the lane reads the
- * virtual channel, frame[1] & 63. room is cfdp_frame_len octets, no more and no less, else
+ * fills up what is begun. Frames of directives go first; the virtual channel, frame[1] & 63,
+ * says which lane it is. room is cfdp_frame_len octets, no more and no less, else
  * CFDP_NO_ROOM. CFDP_OK, CFDP_CLOSED, CFDP_NOTHING where there is nothing to send, or
  * CFDP_NO_MEMORY: what was polled before waits for the next call. cfdp_poll, cfdp_flush and
  * cfdp_next_frame do the same step by step. */
@@ -386,7 +408,7 @@ static inline const char *cfdp_drop_text(size_t drop)
 
 /* ---- Time, in any unit, from any start. */
 
-/* Tells the time: each timer that is due fires once. A time before the last one told counts as
+/* Tells the time: each timer that is due fires once. A time before the last one given counts as
  * that. CFDP_OK, CFDP_CLOSED, or CFDP_NO_MEMORY: nothing has changed then, the time neither. */
 cfdp_answer cfdp_tick(cfdp_station *station, uint64_t now);
 
@@ -394,7 +416,7 @@ cfdp_answer cfdp_tick(cfdp_station *station, uint64_t now);
  * CFDP_OK, CFDP_CLOSED, or CFDP_NOTHING where none is armed. */
 cfdp_answer cfdp_next_timeout(const cfdp_station *station, uint64_t *deadline);
 
-/* ---- What it tells its user. */
+/* ---- Indications: what it reports to its user. */
 
 enum {
     CFDP_TRANSACTION = 1,    /* a put was accepted */
@@ -423,37 +445,39 @@ typedef struct cfdp_indication {
 /* Octets that suffice for the names of every indication, and for the name of every file. */
 enum { CFDP_NAMES = 510, CFDP_NAME = 255 };
 
-/* Tells the next indication, which the station lets go then; names gets the name at the sender, and
- * behind it that at the receiver. CFDP_OK, CFDP_CLOSED, CFDP_NOTHING where all were told, or
+/* Gives the next indication, which the station releases then; names gets the name at the sender,
+ * and after it that at the receiver. CFDP_OK, CFDP_CLOSED, CFDP_NOTHING where there is none, or
  * CFDP_NO_ROOM: it stays the next then. */
 cfdp_answer cfdp_next_indication(cfdp_station *station, cfdp_indication *out, uint8_t *names,
                                  size_t room);
 
-/* ---- The published files. Their places are 0, 1, .. in ascending order of their names; a file
- * that is published or removed may shift those behind it. Each stays until it is removed, another
- * one is published under its name, or the station is closed. */
+/* ---- The published files, where they are in memory; of a station with folders these calls answer
+ * CFDP_IN_FOLDERS, and its files lie in its folder. Their places are 0, 1, .. in
+ * ascending order of their names; a file that is published or removed may shift those behind it.
+ * Each stays until it is removed, another one is published under its name, or the station is
+ * closed. */
 
 typedef struct cfdp_file_info {
     size_t name_len;
     size_t size;
 } cfdp_file_info;
 
-/* How many there are; 0 of a closed handle. */
+/* How many there are; 0 of a closed handle, and of one with folders. */
 size_t cfdp_file_count(const cfdp_station *station);
 
-/* How long one is, and its name. CFDP_OK, CFDP_CLOSED, CFDP_NOTHING where there are not so many,
- * or CFDP_NO_ROOM. */
+/* How long one is, and its name. CFDP_OK, CFDP_CLOSED, CFDP_IN_FOLDERS, CFDP_NOTHING where there
+ * are not so many, or CFDP_NO_ROOM. */
 cfdp_answer cfdp_file(const cfdp_station *station, size_t place, cfdp_file_info *out, uint8_t *name,
                       size_t room);
 
-/* Fills all of out with octets of one, from an offset on. CFDP_OK, CFDP_CLOSED, CFDP_NOTHING, or
- * CFDP_BAD_ARGUMENT where the file ends before. */
+/* Fills all of out with octets of one, from an offset on. CFDP_OK, CFDP_CLOSED, CFDP_IN_FOLDERS,
+ * CFDP_NOTHING, or CFDP_BAD_ARGUMENT where the file ends before. */
 cfdp_answer cfdp_read_file(const cfdp_station *station, size_t place, size_t offset, uint8_t *out,
                            size_t room);
 
 /* Removes the file of a name; the places of those behind it are one less then. Nothing else
  * changes, and a file that comes later under that name is published as ever. It needs no memory.
- * CFDP_OK, CFDP_CLOSED, or CFDP_NOTHING where there is no file of that name. */
+ * CFDP_OK, CFDP_CLOSED, CFDP_IN_FOLDERS, or CFDP_NOTHING where there is no file of that name. */
 cfdp_answer cfdp_remove_file(cfdp_station *station, const uint8_t *name, size_t name_len);
 
 /* ---- One PDU. */
@@ -494,9 +518,13 @@ static inline const char *cfdp_answer_text(cfdp_answer answer)
     case CFDP_NO_MEMORY: return "there is no memory for it";
     case CFDP_NO_ROOM: return "the room has too few octets, or the wrong number";
     case CFDP_NOTHING: return "there is nothing of the kind";
+    case CFDP_IN_FOLDERS: return "the files are in folders";
+    case CFDP_NO_OUTBOX: return "the folder to send from cannot be read";
+    case CFDP_NO_INBOX: return "the folder to receive into cannot be had";
+    case CFDP_INBOX_IN_USE: return "another station receives into that folder";
     case CFDP_NAME_TAKEN: return "there is a file of that name";
     case CFDP_NO_SUCH_FILE: return "there is no such file";
-    case CFDP_BAD_NAME: return "a name does not have 1 to 255 octets";
+    case CFDP_BAD_NAME: return "a name does not have 1 to 255 octets, or no file may have it";
     case CFDP_TOO_LARGE: return "the file is too large";
     case CFDP_TABLE_FULL: return "the table is full";
     case CFDP_NUMBERS_SPENT: return "the sequence numbers are used up";

@@ -17,7 +17,7 @@ rattle_block rattle_alloc(size_t size, size_t align);
 rattle_block rattle_realloc(void *at, size_t old_size, size_t size, size_t align);
 void rattle_dealloc(void *at);
 
-/* What stands in front of each function: packaging/install makes a library of them that give way to
+/* What stands before each function: packaging/install makes a library of them that give way to
  * a program's own. */
 #ifndef CFDP_HEAP
 #define CFDP_HEAP

@@ -26,7 +26,7 @@ extern "C" {
 /* A file of so many octets that is being received, or was and isn't removed yet. */
 #define CFDP_POOL_RECEIVED(len) ((size_t)2 * (len) + 4096)
 
-/* How much of the array is in use, in octets, with what each block has in front of it. */
+/* How much of the array is in use, in octets, with what each block has before it. */
 size_t cfdp_pool_used(void);
 
 /* How far the array was ever in use, from its front: an array of so many octets would have done. */

@@ -10,11 +10,19 @@ pub enum Error {
     BadField(&'static str),
     /// There is no memory for it.
     NoMemory,
+    /// The call is of files in memory, and the station has folders.
+    InFolders,
+    /// The folder to send from isn't there, or can't be read.
+    NoOutbox,
+    /// The folder to receive into isn't there, or can't be had.
+    NoInbox,
+    /// Another station receives into that folder.
+    InboxInUse,
     /// The outbox has a file of that name.
     NameTaken,
     /// The outbox has no file of that name.
     NoSuchFile,
-    /// A name hasn't 1 to 255 octets.
+    /// A name hasn't 1 to 255 octets, or no file of a folder may have it.
     BadName,
     /// The file has more than 2^48 octets.
     TooLarge,
@@ -75,7 +83,11 @@ impl Error {
         match answer {
             3 => Error::BadArgument,
             4 => Error::NoMemory,
+            7 => Error::InFolders,
             11 => Error::NameTaken,
+            12 => Error::NoOutbox,
+            13 => Error::NoInbox,
+            14 => Error::InboxInUse,
             21 => Error::NoSuchFile,
             22 => Error::BadName,
             23 => Error::TooLarge,
@@ -104,9 +116,13 @@ impl fmt::Display for Error {
         f.write_str(match self {
             Error::BadArgument => "a value is out of its range",
             Error::NoMemory => "there is no memory for it",
+            Error::InFolders => "the files are in folders",
+            Error::NoOutbox => "the folder to send from cannot be read",
+            Error::NoInbox => "the folder to receive into cannot be had",
+            Error::InboxInUse => "another station receives into that folder",
             Error::NameTaken => "there is a file of that name",
             Error::NoSuchFile => "there is no such file",
-            Error::BadName => "a name does not have 1 to 255 octets",
+            Error::BadName => "a name does not have 1 to 255 octets, or no file may have it",
             Error::TooLarge => "the file is too large",
             Error::TableFull => "the table is full",
             Error::NumbersSpent => "the sequence numbers are used up",

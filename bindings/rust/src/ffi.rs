@@ -209,18 +209,31 @@ pub struct Pdu {
     pub large: u8,
 }
 
-/// A handle. Its pointer keeps it on the thread that opened it.
+/// A handle.
 #[repr(C)]
 pub struct Handle {
     at: *mut c_void,
     is_open: bool,
 }
 
+// SAFETY: what `at` points to is the handle's alone. The library has no data of its own that can
+// change, and none of a thread (`tests/bindings.py` looks at that). Its memory is from `malloc`,
+// and any thread may free it. Each call takes the handle by `&mut`.
+unsafe impl Send for Handle {}
+
 #[link(name = "cfdp_c", kind = "static")]
 unsafe extern "C" {
     safe fn cfdp_version() -> u32;
     safe fn cfdp_fill_defaults(config: &mut Config);
     safe fn cfdp_open(station: &mut Handle, config: &Config) -> u32;
+    fn cfdp_open_folders(
+        station: &mut Handle,
+        config: &Config,
+        outbox: *const u8,
+        n: usize,
+        inbox: *const u8,
+        m: usize,
+    ) -> u32;
     safe fn cfdp_close(station: &mut Handle);
     fn cfdp_add(s: &mut Handle, name: *const u8, n: usize, octets: *const u8, m: usize) -> u32;
     fn cfdp_put(
@@ -288,6 +301,12 @@ impl Handle {
 
     pub fn open(&mut self, config: &Config) -> u32 {
         cfdp_open(self, config)
+    }
+
+    pub fn open_folders(&mut self, config: &Config, outbox: &[u8], inbox: &[u8]) -> u32 {
+        let (n, m) = (outbox.len(), inbox.len());
+        // SAFETY: both slices are readable for their lengths, and only read.
+        unsafe { cfdp_open_folders(self, config, outbox.as_ptr(), n, inbox.as_ptr(), m) }
     }
 
     pub fn add(&mut self, name: &[u8], octets: &[u8]) -> u32 {
@@ -454,5 +473,25 @@ mod heap {
     extern "C" fn rattle_dealloc(at: *mut c_void) {
         // SAFETY: the library gives a block that `malloc` or `realloc` gave, once.
         unsafe { free(at) }
+    }
+}
+
+/// The error of the calling thread's last call of the C library, which stations with folders ask
+/// for.
+mod errno {
+    unsafe extern "C" {
+        safe fn __errno_location() -> *mut i32;
+    }
+
+    #[unsafe(no_mangle)]
+    extern "C" fn rattle_errno() -> i32 {
+        // SAFETY: it is the calling thread's own, and stays.
+        unsafe { *__errno_location() }
+    }
+
+    #[unsafe(no_mangle)]
+    extern "C" fn rattle_set_errno(error: i32) {
+        // SAFETY: it is the calling thread's own, and stays.
+        unsafe { *__errno_location() = error }
     }
 }

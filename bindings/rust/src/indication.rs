@@ -1,6 +1,6 @@
 use crate::ffi::{self, Handle, Id, Told};
 
-/// What a station tells its user of a transaction (CCSDS 727.0-B-5, section 3). Conditions are the
+/// What a station reports to its user of a transaction (CCSDS 727.0-B-5, section 3). Conditions are the
 /// standard's codes, 0 where all went well.
 #[derive(Clone, Debug, PartialEq, Eq)]
 #[non_exhaustive]
@@ -54,7 +54,7 @@ impl Indication {
     }
 }
 
-/// The indications that weren't read yet. The station lets go of one that is read.
+/// The indications that weren't read yet. The station releases one that is read.
 pub struct Indications<'a> {
     handle: &'a mut Handle,
 }

@@ -1,4 +1,5 @@
-//! A proved CFDP station (CCSDS 727.0-B-5, class 2) over AOS frames, with its files in memory.
+//! A proved CFDP station (CCSDS 727.0-B-5, class 2) over AOS frames, with its files in memory or in
+//! folders.
 //!
 //! ```no_run
 //! # fn main() -> Result<(), cfdp::Error> {
@@ -12,8 +13,16 @@
 //! # }
 //! ```
 //!
-//! Files, names and frames are any octets. A station lives on the thread that opened it. Its
-//! contracts, and what is proved of them, are those of `cfdp.h`; of this wrapper nothing is proved.
+//! Files, names and frames are any octets. A station may go from one thread to another (`Send`),
+//! but isn't shared between threads (not `Sync`):
+//!
+//! ```compile_fail,E0277
+//! fn shared<T: Sync>() {}
+//! shared::<cfdp::Station>();
+//! ```
+//!
+//! Its contracts, and what is proved of them, are those of `cfdp.h`; of this wrapper nothing is
+//! proved.
 #![deny(unsafe_code)]
 
 mod error;
@@ -21,6 +30,8 @@ mod error;
 mod ffi;
 mod indication;
 mod lists;
+
+use std::path::Path;
 
 pub use error::Error;
 pub use ffi::{Config, Counters, FrameDrops, Id, Link, Pdu, PduDrops, SentPdus};
@@ -59,17 +70,38 @@ pub struct File {
     pub octets: Vec<u8>,
 }
 
-/// A station.
+/// A station. It may go to another thread, and be let go there.
 pub struct Station {
     handle: ffi::Handle,
     frame_len: usize,
 }
+
+// It is not compiled otherwise.
+const _: () = {
+    const fn may_go_to_a_thread<T: Send>() {}
+    may_go_to_a_thread::<Station>();
+};
 
 impl Station {
     /// A station without transactions and files.
     pub fn open(config: &Config) -> Result<Station, Error> {
         let mut handle = ffi::Handle::CLOSED;
         Error::check(handle.open(config))?;
+        let frame_len = handle.frame_len();
+        Ok(Station { handle, frame_len })
+    }
+
+    /// A station that sends the files of one folder, each read as it is sent, and receives into
+    /// another one: of any size, in bounded memory. No other station can receive into the second
+    /// one as long as this value lives. `cfdp.h` says which names files may have.
+    ///
+    /// Paths are UTF-8. [`add`](Self::add) answers [`Error::InFolders`], and no published file is
+    /// in memory.
+    pub fn open_folders(config: &Config, outbox: &Path, inbox: &Path) -> Result<Station, Error> {
+        let outbox = outbox.to_str().ok_or(Error::NoOutbox)?.as_bytes();
+        let inbox = inbox.to_str().ok_or(Error::NoInbox)?.as_bytes();
+        let mut handle = ffi::Handle::CLOSED;
+        Error::check(handle.open_folders(config, outbox, inbox))?;
         let frame_len = handle.frame_len();
         Ok(Station { handle, frame_len })
     }
@@ -119,7 +151,7 @@ impl Station {
         Error::check(self.handle.forget_closed())
     }
 
-    /// Whether the record of a transaction was let go.
+    /// Whether the record of a transaction was forgotten.
     pub fn was_forgotten(&mut self, id: Id) -> bool {
         let mut was = 0;
         self.handle.was_forgotten(id, &mut was) == ffi::OK && was == 1
@@ -219,13 +251,13 @@ impl Station {
         (self.handle.next_timeout(&mut deadline) == ffi::OK).then_some(deadline)
     }
 
-    /// What it tells its user, from the first indication on that wasn't read yet. It lets go of
+    /// What it reports to its user, from the first indication on that wasn't read yet. It releases
     /// each one that is read.
     pub fn indications(&mut self) -> Indications<'_> {
         Indications::of(&mut self.handle)
     }
 
-    /// How many files are published.
+    /// How many files are published in memory.
     pub fn file_count(&mut self) -> usize {
         self.handle.file_count()
     }
@@ -247,7 +279,7 @@ impl Station {
         Files::of(self)
     }
 
-    /// Removes the published file of a name, and tells whether there was one. The places of those
+    /// Removes the published file of a name, and says whether there was one. The places of those
     /// behind it are one less then.
     pub fn remove_file(&mut self, name: &[u8]) -> bool {
         self.handle.remove_file(name) == ffi::OK

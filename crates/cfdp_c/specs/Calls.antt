@@ -1,5 +1,5 @@
 -- What a user's calls answer and do, in the words of the station's own clauses.
-use Rattle.std.specs.Prelude.{◌≡◌, ◌≤◌, ℕ, max, List, Option, MatchOption, Result, IfOk, IfErr, OnOk, OnErr}
+use Rattle.std.specs.Prelude.{◌≡◌, ◌≤◌, ℕ, max, Bool, List, Option, MatchOption, Result, IfOk, IfErr, OnOk, OnErr}
 use Rattle.std.specs.FinMap as map
 use Rattle.std.specs.declared.alloc.AllocError.{AllocError}
 use Rattle.link_stack.specs.Downward.{first_down}
@@ -19,8 +19,12 @@ use Rattle.cfdp_entity.specs.Table.{Ticks}
 use Rattle.cfdp_station.specs.Requests.{StationAnswers}
 use Rattle.cfdp_station.specs.Station.{StationState, KeepsLink}
 use Rattle.cfdp_station.specs.declared.config.StationConfig.{StationConfig}
-use Rattle.cfdp_c.specs.Codes.{add_answer, put_answer, request_answer, forget_answer, memory_answer}
+use Rattle.cfdp_c.specs.Codes.{add_answer, put_answer, look_code, request_answer, forget_answer, memory_answer}
 use Rattle.cfdp_c.specs.declared.calls.CfdpId.{CfdpId}
+use Rattle.cfdp_c.specs.declared.held.AnyStation.{AnyStation}
+use Rattle.cfdp_c.specs.declared.held.AnyStation.TheVariants.{Memory, Folders}
+use Rattle.cfdp_store.specs.declared.error.StoreError.{StoreError}
+use Rattle.cfdp_entity.specs.Looking.{LooksUp}
 
 -- a transaction, as a caller writes it
 abbrev pub id_of : CfdpId → TransactionId
@@ -52,6 +56,23 @@ pub record Puts (source destination : List ℕ) (answer : ℕ) (id : CfdpId) (ol
       source destination old.entity.state) by)
   pub err : OnErr told (new.entity.state ≡ old.entity.state)
   pub link : KeepsLink old new
+
+-- The outbox looked for the file, and its put was accepted or not; or the outbox failed to look.
+pub record Seeks (source destination : List ℕ) (answer : ℕ) (id : CfdpId) (old new : StationState)
+    : Type 0 where
+  pub found : Result Bool StoreError
+  pub mid : StationState
+  pub looks : OnOk found (LooksUp source old.entity.state mid.entity.state)
+  pub link : KeepsLink old mid
+  pub puts : OnOk found (Puts source destination answer id mid new)
+  pub code : IfErr found (λ by. answer ≡ look_code by)
+  pub err : OnErr found ((new.entity.state ≡ old.entity.state) × KeepsLink old new)
+
+-- A put from memory, or from a folder, in which the file is looked for first.
+abbrev pub PutsFrom : AnyStation → (source destination : List ℕ) → (answer : ℕ) → (id : CfdpId)
+    → (new : StationState) → Type 0
+PutsFrom (Memory s) source destination answer id new = Puts source destination answer id s new
+PutsFrom (Folders s) source destination answer id new = Seeks source destination answer id s new
 
 -- A request of a transaction was carried out, or this is why not.
 pub record Requests (c : Request) (id : TransactionId) (answer : ℕ) (old new : StationState)

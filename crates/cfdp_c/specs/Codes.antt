@@ -18,6 +18,10 @@ use Rattle.cfdp_station.specs.declared.amiss.StationField.{StationField}
 use Rattle.cfdp_station.specs.declared.amiss.StationField.TheVariants as stations
 use Rattle.cfdp_station.specs.declared.polled.Polled.{Polled}
 use Rattle.cfdp_station.specs.declared.polled.Polled.TheVariants as polls
+use Rattle.cfdp_store.specs.declared.error.StoreError.{StoreError}
+use Rattle.cfdp_store.specs.declared.error.StoreError.TheVariants as stores
+use Rattle.cfdp_c.specs.declared.held.FoldersError.{FoldersError}
+use Rattle.cfdp_c.specs.declared.held.FoldersError.TheVariants as folders
 use Rattle.cfdp_c.specs.declared.bad_field.BadField.{BadField}
 use Rattle.cfdp_c.specs.declared.bad_field.BadField.TheVariants as fields
 
@@ -42,10 +46,26 @@ no_room = 5
 abbrev pub nothing : ℕ
 nothing = 6
 
+-- the files of the station are in folders, and the call is of files in memory
+abbrev pub in_folders : ℕ
+in_folders = 7
+
 -- ---- what the station answers, as a number
 abbrev pub add_code : AddError → ℕ
 add_code adds.Taken = 11
 add_code adds.NoMemory = no_memory
+
+abbrev pub folders_code : FoldersError → ℕ
+folders_code folders.NoOutbox = 12
+folders_code folders.NoInbox = 13
+folders_code folders.InboxInUse = 14
+folders_code folders.NoMemory = no_memory
+
+-- where the outbox failed to look for a file
+abbrev pub look_code : StoreError → ℕ
+look_code stores.Name = 22
+look_code stores.Device = 26
+look_code stores.NoMemory = no_memory
 
 abbrev pub put_code : PutError → ℕ
 put_code puts.NoSuchFile = 21

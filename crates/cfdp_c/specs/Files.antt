@@ -1,11 +1,19 @@
 -- What a caller reads of the published files, and which of them it lets go.
 use Rattle.std.specs.Prelude.{◌≡◌, ◌+◌, ℕ, Bool, true, false, List, length, take, drop, nat_le, Option, Some, None}
+use Rattle.std.specs.FinMap.{entries}
 use Rattle.cfdp_entity.specs.Entity.{with_table}
 use Rattle.cfdp_entity.specs.Forgetting.{without_file}
 use Rattle.cfdp_station.specs.Station.{StationState, KeepsLink}
 use Rattle.cfdp_c.specs.Codes.{ok, bad_argument, no_room, nothing}
 use Rattle.cfdp_c.specs.Told.{over}
+use Rattle.cfdp_c.specs.declared.held.AnyStation.{AnyStation}
+use Rattle.cfdp_c.specs.declared.held.AnyStation.TheVariants.{Memory, Folders}
 use Rattle.cfdp_c.specs.declared.files.CfdpFile.{CfdpFile}
+
+-- how many files are published, as far as they are in memory
+abbrev pub files_told : AnyStation → ℕ
+files_told (Memory s) = length (entries s.entity.state.table.files)
+files_told (Folders s) = 0
 
 abbrev pub NamesIf : Bool → (name octets : List ℕ) → ℕ → (out_before out_now : CfdpFile)
     → (room_before room_now : List ℕ) → Type 0

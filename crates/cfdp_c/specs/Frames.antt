@@ -7,7 +7,7 @@ use Rattle.link_stack.specs.Downward.{DownState, LinkSenderState, MakesFrame, fr
 use Rattle.cfdp_entity.specs.Polling.{TakesTurn, turn}
 use Rattle.cfdp_entity.specs.Sound.{SpellsTurn}
 use Rattle.cfdp_station.specs.Link.{FlushesBoth, WaitAtMost, HoldsAtMost}
-use Rattle.cfdp_station.specs.Polling.{Polls, next_len, next_room}
+use Rattle.cfdp_station.specs.Polling.{Polls, Shows, next_len, next_room}
 use Rattle.cfdp_station.specs.Station.{StationState, KeepsRest}
 use Rattle.cfdp_station.specs.Transmitting.{PullsInPart, Transmits}
 use Rattle.cfdp_station.specs.declared.polled.Polled.{Polled}
@@ -20,12 +20,13 @@ KeepsAhead old new =
     (lane : Lane) (frames : ℕ) → HoldsAtMost frames (lane_down lane old) →
     WaitAtMost frames (lane_down lane new)
 
--- A poll moved the PDU whose turn it was, or this is why not.
-pub record PollsOne (answer : ℕ) (old new : StationState) : Type 0 where
+-- A poll moved the PDU whose turn it was, read from what is lent, or this is why not.
+pub record PollsOne (answer : ℕ) (lent old new : StationState) : Type 0 where
   pub told : Result Polled AllocError
   pub code : answer ≡ poll_answer told
-  pub polled : IfOk told (λ p. Polls p old new)
-  pub spells : IfOk told (λ p. p ≡ Moved → SpellsTurn (turn old.entity.state) old.entity.state)
+  pub polled : IfOk told (λ p. Polls p lent new)
+  pub spells : IfOk told (λ p. p ≡ Moved → SpellsTurn (turn lent.entity.state) lent.entity.state)
+  pub shows : IfOk told (λ p. Shows p old.entity.state new.entity.state)
   pub full : IfOk told (λ p. (p ≡ Full)
       ↔ (next_room old.entity.state old.down < next_len old.entity.state))
   pub lacks : OnErr told (TakesTurn (next_room old.entity.state old.down) old.entity.state)

@@ -1,6 +1,7 @@
 pub mod Slots
 pub mod Codes
 pub mod Config
+pub mod Held
 pub mod Handles
 pub mod Calls
 pub mod Frames

@@ -1,13 +1,16 @@
 //! Files that the user of a station gives it and has sent, and the time.
-ghost use Rattle.std.specs.Prelude.{◌≡◌, ◌≢◌, false, Some, None};
-ghost use Rattle.cfdp_c.specs.Calls.{id_of, Adds, Puts, TellsTime, IsTimeout};
+ghost use Rattle.std.specs.Prelude.{◌≡◌, ◌≢◌, false, Some, None, MatchOption};
+ghost use Rattle.cfdp_c.specs.Calls.{id_of, Adds, Puts, PutsFrom, Seeks, TellsTime, IsTimeout};
+ghost use Rattle.cfdp_c.specs.Held.{has_folders, state_of, OfMemory};
 ghost use Rattle.cfdp_c.specs.Codes as codes;
 ghost use Rattle.cfdp_c.specs.Handles.{Becomes};
 
-use crate::codes::{CLOSED, NOTHING, OK, of_add, of_memory, of_put};
+use crate::codes::{CLOSED, IN_FOLDERS, NOTHING, OK, of_add, of_look, of_memory, of_put};
 use crate::handle::CfdpStation;
-use crate::held::Held;
+use crate::held::{AnyStation, Held};
 use cfdp_header::TransactionId;
+use cfdp_station::Station;
+use cfdp_store::{Inbox, Outbox, SeekingOutbox};
 use std::alloc::Global;
 
 /// Names a transaction: the entity that sends the file, and its number there.
@@ -38,48 +41,113 @@ impl CfdpId {
     }
 }
 
+/// Makes a put of a file that the outbox has.
+fn put<O: Outbox, I: Inbox>(
+    station: &mut Station<O, I>,
+    source: &[u8],
+    destination: &[u8],
+    id: &mut CfdpId,
+) -> u32
+    ensures puts { Puts source.now destination.now result id.new station.old station.new }
+    ensures kept { result ≢ codes.ok → id.new ≡ id.old }
+{
+    let answer = station.put(source, destination);
+    if let Ok(opened) = answer {
+        *id = CfdpId::of(opened);
+    }
+    of_put(answer)
+}
+
+/// Looks for a file, and makes its put.
+fn seek<O: SeekingOutbox, I: Inbox>(
+    station: &mut Station<O, I>,
+    source: &[u8],
+    destination: &[u8],
+    id: &mut CfdpId,
+) -> u32
+    ensures seeks { Seeks source.now destination.now result id.new station.old station.new }
+    ensures kept { result ≢ codes.ok → id.new ≡ id.old }
+{
+    match station.look_for(source) {
+        Ok(_) => put(station, source, destination, id),
+        Err(error) => of_look(error),
+    }
+}
+
+/// Tells a station the time.
+fn tick<O: Outbox, I: Inbox>(station: &mut Station<O, I>, now: u64) -> u32
+    ensures tells { TellsTime now result station.old station.new }
+{
+    of_memory(station.tick(now))
+}
+
+/// Tells a deadline, if there is one.
+fn tell_deadline(next: Option<u64>, deadline: &mut u64) -> u32
+    ensures { MatchOption next ((result ≡ codes.nothing) × (deadline.new ≡ deadline.old))
+        (λ at. (result ≡ codes.ok) × (deadline.new ≡ at)) }
+{
+    match next {
+        Some(at) => {
+            *deadline = at;
+            OK
+        }
+        None => NOTHING,
+    }
+}
+
 impl Held {
     fn add(&mut self, name: &[u8], octets: &[u8]) -> u32
-        ensures adds { Adds name.now octets.now result self.old.station self.new.station }
+        ensures adds { OfMemory self.old.station result
+            (Adds name.now octets.now result (state_of self.old.station)
+            (state_of self.new.station))
+            (state_of self.new.station ≡ state_of self.old.station) }
+        ensures place { has_folders self.new.station ≡ has_folders self.old.station }
     {
-        of_add(self.station.add_source(name, octets))
+        match &mut self.station {
+            AnyStation::Memory(station) => of_add(station.add_source(name, octets)),
+            AnyStation::Folders(_) => IN_FOLDERS,
+        }
     }
 
     fn put(&mut self, source: &[u8], destination: &[u8], id: &mut CfdpId) -> u32
-        ensures puts { Puts source.now destination.now result id.new self.old.station
-            self.new.station }
+        ensures puts { PutsFrom self.old.station source.now destination.now result id.new
+            (state_of self.new.station) }
         ensures kept { result ≢ codes.ok → id.new ≡ id.old }
+        ensures place { has_folders self.new.station ≡ has_folders self.old.station }
     {
-        let answer = self.station.put(source, destination);
-        if let Ok(opened) = answer {
-            *id = CfdpId::of(opened);
+        match &mut self.station {
+            AnyStation::Memory(station) => put(station, source, destination, id),
+            AnyStation::Folders(station) => seek(station, source, destination, id),
         }
-        of_put(answer)
     }
 
     fn tick(&mut self, now: u64) -> u32
-        ensures tells { TellsTime now result self.old.station self.new.station }
+        ensures tells { TellsTime now result (state_of self.old.station)
+            (state_of self.new.station) }
+        ensures place { has_folders self.new.station ≡ has_folders self.old.station }
     {
-        of_memory(self.station.tick(now))
+        match &mut self.station {
+            AnyStation::Memory(station) => tick(station, now),
+            AnyStation::Folders(station) => tick(station, now),
+        }
     }
 
     fn next_timeout(&self, deadline: &mut u64) -> u32
-        ensures some { result ≡ codes.ok → IsTimeout (Some deadline.new) self.now.station }
+        ensures some { result ≡ codes.ok
+            → IsTimeout (Some deadline.new) (state_of self.now.station) }
         ensures none { result ≢ codes.ok → (result ≡ codes.nothing)
-            × (deadline.new ≡ deadline.old) × IsTimeout None self.now.station }
+            × (deadline.new ≡ deadline.old) × IsTimeout None (state_of self.now.station) }
     {
-        match self.station.next_timeout() {
-            Some(next) => {
-                *deadline = next;
-                OK
-            }
-            None => NOTHING,
+        match &self.station {
+            AnyStation::Memory(station) => tell_deadline(station.next_timeout(), deadline),
+            AnyStation::Folders(station) => tell_deadline(station.next_timeout(), deadline),
         }
     }
 }
 
 /// Adds a file to the outbox; both are copied. The first cause that holds: 0, `CLOSED`,
-/// `NAME_TAKEN` where there is a file of that name, or `NO_MEMORY`.
+/// `IN_FOLDERS` where the outbox is a folder, `NAME_TAKEN` where there is a file of that name, or
+/// `NO_MEMORY`.
 #[unsafe(no_mangle)]
 pub extern "C" fn cfdp_add(
     alloc: Global,
@@ -89,8 +157,9 @@ pub extern "C" fn cfdp_add(
 ) -> u32
     ensures open { station.new.is_open ≡ station.old.is_open }
     ensures closed { station.old.is_open ≡ false → result ≡ codes.closed }
-    ensures adds { Becomes station.old station.new (λ x y.
-        Adds name.now octets.now result x.station y.station) }
+    ensures adds { Becomes station.old station.new (λ x y. OfMemory x.station result
+        (Adds name.now octets.now result (state_of x.station) (state_of y.station))
+        (state_of y.station ≡ state_of x.station)) }
 {
     let Some(mut held) = station.lift(alloc) else {
         return CLOSED;
@@ -101,7 +170,8 @@ pub extern "C" fn cfdp_add(
 }
 
 /// Sends a file of the outbox, to be published by the peer under the second name; `id` is the
-/// transaction. Answers 0, `CLOSED`, `NO_MEMORY`, or why the put is refused.
+/// transaction. In a folder the file is looked for first. Answers 0, `CLOSED`, `NO_MEMORY`, or why
+/// the put is refused.
 #[unsafe(no_mangle)]
 pub extern "C" fn cfdp_put(
     alloc: Global,
@@ -114,7 +184,7 @@ pub extern "C" fn cfdp_put(
     ensures closed { station.old.is_open ≡ false → result ≡ codes.closed }
     ensures kept { result ≢ codes.ok → id.new ≡ id.old }
     ensures puts { Becomes station.old station.new (λ x y.
-        Puts source.now destination.now result id.new x.station y.station) }
+        PutsFrom x.station source.now destination.now result id.new (state_of y.station)) }
 {
     let Some(mut held) = station.lift(alloc) else {
         return CLOSED;
@@ -131,7 +201,7 @@ pub extern "C" fn cfdp_tick(alloc: Global, station: &mut CfdpStation, now: u64) 
     ensures open { station.new.is_open ≡ station.old.is_open }
     ensures closed { station.old.is_open ≡ false → result ≡ codes.closed }
     ensures tells { Becomes station.old station.new (λ x y.
-        TellsTime now result x.station y.station) }
+        TellsTime now result (state_of x.station) (state_of y.station)) }
 {
     let Some(mut held) = station.lift(alloc) else {
         return CLOSED;
@@ -153,9 +223,9 @@ pub extern "C" fn cfdp_next_timeout(
     ensures closed { station.old.is_open ≡ false → result ≡ codes.closed }
     ensures kept { result ≢ codes.ok → deadline.new ≡ deadline.old }
     ensures some { Becomes station.old station.new (λ x y. (y ≡ x)
-        × (result ≡ codes.ok → IsTimeout (Some deadline.new) x.station)) }
+        × (result ≡ codes.ok → IsTimeout (Some deadline.new) (state_of x.station))) }
     ensures none { Becomes station.old station.new (λ x y. (y ≡ x)
-        × (result ≢ codes.ok → (result ≡ codes.nothing) × IsTimeout None x.station)) }
+        × (result ≢ codes.ok → (result ≡ codes.nothing) × IsTimeout None (state_of x.station))) }
 {
     let Some(held) = station.lift(alloc) else {
         return CLOSED;

@@ -1,10 +1,14 @@
 // What a call answers to C: a number, of which 0 is that all went well.
-ghost use Rattle.std.specs.Prelude.{◌≡◌};
+ghost use Rattle.std.specs.Prelude.{◌≡◌, MatchOption};
+ghost use Rattle.cfdp_c.specs.Codes as codes;
+ghost use Rattle.cfdp_c.specs.Codes.{folders_code, look_code};
 ghost use Rattle.cfdp_c.specs.Codes.{add_answer, request_answer, forget_answer, put_answer};
 ghost use Rattle.cfdp_c.specs.Codes.{poll_answer, transmit_answer, memory_answer};
 
+use crate::held::FoldersError;
 use cfdp_header::TransactionId;
 use cfdp_station::{AddError, ForgetError, Lane, Polled, PutError, RequestError};
+use cfdp_store::StoreError;
 use std::alloc::AllocError;
 
 /// The call did what it says.
@@ -21,6 +25,10 @@ pub(crate) const NO_MEMORY: u32 = 4;
 pub(crate) const NO_ROOM: u32 = 5;
 /// There is nothing of the kind.
 pub(crate) const NOTHING: u32 = 6;
+/// The files are in folders, and the call is of files in memory.
+pub(crate) const IN_FOLDERS: u32 = 7;
+/// A name isn't as it has to be.
+const BAD_NAME: u32 = 22;
 /// The outbox failed to give octets of a file.
 const SOURCE_FAULT: u32 = 26;
 /// The transaction has no record here.
@@ -37,6 +45,39 @@ pub(crate) fn of_add(answer: Result<(), AddError>) -> u32
     }
 }
 
+/// What a caller is told where no station over folders can be opened.
+pub(crate) fn of_folders(error: FoldersError) -> u32
+    ensures { result ≡ folders_code error }
+{
+    match error {
+        FoldersError::NoOutbox => 12,
+        FoldersError::NoInbox => 13,
+        FoldersError::InboxInUse => 14,
+        FoldersError::NoMemory => NO_MEMORY,
+    }
+}
+
+/// What a caller is told where the outbox failed to look for a file.
+pub(crate) fn of_look(error: StoreError) -> u32
+    ensures { result ≡ look_code error }
+{
+    match error {
+        StoreError::Name => BAD_NAME,
+        StoreError::Device => SOURCE_FAULT,
+        StoreError::NoMemory => NO_MEMORY,
+    }
+}
+
+/// What a caller is told of the next frame that was asked for.
+pub(crate) fn of_frame(lane: Option<Lane>) -> u32
+    ensures { MatchOption lane (result ≡ codes.nothing) (λ _. result ≡ codes.ok) }
+{
+    match lane {
+        Some(_) => OK,
+        None => NOTHING,
+    }
+}
+
 /// What a caller is told of a put.
 pub(crate) fn of_put(answer: Result<TransactionId, PutError>) -> u32
     ensures { result ≡ put_answer answer }
@@ -44,7 +85,7 @@ pub(crate) fn of_put(answer: Result<TransactionId, PutError>) -> u32
     match answer {
         Ok(_) => OK,
         Err(PutError::NoSuchFile) => 21,
-        Err(PutError::Name) => 22,
+        Err(PutError::Name) => BAD_NAME,
         Err(PutError::TooLarge) => 23,
         Err(PutError::TableFull) => 24,
         Err(PutError::NumbersSpent) => 25,

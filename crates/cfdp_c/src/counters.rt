@@ -3,10 +3,11 @@ ghost use Rattle.std.specs.Prelude.{◌≡◌, ◌≢◌};
 ghost use Rattle.cfdp_c.specs.Codes as codes;
 ghost use Rattle.cfdp_c.specs.Counters as counts;
 ghost use Rattle.cfdp_c.specs.Handles.{Answers};
+ghost use Rattle.cfdp_c.specs.Held.{state_of};
 
 use crate::codes::{CLOSED, OK};
 use crate::handle::CfdpStation;
-use crate::held::Held;
+use crate::held::{AnyStation, Held};
 use cfdp_station::{Counters, FrameDrops, PduDrops, SentPdus};
 use std::alloc::Global;
 
@@ -173,9 +174,12 @@ impl CfdpCounters {
 impl Held {
     #[tactic(auto, unfolding(crate::specs::Counters::counters_of))]
     fn counters(&self) -> CfdpCounters
-        ensures { result ≡ counts.counters_of self.now.station }
+        ensures { result ≡ counts.counters_of (state_of self.now.station) }
     {
-        CfdpCounters::of(self.station.counters())
+        match &self.station {
+            AnyStation::Memory(station) => CfdpCounters::of(station.counters()),
+            AnyStation::Folders(station) => CfdpCounters::of(station.counters()),
+        }
     }
 }
 
@@ -187,7 +191,7 @@ pub extern "C" fn cfdp_counters(
     counters: &mut CfdpCounters,
 ) -> u32
     ensures counts { Answers result station.old station.new (λ x y. (y ≡ x) × (result ≡ codes.ok)
-        × (counters.new ≡ counts.counters_of x.station)) }
+        × (counters.new ≡ counts.counters_of (state_of x.station))) }
     ensures kept { result ≢ codes.ok → counters.new ≡ counters.old }
 {
     let Some(held) = station.lift(alloc) else {

@@ -1,4 +1,5 @@
-//! The published files, by their places in ascending order of their names, until they are let go.
+//! The published files of a station with its files in memory, by their places in ascending order of
+//! their names, until they are let go.
 ghost use Rattle.std.specs.Prelude.{◌≡◌, ◌≢◌, ◌+◌, false, length, nat_le, slice_get};
 ghost use Rattle.std.specs.BTreeMap.{IsOrdered};
 ghost use Rattle.std.specs.Cmp.Lexicographic.{slice_cmp};
@@ -7,14 +8,16 @@ ghost use Rattle.std.specs.FinMap.{entries};
 ghost use Rattle.std.specs.Option.{option_map};
 ghost use Rattle.std.specs.Ordering.{nat_cmp};
 ghost use Rattle.cfdp_c.specs.Codes as codes;
-ghost use Rattle.cfdp_c.specs.Files.{NamesFile, ReadsFile, ReadsIf, RemovesFile};
+ghost use Rattle.cfdp_c.specs.Files.{NamesFile, ReadsFile, ReadsIf, RemovesFile, files_told};
 ghost use Rattle.cfdp_c.specs.Handles.{Becomes};
+ghost use Rattle.cfdp_c.specs.Held.{has_folders, state_of, OfMemory};
 
-use crate::codes::{BAD_ARGUMENT, CLOSED, NO_ROOM, NOTHING, OK};
+use crate::codes::{BAD_ARGUMENT, CLOSED, IN_FOLDERS, NO_ROOM, NOTHING, OK};
 use crate::handle::CfdpStation;
-use crate::held::Held;
+use crate::held::{AnyStation, Held};
 use crate::room::put;
-use cfdp_store::Files;
+use cfdp_station::Station;
+use cfdp_store::{Files, MemoryInbox, Outbox};
 use std::alloc::Global;
 use std::collections::BTreeMap;
 
@@ -73,64 +76,109 @@ fn read(octets: &[u8], offset: usize, room: &mut [u8]) -> u32
     OK
 }
 
+/// Tells how long the name and the file at a place are, and the name.
+fn tell_file(files: &Files, place: usize, out: &mut CfdpFile, name: &mut [u8]) -> u32
+    ensures names { NamesFile (slice_get (entries files.now) place) result out.old out.new
+        name.old name.new }
+    ensures kept { result ≢ codes.ok → (out.new ≡ out.old) × (name.new ≡ name.old) }
+{
+    let Some((named, octets)) = file_at(files, place) else {
+        return NOTHING;
+    };
+    if !put(named.as_slice(), name) {
+        return NO_ROOM;
+    }
+    *out = CfdpFile {
+        name_len: named.len(),
+        size: octets.len(),
+    };
+    OK
+}
+
+/// Reads from the file at a place.
+fn read_at(files: &Files, place: usize, offset: usize, out: &mut [u8]) -> u32
+    ensures reads { ReadsFile (slice_get (entries files.now) place) offset result out.old
+        out.new }
+    ensures kept { result ≢ codes.ok → out.new ≡ out.old }
+{
+    match file_at(files, place) {
+        Some((_, octets)) => read(octets.as_slice(), offset, out),
+        None => NOTHING,
+    }
+}
+
+/// Removes a published file.
+fn remove<O: Outbox>(station: &mut Station<O, MemoryInbox>, name: &[u8]) -> u32
+    ensures { RemovesFile (map.get station.old.entity.state.table.files name.now) name.now
+        result station.old station.new }
+{
+    // Where there is none, the clause says that nothing changed.
+    if station.inbox().published().get(name).is_none() {
+        return NOTHING;
+    }
+    let _ = station.remove_file(name);
+    OK
+}
+
 impl Held {
     fn file_count(&self) -> usize
-        ensures { result ≡ length (entries self.now.station.entity.state.table.files) }
+        ensures { result ≡ files_told self.now.station }
     {
-        count(self.station.inbox().published())
+        match &self.station {
+            AnyStation::Memory(station) => count(station.inbox().published()),
+            AnyStation::Folders(_) => 0,
+        }
     }
 
     fn file(&self, place: usize, out: &mut CfdpFile, name: &mut [u8]) -> u32
-        ensures names { NamesFile
-            (slice_get (entries self.now.station.entity.state.table.files) place) result
-            out.old out.new name.old name.new }
+        ensures names { OfMemory self.now.station result (NamesFile
+            (slice_get (entries (state_of self.now.station).entity.state.table.files) place)
+            result out.old out.new name.old name.new) (out.new ≡ out.old) }
         ensures kept { result ≢ codes.ok → (out.new ≡ out.old) × (name.new ≡ name.old) }
     {
-        let Some((named, octets)) = file_at(self.station.inbox().published(), place) else {
-            return NOTHING;
-        };
-        if !put(named.as_slice(), name) {
-            return NO_ROOM;
+        match &self.station {
+            AnyStation::Memory(station) => {
+                tell_file(station.inbox().published(), place, out, name)
+            }
+            AnyStation::Folders(_) => IN_FOLDERS,
         }
-        *out = CfdpFile {
-            name_len: named.len(),
-            size: octets.len(),
-        };
-        OK
     }
 
     fn read_file(&self, place: usize, offset: usize, out: &mut [u8]) -> u32
-        ensures reads { ReadsFile
-            (slice_get (entries self.now.station.entity.state.table.files) place) offset result
-            out.old out.new }
+        ensures reads { OfMemory self.now.station result (ReadsFile
+            (slice_get (entries (state_of self.now.station).entity.state.table.files) place)
+            offset result out.old out.new) (out.new ≡ out.old) }
         ensures kept { result ≢ codes.ok → out.new ≡ out.old }
     {
-        match file_at(self.station.inbox().published(), place) {
-            Some((_, octets)) => read(octets.as_slice(), offset, out),
-            None => NOTHING,
+        match &self.station {
+            AnyStation::Memory(station) => {
+                read_at(station.inbox().published(), place, offset, out)
+            }
+            AnyStation::Folders(_) => IN_FOLDERS,
         }
     }
 
     fn remove_file(&mut self, name: &[u8]) -> u32
-        ensures { RemovesFile (map.get self.old.station.entity.state.table.files name.now) name.now
-            result self.old.station self.new.station }
+        ensures removes { OfMemory self.old.station result (RemovesFile
+            (map.get (state_of self.old.station).entity.state.table.files name.now) name.now
+            result (state_of self.old.station) (state_of self.new.station))
+            (state_of self.new.station ≡ state_of self.old.station) }
+        ensures place { has_folders self.new.station ≡ has_folders self.old.station }
     {
-        // Where there is none, the clause says that nothing changed.
-        if self.station.inbox().published().get(name).is_none() {
-            return NOTHING;
+        match &mut self.station {
+            AnyStation::Memory(station) => remove(station, name),
+            AnyStation::Folders(_) => IN_FOLDERS,
         }
-        let _ = self.station.remove_file(name);
-        OK
     }
 }
 
-/// How many files are published; 0 of a closed handle.
+/// How many files are published in memory; 0 of a closed handle, and of one with folders.
 #[unsafe(no_mangle)]
 pub extern "C" fn cfdp_file_count(alloc: Global, station: &mut CfdpStation) -> usize
     ensures open { station.new.is_open ≡ station.old.is_open }
     ensures closed { station.old.is_open ≡ false → result ≡ 0 }
     ensures count { Becomes station.old station.new (λ x y. (y ≡ x)
-        × (result ≡ length (entries x.station.entity.state.table.files))) }
+        × (result ≡ files_told x.station)) }
 {
     let Some(held) = station.lift(alloc) else {
         return 0;
@@ -141,7 +189,8 @@ pub extern "C" fn cfdp_file_count(alloc: Global, station: &mut CfdpStation) -> u
 }
 
 /// Tells the size of the published file at a place, and copies its name into lent room of 255
-/// octets or less. Answers 0, `CLOSED`, `NOTHING` where there are not so many files, or `NO_ROOM`.
+/// octets or less. Answers 0, `CLOSED`, `IN_FOLDERS` where they lie in a folder, `NOTHING` where
+/// there are not so many files, or `NO_ROOM`.
 #[unsafe(no_mangle)]
 pub extern "C" fn cfdp_file(
     alloc: Global,
@@ -154,8 +203,9 @@ pub extern "C" fn cfdp_file(
     ensures closed { station.old.is_open ≡ false → result ≡ codes.closed }
     ensures kept { result ≢ codes.ok → (out.new ≡ out.old) × (name.new ≡ name.old) }
     ensures names { Becomes station.old station.new (λ x y. (y ≡ x)
-        × NamesFile (slice_get (entries x.station.entity.state.table.files) place) result
-        out.old out.new name.old name.new) }
+        × OfMemory x.station result (NamesFile
+        (slice_get (entries (state_of x.station).entity.state.table.files) place) result
+        out.old out.new name.old name.new) (out.new ≡ out.old)) }
 {
     let Some(held) = station.lift(alloc) else {
         return CLOSED;
@@ -166,8 +216,8 @@ pub extern "C" fn cfdp_file(
 }
 
 /// Fills lent room with octets of the published file at a place, from an offset on. Answers 0,
-/// `CLOSED`, `NOTHING` where there are not so many files, or `BAD_ARGUMENT` where the file ends
-/// before that.
+/// `CLOSED`, `IN_FOLDERS` where they lie in a folder, `NOTHING` where there are not so many files,
+/// or `BAD_ARGUMENT` where the file ends before that.
 #[unsafe(no_mangle)]
 pub extern "C" fn cfdp_read_file(
     alloc: Global,
@@ -180,8 +230,9 @@ pub extern "C" fn cfdp_read_file(
     ensures closed { station.old.is_open ≡ false → result ≡ codes.closed }
     ensures kept { result ≢ codes.ok → out.new ≡ out.old }
     ensures reads { Becomes station.old station.new (λ x y. (y ≡ x)
-        × ReadsFile (slice_get (entries x.station.entity.state.table.files) place) offset result
-        out.old out.new) }
+        × OfMemory x.station result (ReadsFile
+        (slice_get (entries (state_of x.station).entity.state.table.files) place) offset result
+        out.old out.new) (out.new ≡ out.old)) }
 {
     let Some(held) = station.lift(alloc) else {
         return CLOSED;
@@ -192,14 +243,16 @@ pub extern "C" fn cfdp_read_file(
 }
 
 /// Lets go of the published file of a name: the places of those behind it are one less then.
-/// Answers 0, `CLOSED`, or `NOTHING` where there is no file of that name.
+/// Answers 0, `CLOSED`, `IN_FOLDERS` where they lie in a folder, or `NOTHING` where there is no
+/// file of that name.
 #[unsafe(no_mangle)]
 pub extern "C" fn cfdp_remove_file(alloc: Global, station: &mut CfdpStation, name: &[u8]) -> u32
     ensures open { station.new.is_open ≡ station.old.is_open }
     ensures closed { station.old.is_open ≡ false → result ≡ codes.closed }
-    ensures removes { Becomes station.old station.new (λ x y. RemovesFile
-        (map.get x.station.entity.state.table.files name.now) name.now result
-        x.station y.station) }
+    ensures removes { Becomes station.old station.new (λ x y. OfMemory x.station result
+        (RemovesFile (map.get (state_of x.station).entity.state.table.files name.now) name.now
+        result (state_of x.station) (state_of y.station))
+        (state_of y.station ≡ state_of x.station)) }
 {
     let Some(mut held) = station.lift(alloc) else {
         return CLOSED;

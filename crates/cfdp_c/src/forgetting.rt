@@ -4,32 +4,55 @@ ghost use Rattle.cfdp_entity.specs.Entity.{is_forgotten};
 ghost use Rattle.cfdp_c.specs.Calls.{id_of, ForgetsOne, ForgetsClosed};
 ghost use Rattle.cfdp_c.specs.Codes as codes;
 ghost use Rattle.cfdp_c.specs.Handles.{Becomes};
+ghost use Rattle.cfdp_c.specs.Held.{has_folders, state_of};
 ghost use Rattle.cfdp_c.specs.Told.{bit};
 
 use crate::calls::CfdpId;
 use crate::codes::{CLOSED, OK, of_forget, of_memory};
 use crate::handle::CfdpStation;
-use crate::held::Held;
+use crate::held::{AnyStation, Held};
 use cfdp_header::TransactionId;
+use cfdp_station::Station;
+use cfdp_store::{Inbox, Outbox};
 use std::alloc::Global;
+
+/// Lets go of all records of a station that may go.
+fn forget_closed<O: Outbox, I: Inbox>(station: &mut Station<O, I>) -> u32
+    ensures forgets { ForgetsClosed result station.old station.new }
+{
+    of_memory(station.forget_closed())
+}
 
 impl Held {
     fn forget(&mut self, id: TransactionId) -> u32
-        ensures { ForgetsOne id result self.old.station self.new.station }
+        ensures forgets { ForgetsOne id result (state_of self.old.station)
+            (state_of self.new.station) }
+        ensures place { has_folders self.new.station ≡ has_folders self.old.station }
     {
-        of_forget(self.station.forget(id))
+        match &mut self.station {
+            AnyStation::Memory(station) => of_forget(station.forget(id)),
+            AnyStation::Folders(station) => of_forget(station.forget(id)),
+        }
     }
 
     fn forget_closed(&mut self) -> u32
-        ensures { ForgetsClosed result self.old.station self.new.station }
+        ensures forgets { ForgetsClosed result (state_of self.old.station)
+            (state_of self.new.station) }
+        ensures place { has_folders self.new.station ≡ has_folders self.old.station }
     {
-        of_memory(self.station.forget_closed())
+        match &mut self.station {
+            AnyStation::Memory(station) => forget_closed(station),
+            AnyStation::Folders(station) => forget_closed(station),
+        }
     }
 
     fn was_forgotten(&self, id: TransactionId) -> u8
-        ensures { result ≡ bit (is_forgotten self.now.station.entity.state id) }
+        ensures { result ≡ bit (is_forgotten (state_of self.now.station).entity.state id) }
     {
-        u8::from(self.station.was_forgotten(id))
+        match &self.station {
+            AnyStation::Memory(station) => u8::from(station.was_forgotten(id)),
+            AnyStation::Folders(station) => u8::from(station.was_forgotten(id)),
+        }
     }
 }
 
@@ -44,7 +67,7 @@ pub extern "C" fn cfdp_forget(alloc: Global, station: &mut CfdpStation, id: &Cfd
     ensures open { station.new.is_open ≡ station.old.is_open }
     ensures closed { station.old.is_open ≡ false → result ≡ codes.closed }
     ensures forgets { Becomes station.old station.new (λ x y.
-        ForgetsOne (id_of id.now) result x.station y.station) }
+        ForgetsOne (id_of id.now) result (state_of x.station) (state_of y.station)) }
 {
     let Some(mut held) = station.lift(alloc) else {
         return CLOSED;
@@ -61,7 +84,7 @@ pub extern "C" fn cfdp_forget_closed(alloc: Global, station: &mut CfdpStation) -
     ensures open { station.new.is_open ≡ station.old.is_open }
     ensures closed { station.old.is_open ≡ false → result ≡ codes.closed }
     ensures forgets { Becomes station.old station.new (λ x y.
-        ForgetsClosed result x.station y.station) }
+        ForgetsClosed result (state_of x.station) (state_of y.station)) }
 {
     let Some(mut held) = station.lift(alloc) else {
         return CLOSED;
@@ -84,7 +107,7 @@ pub extern "C" fn cfdp_was_forgotten(
     ensures closed { station.old.is_open ≡ false → result ≡ codes.closed }
     ensures kept { result ≢ codes.ok → was.new ≡ was.old }
     ensures told { Becomes station.old station.new (λ x y. (y ≡ x) × (result ≡ codes.ok)
-        × (was.new ≡ bit (is_forgotten x.station.entity.state (id_of id.now)))) }
+        × (was.new ≡ bit (is_forgotten (state_of x.station).entity.state (id_of id.now)))) }
 {
     let Some(held) = station.lift(alloc) else {
         return CLOSED;

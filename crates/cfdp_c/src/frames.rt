@@ -2,66 +2,133 @@
 ghost use Rattle.std.specs.Prelude.{◌≡◌, ◌≢◌, ◌+◌, false};
 ghost use Rattle.aos_frame.specs.declared.config.Lane.{Lane};
 ghost use Rattle.link_stack.specs.Downward.{lane_down};
+ghost use Rattle.cfdp_station.specs.Station.{station_lent};
 ghost use Rattle.cfdp_station.specs.Taking.{TakesFrame};
 ghost use Rattle.cfdp_c.specs.Codes as codes;
 ghost use Rattle.cfdp_c.specs.Frames.{PollsOne, FillsFrames, GivesFrame, AreAhead, TransmitsTo};
 ghost use Rattle.cfdp_c.specs.Handles.{Answers, Becomes};
+ghost use Rattle.cfdp_c.specs.Held.{before_poll, has_folders, state_of};
 
-use crate::codes::{CLOSED, NO_ROOM, NOTHING, OK, of_poll, of_transmit};
+use crate::codes::{CLOSED, NO_ROOM, OK, of_frame, of_poll, of_transmit};
 use crate::handle::CfdpStation;
-use crate::held::Held;
-use cfdp_station::Lane;
+use crate::held::{AnyStation, Held};
+use cfdp_station::{Lane, Station};
+use cfdp_store::{Inbox, MemoryInbox, MemoryOutbox, Outbox};
 use std::alloc::Global;
+
+/// Polls a station.
+fn poll<O: Outbox, I: Inbox>(station: &mut Station<O, I>) -> u32
+    ensures polls { PollsOne result (station_lent station.new station.old) station.old
+        station.new }
+{
+    of_poll(station.poll())
+}
+
+/// Polls a station whose files are in memory.
+fn poll_memory(station: &mut Station<MemoryOutbox, MemoryInbox>) -> u32
+    ensures polls { PollsOne result station.old station.old station.new }
+{
+    let answer = station.poll();
+    // For the prover: its files are in memory, and so always stand: what was read is what they
+    // have.
+    let _ = station.outbox();
+    of_poll(answer)
+}
+
+/// The most whole frames that can wait, those of both lanes.
+fn frames_ahead<O: Outbox, I: Inbox>(station: &Station<O, I>) -> usize
+    ensures { AreAhead result station.now.down }
+{
+    let directives = station.frames_ahead(Lane::Directives);
+    let file_data = station.frames_ahead(Lane::Data);
+    directives.saturating_add(file_data)
+}
 
 impl Held {
     fn poll(&mut self) -> u32
-        ensures polls { PollsOne result self.old.station self.new.station }
+        ensures polls { PollsOne result
+            (before_poll self.old.station (state_of self.new.station))
+            (state_of self.old.station) (state_of self.new.station) }
+        ensures place { has_folders self.new.station ≡ has_folders self.old.station }
     {
-        let answer = self.station.poll();
-        // For the prover: its files are in memory, and so always stand: what was read is what they
-        // have.
-        let _ = self.station.outbox();
-        of_poll(answer)
+        match &mut self.station {
+            AnyStation::Memory(station) => poll_memory(station),
+            AnyStation::Folders(station) => poll(station),
+        }
     }
 
     fn transmit(&mut self, out: &mut [u8]) -> u32
-        ensures { TransmitsTo result out.old out.new self.old.station self.new.station }
+        ensures sends { TransmitsTo result out.old out.new (state_of self.old.station)
+            (state_of self.new.station) }
+        ensures place { has_folders self.new.station ≡ has_folders self.old.station }
     {
-        if out.len() != self.frame_len() {
+        if out.len() != self.room_len() {
             return NO_ROOM;
         }
-        of_transmit(self.station.transmit_into(out))
+        match &mut self.station {
+            AnyStation::Memory(station) => of_transmit(station.transmit_into(out)),
+            AnyStation::Folders(station) => of_transmit(station.transmit_into(out)),
+        }
     }
 
     fn flush(&mut self)
-        ensures fills { FillsFrames self.old.station self.new.station }
+        ensures fills { FillsFrames (state_of self.old.station) (state_of self.new.station) }
+        ensures place { has_folders self.new.station ≡ has_folders self.old.station }
     {
-        self.station.flush();
+        match &mut self.station {
+            AnyStation::Memory(station) => station.flush(),
+            AnyStation::Folders(station) => station.flush(),
+        }
+    }
+
+    fn receive(&mut self, frame: &[u8])
+        ensures takes { TakesFrame frame.now (state_of self.old.station)
+            (state_of self.new.station) }
+        ensures place { has_folders self.new.station ≡ has_folders self.old.station }
+    {
+        match &mut self.station {
+            AnyStation::Memory(station) => station.receive(frame),
+            AnyStation::Folders(station) => station.receive(frame),
+        }
     }
 
     fn frames_ahead(&self) -> usize
-        ensures { AreAhead result self.now.station.down }
+        ensures { AreAhead result (state_of self.now.station).down }
     {
-        let directives = self.station.frames_ahead(Lane::Directives);
-        let file_data = self.station.frames_ahead(Lane::Data);
-        directives.saturating_add(file_data)
+        match &self.station {
+            AnyStation::Memory(station) => frames_ahead(station),
+            AnyStation::Folders(station) => frames_ahead(station),
+        }
     }
 
     fn frame_len(&self) -> usize
-        ensures { result ≡ 8 + self.now.station.down.directives.link.zone }
+        ensures { (lane : Lane) → result
+            ≡ 8 + (lane_down lane (state_of self.now.station).down).link.zone }
     {
-        self.station.frame_len()
+        match &self.station {
+            AnyStation::Memory(station) => station.frame_len(),
+            AnyStation::Folders(station) => station.frame_len(),
+        }
+    }
+
+    /// The octets of room for a frame.
+    fn room_len(&self) -> usize
+        ensures { result ≡ 8 + (state_of self.now.station).down.directives.link.zone }
+    {
+        self.frame_len()
     }
 
     fn next_frame(&mut self, out: &mut [u8]) -> u32
-        ensures gives { GivesFrame result out.old out.new self.old.station self.new.station }
+        ensures gives { GivesFrame result out.old out.new (state_of self.old.station)
+            (state_of self.new.station) }
+        ensures place { has_folders self.new.station ≡ has_folders self.old.station }
     {
-        if out.len() != self.frame_len() {
+        if out.len() != self.room_len() {
             return NO_ROOM;
         }
-        match self.station.next_frame(out) {
-            Some(_) => OK,
-            None => NOTHING,
+        match &mut self.station {
+            AnyStation::Memory(station) => of_frame(station.next_frame(out)),
+            AnyStation::Folders(station) => of_frame(station.next_frame(out)),
         }
     }
 }
@@ -73,7 +140,7 @@ impl Held {
 #[unsafe(no_mangle)]
 pub extern "C" fn cfdp_transmit(alloc: Global, station: &mut CfdpStation, frame: &mut [u8]) -> u32
     ensures sends { Answers result station.old station.new
-        (λ x y. TransmitsTo result frame.old frame.new x.station y.station) }
+        (λ x y. TransmitsTo result frame.old frame.new (state_of x.station) (state_of y.station)) }
     ensures kept { result ≢ codes.ok → frame.new ≡ frame.old }
 {
     let Some(mut held) = station.lift(alloc) else {
@@ -92,7 +159,8 @@ pub extern "C" fn cfdp_poll(alloc: Global, station: &mut CfdpStation) -> u32
     ensures open { station.new.is_open ≡ station.old.is_open }
     ensures closed { station.old.is_open ≡ false → result ≡ codes.closed }
     ensures polls { Becomes station.old station.new (λ x y.
-        PollsOne result x.station y.station) }
+        PollsOne result (before_poll x.station (state_of y.station)) (state_of x.station)
+        (state_of y.station)) }
 {
     let Some(mut held) = station.lift(alloc) else {
         return CLOSED;
@@ -109,7 +177,7 @@ pub extern "C" fn cfdp_flush(alloc: Global, station: &mut CfdpStation) -> u32
     ensures open { station.new.is_open ≡ station.old.is_open }
     ensures closed { station.old.is_open ≡ false → result ≡ codes.closed }
     ensures fills { Becomes station.old station.new (λ x y. (result ≡ codes.ok)
-        × FillsFrames x.station y.station) }
+        × FillsFrames (state_of x.station) (state_of y.station)) }
 {
     let Some(mut held) = station.lift(alloc) else {
         return CLOSED;
@@ -125,12 +193,12 @@ pub extern "C" fn cfdp_frame_len(alloc: Global, station: &mut CfdpStation) -> us
     ensures open { station.new.is_open ≡ station.old.is_open }
     ensures closed { station.old.is_open ≡ false → result ≡ 0 }
     ensures len { Becomes station.old station.new (λ x y. (y ≡ x)
-        × ((lane : Lane) → result ≡ 8 + (lane_down lane x.station.down).link.zone)) }
+        × ((lane : Lane) → result ≡ 8 + (lane_down lane (state_of x.station).down).link.zone)) }
 {
     let Some(held) = station.lift(alloc) else {
         return 0;
     };
-    let len = held.station.frame_len();
+    let len = held.frame_len();
     *station = CfdpStation::holding(held);
     len
 }
@@ -142,7 +210,7 @@ pub extern "C" fn cfdp_frames_ahead(alloc: Global, station: &mut CfdpStation) ->
     ensures open { station.new.is_open ≡ station.old.is_open }
     ensures closed { station.old.is_open ≡ false → result ≡ 0 }
     ensures ahead { Becomes station.old station.new (λ x y. (y ≡ x)
-        × AreAhead result x.station.down) }
+        × AreAhead result (state_of x.station).down) }
 {
     let Some(held) = station.lift(alloc) else {
         return 0;
@@ -161,7 +229,7 @@ pub extern "C" fn cfdp_next_frame(alloc: Global, station: &mut CfdpStation, fram
     ensures closed { station.old.is_open ≡ false → result ≡ codes.closed }
     ensures kept { result ≢ codes.ok → frame.new ≡ frame.old }
     ensures gives { Becomes station.old station.new (λ x y.
-        GivesFrame result frame.old frame.new x.station y.station) }
+        GivesFrame result frame.old frame.new (state_of x.station) (state_of y.station)) }
 {
     let Some(mut held) = station.lift(alloc) else {
         return CLOSED;
@@ -178,12 +246,12 @@ pub extern "C" fn cfdp_receive(alloc: Global, station: &mut CfdpStation, frame: 
     ensures open { station.new.is_open ≡ station.old.is_open }
     ensures closed { station.old.is_open ≡ false → result ≡ codes.closed }
     ensures takes { Becomes station.old station.new (λ x y. (result ≡ codes.ok)
-        × TakesFrame frame.now x.station y.station) }
+        × TakesFrame frame.now (state_of x.station) (state_of y.station)) }
 {
     let Some(mut held) = station.lift(alloc) else {
         return CLOSED;
     };
-    held.station.receive(frame);
+    held.receive(frame);
     *station = CfdpStation::holding(held);
     OK
 }

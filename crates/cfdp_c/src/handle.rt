@@ -1,12 +1,13 @@
 //! A station in a caller's memory: to open and to close it.
-ghost use Rattle.std.specs.Prelude.{◌≡◌, ◌↔◌, ◌≢◌, ◌⊎◌, true, false, Some, IsSome, IsSomeAnd};
+ghost use Rattle.std.specs.Prelude.{◌≡◌, ◌↔◌, ◌≢◌, ◌⊎◌, ◌≤◌, true, false, Some, IsSome, IsSomeAnd};
 ghost use Rattle.std.specs.Prelude.{MatchOption, IfOk};
 ghost use Rattle.cfdp_c.specs.Calls.{IsFirst};
 ghost use Rattle.cfdp_c.specs.Codes as codes;
 ghost use Rattle.cfdp_c.specs.declared.bad_field.BadField.{BadField};
+ghost use Rattle.cfdp_c.specs.Held.{has_folders, state_of};
 ghost use Rattle.cfdp_c.specs.Config.{config_of, IsUsable, Suits};
 
-use crate::codes::{ALREADY_OPEN, NO_MEMORY, OK};
+use crate::codes::{ALREADY_OPEN, NO_MEMORY, OK, of_folders};
 use crate::config::CfdpConfig;
 use crate::held::Held;
 use crate::parts::Parts;
@@ -74,27 +75,97 @@ pub extern "C" fn cfdp_open(alloc: Global, station: &mut CfdpStation, config: &C
     ensures field { codes.NamesField result → (field : BadField)
         × (result ≡ codes.field_number field) × (Suits field config.now → ⊥) }
     ensures opened { result ≡ codes.ok → (station.new.is_open ≡ true)
-        × IsSomeAnd station.new.slot.value
-        (λ held. IsFirst (config_of config.now) held.station) }
+        × IsSomeAnd station.new.slot.value (λ held. (has_folders held.station ≡ false)
+        × IsFirst (config_of config.now) (state_of held.station)) }
     ensures refused { result ≢ codes.ok → station.new ≡ station.old }
 {
     if station.is_open {
         return ALREADY_OPEN;
     }
     match config.config() {
-        Ok(config) => fill(alloc, station, config),
+        Ok(config) => open_in_memory(alloc, station, config),
         Err(field) => field.number(),
     }
 }
 
-/// Opens a closed handle on a station that is set up so.
-fn fill(alloc: Global, station: &mut CfdpStation, config: Valid<StationConfig>) -> u32
-    ensures answers { (result ≡ codes.ok) ⊎ (result ≡ codes.no_memory) }
+/// Opens a closed handle on a station that has no transactions, sends the files of one folder, each
+/// as it is asked for, and receives into another one. Both are there, and are named by their paths
+/// in UTF-8. No other station receives into the second one as long as the handle is open.
+///
+/// Answers 0, `ALREADY_OPEN`, the number of a field as `cfdp_open`, `NO_OUTBOX` where the first
+/// folder can't be read, `NO_INBOX` where the second one can't be, `INBOX_IN_USE` where another
+/// station receives into it, or `NO_MEMORY`. But for 0 the handle is as it was.
+#[unsafe(no_mangle)]
+pub extern "C" fn cfdp_open_folders(
+    alloc: Global,
+    station: &mut CfdpStation,
+    config: &CfdpConfig,
+    outbox: &[u8],
+    inbox: &[u8],
+) -> u32
+    ensures answers { ((result ≡ codes.ok) ⊎ (result ≡ codes.already_open))
+        ⊎ (((result ≡ codes.no_memory) ⊎ codes.NamesField result)
+        ⊎ ((12 ≤ result) × (result ≤ 14))) }
+    ensures twice { (result ≡ codes.already_open) ↔ (station.old.is_open ≡ true) }
+    ensures bad { station.old.is_open ≡ false →
+        ((codes.NamesField result → ⊥) ↔ IsUsable config.now) }
+    ensures field { codes.NamesField result → (field : BadField)
+        × (result ≡ codes.field_number field) × (Suits field config.now → ⊥) }
     ensures opened { result ≡ codes.ok → (station.new.is_open ≡ true)
-        × IsSomeAnd station.new.slot.value (λ held. IsFirst config held.station) }
+        × IsSomeAnd station.new.slot.value (λ held. (has_folders held.station ≡ true)
+        × IsFirst (config_of config.now) (state_of held.station)) }
     ensures refused { result ≢ codes.ok → station.new ≡ station.old }
 {
-    match boxed(alloc, config) {
+    if station.is_open {
+        return ALREADY_OPEN;
+    }
+    match config.config() {
+        Ok(config) => open_in_folders(alloc, station, config, outbox, inbox),
+        Err(field) => field.number(),
+    }
+}
+
+fn open_in_memory(alloc: Global, station: &mut CfdpStation, config: Valid<StationConfig>) -> u32
+    ensures answers { (result ≡ codes.ok) ⊎ (result ≡ codes.no_memory) }
+    ensures opened { result ≡ codes.ok → (station.new.is_open ≡ true)
+        × IsSomeAnd station.new.slot.value (λ held. (has_folders held.station ≡ false)
+        × IsFirst config (state_of held.station)) }
+    ensures refused { result ≢ codes.ok → station.new ≡ station.old }
+{
+    match Held::in_memory(alloc, config) {
+        Ok(held) => fill(alloc, station, held),
+        Err(_) => NO_MEMORY,
+    }
+}
+
+fn open_in_folders(
+    alloc: Global,
+    station: &mut CfdpStation,
+    config: Valid<StationConfig>,
+    outbox: &[u8],
+    inbox: &[u8],
+) -> u32
+    ensures answers { ((result ≡ codes.ok) ⊎ (result ≡ codes.no_memory))
+        ⊎ ((12 ≤ result) × (result ≤ 14)) }
+    ensures opened { result ≡ codes.ok → (station.new.is_open ≡ true)
+        × IsSomeAnd station.new.slot.value (λ held. (has_folders held.station ≡ true)
+        × IsFirst config (state_of held.station)) }
+    ensures refused { result ≢ codes.ok → station.new ≡ station.old }
+{
+    match Held::in_folders(alloc, config, outbox, inbox) {
+        Ok(held) => fill(alloc, station, held),
+        Err(error) => of_folders(error),
+    }
+}
+
+/// Opens a closed handle on this.
+fn fill(alloc: Global, station: &mut CfdpStation, held: Held) -> u32
+    ensures answers { (result ≡ codes.ok) ⊎ (result ≡ codes.no_memory) }
+    ensures opened { result ≡ codes.ok → (station.new.is_open ≡ true)
+        × (station.new.slot.value ≡ Some held) }
+    ensures refused { result ≢ codes.ok → station.new ≡ station.old }
+{
+    match boxed(alloc, held) {
         Ok(held) => {
             *station = CfdpStation::holding(held);
             OK
@@ -111,11 +182,11 @@ pub extern "C" fn cfdp_close(alloc: Global, station: &mut CfdpStation)
     let _held = station.lift(alloc);
 }
 
-fn boxed(alloc: Global, config: Valid<StationConfig>) -> Result<Box<Held>, AllocError>
-    ensures { IfOk result (λ held. IsFirst config held.value.station) }
+fn boxed(alloc: Global, held: Held) -> Result<Box<Held>, AllocError>
+    ensures { IfOk result (λ boxed. boxed.value ≡ held) }
 {
-    match Box::new(alloc, Held::new(alloc, config)?) {
-        Ok(held) => Ok(held),
+    match Box::new(alloc, held) {
+        Ok(boxed) => Ok(boxed),
         Err(refused) => {
             let_go(refused);
             Err(AllocError)

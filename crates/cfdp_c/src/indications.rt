@@ -1,14 +1,16 @@
 //! What a station tells its user.
-ghost use Rattle.std.specs.Prelude.{◌≡◌, ◌≢◌, false, length, nat_le, slice_get};
+ghost use Rattle.std.specs.Prelude.{◌≡◌, ◌≢◌, drop, false, length, nat_le};
+ghost use Rattle.std.specs.Prelude.{slice_get};
 ghost use Rattle.std.specs.Bool.{OnTrue, OnFalse};
 ghost use Rattle.cfdp_c.specs.Codes as codes;
 ghost use Rattle.cfdp_c.specs.Handles.{Becomes};
+ghost use Rattle.cfdp_c.specs.Held.{has_folders, state_of};
 ghost use Rattle.cfdp_c.specs.Told.{Tells, LetsOneGo, told_of, names_of, of_kind, over};
 
 use crate::calls::CfdpId;
 use crate::codes::{CLOSED, NO_ROOM, NOTHING, OK};
 use crate::handle::CfdpStation;
-use crate::held::Held;
+use crate::held::{AnyStation, Held};
 use crate::room::put_both;
 use cfdp_directives::Indication;
 use cfdp_header::TransactionId;
@@ -129,21 +131,44 @@ fn copy_names(told: &Indication, room: &mut [u8]) -> bool
 }
 
 impl Held {
+    fn indications(&self) -> &[Indication]
+        ensures { result.now ≡ drop (state_of self.now.station).entity.state.table.gone
+            (state_of self.now.station).entity.state.table.told }
+    {
+        match &self.station {
+            AnyStation::Memory(station) => station.indications(),
+            AnyStation::Folders(station) => station.indications(),
+        }
+    }
+
+    fn let_one_go(&mut self)
+        ensures goes { LetsOneGo (state_of self.old.station) (state_of self.new.station) }
+        ensures place { has_folders self.new.station ≡ has_folders self.old.station }
+    {
+        match &mut self.station {
+            AnyStation::Memory(station) => station.forget_indications(1),
+            AnyStation::Folders(station) => station.forget_indications(1),
+        }
+    }
+
     fn next_indication(&mut self, out: &mut CfdpIndication, names: &mut [u8]) -> u32
-        ensures tells { Tells (slice_get self.old.station.entity.state.table.told
-            self.old.station.entity.state.table.gone) result out.old out.new names.old names.new }
-        ensures moves { result ≡ codes.ok → LetsOneGo self.old.station self.new.station }
+        ensures tells { Tells (slice_get (state_of self.old.station).entity.state.table.told
+            (state_of self.old.station).entity.state.table.gone) result out.old out.new
+            names.old names.new }
+        ensures moves { result ≡ codes.ok
+            → LetsOneGo (state_of self.old.station) (state_of self.new.station) }
         ensures rests { result ≢ codes.ok → self.new ≡ self.old }
         ensures kept { result ≢ codes.ok → (out.new ≡ out.old) × (names.new ≡ names.old) }
+        ensures place { has_folders self.new.station ≡ has_folders self.old.station }
     {
-        let Some(told) = self.station.indications().first() else {
+        let Some(told) = self.indications().first() else {
             return NOTHING;
         };
         if !copy_names(told, names) {
             return NO_ROOM;
         }
         *out = CfdpIndication::of(told);
-        self.station.forget_indications(1);
+        self.let_one_go();
         OK
     }
 }
@@ -162,10 +187,11 @@ pub extern "C" fn cfdp_next_indication(
     ensures closed { station.old.is_open ≡ false → result ≡ codes.closed }
     ensures kept { result ≢ codes.ok → (out.new ≡ out.old) × (names.new ≡ names.old) }
     ensures tells { Becomes station.old station.new (λ x y.
-        Tells (slice_get x.station.entity.state.table.told x.station.entity.state.table.gone)
+        Tells (slice_get (state_of x.station).entity.state.table.told
+        (state_of x.station).entity.state.table.gone)
         result out.old out.new names.old names.new) }
     ensures moves { Becomes station.old station.new (λ x y.
-        (result ≡ codes.ok → LetsOneGo x.station y.station)
+        (result ≡ codes.ok → LetsOneGo (state_of x.station) (state_of y.station))
         × (result ≢ codes.ok → y ≡ x)) }
 {
     let Some(mut held) = station.lift(alloc) else {

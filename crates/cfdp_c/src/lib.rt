@@ -1,5 +1,5 @@
-//! The stack for programs in C, C++ and Rust: a station with its stores in memory behind a handle,
-//! and what a PDU says, behind plain C functions.
+//! The stack for programs in C, C++ and Rust: a station behind a handle, with its stores in memory
+//! or in folders, and what a PDU says, behind plain C functions.
 //!
 //! No part of the protocol stands here. Each function tests what its caller gave, calls the
 //! station, and puts the answer into a number or a plain struct; its contract is the station's own
@@ -37,7 +37,7 @@ pub use frames::{
     cfdp_flush, cfdp_frame_len, cfdp_frames_ahead, cfdp_next_frame, cfdp_poll, cfdp_receive,
     cfdp_transmit,
 };
-pub use handle::{CfdpStation, cfdp_close, cfdp_open};
+pub use handle::{CfdpStation, cfdp_close, cfdp_open, cfdp_open_folders};
 pub use indications::{CfdpIndication, cfdp_next_indication};
 pub use looking::{CfdpTransaction, cfdp_records_left, cfdp_transactions};
 pub use requests::{cfdp_cancel, cfdp_prompt, cfdp_resume, cfdp_suspend};

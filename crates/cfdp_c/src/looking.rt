@@ -3,15 +3,18 @@ ghost use Rattle.std.specs.Prelude.{◌≡◌, ◌≢◌, ◌+◌, ◌<◌, fals
 ghost use Rattle.cfdp_entity.specs.Walking.{phases_of};
 ghost use Rattle.cfdp_c.specs.Codes as codes;
 ghost use Rattle.cfdp_c.specs.Handles.{Answers, Becomes};
+ghost use Rattle.cfdp_c.specs.Held.{state_of};
 ghost use Rattle.cfdp_c.specs.Looking.{TellsNext};
 ghost use Rattle.cfdp_c.specs.Looking as looks;
 
 use crate::calls::CfdpId;
 use crate::codes::{CLOSED, NOTHING, OK};
 use crate::handle::CfdpStation;
-use crate::held::Held;
+use crate::held::{AnyStation, Held};
 use cfdp_directives::Phase;
 use cfdp_header::TransactionId;
+use cfdp_station::Station;
+use cfdp_store::{Inbox, Outbox};
 use std::alloc::Global;
 
 /// A transaction, and how far it has come.
@@ -35,26 +38,44 @@ fn phase_number(phase: Phase) -> u8
     }
 }
 
+/// The transaction at a place, in order of opening.
+fn transaction_in<O: Outbox, I: Inbox>(
+    station: &Station<O, I>,
+    place: usize,
+) -> Option<(TransactionId, Phase)>
+    ensures at { result ≡ slice_get (phases_of station.now.entity.state.table) place }
+    ensures few { IfSome result (λ t. place < 4096) }
+{
+    // For the prover: there are no more than 4,096.
+    let _ = station.records_left();
+    station.transactions().nth(place)
+}
+
 impl Held {
     fn records_left(&self) -> usize
-        ensures { result + length self.now.station.entity.state.table.records ≡ 4096 }
+        ensures { result + length (state_of self.now.station).entity.state.table.records ≡ 4096 }
     {
-        self.station.records_left()
+        match &self.station {
+            AnyStation::Memory(station) => station.records_left(),
+            AnyStation::Folders(station) => station.records_left(),
+        }
     }
 
     /// The transaction at a place, in order of opening.
     fn transaction_at(&self, place: usize) -> Option<(TransactionId, Phase)>
-        ensures at { result ≡ slice_get (phases_of self.now.station.entity.state.table) place }
+        ensures at { result
+            ≡ slice_get (phases_of (state_of self.now.station).entity.state.table) place }
         ensures few { IfSome result (λ t. place < 4096) }
     {
-        // For the prover: there are no more than 4,096.
-        let _ = self.records_left();
-        self.station.transactions().nth(place)
+        match &self.station {
+            AnyStation::Memory(station) => transaction_in(station, place),
+            AnyStation::Folders(station) => transaction_in(station, place),
+        }
     }
 
     fn next_transaction(&self, cursor: &mut usize, out: &mut CfdpTransaction) -> u32
         ensures tells { TellsNext
-            (slice_get (phases_of self.now.station.entity.state.table) cursor.old) result
+            (slice_get (phases_of (state_of self.now.station).entity.state.table) cursor.old) result
             cursor.old cursor.new out.old out.new }
         ensures kept { result ≢ codes.ok → (cursor.new ≡ cursor.old) × (out.new ≡ out.old) }
     {
@@ -84,7 +105,7 @@ pub extern "C" fn cfdp_transactions(
     out: &mut CfdpTransaction,
 ) -> u32
     ensures tells { Answers result station.old station.new (λ x y. (y ≡ x) × TellsNext
-        (slice_get (phases_of x.station.entity.state.table) cursor.old) result
+        (slice_get (phases_of (state_of x.station).entity.state.table) cursor.old) result
         cursor.old cursor.new out.old out.new) }
     ensures kept { result ≢ codes.ok → (cursor.new ≡ cursor.old) × (out.new ≡ out.old) }
 {
@@ -102,7 +123,7 @@ pub extern "C" fn cfdp_records_left(alloc: Global, station: &mut CfdpStation) ->
     ensures open { station.new.is_open ≡ station.old.is_open }
     ensures closed { station.old.is_open ≡ false → result ≡ 0 }
     ensures left { Becomes station.old station.new (λ x y. (y ≡ x)
-        × (result + length x.station.entity.state.table.records ≡ 4096)) }
+        × (result + length (state_of x.station).entity.state.table.records ≡ 4096)) }
 {
     let Some(held) = station.lift(alloc) else {
         return 0;

@@ -1,0 +1,111 @@
+/* A file from a folder into another one, by two stations in one process, over a link that loses
+ * every seventh frame:
+ *
+ *     folders OUTBOX INBOX NAME [DESTINATION]
+ *
+ * Ends with status 0 where the file lies in INBOX, whole.
+ */
+#include "cfdp.h"
+
+#include <stdio.h>
+#include <string.h>
+
+enum { MOST_FRAME = 2048, LOST = 7, LIMIT = 255 };
+
+static const long TURNS = 100000000;
+
+static int refused(const char *call, cfdp_answer answer)
+{
+    fprintf(stderr, "%s: %s\n", call, cfdp_answer_text(answer));
+    return 1;
+}
+
+/* Station 1 or 2, with these folders. */
+static cfdp_answer open_station(cfdp_station *station, int number, const char *outbox,
+                                const char *inbox)
+{
+    cfdp_config config;
+
+    cfdp_defaults(&config);
+    if (number == 2) {
+        const cfdp_link sends = config.sends;
+        config.sends = config.receives;
+        config.receives = sends;
+        config.entity = 2;
+        config.peer = 1;
+    }
+    config.eof_limit = config.nak_limit = config.finished_limit = LIMIT;
+    return cfdp_open_folders(station, &config, (const uint8_t *)outbox, strlen(outbox),
+                             (const uint8_t *)inbox, strlen(inbox));
+}
+
+/* Takes what one station has to send to the other. */
+static void pass_frames(cfdp_station *from, cfdp_station *to, unsigned long *frames)
+{
+    uint8_t frame[MOST_FRAME];
+    size_t len = cfdp_frame_len(from);
+
+    while (cfdp_transmit(from, frame, len) == CFDP_OK)
+        if (++*frames % LOST != 0)
+            cfdp_receive(to, frame, len);
+}
+
+/* The status that ends the program, once a station has said how its transaction ended. */
+static bool is_over(cfdp_station *station, int *status)
+{
+    cfdp_indication it;
+    uint8_t names[CFDP_NAMES];
+    bool over = false;
+
+    while (cfdp_next_indication(station, &it, names, sizeof names) == CFDP_OK)
+        if (it.kind == CFDP_FINISHED) {
+            over = true;
+            *status = it.condition == 0 && it.delivery == 0 && it.status == 2 ? 0 : 1;
+            printf("finished, condition %u\n", (unsigned)it.condition);
+        }
+    return over;
+}
+
+static int transfer(cfdp_station *one, cfdp_station *two, const char *name, const char *destination)
+{
+    unsigned long frames = 0;
+    cfdp_answer answer;
+    cfdp_id id;
+    int status = 1;
+    long turn;
+
+    answer = cfdp_put(one, (const uint8_t *)name, strlen(name), (const uint8_t *)destination,
+                      strlen(destination), &id);
+    if (answer != CFDP_OK)
+        return refused("cfdp_put", answer);
+    for (turn = 0; turn < TURNS && !is_over(one, &status); turn++) {
+        pass_frames(one, two, &frames);
+        pass_frames(two, one, &frames);
+        cfdp_tick(one, (uint64_t)turn);
+        cfdp_tick(two, (uint64_t)turn);
+    }
+    return status;
+}
+
+int main(int count, char **words)
+{
+    cfdp_station one = CFDP_STATION_INIT, two = CFDP_STATION_INIT;
+    cfdp_answer answer;
+    int status;
+
+    if (count < 4) {
+        fprintf(stderr, "folders OUTBOX INBOX NAME [DESTINATION]\n");
+        return 2;
+    }
+    /* Nothing is sent the other way: each folder serves one end. */
+    answer = open_station(&one, 1, words[1], words[1]);
+    if (answer == CFDP_OK)
+        answer = open_station(&two, 2, words[1], words[2]);
+    if (answer == CFDP_OK)
+        status = transfer(&one, &two, words[3], count > 4 ? words[4] : words[3]);
+    else
+        status = refused("cfdp_open_folders", answer);
+    cfdp_close(&one);
+    cfdp_close(&two);
+    return status;
+}

@@ -1,0 +1,314 @@
+/* Stations with folders: files both ways, over a link that loses each seventh frame, and what is
+ * refused.
+ *
+ *     folders FOLDER
+ *
+ * FOLDER is empty. Prints what is wrong, and ends with the number of mistakes. */
+#define _POSIX_C_SOURCE 200809L
+#include "cfdp.h"
+
+#include <signal.h>
+#include <stdio.h>
+#include <stdlib.h>
+#include <string.h>
+#include <sys/resource.h>
+#include <sys/stat.h>
+#include <unistd.h>
+
+enum { MOST_FRAME = 2048, LOST = 7, LIMIT = 255, LONG = 5000000, FILESTORE = 4 };
+
+static const long TURNS = 1000000;
+
+static int mistakes;
+
+static void check(int line, const char *what, unsigned long long told, unsigned long long wanted)
+{
+    if (told != wanted) {
+        printf("line %d: %s is %llu, not %llu\n", line, what, told, wanted);
+        mistakes++;
+    }
+}
+
+#define IS(call, wanted) \
+    check(__LINE__, #call, (unsigned long long)(call), (unsigned long long)(wanted))
+
+static const uint8_t *octets_in(const char *text)
+{
+    return (const uint8_t *)text;
+}
+
+/* ---- files */
+
+static uint8_t octet_at(size_t at, uint32_t kind)
+{
+    return (uint8_t)((at * 2654435761u + kind * 40503u) >> 13);
+}
+
+static void write_file(const char *path, size_t len, uint32_t kind)
+{
+    FILE *file = fopen(path, "wb");
+    size_t at;
+
+    IS(file != NULL, 1);
+    if (file == NULL)
+        return;
+    for (at = 0; at < len; at++)
+        putc(octet_at(at, kind), file);
+    IS(fclose(file), 0);
+}
+
+static bool is_file(const char *path, size_t len, uint32_t kind)
+{
+    FILE *file = fopen(path, "rb");
+    size_t at = 0;
+    bool same = file != NULL;
+    int octet;
+
+    while (same && (octet = getc(file)) != EOF) {
+        same = at < len && octet == octet_at(at, kind);
+        at++;
+    }
+    if (file != NULL)
+        fclose(file);
+    return same && at == len;
+}
+
+static bool is_there(const char *path)
+{
+    return access(path, F_OK) == 0;
+}
+
+/* ---- stations */
+
+static cfdp_config config_of(int number)
+{
+    cfdp_config config;
+
+    cfdp_defaults(&config);
+    if (number == 2) {
+        const cfdp_link sends = config.sends;
+        config.sends = config.receives;
+        config.receives = sends;
+        config.entity = 2;
+        config.peer = 1;
+    }
+    config.sends.zone = config.receives.zone = 1100;
+    config.eof_limit = config.nak_limit = config.finished_limit = LIMIT;
+    return config;
+}
+
+static cfdp_answer opened(cfdp_station *station, int number, const char *outbox, const char *inbox)
+{
+    cfdp_config config = config_of(number);
+
+    return cfdp_open_folders(station, &config, octets_in(outbox), strlen(outbox), octets_in(inbox),
+                             strlen(inbox));
+}
+
+static cfdp_answer put(cfdp_station *station, const char *source, const char *destination)
+{
+    cfdp_id id;
+
+    return cfdp_put(station, octets_in(source), strlen(source), octets_in(destination),
+                    strlen(destination), &id);
+}
+
+static unsigned long frames;
+
+static void pass_frames(cfdp_station *from, cfdp_station *to)
+{
+    uint8_t frame[MOST_FRAME];
+    size_t len = cfdp_frame_len(from);
+
+    while (cfdp_transmit(from, frame, len) == CFDP_OK)
+        if (++frames % LOST != 0)
+            cfdp_receive(to, frame, len);
+}
+
+/* How many transactions a station said to be over, and the greatest condition of these. */
+struct ended {
+    int count;
+    unsigned condition;
+};
+
+static void read_indications(cfdp_station *station, struct ended *ended)
+{
+    cfdp_indication it;
+    uint8_t names[CFDP_NAMES];
+
+    while (cfdp_next_indication(station, &it, names, sizeof names) == CFDP_OK)
+        if (it.kind == CFDP_FINISHED) {
+            ended->count++;
+            if (it.condition > ended->condition)
+                ended->condition = it.condition;
+        }
+}
+
+/* Lets both go on until each has said that so many transactions are over. */
+static void run(cfdp_station *one, cfdp_station *two, int count, unsigned condition)
+{
+    struct ended first = {0, 0}, second = {0, 0};
+    static uint64_t now;
+    long turn;
+
+    for (turn = 0; turn < TURNS && (first.count < count || second.count < count); turn++) {
+        pass_frames(one, two);
+        pass_frames(two, one);
+        cfdp_tick(one, now);
+        cfdp_tick(two, now++);
+        read_indications(one, &first);
+        read_indications(two, &second);
+    }
+    IS(first.count, count);
+    IS(second.count, count);
+    IS(first.condition, condition);
+    IS(second.condition, condition);
+}
+
+/* ---- what is tested */
+
+static void both_ways(cfdp_station *one, cfdp_station *two)
+{
+    write_file("out1/none", 0, 1);
+    write_file("out1/one", 1, 2);
+    write_file("out1/long", LONG, 3);
+    write_file("out2/none", 0, 4);
+    write_file("out2/one", 1, 5);
+    write_file("out2/long", LONG, 6);
+    write_file("in2/one", 70, 7);
+    IS(put(one, "none", "none"), CFDP_OK);
+    IS(put(one, "one", "one"), CFDP_OK);
+    IS(put(one, "long", "long"), CFDP_OK);
+    IS(put(two, "none", "none"), CFDP_OK);
+    IS(put(two, "one", "one"), CFDP_OK);
+    IS(put(two, "long", "long"), CFDP_OK);
+    run(one, two, 6, 0);
+    IS(is_file("in2/none", 0, 1), 1);
+    IS(is_file("in2/one", 1, 2), 1);
+    IS(is_file("in2/long", LONG, 3), 1);
+    IS(is_file("in1/none", 0, 4), 1);
+    IS(is_file("in1/one", 1, 5), 1);
+    IS(is_file("in1/long", LONG, 6), 1);
+    IS(is_there("in1/.part-2-3"), 0);
+    IS(is_there("in2/.part-1-3"), 0);
+    IS(cfdp_forget_closed(one), CFDP_OK);
+    IS(cfdp_forget_closed(two), CFDP_OK);
+}
+
+static void puts_refused(cfdp_station *one)
+{
+    IS(mkdir("out1/folder", 0777), 0);
+    IS(symlink("one", "out1/link"), 0);
+    IS(put(one, "missing", "a"), CFDP_NO_SUCH_FILE);
+    IS(put(one, "../in1/one", "a"), CFDP_BAD_NAME);
+    IS(put(one, ".one", "a"), CFDP_BAD_NAME);
+    IS(put(one, "", "a"), CFDP_BAD_NAME);
+    IS(put(one, "folder", "a"), CFDP_SOURCE_FAULT);
+    IS(put(one, "link", "a"), CFDP_SOURCE_FAULT);
+    IS(rmdir("out1/folder"), 0);
+    IS(unlink("out1/link"), 0);
+}
+
+static void memory_refused(cfdp_station *one)
+{
+    cfdp_file_info info = {7, 8};
+    uint8_t room[CFDP_NAME] = {1};
+
+    IS(cfdp_add(one, octets_in("a"), 1, octets_in("b"), 1), CFDP_IN_FOLDERS);
+    IS(cfdp_file_count(one), 0);
+    IS(cfdp_file(one, 0, &info, room, sizeof room), CFDP_IN_FOLDERS);
+    IS(cfdp_read_file(one, 0, 0, room, 1), CFDP_IN_FOLDERS);
+    IS(cfdp_remove_file(one, octets_in("one"), 3), CFDP_IN_FOLDERS);
+    IS(info.size, 8);
+    IS(room[0], 1);
+    IS(is_file("in1/one", 1, 5), 1);
+}
+
+static void opening_refused(cfdp_station *one)
+{
+    cfdp_station s = CFDP_STATION_INIT;
+    cfdp_config config = config_of(1);
+
+    IS(opened(one, 1, "out1", "in1"), CFDP_ALREADY_OPEN);
+    IS(opened(&s, 1, "nowhere", "in3"), CFDP_NO_OUTBOX);
+    IS(opened(&s, 1, "", "in3"), CFDP_NO_OUTBOX);
+    IS(opened(&s, 1, "\xff", "in3"), CFDP_NO_OUTBOX);
+    IS(opened(&s, 1, "out1/one", "in3"), CFDP_NO_OUTBOX);
+    IS(opened(&s, 1, "out1", "nowhere"), CFDP_NO_INBOX);
+    IS(opened(&s, 1, "out1", "out1/one"), CFDP_NO_INBOX);
+    IS(opened(&s, 1, "out1", "in1"), CFDP_INBOX_IN_USE);
+    config.segment = 0;
+    IS(cfdp_open_folders(&s, &config, octets_in("out1"), 4, octets_in("in3"), 3),
+       CFDP_BAD_SEGMENT);
+    IS(s.is_open, 0);
+    cfdp_close(&s);
+}
+
+/* A part file of a station that died is removed; what only looks like one stays. */
+static void parts_removed(void)
+{
+    cfdp_station s = CFDP_STATION_INIT;
+
+    write_file("in3/.part-1-7", 3, 8);
+    write_file("in3/.part-x", 3, 8);
+    IS(opened(&s, 1, "out1", "in3"), CFDP_OK);
+    IS(is_there("in3/.part-1-7"), 0);
+    IS(is_there("in3/.part-x"), 1);
+    cfdp_close(&s);
+    IS(opened(&s, 1, "out1", "in3"), CFDP_OK);
+    cfdp_close(&s);
+}
+
+/* A name that no file may have, a file that finds no room on the device, and one that gets shorter
+ * as it is sent. */
+static void failures(cfdp_station *one, cfdp_station *two)
+{
+    struct rlimit limit, little;
+    uint8_t frame[MOST_FRAME];
+
+    IS(put(one, "one", "../again"), CFDP_OK);
+    run(one, two, 1, FILESTORE);
+    IS(is_there("again"), 0);
+
+    getrlimit(RLIMIT_FSIZE, &limit);
+    little = limit;
+    little.rlim_cur = 100000;
+    signal(SIGXFSZ, SIG_IGN);
+    setrlimit(RLIMIT_FSIZE, &little);
+    IS(put(one, "long", "again"), CFDP_OK);
+    run(one, two, 1, FILESTORE);
+    setrlimit(RLIMIT_FSIZE, &limit);
+    IS(is_there("in2/again"), 0);
+    IS(cfdp_forget_closed(one), CFDP_OK);
+    IS(cfdp_forget_closed(two), CFDP_OK);
+
+    IS(put(one, "long", "again"), CFDP_OK);
+    IS(cfdp_transmit(one, frame, cfdp_frame_len(one)), CFDP_OK);
+    IS(cfdp_receive(two, frame, cfdp_frame_len(one)), CFDP_OK);
+    IS(truncate("out1/long", LONG / 2), 0);
+    run(one, two, 1, FILESTORE);
+    IS(is_there("in2/again"), 0);
+}
+
+int main(int count, char **words)
+{
+    cfdp_station one = CFDP_STATION_INIT, two = CFDP_STATION_INIT;
+    static const char *const folders[] = {"out1", "out2", "in1", "in2", "in3"};
+    size_t at;
+
+    if (count != 2 || chdir(words[1]) != 0)
+        return 2;
+    for (at = 0; at < sizeof folders / sizeof folders[0]; at++)
+        IS(mkdir(folders[at], 0777), 0);
+    IS(opened(&one, 1, "out1", "in1"), CFDP_OK);
+    IS(opened(&two, 2, "out2", "in2"), CFDP_OK);
+    both_ways(&one, &two);
+    puts_refused(&one);
+    memory_refused(&one);
+    opening_refused(&one);
+    parts_removed();
+    failures(&one, &two);
+    cfdp_close(&one);
+    cfdp_close(&two);
+    return mistakes != 0;
+}

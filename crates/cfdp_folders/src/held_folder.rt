@@ -1,0 +1,119 @@
+//! Folders that a station has: one to send from, and one to receive into, which one station has at
+//! a time.
+use crate::system_file::SystemFile;
+use crate::system_files::SystemFiles;
+use std::alloc::{AllocError, Global};
+use std::fs::{self, FileType};
+use std::io::{self, ErrorKind};
+
+/// What the name of a part file begins with. Behind it come the two numbers of its transaction.
+const PART: &str = ".part-";
+
+/// Why a folder can't be had.
+#[derive(Clone, Copy, Debug, PartialEq)]
+pub enum FolderRefusal {
+    /// It isn't there, it is no folder, or the system refuses it.
+    Missing,
+    /// Another station receives into it.
+    InUse,
+    /// There is no memory for its path.
+    NoMemory,
+}
+
+impl From<AllocError> for FolderRefusal {
+    fn from(_error: AllocError) -> FolderRefusal {
+        FolderRefusal::NoMemory
+    }
+}
+
+/// Whether a folder is there that can be read.
+///
+/// # Errors
+///
+/// `Missing` or `NoMemory`.
+pub fn look_at_folder(alloc: Global, path: &str) -> Result<(), FolderRefusal> {
+    let _folder = open_folder(alloc, path)?;
+    Ok(())
+}
+
+/// A folder into which no other station receives, in this process or another one, as long as this
+/// value lives.
+#[derive(Drop)]
+pub struct HeldFolder {
+    _folder: SystemFile,
+}
+
+impl HeldFolder {
+    /// Takes a folder, and removes from it the part files of a station that died.
+    ///
+    /// # Errors
+    ///
+    /// Each [`FolderRefusal`].
+    pub fn take(alloc: Global, path: &str) -> Result<HeldFolder, FolderRefusal> {
+        let folder = open_folder(alloc, path)?;
+        match folder.lock() {
+            Ok(()) => {
+                remove_parts(alloc, path);
+                Ok(HeldFolder { _folder: folder })
+            }
+            Err(error) => Err(refusal_of(&error)),
+        }
+    }
+}
+
+/// Opens a folder. By the point behind its path nothing else is opened, so that no pipe is waited
+/// for.
+fn open_folder(alloc: Global, path: &str) -> Result<SystemFile, FolderRefusal> {
+    if path.is_empty() {
+        return Err(FolderRefusal::Missing);
+    }
+    let inside = format!(in alloc; "{path}/.")?;
+    match SystemFile::open(inside.as_str(), libc::O_RDONLY) {
+        Ok(folder) => Ok(folder),
+        Err(_) => Err(FolderRefusal::Missing),
+    }
+}
+
+fn refusal_of(error: &io::Error) -> FolderRefusal {
+    if error.kind() == ErrorKind::WouldBlock {
+        return FolderRefusal::InUse;
+    }
+    FolderRefusal::Missing
+}
+
+/// Removes the part files of a folder, as far as they can be removed.
+fn remove_parts(alloc: Global, path: &str) {
+    let Ok(entries) = fs::read_dir(&(SystemFiles, alloc), path) else {
+        return;
+    };
+    for entry in entries {
+        if let Ok(entry) = entry
+            && is_part_name(entry.file_name())
+            && is_plain(entry.file_type())
+        {
+            let _ = fs::remove_file(&SystemFiles, entry.path());
+        }
+    }
+}
+
+/// Whether this is the name of a part file.
+fn is_part_name(name: &str) -> bool {
+    match name.strip_prefix(PART) {
+        Some(numbers) => match numbers.split_once('-') {
+            Some((source, number)) => is_number(source) && is_number(number),
+            None => false,
+        },
+        None => false,
+    }
+}
+
+fn is_number(word: &str) -> bool {
+    !word.is_empty() && word.as_bytes().iter().all(|octet| octet.is_ascii_digit())
+}
+
+fn is_plain(kind: io::Result<FileType>) -> bool {
+    match kind {
+        Ok(kind) => kind.is_file(),
+        Err(_) => false,
+    }
+}
