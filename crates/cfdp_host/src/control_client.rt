@@ -1,4 +1,5 @@
 //! Asks a station that runs.
+use crate::cause::address_cause;
 use std::alloc::Global;
 use std::io;
 use std::io::{ErrorKind, Read, Write};
@@ -37,8 +38,7 @@ pub fn ask(rt: &HostRuntime, address: &str, words: &[String]) -> u8 {
     match answer_to(rt, address, line.as_str()) {
         Ok(answer) => told_status(rt, answer.as_slice()),
         Err(error) => {
-            let kind = error.kind();
-            let _ = eprintln!(rt; "error: {address}: {kind}");
+            let _ = eprintln!(rt; "error: {address}: {}", address_cause(error.kind()));
             UNANSWERED
         }
     }

@@ -1,6 +1,6 @@
 //! A folder that files are received into, which one process has at a time.
-use crate::cause::cause_text;
 use crate::locks::{LockError, lock};
+use cfdp_report::cause_text;
 use std::fs::{File, FileType};
 use std::{fs, io};
 

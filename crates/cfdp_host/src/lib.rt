@@ -22,7 +22,7 @@ mod standard_input;
 mod trial;
 mod watched;
 
-pub use cause::{address_cause, cause_text, fault_text};
+pub use cause::{address_cause, fault_text};
 pub use command::{Asked, CommandError, CommandHelp, Verb, parse_command};
 pub use control_client::ask;
 pub use folder_spool::{FolderSpool, SpoolNews, SpoolNotice, SpoolTeller, StandardErrorTeller};

@@ -1,4 +1,5 @@
 //! Where the lines of commands come from.
+use crate::cause::address_cause;
 use crate::connection::Connection;
 use crate::line::{LineFault, Speaker};
 use crate::standard_input::StandardInput;
@@ -56,10 +57,7 @@ impl fmt::Display for ControlError {
                 "it is no address of this machine alone (127.0.0.1 or [::1]), and whoever reaches \
                  it commands the station",
             ),
-            ControlError::System(error) => {
-                let kind = error.kind();
-                write!(f, "{kind}")
-            }
+            ControlError::System(error) => f.write_str(address_cause(error.kind())),
         }
     }
 }

@@ -1,5 +1,5 @@
 //! A folder is tried before it is needed.
-use crate::cause::cause_text;
+use cfdp_report::cause_text;
 use std::fs::File;
 use std::io::{ErrorKind, Write};
 use std::{fs, io};

@@ -29,7 +29,7 @@ told_too (BadScript bad) P Q so told = so told
 told_too (Device NoMemory) P Q so told = so told
 told_too (Device NoMemoryAtStart) P Q so told = so told
 told_too (Device Unwritable) P Q so told = tt
-told_too (Device Unreadable) P Q so told = so told
+told_too (Device (Unreadable kind)) P Q so told = so told
 told_too (Device TooLong) P Q so told = so told
 
 -- what is so is told
@@ -40,7 +40,7 @@ is_told (BadScript bad) P so = so
 is_told (Device NoMemory) P so = so
 is_told (Device NoMemoryAtStart) P so = so
 is_told (Device Unwritable) P so = tt
-is_told (Device Unreadable) P so = so
+is_told (Device (Unreadable kind)) P so = so
 is_told (Device TooLong) P so = so
 
 -- what follows from what holds of an answer, holds of it

@@ -74,9 +74,9 @@ const NO_MEMORY: u8 = 3;
 // What stands before the settings in the help of `sim`, and what stands behind them.
 const SIM_COMMANDS: &str = "\
 The script is read from FILE, or from standard input: at most 1,048,576 octets
-in lines of at most 4,096, ASCII, one command a line, words with one space between. Empty
-lines and lines that begin with # are skipped. S is the station, 1 or 2; ID is
-a transaction, SOURCE:NUMBER.
+in lines of at most 4,096 that end with LF or CR LF, ASCII, one command a line,
+words with one space between. Empty lines and lines that begin with # are
+skipped. S is the station, 1 or 2; ID is a transaction, SOURCE:NUMBER.
 First, what the stations have:
   set KEY N             a setting of both stations, see below
   file S NAME TEXT      a file in the outbox of S; TEXT is the rest of the line
@@ -118,8 +118,8 @@ Conditions, as in 'fault ID 7': 0 none, 1 no ACK came, 4 the store failed,
 5 checksum, 6 size, 7 NAKs were of no use, 8 silence, 11 unknown checksum type,
 14 suspended, 15 cancelled. --explain tells them in words.
 
-With --explain, on standard error: why a bad script is bad; or, at the end, what
-the conditions say that came up, and what stations dropped, how often.
+With --explain, on standard error at the end: what the conditions say that came
+up, and what each station sent, what of that was lost, and what it dropped.
 With --trace, a line for each thing that a station did, on standard error: the
 line of the script and the number of the event, as 3.10, the station, and what
 it did: ticks (it was told the time), sends, takes a frame or hears a PDU, which
@@ -138,7 +138,8 @@ Example:
 
 const DUMP_HELP: &str = "\
 Input, from FILE or standard input: a PDU or a frame a line, as pairs of
-hexadecimal digits of either case; at most 1,048,576 octets in all.
+hexadecimal digits of either case, with spaces between or not, and with 0x in
+front of a word or not; at most 1,048,576 octets in all.
 Output: a line for each; ID is the source and the number of the transaction.
   data ID OFFSET LENGTH
   metadata ID CHECKSUM-TYPE SIZE SRC DST
@@ -289,7 +290,7 @@ fn misfit(words: &[String]) -> &'static str {
         [_, command, ..] if command.as_str() == "station" => {
             "--carrier is frames, packets or pdus, and --unit is s or ms"
         }
-        _ => "KIND is pdus or frames",
+        _ => "KIND is pdus or frames: cfdp_node dump KIND [FILE]",
     }
 }
 
@@ -688,6 +689,9 @@ fn answered(rt: &HostRuntime, error: &Error) -> u8
         return NO_MEMORY;
     }
     let printed = error.print(rt);
+    if error.kind() == ErrorKind::ValueValidation {
+        let _ = eprintln!(rt; "A number is a whole one from 0 to 18446744073709551615, in digits.");
+    }
     if error.use_stderr() {
         MISTAKE
     } else if printed.is_ok() {

@@ -44,7 +44,7 @@ fn told_command<'a>(alloc: Global, command: Command<'a>) -> Result<Command<'a>, 
         .arg(flag(
             alloc,
             "explain",
-            "Says why a bad line is bad, what conditions say, and what was dropped",
+            "Says what conditions say, and what was sent, lost and dropped",
         ))?
         .arg(flag(
             alloc,

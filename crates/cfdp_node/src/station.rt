@@ -11,20 +11,23 @@ pub mod settings_file;
 pub mod setup;
 pub mod state_file;
 
-use crate::looping::folders::{check_file, check_name, folder, folder_outbox, tell_untold};
+use crate::looping::folders::{
+    check_file, check_name, folder, folder_outbox, note_drops, tell_untold,
+};
 use crate::station::beacon::Beacon;
 use crate::station::exchange::Exchange;
 use crate::station::operation::{Context, StationParts, StationSpool, ran};
 use crate::station::request::{CarrierKind, StationNumbers, StationRequest, TimeUnit};
-use crate::station::setup::StationSetup;
+use crate::station::setup::{StationSetup, key_hint};
 use crate::station::state_file::{Reservation, StateError};
 use crate::wire::peer_socket::{Pace, PeerSocket, Unit, Unusable};
 use cfdp_host::carrier::{Carrier, LinkFields};
 use cfdp_host::{
-    FolderSpool, HeldFolder, LineSources, StandardErrorTeller, address_cause, cause_text,
-    try_folder,
+    FolderSpool, HeldFolder, LineSources, StandardErrorTeller, address_cause, try_folder,
 };
-use cfdp_report::{Progress, parse_number, shown_status};
+use cfdp_report::{
+    Hint, LineError, Progress, cause_text, parse_number, parse_setting, shown_status,
+};
 use cfdp_station::StationConfig;
 use link_sim::{Side, WorldConfig};
 use std::cell::Cell;
@@ -69,6 +72,7 @@ pub fn station_status(rt: &HostRuntime, request: &StationRequest) -> u8 {
 fn started_status(rt: &HostRuntime, request: &StationRequest) -> Result<u8, u8> {
     // First of all: a process that was given no standard input has none once a file is opened.
     let sources = sources(rt, request)?;
+    check_addresses(rt, request)?;
     let setup = set_up(rt, request)?;
     let fields = link_fields(rt, request, &setup)?;
     let Prepared {
@@ -83,8 +87,9 @@ fn started_status(rt: &HostRuntime, request: &StationRequest) -> Result<u8, u8> 
     let frame_count = reservation.frame_count();
     let own = WorldConfig::station(config, side_of(request)).get();
     let extra = (fields.sends.get().extra(), fields.receives.get().extra());
+    let pace = pace_of(request, &own, carrier, extra);
     let parts = StationParts {
-        socket: socket(rt, request, &own, carrier, extra, reservation, &exchange)?,
+        socket: socket(rt, request, pace, reservation, &exchange)?,
         frame_count,
         sources,
         config,
@@ -92,6 +97,22 @@ fn started_status(rt: &HostRuntime, request: &StationRequest) -> Result<u8, u8> 
         fields,
     };
     Ok(ran_status(rt, request, parts, spool, &exchange))
+}
+
+/// Looks whether the station has another address than its peer, and says where none of its frames
+/// can arrive.
+///
+/// # Errors
+///
+/// The exit status, where both are one, which was told on standard error.
+fn check_addresses(rt: &HostRuntime, request: &StationRequest) -> Result<(), u8> {
+    note_drops(rt, request.numbers.drop_every);
+    let to = request.to.as_str();
+    if to == request.listen.as_str() {
+        let _ = eprintln!(rt; "error: --listen and --to are both {to}: --to is that of the peer");
+        return Err(MISTAKE);
+    }
+    Ok(())
 }
 
 /// Where commands come from.
@@ -253,17 +274,44 @@ fn set_up(rt: &HostRuntime, request: &StationRequest) -> Result<StationSetup, u8
             words[2 * pair + 1].as_str(),
         )?;
     }
+    check_number(rt, &setup)?;
     Ok(setup)
+}
+
+/// Looks whether the number of the first transaction fits its octets, where these are so many as
+/// may be.
+///
+/// # Errors
+///
+/// The exit status, where it doesn't, which was told on standard error.
+fn check_number(rt: &HostRuntime, setup: &StationSetup) -> Result<(), u8> {
+    if setup.out_of_range().is_none()
+        && let Some(misfit) = setup.number_misfit()
+    {
+        let _ = eprintln!(rt; "error: {misfit}");
+        return Err(MISTAKE);
+    }
+    Ok(())
+}
+
+/// Which values this key takes, if it is one of a script.
+fn value_hint(key: &str) -> Hint {
+    match parse_setting(key.as_bytes()) {
+        Some(setting) => Hint::Value(setting),
+        None => Hint::Nothing,
+    }
 }
 
 /// Sets one value.
 fn set_one(rt: &HostRuntime, setup: &mut StationSetup, key: &str, word: &str) -> Result<(), u8> {
     let Some(value) = parse_number(word.as_bytes()) else {
-        let _ = eprintln!(rt; "error: --set {key} {word}: {word} is no number below 2^64");
+        let hint = value_hint(key);
+        let _ = eprintln!(rt; "error: --set {key} {word}: {}{hint}", LineError::BadNumber);
         return Err(MISTAKE);
     };
     if !setup.set(key, value) {
-        let _ = eprintln!(rt; "error: --set {key} {word}: there is no such key");
+        let hint = key_hint(rt.alloc(), key);
+        let _ = eprintln!(rt; "error: --set {key} {word}: there is no such key{hint}");
         return Err(MISTAKE);
     }
     Ok(())
@@ -416,20 +464,16 @@ fn check_files(rt: &HostRuntime, path: &str, words: &[String]) -> Result<(), u8>
     Ok(())
 }
 
-/// The socket, with the peer's address, of a station that is set up so, and what a datagram is. It
-/// is told by how many octets the frames that leave and those that come are longer than bare ones.
-fn socket<'a>(
-    rt: &'a HostRuntime,
+/// How a station that is set up so uses its socket, and what a datagram is, given by how many octets
+/// the frames that leave and those that come are longer than bare ones.
+fn pace_of(
     request: &StationRequest,
     config: &StationConfig,
     carrier: Carrier,
     extra: (usize, usize),
-    reservation: Reservation<'a>,
-    exchange: &'a Exchange,
-) -> Result<PeerSocket<'a>, u8> {
-    let (listen, to) = (request.listen.as_str(), request.to.as_str());
+) -> Pace {
     let (sends_extra, receives_extra) = extra;
-    let pace = Pace {
+    Pace {
         rate: request.numbers.rate,
         idle: request.numbers.idle,
         receives: config.receives,
@@ -438,7 +482,22 @@ fn socket<'a>(
         carrier,
         beacon: Beacon::of(config),
         unit: unit_of(request),
-    };
+    }
+}
+
+/// The socket, with the peer's address.
+///
+/// # Errors
+///
+/// The exit status, where an address can't be used, which was told on standard error.
+fn socket<'a>(
+    rt: &'a HostRuntime,
+    request: &StationRequest,
+    pace: Pace,
+    reservation: Reservation<'a>,
+    exchange: &'a Exchange,
+) -> Result<PeerSocket<'a>, u8> {
+    let (listen, to) = (request.listen.as_str(), request.to.as_str());
     match PeerSocket::bind(rt, listen, to, pace, reservation, exchange) {
         Ok(socket) => {
             if has_any_port(Some(listen))

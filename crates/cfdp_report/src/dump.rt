@@ -9,7 +9,7 @@ pub mod line;
 pub mod refusal;
 
 use crate::dump::line::{DumpedFrame, DumpedPdu, FrameLine};
-use crate::dump::refusal::Refusal;
+use crate::dump::refusal::{FrameRefusal, Refusal};
 use aos_frame::{FrameError, FrameHeader};
 use mpdu::read_pointer;
 use std::io;
@@ -41,7 +41,15 @@ pub fn write_frame<W: Write>(octets: &[u8], zone: u16, long: bool, out: &mut W) 
 {
     match read_frame(octets, zone) {
         Ok(frame) => writeln!(out, "{}", DumpedFrame { frame, long }),
-        Err(error) => writeln!(out, "{}", Refusal::Frame(error)),
+        Err(error) => writeln!(
+            out,
+            "{}",
+            FrameRefusal {
+                error,
+                zone,
+                count: octets.len()
+            }
+        ),
     }
 }
 

@@ -1,8 +1,9 @@
 //! How a run of the program ends.
+use crate::cause::cause_text;
 use crate::input::Input;
 use crate::line_error::BadLine;
 use std::alloc::AllocError;
-use std::io::{BufWriter, Write};
+use std::io::{BufWriter, ErrorKind, Write};
 
 /// How a run of the program ended.
 #[derive(Clone, Copy)]
@@ -20,8 +21,8 @@ pub enum Exit {
 /// What failed where a run could not be done.
 #[derive(Clone, Copy)]
 pub enum Fault {
-    /// The input can't be read, or has no end within 1,100,000 reads.
-    Unreadable,
+    /// The input can't be read, for this cause, or has no end within 1,100,000 reads.
+    Unreadable(ErrorKind),
     /// The input has more than 1,048,576 octets.
     TooLong,
     /// The output can't be written.
@@ -33,7 +34,7 @@ pub enum Fault {
 }
 
 impl Exit {
-    ghost use Rattle.std.specs.Prelude.{◌≡◌, ◌⊎◌};
+    ghost use Rattle.std.specs.Prelude.{◌≡◌, ◌⊎◌, false};
     ghost use Rattle.std.specs.Io.Buffered.{writer_buffer, writer_contents};
     ghost use Rattle.std.specs.Io.KnownBytes.{Keeps};
     ghost use Rattle.cfdp_report.specs.Exit as exits;
@@ -72,6 +73,7 @@ impl Exit {
         ensures kept { Keeps (writer_contents W.contents out.old)
             (writer_contents W.contents out.new) }
         ensures answer { (result ≡ self) ⊎ (result ≡ Exit.Device Fault.Unwritable) }
+        ensures none { exits.has_report self ≡ false → result ≡ self }
         ensures flushed { IsFlushedAt result (writer_buffer out.new) }
     {
         if !self.has_report() {
@@ -91,7 +93,7 @@ impl Exit {
             Exit::Complete | Exit::Incomplete | Exit::Device(Fault::NoMemory) => true,
             Exit::BadScript(_)
             | Exit::Device(
-                Fault::Unreadable | Fault::TooLong | Fault::Unwritable | Fault::NoMemoryAtStart,
+                Fault::Unreadable(_) | Fault::TooLong | Fault::Unwritable | Fault::NoMemoryAtStart,
             ) => false,
         }
     }
@@ -102,7 +104,9 @@ impl Fault {
     /// this input.
     pub fn tell(self, rt: &HostRuntime, input: Input<'_>) {
         let _ = match self {
-            Fault::Unreadable => eprintln!(rt; "error: {input} can't be read"),
+            Fault::Unreadable(kind) => {
+                eprintln!(rt; "error: {input} can't be read: {}", cause_text(kind))
+            }
             Fault::TooLong => eprintln!(rt; "error: {input} is longer than 1,048,576 octets"),
             Fault::Unwritable => eprintln!(rt; "error: standard output can't be written"),
             Fault::NoMemory => eprintln!(rt; "error: there is not enough memory"),

@@ -1,5 +1,8 @@
 //! Why a line of a script is bad.
-use crate::settings::table::Setting;
+ghost use Rattle.std.specs.Prelude.{◌≡◌};
+
+use crate::report::name::Name;
+use crate::settings::table::{Keys, Setting};
 use std::fmt;
 
 /// A bad line of a script, by its number. The first line is 1.
@@ -9,6 +12,113 @@ pub struct BadLine {
     pub line: usize,
     /// Why it is bad.
     pub error: LineError,
+    /// The word that is wrong, if it is one.
+    pub word: Quote,
+    /// What may stand there.
+    pub hint: Hint,
+}
+
+impl BadLine {
+    /// A line that is bad as a whole, and needs no hint.
+    pub fn whole(line: usize, error: LineError) -> BadLine
+        ensures { result.line ≡ line }
+    {
+        BadLine {
+            line,
+            error,
+            word: Quote::NONE,
+            hint: Hint::Nothing,
+        }
+    }
+}
+
+/// In one line, without its end: its number, the word that is wrong, what was expected, and a hint.
+impl fmt::Display for BadLine {
+    fn fmt<W: fmt::Write>(&self, f: &mut fmt::Formatter<W>) -> fmt::Result {
+        let (line, error, word, hint) = (self.line, self.error, self.word, self.hint);
+        write!(f, "line {line}: bad script: {word}{error}{hint}")
+    }
+}
+
+/// How many octets of a word are told at most.
+const QUOTED: usize = 40;
+
+/// A word as it is told: its first 40 octets.
+#[derive(Clone, Copy)]
+pub struct Quote {
+    octets: [u8; QUOTED],
+    length: usize,
+}
+
+impl Quote {
+    /// No word.
+    pub const NONE: Quote = Quote {
+        octets: [0; QUOTED],
+        length: 0,
+    };
+
+    /// This word.
+    pub fn of(word: &[u8]) -> Quote {
+        let mut quote = Quote {
+            octets: [0; QUOTED],
+            length: word.len().min(QUOTED),
+        };
+        for (place, octet) in quote.octets.iter_mut().zip(word) {
+            *place = *octet;
+        }
+        quote
+    }
+
+    /// Its octets as text; nothing where they are none.
+    pub fn text(&self) -> &str {
+        let octets = self.octets.get(..self.length).unwrap_or(&[]);
+        str::from_utf8(octets).unwrap_or("")
+    }
+}
+
+/// The word in quotes with a colon behind it; nothing where there is no word.
+impl fmt::Display for Quote {
+    fn fmt<W: fmt::Write>(&self, f: &mut fmt::Formatter<W>) -> fmt::Result {
+        let word = self.octets.get(..self.length).unwrap_or(&[]);
+        if word.is_empty() {
+            return Ok(());
+        }
+        write!(f, "\"{}\": ", Name(word))
+    }
+}
+
+/// What may stand where a line is wrong.
+#[derive(Clone, Copy)]
+pub enum Hint {
+    /// Nothing more is known of it than the error says.
+    Nothing,
+    /// Of the words that may stand there, the one that is most like it.
+    Nearest(Quote),
+    /// How the command is written.
+    Form(Quote),
+    /// One of the keys of `set`.
+    Keys,
+    /// A value of this setting.
+    Value(Setting),
+    /// Where the commands are listed.
+    Help,
+}
+
+/// What goes on from the sentence of the error.
+impl fmt::Display for Hint {
+    fn fmt<W: fmt::Write>(&self, f: &mut fmt::Formatter<W>) -> fmt::Result {
+        match self {
+            Hint::Nothing => Ok(()),
+            Hint::Nearest(word) => write!(f, "; the nearest is {}", word.text()),
+            Hint::Form(form) => write!(f, "; the command is: {}", form.text()),
+            Hint::Keys => write!(f, "; the keys are {Keys}"),
+            Hint::Value(setting) => {
+                let (key, range) = (setting.key(), setting.range());
+                write!(f, "; {key} is {range}")
+            }
+            Hint::Help => f.write_str("; 'cfdp_node sim --help' lists them"),
+        }
+    }
 }
 
 /// Why a line of a script is bad.
@@ -34,6 +144,8 @@ pub enum LineError {
     BadNumber,
     /// What stands where a lane or a number can isn't `dir` or `data`, nor such a number.
     UnknownLane,
+    /// A number of frames is 0.
+    NoFrames,
     /// A transaction isn't two numbers with a colon between.
     BadId,
     /// What a prompt asks for isn't `nak` or `keep`.
@@ -48,8 +160,6 @@ pub enum LineError {
     OutOfRange { setting: Setting, line: usize },
     /// The last `set` leaves a configuration that isn't valid.
     BadConfiguration,
-    /// The line is bad, and ends with a carriage return.
-    CarriageReturn,
 }
 
 impl fmt::Display for LineError {
@@ -64,25 +174,29 @@ impl fmt::Display for LineError {
             }
             LineError::ExtraWord => f.write_str("the line has more words than the command takes"),
             LineError::UnknownCommand => f.write_str("there is no such command"),
-            LineError::UnknownKey => f.write_str("there is no such setting"),
+            LineError::UnknownKey => f.write_str("there is no such key"),
             LineError::UnknownStation => f.write_str("a station is 1 or 2"),
-            LineError::BadNumber => f.write_str("a number is decimal digits, below 2^64"),
+            LineError::BadNumber => {
+                f.write_str("a number is a whole one from 0 to 18446744073709551615")
+            }
             LineError::UnknownLane => f.write_str(
-                "a lane is dir or data, and a number is decimal digits, below 2^64",
+                "a lane is dir or data, and a number a whole one from 1 to 18446744073709551615",
             ),
-            LineError::BadId => f.write_str("a transaction is two numbers with a colon between"),
+            LineError::NoFrames => f.write_str("a number of frames is 1 at least"),
+            LineError::BadId => {
+                f.write_str("a transaction is two whole numbers with a colon between, as 1:7")
+            }
             LineError::UnknownPrompt => f.write_str("a prompt asks for nak or keep"),
             LineError::FileTooLong => f.write_str("a file to fill has at most 1,048,576 octets"),
-            LineError::BadOctet => f.write_str("an octet is two hexadecimal digits"),
+            LineError::BadOctet => f.write_str("an octet is two hexadecimal digits, as 0A"),
             LineError::TooLate => f.write_str("set, file and fill stand before all other commands"),
             LineError::OutOfRange { setting, line } => {
                 let (key, range) = (setting.key(), setting.range());
-                write!(f, "line {line}: the range of {key} is {range}")
+                write!(f, "{key}, set in line {line}, is out of its range, {range}")
             }
             LineError::BadConfiguration => {
                 f.write_str("after the last set a setting is out of its range")
             }
-            LineError::CarriageReturn => f.write_str("the line ends with a carriage return"),
         }
     }
 }

@@ -7,6 +7,7 @@ pub mod frames;
 pub mod onlooker;
 pub mod progress;
 pub mod recorder;
+pub mod sent;
 pub mod show;
 pub mod shown;
 pub mod sighting;

@@ -21,7 +21,7 @@ use Rattle.cfdp_script.specs.Script.Run.{AreAccepted}
 use Rattle.cfdp_script.specs.Script.Lines as scripts
 use Rattle.cfdp_script.specs.Script.Lines.{IsFirstBad, files_of, settings_of, steps_of}
 use Rattle.cfdp_report.specs.Settings.{world_of}
-use Rattle.cfdp_script.specs.Script.Simulated.{EndsFrom, EndsReading, EndsScript, EndsText, IsSilentAt}
+use Rattle.cfdp_script.specs.Script.Simulated.{EndsFrom, EndsReading, EndsScript, EndsText, IsSilentAt, RunsScript}
 use Rattle.cfdp_script.specs.declared.script.command.FileLine.{FileLine}
 use Rattle.cfdp_script.specs.declared.script.Step.{Step}
 use Rattle.cfdp_report.specs.declared.settings.Settings.{Settings}
@@ -41,7 +41,7 @@ any_text (Some all) P p = p all
 
 -- ---- where reading failed
 pub reading_ends : (fault : Fault) (left old new : Option (List ℕ)) → EndsReading fault left → IfSome left (λ text. EndsScript (Device fault) text old new)
-reading_ends Unreadable left old new of = any_text left (λ text. EndsScript (Device Unreadable) text old new) (λ text. tt)
+reading_ends (Unreadable kind) left old new of = any_text left (λ text. EndsScript (Device (Unreadable kind)) text old new) (λ text. tt)
 reading_ends TooLong None old new of = tt
 reading_ends TooLong (Some text) old new of = of
 reading_ends NoMemoryAtStart left old new of = any_text left (λ text. EndsScript (Device NoMemoryAtStart) text old new) (λ text. tt)
@@ -49,7 +49,7 @@ reading_ends NoMemory left old new of = absurd of
 reading_ends Unwritable left old new of = absurd of
 
 pub reading_silent : (fault : Fault) (left out : Option (List ℕ)) → EndsReading fault left → IsSilentAt (Device fault) out out
-reading_silent Unreadable left out of = Keeps-refl out
+reading_silent (Unreadable kind) left out of = Keeps-refl out
 reading_silent TooLong left out of = Keeps-refl out
 reading_silent NoMemoryAtStart left out of = Keeps-refl out
 reading_silent NoMemory left out of = absurd of
@@ -63,7 +63,7 @@ text_ends (BadScript bad) text old new ends = ends
 text_ends (Device NoMemory) text old new ends = ends
 text_ends (Device NoMemoryAtStart) text old new ends = ends
 text_ends (Device Unwritable) text old new ends = ends
-text_ends (Device Unreadable) text old new ends = absurd ends
+text_ends (Device (Unreadable kind)) text old new ends = absurd ends
 text_ends (Device TooLong) text old new ends = absurd ends
 
 -- ---- which line is the first bad one
@@ -87,59 +87,49 @@ pub record Promises (config : WorldConfig) : Type 0 where
 
 module _ (text : List ℕ) (old new : Option (List ℕ)) (law : Promises (world_of (settings_of text))) where
   -- the world that the commands left
-  kept_to_end : (exit : Exit) (first : WorldState)
+  kept_to_end : (first : WorldState)
       → IsFirst (world_of (settings_of text)) (outbox_of One (files_of text), outbox_of Two (files_of text)) (empty, empty) first
-      → (ran : RunsAll (steps_of text) first exit old new) → KeepsPromises (empty, empty) ran.last
-  kept_to_end exit first starts ran = law.keeps _ _ first ran.last starts (runs_lead (steps_of text) ran.answered first ran.last ran.runs)
+      → (ran : RunsAll (steps_of text) first) → KeepsPromises (empty, empty) ran.last
+  kept_to_end first starts ran = law.keeps _ _ first ran.last starts (runs_lead (steps_of text) ran.answered first ran.last ran.runs)
 
   -- where all went well, as many puts are completed as were asked for
-  completed_to_end : (exit : Exit) (first : WorldState)
+  completed_to_end : (first : WorldState)
       → IsFirst (world_of (settings_of text)) (outbox_of One (files_of text), outbox_of Two (files_of text)) (empty, empty) first
-      → (ran : RunsAll (steps_of text) first exit old new) → IsSettled ran.last → IsClean ran.last → AreAccepted (steps_of text) ran.answered
+      → (ran : RunsAll (steps_of text) first) → IsSettled ran.last → IsClean ran.last → AreAccepted (steps_of text) ran.answered
       → puts_completed ran.last ≡ puts_asked (steps_of text)
-  completed_to_end exit first starts ran settled clean accepted =
+  completed_to_end first starts ran settled clean accepted =
       let led : Led first ran.last = runs_lead (steps_of text) ran.answered first ran.last ran.runs in
       let stays : (s : Side) → (entity_at s ran.last).config ≡ (entity_at s first).config = law.config_stays _ _ first ran.last starts led in
       let one : (entity_at One ran.last).config.entity ≡ 1 = ap (λ (c : EntityConfig). c.entity) (stays One ∙ ap (λ (e : EntityState). e.config) starts.one.entity) in
       let two : (entity_at Two ran.last).config.entity ≡ 2 = ap (λ (c : EntityConfig). c.entity) (stays Two ∙ ap (λ (e : EntityState). e.config) starts.two.entity) in
-      completed-all ran.last one two (kept_to_end exit first starts ran) (law.completes _ _ first ran.last starts led settled clean)
+      completed-all ran.last one two (kept_to_end first starts ran) (law.completes _ _ first ran.last starts led settled clean)
       ∙ puts-all (steps_of text) ran.answered first ran.last ran.runs accepted starts.puts
 
-  -- what starts here and ran so, ended the script so
+  -- what starts here and ran so, ran as the script says
+  ran_script : (first : WorldState) → IsFirstBad text None
+      → IsFirst (world_of (settings_of text)) (outbox_of One (files_of text), outbox_of Two (files_of text)) (empty, empty) first
+      → RunsAll (steps_of text) first → RunsScript text
+  ran_script first good starts ran = record {
+    good = good;
+    first = first;
+    starts = starts;
+    ran = ran;
+    promised = kept_to_end first starts ran;
+    completed = completed_to_end first starts ran;
+  }
+
+  -- and ended the script so
   run_to_end : (exit : Exit) (first : WorldState) → IsFirstBad text None
       → IsFirst (world_of (settings_of text)) (outbox_of One (files_of text), outbox_of Two (files_of text)) (empty, empty) first
       → EndsRun exit (steps_of text) first old new → EndsText exit text old new
-  run_to_end Complete first good starts ran = record {
-    good = good;
-    first = first;
-    starts = starts;
-    ran = ran;
-    promised = kept_to_end _ first starts ran;
-    completed =
-        completed_to_end _ first starts ran;
-  }
-  run_to_end Incomplete first good starts ran = record {
-    good = good;
-    first = first;
-    starts = starts;
-    ran = ran;
-    promised = kept_to_end _ first starts ran;
-    completed =
-        completed_to_end _ first starts ran;
-  }
+  unfolding ran_script
+  run_to_end Complete first good starts ran = (ran_script first good starts ran.0, ran.1)
+  run_to_end Incomplete first good starts ran = (ran_script first good starts ran.0, ran.1)
   run_to_end (BadScript bad) first good starts ran = absurd ran
-  run_to_end (Device NoMemory) first good starts ran = record {
-    good = good;
-    first = first;
-    starts = starts;
-    ran = ran;
-    promised = kept_to_end _ first starts ran;
-    completed =
-        completed_to_end _ first starts ran;
-  }
+  run_to_end (Device NoMemory) first good starts ran = (ran_script first good starts ran.0, ran.1)
   run_to_end (Device NoMemoryAtStart) first good starts ran = tt
-  run_to_end (Device Unwritable) first good starts ran = tt
-  run_to_end (Device Unreadable) first good starts ran = absurd ran
+  run_to_end (Device Unwritable) first good starts ran = ran_script first good starts ran
+  run_to_end (Device (Unreadable kind)) first good starts ran = absurd ran
   run_to_end (Device TooLong) first good starts ran = absurd ran
 
   run_silent : (exit : Exit) (first : WorldState) → EndsRun exit (steps_of text) first old new → IsSilentAt exit old new
@@ -149,7 +139,7 @@ module _ (text : List ℕ) (old new : Option (List ℕ)) (law : Promises (world_
   run_silent (Device NoMemory) first ran = tt
   run_silent (Device NoMemoryAtStart) first ran = ran
   run_silent (Device Unwritable) first ran = tt
-  run_silent (Device Unreadable) first ran = absurd ran
+  run_silent (Device (Unreadable kind)) first ran = absurd ran
   run_silent (Device TooLong) first ran = absurd ran
 
   abbrev EndsFromText : Exit → Type 0

@@ -7,7 +7,7 @@ use Rattle.cfdp_script.specs.declared.script.command.Line.{Line}
 use Rattle.cfdp_script.specs.declared.script.command.Line.TheVariants as line
 use Rattle.cfdp_script.specs.declared.script.Step.{Step}
 use Rattle.cfdp_report.specs.Settings.{set_value}
-use Rattle.cfdp_script.specs.Script.Words.{parts}
+use Rattle.cfdp_script.specs.Script.Words.{parts, without_return}
 use Rattle.cfdp_script.specs.Script.Lines.{ReadLine, read_line, numbered, line_of, lines_of, is_skipped, is_command, front, first_where, misread, file_in, step_in, set_in, is_set}
 use Rattle.cfdp_script.specs.Script.Gathering.{Gathered, at_start, noted, before, taken, gather}
 use Rattle.cfdp_report.proofs.Numerals.{by_test}
@@ -21,8 +21,9 @@ gather_read g (l ∷ rest) = gather_read (taken g l.0 l.1) rest
 skipped : (g : Gathered) (ls : List (ℕ × List ℕ)) → gather g ls ≡ gather_read g (filter_map read_line ls)
 skipped g [] = refl
 skipped g (l ∷ ls) =
-    by_test (is_skipped l.1) (λ b. gather (if b then g else taken g l.0 (line_of l.1)) ls ≡ gather_read g (cons_option (if b then None else Some (l.0, line_of l.1)) (filter_map read_line ls)))
-    (λ _. skipped g ls) (λ _. skipped (taken g l.0 (line_of l.1)) ls)
+    let text = without_return l.1 in
+    by_test (is_skipped text) (λ b. gather (if b then g else taken g l.0 (line_of text)) ls ≡ gather_read g (cons_option (if b then None else Some (l.0, line_of text)) (filter_map read_line ls)))
+    (λ _. skipped g ls) (λ _. skipped (taken g l.0 (line_of text)) ls)
 
 or-none : (w : Option ℕ) → option_or w None ≡ w
 or-none None = refl

@@ -9,7 +9,7 @@ use Rattle.cfdp_report.specs.declared.exit.Exit.{Exit}
 use Rattle.cfdp_report.specs.declared.exit.Exit.TheVariants.{Complete, Incomplete, Device}
 use Rattle.cfdp_report.specs.declared.exit.Fault.TheVariants.{NoMemory}
 use Rattle.cfdp_report.specs.Report.Answers.{is_device_fault}
-use Rattle.cfdp_script.specs.Script.Ending.{EndsRun, RunsAll, exit_of}
+use Rattle.cfdp_script.specs.Script.Ending.{EndsRun, RunsAll, RunsTold, exit_of}
 use Rattle.cfdp_script.specs.Script.Report.{puts_asked, puts_completed, report_text}
 use Rattle.cfdp_script.specs.Script.Run.{Performs, Runs}
 
@@ -27,7 +27,7 @@ abbrev picked : Bool → Bool → Exit
 picked fault all = if fault then Device NoMemory else if all then Complete else Incomplete
 
 ends_picked : (fault all : Bool) (steps : List Step) (first : WorldState) (old new : Option (List ℕ))
-    → ((e : Exit) → e ≡ picked fault all → RunsAll steps first e old new) → EndsRun (picked fault all) steps first old new
+    → ((e : Exit) → e ≡ picked fault all → RunsTold steps first e old new) → EndsRun (picked fault all) steps first old new
 ends_picked true all steps first old new ran = ran (Device NoMemory) refl
 ends_picked false true steps first old new ran = ran Complete refl
 ends_picked false false steps first old new ran = ran Incomplete refl
@@ -39,6 +39,10 @@ pub run_ended : (exit : Exit) (steps : List Step) (answered : List Answered) (fi
 run_ended exit steps answered first last old new runs ends written =
     let fault : Bool = list_any (λ done. is_device_fault done.answer) answered in
     let all : Bool = puts_completed last == puts_asked steps in
-    let ran : (e : Exit) → e ≡ picked fault all → RunsAll steps first e old new =
-    λ e same. record { answered = answered; last = last; runs = runs; ends = same; written = written } in
+    let ran : (e : Exit) → e ≡ picked fault all → RunsTold steps first e old new =
+    λ e same. (record { answered = answered; last = last; runs = runs }, record { ends = same; written = written }) in
     subst (λ e. EndsRun e steps first old new) (sym ends) (ends_picked fault all steps first old new ran)
+
+-- one whose report couldn't be written ran all the same
+pub run_unwritten : (steps : List Step) (answered : List Answered) (first last : WorldState) → Runs steps answered first last → RunsAll steps first
+run_unwritten steps answered first last runs = record { answered = answered; last = last; runs = runs }

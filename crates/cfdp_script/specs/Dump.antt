@@ -1,5 +1,6 @@
 -- What the program's `dump` prints.
-use Rattle.std.specs.Prelude.{◌≡◌, ⊤, ℕ, ◌<◌, ◌==◌, Bool, List, [], ◌∷◌, length, if◌then◌else◌, Option, IfSome, MatchOption}
+use Rattle.std.specs.List.{flat_map}
+use Rattle.std.specs.Prelude.{◌≡◌, ℕ, ◌<◌, ◌≤◌, ◌==◌, Bool, ◌&&◌, nat_le, slice_index, drop, List, [], ◌∷◌, length, if◌then◌else◌, Option, IfSome, MatchOption}
 use Rattle.std.specs.Result.{result_ok}
 use Rattle.std.specs.Io.KnownBytes.{Keeps}
 use Rattle.hex.specs.Hex.{decode_of}
@@ -12,7 +13,7 @@ use Rattle.cfdp_report.specs.declared.exit.Fault.TheVariants.{NoMemory, TooLong,
 use Rattle.cfdp_script.specs.declared.dump.DumpRequest.{DumpRequest}
 use Rattle.cfdp_script.specs.declared.dump.DumpKind.{DumpKind}
 use Rattle.cfdp_script.specs.declared.dump.DumpKind.TheVariants.{Pdus, Frames}
-use Rattle.cfdp_script.specs.Script.Words.{onto_first}
+use Rattle.cfdp_script.specs.Script.Words.{onto_first, parts, without_return}
 
 -- the lines of a text: each ends with a line feed, which the last needs not
 unfoldable pub lines : List ℕ → List (List ℕ)
@@ -23,9 +24,18 @@ abbrev pub TellsAs : DumpKind → (long : Bool) → (zone : ℕ) → List ℕ �
 TellsAs Pdus long zone = TellsAsPdu long
 TellsAs Frames long zone = TellsAsFrame long zone
 
--- the octets that a line's pairs of hexadecimal digits spell, in either case
+-- a word without `0x` in front
+abbrev pub bare : List ℕ → List ℕ
+bare word = if nat_le 2 (length word) && ((slice_index word 0 == 48) && (slice_index word 1 == 120))
+    then drop 2 word else word
+
+-- the digits of a line: its words without the spaces between
+abbrev pub digits_of : List ℕ → List ℕ
+digits_of line = flat_map bare (parts 32 line)
+
+-- the octets that the hexadecimal digits of a line spell, in either case
 abbrev pub hex_octets : List ℕ → Option (List ℕ)
-hex_octets line = result_ok (decode_of line)
+hex_octets line = result_ok (decode_of (digits_of (without_return line)))
 
 -- This text is written for this line.
 abbrev pub TellsLine : DumpRequest → List ℕ → List ℕ → Type 0
@@ -33,14 +43,19 @@ TellsLine request line text =
     MatchOption (hex_octets line) (text ≡ refusal_text Hex)
     (λ octets. TellsAs request.kind request.long request.zone octets text)
 
+-- A text isn't too long to be read, where it is known.
+abbrev pub IsShort : Option (List ℕ) → Type 0
+IsShort left = IfSome left (λ text. length text ≤ 1048576)
+
 -- How a dump ends, by what the reader has left and what the writer holds before and after. Complete
 -- says that each line was told. Where the lines couldn't be read, or are too many, nothing is
--- written.
+-- written. Where a line couldn't be written, or there was no memory for it, all had been read; of
+-- what was written nothing is said, as no writer says what it took of a text before it failed.
 abbrev pub EndsDump : DumpRequest → (left old new : Option (List ℕ)) → Exit → Type 0
-EndsDump request left old new Complete =
-    IfSome left (λ text. WritesLines (TellsLine request) (lines text) old new)
-EndsDump request left old new (Device Unwritable) = ⊤
-EndsDump request left old new (Device NoMemory) = ⊤
+EndsDump request left old new Complete = IsShort left
+    × IfSome left (λ text. WritesLines (TellsLine request) (lines text) old new)
+EndsDump request left old new (Device Unwritable) = IsShort left
+EndsDump request left old new (Device NoMemory) = IsShort left
 EndsDump request left old new (Device TooLong) = IfSome left (λ text. 1048576 < length text)
     × Keeps old new
 EndsDump request left old new (Device fault) = Keeps old new

@@ -2,12 +2,15 @@
 ghost use Rattle.std.specs.Prelude.{◌≡◌, ◌<◌, ◌≤◌, ◌∷◌, length, IfOk, OnOk};
 ghost use Rattle.std.specs.Io.Buffered.{writer_buffer, writer_contents};
 ghost use Rattle.std.specs.Option.{option_map};
+ghost use Rattle.std.specs.Result.{result_ok};
+ghost use Rattle.hex.specs.Hex.{decode_of};
 ghost use Rattle.cfdp_report.specs.Dump.Lines.{WritesLine, WritesLines};
 ghost use Rattle.cfdp_report.specs.Exit.{IsFlushedAt};
 ghost use Rattle.cfdp_script.specs.Dump.{EndsDump, hex_octets, TellsLine};
 ghost use Rattle.cfdp_script.specs.Dump as dumps;
 
 use crate::input::{read_script, write_fault};
+use crate::script::without_return;
 use crate::script::words::cut_at_first;
 use cfdp_report::{Exit, Refusal, write_frame, write_pdu};
 use hex::FromHexError;
@@ -36,7 +39,9 @@ pub struct DumpRequest {
 }
 
 /// Reads lines of hexadecimal digits to their end, and writes for each a line that says what it
-/// spells. Lines end with a line feed, which the last needs not; an empty line is no octets.
+/// spells. Lines end with a line feed, which the last needs not and which may have a carriage return
+/// in front; an empty line is no octets. Spaces may stand anywhere between the digits, and `0x`
+/// behind a space or at the line's beginning.
 ///
 /// Frames have packet zones of `zone` octets and are told whatever their spacecraft and channel. Of
 /// PDUs `zone` says nothing.
@@ -138,12 +143,47 @@ fn write_line<W: Write>(
     }
 }
 
-/// The octets that the line's pairs of hexadecimal digits spell, in either case. `None` where it
-/// has anything else.
+/// The octets that the line's hexadecimal digits spell, in either case, with spaces between words
+/// that may begin with `0x`. `None` where it has anything else.
 fn parse_hex_line(alloc: Global, line: &[u8]) -> Result<Option<Vec<u8>>, AllocError>
     ensures { IfOk result (λ octets. option_map (λ v. v.items) octets ≡ hex_octets line.now) }
 {
-    match hex::decode(alloc, line) {
+    let digits = digits_of(alloc, without_return(line))?;
+    parse_digits(alloc, digits.as_slice())
+}
+
+/// The words of a line without the spaces between, and without `0x` where one begins so.
+fn digits_of(alloc: Global, line: &[u8]) -> Result<Vec<u8>, AllocError>
+    ensures { IfOk result (λ digits. digits.items ≡ dumps.digits_of line.now) }
+{
+    let mut digits = Vec::new(alloc);
+    let mut rest = Some(line);
+    while let Some(words) = rest {
+        let (word, behind) = cut_at_first(words, b' ');
+        digits.extend_from_slice(bare(word))?;
+        rest = behind;
+    }
+    Ok(digits)
+}
+
+/// A word without `0x` in front.
+fn bare(word: &[u8]) -> &[u8]
+    ensures { result.now ≡ dumps.bare word.now }
+{
+    if word.len() >= 2 && word[0] == b'0' && word[1] == b'x' {
+        &word[2..]
+    } else {
+        word
+    }
+}
+
+/// The octets that pairs of hexadecimal digits spell, in either case. `None` where there is
+/// anything else.
+fn parse_digits(alloc: Global, digits: &[u8]) -> Result<Option<Vec<u8>>, AllocError>
+    ensures { IfOk result (λ octets. option_map (λ v. v.items) octets
+        ≡ result_ok (decode_of digits.now)) }
+{
+    match hex::decode(alloc, digits) {
         Ok(octets) => Ok(Some(octets)),
         Err(FromHexError::OutOfMemory) => Err(AllocError),
         Err(FromHexError::InvalidHexCharacter { .. }) => Ok(None),

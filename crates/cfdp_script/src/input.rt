@@ -35,24 +35,14 @@ pub fn read_script<R: Read + Drop>(alloc: Global, mut reader: R) -> Result<Vec<u
                 }
                 script.extend_from_slice(&part[..count])?;
             }
-            Err(error) => {
-                if error.kind() != ErrorKind::Interrupted {
-                    return Err(read_fault(&error));
-                }
-            }
+            Err(error) => match error.kind() {
+                ErrorKind::Interrupted => {}
+                ErrorKind::OutOfMemory => return Err(Fault::NoMemoryAtStart),
+                kind => return Err(Fault::Unreadable(kind)),
+            },
         }
     }
-    Err(Fault::Unreadable)
-}
-
-/// What failed where a read did.
-fn read_fault(error: &io::Error) -> Fault
-    ensures { (result ≡ Fault.NoMemoryAtStart) ⊎ (result ≡ Fault.Unreadable) }
-{
-    match error.kind() {
-        ErrorKind::OutOfMemory => Fault::NoMemoryAtStart,
-        _ => Fault::Unreadable,
-    }
+    Err(Fault::Unreadable(ErrorKind::TimedOut))
 }
 
 /// What failed where the output was not written to its end.

@@ -1,15 +1,16 @@
 //! Scripts, from their text to their run.
 ghost use Rattle.std.specs.Prelude.{◌≡◌, ◌≤◌, None, Some, length, option_map, IfOk, IfErr, OnOk};
 ghost use Rattle.cfdp_report.specs.Settings.{world_of};
-ghost use Rattle.cfdp_script.specs.Script.Words.{parts};
+ghost use Rattle.cfdp_script.specs.Script.Words.{parts, without_return};
 ghost use Rattle.cfdp_script.specs.Script.Lines as scripts;
 ghost use Rattle.cfdp_script.specs.Script.Lines.{files_of, steps_of, settings_of, numbered};
 ghost use Rattle.cfdp_script.specs.Script.Lines.{IsFirst};
-ghost use Rattle.cfdp_script.specs.Script.Gathering.{gathered, noted, taken, read_into, gather};
+ghost use Rattle.cfdp_script.specs.Script.Gathering.{gathered, noted, taken, read_cut, gather};
 
 pub mod command;
 pub mod outboxes;
 pub mod perform;
+pub mod reason;
 pub mod report;
 pub mod run;
 pub mod sim;
@@ -17,8 +18,9 @@ pub mod words;
 
 use crate::input::MAX_SCRIPT;
 use crate::script::command::{Command, FileLine, Line, Unread, parse_line};
+use crate::script::reason::bad_line;
 use crate::script::words::cut_at_first;
-use cfdp_report::{BadLine, LineError, Setting, Settings};
+use cfdp_report::{BadLine, Hint, LineError, Quote, Setting, Settings};
 use link_sim::WorldConfig;
 use std::alloc::{AllocError, Global};
 use valid_config::Valid;
@@ -79,14 +81,14 @@ impl Script {
         while let Some(lines) = rest {
             line += 1;
             let (first, behind) = cut_at_first(lines, b'\n');
-            self.read_line(alloc, line, first)?;
+            self.read_line(alloc, line, without_return(first))?;
             rest = behind;
         }
         Ok(())
     }
 
     fn read_line(&mut self, alloc: Global, line: usize, text: &[u8]) -> Result<(), AllocError>
-        ensures { OnOk result (gathered self.new ≡ read_into (gathered self.old) line text.now) }
+        ensures { OnOk result (gathered self.new ≡ read_cut (gathered self.old) line text.now) }
     {
         if is_skipped(text) {
             return Ok(());
@@ -95,7 +97,7 @@ impl Script {
             Ok(meant) => self.keep(line, meant),
             Err(Unread::NoMemory) => Err(AllocError),
             Err(Unread::Bad(error)) => {
-                self.note(line, explained(text, error));
+                self.note(bad_line(alloc, line, text, error));
                 Ok(())
             }
         }
@@ -129,7 +131,7 @@ impl Script {
         if self.steps.is_empty() {
             self.files.push(file)?;
         } else {
-            self.note(line, LineError::TooLate);
+            self.note(BadLine::whole(line, LineError::TooLate));
         }
         Ok(())
     }
@@ -143,16 +145,16 @@ impl Script {
             self.last_set = line;
             note_set(&mut self.set_lines, setting, line);
         } else {
-            self.note(line, LineError::TooLate);
+            self.note(BadLine::whole(line, LineError::TooLate));
         }
     }
 
     /// Keeps which line is the first that is misread.
-    fn note(&mut self, line: usize, error: LineError)
-        ensures { gathered self.new ≡ noted (gathered self.old) line }
+    fn note(&mut self, bad: BadLine)
+        ensures { gathered self.new ≡ noted (gathered self.old) bad.line }
     {
         if self.first_bad.is_none() {
-            self.first_bad = Some(BadLine { line, error });
+            self.first_bad = Some(bad);
         }
     }
 
@@ -189,6 +191,8 @@ impl Script {
             _ => BadLine {
                 line,
                 error: self.out_of_range(),
+                word: Quote::NONE,
+                hint: Hint::Nothing,
             },
         }
     }
@@ -225,11 +229,13 @@ fn is_skipped(line: &[u8]) -> bool
     line.is_empty() || line[0] == b'#'
 }
 
-/// Why a line is bad, where it was read as far as this fault.
-fn explained(line: &[u8], error: LineError) -> LineError {
-    if line.ends_with(b"\r") {
-        LineError::CarriageReturn
+/// A line without the carriage return that ends it, if one does.
+pub fn without_return(line: &[u8]) -> &[u8]
+    ensures { result.now ≡ without_return line.now }
+{
+    if !line.is_empty() && line[line.len() - 1] == b'\r' {
+        &line[..line.len() - 1]
     } else {
-        error
+        line
     }
 }

@@ -1,3 +1,4 @@
 -- Two stations and the frames between them.
 pub mod State
+pub mod Failures
 pub mod Steps

@@ -1,6 +1,7 @@
 //! A world over stores in memory, as one who only says what happened in it drives it.
 ghost use Rattle.std.specs.FinMap as map;
 ghost use Rattle.std.specs.Prelude.{IfOk};
+ghost use Rattle.link_sim.specs.World.Failures.{HaveFailed};
 ghost use Rattle.link_sim.specs.World.State.{IsFirst};
 
 use crate::event::{Applied, Event};
@@ -30,7 +31,9 @@ impl<W: Witness> World<MemoryOutbox, MemoryInbox, W> {
         outboxes: (Files, Files),
         witness: W,
     ) -> Result<Self, AllocError>
-        ensures { IfOk result (IsFirst config (outboxes.0, outboxes.1) (map.empty, map.empty)) }
+        ensures first { IfOk result (IsFirst config (outboxes.0, outboxes.1)
+            (map.empty, map.empty)) }
+        ensures failures { IfOk result (HaveFailed (0, 0) (0, 0)) }
     {
         let one = MemoryOutbox::with_files(outboxes.0);
         let two = MemoryOutbox::with_files(outboxes.1);

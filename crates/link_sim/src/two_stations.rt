@@ -19,6 +19,7 @@ ghost use Rattle.link_sim.specs.AtStation.{AreReady, AreSameLinks, FlushesAt, Fr
 ghost use Rattle.link_sim.specs.AtStation.{HasBuffers, KeepsOutbox, OnLane, PollsAt, PullsBoth};
 ghost use Rattle.link_sim.specs.AtStation.{PullsOne, PutsAt, RaisesByRequest, StrikesAt};
 ghost use Rattle.link_sim.specs.AtStation.{TellsTimeAt, TriesToSend, answered};
+ghost use Rattle.link_sim.specs.World.Failures.{HaveFailed};
 ghost use Rattle.link_sim.specs.World.State as state;
 ghost use Rattle.link_sim.specs.World.Steps as steps;
 ghost use Rattle.link_sim.specs.World.State.{station_at, link_from, IsFirst};
@@ -94,6 +95,8 @@ impl<O: SteadyOutbox, I: Inbox> TwoStations<O, I> {
     ) -> Result<Self, AllocError>
         ensures first { IfOk result (IsFirst config (O.files outboxes.0, O.files outboxes.1)
             (I.published inboxes.0, I.published inboxes.1)) }
+        ensures failures { IfOk result (HaveFailed (O.failures outboxes.0, O.failures outboxes.1)
+            (I.failures inboxes.0, I.failures inboxes.1)) }
         // Both lanes of both directions are carried, from the first frame on.
         ensures ways { IfOk result (λ w. (side : Side) → state.AreWays side w) }
     {

@@ -6,6 +6,7 @@ ghost use Rattle.link_sim.specs.Found.{ExpiresOn};
 ghost use Rattle.link_sim.specs.Running.{Happens, KeepsPromises, Ran};
 ghost use Rattle.link_sim.specs.Settling.{DropsWhereFull, IsOfSettling, KeepsAll, all_shortages};
 ghost use Rattle.link_sim.specs.Tracks.{KeepsPutsOf, RunsAlong};
+ghost use Rattle.link_sim.specs.World.Failures.{HaveFailed};
 ghost use Rattle.link_sim.specs.World.State.{IsFirst, station_at, entity_at, link_from, seen_links};
 ghost use Rattle.link_sim.specs.Work.{world_work};
 ghost use Rattle.link_sim.specs.declared.event.Applied.TheVariants as dids;
@@ -72,6 +73,9 @@ impl<O: SteadyOutbox, I: Inbox, W: Witness> World<O, I, W> {
     ) -> Result<Self, AllocError>
         ensures first { IfOk result (IsFirst config (O.files outboxes.0, O.files outboxes.1)
             (I.published inboxes.0, I.published inboxes.1)) }
+        // Its stores' failures are those that they had.
+        ensures failures { IfOk result (HaveFailed (O.failures outboxes.0, O.failures outboxes.1)
+            (I.failures inboxes.0, I.failures inboxes.1)) }
         // The promises hold of it.
         ensures promised { IfOk result
             (KeepsPromises (I.published inboxes.0, I.published inboxes.1)) }

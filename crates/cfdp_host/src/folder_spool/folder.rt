@@ -1,7 +1,7 @@
 // The folder of a spool: the calls of the system.
-use crate::cause::cause_text;
 use crate::folder_spool::stamp::FileStamp;
 use crate::locks::{LockError, lock};
+use cfdp_report::cause_text;
 use std::fs::{File, ReadDir};
 use std::io::ErrorKind;
 use std::{fs, io};

@@ -1,6 +1,5 @@
 //! What an operator is told of a spool.
-use crate::cause::cause_text;
-use cfdp_report::Name;
+use cfdp_report::{Name, cause_text};
 use std::fmt;
 use std::io::ErrorKind;
 

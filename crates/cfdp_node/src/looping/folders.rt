@@ -3,9 +3,11 @@ use crate::looping::request::LoopRequest;
 use crate::looping::telling::{LoopLookout, TellingInbox, TellingOutbox};
 use crate::looping::{LoopEnds, LoopOptions, loop_config, run_loop};
 use crate::wire::udp::UdpWire;
-use cfdp_host::{HeldFolder, cause_text, fault_text};
+use cfdp_host::{HeldFolder, fault_text};
 use cfdp_port::{Lookout, LossyWire, Wire};
-use cfdp_report::{Exit, Fault, Input, Name, Onlooker, Progress, Ran, Screen, shown_status};
+use cfdp_report::{
+    Exit, Fault, Input, Name, Onlooker, Progress, Ran, Screen, cause_text, shown_status,
+};
 use cfdp_store::{FolderError, FolderOutbox, Inbox, Outbox, SeekingOutbox, is_folder_name};
 use past::Past;
 use std::alloc::{AllocError, Global};
@@ -64,6 +66,7 @@ fn way(rt: &HostRuntime, request: &LoopRequest) -> Result<(LossyWires, HeldFolde
         let _ = eprintln!(rt; "error: {} and {} are one folder", request.from, request.to);
         return Err(MISTAKE);
     }
+    note_drops(rt, request.drop_every);
     let held = HeldFolder::take(rt, request.to.as_str())?;
     match UdpWire::pair(rt) {
         Ok((one, two)) => {
@@ -78,6 +81,13 @@ fn way(rt: &HostRuntime, request: &LoopRequest) -> Result<(LossyWires, HeldFolde
             );
             Err(DEVICE)
         }
+    }
+}
+
+/// Says on standard error where no frame is left of those that are sent.
+pub fn note_drops(rt: &HostRuntime, drop_every: u64) {
+    if drop_every == 1 {
+        let _ = eprintln!(rt; "note: --drop 1 loses each frame; --drop 2 loses every second one");
     }
 }
 
@@ -150,7 +160,7 @@ pub fn folder_outbox<'a>(
     FolderOutbox::new(rt, rt.alloc(), path, expected)
 }
 
-/// Looks for a file in the folder of an outbox. It may be missing.
+/// Looks for a file in the folder of an outbox. It may be missing, which is told.
 ///
 /// # Errors
 ///
@@ -161,13 +171,19 @@ pub fn check_file(
     path: &str,
     name: &str,
 ) -> Result<(), u8> {
-    if outbox.look_for(name.as_bytes()).is_ok() {
-        return Ok(());
+    match outbox.look_for(name.as_bytes()) {
+        Ok(true) => Ok(()),
+        Ok(false) => {
+            let _ = eprintln!(rt; "note: {path}/{name}: there is no such file");
+            Ok(())
+        }
+        Err(_) => {
+            if let Some(fault) = outbox.fault() {
+                tell_of_file(rt, path, name, fault);
+            }
+            Err(DEVICE)
+        }
     }
-    if let Some(fault) = outbox.fault() {
-        tell_of_file(rt, path, name, fault);
-    }
-    Err(DEVICE)
 }
 
 /// Says on standard error what is wrong with a file of a folder.

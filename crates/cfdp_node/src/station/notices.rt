@@ -8,6 +8,7 @@ use cfdp_header::TransactionId;
 use cfdp_host::FrameMonitor;
 use cfdp_host::carrier::CarrierDrop;
 use cfdp_port::{Lookout, Passed};
+use cfdp_report::cause_text;
 use cfdp_station::{EntityDrop, FrameError, LinkDrop, Station, StationConfig};
 use cfdp_store::{Inbox, Outbox};
 use link_sim::Side;
@@ -293,7 +294,7 @@ impl<'a> Notices<'a> {
                 "note: nobody listens at {}",
                 self.to
             ),
-            _ => eprintln!(self.rt; "note: the socket failed: {kind}"),
+            kind => eprintln!(self.rt; "note: the socket failed: {}", cause_text(kind)),
         };
     }
 

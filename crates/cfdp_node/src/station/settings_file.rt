@@ -2,6 +2,7 @@
 ghost use Rattle.std.specs.Prelude.{◌≡◌, ◌⊎◌, ◌++◌, map, take, drop, IfErr, IfOk, OnOk};
 
 use cfdp_config::{EXAMPLE, OPTIONS, SettingsError, is_said, settings_words, value_said};
+use cfdp_report::cause_text;
 use std::alloc::{AllocError, Global};
 use std::fs;
 
@@ -66,7 +67,7 @@ fn read(rt: &HostRuntime, path: &str, said: &[String]) -> Result<Vec<String>, u8
     let text = match fs::read_to_string(rt, path) {
         Ok(text) => text,
         Err(error) => {
-            let _ = eprintln!(rt; "error: {path}: {}", error.kind());
+            let _ = eprintln!(rt; "error: {path}: {}", cause_text(error.kind()));
             return Err(DEVICE);
         }
     };

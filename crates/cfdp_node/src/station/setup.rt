@@ -3,11 +3,12 @@ ghost use Rattle.std.specs.Prelude.{IfSome};
 
 use crate::station::request::CarrierKind;
 use cfdp_host::carrier::{Carrier, LinkFields, PacketForm};
-use cfdp_report::{Setting, Settings, parse_setting};
+use cfdp_report::{Keys, Nearest, Setting, Settings, consider_keys, parse_setting};
 use cfdp_station::LinkConfig;
 use frame_fields::FrameFields;
 use link_sim::WorldConfig;
 use space_packet::PacketType;
+use std::alloc::{AllocError, Global};
 use std::fmt;
 use valid_config::{Config, Valid};
 
@@ -84,8 +85,10 @@ struct PacketNumbers {
 pub enum Misfit {
     /// Both ids are one.
     OneId,
-    /// The id of this option doesn't fit the octets that `id_width` sets.
-    WideId(&'static str),
+    /// The id of this option doesn't fit so many octets, which `id_width` sets.
+    WideId(&'static str, u64),
+    /// The number of the first transaction doesn't fit so many octets, which `number_width` sets.
+    WideNumber(u64),
     /// The value of this key is greater than that.
     TooGreat(&'static str, u64),
     /// Both lanes of a direction have one channel, by these keys.
@@ -98,12 +101,14 @@ impl fmt::Display for Misfit {
     fn fmt<W: fmt::Write>(&self, f: &mut fmt::Formatter<W>) -> fmt::Result {
         match self {
             Misfit::OneId => f.write_str("--id and --peer are one, and have to differ"),
-            Misfit::WideId(option) => {
-                write!(
-                    f,
-                    "--{option} doesn't fit the octets of an id: set id_width, 1 to 8"
-                )
-            }
+            Misfit::WideId(option, width) => write!(
+                f,
+                "--{option} doesn't fit the octets of an id, {width}: set id_width, 1 to 8"
+            ),
+            Misfit::WideNumber(width) => write!(
+                f,
+                "--first-number doesn't fit the octets of a number, {width}: set number_width"
+            ),
             Misfit::TooGreat(key, most) => write!(f, "{key} is out of its range, 0 to {most}"),
             Misfit::OneChannel(one, other) => {
                 write!(f, "{one} and {other} are one, and have to differ")
@@ -111,6 +116,69 @@ impl fmt::Display for Misfit {
             Misfit::Other => f.write_str("the station can't be set up so"),
         }
     }
+}
+
+/// The keys of a station beside those of a script.
+const OWN_KEYS: [&'static str; 16] = [
+    "spacecraft",
+    "virtual_channel",
+    "data_virtual_channel",
+    "apid",
+    "peer_virtual_channel",
+    "peer_data_virtual_channel",
+    "peer_apid",
+    "packet_type",
+    "secondary_header",
+    "peer_secondary_header",
+    "insert_zone",
+    "control_field",
+    "error_control",
+    "peer_insert_zone",
+    "peer_control_field",
+    "peer_error_control",
+];
+
+/// What may stand where a key is none.
+#[derive(Clone, Copy)]
+pub enum KeyHint {
+    /// The key that is most like it.
+    Nearest(&'static str),
+    /// All keys.
+    All,
+}
+
+/// What goes on from the sentence that there is no such key.
+impl fmt::Display for KeyHint {
+    fn fmt<W: fmt::Write>(&self, f: &mut fmt::Formatter<W>) -> fmt::Result {
+        match self {
+            KeyHint::Nearest(key) => write!(f, "; the nearest is {key}"),
+            KeyHint::All => {
+                write!(f, "; the keys are {Keys}")?;
+                for key in &OWN_KEYS {
+                    write!(f, ", {key}")?;
+                }
+                Ok(())
+            }
+        }
+    }
+}
+
+/// What may stand in the place of this word, which is no key.
+pub fn key_hint(alloc: Global, word: &str) -> KeyHint {
+    match nearest(alloc, word) {
+        Ok(Some(key)) => KeyHint::Nearest(key),
+        Ok(None) | Err(AllocError) => KeyHint::All,
+    }
+}
+
+/// The key that is most like a word, if one is near to it.
+fn nearest(alloc: Global, word: &str) -> Result<Option<&'static str>, AllocError> {
+    let mut nearest = Nearest::to(word.as_bytes());
+    consider_keys(alloc, &mut nearest)?;
+    for key in &OWN_KEYS {
+        nearest.consider(alloc, key)?;
+    }
+    Ok(nearest.found())
 }
 
 /// Whether an id fits so many octets.
@@ -269,15 +337,29 @@ impl StationSetup {
         if id == peer {
             Misfit::OneId
         } else if !fits(id, width) {
-            Misfit::WideId("id")
+            Misfit::WideId("id", width)
         } else if !fits(peer, width) {
-            Misfit::WideId("peer")
+            Misfit::WideId("peer", width)
         } else if own.virtual_channel == own.data_virtual_channel {
             Misfit::OneChannel("virtual_channel", "data_virtual_channel")
         } else if other.virtual_channel == other.data_virtual_channel {
             Misfit::OneChannel("peer_virtual_channel", "peer_data_virtual_channel")
         } else {
             Misfit::Other
+        }
+    }
+
+    /// What is wrong with the number of the first transaction, if something is.
+    pub fn number_misfit(&self) -> Option<Misfit> {
+        let Settings {
+            first_number,
+            number_width,
+            ..
+        } = self.settings;
+        if fits(first_number, number_width) {
+            None
+        } else {
+            Some(Misfit::WideNumber(number_width))
         }
     }
 

@@ -1,8 +1,8 @@
 //! The numbers that a station has reserved, in a small file, so that none comes back when it is
 //! killed and started anew.
 use aos_frame::FRAME_COUNTS;
-use cfdp_host::{LockError, cause_text, lock};
-use cfdp_report::parse_number;
+use cfdp_host::{LockError, lock};
+use cfdp_report::{cause_text, parse_number};
 use std::alloc::AllocError;
 use std::fs::File;
 use std::io::{ErrorKind, Read, Write};

@@ -19,9 +19,9 @@ use Rattle.aos_frame.specs.declared.header.FrameHeader.{FrameHeader}
 use Rattle.aos_frame.specs.declared.error.FrameError.{FrameError}
 use Rattle.aos_frame.specs.Frame.{SpellsFrame, frame_fault, own_channel}
 use Rattle.mpdu.specs.MpduHeader.{pointer_of}
-use Rattle.cfdp_report.specs.declared.dump.refusal.Refusal.TheVariants.{Pdu, Frame}
+use Rattle.cfdp_report.specs.declared.dump.refusal.Refusal.TheVariants.{Pdu}
 use Rattle.cfdp_report.specs.Report.Name.{hex_digit, printed_octet}
-use Rattle.cfdp_report.specs.Dump.Refusal.{refusal_text}
+use Rattle.cfdp_report.specs.Dump.Refusal.{frame_fault_text, refusal_text}
 use Rattle.cfdp_report.specs.Report.Wording.{id_text, delivery_word, status_word}
 
 -- a number as eight upper-case hexadecimal digits
@@ -162,7 +162,7 @@ pub record TellsFrame (long : Bool) (zone : ℕ) (octets text : List ℕ) : Type
 pub record TellsFrameFault (zone : ℕ) (octets text : List ℕ) : Type 0 where
   pub error : FrameError
   pub fault : frame_fault octets (own_channel octets zone) ≡ Some error
-  pub words : text ≡ refusal_text (Frame error)
+  pub words : text ≡ frame_fault_text error zone (length octets)
 
 -- This text is written for these octets, as a PDU.
 abbrev pub TellsAsPdu : Bool → List ℕ → List ℕ → Type 0

@@ -1,7 +1,9 @@
 -- Why a line of a dump spells nothing, by number and name.
-use Rattle.std.specs.Prelude.{ℕ, List, ◌++◌, codes, decimal}
+use Rattle.std.specs.Prelude.{ℕ, ◌+◌, Bool, true, false, List, ◌++◌, codes, decimal, if◌then◌else◌}
 use Rattle.cfdp_directives.specs.Pdu.Faults.{pdu_refusal_number, pdu_refusal_name}
 use Rattle.aos_frame.specs.Frame as frames
+use Rattle.aos_frame.specs.declared.error.FrameError.{FrameError}
+use Rattle.aos_frame.specs.declared.error.FrameError.TheVariants.{Length}
 use Rattle.cfdp_report.specs.declared.dump.refusal.Refusal.{Refusal}
 use Rattle.cfdp_report.specs.declared.dump.refusal.Refusal.TheVariants.{Hex, Pdu, Frame}
 
@@ -21,3 +23,17 @@ refusal_name (Frame e) = frames.refusal_name e
 abbrev pub refusal_text : Refusal → List ℕ
 refusal_text refusal = codes "error " ++ decimal (refusal_number refusal) ++ codes " "
     ++ refusal_name refusal
+
+-- whether a frame is refused for its length
+abbrev pub is_length : FrameError → Bool
+is_length Length = true
+is_length _ = false
+
+-- why so many octets are no frame with a packet zone of that many; behind a refused length stands
+-- how many there are, and how many such a frame has
+abbrev pub frame_fault_text : FrameError → (zone count : ℕ) → List ℕ
+frame_fault_text error zone count =
+    if is_length error
+    then refusal_text (Frame error) ++ codes " " ++ decimal count ++ codes " octets, not "
+    ++ decimal (8 + zone)
+    else refusal_text (Frame error)

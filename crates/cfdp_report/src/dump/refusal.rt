@@ -46,3 +46,42 @@ impl Refusal {
         }
     }
 }
+
+/// Why so many octets are no frame with a packet zone of that many.
+#[derive(Clone, Copy)]
+pub struct FrameRefusal {
+    /// Why they are none.
+    pub error: FrameError,
+    /// The octets of the packet zone, 16 to 2,040.
+    pub zone: u16,
+    /// How many octets there are.
+    pub count: usize,
+}
+
+/// The refusal; behind that of a length also how many octets there are, and how many such a frame
+/// has.
+impl fmt::Display for FrameRefusal {
+    ghost use Rattle.cfdp_report.specs.Dump.Refusal.{frame_fault_text};
+
+    ghost output = { λ it. Some (frame_fault_text it.error it.zone it.count) };
+
+    fn fmt<W: fmt::Write>(&self, f: &mut fmt::Formatter<W>) -> fmt::Result {
+        let refusal = Refusal::Frame(self.error);
+        if is_length(self.error) {
+            let (count, whole) = (self.count, 8 + u32::from(self.zone));
+            write!(f, "{refusal} {count} octets, not {whole}")
+        } else {
+            write!(f, "{refusal}")
+        }
+    }
+}
+
+/// Whether a frame is refused for its length.
+fn is_length(error: FrameError) -> bool
+    ensures { result ≡ Rattle.cfdp_report.specs.Dump.Refusal.is_length error }
+{
+    match error {
+        FrameError::Length => true,
+        _ => false,
+    }
+}

@@ -2,8 +2,10 @@
 ghost use Rattle.std.specs.Prelude.{◌≡◌, map};
 ghost use Rattle.cfdp_report.specs.Settings.{is, key_among, row_key, setting_of};
 
+use crate::nearest::Nearest;
 use aos_frame::{LEAST_ZONE, MOST_ZONE};
 use cfdp_entity::{MOST_SEGMENT, MOST_WIDTH};
+use std::alloc::{AllocError, Global};
 use std::fmt;
 
 /// What a script's `set` sets, for both stations.
@@ -276,4 +278,31 @@ impl fmt::Display for SettingsHelp {
         }
         Ok(())
     }
+}
+
+/// The keys of all settings, with commas between.
+#[derive(Clone, Copy)]
+pub struct Keys;
+
+impl fmt::Display for Keys {
+    fn fmt<W: fmt::Write>(&self, f: &mut fmt::Formatter<W>) -> fmt::Result {
+        let mut mark = "";
+        for row in &TABLE {
+            write!(f, "{mark}{}", row.key)?;
+            mark = ", ";
+        }
+        Ok(())
+    }
+}
+
+/// Looks for the nearest word among the keys of all settings.
+///
+/// # Errors
+///
+/// `AllocError` where there is no memory.
+pub fn consider_keys(alloc: Global, nearest: &mut Nearest<'_>) -> Result<(), AllocError> {
+    for row in &TABLE {
+        nearest.consider(alloc, row.key)?;
+    }
+    Ok(())
 }

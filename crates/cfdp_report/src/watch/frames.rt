@@ -1,4 +1,5 @@
 //! The frames of one direction, watched.
+use crate::watch::sent::SentFrames;
 use crate::watch::sighting::{Deed, Log};
 use cfdp_station::LinkConfig;
 use link_sim::{FrameLink, FrameLinks, Lane, Mark, Side};
@@ -22,6 +23,8 @@ pub struct Watch {
     data_virtual_channel: u8,
     directives: Counts,
     file_data: Counts,
+    // Those of both lanes.
+    sent: SentFrames,
     // What finds the PDUs in the frames that left, and in those that arrived.
     sending: Up,
     hearing: Up,
@@ -40,9 +43,15 @@ impl Watch {
             data_virtual_channel: link.get().data_virtual_channel,
             directives: Counts { sent: 0, taken: 0 },
             file_data: Counts { sent: 0, taken: 0 },
+            sent: SentFrames { all: 0, lost: 0 },
             sending: Up::new(alloc, link)?,
             hearing: Up::new(alloc, link)?,
         })
+    }
+
+    /// How many frames were seen to leave, and to be lost.
+    pub fn sent(&self) -> SentFrames {
+        self.sent
     }
 
     /// Notes what became of these frames in one event: any number were sent, and at most one
@@ -90,6 +99,7 @@ impl Watch {
 
     /// Notes that a frame left, and which PDUs left with it.
     pub fn leaves(&mut self, lane: Lane, frame: &[u8], log: &mut Log) {
+        self.sent.all = self.sent.all.saturating_add(1);
         log.note(self.from, Deed::SendsFrame(lane), frame);
         note_pdus(
             self.alloc,
@@ -102,7 +112,8 @@ impl Watch {
     }
 
     /// Notes that a frame which left is lost.
-    pub fn loses(&self, lane: Lane, frame: &[u8], log: &mut Log) {
+    pub fn loses(&mut self, lane: Lane, frame: &[u8], log: &mut Log) {
+        self.sent.lost = self.sent.lost.saturating_add(1);
         log.note(self.from, Deed::LosesFrame(lane), frame);
     }
 

@@ -4,12 +4,15 @@ use crate::report::condition::Conditions;
 use crate::watch::dropped::Dropped;
 use crate::watch::frames::Watch;
 use crate::watch::recorder::{Recorder, Screen, Showing};
+use crate::watch::sent::{Sent, SentFrames};
 use crate::watch::shown::Shown;
 use crate::watch::sighting::{Deed, Log};
 use cfdp_station::Station;
 use cfdp_store::{Inbox, Outbox};
 use link_sim::{Event, FrameLinks, Passed, Side, Witness, WorldConfig};
 use std::alloc::{AllocError, Global};
+use std::io;
+use std::io::Write;
 use valid_config::Valid;
 
 /// One who looks on at a run, or nobody.
@@ -100,11 +103,31 @@ impl Onlooker<'_> {
 pub struct Summary {
     /// Which conditions the stations told their users.
     pub conditions: Conditions,
-    /// What either station dropped.
-    pub one: Dropped,
-    pub two: Dropped,
+    /// What either station sent and dropped.
+    pub one: StationSummary,
+    pub two: StationSummary,
     /// What became of what was to be shown as it was seen.
     pub showing: Showing,
+}
+
+/// What is known of a station of a run that is over.
+#[derive(Drop)]
+pub struct StationSummary {
+    sent: Sent,
+    frames: SentFrames,
+    dropped: Dropped,
+}
+
+impl StationSummary {
+    /// Writes a line of what it sent, and one for each cause by which it dropped something.
+    ///
+    /// # Errors
+    ///
+    /// That of the writer.
+    pub fn write<W: Write>(&self, out: &mut W) -> io::Result<()> {
+        self.sent.write(self.frames, out)?;
+        self.dropped.write(out)
+    }
 }
 
 /// What was seen so far of a run. What stations did is kept until the end of its event alone.
@@ -155,8 +178,8 @@ impl<'a> Seen<'a> {
         } = self;
         Summary {
             conditions,
-            one: one.dropped,
-            two: two.dropped,
+            one: one.into_summary(),
+            two: two.into_summary(),
             showing: recorder.ends(),
         }
     }
@@ -232,6 +255,8 @@ struct SeenStation {
     side: Side,
     // What it dropped.
     dropped: Dropped,
+    // What it sent.
+    sent: Sent,
     // How many of its indications were seen.
     told: u64,
     // The frames that it sends.
@@ -244,8 +269,18 @@ impl SeenStation {
         SeenStation {
             side,
             dropped: Dropped::new(side),
+            sent: Sent::new(side),
             told: 0,
             frames,
+        }
+    }
+
+    /// What is known of it now that no more passes.
+    fn into_summary(self) -> StationSummary {
+        StationSummary {
+            sent: self.sent,
+            frames: self.frames.sent(),
+            dropped: self.dropped,
         }
     }
 
@@ -257,6 +292,7 @@ impl SeenStation {
         log: &mut Log,
     ) {
         self.dropped.look(station, log);
+        self.sent.look(station);
         for indication in station.indications_since(self.told).unwrap_or(&[]) {
             log.note_told(self.side, indication);
             conditions.note(indication);

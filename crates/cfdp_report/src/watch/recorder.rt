@@ -1,4 +1,5 @@
 //! What is seen, written as it is seen.
+use crate::cause::cause_text;
 use crate::watch::capture::{begin_capture, write_capture};
 use crate::watch::chart::ChartWriter;
 use crate::watch::progress::Progress;
@@ -8,7 +9,7 @@ use crate::watch::trace::write_trace;
 use std::alloc::AllocError;
 use std::fs::File;
 use std::io;
-use std::io::{BufWriter, Stderr};
+use std::io::{BufWriter, ErrorKind, Stderr};
 
 /// Standard error, and the line on it that says how far a transfer is, if there is one.
 #[derive(Clone, Copy)]
@@ -206,26 +207,30 @@ impl<'a> SeenFile<'a> {
         };
         match created(screen.rt, name) {
             Ok(out) => file.out = Some(out),
-            Err(_) => file.fails(),
+            Err(error) => file.fails(error.kind()),
         }
         file
     }
 
     /// Notes how writing it went.
     fn notes(&mut self, wrote: io::Result<()>) {
-        if wrote.is_err() {
-            self.fails();
+        if let Err(error) = wrote {
+            self.fails(error.kind());
         }
     }
 
-    /// Tells that it can't be written. Nothing more is. What a failed write left in the buffer is
+    /// Tells that it can't be written, and why. Nothing more is. What a failed write left in the buffer is
     /// let go: a `BufWriter` would write it once more.
-    fn fails(&mut self) {
+    fn fails(&mut self, kind: ErrorKind) {
         if let Some(out) = self.out.take() {
             let _ = out.into_parts();
         }
         self.screen.yields();
-        let _ = eprintln!(self.screen.rt; "error: the file {} can't be written", self.name);
+        let _ = eprintln!(self.screen.rt;
+            "error: the file {} can't be written: {}",
+            self.name,
+            cause_text(kind)
+        );
     }
 }
 

@@ -73,7 +73,7 @@ fn explain(rt: &HostRuntime, shown: &Shown, seen: &Summary) -> u8
     }
 }
 
-/// Writes what the conditions that were told say, and what the stations dropped.
+/// Writes what the conditions that were told say, and what the stations sent, lost and dropped.
 fn write_explanation(rt: &HostRuntime, seen: &Summary) -> io::Result<()> {
     let mut text = Vec::new(rt.alloc());
     seen.conditions.write(&mut text)?;

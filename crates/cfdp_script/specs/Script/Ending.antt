@@ -1,5 +1,5 @@
 -- How the run of a script ends, and what it writes.
-use Rattle.std.specs.Prelude.{◌≡◌, ℕ, ◌==◌, List, Option, ⊤, if◌then◌else◌}
+use Rattle.std.specs.Prelude.{◌≡◌, ℕ, ◌==◌, List, Option, if◌then◌else◌}
 use Rattle.std.specs.Io.KnownBytes.{Appends, Keeps}
 use Rattle.std.specs.List.{list_any}
 use Rattle.link_sim.specs.World.State.{WorldState}
@@ -19,28 +19,37 @@ exit_of answered complete asked =
     if list_any (λ done. is_device_fault done.answer) answered then Device NoMemory
     else if complete == asked then Complete else Incomplete
 
--- From this world all commands ran, and what was written is the report of the world that they left.
-pub record RunsAll (steps : List Step) (first : WorldState) (exit : Exit)
-    (old new : Option (List ℕ)) : Type 0 where
+-- All commands ran from this world, had these answers, and left the last one.
+pub record RunsAll (steps : List Step) (first : WorldState) : Type 0 where
   pub answered : List Answered
   pub last : WorldState
   pub runs : Runs steps answered first last
+
+-- Commands with these answers, which left this world, ended so, and what was written is its report.
+pub record IsTold (steps : List Step) (answered : List Answered) (last : WorldState) (exit : Exit)
+    (old new : Option (List ℕ)) : Type 0 where
   pub ends : exit ≡ exit_of answered (puts_completed last) (puts_asked steps)
   pub written : Appends old new (report_text (puts_asked steps) answered last)
 
--- A run stopped for one of these. Of a report that couldn't be written to its end nothing is said;
--- where there was no memory at its start nothing is written. It reads nothing.
-abbrev pub StopsRun : Fault → (old new : Option (List ℕ)) → Type 0 → Type 0
-StopsRun NoMemory old new ran = ran
-StopsRun NoMemoryAtStart old new ran = Keeps old new
-StopsRun Unwritable old new ran = ⊤
-StopsRun Unreadable old new ran = ⊥
-StopsRun TooLong old new ran = ⊥
+-- All commands ran from this world and ended so, and that was told to its end.
+abbrev pub RunsTold : List Step → WorldState → Exit → (old new : Option (List ℕ)) → Type 0
+RunsTold steps first exit old new =
+    (ran : RunsAll steps first) × IsTold steps ran.answered ran.last exit old new
+
+-- A run stopped for one of these. Where the report couldn't be written to its end, all commands ran
+-- before that, and of what was written nothing is said: a writer doesn't say which failures it has.
+-- Where there was no memory at the start nothing is written. A run reads nothing.
+abbrev pub StopsRun : Fault → (old new : Option (List ℕ)) → (ran told : Type 0) → Type 0
+StopsRun NoMemory old new ran told = told
+StopsRun NoMemoryAtStart old new ran told = Keeps old new
+StopsRun Unwritable old new ran told = ran
+StopsRun (Unreadable kind) old new ran told = ⊥
+StopsRun TooLong old new ran told = ⊥
 
 -- These commands ended so from this world.
 abbrev pub EndsRun : Exit → List Step → WorldState → (old new : Option (List ℕ)) → Type 0
-EndsRun Complete steps first old new = RunsAll steps first Complete old new
-EndsRun Incomplete steps first old new = RunsAll steps first Incomplete old new
+EndsRun Complete steps first old new = RunsTold steps first Complete old new
+EndsRun Incomplete steps first old new = RunsTold steps first Incomplete old new
 EndsRun (BadScript bad) steps first old new = ⊥
 EndsRun (Device fault) steps first old new =
-    StopsRun fault old new (RunsAll steps first (Device fault) old new)
+    StopsRun fault old new (RunsAll steps first) (RunsTold steps first (Device fault) old new)

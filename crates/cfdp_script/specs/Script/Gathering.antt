@@ -9,6 +9,7 @@ use Rattle.cfdp_script.specs.declared.script.Step.{Step}
 use Rattle.cfdp_report.specs.declared.settings.Settings.{Settings}
 use Rattle.cfdp_report.specs.Settings.{default_settings, set_value}
 use Rattle.cfdp_script.specs.Script.Lines.{is_skipped, line_of}
+use Rattle.cfdp_script.specs.Script.Words.{without_return}
 
 -- What was read so far.
 pub record Gathered : Type 0 where
@@ -49,8 +50,11 @@ taken g number (Some (line.Set setting value)) =
     before g.steps (record g { settings = set_value g.settings setting value; last = number })
     (noted g number)
 
+abbrev pub read_cut : Gathered → ℕ → List ℕ → Gathered
+read_cut g number text = if is_skipped text then g else taken g number (line_of text)
+
 abbrev pub read_into : Gathered → ℕ → List ℕ → Gathered
-read_into g number text = if is_skipped text then g else taken g number (line_of text)
+read_into g number text = read_cut g number (without_return text)
 
 abbrev pub gather : Gathered → List (ℕ × List ℕ) → Gathered
 gather g [] = g

@@ -25,7 +25,7 @@ use Rattle.cfdp_report.specs.declared.settings.Settings.{Settings}
 use Rattle.link_sim.specs.Stations.{IsWorldConfig}
 use Rattle.cfdp_report.specs.Settings.{FitFields, default_settings, is, set_value, setting_of, world_of}
 use Rattle.cfdp_report.specs.Numbers.{number_of, octet_of}
-use Rattle.cfdp_script.specs.Script.Words.{words_of, parts, next_word, nothing_of, text_of, one_of, two_of, three_of, four_of}
+use Rattle.cfdp_script.specs.Script.Words.{without_return, words_of, parts, next_word, nothing_of, text_of, one_of, two_of, three_of, four_of}
 
 -- ---- what single words mean
 
@@ -76,10 +76,15 @@ abbrev pub number_words : List (List ℕ) → Option (Side × ℕ)
 number_words words = option_and_then (λ w. both (λ at n. (at, n)) (station_of w.0) (number_of w.1))
     (two_of words)
 
+-- how many frames: one at least
+abbrev pub frame_count : List ℕ → Option ℕ
+frame_count word = option_and_then (λ count. if nat_le 1 count then Some count else None)
+    (number_of word)
+
 -- how many: one where no number stands there
 abbrev pub count_of : List (List ℕ) → Option ℕ
 count_of words = if is_some (nothing_of words) then Some 1
-    else option_and_then number_of (one_of words)
+    else option_and_then frame_count (one_of words)
 
 -- the event in which that befalls the oldest waiting frame which a station sent in a lane
 abbrev pub befalls : Fate → Side → Lane → Event
@@ -92,7 +97,7 @@ abbrev pub which_by : Fate → Side → List ℕ → Option Lane → List (List 
 which_by fate from word (Some lane) words = option_map (Repeat (befalls fate from lane))
     (count_of words)
 which_by fate from word None words = both (λ _ count. First fate from count) (nothing_of words)
-    (number_of word)
+    (frame_count word)
 
 -- of the one sent first, where nothing stands there
 abbrev pub which_of : Fate → Side → List (List ℕ) → Option Command
@@ -221,11 +226,14 @@ abbrev pub is_skipped : List ℕ → Bool
 is_skipped [] = true
 is_skipped (octet ∷ rest) = octet == 35
 
-abbrev pub read_line : ℕ × List ℕ → Option ReadLine
-read_line numbered_line = if is_skipped numbered_line.1 then None
-    else Some (numbered_line.0, line_of numbered_line.1)
+abbrev pub read_cut : ℕ → List ℕ → Option ReadLine
+read_cut number text = if is_skipped text then None else Some (number, line_of text)
 
--- the lines of a script, which stand between its line feeds; the first is line 1
+abbrev pub read_line : ℕ × List ℕ → Option ReadLine
+read_line numbered_line = read_cut numbered_line.0 (without_return numbered_line.1)
+
+-- the lines of a script, which stand between its line feeds, each of which may have a carriage
+-- return in front; the first is line 1
 abbrev pub lines_of : List ℕ → List ReadLine
 lines_of text = filter_map read_line (numbered 1 (parts 10 text))
 

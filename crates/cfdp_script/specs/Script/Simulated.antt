@@ -8,7 +8,7 @@ use Rattle.link_sim.specs.Settling.{IsSettled}
 use Rattle.link_sim.specs.World.State.{WorldState, IsFirst}
 use Rattle.link_sim.specs.declared.side.Side.TheVariants.{One, Two}
 use Rattle.link_sim.specs.declared.world_config.WorldConfig.{WorldConfig}
-use Rattle.cfdp_script.specs.Script.Ending.{EndsRun, RunsAll}
+use Rattle.cfdp_script.specs.Script.Ending.{EndsRun, IsTold, RunsAll}
 use Rattle.cfdp_script.specs.Script.Outboxes.{outbox_of}
 use Rattle.cfdp_script.specs.Script.Report.{puts_asked, puts_completed}
 use Rattle.cfdp_script.specs.Script.Run.{AreAccepted}
@@ -22,33 +22,37 @@ use Rattle.cfdp_report.specs.declared.exit.Fault.TheVariants.{Unreadable, TooLon
 use Rattle.cfdp_script.specs.declared.script.Step.{Step}
 
 -- The script is good. From the first world of its settings and its files its commands ran to the
--- last of them, and what was written is the report of the world that they left. In that world each
--- inbox holds the files of the puts whose completions were told there, one written over the other
--- in their order, and nothing else. Where all is settled in it, nothing went wrong and every put
--- was
--- accepted, as many puts were completed as the script asks for.
-pub record RunsToEnd (text : List ℕ) (exit : Exit) (old new : Option (List ℕ)) : Type 0 where
+-- last of them. In the world that they left each inbox holds the files of the puts whose
+-- completions were told there, one written over the other in their order, and nothing else. Where
+-- all is settled in it, nothing went wrong and every put was accepted, as many puts were completed
+-- as the script asks for.
+pub record RunsScript (text : List ℕ) : Type 0 where
   pub good : IsFirstBad text None
   pub first : WorldState
   pub starts : IsFirst (world_of (settings_of text))
       (outbox_of One (files_of text), outbox_of Two (files_of text)) (empty, empty) first
-  pub ran : RunsAll (steps_of text) first exit old new
+  pub ran : RunsAll (steps_of text) first
   pub promised : KeepsPromises (empty, empty) ran.last
   pub completed : IsSettled ran.last → IsClean ran.last
       → AreAccepted (steps_of text) ran.answered
       → puts_completed ran.last ≡ puts_asked (steps_of text)
 
--- A run ended so at this text. It was read, so there is nothing to read that could fail. Of a
--- report
--- that couldn't be written to its end nothing is said.
+-- It ran so and ended so, and what was written is the report of the world that its commands left.
+abbrev pub RunsToEnd : List ℕ → Exit → (old new : Option (List ℕ)) → Type 0
+RunsToEnd text exit old new = (all : RunsScript text)
+    × IsTold (steps_of text) all.ran.answered all.ran.last exit old new
+
+-- A run ended so at this text. It was read, so there is nothing to read that could fail. Where the
+-- report couldn't be written to its end, the script ran all the same; of what was written nothing
+-- is said. That the writer failed then can't be said: no writer says which failures it has.
 abbrev pub EndsText : Exit → List ℕ → (old new : Option (List ℕ)) → Type 0
 EndsText Complete text old new = RunsToEnd text Complete old new
 EndsText Incomplete text old new = RunsToEnd text Incomplete old new
 EndsText (BadScript bad) text old new = IsFirstBad text (Some bad.line)
 EndsText (Device NoMemory) text old new = RunsToEnd text (Device NoMemory) old new
 EndsText (Device NoMemoryAtStart) text old new = ⊤
-EndsText (Device Unwritable) text old new = ⊤
-EndsText (Device Unreadable) text old new = ⊥
+EndsText (Device Unwritable) text old new = RunsScript text
+EndsText (Device (Unreadable kind)) text old new = ⊥
 EndsText (Device TooLong) text old new = ⊥
 
 -- A text is too long to be read.
@@ -58,7 +62,7 @@ IsTooLong text = 1048576 < length text
 -- The program ended so at a script that a reader gives, which is this text: reading failed, or the
 -- text is too long, or it was read and the run ended so.
 abbrev pub EndsScript : Exit → List ℕ → (old new : Option (List ℕ)) → Type 0
-EndsScript (Device Unreadable) text old new = ⊤
+EndsScript (Device (Unreadable kind)) text old new = ⊤
 EndsScript (Device TooLong) text old new = IsTooLong text
 EndsScript exit text old new = EndsText exit text old new
 
@@ -76,7 +80,7 @@ EndsFrom exit config files steps old new =
 -- or
 -- there was too much of it.
 abbrev pub EndsReading : Fault → Option (List ℕ) → Type 0
-EndsReading Unreadable left = ⊤
+EndsReading (Unreadable kind) left = ⊤
 EndsReading NoMemoryAtStart left = ⊤
 EndsReading TooLong left = IfSome left IsTooLong
 EndsReading NoMemory left = ⊥
@@ -86,7 +90,7 @@ EndsReading Unwritable left = ⊥
 -- written.
 abbrev pub IsSilentAt : Exit → (old new : Option (List ℕ)) → Type 0
 IsSilentAt (BadScript bad) old new = Keeps old new
-IsSilentAt (Device Unreadable) old new = Keeps old new
+IsSilentAt (Device (Unreadable kind)) old new = Keeps old new
 IsSilentAt (Device TooLong) old new = Keeps old new
 IsSilentAt (Device NoMemoryAtStart) old new = Keeps old new
 IsSilentAt _ old new = ⊤

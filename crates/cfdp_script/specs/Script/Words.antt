@@ -2,6 +2,7 @@
 use Rattle.std.specs.Prelude.{ℕ, ◌==◌, List, [], ◌∷◌, if◌then◌else◌, Option, Some, None, option_map, option_and_then}
 use Rattle.std.specs.Option.{option_map_or}
 use Rattle.std.specs.List.{join_with_byte}
+use Rattle.std.specs.Io.BufRead.{strip_last}
 use Rattle.cfdp_script.specs.declared.script.words.Words.{Words}
 
 -- an octet in front of the first part
@@ -14,6 +15,10 @@ unfoldable pub parts : ℕ → List ℕ → List (List ℕ)
 parts separator [] = [] ∷ []
 parts separator (octet ∷ rest) = if octet == separator then [] ∷ parts separator rest
     else onto_first octet (parts separator rest)
+
+-- a line without the carriage return that ends it, if one does
+abbrev pub without_return : List ℕ → List ℕ
+without_return line = strip_last 13 line
 
 -- The words of a line stand between its spaces. One is empty where two spaces stand together, or
 -- one begins or ends the line.

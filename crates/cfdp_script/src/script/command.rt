@@ -6,7 +6,7 @@ ghost use Rattle.cfdp_script.specs.Script.Lines.{Reads, both, line_of, meaning, 
 ghost use Rattle.cfdp_script.specs.Script.Lines.{fill_of, fill_count, command_of, put_of, call_of};
 ghost use Rattle.cfdp_script.specs.Script.Lines.{motion_of, round_of, station_words};
 ghost use Rattle.cfdp_script.specs.Script.Lines.{transaction_words, number_words, frames_of};
-ghost use Rattle.cfdp_script.specs.Script.Lines.{which_of, count_of, lane_of, prompt_of, asked_of};
+ghost use Rattle.cfdp_script.specs.Script.Lines.{which_of, count_of, frame_count, lane_of, prompt_of, asked_of};
 ghost use Rattle.cfdp_script.specs.Script.Lines.{id_of, station_of};
 
 use crate::script::words::{Words, cut_at_first};
@@ -338,7 +338,7 @@ fn parse_which(fate: Fate, from: Side, mut words: Words<'_>) -> Result<Command, 
         Some(lane) => Ok(Command::Repeat(fate.event(from, lane), parse_count(words)?)),
         None => {
             words.end()?;
-            let count = parse_number(word).ok_or(LineError::UnknownLane)?;
+            let count = parse_frame_count(word, LineError::UnknownLane)?;
             Ok(Command::First { fate, from, count })
         }
     }
@@ -351,7 +351,18 @@ fn parse_count(words: Words<'_>) -> Result<u64, LineError>
     if words.is_empty() {
         return Ok(1);
     }
-    parse_value(words.one()?)
+    parse_frame_count(words.one()?, LineError::BadNumber)
+}
+
+/// How many frames this word says: one at least. The error tells that it is no number.
+fn parse_frame_count(word: &[u8], no_number: LineError) -> Result<u64, LineError>
+    ensures { result_ok result ≡ frame_count word.now }
+{
+    let count = parse_number(word).ok_or(no_number)?;
+    if count < 1 {
+        return Err(LineError::NoFrames);
+    }
+    Ok(count)
 }
 
 /// The lane of this name.

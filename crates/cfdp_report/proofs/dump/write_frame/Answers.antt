@@ -1,7 +1,6 @@
-use Rattle.std.proofs.Common.{sym, inl, inr, refl}
+use Rattle.std.proofs.Common.{length, sym, inl, inr, refl}
 use Rattle.cfdp_report.specs.Dump.Lines.{TellsAsFrame, frame_line}
-use Rattle.cfdp_report.specs.Dump.Refusal.{refusal_text}
-use Rattle.cfdp_report.specs.declared.dump.refusal.Refusal.TheVariants.{Frame}
+use Rattle.cfdp_report.specs.Dump.Refusal.{frame_fault_text}
 use Rattle.cfdp_report.proofs.TextLines.{line_is_written}
 use Rattle.cfdp_report.proofs.dump.write_frame.Goals as goal
 
@@ -12,5 +11,5 @@ returns-in-Ok g c =
 
 pub returns-in-Err : goal.returns-in-Err
 returns-in-Err g c =
-    line_is_written (TellsAsFrame c.args.long c.args.zone c.args.octets.now) _ (refusal_text (Frame c.in-Err.error)) _ _
+    line_is_written (TellsAsFrame c.args.long c.args.zone c.args.octets.now) _ (frame_fault_text c.in-Err.error c.args.zone (length c.args.octets.now)) _ _
     (inr (record { error = c.in-Err.error; fault = sym c.in-Err.ensures.refused; words = refl })) c.writeln-in-Err.ensures.bytes

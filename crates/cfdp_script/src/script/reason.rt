@@ -1,0 +1,191 @@
+//! What is wrong with a line of a script, as it is told.
+ghost use Rattle.std.specs.Prelude.{◌≡◌};
+
+use crate::script::words::cut_at_first;
+use cfdp_report::{BadLine, Hint, LineError, Nearest, Quote, consider_keys, parse_setting};
+use std::alloc::{AllocError, Global};
+
+/// How a command is written.
+#[derive(Clone, Copy)]
+struct Form {
+    /// Its first word.
+    verb: &'static str,
+    /// All of it, with words in capitals for what a script says.
+    form: &'static str,
+}
+
+const FORMS: [Form; 17] = [
+    Form {
+        verb: "set",
+        form: "set KEY N",
+    },
+    Form {
+        verb: "file",
+        form: "file S NAME TEXT",
+    },
+    Form {
+        verb: "fill",
+        form: "fill S NAME N HH",
+    },
+    Form {
+        verb: "put",
+        form: "put S SRC DST",
+    },
+    Form {
+        verb: "cancel",
+        form: "cancel S ID",
+    },
+    Form {
+        verb: "suspend",
+        form: "suspend S ID",
+    },
+    Form {
+        verb: "resume",
+        form: "resume S ID",
+    },
+    Form {
+        verb: "prompt",
+        form: "prompt S ID nak|keep",
+    },
+    Form {
+        verb: "poll",
+        form: "poll S",
+    },
+    Form {
+        verb: "flush",
+        form: "flush S",
+    },
+    Form {
+        verb: "tick",
+        form: "tick S N",
+    },
+    Form {
+        verb: "deliver",
+        form: "deliver S [dir|data] [N]",
+    },
+    Form {
+        verb: "strike",
+        form: "strike S [dir|data] [N]",
+    },
+    Form {
+        verb: "spread",
+        form: "spread S",
+    },
+    Form {
+        verb: "burst",
+        form: "burst S",
+    },
+    Form {
+        verb: "settle",
+        form: "settle",
+    },
+    Form {
+        verb: "recover",
+        form: "recover",
+    },
+];
+
+/// A line that is bad, as it is told: with the word that is wrong, and what may stand there.
+pub fn bad_line(alloc: Global, line: usize, text: &[u8], error: LineError) -> BadLine
+    ensures { result.line ≡ line }
+{
+    let word = wrong_word(text, error);
+    BadLine {
+        line,
+        error,
+        word: Quote::of(word),
+        hint: hint(alloc, text, word, error).unwrap_or(Hint::Nothing),
+    }
+}
+
+/// The word of a line that is wrong by this error; nothing where it isn't one of its words.
+fn wrong_word(text: &[u8], error: LineError) -> &[u8] {
+    match error {
+        LineError::UnknownCommand => word_behind(text, 0),
+        LineError::UnknownKey | LineError::UnknownStation => word_behind(text, 1),
+        LineError::UnknownLane | LineError::BadId => word_behind(text, 2),
+        LineError::BadNumber => word_behind(text, words_before_number(text)),
+        LineError::UnknownPrompt | LineError::FileTooLong => word_behind(text, 3),
+        LineError::BadOctet if word_behind(text, 0) == b"fill".as_slice() => word_behind(text, 4),
+        _ => &[],
+    }
+}
+
+/// How many words stand before the number of a command that has one: a name or a lane may be among
+/// them.
+fn words_before_number(text: &[u8]) -> u64 {
+    let (verb, third) = (word_behind(text, 0), word_behind(text, 2));
+    if verb == b"fill".as_slice() || third == b"dir".as_slice() || third == b"data".as_slice() {
+        3
+    } else {
+        2
+    }
+}
+
+/// The word behind so many of a line; nothing where there are fewer.
+fn word_behind(text: &[u8], before: u64) -> &[u8] {
+    let mut rest = text;
+    for _ in 0..before {
+        match cut_at_first(rest, b' ').1 {
+            Some(behind) => rest = behind,
+            None => return &[],
+        }
+    }
+    cut_at_first(rest, b' ').0
+}
+
+/// What may stand where a line is wrong.
+///
+/// # Errors
+///
+/// `AllocError` where there is no memory to look for the nearest word.
+fn hint(alloc: Global, text: &[u8], word: &[u8], error: LineError) -> Result<Hint, AllocError> {
+    match error {
+        LineError::UnknownCommand => command_hint(alloc, word),
+        LineError::UnknownKey => key_hint(alloc, word),
+        LineError::MissingWord | LineError::ExtraWord => Ok(form_hint(text)),
+        LineError::BadNumber => Ok(number_hint(text)),
+        _ => Ok(Hint::Nothing),
+    }
+}
+
+/// The command that is most like a word.
+fn command_hint(alloc: Global, word: &[u8]) -> Result<Hint, AllocError> {
+    let mut nearest = Nearest::to(word);
+    for form in &FORMS {
+        nearest.consider(alloc, form.verb)?;
+    }
+    match nearest.found() {
+        Some(verb) => Ok(Hint::Nearest(Quote::of(verb.as_bytes()))),
+        None => Ok(Hint::Help),
+    }
+}
+
+/// The key that is most like a word, or all keys.
+fn key_hint(alloc: Global, word: &[u8]) -> Result<Hint, AllocError> {
+    let mut nearest = Nearest::to(word);
+    consider_keys(alloc, &mut nearest)?;
+    match nearest.found() {
+        Some(key) => Ok(Hint::Nearest(Quote::of(key.as_bytes()))),
+        None => Ok(Hint::Keys),
+    }
+}
+
+/// How the command of a line is written.
+fn form_hint(text: &[u8]) -> Hint {
+    let verb = word_behind(text, 0);
+    for form in &FORMS {
+        if verb == form.verb.as_bytes() {
+            return Hint::Form(Quote::of(form.form.as_bytes()));
+        }
+    }
+    Hint::Nothing
+}
+
+/// The range of the setting that a line sets, if it sets one.
+fn number_hint(text: &[u8]) -> Hint {
+    match parse_setting(word_behind(text, 1)) {
+        Some(setting) => Hint::Value(setting),
+        None => Hint::Nothing,
+    }
+}
