@@ -58,7 +58,7 @@ def told_by(words):
 
 def run(compiler, archive, sources, made, front, words):
     """How a program ended that is built so, and what it printed."""
-    built = told_by([*compiler, *STRICT, *sources, archive, "-o", made])
+    built = told_by([*compiler, *STRICT, *sources, f"{C}/errno.c", archive, "-o", made])
     return built if built[0] else told_by([*front, made, *words])
 
 

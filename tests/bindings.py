@@ -5,7 +5,7 @@
     tests/bindings.py --archive PATH ..     over another archive
     tests/bindings.py --program PATH ..     with another cfdp_node for the transfer over UDP
     tests/bindings.py --after 'A passed, B failed'    counts these in the last line
-    tests/bindings.py --figures             tells what the archive takes (docs/GATE.md), and no more
+    tests/bindings.py --figures             tells what the archive takes (docs/SPEED.md), and no more
 
 Compares cfdp.h and ffi.rs with the crate's sources, and the archive's names with them; compiles the
 header, the examples, calls.c and what stands in bindings/*/tests without warnings; runs them, also
@@ -199,7 +199,11 @@ def name_mistakes(archive):
     if {it for it in defined if it.startswith("cfdp_")} != functions:
         yield f"the archive defines {sorted(defined ^ functions)} and the header doesn't, or not so"
     allowed = {"rattle_alloc", "rattle_realloc", "rattle_dealloc"}
+    allowed |= {"rattle_errno", "rattle_set_errno"}
     allowed |= {"memcpy", "memmove", "memset", "memcmp", "bcmp"}
+    # for stations with folders
+    allowed |= {"open", "read", "write", "pread", "lseek", "ftruncate", "fsync", "fdatasync"}
+    allowed |= {"flock", "close", "readlink", "getdents64", "rename", "unlink", "mkdir", "rmdir"}
     if not wanted <= allowed:
         yield f"the archive wants {sorted(wanted - allowed)}"
     # So handles share nothing.
@@ -209,8 +213,9 @@ def name_mistakes(archive):
 
 
 def uncalled_mistakes():
-    """Exports that neither calls.c nor forgetting.c calls."""
-    text = text_of(f"{HERE}/calls.c") + text_of(f"{C}/tests/forgetting.c")
+    """Exports that none of these programs calls."""
+    files = (f"{HERE}/calls.c", f"{C}/tests/forgetting.c", f"{C}/tests/folders.c")
+    text = "".join(map(text_of, files))
     for name in in_header(0)[0]:
         if not re.search(rf"\b{name}\(", text):
             yield f"no test in C calls {name}"
@@ -262,16 +267,35 @@ class Bindings:
     def c_mistakes(self, compiler, files, flags, front, words):
         """What is wrong where these files are compiled, linked to the archive, and run."""
         made, sources = f"{self.room}/made", []
-        for it in files:
+        for it in [*files, f"{C}/errno.c"]:
             sources += ["-x", "c++" if compiler is CPP else "c", it]
         build = [*compiler, *flags, *sources, "-x", "none", self.archive, "-o", made]
         return run_mistakes(build, [*front, made, *words])
+
+    def empty_folder(self):
+        return tempfile.mkdtemp(dir=self.room)
+
+    def folders_mistakes(self):
+        """What is wrong where the example sends a file from a folder into another one."""
+        outbox, inbox = self.empty_folder(), self.empty_folder()
+        octets = os.urandom(700_001)
+        with open(f"{outbox}/a.bin", "wb") as it:
+            it.write(octets)
+        example = [f"{C}/examples/folders.c", f"{C}/heap.c"]
+        yield from self.c_mistakes(C99, example, [], [], [outbox, inbox, "a.bin", "b.bin"])
+        if os.listdir(inbox) != ["b.bin"]:
+            yield f"the inbox has {os.listdir(inbox)}"
+            return
+        with open(f"{inbox}/b.bin", "rb") as it:
+            if it.read() != octets:
+                yield "the file differs"
 
     def c_runs(self):
         """Each program in C, by each compiler and checker."""
         example = [f"{C}/examples/transfer.c", f"{C}/heap.c"]
         forgetting = [f"{C}/tests/forgetting.c"]
         pool = [f"{C}/tests/in_a_pool.c", f"{C}/pool.c"]
+        folders = [f"{C}/tests/folders.c", f"{C}/heap.c"]
         for name, flags, front in checkers(self.room):
             for octets in ("0", "1", "100000"):
                 what = f"transfer.c, {octets} octets{name}"
@@ -281,10 +305,15 @@ class Bindings:
             yield f"forgetting.c{name}", self.c_mistakes(C99, forgetting, flags, front, rounds)
             puts = ["200"] if front else []
             yield f"in_a_pool.c{name}", self.c_mistakes(C99, pool, flags, front, puts)
+            words = [self.empty_folder()]
+            yield f"folders.c{name}", self.c_mistakes(C99, folders, flags, front, words)
+        yield "the example folders.c", self.folders_mistakes()
         yield "stack.c", self.c_mistakes(C99, [f"{C}/tests/stack.c", f"{C}/heap.c"], [], [], [])
         yield "a file of 1 MiB", self.c_mistakes(C99, example, [], [], ["1048576"])
         if shutil.which("c++"):
             yield "transfer.c as C++", self.c_mistakes(CPP, example, [], [], [])
+            words = [self.empty_folder()]
+            yield "folders.c as C++", self.c_mistakes(CPP, folders, [], [], words)
             yield "forgetting.c as C++", self.c_mistakes(CPP, forgetting, [], [], [])
             yield "in_a_pool.c as C++", self.c_mistakes(CPP, pool, [], [], ["200"])
         else:
@@ -315,14 +344,31 @@ class Bindings:
         if not shutil.which("rustc"):
             print("no rustc: the wrapper, its tests and its example aren't compiled")
             return
-        for name in ("forgetting", "lists"):
+        for name in ("folders", "forgetting", "lists", "threads"):
             builds, made = self.rust_program(f"tests/{name}.rs", f"{name}_rs", "--test")
             yield f"{name}.rs", run_mistakes(*builds, [made])
+            if name == "threads" and shutil.which("valgrind"):
+                words = ["valgrind", "-q", "--error-exitcode=9"]
+                yield "threads.rs, valgrind", run_mistakes([*words, made])
+        yield "a station isn't shared", self.sharing_mistakes()
         builds, made = self.rust_example()
         yield "transfer.rs", run_mistakes(*builds, [made], [made, "0"])
         if shutil.which("valgrind"):
             words = ["valgrind", "-q", "--leak-check=full", "--error-exitcode=9"]
             yield "transfer.rs, valgrind", run_mistakes([*words, made, "20000"])
+
+    def sharing_mistakes(self):
+        """What is wrong where a program compiles that lends a station to two threads at once."""
+        source = f"{self.room}/shared.rs"
+        with open(source, "w", encoding="utf-8") as it:
+            it.write("fn shared<T: Sync>() {}\nfn main() { shared::<cfdp::Station>() }\n")
+        library, _ = self.rust_program("examples/transfer.rs", "shared_rs")[0]
+        yield from run_mistakes(library)
+        words = ["rustc", "--edition", "2024", "--emit", "metadata", "--out-dir", self.room]
+        words += ["--extern", f"cfdp={self.room}/libcfdp.rlib", source]
+        said = [*run_mistakes(words)]
+        if not said or "cannot be shared between threads" not in said[0]:
+            yield f"a station is shared between threads, or isn't for something else: {said}"
 
     def cargo_mistakes(self, words, **how):
         """What is wrong where cargo does this in a copy of the crate."""
@@ -366,7 +412,7 @@ class Bindings:
             print(f"no {self.program}: no transfer over UDP")
             return
         made = f"{self.room}/made"
-        example = [f"{C}/examples/transfer.c", f"{C}/heap.c", self.archive]
+        example = [f"{C}/examples/transfer.c", f"{C}/heap.c", f"{C}/errno.c", self.archive]
         if not [*run_mistakes([*C99, *example, "-o", made])]:
             yield "transfer.c over UDP", self.udp_mistakes(made)
         if shutil.which("rustc"):
@@ -394,12 +440,12 @@ class Bindings:
 def tell_figures(archive, room):
     """Prints the sizes of the archive and of a stripped program, and what the programs measure."""
     made = f"{room}/figures"
-    files = [f"{C}/examples/transfer.c", f"{C}/heap.c", archive]
+    files = [f"{C}/examples/transfer.c", f"{C}/heap.c", f"{C}/errno.c", archive]
     subprocess.run([*C99, *files, "-s", "-Wl,--gc-sections", "-o", made], check=True)
     print(f"archive {os.path.getsize(archive)} octets, stripped transfer {os.path.getsize(made)}")
     stack, pool = [f"{C}/tests/stack.c", f"{C}/heap.c"], [f"{C}/tests/in_a_pool.c", f"{C}/pool.c"]
     for sources in ([f"{HERE}/figures.c", f"{C}/heap.c"], stack, pool):
-        subprocess.run([*C99, *sources, archive, "-o", made], check=True)
+        subprocess.run([*C99, *sources, f"{C}/errno.c", archive, "-o", made], check=True)
         subprocess.run([made], check=True)
 
 

@@ -30,10 +30,12 @@
  *   mark            a file `refused` is made where one of the last five faults shows
  *   clock=N         the time of day is N seconds later, or with a minus earlier
  *   clock=at:N      the time of day is N seconds since 1970 as it is read first, and goes on
+ *   kept=FOLDER     what is flushed is copied into this folder, as `keep` says
  *   order           a file `order` gets a line for each file or folder that is flushed to its
  *                   device, and for each that is renamed, in the order of these calls
  */
 #define _GNU_SOURCE
+#include <dirent.h>
 #include <dlfcn.h>
 #include <errno.h>
 #include <fcntl.h>
@@ -227,6 +229,59 @@ int flock(int fd, int operation)
     return next(fd, operation);
 }
 
+/* Copies what a file has into that of this name. */
+static void keep_octets(int fd, const char *name)
+{
+    int (*next)(const char *, int, ...) = NEXT("open");
+    char link[64], octets[65536];
+    snprintf(link, sizeof link, "/proc/self/fd/%d", fd);
+    int from = next(link, O_RDONLY), to = next(name, O_CREAT | O_TRUNC | O_WRONLY, 0600);
+    ssize_t (*put)(int, const void *, size_t) = NEXT("write");
+    for (ssize_t got; (got = pread(from, octets, sizeof octets, lseek(to, 0, SEEK_CUR))) > 0;)
+        if (put(to, octets, (size_t)got) != got)
+            abort();
+    close(from);
+    close(to);
+}
+
+/* Writes which files are in a folder, a line each: the inode and the name. */
+static void keep_names(int fd, const char *name)
+{
+    char link[64];
+    struct stat it;
+    snprintf(link, sizeof link, "/proc/self/fd/%d", fd);
+    DIR *folder = opendir(link);
+    FILE *to = fopen(name, "w");
+    for (struct dirent *each; folder && to && (each = readdir(folder));)
+        if (fstatat(fd, each->d_name, &it, AT_SYMLINK_NOFOLLOW) == 0 && S_ISREG(it.st_mode))
+            fprintf(to, "%lu %s\n", (unsigned long)it.st_ino, each->d_name);
+    if (folder)
+        closedir(folder);
+    if (to)
+        fclose(to);
+}
+
+/* What lasts of a disk that loses what isn't flushed to it: of a file what it had when it was
+ * flushed last, and of a folder which files it had then, each under its inode. */
+static void keep(int fd, const struct stat *it)
+{
+    int (*next)(const char *, const char *) = NEXT("rename");
+    const char *folder = fault("kept=");
+    char name[4096], made[4200];
+    if (!folder)
+        return;
+    folder += strlen("kept=");
+    int len = (int)strcspn(folder, " ");
+    snprintf(name, sizeof name, "%.*s/%lu", len, folder, (unsigned long)it->st_ino);
+    snprintf(made, sizeof made, "%s.%d", name, (int)getpid());
+    if (S_ISDIR(it->st_mode))
+        keep_names(fd, made);
+    else
+        keep_octets(fd, made);
+    if (next(made, name) != 0)
+        abort();
+}
+
 int fsync(int fd)
 {
     int (*next)(int) = NEXT("fsync");
@@ -241,7 +296,10 @@ int fsync(int fd)
         ssize_t len = readlink(link, path, sizeof path - 1);
         path[len < 0 ? 0 : len] = 0;
     }
-    return noted(next(fd), "fsync", path, "");
+    int status = noted(next(fd), "fsync", path, "");
+    if (status == 0)
+        keep(fd, &it);
+    return status;
 }
 
 int rename(const char *from, const char *to)

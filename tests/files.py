@@ -231,9 +231,11 @@ def again_mistakes(program):
             if receiver.comes_to(f"finished 1:{3072 + number} 0 complete", 60) is None:
                 yield f"put {3072 + number} isn't complete: {sender.text('stdout')[-300:]!r}"
         came = stations.files_at(link.folder, 2)
-        # On a slow machine it notes that no answer comes, since these are kept from it.
-        waits = r"note: 1:\d+ waits for the peer's Finished, .*\n"
-        if re.sub(waits, "", stations.unheard(sender.text("stderr"))):
+        # It notes that one file isn't there yet, and on a slow machine that no answer comes, since
+        # these are kept from it.
+        late = "from/late: there is no such file"
+        notes = rf"note: ({late}|1:\d+ waits for the peer's Finished, .*)\n"
+        if re.sub(notes, "", stations.unheard(sender.text("stderr"))):
             yield f"the sender told {sender.text('stderr')!r}"
     wanted = {"first": b"before", "x": b"", "second": b"what it is now", "late": b"here"}
     if came != wanted:

@@ -1,0 +1,142 @@
+"""What the documents show and name: README.md beside the program, pages, headings, files."""
+import glob
+import importlib.machinery
+import importlib.util
+import os
+import re
+import subprocess
+
+TOP = os.path.dirname(os.path.dirname(os.path.abspath(__file__)))
+SECONDS = 60
+SCRIPT, CHART = "examples/lost_frame.script", "examples/lost_frame.mmd"
+FOLDERS = "tests|tools|examples|packaging|bindings|crates|docs|\\.ci"
+
+# Pages whose names of code have to be in the sources, and words there that are no such names.
+OF_CODE = ("PROMISES", "DEFINITIONS", "PROOFS", "PROOF_NOTES", "DECISIONS", "ARCHITECTURE")
+NO_NAMES = {"try_"}
+SOURCES = (
+    "crates/*/src/**/*.rt",
+    "crates/*/specs/**/*.antt",
+    "crates/*/proofs/**/*.antt",
+    "crates/*/edits/*.edit",
+    "bindings/*/*.h",
+    "bindings/rust/src/*.rs",
+    "tests/*.py",
+)
+NAME = re.compile(r"[A-Za-z_][\w']*")
+
+
+def text_of(path):
+    """The text of a file of this repository."""
+    with open(f"{TOP}/{path}", encoding="utf-8") as it:
+        return it.read()
+
+
+def pages():
+    """The documents, each with its text."""
+    for pattern in ("*.md", "docs/*.md", "tests/*.md", "bindings/*/*.md"):
+        for path in sorted(glob.glob(pattern, root_dir=TOP)):
+            yield path, text_of(path)
+
+
+def drawing():
+    """What `tools/draw` makes of the chart."""
+    loader = importlib.machinery.SourceFileLoader("draw", f"{TOP}/tools/draw")
+    draw = importlib.util.module_from_spec(importlib.util.spec_from_loader("draw", loader))
+    loader.exec_module(draw)
+    return list(draw.drawn(text_of(CHART)))
+
+
+def shown_mistakes(program):
+    """What README.md shows otherwise than the program does."""
+    how = {"capture_output": True, "text": True, "timeout": SECONDS, "cwd": TOP, "check": True}
+    report = subprocess.run([program.path, "sim", SCRIPT], **how).stdout.split("\n")[:-1]
+    readme = text_of("README.md")
+    for what, lines in (("the drawing", drawing()), ("the report", report)):
+        if "".join(f"    {it.rstrip()}\n" for it in lines) not in readme:
+            yield f"README.md doesn't show {what} of {SCRIPT}: {lines}"
+
+
+def headings_of(text):
+    """The headings of a page, and the first words of its paragraphs that stand in bold."""
+    found = re.findall(r"^#+ (.*)$|^\*\*([^*]+?)[.:]?\*\*", text, re.M)
+    return ["".join(it).replace("`", "") for it in found]
+
+
+def named_mistakes():
+    """Pages, headings and files that a document names and that aren't there."""
+    for path, text in pages():
+        if path == "CHANGELOG.md":
+            continue
+        joined = " ".join(text.split())
+        for page, heading in re.findall(r'docs/(\w+)\.md(?:,| \()? ?(?:"([^"]+)")?', joined):
+            if not os.path.isfile(f"{TOP}/docs/{page}.md"):
+                yield f"{path} names docs/{page}.md, which isn't there"
+            elif heading:
+                found = headings_of(text_of(f"docs/{page}.md"))
+                if not any(it.startswith(heading) for it in found):
+                    yield f"{path} names {heading!r} of docs/{page}.md, which isn't there"
+        for file in re.findall(rf"`((?:{FOLDERS})/[\w./-]+)", joined):
+            is_made = "/out" in file or "/NAME" in file
+            if not is_made and not os.path.exists(f"{TOP}/{file}"):
+                yield f"{path} names {file}, which isn't there"
+
+
+def names_of_code():
+    """All words of the sources, and the names of their files."""
+    found = set(NO_NAMES)
+    for pattern in SOURCES:
+        for path in glob.glob(pattern, root_dir=TOP, recursive=True):
+            found.add(os.path.basename(path).split(".")[0])
+            found.update(NAME.findall(text_of(path)))
+    return found
+
+
+def is_module(name):
+    """Whether this is the path of a module of some crate, or of a file here."""
+    places = (f"crates/*/src/{name}.rt", f"crates/{name}*", f"crates/*/{name}*", name)
+    return any(glob.glob(it, root_dir=TOP) for it in places)
+
+
+def code_mistakes():
+    """Names of modules that aren't there, and names with an underscore or a capital letter inside
+    that aren't in the sources."""
+    for page in ("ARCHITECTURE", "CONFORMANCE"):
+        for name in re.findall(r"`([a-z_]+(?:/[a-z_]+)+)`", text_of(f"docs/{page}.md")):
+            if not is_module(name):
+                yield f"docs/{page}.md names the module {name}, which isn't there"
+    there = names_of_code()
+    for page in OF_CODE:
+        for code in re.findall(r"`([^`]*)`", " ".join(text_of(f"docs/{page}.md").split())):
+            for name in NAME.findall(code):
+                if re.search(r"_|[a-z][A-Z]", name) and name not in there:
+                    yield f"docs/{page}.md names {name}, which no source has"
+
+
+def option_mistakes(program):
+    """Options in the program's help that docs/FORMATS.md doesn't have."""
+    formats = text_of("docs/FORMATS.md")
+    for command in ("sim", "dump", "loop", "station", "ask"):
+        how = {"capture_output": True, "text": True, "timeout": SECONDS, "check": True}
+        text = subprocess.run([program.path, command, "--help"], **how).stdout
+        for option in sorted(set(re.findall(r"--[a-z][a-z-]+", text))):
+            if not re.search(rf"{option}\b", formats):
+                yield f"docs/FORMATS.md doesn't have {option} of {command}"
+
+
+def contract_mistakes():
+    """What is wrong with the contract that `tools/contract` prints."""
+    how = {"capture_output": True, "text": True, "timeout": SECONDS}
+    ran = subprocess.run([f"{TOP}/tools/contract", "World::settle"], **how)
+    for wanted in ("pub fn settle(", "pub record Settles"):
+        if ran.returncode or wanted not in ran.stdout:
+            yield f"tools/contract doesn't print {wanted!r}: {ran.stdout}{ran.stderr}"
+
+
+def all_mistakes(program):
+    """Titles with what is wrong."""
+    yield "the documents: what README.md shows", shown_mistakes(program)
+    yield "the documents: what they name", named_mistakes()
+    yield "the documents: names of the code", code_mistakes()
+    yield "the documents: options of the program", option_mistakes(program)
+    yield "the documents: a contract with its definitions", contract_mistakes()
