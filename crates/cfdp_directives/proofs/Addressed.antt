@@ -1,5 +1,5 @@
 -- Exported: the header of a content can be written.
-use Rattle.std.proofs.Common.{ℕ, Bool, ◌^◌, ◌<◌, refl}
+use Rattle.std.proofs.Common.{ℕ, Bool, ◌^◌, ◌<◌, refl, arith}
 use Rattle.cfdp_directives.specs.declared.pdu.addressing.Addressing.{Addressing}
 use Rattle.cfdp_directives.specs.Pdu.Codes.{file_size_octets}
 use Rattle.cfdp_directives.specs.Pdu.Content.{Content, pdu_type_of}
@@ -27,5 +27,5 @@ can_write a large v fits content short = record {
   content = content;
   kind = refl;
   no_segment_metadata = refl;
-  len = refl;
+  len = omega arith;
 }

@@ -162,7 +162,7 @@ That of a PDU:
   fault-location N                  the entity that a fault location names
   tlv TT:VV..                       each option, type and value in hexadecimal
 Errors of any line: 0 Hex (no such digits).
-Errors of PDUs: 1 Short, 2 Version, 3 CrcPresent, 4 Length, 5 Unacknowledged,
+Errors of PDUs: 1 Short, 2 Version, 3 BadCrc, 4 Length, 5 Unacknowledged,
 7 Directive, 8 Truncated, 9 Trailing, 10 Tlv, 11 Condition; 6 is no longer used.
 Errors of frames: 1 Length (mostly: another --zone is meant), 2 Version,
 3 OtherProfile, 6 OnlyIdle.

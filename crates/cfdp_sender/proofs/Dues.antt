@@ -15,7 +15,7 @@ use Rattle.cfdp_extents.proofs.CallerLemmas.{contains-range, front-is}
 use Rattle.std.specs.Option.{option_map}
 use Rattle.cfdp_directives.specs.Pdu.Content.{Content}
 use Rattle.cfdp_directives.specs.Pdu.Addressing.{header_of, written_len}
-use Rattle.cfdp_directives.specs.Pdu.Codes.{file_size_octets, is_large, IsCondition, modular}
+use Rattle.cfdp_directives.specs.Pdu.Codes.{file_size_octets, is_large, IsCondition}
 use Rattle.cfdp_directives.proofs.FileSizes.{own_fits, octets_most}
 use Rattle.cfdp_directives.specs.Pdu.Tlv.{tlv, fault_location}
 use Rattle.cfdp_directives.specs.Pdu.Written.{content_len, FitsContent, CanWrite}
@@ -126,7 +126,7 @@ location-len entity width =
     ap length (append-nil (tlv (fault_location entity width))) ∙ omega (arith, len)
 
 told-fits : (x : SenderState) → IsSender x → told_checksum x < 2 ^ 32
-told-fits x s = elim (x.checksum_kind == modular) as (λ b. (if b then x.checksum else 0) < 2 ^ 32) [ true ↦ s.checksum | false ↦ lit< tt ]
+told-fits x s = s.sums x.checksum_kind
 
 -- each number fits its field, and the data field is short
 abbrev pub Fits : SenderState → SenderDue → List ℕ → Type 0

@@ -12,9 +12,7 @@ ghost use Rattle.cfdp_sender.specs.Due.{carries_by, extent_of};
 
 use crate::phase::SenderPhase;
 use crate::sender::Sender;
-use cfdp_directives::{
-    Acknowledged, ChecksumKind, Condition, Pdu, Tlvs, TransactionStatus, is_large,
-};
+use cfdp_directives::{Acknowledged, Condition, Pdu, Tlvs, TransactionStatus, is_large};
 
 /// What a sender sends next.
 #[derive(Clone, Copy, Debug, PartialEq, Eq)]
@@ -188,7 +186,7 @@ impl Sender {
     fn eof(&self) -> Pdu<'_>
         ensures { view result ≡ dues.eof_says self.now.phase self.now }
     {
-        let checksum = self.told_checksum();
+        let checksum = self.sums.value(self.checksum_kind);
         match self.phase {
             SenderPhase::Sending => Pdu::Eof {
                 condition: Condition::NO_ERROR,
@@ -202,17 +200,6 @@ impl Sender {
                 size: self.sent,
                 tlvs: Tlvs::fault_location_of(self.addressing.id.source, self.addressing.id_width),
             },
-        }
-    }
-
-    // The checksum that EOF tells.
-    fn told_checksum(&self) -> u32
-        ensures { result ≡ dues.told_checksum self.now }
-    {
-        if self.checksum_kind == ChecksumKind::MODULAR {
-            self.checksum.value()
-        } else {
-            0
         }
     }
 }

@@ -169,6 +169,7 @@ impl Sender {
         told: &mut Vec<Indication>,
     ) -> Option<Kind>
         requires due { sender_due self.old ≡ Some due.now }
+        requires short { length octets.now ≤ 4096 }
         requires room { vec_len told.old + 1 ≤ vec_capacity told.old }
         ensures sent { Leaves (steps.pdu_sent answers.Done octets.now self.old due.now) self.new
             told.old told.new }
@@ -182,7 +183,7 @@ impl Sender {
                 self.asked.take_front(u64::from(self.segment));
             }
             SenderDue::NewData(_, end) => {
-                self.checksum.add(self.sent, octets);
+                self.sums.add(Some(self.checksum_kind), self.sent, octets);
                 self.sent = *end;
             }
             SenderDue::Eof => {

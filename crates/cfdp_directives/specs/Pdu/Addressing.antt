@@ -11,11 +11,12 @@ use Rattle.cfdp_directives.specs.Pdu.Content.{Content, pdu_type_of}
 use Rattle.cfdp_directives.specs.Pdu.Written.{content_len}
 use Rattle.cfdp_directives.specs.Pdu.Direction.{direction_of}
 
--- a header with this large file flag, PDU type, direction and length
+-- a header with this large file flag, PDU type, direction and length, of a PDU without a CRC
 abbrev pub header_by : Addressing → Bool → PduType → Direction → ℕ → Header
 header_by a large pdu_type direction length = record {
   pdu_type = pdu_type;
   direction = direction;
+  crc = false;
   large = large;
   length = length;
   segment_metadata = false;

@@ -54,8 +54,8 @@ impl Addressing {
             && fits_width(self.destination, self.id_width)
     }
 
-    /// The header of a PDU, with this large file flag. Its data field has 65,535 octets at the
-    /// most.
+    /// The header of a PDU without a CRC, with this large file flag. Its data field has 65,535
+    /// octets at the most.
     pub fn header_of(&self, large: bool, pdu: &Pdu<'_>) -> Header
         requires { content_len (file_size_octets large) (view pdu.now) < 2 ^ 16 }
         ensures { result ≡ addressings.header_of self.now large (view pdu.now) }
@@ -74,6 +74,7 @@ impl Addressing {
         Header {
             pdu_type,
             direction,
+            crc: false,
             large,
             length,
             segment_metadata: false,
