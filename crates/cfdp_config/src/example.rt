@@ -41,6 +41,8 @@ no-overwrite = false            # refuses a file whose name is there already
 # How it is operated.
 commands = false                # reads commands from standard input
 # control = \"127.0.0.1:5101\"    # takes commands on this TCP address
+# console = \"127.0.0.1:8080\"    # shows itself to a browser on this TCP address
+# console-token = \"TOKEN\"       # the file with the token that its console wants
 
 # What it writes.
 no-time = false                 # begins lines with no time
